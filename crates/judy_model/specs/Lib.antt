@@ -1,0 +1,15 @@
+pub mod Keys
+pub mod Arrays
+pub mod Neighbours
+pub mod Empties
+pub mod Nearest
+pub mod Counts
+pub mod Tokens
+pub mod Lines
+pub mod LineLists
+pub mod Stores
+pub mod Replies
+pub mod Commands
+pub mod Steps
+pub mod Runs
+pub mod Examples

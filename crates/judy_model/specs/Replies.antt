@@ -1,0 +1,60 @@
+-- What a line is answered, and how that is printed. (This project's own script.)
+use Rattle.std.specs.Prelude.{ℕ, List, [], ◌∷◌, ◌++◌, codes, decimal, Result, Ok, Err}
+
+-- The answer of a line that isn't refused.
+pub data Answer : Type 0 where
+  silent : Answer
+  done : Answer
+  was : ℕ → Answer
+  number : ℕ → Answer
+  nothing : Answer
+
+-- Why a line is refused. A line to which several apply is refused for the first of them.
+pub data Refusal : Type 0 where
+  line_too_long : Refusal
+  unknown_command : Refusal
+  argument_count : Refusal
+  bad_name : Refusal
+  no_such_array : Refusal
+  wrong_kind : Refusal
+  bad_word : Refusal
+  bad_key : Refusal
+  bad_limit : Refusal
+  exists : Refusal
+  too_many_arrays : Refusal
+  full : Refusal
+  no_memory : Refusal
+
+-- A reply is an answer or a refusal.
+abbrev pub Reply : Type 0
+Reply = Result Answer Refusal
+
+-- The word of a refusal.
+abbrev pub refusal_word : Refusal → List ℕ
+refusal_word line_too_long = codes "line-too-long"
+refusal_word unknown_command = codes "unknown-command"
+refusal_word argument_count = codes "argument-count"
+refusal_word bad_name = codes "bad-name"
+refusal_word no_such_array = codes "no-such-array"
+refusal_word wrong_kind = codes "wrong-kind"
+refusal_word bad_word = codes "bad-word"
+refusal_word bad_key = codes "bad-key"
+refusal_word bad_limit = codes "bad-limit"
+refusal_word exists = codes "exists"
+refusal_word too_many_arrays = codes "too-many-arrays"
+refusal_word full = codes "full"
+refusal_word no_memory = codes "no-memory"
+
+-- The text of an answer. Words are printed in decimal without leading zeros.
+abbrev pub answer_text : Answer → List ℕ
+answer_text silent = []
+answer_text done = codes "ok"
+answer_text (was value) = codes "was " ++ decimal value
+answer_text (number value) = decimal value
+answer_text nothing = codes "none"
+
+-- What a reply puts out: nothing for a line that has no answer; else its text and an LF (10).
+abbrev pub output_of : Reply → List ℕ
+output_of (Ok silent) = []
+output_of (Ok answer) = answer_text answer ++ 10 ∷ []
+output_of (Err refusal) = codes "error " ++ refusal_word refusal ++ 10 ∷ []

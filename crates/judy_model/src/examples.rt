@@ -1,0 +1,88 @@
+//! Short cases of the definitions, each computed by the check: what a reader would work out by hand.
+
+ghost use Rattle.std.specs.Prelude.{◌≡◌, ◌+◌, ◌*◌, ◌-◌, ◌^◌, true, false, [], ◌∷◌, ◌++◌, codes, replicate, Some, None, Ok, Err};
+ghost use Rattle.judy_model.specs.Lines.{lines_of, text_of, is_too_long};
+ghost use Rattle.judy_model.specs.Tokens.{tokens_of, word_of, name_of};
+ghost use Rattle.judy_model.specs.Replies.{silent, done, was, number, nothing, output_of, unknown_command, argument_count, bad_name, no_such_array, wrong_kind, bad_word, bad_limit, exists};
+ghost use Rattle.judy_model.specs.Steps.{step};
+ghost use Rattle.judy_model.specs.Examples.{line, one_array};
+
+/// An LF ends a line; what stands after the last LF is a line if it isn't empty.
+pub fn scripts_are_cut_at_each_line_feed()
+    ensures nothing { lines_of [] ≡ [] }
+    ensures blank { lines_of (10 ∷ []) ≡ record { bytes = []; ended = true } ∷ [] }
+    ensures one { lines_of (codes "get a" ++ 10 ∷ []) ≡ record { bytes = codes "get a"; ended = true } ∷ [] }
+    ensures unended { lines_of (codes "get a") ≡ record { bytes = codes "get a"; ended = false } ∷ [] }
+    ensures two { lines_of (codes "a" ++ 13 ∷ 10 ∷ codes "b")
+        ≡ record { bytes = codes "a" ++ 13 ∷ []; ended = true } ∷ record { bytes = codes "b"; ended = false } ∷ [] }
+{}
+
+/// A CR is no part of the text where an LF follows it, and an ordinary byte where none does.
+pub fn a_carriage_return_is_dropped_before_a_line_feed()
+    ensures ended { text_of (record { bytes = codes "ab" ++ 13 ∷ []; ended = true }) ≡ codes "ab" }
+    ensures unended { text_of (record { bytes = codes "ab" ++ 13 ∷ []; ended = false }) ≡ codes "ab" ++ 13 ∷ [] }
+    ensures within { text_of (record { bytes = 97 ∷ 13 ∷ 98 ∷ []; ended = true }) ≡ 97 ∷ 13 ∷ 98 ∷ [] }
+    ensures alone { text_of (record { bytes = 13 ∷ []; ended = true }) ≡ [] }
+{}
+
+/// Runs of spaces part the tokens; those at either end mean nothing, and a tab is an ordinary byte.
+pub fn tokens_stand_between_runs_of_spaces()
+    ensures none { tokens_of (codes "   ") ≡ [] }
+    ensures three { tokens_of (codes "  get  a 5 ") ≡ codes "get" ∷ codes "a" ∷ codes "5" ∷ [] }
+    ensures tab { tokens_of (97 ∷ 9 ∷ 98 ∷ []) ≡ (97 ∷ 9 ∷ 98 ∷ []) ∷ [] }
+{}
+
+/// A word token is 1 to 20 digits, leading zeros taken, whose number is below 2^64.
+pub fn words_are_digits_below_a_bound()
+    ensures zeros { word_of (codes "00001") ≡ Some 1 }
+    ensures greatest { word_of (codes "18446744073709551615") ≡ Some (2 ^ 64 - 1) }
+    ensures too_great { word_of (codes "18446744073709551616") ≡ None }
+    ensures too_many_digits { word_of (codes "000000000000000000001") ≡ None }
+    ensures empty { word_of [] ≡ None }
+    ensures sign { word_of (codes "+1") ≡ None }
+    ensures letter { word_of (codes "x") ≡ None }
+{}
+
+/// A name is 1 to 32 ASCII letters, digits, `_` and `-`.
+pub fn names_are_letters_digits_and_two_signs()
+    ensures name { name_of (codes "a-Z_09") ≡ Some (codes "a-Z_09") }
+    ensures bang { name_of (codes "z!") ≡ None }
+    ensures empty { name_of [] ≡ None }
+    ensures longest { name_of (replicate 32 97) ≡ Some (replicate 32 97) }
+    ensures too_long { name_of (replicate 33 97) ≡ None }
+{}
+
+/// The first refusal that applies is the answer, and the store stays.
+pub fn refusals_come_in_their_order()
+    ensures command { step [] (line (codes "SET a 1")) ≡ (Err unknown_command, []) }
+    ensures count { step [] (line (codes "ins z! 5")) ≡ (Err argument_count, []) }
+    ensures name { step [] (line (codes "ins z! 5 x")) ≡ (Err bad_name, []) }
+    ensures array { step [] (line (codes "ins z 5 x")) ≡ (Err no_such_array, []) }
+    ensures kind { step [] (line (codes "make b judy2 x")) ≡ (Err wrong_kind, []) }
+    ensures word { step (one_array 1) (line (codes "make b judyl x")) ≡ (Err bad_word, one_array 1) }
+    ensures key { step (one_array 1) (line (codes "ins a x 5")) ≡ (Err bad_word, one_array 1) }
+    ensures value { step (one_array 1) (line (codes "ins a 5 x")) ≡ (Err bad_word, one_array 1) }
+    ensures limit { step (one_array 1) (line (codes "make a judyl 0")) ≡ (Err bad_limit, one_array 1) }
+    ensures greater { step (one_array 1) (line (codes "make b judyl 4294967296")) ≡ (Err bad_limit, one_array 1) }
+    ensures taken { step (one_array 1) (line (codes "make a judyl 4294967295")) ≡ (Err exists, one_array 1) }
+{}
+
+/// Blank lines and comments have no answer; a line that is too long is refused before all else.
+pub fn some_lines_are_silent()
+    ensures blank { step [] (line (codes "   ")) ≡ (Ok silent, []) }
+    ensures comment { step [] (line (codes " ;make a judyl")) ≡ (Ok silent, []) }
+    ensures made { step [] (line (codes "make a judyl 1")) ≡ (Ok done, one_array 1) }
+    ensures greatest { step [] (line (codes "make a judyl")) ≡ (Ok done, one_array 4294967295) }
+    ensures comment_fits { is_too_long (record { bytes = replicate 4096 59; ended = true }) ≡ false }
+    ensures long_comment { is_too_long (record { bytes = replicate 4097 59; ended = true }) ≡ true }
+{}
+
+/// Answers as they are put out, each ended by an LF but for the silent one.
+pub fn answers_are_lines()
+    ensures silent { output_of (Ok silent) ≡ [] }
+    ensures done { output_of (Ok done) ≡ codes "ok" ++ 10 ∷ [] }
+    ensures was { output_of (Ok (was 0)) ≡ codes "was 0" ++ 10 ∷ [] }
+    ensures number { output_of (Ok (number (2 ^ 64 - 1))) ≡ codes "18446744073709551615" ++ 10 ∷ [] }
+    ensures nothing { output_of (Ok nothing) ≡ codes "none" ++ 10 ∷ [] }
+    ensures refusal { output_of (Err no_such_array) ≡ codes "error no-such-array" ++ 10 ∷ [] }
+{}

@@ -1,0 +1,5 @@
+//! The definitions.
+#![tactic(auto)]
+
+pub mod examples;
+pub mod laws;
