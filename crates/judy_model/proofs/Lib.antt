@@ -1,3 +1,15 @@
+pub mod Orders
+pub mod Ascending
+pub mod KeysLemmas
+pub mod NearestLemmas
+pub mod WordOrder
+pub mod EmptiesLemmas
+pub mod Places
+pub mod RankLemmas
+pub mod CountsLemmas
+pub mod ChangesLemmas
+pub mod FollowingLemmas
+pub mod SortedEntries
 pub mod LineLemmas
 pub mod StepLemmas
 pub mod WordLemmas

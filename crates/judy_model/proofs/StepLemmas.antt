@@ -93,7 +93,7 @@ ins_never store [] = refused argument_count (λ e. cc)
 ins_never store (name ∷ []) = refused argument_count (λ e. cc)
 ins_never store (name ∷ key ∷ []) = refused argument_count (λ e. cc)
 ins_never store (name ∷ key ∷ value ∷ []) =
-    at_array store name _ (λ name' array. followed (ins_into array key value) _ (into_never array key value) (λ change. given _))
+    at_array store name _ (λ name' array. followed (ins_into array key value) _ (into_never array key value) (λ outcome. given _))
 ins_never store (name ∷ key ∷ value ∷ more ∷ rest) = refused argument_count (λ e. cc)
 
 get_never : (store : Store) (arguments : List (List ℕ)) → NeverNoMemory (get_line store arguments)
@@ -108,7 +108,7 @@ put_never store [] = refused argument_count (λ e. cc)
 put_never store (name ∷ []) = refused argument_count (λ e. cc)
 put_never store (name ∷ key ∷ []) = refused argument_count (λ e. cc)
 put_never store (name ∷ key ∷ value ∷ []) =
-    at_array store name _ (λ name' array. followed (put_into array key value) _ (over_never array key value) (λ change. given _))
+    at_array store name _ (λ name' array. followed (put_into array key value) _ (over_never array key value) (λ outcome. given _))
 put_never store (name ∷ key ∷ value ∷ more ∷ rest) = refused argument_count (λ e. cc)
 
 carried_out_never : (store : Store) (command : List ℕ) (arguments : List (List ℕ)) → NeverNoMemory (carried_out store command arguments)
@@ -129,7 +129,7 @@ pub outcome_of-never_no_memory : (store : Store) (line : Line) → NeverNoMemory
 outcome_of-never_no_memory store line =
     chosen (is_too_long line) _ _ (refused line_too_long (λ e. cc)) (of_tokens_never store (tokens_of (text_of line)))
 
-settled_by : (before after : Store) (outcome : Result Outcome Refusal) (reply : Reply) → NeverNoMemory outcome → (reply, after) ≡ settled before outcome → reply ≡ Err no_memory → after ≡ before
+settled_by : (before after : Store) (outcome : Result (Outcome Store) Refusal) (reply : Reply) → NeverNoMemory outcome → (reply, after) ≡ settled before outcome → reply ≡ Err no_memory → after ≡ before
 settled_by before after (Ok outcome) reply never e is = absurd (cc (ap (λ p. p.0) e))
 settled_by before after (Err refusal) reply never e is = ap (λ p. p.1) e
 

@@ -74,3 +74,17 @@ limit_of (judy1 set) = set.limit
 limit_of (judyl array) = array.limit
 limit_of (judysl array) = array.limit
 limit_of (judyhs array) = array.limit
+
+-- How many keys an array holds.
+abbrev pub len_of : ArrayValue → ℕ
+len_of (judy1 set) = len set.map
+len_of (judyl array) = len array.map
+len_of (judysl array) = len array.map
+len_of (judyhs array) = len array.map
+
+-- The array of the same kind and limit without a key. (Manual: FreeArray.)
+abbrev pub emptied : ArrayValue → ArrayValue
+emptied (judy1 set) = judy1 (empty_array set.limit)
+emptied (judyl array) = judyl (empty_array array.limit)
+emptied (judysl array) = judysl (empty_array array.limit)
+emptied (judyhs array) = judyhs (empty_array array.limit)

@@ -8,17 +8,12 @@ use Rattle.judy_model.specs.Tokens.{word_of, name_of}
 use Rattle.judy_model.specs.Stores.{Store, array_named, with_array, with_new_array}
 use Rattle.judy_model.specs.Replies.{Answer, done, was, number, nothing, Refusal, unknown_command, argument_count, bad_name, no_such_array, wrong_kind, bad_word, bad_limit, exists, too_many_arrays, full}
 
--- What a line that isn't refused does: its answer, the store after it, and whether it grows, that is
--- adds a key or an array. Only a line that grows may find no memory.
-pub record Outcome : Type 0 where
+-- What a line or a command that isn't refused does to the store, or to the one array that it names: its
+-- answer, what stands afterwards, and whether it grows, that is adds a key or an array. Only what grows may
+-- find no memory.
+pub record Outcome (State : Type 0) : Type 0 where
   pub answer : Answer
-  pub after : Store
-  pub grows : Bool
-
--- What a command does to the one array that it names.
-pub record Change : Type 0 where
-  pub answer : Answer
-  pub after : ArrayValue
+  pub after : State
   pub grows : Bool
 
 -- The rest of the checks, where this one gives a value.
@@ -40,14 +35,14 @@ word_at token = ok_or (word_of token) bad_word
 abbrev pub array_at : Store → List ℕ → Result ArrayValue Refusal
 array_at store name = ok_or (array_named store name) no_such_array
 
--- An outcome that leaves the store as it was.
-abbrev pub unchanged : Store → Answer → Outcome
-unchanged store answer = record { answer = answer; after = store; grows = false }
+-- An outcome that leaves all as it was.
+abbrev pub unchanged : {State : Type 0} → State → Answer → Outcome State
+unchanged state answer = record { answer = answer; after = state; grows = false }
 
--- A change of one array, as an outcome.
-abbrev pub within : Store → List ℕ → Change → Outcome
-within store name change =
-    record { answer = change.answer; after = with_array store name change.after; grows = change.grows }
+-- What happens to the array of a name, as what happens to the store.
+abbrev pub within : Store → List ℕ → Outcome ArrayValue → Outcome Store
+within store name outcome =
+    record { answer = outcome.answer; after = with_array store name outcome.after; grows = outcome.grows }
 
 -- The value of a key, as its slot shows it, and 0 where there is no such key.
 abbrev pub value_of : {K : Type 0} {order : K → K → Ordering} → FinMap order ℕ → K → ℕ
@@ -70,7 +65,7 @@ limit_at None = Ok 4294967295
 limit_at (Some token) = word_at token
 
 -- A limit is 1 to 4,294,967,295; the name must be new, and a store has at most 64 arrays.
-abbrev pub made : Store → List ℕ → List ℕ → Option (List ℕ) → Result Outcome Refusal
+abbrev pub made : Store → List ℕ → List ℕ → Option (List ℕ) → Result (Outcome Store) Refusal
 made store name kind limit = do
   name ← name_at name
   empty ← ok_or (kind_named kind) wrong_kind
@@ -80,7 +75,7 @@ made store name kind limit = do
   _ ← provided (nat_lt (length store) 64) too_many_arrays
   Ok (record { answer = done; after = with_new_array store name (empty limit); grows = true })
 
-abbrev pub make_line : Store → List (List ℕ) → Result Outcome Refusal
+abbrev pub make_line : Store → List (List ℕ) → Result (Outcome Store) Refusal
 make_line store (name ∷ kind ∷ []) = made store name kind None
 make_line store (name ∷ kind ∷ limit ∷ []) = made store name kind (Some limit)
 make_line store arguments = Err argument_count
@@ -88,7 +83,7 @@ make_line store arguments = Err argument_count
 -- ---- ins NAME K V
 
 -- The slot of the key shows its value, 0 where it is new; then the slot holds the value given.
-abbrev pub inserted : {K : Type 0} {order : K → K → Ordering} → (ArrayOf order → ArrayValue) → ArrayOf order → K → ℕ → Result Change Refusal
+abbrev pub inserted : {K : Type 0} {order : K → K → Ordering} → (ArrayOf order → ArrayValue) → ArrayOf order → K → ℕ → Result (Outcome ArrayValue) Refusal
 inserted kind array key value =
     if is_full array key then Err full
     else Ok (record {
@@ -97,19 +92,19 @@ inserted kind array key value =
       grows = not (contains_key array.map key);
     })
 
-abbrev pub ins_into : ArrayValue → List ℕ → List ℕ → Result Change Refusal
+abbrev pub ins_into : ArrayValue → List ℕ → List ℕ → Result (Outcome ArrayValue) Refusal
 ins_into (judyl array) key value = do
   key ← word_at key
   value ← word_at value
   inserted judyl array key value
 ins_into array key value = Err wrong_kind
 
-abbrev pub ins_line : Store → List (List ℕ) → Result Outcome Refusal
+abbrev pub ins_line : Store → List (List ℕ) → Result (Outcome Store) Refusal
 ins_line store (name ∷ key ∷ value ∷ []) = do
   name ← name_at name
   array ← array_at store name
-  change ← ins_into array key value
-  Ok (within store name change)
+  outcome ← ins_into array key value
+  Ok (within store name outcome)
 ins_line store arguments = Err argument_count
 
 -- ---- get NAME K
@@ -120,7 +115,7 @@ get_from (judyl array) key = do
   Ok (number_or_nothing (get array.map key))
 get_from array key = Err wrong_kind
 
-abbrev pub get_line : Store → List (List ℕ) → Result Outcome Refusal
+abbrev pub get_line : Store → List (List ℕ) → Result (Outcome Store) Refusal
 get_line store (name ∷ key ∷ []) = do
   name ← name_at name
   array ← array_at store name
@@ -131,29 +126,29 @@ get_line store arguments = Err argument_count
 -- ---- put NAME K V
 
 -- Where the key is there, its slot holds the value given afterwards.
-abbrev pub overwritten : {K : Type 0} {order : K → K → Ordering} → (ArrayOf order → ArrayValue) → ArrayOf order → K → ℕ → Option ℕ → Change
-overwritten kind array key value None = record { answer = nothing; after = kind array; grows = false }
+abbrev pub overwritten : {K : Type 0} {order : K → K → Ordering} → (ArrayOf order → ArrayValue) → ArrayOf order → K → ℕ → Option ℕ → Outcome ArrayValue
+overwritten kind array key value None = unchanged (kind array) nothing
 overwritten kind array key value (Some before) =
     record { answer = was before; after = kind (with_map array (write array.map key value)); grows = false }
 
-abbrev pub put_into : ArrayValue → List ℕ → List ℕ → Result Change Refusal
+abbrev pub put_into : ArrayValue → List ℕ → List ℕ → Result (Outcome ArrayValue) Refusal
 put_into (judyl array) key value = do
   key ← word_at key
   value ← word_at value
   Ok (overwritten judyl array key value (get array.map key))
 put_into array key value = Err wrong_kind
 
-abbrev pub put_line : Store → List (List ℕ) → Result Outcome Refusal
+abbrev pub put_line : Store → List (List ℕ) → Result (Outcome Store) Refusal
 put_line store (name ∷ key ∷ value ∷ []) = do
   name ← name_at name
   array ← array_at store name
-  change ← put_into array key value
-  Ok (within store name change)
+  outcome ← put_into array key value
+  Ok (within store name outcome)
 put_line store arguments = Err argument_count
 
 -- ---- the commands by their words
 
-abbrev pub carried_out : Store → List ℕ → List (List ℕ) → Result Outcome Refusal
+abbrev pub carried_out : Store → List ℕ → List (List ℕ) → Result (Outcome Store) Refusal
 carried_out store command arguments =
     if bytes_eq command (codes "make") then make_line store arguments
     else if bytes_eq command (codes "ins") then ins_line store arguments

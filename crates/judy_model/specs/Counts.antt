@@ -18,6 +18,10 @@ module _ {K : Type 0} {order : K → K → Ordering} where
   unfoldable pub rank : FinMap order ℕ → K → ℕ
   rank map key = length (filter (λ other. is_lt (order other key)) (keys map))
 
+  -- How many keys are at or below the given one.
+  unfoldable pub count_up_to : FinMap order ℕ → K → ℕ
+  count_up_to map key = length (filter (λ other. is_le (order other key)) (keys map))
+
   -- The key at a place among the keys in ascending order, counted from 0.
   unfoldable pub nth : FinMap order ℕ → ℕ → Option K
   nth map place = slice_get (keys map) place

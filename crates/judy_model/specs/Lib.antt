@@ -4,6 +4,7 @@ pub mod Neighbours
 pub mod Empties
 pub mod Nearest
 pub mod Counts
+pub mod Laws
 pub mod Tokens
 pub mod Lines
 pub mod LineLists

@@ -9,18 +9,18 @@ use Rattle.judy_model.specs.Commands.{Outcome, unchanged, carried_out}
 
 -- A line without tokens, or whose first token begins with `;` (59), has no answer and changes nothing.
 -- The first token of every other line is its command, the others are the command's arguments.
-abbrev pub outcome_of_tokens : Store → List (List ℕ) → Result Outcome Refusal
+abbrev pub outcome_of_tokens : Store → List (List ℕ) → Result (Outcome Store) Refusal
 outcome_of_tokens store [] = Ok (unchanged store silent)
 outcome_of_tokens store (command ∷ arguments) =
     if starts_with nat_eq command (59 ∷ []) then Ok (unchanged store silent) else carried_out store command arguments
 
 -- What a line does, or why it is refused. That a line is too long comes before all else, blank lines and
 -- comments included.
-abbrev pub outcome_of : Store → Line → Result Outcome Refusal
+abbrev pub outcome_of : Store → Line → Result (Outcome Store) Refusal
 outcome_of store line = if is_too_long line then Err line_too_long else outcome_of_tokens store (tokens_of (text_of line))
 
 -- The reply of a line and the store after it: a refused line leaves the store as it was.
-abbrev pub settled : Store → Result Outcome Refusal → Reply × Store
+abbrev pub settled : Store → Result (Outcome Store) Refusal → Reply × Store
 settled store (Ok outcome) = (Ok outcome.answer, outcome.after)
 settled store (Err refusal) = (Err refusal, store)
 
@@ -28,7 +28,7 @@ abbrev pub step : Store → Line → Reply × Store
 step store line = settled store (outcome_of store line)
 
 -- Whether a line that isn't refused adds a key or an array.
-abbrev pub outcome_grows : Result Outcome Refusal → Bool
+abbrev pub outcome_grows : Result (Outcome Store) Refusal → Bool
 outcome_grows (Ok outcome) = outcome.grows
 outcome_grows (Err refusal) = false
 

@@ -1,7 +1,7 @@
 -- A store: named arrays in the order in which they were made. (This project's own.)
 use Rattle.std.specs.Prelude.{ℕ, ◌≤◌, IsTrue, List, ◌∷◌, [], ◌++◌, length, bytes_eq, Option, All}
 use Rattle.std.specs.List.{IsDistinct}
-use Rattle.std.specs.Map.{lookup, set_value, keys_of, values_of}
+use Rattle.std.specs.Map.{lookup, set_value, remove_entry, keys_of, values_of}
 use Rattle.judy_model.specs.Arrays.{ArrayValue, IsArray, limit_of}
 use Rattle.judy_model.specs.Tokens.{is_name}
 
@@ -20,6 +20,10 @@ with_array store name array = set_value (bytes_eq name) store array
 -- The store with one more array, which comes last.
 abbrev pub with_new_array : {A : Type 0} → List (List ℕ × A) → List ℕ → A → List (List ℕ × A)
 with_new_array store name array = store ++ (name, array) ∷ []
+
+-- The store without the array of that name; the rest keep their order.
+abbrev pub without_array : {A : Type 0} → List (List ℕ × A) → List ℕ → List (List ℕ × A)
+without_array store name = remove_entry (bytes_eq name) store
 
 -- What every store keeps: at most 64 arrays, names that are names and distinct, arrays that are arrays.
 pub record IsStore (store : Store) : Type 0 where

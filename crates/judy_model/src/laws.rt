@@ -1,6 +1,10 @@
 //! Laws above the definitions. Each is the contract of a function without a body, so that the check
 //! proves it; no program calls these.
 
+pub mod changes;
+pub mod counts;
+pub mod empties;
 pub mod lines;
+pub mod neighbours;
 pub mod steps;
 pub mod words;
