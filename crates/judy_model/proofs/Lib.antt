@@ -13,3 +13,4 @@ pub mod SortedEntries
 pub mod LineLemmas
 pub mod StepLemmas
 pub mod WordLemmas
+pub mod RunLemmas

@@ -1,5 +1,5 @@
 -- What a script does to a store, and what it puts out. (This project's own.)
-use Rattle.std.specs.Prelude.{◌≡◌, ℕ, List, [], ◌∷◌, flat_map}
+use Rattle.std.specs.Prelude.{◌≡◌, ℕ, List, [], ◌∷◌, ◌++◌, take, flat_map}
 use Rattle.judy_model.specs.Lines.{Line, lines_of}
 use Rattle.judy_model.specs.Stores.{Store}
 use Rattle.judy_model.specs.Replies.{Reply, output_of}
@@ -16,3 +16,18 @@ Steps before (line ∷ lines) [] after = ⊥
 abbrev pub Run : Store → List ℕ → List ℕ → Store → Type 0
 Run before script output after =
     (replies : List Reply) × Steps before (lines_of script) replies after × (output ≡ flat_map output_of replies)
+
+-- A run that a failed writer ended: the lines before one of them are answered, that line is executed, and
+-- what is put out is the replies before its own and a front of its own, perhaps none or all of it.
+pub record CutOff (before : Store) (script output : List ℕ) (after : Store) : Type 0 where
+  pub earlier : List Line
+  pub line : Line
+  pub later : List Line
+  pub lines : lines_of script ≡ earlier ++ line ∷ later
+  pub replies : List Reply
+  pub between : Store
+  pub steps : Steps before earlier replies between
+  pub reply : Reply
+  pub step : Step between line reply after
+  pub written : ℕ
+  pub front : output ≡ flat_map output_of replies ++ take written (output_of reply)

@@ -1,0 +1,53 @@
+//! What takes bytes, and how a whole piece is written.
+
+ghost use Rattle.std.specs.Prelude.{◌≡◌, ℕ, ◌+◌, ◌-◌, ◌<◌, ◌≤◌, ◌^◌, List, Option, length, is_ok, if◌then◌else◌, IfOk, OnOk, OnErr};
+ghost use Rattle.judy_pipe.specs.Pipe.{grown, moved, GrewByFront};
+ghost use Rattle.judy_pipe.specs.Tally.{after_write};
+
+use crate::stop::{BrokenPipe, Stop};
+
+/// What takes bytes, a piece at a time.
+pub trait Sink {
+    ghost use Rattle.judy_pipe.specs.declared.tally.Tally.{Tally};
+
+    // The bytes that it took so far, in order; `None` where it tells nothing of them.
+    ghost taken: { Self → Option (List ℕ) };
+
+    // Its failures and its interruptions in a row.
+    ghost tally: { Self → Tally };
+
+    /// Takes the first bytes of `piece` and answers how many, perhaps fewer than all. At a `Stop` it
+    /// took none. A failure is counted as `Tally` says, so 0 bytes of a piece that is not empty are
+    /// one too.
+    fn write(&mut self, piece: &[u8]) -> Result<usize, Stop>
+        requires { (tally self.old).failures < 2 ^ 64 - 1 }
+        ensures count { IfOk result (λ n. n ≤ length piece.now) }
+        ensures taken { taken self.new ≡ grown (taken self.old) (moved result piece.now) }
+        ensures tally { tally self.new ≡ after_write (tally self.old) piece.now result };
+
+    /// The number of its failures so far.
+    fn failures(&self) -> u64
+        ensures { result ≡ (tally self.now).failures };
+}
+
+/// Writes all of `bytes`, trying an interrupted write again until the sink's failures rise.
+///
+/// At Ok the sink took exactly these bytes. At the one error, `BrokenPipe`, it took a front of them
+/// and has exactly one failure more.
+pub fn write_all<W: Sink>(sink: &mut W, bytes: &[u8]) -> Result<(), BrokenPipe>
+    requires { (W.tally sink.old).failures < 2 ^ 64 - 1 }
+    ensures ok { OnOk result (W.taken sink.new ≡ grown (W.taken sink.old) bytes.now) }
+    ensures err { OnErr result (GrewByFront (W.taken sink.old) bytes.now (W.taken sink.new)) }
+    ensures failures { let before = (W.tally sink.old).failures in
+        (W.tally sink.new).failures ≡ (if is_ok result then before else before + 1) }
+{
+    let before = sink.failures();
+    let mut count = 0;
+    while count < bytes.len() {
+        count += sink.write(&bytes[count..]).unwrap_or(0);
+        if sink.failures() > before {
+            return Err(BrokenPipe);
+        }
+    }
+    Ok(())
+}
