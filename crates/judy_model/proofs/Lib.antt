@@ -14,3 +14,7 @@ pub mod LineLemmas
 pub mod StepLemmas
 pub mod WordLemmas
 pub mod RunLemmas
+pub mod Pairs
+pub mod SortedMaps
+pub mod Inserts
+pub mod Lent

@@ -1,0 +1,6 @@
+pub mod Places
+pub mod Pairs
+pub mod Refusals
+pub mod Writes
+pub mod PairSlots
+pub mod Slots

@@ -1,0 +1,77 @@
+// What no clause says: that calls succeed while there is memory. And two callers, whose contracts show what
+// a write through a slot is known to do.
+ghost use Rattle.std.specs.Prelude.{◌≡◌, OnOk, OnErr, OnSome};
+ghost use Rattle.std.specs.FinMap as map;
+ghost use Rattle.judy_model.specs.Arrays as array;
+
+use crate::{InsertError, JudyL};
+use std::test::Fail;
+
+// Inserts a key and writes its value.
+fn put(array_l: &mut JudyL, key: u64, value: u64) -> Result<(), InsertError>
+    ensures ok { OnOk result (array_l.new ≡ array.with_map array_l.old (array.write array_l.old.map key value)) }
+    ensures err { OnErr result (array_l.new ≡ array_l.old) }
+{
+    *array_l.ins(key)? = value;
+    Ok(())
+}
+
+// Writes the value of a key that is there, and answers the one before.
+fn replace(array_l: &mut JudyL, key: u64, value: u64) -> Option<u64>
+    ensures answer { result ≡ map.get array_l.old.map key }
+    ensures some { OnSome result (array_l.new ≡ array.with_map array_l.old (array.write array_l.old.map key value)) }
+{
+    match array_l.slot(key) {
+        Some(slot) => {
+            let before = *slot;
+            *slot = value;
+            Some(before)
+        }
+        None => None,
+    }
+}
+
+#[test]
+fn always_no_memory(rt: HostRuntime) -> Result<(), Fail> {
+    let mut pairs = JudyL::new(rt.alloc(), 1000);
+    for (key, value) in [(7, 70), (0, 1), (18446744073709551615, 5), (7, 71)] {
+        assert_eq!(rt; put(&mut pairs, key, value), Ok(()));
+    }
+    assert_eq!(rt; pairs.len(), 3);
+    assert_eq!(rt; pairs.get(0), Some(1));
+    assert_eq!(rt; pairs.get(7), Some(71));
+    assert_eq!(rt; pairs.get(18446744073709551615), Some(5));
+    assert_eq!(rt; pairs.get(8), None);
+    Ok(())
+}
+
+#[test]
+fn full_at_the_limit(rt: HostRuntime) -> Result<(), Fail> {
+    let mut pairs = JudyL::new(rt.alloc(), 2);
+    assert_eq!(rt; put(&mut pairs, 5, 50), Ok(()));
+    assert_eq!(rt; put(&mut pairs, 3, 30), Ok(()));
+    assert_eq!(rt; put(&mut pairs, 4, 40), Err(InsertError::Full));
+    assert_eq!(rt; put(&mut pairs, 5, 51), Ok(()));
+    assert_eq!(rt; replace(&mut pairs, 3, 31), Some(30));
+    assert_eq!(rt; replace(&mut pairs, 4, 40), None);
+    assert!(rt; pairs.del(5));
+    assert!(rt; !pairs.del(5));
+    assert_eq!(rt; put(&mut pairs, 4, 41), Ok(()));
+    assert_eq!(rt; pairs.limit(), 2);
+    assert_eq!(rt; pairs.free_array(), 2);
+    assert!(rt; pairs.is_empty());
+    assert_eq!(rt; pairs.free_array(), 0);
+    Ok(())
+}
+
+#[test]
+fn unbounded_takes_more(rt: HostRuntime) -> Result<(), Fail> {
+    let mut pairs = JudyL::unbounded(rt.alloc());
+    for key in 0..500 {
+        assert_eq!(rt; put(&mut pairs, 1000 - key, key), Ok(()));
+    }
+    assert_eq!(rt; pairs.len(), 500);
+    assert_eq!(rt; pairs.get(501), Some(499));
+    assert_eq!(rt; pairs.limit(), u64::MAX);
+    Ok(())
+}
