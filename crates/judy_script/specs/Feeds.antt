@@ -1,0 +1,44 @@
+-- How far a run has come when a part of its script was fed to it.
+use Rattle.std.specs.Prelude.{◌≡◌, ℕ, List, ◌++◌, IsTrue, Option, flat_map}
+use Rattle.judy_model.specs.Lines.{Line, lines_of}
+use Rattle.judy_model.specs.Stores.{Store}
+use Rattle.judy_model.specs.Replies.{Reply, output_of}
+use Rattle.judy_model.specs.Steps.{Step}
+use Rattle.judy_model.specs.Runs.{Steps, Run, CutOff}
+use Rattle.judy_pipe.specs.Pipe.{grown, GrewByFront}
+use Rattle.judy_script.specs.declared.line.LineBuffer.{LineBuffer}
+use Rattle.judy_script.specs.LineBuffers.{Holds}
+use Rattle.judy_script.specs.Cuts.{is_without}
+
+-- The bytes fed are whole lines and a line that goes on. The lines are answered one by one, and the buffer
+-- holds what came of the line that goes on.
+pub record Fed (first : Store) (fed : List ℕ) (before : Option (List ℕ)) (buffer : LineBuffer) (taken : Option (List ℕ)) (now : Store) : Type 0 where
+  pub front : List ℕ
+  pub rest : List ℕ
+  pub split : fed ≡ front ++ rest
+  pub lines : (more : List ℕ) → lines_of (front ++ more) ≡ lines_of front ++ lines_of more
+  pub goes_on : IsTrue (is_without 10 rest)
+  pub holds : Holds buffer rest
+  pub replies : List Reply
+  pub steps : Steps first (lines_of front) replies now
+  pub written : taken ≡ grown before (flat_map output_of replies)
+
+-- A line was executed and its reply written, whole or, where the writer failed, a front of it.
+pub record Served (before : Store) (line : Line) (taken_before taken_after : Option (List ℕ)) (after : Store) : Type 0 where
+  pub reply : Reply
+  pub step : Step before line reply after
+  pub written : taken_after ≡ grown taken_before (output_of reply)
+
+pub record ServedInPart (before : Store) (line : Line) (taken_before taken_after : Option (List ℕ)) (after : Store) : Type 0 where
+  pub reply : Reply
+  pub step : Step before line reply after
+  pub written : GrewByFront taken_before (output_of reply) taken_after
+
+-- What was put out since a time is the output of a run, or of one that a failed writer cut off.
+abbrev pub Ran : Store → List ℕ → Option (List ℕ) → Option (List ℕ) → Store → Type 0
+Ran before script taken_before taken_after after =
+    (output : List ℕ) × (taken_after ≡ grown taken_before output) × Run before script output after
+
+abbrev pub RanInPart : Store → List ℕ → Option (List ℕ) → Option (List ℕ) → Store → Type 0
+RanInPart before script taken_before taken_after after =
+    (output : List ℕ) × (taken_after ≡ grown taken_before output) × CutOff before script output after

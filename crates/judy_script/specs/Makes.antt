@@ -1,0 +1,11 @@
+-- The refusals of a shelf as those of a script.
+use Rattle.judy_shelf.specs.declared.error.MakeError.{MakeError}
+use Rattle.judy_shelf.specs.declared.error.MakeError.TheVariants as make
+use Rattle.judy_script.specs.declared.reply.Refusal.{Refusal}
+use Rattle.judy_script.specs.declared.reply.Refusal.TheVariants.{BadLimit, Exists, TooManyArrays, NoMemory}
+
+abbrev pub refusal_of_make : MakeError → Refusal
+refusal_of_make make.BadLimit = BadLimit
+refusal_of_make make.Exists = Exists
+refusal_of_make make.TooMany = TooManyArrays
+refusal_of_make make.NoMemory = NoMemory

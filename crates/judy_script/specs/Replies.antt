@@ -1,0 +1,37 @@
+-- The code's replies as those of the definitions.
+use Rattle.std.specs.Prelude.{Result, Ok, Err}
+use Rattle.judy_model.specs.Replies as model
+use Rattle.judy_script.specs.declared.reply.Answer.{Answer}
+use Rattle.judy_script.specs.declared.reply.Answer.TheVariants.{Silent, Done, Was, Number, Nothing}
+use Rattle.judy_script.specs.declared.reply.Refusal.{Refusal}
+use Rattle.judy_script.specs.declared.reply.Refusal.TheVariants.{LineTooLong, UnknownCommand, ArgumentCount, BadName, NoSuchArray, WrongKind, BadWord, BadLimit, Exists, TooManyArrays, Full, NoMemory}
+
+abbrev pub refusal_of : Refusal → model.Refusal
+refusal_of LineTooLong = model.line_too_long
+refusal_of UnknownCommand = model.unknown_command
+refusal_of ArgumentCount = model.argument_count
+refusal_of BadName = model.bad_name
+refusal_of NoSuchArray = model.no_such_array
+refusal_of WrongKind = model.wrong_kind
+refusal_of BadWord = model.bad_word
+refusal_of BadLimit = model.bad_limit
+refusal_of Exists = model.exists
+refusal_of TooManyArrays = model.too_many_arrays
+refusal_of Full = model.full
+refusal_of NoMemory = model.no_memory
+
+abbrev pub answer_of : Answer → model.Answer
+answer_of Silent = model.silent
+answer_of Done = model.done
+answer_of (Was value) = model.was value
+answer_of (Number value) = model.number value
+answer_of Nothing = model.nothing
+
+-- A result of the code with its refusal as the definitions name it.
+abbrev pub checked : {A : Type 0} → Result A Refusal → Result A model.Refusal
+checked (Ok value) = Ok value
+checked (Err refusal) = Err (refusal_of refusal)
+
+abbrev pub reply_of : Result Answer Refusal → model.Reply
+reply_of (Ok answer) = Ok (answer_of answer)
+reply_of (Err refusal) = Err (refusal_of refusal)

@@ -1,0 +1,162 @@
+//! The engine of a run: it is fed the script in whatever pieces it comes.
+
+ghost use Rattle.std.specs.Prelude.{◌≡◌, ℕ, ◌+◌, ◌-◌, ◌<◌, ◌^◌, true, List, [], ◌++◌, Option, is_ok, if◌then◌else◌, IfErr, OnOk, OnErr};
+ghost use Rattle.judy_model.specs.Stores.{Store};
+ghost use Rattle.judy_model.specs.Replies.{output_of};
+ghost use Rattle.judy_model.specs.Steps.{Step};
+ghost use Rattle.judy_pipe.specs.Pipe.{grown, GrewByFront};
+ghost use Rattle.judy_shelf.specs.Shelves.{store_of};
+ghost use Rattle.judy_script.specs.Replies.{reply_of};
+ghost use Rattle.judy_script.specs.LineBuffers.{Holds};
+ghost use Rattle.judy_script.specs.Feeds.{Fed, Served, ServedInPart, Ran, RanInPart};
+ghost use Rattle.judy_script.specs.declared.fault.RunFault.TheVariants.{Write};
+
+use crate::cut::cut_at;
+use crate::fault::RunFault;
+use crate::line::{LineBuffer, line_reply};
+use crate::print::{Text, print};
+use crate::reply::Reply;
+use judy_pipe::{Sink, write_all};
+use judy_shelf::Shelf;
+
+/// The buffers of a run: of the line that goes on, and of an answer. They are made once a run.
+#[derive(Drop)]
+pub(crate) struct Buffers {
+    line: LineBuffer,
+    text: Text,
+}
+
+impl Buffers {
+    /// The buffers of a run that wasn't fed yet.
+    pub(crate) fn new() -> Buffers
+        ensures { Holds result.line [] }
+    {
+        Buffers {
+            line: LineBuffer::new(),
+            text: Text::new(),
+        }
+    }
+}
+
+/// Feeds a piece of the script: the lines that end in it are executed and answered one by one, and what
+/// comes after the last of them is kept.
+///
+/// The one fault is `Write`: the shelf is then as after the line whose answer was being written.
+pub(crate) fn feed<W: Sink>(
+    piece: &[u8],
+    buffers: &mut Buffers,
+    shelf: &mut Shelf,
+    sink: &mut W,
+) -> Result<(), RunFault>
+    requires { (W.tally sink.old).failures < 2 ^ 64 - 1 }
+    ensures ok {
+        OnOk result ((first : Store) (fed : List ℕ) (before : Option (List ℕ)) →
+            Fed first fed before buffers.old.line (W.taken sink.old) (store_of shelf.old) →
+            Fed first (fed ++ piece.now) before buffers.new.line (W.taken sink.new) (store_of shelf.new))
+    }
+    ensures err {
+        OnErr result ((first : Store) (fed : List ℕ) (before : Option (List ℕ)) →
+            Fed first fed before buffers.old.line (W.taken sink.old) (store_of shelf.old) →
+            RanInPart first (fed ++ piece.now) before (W.taken sink.new) (store_of shelf.new))
+    }
+    ensures fault { IfErr result (λ fault. fault ≡ Write) }
+    ensures failures { let before = (W.tally sink.old).failures in
+        (W.tally sink.new).failures ≡ (if is_ok result then before else before + 1) }
+{
+    let mut rest = piece;
+    'lines: loop {
+        let (head, after) = cut_at(rest, b'\n');
+        let Some(after) = after else {
+            buffers.line.push(head);
+            return Ok(());
+        };
+        end_line(head, buffers, shelf, sink)?;
+        rest = after;
+    }
+}
+
+/// Ends the script: what is kept of a last line without an LF is executed and answered, if there is any.
+pub(crate) fn finish<W: Sink>(
+    buffers: &mut Buffers,
+    shelf: &mut Shelf,
+    sink: &mut W,
+) -> Result<(), RunFault>
+    requires { (W.tally sink.old).failures < 2 ^ 64 - 1 }
+    ensures ok {
+        OnOk result ((first : Store) (fed : List ℕ) (before : Option (List ℕ)) →
+            Fed first fed before buffers.old.line (W.taken sink.old) (store_of shelf.old) →
+            Ran first fed before (W.taken sink.new) (store_of shelf.new))
+    }
+    ensures err {
+        OnErr result ((first : Store) (fed : List ℕ) (before : Option (List ℕ)) →
+            Fed first fed before buffers.old.line (W.taken sink.old) (store_of shelf.old) →
+            RanInPart first fed before (W.taken sink.new) (store_of shelf.new))
+    }
+    ensures fault { IfErr result (λ fault. fault ≡ Write) }
+    ensures failures { let before = (W.tally sink.old).failures in
+        (W.tally sink.new).failures ≡ (if is_ok result then before else before + 1) }
+{
+    if buffers.line.is_empty() {
+        return Ok(());
+    }
+    let reply = buffers.line.reply(false, shelf);
+    put_out(reply, &mut buffers.text, sink)
+}
+
+// Executes and answers the line that was kept, `head` and an LF behind it. A line that stands whole in
+// its piece isn't copied.
+fn end_line<W: Sink>(
+    head: &[u8],
+    buffers: &mut Buffers,
+    shelf: &mut Shelf,
+    sink: &mut W,
+) -> Result<(), RunFault>
+    requires { (W.tally sink.old).failures < 2 ^ 64 - 1 }
+    ensures ok {
+        OnOk result ((kept : List ℕ) → Holds buffers.old.line kept →
+            Served (store_of shelf.old) (record { bytes = kept ++ head.now; ended = true }) (W.taken sink.old) (W.taken sink.new) (store_of shelf.new))
+    }
+    ensures err {
+        OnErr result ((kept : List ℕ) → Holds buffers.old.line kept →
+            ServedInPart (store_of shelf.old) (record { bytes = kept ++ head.now; ended = true }) (W.taken sink.old) (W.taken sink.new) (store_of shelf.new))
+    }
+    ensures cleared { Holds buffers.new.line [] }
+    ensures fault { IfErr result (λ fault. fault ≡ Write) }
+    ensures failures { let before = (W.tally sink.old).failures in
+        (W.tally sink.new).failures ≡ (if is_ok result then before else before + 1) }
+{
+    let reply = whole_line_reply(head, &mut buffers.line, shelf);
+    put_out(reply, &mut buffers.text, sink)
+}
+
+// What the line that was kept, with `head` and an LF behind it, does; the buffer begins the next line.
+fn whole_line_reply(head: &[u8], line: &mut LineBuffer, shelf: &mut Shelf) -> Reply
+    ensures step { (kept : List ℕ) → Holds line.old kept →
+        Step (store_of shelf.old) (record { bytes = kept ++ head.now; ended = true }) (reply_of result) (store_of shelf.new) }
+    ensures cleared { Holds line.new [] }
+{
+    if line.is_empty() {
+        line.clear();
+        return line_reply(head, true, shelf);
+    }
+    line.push(head);
+    let reply = line.reply(true, shelf);
+    line.clear();
+    reply
+}
+
+// Prints the reply and writes it.
+fn put_out<W: Sink>(reply: Reply, text: &mut Text, sink: &mut W) -> Result<(), RunFault>
+    requires { (W.tally sink.old).failures < 2 ^ 64 - 1 }
+    ensures ok { OnOk result (W.taken sink.new ≡ grown (W.taken sink.old) (output_of (reply_of reply))) }
+    ensures err { OnErr result (GrewByFront (W.taken sink.old) (output_of (reply_of reply)) (W.taken sink.new)) }
+    ensures fault { IfErr result (λ fault. fault ≡ Write) }
+    ensures failures { let before = (W.tally sink.old).failures in
+        (W.tally sink.new).failures ≡ (if is_ok result then before else before + 1) }
+{
+    print(reply, text);
+    match write_all(sink, text) {
+        Ok(()) => Ok(()),
+        Err(_) => Err(RunFault::Write),
+    }
+}

@@ -1,0 +1,64 @@
+//! The command that makes an array.
+
+ghost use Rattle.std.specs.Prelude.{◌≡◌, option_copied};
+ghost use Rattle.judy_model.specs.Commands as model;
+ghost use Rattle.judy_shelf.specs.Shelves.{store_of};
+ghost use Rattle.judy_script.specs.Replies.{reply_of, checked};
+ghost use Rattle.judy_script.specs.Follows.{Follows};
+ghost use Rattle.judy_script.specs.Texts.{texts};
+ghost use Rattle.judy_script.specs.Makes.{refusal_of_make};
+
+use crate::reply::{Answer, Refusal, Reply};
+use crate::words::word;
+use judy_shelf::{Kind, MAX_LIMIT, MakeError, Name, Shelf};
+
+/// `make NAME KIND [LIMIT]`
+pub(crate) fn make(shelf: &mut Shelf, arguments: &[&[u8]]) -> Reply
+    ensures { let before = store_of shelf.old in
+        Follows before (model.make_line before (texts arguments.now)) (reply_of result) (store_of shelf.new) }
+{
+    match arguments {
+        [name, kind] => make_array(shelf, name, kind, None),
+        [name, kind, limit] => make_array(shelf, name, kind, Some(*limit)),
+        _ => Err(Refusal::ArgumentCount),
+    }
+}
+
+fn make_array(shelf: &mut Shelf, name: &[u8], kind: &[u8], limit: Option<&[u8]>) -> Reply
+    ensures { let before = store_of shelf.old in
+        Follows before (model.made before name.now kind.now (option_copied limit.entry)) (reply_of result) (store_of shelf.new) }
+{
+    let Some(name) = Name::new(name) else {
+        return Err(Refusal::BadName);
+    };
+    let Some(kind) = Kind::from_word(kind) else {
+        return Err(Refusal::WrongKind);
+    };
+    let limit = limit_of(limit)?;
+    match shelf.make(name, kind, limit) {
+        Ok(()) => Ok(Answer::Done),
+        Err(error) => Err(refusal_of(error)),
+    }
+}
+
+// The limit that the line gives, or else the greatest.
+fn limit_of(limit: Option<&[u8]>) -> Result<u64, Refusal>
+    ensures { checked result ≡ model.limit_at (option_copied limit.entry) }
+{
+    match limit {
+        Some(token) => word(token),
+        None => Ok(MAX_LIMIT),
+    }
+}
+
+// The refusal that a shelf's is for a script.
+fn refusal_of(error: MakeError) -> Refusal
+    ensures { result ≡ refusal_of_make error }
+{
+    match error {
+        MakeError::BadLimit => Refusal::BadLimit,
+        MakeError::Exists => Refusal::Exists,
+        MakeError::TooMany => Refusal::TooManyArrays,
+        MakeError::NoMemory => Refusal::NoMemory,
+    }
+}

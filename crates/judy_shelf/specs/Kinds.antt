@@ -1,0 +1,13 @@
+-- Kinds and arrays of the code as the definitions see them.
+use Rattle.std.specs.Prelude.{ℕ, List, codes}
+use Rattle.judy_model.specs.Arrays.{ArrayValue, judyl, empty_array}
+use Rattle.judy_shelf.specs.declared.kind.Kind.{Kind}
+use Rattle.judy_shelf.specs.declared.kind.Kind.TheVariants.{JudyL}
+
+-- The word of a kind.
+abbrev pub kind_word : Kind → List ℕ
+kind_word JudyL = codes "judyl"
+
+-- A kind is known by its empty array for each limit.
+abbrev pub empty_of_kind : Kind → ℕ → ArrayValue
+empty_of_kind JudyL = λ limit. judyl (empty_array limit)

@@ -1,0 +1,5 @@
+pub mod Kinds
+pub mod Arrays
+pub mod Makes
+pub mod Shelves
+pub mod Lends

@@ -1,0 +1,78 @@
+//! An array of one of the kinds.
+
+ghost use Rattle.std.specs.Prelude.{◌≡◌, ◌≤◌, ◌==◌};
+ghost use Rattle.judy_model.specs.Arrays.{limit_of, len_of, emptied};
+ghost use Rattle.judy_shelf.specs.Arrays.{new_array};
+
+use crate::kind::Kind;
+use judy_word::JudyL;
+use std::alloc::Global;
+
+// The empty array of a kind, which may hold so many keys.
+pub(crate) fn new_array(alloc: Global, kind: Kind, limit: u64) -> Array
+    requires some { 1 ≤ limit }
+    requires most { limit ≤ 4294967295 }
+    ensures { result ≡ new_array kind limit }
+{
+    match kind {
+        Kind::JudyL => Array::JudyL(JudyL::new(alloc, limit)),
+    }
+}
+
+/// An array of one of the kinds. In contracts its value is `value_of` of it: an array value of the
+/// definitions.
+#[derive(Drop)]
+pub enum Array {
+    /// A map from words to words.
+    JudyL(JudyL),
+}
+
+impl Array {
+    ghost use Rattle.judy_shelf.specs.Arrays.{value_of, kind_of};
+
+    /// The array's kind.
+    pub fn kind(&self) -> Kind
+        ensures { result ≡ kind_of self.now }
+    {
+        match self {
+            Array::JudyL(_) => Kind::JudyL,
+        }
+    }
+
+    /// How many keys it may hold.
+    pub fn limit(&self) -> u64
+        ensures { result ≡ limit_of (value_of self.now) }
+    {
+        match self {
+            Array::JudyL(words) => words.limit(),
+        }
+    }
+
+    /// How many keys it holds.
+    pub fn len(&self) -> u64
+        ensures count { result ≡ len_of (value_of self.now) }
+        ensures within { result ≤ limit_of (value_of self.now) }
+    {
+        match self {
+            Array::JudyL(words) => words.len(),
+        }
+    }
+
+    /// Whether it holds no key.
+    pub fn is_empty(&self) -> bool
+        ensures { result ≡ (len_of (value_of self.now) == 0) }
+    {
+        self.len() == 0
+    }
+
+    /// Takes every key out, and answers how many there were. The kind and the limit stay.
+    /// (Manual: FreeArray, which answers bytes there; keys are this project's own.)
+    pub fn free(&mut self) -> u64
+        ensures freed { result ≡ len_of (value_of self.old) }
+        ensures emptied { value_of self.new ≡ emptied (value_of self.old) }
+    {
+        match self {
+            Array::JudyL(words) => words.free_array(),
+        }
+    }
+}

@@ -1,0 +1,35 @@
+//! Kinds of arrays.
+
+ghost use Rattle.std.specs.Prelude.{◌≡◌, Some, IfSome, option_map};
+ghost use Rattle.judy_model.specs.Commands.{kind_named};
+ghost use Rattle.judy_shelf.specs.Kinds.{kind_word, empty_of_kind};
+
+/// What kind an array is of. (The kind words are this project's own.)
+#[derive(Clone, Copy, Debug, PartialEq, Eq)]
+pub enum Kind {
+    /// A map from words to words: the manual's JudyL.
+    JudyL,
+}
+
+impl Kind {
+    /// The kind that a kind word names; none exactly where it names no kind.
+    pub fn from_word(word: &[u8]) -> Option<Kind>
+        ensures named { option_map empty_of_kind result ≡ kind_named word.now }
+        ensures spelled { IfSome result (λ kind. word.now ≡ kind_word kind) }
+    {
+        match word {
+            b"judyl" => Some(Kind::JudyL),
+            _ => None,
+        }
+    }
+
+    /// The kind's word.
+    pub fn word(self) -> &'static [u8]
+        ensures word { result.now ≡ kind_word self }
+        ensures names_it { kind_named result.now ≡ Some (empty_of_kind self) }
+    {
+        match self {
+            Kind::JudyL => b"judyl",
+        }
+    }
+}

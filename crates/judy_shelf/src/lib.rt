@@ -1,0 +1,18 @@
+//! Named arrays: the arrays of all kinds behind one type, and a shelf that keeps them by name in the order
+//! in which they were made.
+//!
+//! Its model is the store of the definitions: `store_of` gives the store that a shelf is, `value_of` the
+//! array value that an array is. It stands on the crates of the arrays; scripts run over it.
+#![tactic(auto)]
+
+mod array;
+mod error;
+mod kind;
+mod name;
+mod shelf;
+
+pub use array::Array;
+pub use error::MakeError;
+pub use kind::Kind;
+pub use name::Name;
+pub use shelf::{MAX_ARRAYS, MAX_LIMIT, Shelf};
