@@ -83,22 +83,23 @@ module _ (first : Store) (fed : List ℕ) (before : Option (List ℕ)) (buffer :
   }
 
   in_part : (script : List ℕ) (line : Line) (later : List Line) (taken_after : Option (List ℕ)) (after : Store) → lines_of script ≡ lines_of so_far.front ++ line ∷ later → ServedInPart now line taken taken_after after → RanInPart first script before taken_after after
-  in_part script line later taken_after after lines served =
-      (flat_map output_of so_far.replies ++ take served.written.0 (output_of served.reply),
-      served.written.2 ∙ ap (λ known. grown known (take served.written.0 (output_of served.reply))) so_far.written ∙ grown-grown before (flat_map output_of so_far.replies) (take served.written.0 (output_of served.reply)),
-      record {
-        earlier = lines_of so_far.front;
-        line = line;
-        later = later;
-        lines = lines;
-        replies = so_far.replies;
-        between = now;
-        steps = so_far.steps;
-        reply = served.reply;
-        step = served.step;
-        written = served.written.0;
-        front = refl;
-      })
+  in_part script line later taken_after after lines served = (
+    flat_map output_of so_far.replies ++ take served.written.0 (output_of served.reply),
+    served.written.2 ∙ ap (λ known. grown known (take served.written.0 (output_of served.reply))) so_far.written ∙ grown-grown before (flat_map output_of so_far.replies) (take served.written.0 (output_of served.reply)),
+    record {
+      earlier = lines_of so_far.front;
+      line = line;
+      later = later;
+      lines = lines;
+      replies = so_far.replies;
+      between = now;
+      steps = so_far.steps;
+      reply = served.reply;
+      step = served.step;
+      written = served.written.0;
+      front = refl;
+    },
+  )
 
   -- the writer failed at the line that goes on, once it was ended
   pub RanInPart-line : (head more : List ℕ) (taken_after : Option (List ℕ)) (after : Store) → is_without 10 head ≡ true → ServedInPart now (ended_line head) taken taken_after after → RanInPart first (fed ++ (head ++ 10 ∷ more)) before taken_after after
@@ -124,10 +125,11 @@ module _ (first : Store) (fed : List ℕ) (before : Option (List ℕ)) (buffer :
 
   -- the line that goes on is the script's last
   pub Ran-last : (taken_after : Option (List ℕ)) (after : Store) → 0 < length so_far.rest → Served now last_line taken taken_after after → Ran first fed before taken_after after
-  Ran-last taken_after after some served =
-      (flat_map output_of (so_far.replies ++ served.reply ∷ []),
-      served.written ∙ ap (λ known. grown known (output_of served.reply)) so_far.written ∙ grown-grown before (flat_map output_of so_far.replies) (output_of served.reply) ∙ ap (grown before) (sym (output-push so_far.replies served.reply)),
-      (so_far.replies ++ served.reply ∷ [], rw (lines_with_last some) (Steps-push first now after (lines_of so_far.front) so_far.replies last_line served.reply so_far.steps served.step), refl))
+  Ran-last taken_after after some served = (
+    flat_map output_of (so_far.replies ++ served.reply ∷ []),
+    served.written ∙ ap (λ known. grown known (output_of served.reply)) so_far.written ∙ grown-grown before (flat_map output_of so_far.replies) (output_of served.reply) ∙ ap (grown before) (sym (output-push so_far.replies served.reply)),
+    (so_far.replies ++ served.reply ∷ [], rw (lines_with_last some) (Steps-push first now after (lines_of so_far.front) so_far.replies last_line served.reply so_far.steps served.step), refl),
+  )
 
   pub RanInPart-last : (taken_after : Option (List ℕ)) (after : Store) → 0 < length so_far.rest → ServedInPart now last_line taken taken_after after → RanInPart first fed before taken_after after
   RanInPart-last taken_after after some served = in_part fed last_line [] taken_after after (lines_with_last some) served

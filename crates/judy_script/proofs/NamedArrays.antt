@@ -44,7 +44,7 @@ module _ (entries : Entries) (token : List ℕ) where
 
   -- a command that changes the array that a token names
   pub Follows-at_name : (effect : ArrayValue → Result (Outcome ArrayValue) Refusal) (name : List ℕ) (array after : Array) (left : Entries) (reply : Reply) → name_of token ≡ Some name → array_named entries name ≡ Some array → left ≡ with_array entries name after → Follows (value_of array) (effect (value_of array)) reply (value_of after)
-    → Follows (store_of entries) (at_name (λ name array. effect array >>= (λ outcome. Ok (within (store_of entries) name outcome)))) reply (store_of left)
+      → Follows (store_of entries) (at_name (λ name array. effect array >>= (λ outcome. Ok (within (store_of entries) name outcome)))) reply (store_of left)
   Follows-at_name effect name array after left reply named there same h =
       rw (at_name-found (λ name array. effect array >>= (λ outcome. Ok (within (store_of entries) name outcome))) name array named there, same, ← with_array-store_of entries name after)
       (Follows-within (store_of entries) name (value_of array) (value_of after) (effect (value_of array)) reply (array_named-store_of entries name ∙ ap (option_map value_of) there) h)
@@ -55,7 +55,7 @@ module _ (entries : Entries) (token : List ℕ) where
 
   -- a command that reads the array that a token names
   pub Follows-read : (effect : ArrayValue → Result Answer Refusal) (name : List ℕ) (array : Array) (reply : Reply) → name_of token ≡ Some name → array_named entries name ≡ Some array → reply ≡ effect (value_of array)
-    → Follows (store_of entries) (at_name (λ name array. effect array >>= (λ answer. Ok (unchanged (store_of entries) answer)))) reply (store_of entries)
+      → Follows (store_of entries) (at_name (λ name array. effect array >>= (λ answer. Ok (unchanged (store_of entries) answer)))) reply (store_of entries)
   Follows-read effect name array reply named there same =
       rw (at_name-found (λ name array. effect array >>= (λ answer. Ok (unchanged (store_of entries) answer))) name array named there, same) (read (effect (value_of array)))
     where

@@ -5,3 +5,4 @@ pub mod Texts
 pub mod Makes
 pub mod LineBuffers
 pub mod Feeds
+pub mod Faults

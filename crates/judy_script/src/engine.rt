@@ -49,16 +49,12 @@ pub(crate) fn feed<W: Sink>(
     sink: &mut W,
 ) -> Result<(), RunFault>
     requires { (W.tally sink.old).failures < 2 ^ 64 - 1 }
-    ensures ok {
-        OnOk result ((first : Store) (fed : List ℕ) (before : Option (List ℕ)) →
-            Fed first fed before buffers.old.line (W.taken sink.old) (store_of shelf.old) →
-            Fed first (fed ++ piece.now) before buffers.new.line (W.taken sink.new) (store_of shelf.new))
-    }
-    ensures err {
-        OnErr result ((first : Store) (fed : List ℕ) (before : Option (List ℕ)) →
-            Fed first fed before buffers.old.line (W.taken sink.old) (store_of shelf.old) →
-            RanInPart first (fed ++ piece.now) before (W.taken sink.new) (store_of shelf.new))
-    }
+    ensures ok { OnOk result ((first : Store) (fed : List ℕ) (before : Option (List ℕ)) →
+        Fed first fed before buffers.old.line (W.taken sink.old) (store_of shelf.old) →
+        Fed first (fed ++ piece.now) before buffers.new.line (W.taken sink.new) (store_of shelf.new)) }
+    ensures err { OnErr result ((first : Store) (fed : List ℕ) (before : Option (List ℕ)) →
+        Fed first fed before buffers.old.line (W.taken sink.old) (store_of shelf.old) →
+        RanInPart first (fed ++ piece.now) before (W.taken sink.new) (store_of shelf.new)) }
     ensures fault { IfErr result (λ fault. fault ≡ Write) }
     ensures failures { let before = (W.tally sink.old).failures in
         (W.tally sink.new).failures ≡ (if is_ok result then before else before + 1) }
@@ -82,16 +78,12 @@ pub(crate) fn finish<W: Sink>(
     sink: &mut W,
 ) -> Result<(), RunFault>
     requires { (W.tally sink.old).failures < 2 ^ 64 - 1 }
-    ensures ok {
-        OnOk result ((first : Store) (fed : List ℕ) (before : Option (List ℕ)) →
-            Fed first fed before buffers.old.line (W.taken sink.old) (store_of shelf.old) →
-            Ran first fed before (W.taken sink.new) (store_of shelf.new))
-    }
-    ensures err {
-        OnErr result ((first : Store) (fed : List ℕ) (before : Option (List ℕ)) →
-            Fed first fed before buffers.old.line (W.taken sink.old) (store_of shelf.old) →
-            RanInPart first fed before (W.taken sink.new) (store_of shelf.new))
-    }
+    ensures ok { OnOk result ((first : Store) (fed : List ℕ) (before : Option (List ℕ)) →
+        Fed first fed before buffers.old.line (W.taken sink.old) (store_of shelf.old) →
+        Ran first fed before (W.taken sink.new) (store_of shelf.new)) }
+    ensures err { OnErr result ((first : Store) (fed : List ℕ) (before : Option (List ℕ)) →
+        Fed first fed before buffers.old.line (W.taken sink.old) (store_of shelf.old) →
+        RanInPart first fed before (W.taken sink.new) (store_of shelf.new)) }
     ensures fault { IfErr result (λ fault. fault ≡ Write) }
     ensures failures { let before = (W.tally sink.old).failures in
         (W.tally sink.new).failures ≡ (if is_ok result then before else before + 1) }
@@ -112,14 +104,10 @@ fn end_line<W: Sink>(
     sink: &mut W,
 ) -> Result<(), RunFault>
     requires { (W.tally sink.old).failures < 2 ^ 64 - 1 }
-    ensures ok {
-        OnOk result ((kept : List ℕ) → Holds buffers.old.line kept →
-            Served (store_of shelf.old) (record { bytes = kept ++ head.now; ended = true }) (W.taken sink.old) (W.taken sink.new) (store_of shelf.new))
-    }
-    ensures err {
-        OnErr result ((kept : List ℕ) → Holds buffers.old.line kept →
-            ServedInPart (store_of shelf.old) (record { bytes = kept ++ head.now; ended = true }) (W.taken sink.old) (W.taken sink.new) (store_of shelf.new))
-    }
+    ensures ok { OnOk result ((kept : List ℕ) → Holds buffers.old.line kept →
+        Served (store_of shelf.old) (record { bytes = kept ++ head.now; ended = true }) (W.taken sink.old) (W.taken sink.new) (store_of shelf.new)) }
+    ensures err { OnErr result ((kept : List ℕ) → Holds buffers.old.line kept →
+        ServedInPart (store_of shelf.old) (record { bytes = kept ++ head.now; ended = true }) (W.taken sink.old) (W.taken sink.new) (store_of shelf.new)) }
     ensures cleared { Holds buffers.new.line [] }
     ensures fault { IfErr result (λ fault. fault ≡ Write) }
     ensures failures { let before = (W.tally sink.old).failures in

@@ -1,14 +1,26 @@
-//! The run of a script.
+//! Scripts: lines, commands and answers over a shelf of named arrays.
+//!
+//! [`run_bytes`] runs a whole script. Its contract is the headline of the project: for every script and
+//! every starting store, what is written is the scripted answers of plain finite maps, line by line, and
+//! the store left is theirs. `Ran` of `specs/Feeds.antt` says it by the definitions of `judy_model`.
+//!
+//! The way of a script: `engine` is fed its bytes in pieces and cuts them into lines (`cut`, `line`); a
+//! line's tokens (`tokens`) name a command (`commands`), which is carried out (`make`, `values`) over the
+//! shelf and gives a reply (`reply`), which is printed (`print`) and written. Fixed buffers serve all lines
+//! of a run, so that an answer takes no memory.
+//!
+//! The crate stands on `judy_shelf` for the store and `judy_pipe` for what is written; the program stands on
+//! it.
 #![tactic(auto)]
 
+mod commands;
+mod cut;
 mod engine;
 mod fault;
 mod line;
 mod make;
 mod print;
 mod reply;
-mod commands;
-mod cut;
 mod run;
 mod tokens;
 mod values;

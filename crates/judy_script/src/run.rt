@@ -17,11 +17,7 @@ use judy_shelf::Shelf;
 /// fault is `Write`, where the sink failed: the shelf is then as after the line whose answer was being
 /// written, and written are the answers before it and a front of its own. The sink must not have failed
 /// `u64::MAX` times before; a fault adds one failure, and Ok none.
-pub fn run_bytes<W: Sink>(
-    script: &[u8],
-    shelf: &mut Shelf,
-    sink: &mut W,
-) -> Result<(), RunFault>
+pub fn run_bytes<W: Sink>(script: &[u8], shelf: &mut Shelf, sink: &mut W) -> Result<(), RunFault>
     requires { (W.tally sink.old).failures < 2 ^ 64 - 1 }
     ensures run { OnOk result (Ran (store_of shelf.old) script.now (W.taken sink.old) (W.taken sink.new) (store_of shelf.new)) }
     ensures write { OnErr result (RanInPart (store_of shelf.old) script.now (W.taken sink.old) (W.taken sink.new) (store_of shelf.new)) }

@@ -10,7 +10,7 @@ lines-preserved g c = record {
   feeding =
       Feeding-line _ _ _ _ _ _ _ _ c.lines.invariant.feeding c.cut_at.result.0.now c.in-Some.after.now c.end_line.new.buffers.line _ _
       (rw c.in-Some.is at c.cut_at.ensures) c.end_line.ensures.cleared c.in_ok-end_line.ensures.ok;
-  failures = c.in_ok-end_line.ensures.failures ∙ c.lines.invariant.failures
+  failures = c.in_ok-end_line.ensures.failures ∙ c.lines.invariant.failures;
 }
 
 pub returns-in_default-clause-ok : goal.returns-in_default-clause-ok

@@ -6,7 +6,7 @@ use Rattle.judy_script.proofs.engine.feed.Given as goal
 abbrev pub invariant-lines : goal.invariant-lines
 invariant-lines g l = record {
   feeding : Feeding l.piece l.rest l.fn.buffers.line l.buffers.line (g.W.Sink.taken l.fn.sink) (g.W.Sink.taken l.sink) (store_of l.fn.shelf) (store_of l.shelf);
-  failures : (g.W.Sink.tally l.sink).failures ≡ (g.W.Sink.tally l.fn.sink).failures
+  failures : (g.W.Sink.tally l.sink).failures ≡ (g.W.Sink.tally l.fn.sink).failures;
 }
 
 abbrev pub decreases-lines : goal.decreases-lines

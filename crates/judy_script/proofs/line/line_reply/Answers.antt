@@ -12,6 +12,6 @@ returns c =
     let line : Line = record { bytes = c.args.bytes.now; ended = c.args.ended } in
     let fits : is_too_long line ≡ false = search rules in
     let tokens : texts c.deref.result.now ≡ take 5 (tokens_of (text_of line)) =
-        ap texts c.deref.ensures.0 ∙ c.split.ensures ∙ ap (λ text. take 5 (tokens_of text)) c.without_return.ensures in
+    ap texts c.deref.ensures.0 ∙ c.split.ensures ∙ ap (λ text. take 5 (tokens_of text)) c.without_return.ensures in
     Step-Follows (store_of c.args.shelf.now) (store_of c.execute.new.shelf) line _
     (rw (outcome_of-tokens (store_of c.args.shelf.now) line (texts c.deref.result.now) fits tokens) c.execute.ensures)
