@@ -1,0 +1,14 @@
+//! The worked rows that cross crates, as tests by the rows' names: scripts with the answers that the
+//! specification gives, run over memory.
+//!
+//! The crate stands on top of all others and has no code of its own.
+#![tactic(auto)]
+
+#[cfg(test)]
+mod check;
+#[cfg(test)]
+mod lines;
+#[cfg(test)]
+mod refusals;
+#[cfg(test)]
+mod scripts;
