@@ -3,7 +3,9 @@ use Rattle.std.proofs.Common.{◌≡◌, ℕ, ◌<◌, Bool, true, false, cond, 
 use Rattle.std.proofs.lemmas.Bool.{ltb-true}
 use Rattle.std.specs.List.{list_all}
 use Rattle.judy_model.specs.Lines.{Line, lines_of, onto_first_line}
-use Rattle.judy_model.specs.LineLists.{script_of, are_lines}
+use Rattle.std.specs.Prelude.{filter}
+use Rattle.std.proofs.lemmas.List.Elements.{filter-append}
+use Rattle.judy_model.specs.LineLists.{whole_line, whole_lines, script_of, are_lines}
 
 -- a byte that is no LF
 abbrev pub is_inner : ℕ → Bool
@@ -87,3 +89,48 @@ lines_of-script_of (line ∷ lines) h = cases line.bytes line.ended (lines_of-sc
         let is_some : nat_lt 0 (length bytes) ≡ true = both_second (nat_lt (length lines) 1) _ last in
         let some : 0 < length bytes = ltb-true 0 (length bytes) is_some in
         rw none (rw (append-nil (bytes ++ []), append-nil bytes) (lines_of-unended bytes (both_first _ _ (both_first _ _ g)) some))
+
+-- whether an LF ended each of the lines
+abbrev pub all_ended : List Line → Bool
+all_ended = list_all (λ line. line.ended)
+
+filter-all_ended : (lines : List Line) → all_ended lines ≡ true → filter (λ line. line.ended) lines ≡ lines
+filter-all_ended [] h = refl
+filter-all_ended (line ∷ lines) h =
+    let first : line.ended ≡ true = both_first line.ended (all_ended lines) h in
+    ap (λ b. cond b (line ∷ filter (λ line. line.ended) lines) (filter (λ line. line.ended) lines)) first
+    ∙ ap (λ rest. line ∷ rest) (filter-all_ended lines (both_second line.ended (all_ended lines) h))
+
+all_ended-filter : (lines : List Line) → all_ended (filter (λ line. line.ended) lines) ≡ true
+all_ended-filter [] = refl
+all_ended-filter (line ∷ lines) = elim line.ended as (λ b. line.ended ≡ b → all_ended (cond b (line ∷ filter (λ line. line.ended) lines) (filter (λ line. line.ended) lines)) ≡ true) [
+    | true ↦ λ is. ap (λ b. b && all_ended (filter (λ line. line.ended) lines)) is ∙ all_ended-filter lines
+    | false ↦ λ is. all_ended-filter lines
+  ] refl
+
+-- the lines of whole lines and more are those of both
+lines_of-script_of_ended : (lines : List Line) (more : List ℕ) → are_lines lines ≡ true → all_ended lines ≡ true → lines_of (script_of lines ++ more) ≡ lines ++ lines_of more
+lines_of-script_of_ended [] more h k = refl
+lines_of-script_of_ended (line ∷ lines) more h k =
+    cases line.bytes line.ended (lines_of-script_of_ended lines more (both_second _ _ h) (both_second line.ended (all_ended lines) k)) h (both_first line.ended (all_ended lines) k)
+  where
+    cases : (bytes : List ℕ) (ended : Bool) → lines_of (script_of lines ++ more) ≡ lines ++ lines_of more → are_lines (record { bytes = bytes; ended = ended } ∷ lines) ≡ true → ended ≡ true → lines_of (((bytes ++ cond ended (10 ∷ []) []) ++ script_of lines) ++ more) ≡ record { bytes = bytes; ended = ended } ∷ (lines ++ lines_of more)
+    cases bytes true same g is =
+        ap lines_of (append_assoc (bytes ++ 10 ∷ []) (script_of lines) more ∙ append_assoc bytes (10 ∷ []) (script_of lines ++ more))
+        ∙ lines_of-ended bytes (script_of lines ++ more) (both_first _ _ (both_first _ _ g)) ∙ ap (λ rest. record { bytes = bytes; ended = true } ∷ rest) same
+    cases bytes false same g is = absurd (cc)
+
+pub lines_of-whole_lines : (front more : List ℕ) → all_ended (lines_of front) ≡ true → lines_of (front ++ more) ≡ lines_of front ++ lines_of more
+lines_of-whole_lines front more ended =
+    ap (λ bytes. lines_of (bytes ++ more)) (sym (script_of-lines_of front)) ∙ lines_of-script_of_ended (lines_of front) more (are_lines-lines_of front) ended
+
+-- what stands behind whole lines doesn't change them
+pub whole_lines-append : (front rest : List ℕ) → all_ended (lines_of front) ≡ true → lines_of (front ++ rest) ≡ lines_of front ++ lines_of rest → list_all is_inner rest ≡ true → whole_lines (front ++ rest) ≡ front
+whole_lines-append front rest ended cut without =
+    ap (λ lines. script_of (filter (λ line. line.ended) lines)) cut
+    ∙ ap script_of (filter-append (λ line. line.ended) (lines_of front) (lines_of rest) ∙ ap (λ lines. lines ++ filter (λ line. line.ended) (lines_of rest)) (filter-all_ended (lines_of front) ended) ∙ ap (λ lines. lines_of front ++ lines) (none rest without) ∙ append-nil (lines_of front))
+    ∙ script_of-lines_of front
+  where
+    none : (bytes : List ℕ) → list_all is_inner bytes ≡ true → filter (λ line. line.ended) (lines_of bytes) ≡ []
+    none [] h = refl
+    none (byte ∷ bytes) h = ap (filter (λ line. line.ended)) (lines_of-unended (byte ∷ bytes) h (omega arith))

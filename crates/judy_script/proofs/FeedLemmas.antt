@@ -1,18 +1,20 @@
 -- A run that is fed piece by piece.
 use Rattle.std.proofs.Common.{◌≡◌, ℕ, ◌<◌, Bool, true, false, ◌&&◌, List, [], ◌∷◌, ◌++◌, length, take, Option, Some, None, refl, sym, ap, ◌∙◌, arith, append_assoc, append-nil}
 use Rattle.std.specs.Prelude.{flat_map, Result, Ok, Err, OnErr}
+use Rattle.std.specs.List.{list_all}
 use Rattle.std.proofs.lemmas.List.Folds.{list_all-append}
 use Rattle.judy_model.specs.Lines.{Line, lines_of}
+use Rattle.judy_model.specs.LineLists.{are_whole_lines, whole_lines}
 use Rattle.judy_model.specs.Stores.{Store}
 use Rattle.judy_model.specs.Replies.{output_of}
-use Rattle.judy_model.proofs.LineLemmas.{lines_of-ended, lines_of-unended}
+use Rattle.judy_model.proofs.LineLemmas.{lines_of-ended, lines_of-unended, lines_of-whole_lines, whole_lines-append}
 use Rattle.judy_model.proofs.RunLemmas.{Steps-push, output-push}
 use Rattle.judy_pipe.specs.Pipe.{grown}
 use Rattle.judy_pipe.proofs.Moves.{grown-grown}
 use Rattle.judy_script.specs.declared.line.LineBuffer.{LineBuffer}
 use Rattle.judy_script.specs.LineBuffers.{Holds}
 use Rattle.judy_script.specs.Cuts.{is_without, IsCutAt}
-use Rattle.judy_script.specs.Feeds.{Fed, Served, ServedInPart, Ran, RanInPart}
+use Rattle.judy_script.specs.Feeds.{Fed, Served, ServedInPart, Ran, RanInPart, RanInWholeLines}
 
 -- what holds holds at an error
 pub on_err_holds : {A E P : Type 0} (result : Result A E) → P → OnErr result P
@@ -26,14 +28,14 @@ both false b h k = h
 without_more : (byte : ℕ) (front rest : List ℕ) → is_without byte front ≡ true → is_without byte rest ≡ true → is_without byte (front ++ rest) ≡ true
 without_more byte front rest h k = list_all-append _ front rest ∙ both _ _ h k
 
-grown-nothing : (known : Option (List ℕ)) → known ≡ grown known []
+pub grown-nothing : (known : Option (List ℕ)) → known ≡ grown known []
 grown-nothing None = refl
 grown-nothing (Some bytes) = ap Some (sym (append-nil bytes))
 
 -- a run that nothing was fed to
 pub Fed-nothing : (first : Store) (before : Option (List ℕ)) (buffer : LineBuffer) → Holds buffer [] → Fed first [] before buffer before first
 Fed-nothing first before buffer holds =
-    record { front = []; rest = []; split = refl; lines = λ more. refl; goes_on = refl; holds = holds; replies = []; steps = refl; written = grown-nothing before }
+    record { front = []; rest = []; split = refl; ended = refl; goes_on = refl; holds = holds; replies = []; steps = refl; written = grown-nothing before }
 
 module _ (first : Store) (fed : List ℕ) (before : Option (List ℕ)) (buffer : LineBuffer) (taken : Option (List ℕ)) (now : Store) (so_far : Fed first fed before buffer taken now) where
   -- the line that goes on, once `head` and an LF came
@@ -48,7 +50,7 @@ module _ (first : Store) (fed : List ℕ) (before : Option (List ℕ)) (buffer :
 
   lines_to_here : (head more : List ℕ) → is_without 10 head ≡ true → lines_of (so_far.front ++ ((so_far.rest ++ head) ++ 10 ∷ more)) ≡ lines_of so_far.front ++ ended_line head ∷ lines_of more
   lines_to_here head more without =
-      so_far.lines ((so_far.rest ++ head) ++ 10 ∷ more)
+      lines_of-whole_lines so_far.front ((so_far.rest ++ head) ++ 10 ∷ more) so_far.ended
       ∙ ap (λ lines. lines_of so_far.front ++ lines) (lines_of-ended (so_far.rest ++ head) more (without_more 10 so_far.rest head so_far.goes_on without))
 
   -- the line that goes on is ended, executed and answered
@@ -57,10 +59,7 @@ module _ (first : Store) (fed : List ℕ) (before : Option (List ℕ)) (buffer :
     front = so_far.front ++ ((so_far.rest ++ head) ++ 10 ∷ []);
     rest = [];
     split = cut_script head [] ∙ sym (append-nil _);
-    lines = λ more.
-        ap lines_of (append_assoc so_far.front ((so_far.rest ++ head) ++ 10 ∷ []) more ∙ ap (λ bytes. so_far.front ++ bytes) (append_assoc (so_far.rest ++ head) (10 ∷ []) more))
-        ∙ lines_to_here head more without
-        ∙ sym (ap (λ lines. lines ++ lines_of more) (lines_to_here head [] without) ∙ append_assoc (lines_of so_far.front) (ended_line head ∷ []) (lines_of more));
+    ended = ap (list_all (λ line. line.ended)) (lines_to_here head [] without) ∙ list_all-append (λ line. line.ended) (lines_of so_far.front) (ended_line head ∷ []) ∙ both _ _ so_far.ended refl;
     goes_on = refl;
     holds = holds;
     replies = so_far.replies ++ served.reply ∷ [];
@@ -74,7 +73,7 @@ module _ (first : Store) (fed : List ℕ) (before : Option (List ℕ)) (buffer :
     front = so_far.front;
     rest = so_far.rest ++ more;
     split = ap (λ bytes. bytes ++ more) so_far.split ∙ append_assoc so_far.front so_far.rest more;
-    lines = so_far.lines;
+    ended = so_far.ended;
     goes_on = without_more 10 so_far.rest more so_far.goes_on without;
     holds = pushed so_far.rest so_far.holds;
     replies = so_far.replies;
@@ -102,9 +101,20 @@ module _ (first : Store) (fed : List ℕ) (before : Option (List ℕ)) (buffer :
   )
 
   -- the writer failed at the line that goes on, once it was ended
-  pub RanInPart-line : (head more : List ℕ) (taken_after : Option (List ℕ)) (after : Store) → is_without 10 head ≡ true → ServedInPart now (ended_line head) taken taken_after after → RanInPart first (fed ++ (head ++ 10 ∷ more)) before taken_after after
-  RanInPart-line head more taken_after after without served =
-      in_part (fed ++ (head ++ 10 ∷ more)) (ended_line head) (lines_of more) taken_after after (ap lines_of (cut_script head more) ∙ lines_to_here head more without) served
+  pub RanInWholeLines-line : (head more : List ℕ) (taken_after : Option (List ℕ)) (after : Store) → is_without 10 head ≡ true → ServedInPart now (ended_line head) taken taken_after after → RanInWholeLines first (fed ++ (head ++ 10 ∷ more)) before taken_after after
+  RanInWholeLines-line head more taken_after after without served =
+      let lines : lines_of (fed ++ (head ++ 10 ∷ [])) ≡ lines_of so_far.front ++ ended_line head ∷ [] = ap lines_of (cut_script head []) ∙ lines_to_here head [] without in
+      (fed ++ (head ++ 10 ∷ []),
+      more,
+      sym (append_assoc fed (head ++ 10 ∷ []) more ∙ ap (λ bytes. fed ++ bytes) (append_assoc head (10 ∷ []) more)),
+      ap (list_all (λ line. line.ended)) lines ∙ list_all-append (λ line. line.ended) (lines_of so_far.front) (ended_line head ∷ []) ∙ both _ _ so_far.ended refl,
+      in_part (fed ++ (head ++ 10 ∷ [])) (ended_line head) [] taken_after after lines served)
+
+  -- what was fed, up to its last LF, was run
+  pub Ran-whole_lines : Ran first (whole_lines fed) before taken now
+  Ran-whole_lines =
+      let front : whole_lines fed ≡ so_far.front = ap whole_lines so_far.split ∙ whole_lines-append so_far.front so_far.rest so_far.ended (lines_of-whole_lines so_far.front so_far.rest so_far.ended) so_far.goes_on in
+      (flat_map output_of so_far.replies, so_far.written, (so_far.replies, rw front so_far.steps, refl))
 
   -- no line goes on where the script ends
   pub Ran-nothing_more : length so_far.rest ≡ 0 → Ran first fed before taken now
@@ -121,7 +131,7 @@ module _ (first : Store) (fed : List ℕ) (before : Option (List ℕ)) (buffer :
 
   lines_with_last : 0 < length so_far.rest → lines_of fed ≡ lines_of so_far.front ++ last_line ∷ []
   lines_with_last some =
-      ap lines_of so_far.split ∙ so_far.lines so_far.rest ∙ ap (λ lines. lines_of so_far.front ++ lines) (lines_of-unended so_far.rest so_far.goes_on some)
+      ap lines_of so_far.split ∙ lines_of-whole_lines so_far.front so_far.rest so_far.ended ∙ ap (λ lines. lines_of so_far.front ++ lines) (lines_of-unended so_far.rest so_far.goes_on some)
 
   -- the line that goes on is the script's last
   pub Ran-last : (taken_after : Option (List ℕ)) (after : Store) → 0 < length so_far.rest → Served now last_line taken taken_after after → Ran first fed before taken_after after
@@ -167,8 +177,26 @@ module _ (piece rest : List ℕ) (buffer_before buffer : LineBuffer) (taken_befo
       (Fed-more first (fed ++ feeding.done) before buffer taken store (feeding.fed first fed before so_far) head filled cut.1 pushed)
 
   -- the writer failed at a line of the piece
-  pub Feeding-cut : (head after : List ℕ) (taken_after : Option (List ℕ)) (store_after : Store) → IsCutAt 10 rest head (Some after) → ((kept : List ℕ) → Holds buffer kept → ServedInPart store (record { bytes = kept ++ head; ended = true }) taken taken_after store_after) → (first : Store) (fed : List ℕ) (before : Option (List ℕ)) → Fed first fed before buffer_before taken_before store_before → RanInPart first (fed ++ piece) before taken_after store_after
+  pub Feeding-cut : (head after : List ℕ) (taken_after : Option (List ℕ)) (store_after : Store) → IsCutAt 10 rest head (Some after) → ((kept : List ℕ) → Holds buffer kept → ServedInPart store (record { bytes = kept ++ head; ended = true }) taken taken_after store_after) → (first : Store) (fed : List ℕ) (before : Option (List ℕ)) → Fed first fed before buffer_before taken_before store_before → RanInWholeLines first (fed ++ piece) before taken_after store_after
   Feeding-cut head after taken_after store_after cut served first fed before so_far =
       let here = feeding.fed first fed before so_far in
       rw (piece_is head after cut.0, ← append_assoc fed feeding.done (head ++ 10 ∷ after))
-      (RanInPart-line first (fed ++ feeding.done) before buffer taken store here head after taken_after store_after cut.1 (served here.rest here.holds))
+      (RanInWholeLines-line first (fed ++ feeding.done) before buffer taken store here head after taken_after store_after cut.1 (served here.rest here.holds))
+
+-- a run that was cut off in whole lines was cut off in any script that begins with them
+pub RanInPart-longer : (first : Store) (closed later : List ℕ) (before taken : Option (List ℕ)) (now : Store) → are_whole_lines closed ≡ true → RanInPart first closed before taken now → RanInPart first (closed ++ later) before taken now
+RanInPart-longer first closed later before taken now ended ran =
+    let cut = ran.2 in
+    (ran.0, ran.1, record {
+      earlier = cut.earlier;
+      line = cut.line;
+      later = cut.later ++ lines_of later;
+      lines = lines_of-whole_lines closed later ended ∙ ap (λ lines. lines ++ lines_of later) cut.lines ∙ append_assoc cut.earlier (cut.line ∷ cut.later) (lines_of later);
+      replies = cut.replies;
+      between = cut.between;
+      steps = cut.steps;
+      reply = cut.reply;
+      step = cut.step;
+      written = cut.written;
+      front = cut.front;
+    })

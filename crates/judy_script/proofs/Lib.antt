@@ -5,3 +5,4 @@ pub mod NamedArrays
 pub mod MakeLemmas
 pub mod StepsOfLines
 pub mod FeedLemmas
+pub mod ReadLemmas

@@ -1,6 +1,7 @@
 -- How far a run has come when a part of its script was fed to it.
 use Rattle.std.specs.Prelude.{◌≡◌, ℕ, List, ◌++◌, IsTrue, Option, flat_map}
 use Rattle.judy_model.specs.Lines.{Line, lines_of}
+use Rattle.judy_model.specs.LineLists.{are_whole_lines}
 use Rattle.judy_model.specs.Stores.{Store}
 use Rattle.judy_model.specs.Replies.{Reply, output_of}
 use Rattle.judy_model.specs.Steps.{Step}
@@ -16,7 +17,7 @@ pub record Fed (first : Store) (fed : List ℕ) (before : Option (List ℕ)) (bu
   pub front : List ℕ
   pub rest : List ℕ
   pub split : fed ≡ front ++ rest
-  pub lines : (more : List ℕ) → lines_of (front ++ more) ≡ lines_of front ++ lines_of more
+  pub ended : IsTrue (are_whole_lines front)
   pub goes_on : IsTrue (is_without 10 rest)
   pub holds : Holds buffer rest
   pub replies : List Reply
@@ -42,3 +43,8 @@ Ran before script taken_before taken_after after =
 abbrev pub RanInPart : Store → List ℕ → Option (List ℕ) → Option (List ℕ) → Store → Type 0
 RanInPart before script taken_before taken_after after =
     (output : List ℕ) × (taken_after ≡ grown taken_before output) × CutOff before script output after
+
+-- The same, at a line that an LF ended: among the bytes fed there is a front of whole lines that has it.
+abbrev pub RanInWholeLines : Store → List ℕ → Option (List ℕ) → Option (List ℕ) → Store → Type 0
+RanInWholeLines before fed taken_before taken_after after =
+    (closed : List ℕ) × (later : List ℕ) × (fed ≡ closed ++ later) × IsTrue (are_whole_lines closed) × RanInPart before closed taken_before taken_after after

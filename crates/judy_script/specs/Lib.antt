@@ -6,3 +6,4 @@ pub mod Makes
 pub mod LineBuffers
 pub mod Feeds
 pub mod Faults
+pub mod RunEnds

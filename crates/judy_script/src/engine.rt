@@ -8,7 +8,7 @@ ghost use Rattle.judy_pipe.specs.Pipe.{grown, GrewByFront};
 ghost use Rattle.judy_shelf.specs.Shelves.{store_of};
 ghost use Rattle.judy_script.specs.Replies.{reply_of};
 ghost use Rattle.judy_script.specs.LineBuffers.{Holds};
-ghost use Rattle.judy_script.specs.Feeds.{Fed, Served, ServedInPart, Ran, RanInPart};
+ghost use Rattle.judy_script.specs.Feeds.{Fed, Served, ServedInPart, Ran, RanInPart, RanInWholeLines};
 ghost use Rattle.judy_script.specs.declared.fault.RunFault.TheVariants.{Write};
 
 use crate::cut::cut_at;
@@ -54,7 +54,7 @@ pub(crate) fn feed<W: Sink>(
         Fed first (fed ++ piece.now) before buffers.new.line (W.taken sink.new) (store_of shelf.new)) }
     ensures err { OnErr result ((first : Store) (fed : List ℕ) (before : Option (List ℕ)) →
         Fed first fed before buffers.old.line (W.taken sink.old) (store_of shelf.old) →
-        RanInPart first (fed ++ piece.now) before (W.taken sink.new) (store_of shelf.new)) }
+        RanInWholeLines first (fed ++ piece.now) before (W.taken sink.new) (store_of shelf.new)) }
     ensures fault { IfErr result (λ fault. fault ≡ Write) }
     ensures failures { let before = (W.tally sink.old).failures in
         (W.tally sink.new).failures ≡ (if is_ok result then before else before + 1) }

@@ -21,10 +21,10 @@ mod line;
 mod make;
 mod print;
 mod reply;
-mod run;
+mod runs;
 mod tokens;
 mod values;
 mod words;
 
 pub use fault::RunFault;
-pub use run::run_bytes;
+pub use runs::{run, run_bytes};

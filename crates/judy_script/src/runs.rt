@@ -1,0 +1,96 @@
+//! The runs of a script: over a reader, and over bytes in hand.
+
+ghost use Rattle.std.specs.Prelude.{◌≡◌, ℕ, ◌+◌, ◌-◌, ◌<◌, ◌^◌, List, is_ok, if◌then◌else◌, OnOk, OnErr, IfErr};
+ghost use Rattle.judy_pipe.specs.Pipe.{grown};
+ghost use Rattle.judy_shelf.specs.Shelves.{store_of};
+ghost use Rattle.judy_script.specs.declared.fault.RunFault.TheVariants.{Write};
+ghost use Rattle.judy_script.specs.Feeds.{Ran, RanInPart};
+ghost use Rattle.judy_script.specs.RunEnds.{RanToEnd, LeftBy, read_failures, write_failures};
+
+use crate::engine::{Buffers, feed, finish};
+use crate::fault::RunFault;
+use judy_pipe::{MemSource, Sink, Source, SourceTrouble, read_some};
+use judy_shelf::Shelf;
+
+// How many bytes are read at once.
+const PIECE_LEN: usize = 16384;
+
+/// Runs the script that a source gives, in whatever pieces it comes: each line is executed, then its answer
+/// is written whole, then the next line begins. No more than a piece and a line are kept of the script.
+///
+/// At Ok the source gave at most `max_bytes` bytes and then the end, and the shelf and what was written are
+/// those of a run of these bytes by the definitions. Else the fault is
+/// - `Read`, where the source failed: the lines whose LF was read before are executed and answered, and
+///   nothing else is done;
+/// - `TooLong`, where it gave more than `max_bytes` bytes: the same for the first `max_bytes` of them;
+/// - `Write`, where the sink failed: the shelf is as after the line whose answer was being written, and
+///   written are the answers before it and a front of its own.
+///
+/// Neither must have failed `u64::MAX` times before; a fault adds one failure to the one that failed.
+pub fn run<R: Source, W: Sink>(
+    source: &mut R,
+    shelf: &mut Shelf,
+    sink: &mut W,
+    max_bytes: u64,
+) -> Result<(), RunFault>
+    requires source { (R.tally source.old).failures < 2 ^ 64 - 1 }
+    requires sink { (W.tally sink.old).failures < 2 ^ 64 - 1 }
+    ensures run { OnOk result ((script : List ℕ) × (R.given source.new ≡ grown (R.given source.old) script)
+        × RanToEnd (store_of shelf.old) max_bytes (W.taken sink.old) (W.taken sink.new) (store_of shelf.new) script (R.ended source.old) (R.ended source.new)) }
+    ensures left { IfErr result (λ fault. (bytes : List ℕ) × (R.given source.new ≡ grown (R.given source.old) bytes)
+        × LeftBy (store_of shelf.old) max_bytes (W.taken sink.old) (W.taken sink.new) (store_of shelf.new) fault bytes (R.ended source.old) (R.ended source.new)) }
+    ensures read_failures { (R.tally source.new).failures ≡ (R.tally source.old).failures + read_failures result }
+    ensures write_failures { (W.tally sink.new).failures ≡ (W.tally sink.old).failures + write_failures result }
+    ensures content { R.content source.new ≡ R.content source.old }
+    ensures unfailing { R.is_unfailing source.new ≡ R.is_unfailing source.old }
+{
+    let mut buffers = Buffers::new();
+    let mut room = [0; PIECE_LEN];
+    let mut left = max_bytes;
+    'pieces: loop {
+        let Ok(count) = read_some(source, &mut room) else {
+            return Err(RunFault::Read);
+        };
+        if count == 0 {
+            return match finish(&mut buffers, shelf, sink) {
+                Ok(()) => Ok(()),
+                Err(_) => Err(RunFault::Write),
+            };
+        }
+        if count as u64 > left {
+            return match feed(&room[..left as usize], &mut buffers, shelf, sink) {
+                Ok(()) => Err(RunFault::TooLong),
+                Err(_) => Err(RunFault::Write),
+            };
+        }
+        match feed(&room[..count], &mut buffers, shelf, sink) {
+            Ok(()) => left -= count as u64,
+            Err(_) => return Err(RunFault::Write),
+        }
+    }
+}
+
+/// Runs a script: each line is executed, then its answer is written whole, then the next line begins.
+/// (The script and its answers are this project's own.)
+///
+/// At Ok the shelf and what was written are those of a run of the whole script by the definitions. The one
+/// fault is `Write`, where the sink failed: the shelf is then as after the line whose answer was being
+/// written, and written are the answers before it and a front of its own. The sink must not have failed
+/// `u64::MAX` times before; a fault adds one failure, and Ok none.
+pub fn run_bytes<W: Sink>(script: &[u8], shelf: &mut Shelf, sink: &mut W) -> Result<(), RunFault>
+    requires { (W.tally sink.old).failures < 2 ^ 64 - 1 }
+    ensures run { OnOk result (Ran (store_of shelf.old) script.now (W.taken sink.old) (W.taken sink.new) (store_of shelf.new)) }
+    ensures write { OnErr result (RanInPart (store_of shelf.old) script.now (W.taken sink.old) (W.taken sink.new) (store_of shelf.new)) }
+    ensures fault { IfErr result (λ fault. fault ≡ Write) }
+    ensures failures { let before = (W.tally sink.old).failures in
+        (W.tally sink.new).failures ≡ (if is_ok result then before else before + 1) }
+{
+    let mut source = MemSource::new(script, usize::MAX, SourceTrouble::Never);
+    match run(&mut source, shelf, sink, script.len() as u64) {
+        Ok(()) => Ok(()),
+        Err(RunFault::Write) => Err(RunFault::Write),
+        // A slice never fails, and has no more bytes than its own.
+        Err(RunFault::Read) => unreachable!(),
+        Err(RunFault::TooLong) => unreachable!(),
+    }
+}
