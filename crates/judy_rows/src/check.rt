@@ -1,7 +1,10 @@
 //! How a row is checked.
 
-use judy_pipe::{MemSink, SinkTrouble};
-use judy_script::run_bytes;
+ghost use Rattle.std.specs.Prelude.{◌-◌, ◌<◌, ◌^◌};
+ghost use Rattle.judy_pipe.specs.MemSource.{source_tally};
+
+use judy_pipe::{MemSink, MemSource, SinkTrouble};
+use judy_script::{RunFault, run, run_bytes};
 use judy_shelf::{Array, Name, Shelf};
 use std::process::Abort;
 
@@ -10,6 +13,23 @@ pub fn check_answers<R: Abort>(rt: &R, shelf: &mut Shelf, script: &[u8], answers
     let mut sink = MemSink::<1024>::new(1024, SinkTrouble::Never);
     let run = run_bytes(script, shelf, &mut sink);
     assert!(rt; run.is_ok());
+    assert_eq!(rt; sink.bytes(), answers);
+}
+
+/// Runs the script that a source gives, and compares how the run ends and what it writes.
+pub fn check_run<R: Abort>(
+    rt: &R,
+    source: &mut MemSource<'_>,
+    shelf: &mut Shelf,
+    max_bytes: u64,
+    end: Result<(), RunFault>,
+    answers: &[u8],
+)
+    requires { (source_tally source.old).failures < 2 ^ 64 - 1 }
+{
+    let mut sink = MemSink::<1024>::new(1024, SinkTrouble::Never);
+    let ended = run(source, shelf, &mut sink, max_bytes);
+    assert_eq!(rt; ended, end);
     assert_eq!(rt; sink.bytes(), answers);
 }
 

@@ -1,6 +1,7 @@
 //! Rows of lines.
 
-use crate::check::check_answers;
+use crate::check::{check_answers, check_run};
+use judy_pipe::{MemSource, SourceTrouble};
 use judy_shelf::Shelf;
 use std::alloc::{AllocError, Global};
 use std::process::Abort;
@@ -67,4 +68,34 @@ fn line_limits(rt: HostRuntime) -> Result<(), AllocError> {
     )?;
     check_line(&rt, rt.alloc(), b';', 4096, b"\n", b"")?;
     check_line(&rt, rt.alloc(), b';', 4097, b"\n", b"error line-too-long\n")
+}
+
+// The row in every two pieces, and byte by byte: the same answers, however the script comes.
+#[test]
+fn line_forms_in_pieces(rt: HostRuntime) {
+    let script =
+        b"make  a judyl\r\n ins a 5 7\r\nins   a  5   9  \r\nget a 5\r\n  get a 6 \r\nput a 6 1";
+    for most in 1..=script.len() {
+        let mut source = MemSource::new(script, most, SourceTrouble::Never);
+        check_run(
+            &rt,
+            &mut source,
+            &mut Shelf::new(rt.alloc()),
+            1000,
+            Ok(()),
+            b"ok\nwas 0\nwas 7\n9\nnone\nnone\n",
+        );
+    }
+    // An interruption at each place cuts the script there into two pieces.
+    for at in 0..=script.len() {
+        let mut source = MemSource::new(script, 1000, SourceTrouble::Interrupts { at, times: 999 });
+        check_run(
+            &rt,
+            &mut source,
+            &mut Shelf::new(rt.alloc()),
+            1000,
+            Ok(()),
+            b"ok\nwas 0\nwas 7\n9\nnone\nnone\n",
+        );
+    }
 }

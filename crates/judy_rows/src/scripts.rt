@@ -5,7 +5,7 @@ use judy_pipe::{MemSink, SinkTrouble};
 use judy_script::{RunFault, run_bytes};
 use judy_shelf::Shelf;
 
-const FIRST_SCRIPT: &[u8; 59] =
+pub const FIRST_SCRIPT: &[u8; 59] =
     b"make a judyl\nins a 5 7\nins a 5 9\nget a 5\nget a 6\nput a 6 1\n";
 
 #[test]

@@ -103,12 +103,13 @@ module _ (first : Store) (fed : List ℕ) (before : Option (List ℕ)) (buffer :
   -- the writer failed at the line that goes on, once it was ended
   pub RanInWholeLines-line : (head more : List ℕ) (taken_after : Option (List ℕ)) (after : Store) → is_without 10 head ≡ true → ServedInPart now (ended_line head) taken taken_after after → RanInWholeLines first (fed ++ (head ++ 10 ∷ more)) before taken_after after
   RanInWholeLines-line head more taken_after after without served =
-      let lines : lines_of (fed ++ (head ++ 10 ∷ [])) ≡ lines_of so_far.front ++ ended_line head ∷ [] = ap lines_of (cut_script head []) ∙ lines_to_here head [] without in
-      (fed ++ (head ++ 10 ∷ []),
-      more,
-      sym (append_assoc fed (head ++ 10 ∷ []) more ∙ ap (λ bytes. fed ++ bytes) (append_assoc head (10 ∷ []) more)),
-      ap (list_all (λ line. line.ended)) lines ∙ list_all-append (λ line. line.ended) (lines_of so_far.front) (ended_line head ∷ []) ∙ both _ _ so_far.ended refl,
-      in_part (fed ++ (head ++ 10 ∷ [])) (ended_line head) [] taken_after after lines served)
+      let lines : lines_of (fed ++ (head ++ 10 ∷ [])) ≡ lines_of so_far.front ++ ended_line head ∷ [] = ap lines_of (cut_script head []) ∙ lines_to_here head [] without in (
+        fed ++ (head ++ 10 ∷ []),
+        more,
+        sym (append_assoc fed (head ++ 10 ∷ []) more ∙ ap (λ bytes. fed ++ bytes) (append_assoc head (10 ∷ []) more)),
+        ap (list_all (λ line. line.ended)) lines ∙ list_all-append (λ line. line.ended) (lines_of so_far.front) (ended_line head ∷ []) ∙ both _ _ so_far.ended refl,
+        in_part (fed ++ (head ++ 10 ∷ [])) (ended_line head) [] taken_after after lines served,
+      )
 
   -- what was fed, up to its last LF, was run
   pub Ran-whole_lines : Ran first (whole_lines fed) before taken now
@@ -186,17 +187,20 @@ module _ (piece rest : List ℕ) (buffer_before buffer : LineBuffer) (taken_befo
 -- a run that was cut off in whole lines was cut off in any script that begins with them
 pub RanInPart-longer : (first : Store) (closed later : List ℕ) (before taken : Option (List ℕ)) (now : Store) → are_whole_lines closed ≡ true → RanInPart first closed before taken now → RanInPart first (closed ++ later) before taken now
 RanInPart-longer first closed later before taken now ended ran =
-    let cut = ran.2 in
-    (ran.0, ran.1, record {
-      earlier = cut.earlier;
-      line = cut.line;
-      later = cut.later ++ lines_of later;
-      lines = lines_of-whole_lines closed later ended ∙ ap (λ lines. lines ++ lines_of later) cut.lines ∙ append_assoc cut.earlier (cut.line ∷ cut.later) (lines_of later);
-      replies = cut.replies;
-      between = cut.between;
-      steps = cut.steps;
-      reply = cut.reply;
-      step = cut.step;
-      written = cut.written;
-      front = cut.front;
-    })
+    let cut = ran.2 in (
+      ran.0,
+      ran.1,
+      record {
+        earlier = cut.earlier;
+        line = cut.line;
+        later = cut.later ++ lines_of later;
+        lines = lines_of-whole_lines closed later ended ∙ ap (λ lines. lines ++ lines_of later) cut.lines ∙ append_assoc cut.earlier (cut.line ∷ cut.later) (lines_of later);
+        replies = cut.replies;
+        between = cut.between;
+        steps = cut.steps;
+        reply = cut.reply;
+        step = cut.step;
+        written = cut.written;
+        front = cut.front;
+      },
+    )

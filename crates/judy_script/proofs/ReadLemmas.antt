@@ -53,33 +53,45 @@ module _ (first : Store) (most left : ℕ) (given_before given : Option (List �
 
   -- a read that failed
   pub CutAtRead-here : (given_after : Option (List ℕ)) → given_after ≡ grown given [] → (bytes : List ℕ) × (given_after ≡ grown given_before bytes) × CutAtRead first most taken_before taken now bytes
-  CutAtRead-here given_after is = (reading.bytes, given_nothing given_after is, record {
-    fits = omega (arith, reading.fits);
-    ran = Ran-whole_lines first reading.bytes taken_before buffer taken now reading.fed;
-  })
+  CutAtRead-here given_after is = (
+    reading.bytes,
+    given_nothing given_after is,
+    record {
+      fits = omega (arith, reading.fits);
+      ran = Ran-whole_lines first reading.bytes taken_before buffer taken now reading.fed;
+    },
+  )
 
   -- a read that gave the end, and what is kept of a last line was run
   pub RanToEnd-here : (given_after : Option (List ℕ)) (ended_after : Option Bool) (taken_after : Option (List ℕ)) (after : Store) → given_after ≡ grown given [] → ended_after ≡ told ended true
-    → ((before : Store) (fed : List ℕ) (known : Option (List ℕ)) → Fed before fed known buffer taken now → Ran before fed known taken_after after)
-    → (script : List ℕ) × (given_after ≡ grown given_before script) × RanToEnd first most taken_before taken_after after script ended_before ended_after
-  RanToEnd-here given_after ended_after taken_after after is end finished = (reading.bytes, given_nothing given_after is, record {
-    fits = omega (arith, reading.fits);
-    at_end = end ∙ reading.ended_is;
-    ran = finished first reading.bytes taken_before reading.fed;
-  })
+      → ((before : Store) (fed : List ℕ) (known : Option (List ℕ)) → Fed before fed known buffer taken now → Ran before fed known taken_after after)
+      → (script : List ℕ) × (given_after ≡ grown given_before script) × RanToEnd first most taken_before taken_after after script ended_before ended_after
+  RanToEnd-here given_after ended_after taken_after after is end finished = (
+    reading.bytes,
+    given_nothing given_after is,
+    record {
+      fits = omega (arith, reading.fits);
+      at_end = end ∙ reading.ended_is;
+      ran = finished first reading.bytes taken_before reading.fed;
+    },
+  )
 
   -- the writer failed at that last line
   pub CutAtWrite-last : (given_after : Option (List ℕ)) (ended_after : Option Bool) (taken_after : Option (List ℕ)) (after : Store) → given_after ≡ grown given [] → ended_after ≡ told ended true
-    → ((before : Store) (fed : List ℕ) (known : Option (List ℕ)) → Fed before fed known buffer taken now → RanInPart before fed known taken_after after)
-    → (bytes : List ℕ) × (given_after ≡ grown given_before bytes) × CutAtWrite first most taken_before taken_after after bytes ended_before ended_after
-  CutAtWrite-last given_after ended_after taken_after after is end finished = (reading.bytes, given_nothing given_after is, record {
-    closed = reading.bytes;
-    later = [];
-    split = sym (append-nil reading.bytes);
-    fits = omega (arith, reading.fits);
-    line_end = inr (refl, end ∙ reading.ended_is);
-    ran = finished first reading.bytes taken_before reading.fed;
-  })
+      → ((before : Store) (fed : List ℕ) (known : Option (List ℕ)) → Fed before fed known buffer taken now → RanInPart before fed known taken_after after)
+      → (bytes : List ℕ) × (given_after ≡ grown given_before bytes) × CutAtWrite first most taken_before taken_after after bytes ended_before ended_after
+  CutAtWrite-last given_after ended_after taken_after after is end finished = (
+    reading.bytes,
+    given_nothing given_after is,
+    record {
+      closed = reading.bytes;
+      later = [];
+      split = sym (append-nil reading.bytes);
+      fits = omega (arith, reading.fits);
+      line_end = inr (refl, end ∙ reading.ended_is);
+      ran = finished first reading.bytes taken_before reading.fed;
+    },
+  )
 
   module _ (room : List ℕ) (count : ℕ) (given_after : Option (List ℕ)) (is : given_after ≡ grown given (take count room)) (fills : count ≤ length room) where
     long : length (take count room) ≡ count
@@ -87,8 +99,8 @@ module _ (first : Store) (most left : ℕ) (given_before given : Option (List �
 
     -- a piece that fits was fed
     pub Reading-piece : (gives_end : Bool) (ended_after : Option Bool) (filled : LineBuffer) (taken_after : Option (List ℕ)) (after : Store) → ended_after ≡ told ended gives_end → count ≤ left
-      → ((before : Store) (fed : List ℕ) (known : Option (List ℕ)) → Fed before fed known buffer taken now → Fed before (fed ++ take count room) known filled taken_after after)
-      → Reading first most (left - count) given_before given_after ended_before ended_after filled taken_before taken_after after
+        → ((before : Store) (fed : List ℕ) (known : Option (List ℕ)) → Fed before fed known buffer taken now → Fed before (fed ++ take count room) known filled taken_after after)
+        → Reading first most (left - count) given_before given_after ended_before ended_after filled taken_before taken_after after
     Reading-piece gives_end ended_after filled taken_after after end within fed = record {
       bytes = reading.bytes ++ take count room;
       given_is = given_more (take count room) given_after is;
@@ -99,12 +111,14 @@ module _ (first : Store) (most left : ℕ) (given_before given : Option (List �
 
     -- the writer failed in a piece that fits
     pub CutAtWrite-piece : (ended_after : Option Bool) (taken_after : Option (List ℕ)) (after : Store) → count ≤ left
-      → ((before : Store) (fed : List ℕ) (known : Option (List ℕ)) → Fed before fed known buffer taken now → RanInWholeLines before (fed ++ take count room) known taken_after after)
-      → (bytes : List ℕ) × (given_after ≡ grown given_before bytes) × CutAtWrite first most taken_before taken_after after bytes ended_before ended_after
-    CutAtWrite-piece ended_after taken_after after within cut =
-        (reading.bytes ++ take count room, given_more (take count room) given_after is,
-        subst (λ bytes. CutAtWrite first most taken_before taken_after after bytes ended_before ended_after) (append-nil (reading.bytes ++ take count room))
-        (CutAtWrite-within first most taken_before taken_after after ended_before ended_after (reading.bytes ++ take count room) [] (omega (arith, length-append reading.bytes (take count room), long, reading.fits)) (cut first reading.bytes taken_before reading.fed)))
+        → ((before : Store) (fed : List ℕ) (known : Option (List ℕ)) → Fed before fed known buffer taken now → RanInWholeLines before (fed ++ take count room) known taken_after after)
+        → (bytes : List ℕ) × (given_after ≡ grown given_before bytes) × CutAtWrite first most taken_before taken_after after bytes ended_before ended_after
+    CutAtWrite-piece ended_after taken_after after within cut = (
+      reading.bytes ++ take count room,
+      given_more (take count room) given_after is,
+      subst (λ bytes. CutAtWrite first most taken_before taken_after after bytes ended_before ended_after) (append-nil (reading.bytes ++ take count room))
+          (CutAtWrite-within first most taken_before taken_after after ended_before ended_after (reading.bytes ++ take count room) [] (omega (arith, length-append reading.bytes (take count room), long, reading.fits)) (cut first reading.bytes taken_before reading.fed)),
+    )
 
     -- the piece has more bytes than may come
     module _ (exceeds : left < count) where
@@ -115,21 +129,25 @@ module _ (first : Store) (most left : ℕ) (given_before given : Option (List �
       within_most = omega (arith, length-append reading.bytes (take left room), length-take-le left room (omega arith), reading.fits)
 
       pub CutAtWrite-most : (ended_after : Option Bool) (taken_after : Option (List ℕ)) (after : Store)
-        → ((before : Store) (fed : List ℕ) (known : Option (List ℕ)) → Fed before fed known buffer taken now → RanInWholeLines before (fed ++ take left room) known taken_after after)
-        → (bytes : List ℕ) × (given_after ≡ grown given_before bytes) × CutAtWrite first most taken_before taken_after after bytes ended_before ended_after
-      CutAtWrite-most ended_after taken_after after cut =
-          ((reading.bytes ++ take left room) ++ drop left (take count room),
-          given_more (take count room) given_after is ∙ ap (grown given_before) (ap (λ piece. reading.bytes ++ piece) piece_is ∙ sym (append_assoc reading.bytes (take left room) (drop left (take count room)))),
-          CutAtWrite-within first most taken_before taken_after after ended_before ended_after (reading.bytes ++ take left room) (drop left (take count room)) within_most (cut first reading.bytes taken_before reading.fed))
+          → ((before : Store) (fed : List ℕ) (known : Option (List ℕ)) → Fed before fed known buffer taken now → RanInWholeLines before (fed ++ take left room) known taken_after after)
+          → (bytes : List ℕ) × (given_after ≡ grown given_before bytes) × CutAtWrite first most taken_before taken_after after bytes ended_before ended_after
+      CutAtWrite-most ended_after taken_after after cut = (
+        (reading.bytes ++ take left room) ++ drop left (take count room),
+        given_more (take count room) given_after is ∙ ap (grown given_before) (ap (λ piece. reading.bytes ++ piece) piece_is ∙ sym (append_assoc reading.bytes (take left room) (drop left (take count room)))),
+        CutAtWrite-within first most taken_before taken_after after ended_before ended_after (reading.bytes ++ take left room) (drop left (take count room)) within_most (cut first reading.bytes taken_before reading.fed),
+      )
 
       pub CutAtMost-here : (filled : LineBuffer) (taken_after : Option (List ℕ)) (after : Store)
-        → ((before : Store) (fed : List ℕ) (known : Option (List ℕ)) → Fed before fed known buffer taken now → Fed before (fed ++ take left room) known filled taken_after after)
-        → (bytes : List ℕ) × (given_after ≡ grown given_before bytes) × CutAtMost first most taken_before taken_after after bytes
-      CutAtMost-here filled taken_after after fed =
-          (reading.bytes ++ take count room, given_more (take count room) given_after is, record {
-            exceeds = omega (arith, length-append reading.bytes (take count room), long, reading.fits);
-            ran = rw first_bytes (Ran-whole_lines first (reading.bytes ++ take left room) taken_before filled taken_after after (fed first reading.bytes taken_before reading.fed));
-          })
+          → ((before : Store) (fed : List ℕ) (known : Option (List ℕ)) → Fed before fed known buffer taken now → Fed before (fed ++ take left room) known filled taken_after after)
+          → (bytes : List ℕ) × (given_after ≡ grown given_before bytes) × CutAtMost first most taken_before taken_after after bytes
+      CutAtMost-here filled taken_after after fed = (
+        reading.bytes ++ take count room,
+        given_more (take count room) given_after is,
+        record {
+          exceeds = omega (arith, length-append reading.bytes (take count room), long, reading.fits);
+          ran = rw first_bytes (Ran-whole_lines first (reading.bytes ++ take left room) taken_before filled taken_after after (fed first reading.bytes taken_before reading.fed));
+        },
+      )
         where
           first_bytes : take most (reading.bytes ++ take count room) ≡ reading.bytes ++ take left room
           first_bytes =
@@ -138,7 +156,7 @@ module _ (first : Store) (most left : ℕ) (given_before given : Option (List �
 
 -- a run that the writer cut off, over a source that gives a script in order, was cut off in that script
 pub RanInPart-script : (first : Store) (most : ℕ) (taken_before taken : Option (List ℕ)) (now : Store) (script : List ℕ) (ended_before ended : Option Bool) (bytes : List ℕ)
-  → GivesInOrder script (Some bytes) ended → ended_before ≡ Some false → CutAtWrite first most taken_before taken now bytes ended_before ended → RanInPart first script taken_before taken now
+    → GivesInOrder script (Some bytes) ended → ended_before ≡ Some false → CutAtWrite first most taken_before taken now bytes ended_before ended → RanInPart first script taken_before taken now
 RanInPart-script first most taken_before taken now script ended_before ended bytes order fresh cut =
     elim cut.line_end [
       | inl whole ↦ subst (λ whole. RanInPart first whole taken_before taken now) (sym split) (RanInPart-longer first cut.closed (cut.later ++ order.front.0) taken_before taken now whole cut.ran)
@@ -147,6 +165,7 @@ RanInPart-script first most taken_before taken now script ended_before ended byt
   where
     split : script ≡ cut.closed ++ (cut.later ++ order.front.0)
     split = order.front.1 ∙ ap (λ front. front ++ order.front.0) cut.split ∙ append_assoc cut.closed cut.later order.front.0
+
     at_end : cut.later ≡ [] → ended ≡ told ended_before true → cut.closed ≡ script
     at_end none end =
         let all : Some bytes ≡ Some script = order.end (end ∙ ap (λ known. told known true) fresh) in

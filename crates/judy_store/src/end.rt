@@ -13,7 +13,7 @@ use judy_script::RunFault;
 pub enum End {
     /// The script was run, and its answers are out.
     Done,
-    /// There was no memory for the script or for the output's buffer.
+    /// There was no memory for the output's buffer.
     NoMemory,
     /// The run ended with a fault, or standard output couldn't be flushed, which is `Write`.
     Run(RunFault),

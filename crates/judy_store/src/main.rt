@@ -8,15 +8,19 @@
 
 mod end;
 mod pipes;
-mod script;
 
 use crate::end::{End, status, write_line};
 use crate::pipes::{ReadSource, WriteSink};
-use crate::script::read_script;
-use judy_script::{RunFault, run_bytes};
+use judy_script::{RunFault, run};
 use judy_shelf::Shelf;
 use std::io::BufWriter;
 use std::process::ExitCode;
+
+// The most bytes of a script. (This project's own.)
+const MAX_SCRIPT_LEN: u64 = 1073741824;
+
+// How many bytes of answers are written at once.
+const OUTPUT_LEN: usize = 65536;
 
 fn main(rt: HostRuntime) -> ExitCode {
     let end = run_store(&rt);
@@ -25,22 +29,33 @@ fn main(rt: HostRuntime) -> ExitCode {
     ExitCode::from(status(&end))
 }
 
-// Runs the script of standard input over an empty store.
+// Runs the script of standard input over an empty store. The answers already given are flushed also where
+// the run ends for want of more script; where the writer failed, nothing more is flushed.
 fn run_store(rt: &HostRuntime) -> End {
     let alloc = rt.alloc();
-    let script = match read_script(alloc, &mut ReadSource::new(rt.stdin())) {
-        Ok(script) => script,
-        Err(end) => return end,
-    };
-    let Ok(output) = BufWriter::new(alloc, rt.stdout()) else {
+    let Ok(output) = BufWriter::with_capacity(alloc, OUTPUT_LEN, rt.stdout()) else {
         return End::NoMemory;
     };
+    let mut source = ReadSource::new(rt.stdin());
     let mut sink = WriteSink::new(output);
-    if let Err(fault) = run_bytes(&script, &mut Shelf::new(alloc), &mut sink) {
-        return End::Run(fault);
-    }
-    match sink.flush() {
-        Ok(()) => End::Done,
-        Err(_) => End::Run(RunFault::Write),
+    match run(
+        &mut source,
+        &mut Shelf::new(alloc),
+        &mut sink,
+        MAX_SCRIPT_LEN,
+    ) {
+        Ok(()) => match sink.flush() {
+            Ok(()) => End::Done,
+            Err(_) => End::Run(RunFault::Write),
+        },
+        Err(RunFault::Write) => {
+            // The output's buffer would be flushed where it is dropped: it is let go beside its writer.
+            let _ = sink.into_inner().into_parts();
+            End::Run(RunFault::Write)
+        }
+        Err(fault) => {
+            let _ = sink.flush();
+            End::Run(fault)
+        }
     }
 }

@@ -66,6 +66,13 @@ impl<W: Write> WriteSink<W> {
         }
     }
 
+    /// The writer itself.
+    pub fn into_inner(self) -> W
+        ensures { result ≡ self.inner }
+    {
+        self.inner
+    }
+
     /// Hands on what the writer keeps in a buffer of its own.
     pub fn flush(&mut self) -> io::Result<()> {
         self.inner.flush()

@@ -29,7 +29,7 @@ pieces-preserved g c = record {
   read_failures = c.in-Ok.ensures.failures ∙ c.pieces.invariant.read_failures;
   write_failures = c.in-Ok-feed-2.ensures.failures ∙ c.pieces.invariant.write_failures;
   content = c.in-Ok.ensures.content ∙ c.pieces.invariant.content;
-  unfailing = c.in-Ok.ensures.unfailing ∙ c.pieces.invariant.unfailing
+  unfailing = c.in-Ok.ensures.unfailing ∙ c.pieces.invariant.unfailing;
 }
 
 pub returns-in-Err-feed-2-clause-left : goal.returns-in-Err-feed-2-clause-left

@@ -12,7 +12,7 @@ invariant-pieces g l = record {
   read_failures : (g.R.Source.tally l.source).failures ≡ (g.R.Source.tally l.fn.source).failures;
   write_failures : (g.W.Sink.tally l.sink).failures ≡ (g.W.Sink.tally l.fn.sink).failures;
   content : g.R.Source.content l.source ≡ g.R.Source.content l.fn.source;
-  unfailing : g.R.Source.is_unfailing l.source ≡ g.R.Source.is_unfailing l.fn.source
+  unfailing : g.R.Source.is_unfailing l.source ≡ g.R.Source.is_unfailing l.fn.source;
 }
 
 abbrev pub decreases-pieces : goal.decreases-pieces
