@@ -115,3 +115,7 @@ module _ {K : Type 0} {order : K → K → Ordering} (total : IsTotalOrder order
             | true ↦ λ tied. sym (get_at_tie other tied ∙ absent)
             | false ↦ λ apart. refl
           ] refl)
+
+  -- To write the value that an insert gave is the insert alone.
+  pub write-ins_held : (same : IsAntisymmetric order) (map : FinMap order ℕ) (key : K) (value : ℕ) → get (ins map key) key ≡ Some value → write map key value ≡ ins map key
+  write-ins_held same map key value held = sym (write-ins map key same value) ∙ write_held (ins map key) key same value held

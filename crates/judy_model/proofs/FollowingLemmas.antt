@@ -1,13 +1,15 @@
 -- At words, what is above a word is what is at or above the following one; and so downwards.
-use Rattle.std.proofs.Common.{◌≡◌, ℕ, ◌+◌, nat_lt, nat_le, reverse, None, sym, ◌∙◌, arith, nat_cmp, is_lt, is_le, is_gt, is_ge}
+use Rattle.std.proofs.Common.{◌≡◌, ℕ, ◌+◌, nat_lt, nat_le, reverse, length, None, sym, ap, ◌∙◌, arith, nat_cmp, is_lt, is_le, is_gt, is_ge}
 use Rattle.std.specs.Cmp.{nat_cmp_total}
 use Rattle.std.specs.FinMap.{FinMap, keys, nat_cmp-IsAntisymmetric}
 use Rattle.std.proofs.lemmas.Bool.Decides.{nat_tests}
 use Rattle.judy_model.specs.Keys.{word_order}
 use Rattle.judy_model.specs.Neighbours.{first, next, last, prev}
+use Rattle.judy_model.specs.Counts.{rank, count_up_to}
 use Rattle.judy_model.specs.Empties.{empties, first_empty, next_empty, last_empty, prev_empty}
 use Rattle.judy_model.proofs.WordOrder.{is_lt_word, is_le_word, is_gt_word, is_ge_word, le_word}
 use Rattle.judy_model.proofs.Ascending.{find_agree}
+use Rattle.judy_model.proofs.Places.{filter_agree_among}
 use Rattle.judy_model.proofs.NearestLemmas.{prev_missing}
 use Rattle.judy_model.proofs.EmptiesLemmas.{prev_empty_run_none}
 
@@ -27,6 +29,11 @@ module _ (map : FinMap word_order ℕ) where
   pub prev-last : (from : ℕ) → prev map (from + 1) ≡ last map from
   unfolding prev last
   prev-last from = find_agree (λ key. preceding key from) (reverse (keys map))
+
+  -- As many keys are below the following word as are at or below the word.
+  pub rank-following : (from : ℕ) → rank map (from + 1) ≡ count_up_to map from
+  unfolding rank count_up_to
+  rank-following from = ap length (filter_agree_among (λ other. is_lt (nat_cmp other (from + 1))) (λ other. is_le (nat_cmp other from)) (keys map) (λ other here. preceding other from))
 
   -- Below 0 there is no key.
   pub prev-zero : prev map 0 ≡ None

@@ -18,3 +18,5 @@ pub mod Pairs
 pub mod SortedMaps
 pub mod Inserts
 pub mod Lent
+pub mod FullRunLemmas
+pub mod ValuesLemmas

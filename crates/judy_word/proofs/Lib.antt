@@ -1,2 +1,5 @@
 mod Searches
+mod Ranks
+mod KeyTests
 mod Edits
+mod Sets

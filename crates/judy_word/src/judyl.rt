@@ -4,6 +4,9 @@ ghost use Rattle.std.specs.Borrow.{sem};
 ghost use Rattle.std.specs.FinMap as map;
 ghost use Rattle.std.specs.Option.{option_copied_mut};
 ghost use Rattle.judy_model.specs.Arrays as array;
+ghost use Rattle.judy_model.specs.Counts as counts;
+ghost use Rattle.judy_model.specs.Neighbours as neighbours;
+ghost use Rattle.judy_model.specs.Empties as empties;
 ghost use Rattle.judy_word.specs.Refusals.{IsRefusal};
 ghost use Rattle.judy_word.specs.Slots.{LendsSlot, LendsIns};
 
@@ -92,6 +95,86 @@ impl JudyL {
         self.pairs.remove(i)
     }
 
+    /// How many keys the array holds from `a` to `b`, both included; 0 where `a` is above `b` (that corner is
+    /// this project's own). `count(0, u64::MAX)` counts all. (Manual: JLC, JudyLCount.)
+    pub fn count(&self, a: u64, b: u64) -> u64
+        ensures { result ≡ counts.count self.now.map a b }
+    {
+        self.pairs.count(a, b)
+    }
+
+    /// The `n`-th key in ascending order, counted from 1; `None` for 0, and for an `n` above the number of
+    /// keys (both corners are this project's own). (Manual: JLBC, JudyLByCount.)
+    pub fn by_count(&self, n: u64) -> Option<u64>
+        ensures { result ≡ counts.by_count self.now.map n }
+    {
+        self.pairs.by_count(n)
+    }
+
+    /// The least key from `i` on: `i` itself where it is there. `None` where no key is left.
+    /// (Manual: JLF, JudyLFirst.)
+    pub fn first(&self, i: u64) -> Option<u64>
+        ensures { result ≡ neighbours.first self.now.map i }
+    {
+        self.pairs.first(i)
+    }
+
+    /// The least key above `i`; `None` where no key is above it, so always above the word 2^64 - 1.
+    /// (Manual: JLN, JudyLNext.)
+    pub fn next(&self, i: u64) -> Option<u64>
+        ensures { result ≡ neighbours.next self.now.map i }
+    {
+        self.pairs.next(i)
+    }
+
+    /// The greatest key up to `i`: `i` itself where it is there. `None` where each key is above it.
+    /// (Manual: JLL, JudyLLast.)
+    pub fn last(&self, i: u64) -> Option<u64>
+        ensures { result ≡ neighbours.last self.now.map i }
+    {
+        self.pairs.last(i)
+    }
+
+    /// The greatest key below `i`; `None` where no key is below it, so always below 0.
+    /// (Manual: JLP, JudyLPrev.)
+    pub fn prev(&self, i: u64) -> Option<u64>
+        ensures { result ≡ neighbours.prev self.now.map i }
+    {
+        self.pairs.prev(i)
+    }
+
+    /// The least word from `i` on that is no key: `i` itself where it is absent. `None` where each word from
+    /// `i` to 2^64 - 1 is a key. (Manual: JLFE, JudyLFirstEmpty.)
+    pub fn first_empty(&self, i: u64) -> Option<u64>
+        ensures { result ≡ empties.first_empty self.now.map i }
+    {
+        self.pairs.first_empty(i)
+    }
+
+    /// The least word above `i` that is no key; `None` where each word above it is a key, so always above
+    /// 2^64 - 1. (Manual: JLNE, JudyLNextEmpty.)
+    pub fn next_empty(&self, i: u64) -> Option<u64>
+        ensures { result ≡ empties.next_empty self.now.map i }
+    {
+        self.pairs.next_empty(i)
+    }
+
+    /// The greatest word up to `i` that is no key: `i` itself where it is absent. `None` where each word from
+    /// `i` down to 0 is a key. (Manual: JLLE, JudyLLastEmpty.)
+    pub fn last_empty(&self, i: u64) -> Option<u64>
+        ensures { result ≡ empties.last_empty self.now.map i }
+    {
+        self.pairs.last_empty(i)
+    }
+
+    /// The greatest word below `i` that is no key; `None` where each word below it is a key, so always below
+    /// 0. (Manual: JLPE, JudyLPrevEmpty.)
+    pub fn prev_empty(&self, i: u64) -> Option<u64>
+        ensures { result ≡ empties.prev_empty self.now.map i }
+    {
+        self.pairs.prev_empty(i)
+    }
+
     /// How many keys the array holds: at most its limit. (Manual: JLC, JudyLCount, over all keys.)
     pub fn len(&self) -> u64
         ensures count { result ≡ map.len self.now.map }
@@ -104,7 +187,7 @@ impl JudyL {
     pub fn is_empty(&self) -> bool
         ensures { IsTrue result ↔ (self.now.map ≡ map.empty) }
     {
-        self.len() == 0
+        self.pairs.is_empty()
     }
 
     /// How many keys the array may hold: at least 1 (limit: this project's own).
@@ -121,8 +204,6 @@ impl JudyL {
         ensures freed { result ≡ map.len self.old.map }
         ensures emptied { self.new ≡ array.empty_array self.old.limit }
     {
-        let freed = self.len();
-        self.pairs.clear();
-        freed
+        self.pairs.clear()
     }
 }

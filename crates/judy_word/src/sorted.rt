@@ -1,10 +1,11 @@
 // An array of words to words as a limit and one vector of pairs whose keys strictly ascend: what the public
 // arrays are made of. One search finds each key's place; an insert or a delete moves the pairs behind it.
-ghost use Rattle.std.specs.Prelude.{◌≡◌, ◌≤◌, Some, IfOk, OnOk, IfErr, IsTrue, IsFalse};
+ghost use Rattle.std.specs.Prelude.{◌≡◌, ◌≤◌, ◌↔◌, not, Some, IfOk, OnOk, IfErr, OnErr, IsTrue, IsFalse};
 ghost use Rattle.std.specs.Borrow.{sem};
 ghost use Rattle.std.specs.FinMap as map;
 ghost use Rattle.std.specs.Option.{option_copied_mut};
 ghost use Rattle.judy_model.specs.Arrays as array;
+ghost use Rattle.judy_model.specs.Counts as counts;
 ghost use Rattle.judy_word.specs.Refusals.{IsRefusal};
 ghost use Rattle.judy_word.specs.PairSlots.{LendsPair, LendsPairIf, LendsPairIfOk};
 
@@ -63,6 +64,44 @@ impl SortedPairs {
         self.pairs.len() as u64
     }
 
+    // Whether there is no key.
+    pub fn is_empty(&self) -> bool
+        ensures { IsTrue result ↔ (self.now.map ≡ map.empty) }
+    {
+        self.len() == 0
+    }
+
+    // How many keys are below the given one: the place of the first key that isn't.
+    pub fn rank(&self, key: u64) -> u64
+        ensures { result ≡ counts.rank self.now.map key }
+    {
+        match search(&self.pairs, key) {
+            Ok(at) => at as u64,
+            Err(at) => at as u64,
+        }
+    }
+
+    // How many keys are at or below the given one: the place of the first key above it.
+    pub fn count_up_to(&self, key: u64) -> u64
+        ensures { result ≡ counts.count_up_to self.now.map key }
+    {
+        match search(&self.pairs, key) {
+            Ok(at) => at as u64 + 1,
+            Err(at) => at as u64,
+        }
+    }
+
+    // The key at a place in ascending order, counted from 0.
+    pub fn nth(&self, place: u64) -> Option<u64>
+        ensures { result ≡ counts.nth self.now.map place }
+    {
+        if place < self.pairs.len() as u64 {
+            Some(self.pairs[place as usize].0)
+        } else {
+            None
+        }
+    }
+
     // The value of the key.
     pub fn get(&self, key: u64) -> Option<u64>
         ensures { result ≡ map.get self.now.map key }
@@ -115,6 +154,19 @@ impl SortedPairs {
         }
     }
 
+    // Puts the key in with the value 0 where it is absent, and says whether it was.
+    pub fn set(&mut self, key: u64) -> Result<bool, InsertError>
+        ensures answer { IfOk result (λ added. added ≡ not (map.contains_key self.old.map key)) }
+        ensures set { OnOk result (self.new ≡ array.with_map self.old (array.ins self.old.map key)) }
+        ensures accepted { OnOk result (IsFalse (array.is_full self.old key)) }
+        ensures refused { IfErr result (IsRefusal self.old key) }
+        ensures unchanged { OnErr result (self.new ≡ self.old) }
+    {
+        let before = self.len();
+        self.ins(key)?;
+        Ok(self.len() != before)
+    }
+
     // Takes the key out, and says whether it was there.
     pub fn remove(&mut self, key: u64) -> bool
         ensures answer { result ≡ map.contains_key self.old.map key }
@@ -129,11 +181,14 @@ impl SortedPairs {
         }
     }
 
-    // Takes every key out, and gives the memory back.
-    pub fn clear(&mut self)
-        ensures { self.new ≡ array.empty_array self.old.limit }
+    // Takes every key out, gives the memory back, and says how many they were.
+    pub fn clear(&mut self) -> u64
+        ensures freed { result ≡ map.len self.old.map }
+        ensures emptied { self.new ≡ array.empty_array self.old.limit }
     {
+        let freed = self.len();
         let alloc = *self.pairs.allocator();
         self.pairs = Vec::new(alloc);
+        freed
     }
 }

@@ -1,10 +1,10 @@
-// What no clause says: that calls succeed while there is memory. And two callers, whose contracts show what
-// a write through a slot is known to do.
+// What no clause says: that calls succeed while there is memory. Two callers, whose contracts show what a write
+// through a slot is known to do. And what the calls that ask for neighbours and counts answer at their corners.
 ghost use Rattle.std.specs.Prelude.{◌≡◌, OnOk, OnErr, OnSome};
 ghost use Rattle.std.specs.FinMap as map;
 ghost use Rattle.judy_model.specs.Arrays as array;
 
-use crate::{InsertError, JudyL};
+use crate::{InsertError, Judy1, JudyL};
 use std::test::Fail;
 
 // Inserts a key and writes its value.
@@ -73,5 +73,68 @@ fn unbounded_takes_more(rt: HostRuntime) -> Result<(), Fail> {
     assert_eq!(rt; pairs.len(), 500);
     assert_eq!(rt; pairs.get(501), Some(499));
     assert_eq!(rt; pairs.limit(), u64::MAX);
+    Ok(())
+}
+
+#[test]
+fn edge_word(rt: HostRuntime) -> Result<(), Fail> {
+    let mut set = Judy1::new(rt.alloc(), 1000);
+    assert_eq!(rt; set.set(18446744073709551615), Ok(true));
+    for (answer, expected) in [
+        (set.next(18446744073709551615), None),
+        (set.next_empty(18446744073709551615), None),
+        (set.first_empty(18446744073709551615), None),
+        (
+            set.last_empty(18446744073709551615),
+            Some(18446744073709551614),
+        ),
+        (set.first(0), Some(18446744073709551615)),
+        (set.prev(0), None),
+    ] {
+        assert_eq!(rt; answer, expected);
+    }
+    assert_eq!(rt; set.count(0, 18446744073709551615), 1);
+    Ok(())
+}
+
+#[test]
+fn count_corners(rt: HostRuntime) -> Result<(), Fail> {
+    let mut set = Judy1::new(rt.alloc(), 1000);
+    for word in [3, 5, 9] {
+        assert_eq!(rt; set.set(word), Ok(true));
+    }
+    for (from, to, expected) in [(9, 3, 0), (3, 9, 3), (4, 8, 1)] {
+        assert_eq!(rt; set.count(from, to), expected);
+    }
+    for (n, expected) in [(0, None), (3, Some(9)), (4, None)] {
+        assert_eq!(rt; set.by_count(n), expected);
+    }
+    let mut pairs = JudyL::new(rt.alloc(), 1000);
+    assert_eq!(rt; put(&mut pairs, 5, 9), Ok(()));
+    assert_eq!(rt; pairs.first(0), Some(5));
+    assert_eq!(rt; pairs.by_count(1), Some(5));
+    Ok(())
+}
+
+#[test]
+fn full_ranges(rt: HostRuntime) -> Result<(), Fail> {
+    let mut set = Judy1::new(rt.alloc(), 1000);
+    for word in 0..256 {
+        assert_eq!(rt; set.set(word), Ok(true));
+    }
+    for (answer, expected) in [
+        (set.first_empty(0), Some(256)),
+        (set.next_empty(255), Some(256)),
+        (set.last_empty(255), None),
+        (set.prev_empty(256), None),
+        (set.by_count(256), Some(255)),
+    ] {
+        assert_eq!(rt; answer, expected);
+    }
+    assert_eq!(rt; set.count(10, 20), 11);
+    for word in 256..512 {
+        assert_eq!(rt; set.set(word), Ok(true));
+    }
+    assert_eq!(rt; set.first_empty(0), Some(512));
     Ok(())
 }

@@ -1,7 +1,7 @@
 use Rattle.std.proofs.Common.{ℕ, sym, ap, ◌∙◌, eq-eqb, eqb-true}
 use Rattle.std.specs.FinMap.{len, len-empty, empty_of_len}
 use Rattle.judy_model.specs.Keys.{word_order}
-use Rattle.judy_word.proofs.judyl.JudyL.is_empty.Goals as goal
+use Rattle.judy_word.proofs.sorted.SortedPairs.is_empty.Goals as goal
 
 pub returns : goal.returns
 returns c =

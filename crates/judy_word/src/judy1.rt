@@ -1,0 +1,200 @@
+// The array that is a set of words.
+ghost use Rattle.std.specs.Prelude.{◌≡◌, ◌≤◌, ◌↔◌, not, IfOk, OnOk, IfErr, OnErr, IsTrue, IsFalse};
+ghost use Rattle.std.specs.FinMap as map;
+ghost use Rattle.judy_model.specs.Arrays as array;
+ghost use Rattle.judy_model.specs.Counts as counts;
+ghost use Rattle.judy_model.specs.Neighbours as neighbours;
+ghost use Rattle.judy_model.specs.Empties as empties;
+ghost use Rattle.judy_word.specs.Refusals.{IsRefusal};
+ghost use Rattle.judy_word.specs.Sets.{IsSet};
+
+use crate::error::InsertError;
+use crate::sorted::SortedPairs;
+use std::alloc::Global;
+use std::marker::Model;
+
+/// A set of words: each from 0 to 2^64 - 1 is a key or none. It holds at most as many keys as its limit
+/// (limit: this project's own).
+///
+/// Contracts see it as the array whose every value is 0, and `test` and `len` say so.
+//
+// It is kept as an array of words to words is, so that both kinds have one search and one set of proofs. That
+// spends a word a key on a value that is always 0.
+#[derive(Drop)]
+pub struct Judy1 {
+    pairs: SortedPairs,
+}
+
+impl Model for Judy1 {
+    ghost use Rattle.std.specs.Coded.{coded_ℕ};
+    ghost use Rattle.judy_model.specs.Keys.{word_order};
+    ghost use Rattle.judy_model.specs.Arrays.{ArrayOf, array_code};
+    ghost use Rattle.judy_word.specs.Sets.{IsSet};
+
+    ghost Value = { ArrayOf word_order };
+
+    ghost coded = { array_code coded_ℕ };
+
+    ghost view = { λ a. a.pairs };
+
+    ghost invariant = { λ a. IsSet a.pairs };
+}
+
+impl Judy1 {
+    /// The empty set that holds at most `limit` keys, from 1 to 4,294,967,295 (limit: this project's own).
+    /// It asks for no memory before the first key.
+    pub fn new(alloc: Global, limit: u64) -> Judy1
+        requires some { 1 ≤ limit }
+        requires most { limit ≤ 4294967295 }
+        ensures { result ≡ array.empty_array limit }
+    {
+        Judy1 {
+            pairs: SortedPairs::new(alloc, limit),
+        }
+    }
+
+    /// Puts the key `i` in, and answers whether it was absent; a key that is there stays, and is never
+    /// refused. (Manual: J1S, Judy1Set.)
+    ///
+    /// `Full` where the key is absent and the set holds as many keys as its limit (limit: this project's
+    /// own). `NoMemory` only where it is absent and the set isn't full. Either leaves the set as it was.
+    pub fn set(&mut self, i: u64) -> Result<bool, InsertError>
+        ensures answer { IfOk result (λ added. added ≡ not (map.contains_key self.old.map i)) }
+        ensures set { OnOk result (self.new ≡ array.with_map self.old (array.ins self.old.map i)) }
+        ensures accepted { OnOk result (IsFalse (array.is_full self.old i)) }
+        ensures refused { IfErr result (IsRefusal self.old i) }
+        ensures unchanged { OnErr result (self.new ≡ self.old) }
+    {
+        self.pairs.set(i)
+    }
+
+    /// Takes the key `i` out, and answers whether it was there. It asks for no memory.
+    /// (Manual: J1U, Judy1Unset.)
+    pub fn unset(&mut self, i: u64) -> bool
+        ensures answer { result ≡ map.contains_key self.old.map i }
+        ensures unset { self.new ≡ array.with_map self.old (array.del self.old.map i) }
+    {
+        self.pairs.remove(i)
+    }
+
+    /// Whether the key `i` is there. (Manual: J1T, Judy1Test.)
+    pub fn test(&self, i: u64) -> bool
+        ensures answer { result ≡ map.contains_key self.now.map i }
+        ensures zeros { IsSet self.now }
+    {
+        self.pairs.get(i).is_some()
+    }
+
+    /// How many keys the set holds from `a` to `b`, both included; 0 where `a` is above `b` (that corner is
+    /// this project's own). `count(0, u64::MAX)` counts all. (Manual: J1C, Judy1Count.)
+    pub fn count(&self, a: u64, b: u64) -> u64
+        ensures { result ≡ counts.count self.now.map a b }
+    {
+        self.pairs.count(a, b)
+    }
+
+    /// The `n`-th key in ascending order, counted from 1; `None` for 0, and for an `n` above the number of
+    /// keys (both corners are this project's own). (Manual: J1BC, Judy1ByCount.)
+    pub fn by_count(&self, n: u64) -> Option<u64>
+        ensures { result ≡ counts.by_count self.now.map n }
+    {
+        self.pairs.by_count(n)
+    }
+
+    /// The least key from `i` on: `i` itself where it is there. `None` where no key is left.
+    /// (Manual: J1F, Judy1First.)
+    pub fn first(&self, i: u64) -> Option<u64>
+        ensures { result ≡ neighbours.first self.now.map i }
+    {
+        self.pairs.first(i)
+    }
+
+    /// The least key above `i`; `None` where no key is above it, so always above the word 2^64 - 1.
+    /// (Manual: J1N, Judy1Next.)
+    pub fn next(&self, i: u64) -> Option<u64>
+        ensures { result ≡ neighbours.next self.now.map i }
+    {
+        self.pairs.next(i)
+    }
+
+    /// The greatest key up to `i`: `i` itself where it is there. `None` where each key is above it.
+    /// (Manual: J1L, Judy1Last.)
+    pub fn last(&self, i: u64) -> Option<u64>
+        ensures { result ≡ neighbours.last self.now.map i }
+    {
+        self.pairs.last(i)
+    }
+
+    /// The greatest key below `i`; `None` where no key is below it, so always below 0.
+    /// (Manual: J1P, Judy1Prev.)
+    pub fn prev(&self, i: u64) -> Option<u64>
+        ensures { result ≡ neighbours.prev self.now.map i }
+    {
+        self.pairs.prev(i)
+    }
+
+    /// The least word from `i` on that is no key: `i` itself where it is absent. `None` where each word from
+    /// `i` to 2^64 - 1 is a key. (Manual: J1FE, Judy1FirstEmpty.)
+    pub fn first_empty(&self, i: u64) -> Option<u64>
+        ensures { result ≡ empties.first_empty self.now.map i }
+    {
+        self.pairs.first_empty(i)
+    }
+
+    /// The least word above `i` that is no key; `None` where each word above it is a key, so always above
+    /// 2^64 - 1. (Manual: J1NE, Judy1NextEmpty.)
+    pub fn next_empty(&self, i: u64) -> Option<u64>
+        ensures { result ≡ empties.next_empty self.now.map i }
+    {
+        self.pairs.next_empty(i)
+    }
+
+    /// The greatest word up to `i` that is no key: `i` itself where it is absent. `None` where each word from
+    /// `i` down to 0 is a key. (Manual: J1LE, Judy1LastEmpty.)
+    pub fn last_empty(&self, i: u64) -> Option<u64>
+        ensures { result ≡ empties.last_empty self.now.map i }
+    {
+        self.pairs.last_empty(i)
+    }
+
+    /// The greatest word below `i` that is no key; `None` where each word below it is a key, so always below
+    /// 0. (Manual: J1PE, Judy1PrevEmpty.)
+    pub fn prev_empty(&self, i: u64) -> Option<u64>
+        ensures { result ≡ empties.prev_empty self.now.map i }
+    {
+        self.pairs.prev_empty(i)
+    }
+
+    /// How many keys the set holds: at most its limit. (Manual: J1C, Judy1Count, over all keys.)
+    pub fn len(&self) -> u64
+        ensures count { result ≡ map.len self.now.map }
+        ensures within { result ≤ self.now.limit }
+        ensures zeros { IsSet self.now }
+    {
+        self.pairs.len()
+    }
+
+    /// Whether the set holds no key.
+    pub fn is_empty(&self) -> bool
+        ensures { IsTrue result ↔ (self.now.map ≡ map.empty) }
+    {
+        self.pairs.is_empty()
+    }
+
+    /// How many keys the set may hold: at least 1 (limit: this project's own).
+    pub fn limit(&self) -> u64
+        ensures value { result ≡ self.now.limit }
+        ensures some { 1 ≤ result }
+    {
+        self.pairs.limit()
+    }
+
+    /// Takes every key out, gives their memory back, and answers how many they were. The set keeps its
+    /// limit and may be used again. (Manual: J1FA, Judy1FreeArray, which answers the bytes freed.)
+    pub fn free_array(&mut self) -> u64
+        ensures freed { result ≡ map.len self.old.map }
+        ensures emptied { self.new ≡ array.empty_array self.old.limit }
+    {
+        self.pairs.clear()
+    }
+}
