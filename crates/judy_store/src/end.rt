@@ -8,6 +8,9 @@ ghost use Rattle.judy_store.specs.Ends.{status_of, line_of};
 use judy_pipe::{Sink, write_all};
 use judy_script::RunFault;
 
+#[cfg(test)]
+mod tests;
+
 /// How the program ends. (This project's own.)
 #[derive(Clone, Copy, Debug, PartialEq, Eq)]
 pub enum End {

@@ -73,8 +73,11 @@ impl<W: Write> WriteSink<W> {
         self.inner
     }
 
-    /// Hands on what the writer keeps in a buffer of its own.
-    pub fn flush(&mut self) -> io::Result<()> {
+    /// Hands on what the writer keeps in a buffer of its own. That is no write of this sink: its failures
+    /// stay.
+    pub fn flush(&mut self) -> io::Result<()>
+        ensures { self.new.tally ≡ self.old.tally }
+    {
         self.inner.flush()
     }
 }
