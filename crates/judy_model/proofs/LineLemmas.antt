@@ -5,7 +5,7 @@ use Rattle.std.specs.List.{list_all}
 use Rattle.judy_model.specs.Lines.{Line, lines_of, onto_first_line}
 use Rattle.std.specs.Prelude.{filter}
 use Rattle.std.proofs.lemmas.List.Elements.{filter-append}
-use Rattle.judy_model.specs.LineLists.{whole_line, whole_lines, script_of, are_lines}
+use Rattle.judy_model.specs.LineLists.{whole_lines, script_of, are_lines}
 
 -- a byte that is no LF
 abbrev pub is_inner : ℕ → Bool

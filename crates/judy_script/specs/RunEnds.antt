@@ -2,7 +2,7 @@
 use Rattle.std.specs.Prelude.{◌≡◌, ℕ, ◌<◌, ◌≤◌, ◌⊎◌, Bool, true, IsTrue, List, [], ◌++◌, length, take, Option, Result, Ok, Err}
 use Rattle.judy_model.specs.LineLists.{are_whole_lines, whole_lines}
 use Rattle.judy_model.specs.Stores.{Store}
-use Rattle.judy_pipe.specs.Pipe.{grown, told}
+use Rattle.judy_pipe.specs.Pipe.{told}
 use Rattle.judy_script.specs.declared.fault.RunFault.{RunFault}
 use Rattle.judy_script.specs.declared.fault.RunFault.TheVariants.{Read, Write, TooLong}
 use Rattle.judy_script.specs.Feeds.{Ran, RanInPart}

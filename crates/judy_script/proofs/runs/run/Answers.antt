@@ -1,6 +1,5 @@
-use Rattle.std.proofs.Common.{◌≡◌, ◌==◌, ◌&&◌, nat_lt, true, length, refl, sym, ap, ◌∙◌, arith}
-use Rattle.judy_pipe.specs.Pipe.{grown, told}
-use Rattle.judy_script.proofs.ReadLemmas.{Reading-nothing, Reading-piece, CutAtRead-here, RanToEnd-here, CutAtWrite-last, CutAtWrite-piece, CutAtWrite-most, CutAtMost-here}
+use Rattle.std.proofs.Common.{refl, ◌∙◌, arith}
+use Rattle.judy_script.proofs.ReadLemmas.{Reading-nothing, Reading-piece, CutAtRead-here, CutAtWrite-last, CutAtWrite-piece, CutAtWrite-most, CutAtMost-here}
 use Rattle.judy_script.proofs.runs.run.Goals as goal
 
 pub pieces-init : goal.pieces-init

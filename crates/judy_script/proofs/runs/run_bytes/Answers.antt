@@ -1,4 +1,4 @@
-use Rattle.std.proofs.Common.{◌≡◌, List, ℕ, Some, refl, sym, ap, ◌∙◌, []}
+use Rattle.std.proofs.Common.{◌≡◌, List, ℕ, Some, ap, ◌∙◌, []}
 use Rattle.std.specs.Prelude.{unwrap_or, take, Option}
 use Rattle.judy_pipe.specs.Content.{slice_in_order}
 use Rattle.judy_pipe.specs.Pipe.{GivesInOrder, grown}
