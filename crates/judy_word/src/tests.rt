@@ -138,3 +138,22 @@ fn full_ranges(rt: HostRuntime) -> Result<(), Fail> {
     assert_eq!(rt; set.first_empty(0), Some(512));
     Ok(())
 }
+
+// The calls of a set that no row has: each once.
+#[test]
+fn set_and_unset(rt: HostRuntime) -> Result<(), InsertError> {
+    let mut set = Judy1::new(rt.alloc(), 2);
+    assert!(rt; set.is_empty());
+    assert!(rt; set.set(5)?);
+    assert!(rt; !set.set(5)?);
+    assert!(rt; set.set(7)?);
+    assert_eq!(rt; set.set(9), Err(InsertError::Full));
+    assert_eq!(rt; (set.len(), set.limit()), (2, 2));
+    assert!(rt; set.test(7));
+    assert!(rt; set.unset(5));
+    assert!(rt; !set.unset(5));
+    assert!(rt; !set.test(5));
+    assert_eq!(rt; set.free_array(), 1);
+    assert!(rt; set.is_empty());
+    Ok(())
+}
