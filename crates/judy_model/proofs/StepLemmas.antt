@@ -1,14 +1,18 @@
 -- What a line's outcome can be.
 use Rattle.std.proofs.Common.{◌≡◌, ◌≢◌, ℕ, Bool, true, false, inl, inr, cond, List, [], ◌∷◌, Option, Some, None, Result, Ok, Err, refl, ap, ◌∙◌}
-use Rattle.std.specs.Prelude.{ok_or, codes, bytes_eq, nat_lt, nat_le, ◌&&◌, is_none, length, nat_eq}
+use Rattle.judy_model.specs.Keys.{word_order}
+use Rattle.std.specs.Prelude.{ok_or, nat_lt, nat_le, ◌&&◌, is_none, length, nat_eq}
 use Rattle.std.specs.List.{starts_with}
-use Rattle.judy_model.specs.Arrays.{ArrayValue, judy1, judyl, judysl, judyhs, is_full}
+use Rattle.judy_model.specs.Arrays.{ArrayOf, ArrayValue, judy1, judyl, judysl, judyhs, is_full}
 use Rattle.judy_model.specs.Tokens.{word_of, name_of, tokens_of}
 use Rattle.judy_model.specs.Lines.{Line, is_too_long, text_of}
 use Rattle.judy_model.specs.Stores.{Store, array_named}
 use Rattle.judy_model.specs.Replies.{Reply, Refusal, line_too_long, unknown_command, argument_count, bad_name, no_such_array, wrong_kind, bad_word, bad_limit, exists, too_many_arrays, full, no_memory}
-use Rattle.judy_model.specs.Commands.{Outcome, ◌>>=◌, provided, kind_named, limit_at, made, make_line, ins_into, ins_line, get_from, get_line, put_into, put_line, carried_out, name_at, word_at, array_at}
-use Rattle.judy_model.specs.Steps.{outcome_of, outcome_of_tokens, settled, step, outcome_grows, grows, Step}
+use Rattle.judy_model.specs.Kinds.{kind_named}
+use Rattle.judy_model.specs.CommandWords as command
+use Rattle.judy_model.specs.CommandWords.{KeyCommand, PairCommand, Command, command_named}
+use Rattle.judy_model.specs.Commands.{Outcome, ◌>>=◌, provided, limit_at, made, set_on_key, set_on_pair, words_on_key, words_on_pair, on_key, on_pair, freed_whole, at_name, carried_out, name_at, word_at, array_at}
+use Rattle.judy_model.specs.Steps.{outcome_of, outcome_of_tokens, carried_out_by_word, settled, step, outcome_grows, grows, Step}
 
 module _ {A : Type 0} where
   -- a result that isn't a want of memory
@@ -50,79 +54,104 @@ made_never store name kind limit =
     followed (provided (is_none (array_named store name')) exists) _ (checked _ exists (λ e. cc)) (λ _.
     followed (provided (nat_lt (length store) 64) too_many_arrays) _ (checked _ too_many_arrays (λ e. cc)) (λ _. given _))))))
 
-make_never : (store : Store) (arguments : List (List ℕ)) → NeverNoMemory (make_line store arguments)
-make_never store [] = refused argument_count (λ e. cc)
-make_never store (name ∷ []) = refused argument_count (λ e. cc)
-make_never store (name ∷ kind ∷ []) = made_never store name kind None
-make_never store (name ∷ kind ∷ limit ∷ []) = made_never store name kind (Some limit)
-make_never store (name ∷ kind ∷ limit ∷ more ∷ rest) = refused argument_count (λ e. cc)
-
 a_word : (token : List ℕ) → NeverNoMemory (word_at token)
 a_word token = found (word_of token) bad_word (λ e. cc)
 
-into_never : (array : ArrayValue) (key value : List ℕ) → NeverNoMemory (ins_into array key value)
-into_never (judyl array) key value =
-    followed (word_at key) _ (a_word key) (λ k.
-    followed (word_at value) _ (a_word value) (λ v.
-    chosen (is_full array k) _ _ (refused full (λ e. cc)) (given _)))
-into_never (judy1 array) key value = refused wrong_kind (λ e. cc)
-into_never (judysl array) key value = refused wrong_kind (λ e. cc)
-into_never (judyhs array) key value = refused wrong_kind (λ e. cc)
+-- what is left as it is, by a word that a token says
+read_never : (token : List ℕ) (read : ℕ → Result (Outcome ArrayValue) Refusal) → ((word : ℕ) → NeverNoMemory (read word)) → NeverNoMemory (word_at token >>= read)
+read_never token read h = followed (word_at token) read (a_word token) h
 
-from_never : (array : ArrayValue) (key : List ℕ) → NeverNoMemory (get_from array key)
-from_never (judyl array) key = followed (word_at key) _ (a_word key) (λ k. given _)
-from_never (judy1 array) key = refused wrong_kind (λ e. cc)
-from_never (judysl array) key = refused wrong_kind (λ e. cc)
-from_never (judyhs array) key = refused wrong_kind (λ e. cc)
+wrong : {A : Type 0} → NeverNoMemory {A = A} (Err wrong_kind)
+wrong = refused wrong_kind (λ e. cc)
 
-over_never : (array : ArrayValue) (key value : List ℕ) → NeverNoMemory (put_into array key value)
-over_never (judyl array) key value =
-    followed (word_at key) _ (a_word key) (λ k. followed (word_at value) _ (a_word value) (λ v. given _))
-over_never (judy1 array) key value = refused wrong_kind (λ e. cc)
-over_never (judysl array) key value = refused wrong_kind (λ e. cc)
-over_never (judyhs array) key value = refused wrong_kind (λ e. cc)
+set_key_never : (command : KeyCommand) (set : ArrayOf word_order) (token : List ℕ) → NeverNoMemory (set_on_key command set token)
+set_key_never command.set set token = read_never token _ (λ key. chosen (is_full set key) _ _ (refused full (λ e. cc)) (given _))
+set_key_never command.unset set token = read_never token _ (λ key. given _)
+set_key_never command.test set token = read_never token _ (λ key. given _)
+set_key_never command.get set token = wrong
+set_key_never command.del set token = wrong
+set_key_never (command.neighbour side) set token = read_never token _ (λ key. given _)
+set_key_never (command.empty side) set token = read_never token _ (λ key. given _)
+set_key_never command.by_count set token = read_never token _ (λ key. given _)
+
+set_pair_never : (command : PairCommand) (set : ArrayOf word_order) (key value : List ℕ) → NeverNoMemory (set_on_pair command set key value)
+set_pair_never command.ins set key value = wrong
+set_pair_never command.put set key value = wrong
+set_pair_never command.count set key value = read_never key _ (λ k. read_never value _ (λ v. given _))
+
+words_key_never : (command : KeyCommand) (array : ArrayOf word_order) (token : List ℕ) → NeverNoMemory (words_on_key command array token)
+words_key_never command.set array token = wrong
+words_key_never command.unset array token = wrong
+words_key_never command.test array token = wrong
+words_key_never command.get array token = read_never token _ (λ key. given _)
+words_key_never command.del array token = read_never token _ (λ key. given _)
+words_key_never (command.neighbour side) array token = read_never token _ (λ key. given _)
+words_key_never (command.empty side) array token = read_never token _ (λ key. given _)
+words_key_never command.by_count array token = read_never token _ (λ key. given _)
+
+words_pair_never : (command : PairCommand) (array : ArrayOf word_order) (key value : List ℕ) → NeverNoMemory (words_on_pair command array key value)
+words_pair_never command.ins array key value =
+    read_never key _ (λ k. read_never value _ (λ v. chosen (is_full array k) _ _ (refused full (λ e. cc)) (given _)))
+words_pair_never command.put array key value = read_never key _ (λ k. read_never value _ (λ v. given _))
+words_pair_never command.count array key value = read_never key _ (λ k. read_never value _ (λ v. given _))
+
+key_never : (command : KeyCommand) (key : List ℕ) (array : ArrayValue) → NeverNoMemory (on_key command key array)
+key_never command key (judy1 set) = set_key_never command set key
+key_never command key (judyl array) = words_key_never command array key
+key_never command key (judysl array) = wrong
+key_never command key (judyhs array) = wrong
+
+pair_never : (command : PairCommand) (key value : List ℕ) (array : ArrayValue) → NeverNoMemory (on_pair command key value array)
+pair_never command key value (judy1 set) = set_pair_never command set key value
+pair_never command key value (judyl array) = words_pair_never command array key value
+pair_never command key value (judysl array) = wrong
+pair_never command key value (judyhs array) = wrong
 
 -- a command of one array: the rest of its checks, where the name is one of the store's
-at_array : {A : Type 0} (store : Store) (name : List ℕ) (rest : List ℕ → ArrayValue → Result A Refusal) → ((name : List ℕ) (array : ArrayValue) → NeverNoMemory (rest name array)) → NeverNoMemory (name_at name >>= (λ name. array_at store name >>= rest name))
-at_array store name rest h =
+named_never : {A : Type 0} (store : Store) (name : List ℕ) (rest : List ℕ → ArrayValue → Result A Refusal) → ((name : List ℕ) (array : ArrayValue) → NeverNoMemory (rest name array)) → NeverNoMemory (name_at name >>= (λ name. array_at store name >>= rest name))
+named_never store name rest h =
     followed (name_at name) _ (found (name_of name) bad_name (λ e. cc)) (λ name'.
     followed (array_at store name') _ (found (array_named store name') no_such_array (λ e. cc)) (h name'))
 
-ins_never : (store : Store) (arguments : List (List ℕ)) → NeverNoMemory (ins_line store arguments)
-ins_never store [] = refused argument_count (λ e. cc)
-ins_never store (name ∷ []) = refused argument_count (λ e. cc)
-ins_never store (name ∷ key ∷ []) = refused argument_count (λ e. cc)
-ins_never store (name ∷ key ∷ value ∷ []) =
-    at_array store name _ (λ name' array. followed (ins_into array key value) _ (into_never array key value) (λ outcome. given _))
-ins_never store (name ∷ key ∷ value ∷ more ∷ rest) = refused argument_count (λ e. cc)
+at_name_never : (store : Store) (name : List ℕ) (effect : ArrayValue → Result (Outcome ArrayValue) Refusal) → ((array : ArrayValue) → NeverNoMemory (effect array)) → NeverNoMemory (at_name store name effect)
+at_name_never store name effect h =
+    named_never store name _ (λ name' array. followed (effect array) _ (h array) (λ outcome. given _))
 
-get_never : (store : Store) (arguments : List (List ℕ)) → NeverNoMemory (get_line store arguments)
-get_never store [] = refused argument_count (λ e. cc)
-get_never store (name ∷ []) = refused argument_count (λ e. cc)
-get_never store (name ∷ key ∷ []) =
-    at_array store name _ (λ name' array. followed (get_from array key) _ (from_never array key) (λ answer. given _))
-get_never store (name ∷ key ∷ more ∷ rest) = refused argument_count (λ e. cc)
+miscounted : {A : Type 0} → NeverNoMemory {A = A} (Err argument_count)
+miscounted = refused argument_count (λ e. cc)
 
-put_never : (store : Store) (arguments : List (List ℕ)) → NeverNoMemory (put_line store arguments)
-put_never store [] = refused argument_count (λ e. cc)
-put_never store (name ∷ []) = refused argument_count (λ e. cc)
-put_never store (name ∷ key ∷ []) = refused argument_count (λ e. cc)
-put_never store (name ∷ key ∷ value ∷ []) =
-    at_array store name _ (λ name' array. followed (put_into array key value) _ (over_never array key value) (λ outcome. given _))
-put_never store (name ∷ key ∷ value ∷ more ∷ rest) = refused argument_count (λ e. cc)
+carried_out_never : (store : Store) (command : Command) (arguments : List (List ℕ)) → NeverNoMemory (carried_out store command arguments)
+carried_out_never store command.make [] = miscounted
+carried_out_never store command.make (name ∷ []) = miscounted
+carried_out_never store command.make (name ∷ kind ∷ []) = made_never store name kind None
+carried_out_never store command.make (name ∷ kind ∷ limit ∷ []) = made_never store name kind (Some limit)
+carried_out_never store command.make (name ∷ kind ∷ limit ∷ more ∷ rest) = miscounted
+carried_out_never store command.list [] = given _
+carried_out_never store command.list (name ∷ rest) = miscounted
+carried_out_never store command.drop [] = miscounted
+carried_out_never store command.drop (name ∷ []) = named_never store name _ (λ name' array. given _)
+carried_out_never store command.drop (name ∷ more ∷ rest) = miscounted
+carried_out_never store command.free [] = miscounted
+carried_out_never store command.free (name ∷ []) = at_name_never store name freed_whole (λ array. given _)
+carried_out_never store command.free (name ∷ more ∷ rest) = miscounted
+carried_out_never store (command.on_key command) [] = miscounted
+carried_out_never store (command.on_key command) (name ∷ []) = miscounted
+carried_out_never store (command.on_key command) (name ∷ key ∷ []) = at_name_never store name (on_key command key) (key_never command key)
+carried_out_never store (command.on_key command) (name ∷ key ∷ more ∷ rest) = miscounted
+carried_out_never store (command.on_pair command) [] = miscounted
+carried_out_never store (command.on_pair command) (name ∷ []) = miscounted
+carried_out_never store (command.on_pair command) (name ∷ key ∷ []) = miscounted
+carried_out_never store (command.on_pair command) (name ∷ key ∷ value ∷ []) = at_name_never store name (on_pair command key value) (pair_never command key value)
+carried_out_never store (command.on_pair command) (name ∷ key ∷ value ∷ more ∷ rest) = miscounted
 
-carried_out_never : (store : Store) (command : List ℕ) (arguments : List (List ℕ)) → NeverNoMemory (carried_out store command arguments)
-carried_out_never store command arguments =
-    chosen (bytes_eq command (codes "make")) _ _ (make_never store arguments)
-    (chosen (bytes_eq command (codes "ins")) _ _ (ins_never store arguments)
-    (chosen (bytes_eq command (codes "get")) _ _ (get_never store arguments)
-    (chosen (bytes_eq command (codes "put")) _ _ (put_never store arguments)
-    (refused unknown_command (λ e. cc)))))
+by_word_never : (store : Store) (word : List ℕ) (arguments : List (List ℕ)) → NeverNoMemory (carried_out_by_word store word arguments)
+by_word_never store word arguments =
+    followed (ok_or (command_named word) unknown_command) _ (found (command_named word) unknown_command (λ e. cc)) (λ command. carried_out_never store command arguments)
 
 of_tokens_never : (store : Store) (tokens : List (List ℕ)) → NeverNoMemory (outcome_of_tokens store tokens)
 of_tokens_never store [] = given _
-of_tokens_never store (command ∷ arguments) =
-    chosen (starts_with nat_eq command (59 ∷ [])) _ _ (given _) (carried_out_never store command arguments)
+of_tokens_never store (word ∷ arguments) =
+    chosen (starts_with nat_eq word (59 ∷ [])) _ _ (given _) (by_word_never store word arguments)
 
 -- what a line does by the definition is never a want of memory
 pub outcome_of-never_no_memory : (store : Store) (line : Line) → NeverNoMemory (outcome_of store line)

@@ -1,12 +1,19 @@
 -- What each command does to a store, and what it answers. The checks of a command stand in the order of
 -- the refusals: the first that fails is the refusal. (This project's own script over the manual's calls.)
-use Rattle.std.specs.Prelude.{ℕ, Bool, true, false, not, ◌&&◌, nat_lt, nat_le, is_none, if◌then◌else◌, List, [], ◌∷◌, length, codes, bytes_eq, Option, Some, None, ok_or, unwrap_or, Result, Ok, Err}
+use Rattle.std.specs.Prelude.{ℕ, Bool, true, false, not, ◌&&◌, nat_lt, nat_le, is_none, if◌then◌else◌, List, [], ◌∷◌, length, Option, Some, None, ok_or, unwrap_or, Result, Ok, Err}
 use Rattle.std.specs.declared.cmp.Ordering.{Ordering}
 use Rattle.std.specs.FinMap.{FinMap, contains_key, get}
-use Rattle.judy_model.specs.Arrays.{ArrayOf, ArrayValue, judyl, empty_array, with_map, ins, write, is_full}
+use Rattle.judy_model.specs.Keys.{word_order}
+use Rattle.judy_model.specs.Arrays.{ArrayOf, ArrayValue, judy1, judyl, with_map, ins, write, del, is_full, len_of, emptied}
+use Rattle.judy_model.specs.Neighbours as neighbours
+use Rattle.judy_model.specs.Empties as empties
+use Rattle.judy_model.specs.Counts as counts
+use Rattle.judy_model.specs.Kinds.{kind_named}
 use Rattle.judy_model.specs.Tokens.{word_of, name_of}
-use Rattle.judy_model.specs.Stores.{Store, array_named, with_array, with_new_array}
-use Rattle.judy_model.specs.Replies.{Answer, done, was, number, nothing, Refusal, unknown_command, argument_count, bad_name, no_such_array, wrong_kind, bad_word, bad_limit, exists, too_many_arrays, full}
+use Rattle.judy_model.specs.Stores.{Store, array_named, with_array, with_new_array, without_array}
+use Rattle.judy_model.specs.Replies.{Answer, done, was, flag, number, entry, freed, listed, nothing, Refusal, argument_count, bad_name, no_such_array, wrong_kind, bad_word, bad_limit, exists, too_many_arrays, full}
+use Rattle.judy_model.specs.CommandWords as command
+use Rattle.judy_model.specs.CommandWords.{Neighbour, KeyCommand, PairCommand, Command}
 
 -- What a line or a command that isn't refused does to the store, or to the one array that it names: its
 -- answer, what stands afterwards, and whether it grows, that is adds a key or an array. Only what grows may
@@ -44,43 +51,31 @@ abbrev pub within : Store → List ℕ → Outcome ArrayValue → Outcome Store
 within store name outcome =
     record { answer = outcome.answer; after = with_array store name outcome.after; grows = outcome.grows }
 
+-- ---- what the calls of an array answer, and what they leave
+
 -- The value of a key, as its slot shows it, and 0 where there is no such key.
 abbrev pub value_of : {K : Type 0} {order : K → K → Ordering} → FinMap order ℕ → K → ℕ
 value_of map key = unwrap_or (get map key) 0
 
--- The value that was found, or `none`.
+-- The number that was found, or `none`.
 abbrev pub number_or_nothing : Option ℕ → Answer
 number_or_nothing None = nothing
-number_or_nothing (Some value) = number value
+number_or_nothing (Some found) = number found
 
--- ---- make NAME KIND [LIMIT]
+-- The key that was found, and its value; or `none`.
+abbrev pub entry_or_nothing : FinMap word_order ℕ → Option ℕ → Answer
+entry_or_nothing map None = nothing
+entry_or_nothing map (Some key) = entry key (value_of map key)
 
--- The kind that a kind word names, as its empty array for each limit.
-abbrev pub kind_named : List ℕ → Option (ℕ → ArrayValue)
-kind_named word = if bytes_eq word (codes "judyl") then Some (λ limit. judyl (empty_array limit)) else None
-
--- The limit that the line gives, or else the greatest.
-abbrev pub limit_at : Option (List ℕ) → Result ℕ Refusal
-limit_at None = Ok 4294967295
-limit_at (Some token) = word_at token
-
--- A limit is 1 to 4,294,967,295; the name must be new, and a store has at most 64 arrays.
-abbrev pub made : Store → List ℕ → List ℕ → Option (List ℕ) → Result (Outcome Store) Refusal
-made store name kind limit = do
-  name ← name_at name
-  empty ← ok_or (kind_named kind) wrong_kind
-  limit ← limit_at limit
-  _ ← provided (nat_lt 0 limit && nat_le limit 4294967295) bad_limit
-  _ ← provided (is_none (array_named store name)) exists
-  _ ← provided (nat_lt (length store) 64) too_many_arrays
-  Ok (record { answer = done; after = with_new_array store name (empty limit); grows = true })
-
-abbrev pub make_line : Store → List (List ℕ) → Result (Outcome Store) Refusal
-make_line store (name ∷ kind ∷ []) = made store name kind None
-make_line store (name ∷ kind ∷ limit ∷ []) = made store name kind (Some limit)
-make_line store arguments = Err argument_count
-
--- ---- ins NAME K V
+-- A key is put into a set, and the answer is whether it was absent.
+abbrev pub added : ArrayOf word_order → ℕ → Result (Outcome ArrayValue) Refusal
+added set key =
+    if is_full set key then Err full
+    else Ok (record {
+      answer = flag (not (contains_key set.map key));
+      after = judy1 (with_map set (ins set.map key));
+      grows = not (contains_key set.map key);
+    })
 
 -- The slot of the key shows its value, 0 where it is new; then the slot holds the value given.
 abbrev pub inserted : {K : Type 0} {order : K → K → Ordering} → (ArrayOf order → ArrayValue) → ArrayOf order → K → ℕ → Result (Outcome ArrayValue) Refusal
@@ -92,66 +87,152 @@ inserted kind array key value =
       grows = not (contains_key array.map key);
     })
 
-abbrev pub ins_into : ArrayValue → List ℕ → List ℕ → Result (Outcome ArrayValue) Refusal
-ins_into (judyl array) key value = do
-  key ← word_at key
-  value ← word_at value
-  inserted judyl array key value
-ins_into array key value = Err wrong_kind
-
-abbrev pub ins_line : Store → List (List ℕ) → Result (Outcome Store) Refusal
-ins_line store (name ∷ key ∷ value ∷ []) = do
-  name ← name_at name
-  array ← array_at store name
-  outcome ← ins_into array key value
-  Ok (within store name outcome)
-ins_line store arguments = Err argument_count
-
--- ---- get NAME K
-
-abbrev pub get_from : ArrayValue → List ℕ → Result Answer Refusal
-get_from (judyl array) key = do
-  key ← word_at key
-  Ok (number_or_nothing (get array.map key))
-get_from array key = Err wrong_kind
-
-abbrev pub get_line : Store → List (List ℕ) → Result (Outcome Store) Refusal
-get_line store (name ∷ key ∷ []) = do
-  name ← name_at name
-  array ← array_at store name
-  answer ← get_from array key
-  Ok (unchanged store answer)
-get_line store arguments = Err argument_count
-
--- ---- put NAME K V
-
 -- Where the key is there, its slot holds the value given afterwards.
 abbrev pub overwritten : {K : Type 0} {order : K → K → Ordering} → (ArrayOf order → ArrayValue) → ArrayOf order → K → ℕ → Option ℕ → Outcome ArrayValue
 overwritten kind array key value None = unchanged (kind array) nothing
 overwritten kind array key value (Some before) =
     record { answer = was before; after = kind (with_map array (write array.map key value)); grows = false }
 
-abbrev pub put_into : ArrayValue → List ℕ → List ℕ → Result (Outcome ArrayValue) Refusal
-put_into (judyl array) key value = do
+-- A key is taken out, and the answer is whether it was present.
+abbrev pub removed : {K : Type 0} {order : K → K → Ordering} → (ArrayOf order → ArrayValue) → ArrayOf order → K → Outcome ArrayValue
+removed kind array key =
+    record { answer = flag (contains_key array.map key); after = kind (with_map array (del array.map key)); grows = false }
+
+-- The neighbour of a key, and that among the words that are no keys.
+abbrev pub neighbour_of : Neighbour → FinMap word_order ℕ → ℕ → Option ℕ
+neighbour_of command.first = neighbours.first
+neighbour_of command.next = neighbours.next
+neighbour_of command.last = neighbours.last
+neighbour_of command.prev = neighbours.prev
+
+abbrev pub empty_neighbour_of : Neighbour → FinMap word_order ℕ → ℕ → Option ℕ
+empty_neighbour_of command.first = empties.first_empty
+empty_neighbour_of command.next = empties.next_empty
+empty_neighbour_of command.last = empties.last_empty
+empty_neighbour_of command.prev = empties.prev_empty
+
+-- ---- the commands that each kind has, beside `free` and `drop`, which all have
+
+-- A judy1 array is a set of words.
+abbrev pub set_on_key : KeyCommand → ArrayOf word_order → List ℕ → Result (Outcome ArrayValue) Refusal
+set_on_key command.set set token = do
+  key ← word_at token
+  added set key
+set_on_key command.unset set token = do
+  key ← word_at token
+  Ok (removed judy1 set key)
+set_on_key command.test set token = do
+  key ← word_at token
+  Ok (unchanged (judy1 set) (flag (contains_key set.map key)))
+set_on_key (command.neighbour side) set token = do
+  key ← word_at token
+  Ok (unchanged (judy1 set) (number_or_nothing (neighbour_of side set.map key)))
+set_on_key (command.empty side) set token = do
+  word ← word_at token
+  Ok (unchanged (judy1 set) (number_or_nothing (empty_neighbour_of side set.map word)))
+set_on_key command.by_count set token = do
+  n ← word_at token
+  Ok (unchanged (judy1 set) (number_or_nothing (counts.by_count set.map n)))
+set_on_key other set token = Err wrong_kind
+
+abbrev pub set_on_pair : PairCommand → ArrayOf word_order → List ℕ → List ℕ → Result (Outcome ArrayValue) Refusal
+set_on_pair command.count set from to = do
+  from ← word_at from
+  to ← word_at to
+  Ok (unchanged (judy1 set) (number (counts.count set.map from to)))
+set_on_pair other set key value = Err wrong_kind
+
+-- A judyl array is a map from words to words.
+abbrev pub words_on_key : KeyCommand → ArrayOf word_order → List ℕ → Result (Outcome ArrayValue) Refusal
+words_on_key command.get array token = do
+  key ← word_at token
+  Ok (unchanged (judyl array) (number_or_nothing (get array.map key)))
+words_on_key command.del array token = do
+  key ← word_at token
+  Ok (removed judyl array key)
+words_on_key (command.neighbour side) array token = do
+  key ← word_at token
+  Ok (unchanged (judyl array) (entry_or_nothing array.map (neighbour_of side array.map key)))
+words_on_key (command.empty side) array token = do
+  word ← word_at token
+  Ok (unchanged (judyl array) (number_or_nothing (empty_neighbour_of side array.map word)))
+words_on_key command.by_count array token = do
+  n ← word_at token
+  Ok (unchanged (judyl array) (entry_or_nothing array.map (counts.by_count array.map n)))
+words_on_key other array token = Err wrong_kind
+
+abbrev pub words_on_pair : PairCommand → ArrayOf word_order → List ℕ → List ℕ → Result (Outcome ArrayValue) Refusal
+words_on_pair command.ins array key value = do
+  key ← word_at key
+  value ← word_at value
+  inserted judyl array key value
+words_on_pair command.put array key value = do
   key ← word_at key
   value ← word_at value
   Ok (overwritten judyl array key value (get array.map key))
-put_into array key value = Err wrong_kind
+words_on_pair command.count array from to = do
+  from ← word_at from
+  to ← word_at to
+  Ok (unchanged (judyl array) (number (counts.count array.map from to)))
 
-abbrev pub put_line : Store → List (List ℕ) → Result (Outcome Store) Refusal
-put_line store (name ∷ key ∷ value ∷ []) = do
+-- ---- the commands of one array
+
+abbrev pub on_key : KeyCommand → List ℕ → ArrayValue → Result (Outcome ArrayValue) Refusal
+on_key command key (judy1 set) = set_on_key command set key
+on_key command key (judyl array) = words_on_key command array key
+on_key command key array = Err wrong_kind
+
+abbrev pub on_pair : PairCommand → List ℕ → List ℕ → ArrayValue → Result (Outcome ArrayValue) Refusal
+on_pair command key value (judy1 set) = set_on_pair command set key value
+on_pair command key value (judyl array) = words_on_pair command array key value
+on_pair command key value array = Err wrong_kind
+
+-- The array is emptied and keeps its place and its limit.
+abbrev pub freed_whole : ArrayValue → Result (Outcome ArrayValue) Refusal
+freed_whole array = Ok (record { answer = freed (len_of array); after = emptied array; grows = false })
+
+-- A command of the array that a token names.
+abbrev pub at_name : Store → List ℕ → (ArrayValue → Result (Outcome ArrayValue) Refusal) → Result (Outcome Store) Refusal
+at_name store name effect = do
   name ← name_at name
   array ← array_at store name
-  outcome ← put_into array key value
+  outcome ← effect array
   Ok (within store name outcome)
-put_line store arguments = Err argument_count
 
--- ---- the commands by their words
+-- ---- the commands of the store
 
-abbrev pub carried_out : Store → List ℕ → List (List ℕ) → Result (Outcome Store) Refusal
-carried_out store command arguments =
-    if bytes_eq command (codes "make") then make_line store arguments
-    else if bytes_eq command (codes "ins") then ins_line store arguments
-    else if bytes_eq command (codes "get") then get_line store arguments
-    else if bytes_eq command (codes "put") then put_line store arguments
-    else Err unknown_command
+-- The limit that the line gives, or else the greatest.
+abbrev pub limit_at : Option (List ℕ) → Result ℕ Refusal
+limit_at None = Ok 4294967295
+limit_at (Some token) = word_at token
+
+-- A new array comes last. A limit is 1 to 4,294,967,295; the name must be new, and a store has at most 64
+-- arrays.
+abbrev pub made : Store → List ℕ → List ℕ → Option (List ℕ) → Result (Outcome Store) Refusal
+made store name kind limit = do
+  name ← name_at name
+  empty ← ok_or (kind_named kind) wrong_kind
+  limit ← limit_at limit
+  _ ← provided (nat_lt 0 limit && nat_le limit 4294967295) bad_limit
+  _ ← provided (is_none (array_named store name)) exists
+  _ ← provided (nat_lt (length store) 64) too_many_arrays
+  Ok (record { answer = done; after = with_new_array store name (empty limit); grows = true })
+
+-- The array is taken out of the store; the rest keep their order.
+abbrev pub dropped : Store → List ℕ → Result (Outcome Store) Refusal
+dropped store name = do
+  name ← name_at name
+  array ← array_at store name
+  Ok (record { answer = freed (len_of array); after = without_array store name; grows = false })
+
+-- ---- which arguments each command takes
+
+abbrev pub carried_out : Store → Command → List (List ℕ) → Result (Outcome Store) Refusal
+carried_out store command.make (name ∷ kind ∷ []) = made store name kind None
+carried_out store command.make (name ∷ kind ∷ limit ∷ []) = made store name kind (Some limit)
+carried_out store command.list [] = Ok (unchanged store (listed store))
+carried_out store command.drop (name ∷ []) = dropped store name
+carried_out store command.free (name ∷ []) = at_name store name freed_whole
+carried_out store (command.on_key command) (name ∷ key ∷ []) = at_name store name (on_key command key)
+carried_out store (command.on_pair command) (name ∷ key ∷ value ∷ []) = at_name store name (on_pair command key value)
+carried_out store command arguments = Err argument_count

@@ -1,6 +1,6 @@
 -- What the examples speak of.
 use Rattle.std.specs.Prelude.{ℕ, true, List, [], ◌∷◌, codes}
-use Rattle.judy_model.specs.Arrays.{judyl, empty_array}
+use Rattle.judy_model.specs.Arrays.{judy1, judyl, empty_array}
 use Rattle.judy_model.specs.Lines.{Line}
 use Rattle.judy_model.specs.Stores.{Store}
 
@@ -11,3 +11,7 @@ line bytes = record { bytes = bytes; ended = true }
 -- The store with one judyl array `a` of a limit, without keys.
 abbrev pub one_array : ℕ → Store
 one_array limit = (codes "a", judyl (empty_array limit)) ∷ []
+
+-- The store with a judyl array `a` and a judy1 array `s` behind it, both without keys.
+abbrev pub two_arrays : Store
+two_arrays = (codes "a", judyl (empty_array 1)) ∷ (codes "s", judy1 (empty_array 2)) ∷ []

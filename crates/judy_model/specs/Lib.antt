@@ -8,8 +8,10 @@ pub mod Laws
 pub mod Tokens
 pub mod Lines
 pub mod LineLists
+pub mod Kinds
 pub mod Stores
 pub mod Replies
+pub mod CommandWords
 pub mod Commands
 pub mod Steps
 pub mod Runs

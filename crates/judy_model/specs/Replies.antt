@@ -1,12 +1,26 @@
 -- What a line is answered, and how that is printed. (This project's own script.)
-use Rattle.std.specs.Prelude.{ℕ, List, [], ◌∷◌, ◌++◌, codes, decimal, Result, Ok, Err}
+use Rattle.std.specs.Prelude.{ℕ, Bool, true, false, List, [], ◌∷◌, ◌++◌, codes, decimal, flat_map, Result, Ok, Err}
+use Rattle.judy_model.specs.Arrays.{ArrayValue, len_of}
+use Rattle.judy_model.specs.Kinds.{kind_word_of}
+use Rattle.judy_model.specs.Stores.{Store}
 
 -- The answer of a line that isn't refused.
 pub data Answer : Type 0 where
+  -- none at all: a blank line or a comment
   silent : Answer
   done : Answer
+  -- what a slot held before
   was : ℕ → Answer
+  -- whether it was so
+  flag : Bool → Answer
+  -- a value, a key or a count
   number : ℕ → Answer
+  -- a key and its value
+  entry : ℕ → ℕ → Answer
+  -- how many keys were freed
+  freed : ℕ → Answer
+  -- the arrays of a store
+  listed : Store → Answer
   nothing : Answer
 
 -- Why a line is refused. A line to which several apply is refused for the first of them.
@@ -45,12 +59,21 @@ refusal_word too_many_arrays = codes "too-many-arrays"
 refusal_word full = codes "full"
 refusal_word no_memory = codes "no-memory"
 
+-- An array in a list: a space (32), then its name, its kind and how many keys it holds, a colon (58) between.
+abbrev pub listing_text : List ℕ × ArrayValue → List ℕ
+listing_text (name, array) = 32 ∷ name ++ 58 ∷ kind_word_of array ++ 58 ∷ decimal (len_of array)
+
 -- The text of an answer. Words are printed in decimal without leading zeros.
 abbrev pub answer_text : Answer → List ℕ
 answer_text silent = []
 answer_text done = codes "ok"
 answer_text (was value) = codes "was " ++ decimal value
+answer_text (flag true) = codes "1"
+answer_text (flag false) = codes "0"
 answer_text (number value) = decimal value
+answer_text (entry key value) = decimal key ++ 32 ∷ decimal value
+answer_text (freed count) = codes "freed " ++ decimal count
+answer_text (listed store) = codes "names" ++ flat_map listing_text store
 answer_text nothing = codes "none"
 
 -- What a reply puts out: nothing for a line that has no answer; else its text and an LF (10).

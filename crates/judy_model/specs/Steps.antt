@@ -1,18 +1,25 @@
 -- What a line does to a store. (This project's own script.)
-use Rattle.std.specs.Prelude.{◌≡◌, ℕ, Bool, false, ◌⊎◌, IsTrue, nat_eq, if◌then◌else◌, List, [], ◌∷◌, Result, Ok, Err}
+use Rattle.std.specs.Prelude.{◌≡◌, ℕ, Bool, false, ◌⊎◌, IsTrue, nat_eq, if◌then◌else◌, List, [], ◌∷◌, ok_or, Result, Ok, Err}
 use Rattle.std.specs.List.{starts_with}
 use Rattle.judy_model.specs.Lines.{Line, is_too_long, text_of}
 use Rattle.judy_model.specs.Tokens.{tokens_of}
 use Rattle.judy_model.specs.Stores.{Store}
-use Rattle.judy_model.specs.Replies.{Reply, silent, Refusal, line_too_long, no_memory}
-use Rattle.judy_model.specs.Commands.{Outcome, unchanged, carried_out}
+use Rattle.judy_model.specs.Replies.{Reply, silent, Refusal, unknown_command, line_too_long, no_memory}
+use Rattle.judy_model.specs.CommandWords.{command_named}
+use Rattle.judy_model.specs.Commands.{Outcome, ◌>>=◌, unchanged, carried_out}
+
+-- What a command does that is named by its word.
+abbrev pub carried_out_by_word : Store → List ℕ → List (List ℕ) → Result (Outcome Store) Refusal
+carried_out_by_word store word arguments = do
+  command ← ok_or (command_named word) unknown_command
+  carried_out store command arguments
 
 -- A line without tokens, or whose first token begins with `;` (59), has no answer and changes nothing.
 -- The first token of every other line is its command, the others are the command's arguments.
 abbrev pub outcome_of_tokens : Store → List (List ℕ) → Result (Outcome Store) Refusal
 outcome_of_tokens store [] = Ok (unchanged store silent)
-outcome_of_tokens store (command ∷ arguments) =
-    if starts_with nat_eq command (59 ∷ []) then Ok (unchanged store silent) else carried_out store command arguments
+outcome_of_tokens store (word ∷ arguments) =
+    if starts_with nat_eq word (59 ∷ []) then Ok (unchanged store silent) else carried_out_by_word store word arguments
 
 -- What a line does, or why it is refused. That a line is too long comes before all else, blank lines and
 -- comments included.

@@ -1,11 +1,14 @@
 //! Short cases of the definitions, each computed by the check: what a reader would work out by hand.
 
 ghost use Rattle.std.specs.Prelude.{◌≡◌, ◌+◌, ◌*◌, ◌-◌, ◌^◌, true, false, [], ◌∷◌, ◌++◌, codes, replicate, Some, None, Ok, Err};
+ghost use Rattle.judy_model.specs.Arrays.{judy1, empty_array};
 ghost use Rattle.judy_model.specs.Lines.{lines_of, text_of, is_too_long};
 ghost use Rattle.judy_model.specs.Tokens.{tokens_of, word_of, name_of};
-ghost use Rattle.judy_model.specs.Replies.{silent, done, was, number, nothing, output_of, unknown_command, argument_count, bad_name, no_such_array, wrong_kind, bad_word, bad_limit, exists};
+ghost use Rattle.judy_model.specs.Replies.{silent, done, was, flag, number, entry, freed, listed, nothing, output_of, unknown_command, argument_count, bad_name, no_such_array, wrong_kind, bad_word, bad_limit, exists};
 ghost use Rattle.judy_model.specs.Steps.{step};
-ghost use Rattle.judy_model.specs.Examples.{line, one_array};
+ghost use Rattle.judy_model.specs.CommandWords as command;
+ghost use Rattle.judy_model.specs.CommandWords.{command_named};
+ghost use Rattle.judy_model.specs.Examples.{line, one_array, two_arrays};
 
 /// An LF ends a line; what stands after the last LF is a line if it isn't empty.
 pub fn scripts_are_cut_at_each_line_feed()
@@ -67,6 +70,36 @@ pub fn refusals_come_in_their_order()
     ensures taken { step (one_array 1) (line (codes "make a judyl 4294967295")) ≡ (Err exists, one_array 1) }
 {}
 
+/// A command that an array's kind doesn't have is refused before its words are read.
+pub fn each_kind_has_its_commands()
+    ensures ins { step two_arrays (line (codes "ins s x y")) ≡ (Err wrong_kind, two_arrays) }
+    ensures get { step two_arrays (line (codes "get s x")) ≡ (Err wrong_kind, two_arrays) }
+    ensures del { step two_arrays (line (codes "del s x")) ≡ (Err wrong_kind, two_arrays) }
+    ensures set { step two_arrays (line (codes "set a x")) ≡ (Err wrong_kind, two_arrays) }
+    ensures unset { step two_arrays (line (codes "unset a x")) ≡ (Err wrong_kind, two_arrays) }
+    ensures test { step two_arrays (line (codes "test a x")) ≡ (Err wrong_kind, two_arrays) }
+    ensures count { step two_arrays (line (codes "count s x 1")) ≡ (Err bad_word, two_arrays) }
+    ensures missing { step two_arrays (line (codes "fe b x")) ≡ (Err no_such_array, two_arrays) }
+    ensures string_kind { step [] (line (codes "make b judysl")) ≡ (Err wrong_kind, []) }
+{}
+
+/// A command's word is spelled in lower case and whole.
+pub fn commands_have_their_words()
+    ensures next { command_named (codes "next") ≡ Some (command.on_key (command.neighbour command.next)) }
+    ensures next_empty { command_named (codes "ne") ≡ Some (command.on_key (command.empty command.next)) }
+    ensures upper { command_named (codes "SET") ≡ None }
+    ensures longer { command_named (codes "sets") ≡ None }
+    ensures none { command_named [] ≡ None }
+{}
+
+/// The commands of the store: a list has the arrays in their order, and a drop keeps the order of the rest.
+pub fn arrays_are_listed_and_dropped()
+    ensures list { step two_arrays (line (codes "list")) ≡ (Ok (listed two_arrays), two_arrays) }
+    ensures list_one { step two_arrays (line (codes "list a")) ≡ (Err argument_count, two_arrays) }
+    ensures drop { (step two_arrays (line (codes "drop a"))).1 ≡ (codes "s", judy1 (empty_array 2)) ∷ [] }
+    ensures drop_missing { step two_arrays (line (codes "drop b")) ≡ (Err no_such_array, two_arrays) }
+{}
+
 /// Blank lines and comments have no answer; a line that is too long is refused before all else.
 pub fn some_lines_are_silent()
     ensures blank { step [] (line (codes "   ")) ≡ (Ok silent, []) }
@@ -82,6 +115,11 @@ pub fn answers_are_lines()
     ensures silent { output_of (Ok silent) ≡ [] }
     ensures done { output_of (Ok done) ≡ codes "ok" ++ 10 ∷ [] }
     ensures was { output_of (Ok (was 0)) ≡ codes "was 0" ++ 10 ∷ [] }
+    ensures yes { output_of (Ok (flag true)) ≡ codes "1" ++ 10 ∷ [] }
+    ensures no { output_of (Ok (flag false)) ≡ codes "0" ++ 10 ∷ [] }
+    ensures entry { output_of (Ok (entry 5 9)) ≡ codes "5 9" ++ 10 ∷ [] }
+    ensures freed { output_of (Ok (freed 2)) ≡ codes "freed 2" ++ 10 ∷ [] }
+    ensures list { output_of (Ok (listed [])) ≡ codes "names" ++ 10 ∷ [] }
     ensures number { output_of (Ok (number (2 ^ 64 - 1))) ≡ codes "18446744073709551615" ++ 10 ∷ [] }
     ensures nothing { output_of (Ok nothing) ≡ codes "none" ++ 10 ∷ [] }
     ensures refusal { output_of (Err no_such_array) ≡ codes "error no-such-array" ++ 10 ∷ [] }

@@ -2,10 +2,12 @@
 
 ghost use Rattle.std.specs.Prelude.{◌≡◌, ◌≤◌, ◌==◌};
 ghost use Rattle.judy_model.specs.Arrays.{limit_of, len_of, emptied};
+ghost use Rattle.judy_model.specs.Kinds.{kind_word_of};
+ghost use Rattle.judy_shelf.specs.Kinds.{kind_word};
 ghost use Rattle.judy_shelf.specs.Arrays.{new_array};
 
 use crate::kind::Kind;
-use judy_word::JudyL;
+use judy_word::{Judy1, JudyL};
 use std::alloc::Global;
 
 // The empty array of a kind, which may hold so many keys.
@@ -15,6 +17,7 @@ pub(crate) fn new_array(alloc: Global, kind: Kind, limit: u64) -> Array
     ensures { result ≡ new_array kind limit }
 {
     match kind {
+        Kind::Judy1 => Array::Judy1(Judy1::new(alloc, limit)),
         Kind::JudyL => Array::JudyL(JudyL::new(alloc, limit)),
     }
 }
@@ -23,6 +26,8 @@ pub(crate) fn new_array(alloc: Global, kind: Kind, limit: u64) -> Array
 /// definitions.
 #[derive(Drop)]
 pub enum Array {
+    /// A set of words.
+    Judy1(Judy1),
     /// A map from words to words.
     JudyL(JudyL),
 }
@@ -32,9 +37,11 @@ impl Array {
 
     /// The array's kind.
     pub fn kind(&self) -> Kind
-        ensures { result ≡ kind_of self.now }
+        ensures kind { result ≡ kind_of self.now }
+        ensures word { kind_word result ≡ kind_word_of (value_of self.now) }
     {
         match self {
+            Array::Judy1(_) => Kind::Judy1,
             Array::JudyL(_) => Kind::JudyL,
         }
     }
@@ -44,6 +51,7 @@ impl Array {
         ensures { result ≡ limit_of (value_of self.now) }
     {
         match self {
+            Array::Judy1(set) => set.limit(),
             Array::JudyL(words) => words.limit(),
         }
     }
@@ -54,6 +62,7 @@ impl Array {
         ensures within { result ≤ limit_of (value_of self.now) }
     {
         match self {
+            Array::Judy1(set) => set.len(),
             Array::JudyL(words) => words.len(),
         }
     }
@@ -72,6 +81,7 @@ impl Array {
         ensures emptied { value_of self.new ≡ emptied (value_of self.old) }
     {
         match self {
+            Array::Judy1(set) => set.free_array(),
             Array::JudyL(words) => words.free_array(),
         }
     }

@@ -1,12 +1,14 @@
 //! Kinds of arrays.
 
 ghost use Rattle.std.specs.Prelude.{◌≡◌, Some, IfSome, option_map};
-ghost use Rattle.judy_model.specs.Commands.{kind_named};
+ghost use Rattle.judy_model.specs.Kinds.{kind_named};
 ghost use Rattle.judy_shelf.specs.Kinds.{kind_word, empty_of_kind};
 
 /// What kind an array is of. (The kind words are this project's own.)
 #[derive(Clone, Copy, Debug, PartialEq, Eq)]
 pub enum Kind {
+    /// A set of words: the manual's Judy1.
+    Judy1,
     /// A map from words to words: the manual's JudyL.
     JudyL,
 }
@@ -18,6 +20,7 @@ impl Kind {
         ensures spelled { IfSome result (λ kind. word.now ≡ kind_word kind) }
     {
         match word {
+            b"judy1" => Some(Kind::Judy1),
             b"judyl" => Some(Kind::JudyL),
             _ => None,
         }
@@ -29,6 +32,7 @@ impl Kind {
         ensures names_it { kind_named result.now ≡ Some (empty_of_kind self) }
     {
         match self {
+            Kind::Judy1 => b"judy1",
             Kind::JudyL => b"judyl",
         }
     }

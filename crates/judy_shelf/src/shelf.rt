@@ -68,7 +68,6 @@ impl Shelf {
     /// Refused, the first that applies: `BadLimit` where the limit isn't 1 to 4,294,967,295; `Exists` where
     /// an array has the name; `TooMany` where 64 arrays stand; `NoMemory`. The shelf is then as it was, and
     /// the name is dropped.
-    // (A body that makes a judyl array whatever the kind is right as long as there is one kind.)
     pub fn make(&mut self, name: Name, kind: Kind, limit: u64) -> Result<(), MakeError>
         ensures made { OnOk result (self.new ≡ with_new_array self.old name (new_array kind limit)) }
         ensures accepted { OnOk result (make_refusal self.old name limit ≡ None) }

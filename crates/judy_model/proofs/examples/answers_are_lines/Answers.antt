@@ -9,3 +9,11 @@ returns-clause-was c = refl
 pub returns-clause-number : goal.returns-clause-number
 unfolding digits
 returns-clause-number c = refl
+
+pub returns-clause-entry : goal.returns-clause-entry
+unfolding digits
+returns-clause-entry c = refl
+
+pub returns-clause-freed : goal.returns-clause-freed
+unfolding digits
+returns-clause-freed c = refl
