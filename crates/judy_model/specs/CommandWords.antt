@@ -36,7 +36,8 @@ pub data Command : Type 0 where
 -- The command that a word names.
 abbrev pub command_named : List ℕ → Option Command
 command_named word =
-    if bytes_eq word (codes "make") then Some make
+    if bytes_eq word (codes "bycount") then Some (on_key by_count)
+    else if bytes_eq word (codes "make") then Some make
     else if bytes_eq word (codes "list") then Some list
     else if bytes_eq word (codes "drop") then Some drop
     else if bytes_eq word (codes "free") then Some free
@@ -53,7 +54,6 @@ command_named word =
     else if bytes_eq word (codes "ne") then Some (on_key (empty next))
     else if bytes_eq word (codes "le") then Some (on_key (empty last))
     else if bytes_eq word (codes "pe") then Some (on_key (empty prev))
-    else if bytes_eq word (codes "bycount") then Some (on_key by_count)
     else if bytes_eq word (codes "ins") then Some (on_pair ins)
     else if bytes_eq word (codes "put") then Some (on_pair put)
     else if bytes_eq word (codes "count") then Some (on_pair count)

@@ -7,7 +7,7 @@ use Rattle.judy_model.specs.Stores.{Store}
 use Rattle.judy_model.specs.Replies.{Reply, Refusal}
 use Rattle.judy_model.specs.Commands.{Outcome}
 use Rattle.judy_model.specs.Steps.{Step, outcome_grows, outcome_of, outcome_of_tokens}
-use Rattle.judy_script.specs.Follows.{Follows}
+use Rattle.judy_command.specs.Follows.{Follows}
 
 -- what follows an outcome is what the line relation allows
 Step-by : (before after : Store) (outcome : Result (Outcome Store) Refusal) (line : Line) (reply : Reply) → outcome_of before line ≡ outcome → Follows before outcome reply after → Step before line reply after

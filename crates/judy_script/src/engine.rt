@@ -6,7 +6,7 @@ ghost use Rattle.judy_model.specs.Replies.{output_of};
 ghost use Rattle.judy_model.specs.Steps.{Step};
 ghost use Rattle.judy_pipe.specs.Pipe.{grown, GrewByFront};
 ghost use Rattle.judy_shelf.specs.Shelves.{store_of};
-ghost use Rattle.judy_script.specs.Replies.{reply_of};
+ghost use Rattle.judy_command.specs.Replies.{line_reply_of};
 ghost use Rattle.judy_script.specs.LineBuffers.{Holds};
 ghost use Rattle.judy_script.specs.Feeds.{Fed, Served, ServedInPart, Ran, RanInPart, RanInWholeLines};
 ghost use Rattle.judy_script.specs.declared.fault.RunFault.TheVariants.{Write};
@@ -15,7 +15,7 @@ use crate::cut::cut_at;
 use crate::fault::RunFault;
 use crate::line::{LineBuffer, line_reply};
 use crate::print::{Text, print};
-use crate::reply::Reply;
+use judy_command::LineReply;
 use judy_pipe::{Sink, write_all};
 use judy_shelf::Shelf;
 
@@ -92,7 +92,7 @@ pub(crate) fn finish<W: Sink>(
         return Ok(());
     }
     let reply = buffers.line.reply(false, shelf);
-    put_out(reply, &mut buffers.text, sink)
+    put_out(reply, shelf, &mut buffers.text, sink)
 }
 
 // Executes and answers the line that was kept, `head` and an LF behind it. A line that stands whole in
@@ -114,13 +114,13 @@ fn end_line<W: Sink>(
         (W.tally sink.new).failures ≡ (if is_ok result then before else before + 1) }
 {
     let reply = whole_line_reply(head, &mut buffers.line, shelf);
-    put_out(reply, &mut buffers.text, sink)
+    put_out(reply, shelf, &mut buffers.text, sink)
 }
 
 // What the line that was kept, with `head` and an LF behind it, does; the buffer begins the next line.
-fn whole_line_reply(head: &[u8], line: &mut LineBuffer, shelf: &mut Shelf) -> Reply
+fn whole_line_reply(head: &[u8], line: &mut LineBuffer, shelf: &mut Shelf) -> LineReply
     ensures step { (kept : List ℕ) → Holds line.old kept →
-        Step (store_of shelf.old) (record { bytes = kept ++ head.now; ended = true }) (reply_of result) (store_of shelf.new) }
+        Step (store_of shelf.old) (record { bytes = kept ++ head.now; ended = true }) (line_reply_of (store_of shelf.new) result) (store_of shelf.new) }
     ensures cleared { Holds line.new [] }
 {
     if line.is_empty() {
@@ -133,16 +133,21 @@ fn whole_line_reply(head: &[u8], line: &mut LineBuffer, shelf: &mut Shelf) -> Re
     reply
 }
 
-// Prints the reply and writes it.
-fn put_out<W: Sink>(reply: Reply, text: &mut Text, sink: &mut W) -> Result<(), RunFault>
+// Prints the reply of a line that left the shelf so, and writes it.
+fn put_out<W: Sink>(
+    reply: LineReply,
+    shelf: &Shelf,
+    text: &mut Text,
+    sink: &mut W,
+) -> Result<(), RunFault>
     requires { (W.tally sink.old).failures < 2 ^ 64 - 1 }
-    ensures ok { OnOk result (W.taken sink.new ≡ grown (W.taken sink.old) (output_of (reply_of reply))) }
-    ensures err { OnErr result (GrewByFront (W.taken sink.old) (output_of (reply_of reply)) (W.taken sink.new)) }
+    ensures ok { OnOk result (W.taken sink.new ≡ grown (W.taken sink.old) (output_of (line_reply_of (store_of shelf.now) reply))) }
+    ensures err { OnErr result (GrewByFront (W.taken sink.old) (output_of (line_reply_of (store_of shelf.now) reply)) (W.taken sink.new)) }
     ensures fault { IfErr result (λ fault. fault ≡ Write) }
     ensures failures { let before = (W.tally sink.old).failures in
         (W.tally sink.new).failures ≡ (if is_ok result then before else before + 1) }
 {
-    print(reply, text);
+    print(reply, shelf, text);
     match write_all(sink, text) {
         Ok(()) => Ok(()),
         Err(_) => Err(RunFault::Write),

@@ -6,26 +6,20 @@
 //! definitions of `judy_model`, and `specs/RunEnds.antt` what each fault leaves.
 //!
 //! The way of a script: `engine` is fed its bytes in pieces and cuts them into lines (`cut`, `line`); a
-//! line's tokens (`tokens`) name a command (`commands`), which is carried out (`make`, `values`) over the
-//! shelf and gives a reply (`reply`), which is printed (`print`) and written. Fixed buffers serve all lines
-//! of a run, so that an answer takes no memory.
+//! line's tokens (`tokens`) are carried out by `judy_command` over the shelf, and its reply is printed
+//! (`print`) and written. Fixed buffers serve all lines of a run, so that an answer takes no memory.
 //!
-//! The crate stands on `judy_shelf` for the store and `judy_pipe` for what is written; the program stands on
-//! it.
+//! The crate stands on `judy_command` for the commands, `judy_shelf` for the store and `judy_pipe` for what
+//! is written; the program stands on it.
 #![tactic(auto)]
 
-mod commands;
 mod cut;
 mod engine;
 mod fault;
 mod line;
-mod make;
 mod print;
-mod reply;
 mod runs;
 mod tokens;
-mod values;
-mod words;
 
 pub use fault::RunFault;
 pub use runs::{run, run_bytes};

@@ -4,24 +4,23 @@ ghost use Rattle.std.specs.Prelude.{◌≡◌, ◌==◌, ℕ, List, [], ◌++◌
 ghost use Rattle.judy_model.specs.Lines.{text_of};
 ghost use Rattle.judy_model.specs.Steps.{Step};
 ghost use Rattle.judy_shelf.specs.Shelves.{store_of};
-ghost use Rattle.judy_script.specs.Replies.{reply_of};
+ghost use Rattle.judy_command.specs.Replies.{line_reply_of};
 
-use crate::commands::execute;
-use crate::reply::{Refusal, Reply};
 use crate::tokens::split;
 use arrayvec::ArrayVec;
+use judy_command::{LineReply, Refusal, execute};
 use judy_shelf::Shelf;
 
 /// The most bytes of a line before its LF, a CR counted. (This project's own.)
 pub(crate) const MAX_LINE_LEN: usize = 4096;
 
 /// What a line does: its bytes without the LF, and whether an LF ended it.
-pub(crate) fn line_reply(bytes: &[u8], ended: bool, shelf: &mut Shelf) -> Reply
+pub(crate) fn line_reply(bytes: &[u8], ended: bool, shelf: &mut Shelf) -> LineReply
     ensures { let before = store_of shelf.old in
-        Step before (record { bytes = bytes.now; ended = ended }) (reply_of result) (store_of shelf.new) }
+        Step before (record { bytes = bytes.now; ended = ended }) (line_reply_of (store_of shelf.new) result) (store_of shelf.new) }
 {
     if bytes.len() > MAX_LINE_LEN {
-        return Err(Refusal::LineTooLong);
+        return LineReply::Said(Err(Refusal::LineTooLong));
     }
     execute(shelf, &split(without_return(bytes, ended)))
 }
@@ -81,12 +80,12 @@ impl LineBuffer {
     }
 
     /// What the line does, now that it is whole.
-    pub(crate) fn reply(&self, ended: bool, shelf: &mut Shelf) -> Reply
+    pub(crate) fn reply(&self, ended: bool, shelf: &mut Shelf) -> LineReply
         ensures { (bytes : List ℕ) → Holds self.now bytes →
-            Step (store_of shelf.old) (record { bytes = bytes; ended = ended }) (reply_of result) (store_of shelf.new) }
+            Step (store_of shelf.old) (record { bytes = bytes; ended = ended }) (line_reply_of (store_of shelf.new) result) (store_of shelf.new) }
     {
         if self.is_long {
-            return Err(Refusal::LineTooLong);
+            return LineReply::Said(Err(Refusal::LineTooLong));
         }
         line_reply(&self.bytes, ended, shelf)
     }

@@ -1,24 +1,29 @@
 //! Replies as text.
 
-ghost use Rattle.std.specs.Prelude.{◌≡◌, ◌+◌, ◌≤◌, ◌++◌, length, decimal, Ok, [], ◌∷◌};
+ghost use Rattle.std.specs.Prelude.{◌≡◌, ◌+◌, ◌≤◌, ◌++◌, length, decimal, flat_map, codes, Ok, [], ◌∷◌};
 ghost use Rattle.arrayvec.specs.ArrayVec.{array_vec_len};
-ghost use Rattle.judy_model.specs.Replies.{output_of};
-ghost use Rattle.judy_script.specs.Replies.{reply_of, answer_of};
+ghost use Rattle.judy_model.specs.Replies.{output_of, listed, listing_text};
+ghost use Rattle.judy_shelf.specs.Arrays.{value_of};
+ghost use Rattle.judy_shelf.specs.Shelves.{store_of};
+ghost use Rattle.judy_command.specs.Replies.{line_reply_of, answer_of};
 
-use crate::reply::{Answer, Reply};
 use arrayvec::ArrayVec;
+use judy_command::{Answer, LineReply};
+use judy_shelf::{Array, Name, Shelf};
 
 /// The buffer of an answer line: it is made once a run and takes no memory.
 pub(crate) type Text = ArrayVec<u8, 8192>;
 
-/// Puts the reply into the buffer, in the place of what it held.
-pub(crate) fn print(reply: Reply, text: &mut Text)
-    ensures { text.new.items ≡ output_of (reply_of reply) }
+/// Puts the reply into the buffer, in the place of what it held. The shelf is as the line left it.
+pub(crate) fn print(reply: LineReply, shelf: &Shelf, text: &mut Text)
+    ensures { text.new.items ≡ output_of (line_reply_of (store_of shelf.now) reply) }
 {
     text.clear();
     match reply {
-        Ok(answer) => print_answer(answer, text),
-        Err(refusal) => {
+        LineReply::Silent => {}
+        LineReply::Listed => print_list(shelf, text),
+        LineReply::Said(Ok(answer)) => print_answer(answer, text),
+        LineReply::Said(Err(refusal)) => {
             append(text, b"error ");
             append(text, refusal.word());
             append(text, b"\n");
@@ -31,25 +36,71 @@ fn print_answer(answer: Answer, text: &mut Text)
     ensures { text.new.items ≡ output_of (Ok (answer_of answer)) }
 {
     match answer {
-        Answer::Silent => {}
         Answer::Done => append(text, b"ok\n"),
         Answer::Was(value) => {
             append(text, b"was ");
-            append_number(text, value);
+            append_last(text, value);
         }
-        Answer::Number(value) => append_number(text, value),
+        Answer::Flag(true) => append(text, b"1\n"),
+        Answer::Flag(false) => append(text, b"0\n"),
+        Answer::Number(value) => append_last(text, value),
+        Answer::Entry(key, value) => {
+            append_number(text, key);
+            append(text, b" ");
+            append_last(text, value);
+        }
+        Answer::Freed(count) => {
+            append(text, b"freed ");
+            append_last(text, count);
+        }
         Answer::Nothing => append(text, b"none\n"),
     }
 }
 
+// The arrays in the order of making. At most 64 of at most 61 bytes each fit the buffer.
+fn print_list(shelf: &Shelf, text: &mut Text)
+    requires { text.old.items ≡ [] }
+    ensures { text.new.items ≡ output_of (Ok (listed (store_of shelf.now))) }
+{
+    append(text, b"names");
+    let mut place = 0;
+    'arrays: while let Some((name, array)) = shelf.at(place) {
+        append_listing(text, name, array);
+        place += 1;
+    }
+    append(text, b"\n");
+}
+
+fn append_listing(text: &mut Text, name: &Name, array: &Array)
+    requires { array_vec_len text.old ≤ 4096 }
+    ensures items { text.new.items ≡ text.old.items ++ listing_text (name.now, value_of array.now) }
+    ensures len { array_vec_len text.new ≤ array_vec_len text.old + 61 }
+{
+    append(text, b" ");
+    append(text, name.bytes());
+    append(text, b":");
+    append(text, array.kind().word());
+    append(text, b":");
+    append_number(text, array.len());
+}
+
 // Puts the number in decimal and an LF behind what the buffer holds.
-fn append_number(text: &mut Text, number: u64)
+fn append_last(text: &mut Text, number: u64)
     requires { array_vec_len text.old ≤ 4096 }
     ensures { text.new.items ≡ text.old.items ++ decimal number ++ 10 ∷ [] }
 {
+    append_number(text, number);
+    append(text, b"\n");
+}
+
+// Puts the number in decimal behind what the buffer holds.
+fn append_number(text: &mut Text, number: u64)
+    requires { array_vec_len text.old ≤ 8000 }
+    ensures items { text.new.items ≡ text.old.items ++ decimal number }
+    ensures len { array_vec_len text.new ≤ array_vec_len text.old + 20 }
+{
     let mut buffer = itoa::Buffer::new();
     append(text, buffer.format(number).as_bytes());
-    append(text, b"\n");
 }
 
 // Puts the bytes behind those that the buffer holds.

@@ -1,6 +1,6 @@
 //! Kinds of arrays.
 
-ghost use Rattle.std.specs.Prelude.{◌≡◌, Some, IfSome, option_map};
+ghost use Rattle.std.specs.Prelude.{◌≡◌, ◌≤◌, length, Some, IfSome, option_map};
 ghost use Rattle.judy_model.specs.Kinds.{kind_named};
 ghost use Rattle.judy_shelf.specs.Kinds.{kind_word, empty_of_kind};
 
@@ -29,6 +29,7 @@ impl Kind {
     /// The kind's word.
     pub fn word(self) -> &'static [u8]
         ensures word { result.now ≡ kind_word self }
+        ensures within { length result.now ≤ 6 }
         ensures names_it { kind_named result.now ≡ Some (empty_of_kind self) }
     {
         match self {

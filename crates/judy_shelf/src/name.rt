@@ -1,6 +1,6 @@
 //! Names of arrays: a fixed buffer, so that a name takes no memory of its own.
 
-ghost use Rattle.std.specs.Prelude.{◌≡◌, IsTrue};
+ghost use Rattle.std.specs.Prelude.{◌≡◌, ◌≤◌, IsTrue, length};
 ghost use Rattle.std.specs.List.{list_all};
 ghost use Rattle.judy_model.specs.Tokens.{name_of, is_name, is_name_byte};
 
@@ -46,6 +46,7 @@ impl Name {
     pub fn bytes(&self) -> &[u8]
         ensures same { result.now ≡ self.now }
         ensures name { IsTrue (is_name self.now) }
+        ensures within { length self.now ≤ 32 }
     {
         self.text.as_slice()
     }

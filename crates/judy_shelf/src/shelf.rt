@@ -123,7 +123,8 @@ impl Shelf {
 
     /// The array at a place in the order of making, counted from 0, and its name.
     pub fn at(&self, place: usize) -> Option<(&Name, &Array)>
-        ensures { option_map deref_pair result ≡ slice_get self.now place }
+        ensures entry { option_map deref_pair result ≡ slice_get self.now place }
+        ensures within { length self.now ≤ 64 }
     {
         self.arrays.get_index(place)
     }

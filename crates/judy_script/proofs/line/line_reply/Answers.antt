@@ -3,7 +3,7 @@ use Rattle.std.specs.Prelude.{take}
 use Rattle.judy_model.specs.Lines.{Line, is_too_long, text_of}
 use Rattle.judy_model.specs.Tokens.{tokens_of}
 use Rattle.judy_shelf.specs.Shelves.{store_of}
-use Rattle.judy_script.specs.Texts.{texts}
+use Rattle.judy_command.specs.Texts.{texts}
 use Rattle.judy_script.proofs.StepsOfLines.{Step-Follows, outcome_of-tokens}
 use Rattle.judy_script.proofs.line.line_reply.Goals as goal
 

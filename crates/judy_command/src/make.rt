@@ -3,28 +3,16 @@
 ghost use Rattle.std.specs.Prelude.{◌≡◌, option_copied};
 ghost use Rattle.judy_model.specs.Commands as model;
 ghost use Rattle.judy_shelf.specs.Shelves.{store_of};
-ghost use Rattle.judy_script.specs.Replies.{reply_of, checked};
-ghost use Rattle.judy_script.specs.Follows.{Follows};
-ghost use Rattle.judy_script.specs.Texts.{texts};
-ghost use Rattle.judy_script.specs.Makes.{refusal_of_make};
+ghost use Rattle.judy_command.specs.Replies.{reply_of, checked};
+ghost use Rattle.judy_command.specs.Follows.{Follows};
+ghost use Rattle.judy_command.specs.Makes.{refusal_of_make};
 
 use crate::reply::{Answer, Refusal, Reply};
 use crate::words::word;
 use judy_shelf::{Kind, MAX_LIMIT, MakeError, Name, Shelf};
 
 /// `make NAME KIND [LIMIT]`
-pub(crate) fn make(shelf: &mut Shelf, arguments: &[&[u8]]) -> Reply
-    ensures { let before = store_of shelf.old in
-        Follows before (model.make_line before (texts arguments.now)) (reply_of result) (store_of shelf.new) }
-{
-    match arguments {
-        [name, kind] => make_array(shelf, name, kind, None),
-        [name, kind, limit] => make_array(shelf, name, kind, Some(*limit)),
-        _ => Err(Refusal::ArgumentCount),
-    }
-}
-
-fn make_array(shelf: &mut Shelf, name: &[u8], kind: &[u8], limit: Option<&[u8]>) -> Reply
+pub(crate) fn make_array(shelf: &mut Shelf, name: &[u8], kind: &[u8], limit: Option<&[u8]>) -> Reply
     ensures { let before = store_of shelf.old in
         Follows before (model.made before name.now kind.now (option_copied limit.entry)) (reply_of result) (store_of shelf.new) }
 {

@@ -1,13 +1,14 @@
-//! Words as tokens say them.
+//! Words as tokens say them and as answers.
 
 ghost use Rattle.std.specs.Prelude.{◌≡◌, ◌<◌, ◌^◌, length, IsTrue, nat_lt, if◌then◌else◌, Some, None};
 ghost use Rattle.std.specs.Str.Parse.{digits_value};
-ghost use Rattle.judy_script.specs.Replies.{checked};
+ghost use Rattle.judy_command.specs.Replies.{checked, answer_of};
+ghost use Rattle.judy_model.specs.Commands as model;
 ghost use Rattle.judy_model.specs.Commands.{word_at};
 ghost use Rattle.std.specs.List.{list_all};
 ghost use Rattle.std.specs.Char.{is_ascii_digit};
 
-use crate::reply::Refusal;
+use crate::reply::{Answer, Refusal};
 
 /// The word that a token says: 1 to 20 decimal digits with a number below 2^64. Else `BadWord`.
 pub(crate) fn word(token: &[u8]) -> Result<u64, Refusal>
@@ -37,4 +38,11 @@ fn are_digits(token: &[u8]) -> bool
     ensures { result ≡ list_all is_ascii_digit token.now }
 {
     token.iter().all(|byte| byte.is_ascii_digit())
+}
+
+/// The number that was found, or `none`.
+pub(crate) fn number_or_nothing(found: Option<u64>) -> Answer
+    ensures { answer_of result ≡ model.number_or_nothing found }
+{
+    found.map_or(Answer::Nothing, Answer::Number)
 }

@@ -1,10 +1,13 @@
 -- The code's replies as those of the definitions.
 use Rattle.std.specs.Prelude.{Result, Ok, Err}
+use Rattle.judy_model.specs.Stores.{Store}
 use Rattle.judy_model.specs.Replies as model
-use Rattle.judy_script.specs.declared.reply.Answer.{Answer}
-use Rattle.judy_script.specs.declared.reply.Answer.TheVariants.{Silent, Done, Was, Number, Nothing}
-use Rattle.judy_script.specs.declared.reply.Refusal.{Refusal}
-use Rattle.judy_script.specs.declared.reply.Refusal.TheVariants.{LineTooLong, UnknownCommand, ArgumentCount, BadName, NoSuchArray, WrongKind, BadWord, BadLimit, Exists, TooManyArrays, Full, NoMemory}
+use Rattle.judy_command.specs.declared.reply.Answer.{Answer}
+use Rattle.judy_command.specs.declared.reply.Answer.TheVariants.{Done, Was, Flag, Number, Entry, Freed, Nothing}
+use Rattle.judy_command.specs.declared.reply.Refusal.{Refusal}
+use Rattle.judy_command.specs.declared.reply.Refusal.TheVariants.{LineTooLong, UnknownCommand, ArgumentCount, BadName, NoSuchArray, WrongKind, BadWord, BadLimit, Exists, TooManyArrays, Full, NoMemory}
+use Rattle.judy_command.specs.declared.reply.LineReply.{LineReply}
+use Rattle.judy_command.specs.declared.reply.LineReply.TheVariants.{Silent, Listed, Said}
 
 abbrev pub refusal_of : Refusal → model.Refusal
 refusal_of LineTooLong = model.line_too_long
@@ -21,10 +24,12 @@ refusal_of Full = model.full
 refusal_of NoMemory = model.no_memory
 
 abbrev pub answer_of : Answer → model.Answer
-answer_of Silent = model.silent
 answer_of Done = model.done
 answer_of (Was value) = model.was value
+answer_of (Flag holds) = model.flag holds
 answer_of (Number value) = model.number value
+answer_of (Entry key value) = model.entry key value
+answer_of (Freed count) = model.freed count
 answer_of Nothing = model.nothing
 
 -- A result of the code with its refusal as the definitions name it.
@@ -35,3 +40,9 @@ checked (Err refusal) = Err (refusal_of refusal)
 abbrev pub reply_of : Result Answer Refusal → model.Reply
 reply_of (Ok answer) = Ok (answer_of answer)
 reply_of (Err refusal) = Err (refusal_of refusal)
+
+-- The reply of a line that left this store.
+abbrev pub line_reply_of : Store → LineReply → model.Reply
+line_reply_of store Silent = Ok model.silent
+line_reply_of store Listed = Ok (model.listed store)
+line_reply_of store (Said reply) = reply_of reply

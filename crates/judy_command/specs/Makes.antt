@@ -1,8 +1,8 @@
 -- The refusals of a shelf as those of a script.
 use Rattle.judy_shelf.specs.declared.error.MakeError.{MakeError}
 use Rattle.judy_shelf.specs.declared.error.MakeError.TheVariants as make
-use Rattle.judy_script.specs.declared.reply.Refusal.{Refusal}
-use Rattle.judy_script.specs.declared.reply.Refusal.TheVariants.{BadLimit, Exists, TooManyArrays, NoMemory}
+use Rattle.judy_command.specs.declared.reply.Refusal.{Refusal}
+use Rattle.judy_command.specs.declared.reply.Refusal.TheVariants.{BadLimit, Exists, TooManyArrays, NoMemory}
 
 abbrev pub refusal_of_make : MakeError → Refusal
 refusal_of_make make.BadLimit = BadLimit

@@ -1,8 +1,8 @@
 use Rattle.std.proofs.Common.{sym, ap, ◌∙◌}
 use Rattle.std.specs.Prelude.{option_copied}
-use Rattle.judy_script.specs.Replies.{checked}
-use Rattle.judy_script.proofs.MakeLemmas.{Follows-made, Follows-not_made}
-use Rattle.judy_script.proofs.make.make_array.Goals as goal
+use Rattle.judy_command.specs.Replies.{checked}
+use Rattle.judy_command.proofs.MakeLemmas.{Follows-made, Follows-not_made}
+use Rattle.judy_command.proofs.make.make_array.Goals as goal
 
 pub returns-in-Ok : goal.returns-in-Ok
 returns-in-Ok c =

@@ -5,10 +5,11 @@ use Rattle.judy_model.specs.Arrays.{ArrayValue}
 use Rattle.judy_model.specs.Tokens.{name_of}
 use Rattle.judy_model.specs.Stores.{Store, array_named, with_new_array}
 use Rattle.judy_model.specs.Replies as model
-use Rattle.judy_model.specs.Commands.{Outcome, ◌>>=◌, provided, kind_named, limit_at, made}
+use Rattle.judy_model.specs.Kinds.{kind_named}
+use Rattle.judy_model.specs.Commands.{Outcome, ◌>>=◌, provided, limit_at, made}
 use Rattle.judy_shelf.specs.declared.array.Array.{Array}
 use Rattle.judy_shelf.specs.declared.kind.Kind.{Kind}
-use Rattle.judy_shelf.specs.declared.kind.Kind.TheVariants.{JudyL}
+use Rattle.judy_shelf.specs.declared.kind.Kind.TheVariants.{Judy1, JudyL}
 use Rattle.judy_shelf.specs.declared.error.MakeError.{MakeError}
 use Rattle.judy_shelf.specs.declared.error.MakeError.TheVariants as make
 use Rattle.judy_shelf.specs.Kinds.{empty_of_kind}
@@ -16,9 +17,9 @@ use Rattle.judy_shelf.specs.Arrays.{value_of, new_array}
 use Rattle.judy_shelf.specs.Shelves.{Entries, store_of}
 use Rattle.judy_shelf.specs.Makes.{make_refusal, IsMakeRefusal}
 use Rattle.judy_shelf.proofs.ShelfLemmas.{array_named-store_of, with_new_array-store_of, length-store_of}
-use Rattle.judy_script.specs.Replies.{refusal_of}
-use Rattle.judy_script.specs.Makes.{refusal_of_make}
-use Rattle.judy_script.specs.Follows.{Follows}
+use Rattle.judy_command.specs.Replies.{refusal_of}
+use Rattle.judy_command.specs.Makes.{refusal_of_make}
+use Rattle.judy_command.specs.Follows.{Follows}
 
 -- what a new array does to the store, where nothing refuses it
 abbrev pub new_outcome : Store → List ℕ → ArrayValue → Outcome Store
@@ -56,6 +57,7 @@ module _ (entries : Entries) (token kind_token : List ℕ) (given : Option (List
   matched = rw made-checks (alike in_range (array_named entries name) (nat_lt (length entries) 64) outcome)
 
   value_of-new_array : (k : Kind) → empty_of_kind k limit ≡ value_of (new_array k limit)
+  value_of-new_array Judy1 = refl
   value_of-new_array JudyL = refl
 
   -- an array that the shelf made is the one that the definitions make

@@ -1,0 +1,5 @@
+pub mod Replies
+pub mod CommandsOf
+pub mod Follows
+pub mod Texts
+pub mod Makes

@@ -1,0 +1,91 @@
+//! Commands of one array, which a token names.
+
+ghost use Rattle.std.specs.Prelude.{◌≡◌};
+ghost use Rattle.judy_model.specs.Commands as model;
+ghost use Rattle.judy_shelf.specs.Arrays.{value_of};
+ghost use Rattle.judy_shelf.specs.Shelves.{store_of};
+ghost use Rattle.judy_command.specs.CommandsOf.{key_command_of, pair_command_of};
+ghost use Rattle.judy_command.specs.Replies.{reply_of};
+ghost use Rattle.judy_command.specs.Follows.{Follows};
+
+use crate::command::{KeyCommand, PairCommand};
+use crate::maps::{words_on_key, words_on_pair};
+use crate::reply::{Answer, Refusal, Reply};
+use crate::sets::{set_on_key, set_on_pair};
+use judy_shelf::{Array, Name, Shelf};
+
+/// `drop NAME`
+pub(crate) fn drop_array(shelf: &mut Shelf, name: &[u8]) -> Reply
+    ensures { let before = store_of shelf.old in
+        Follows before (model.dropped before name.now) (reply_of result) (store_of shelf.new) }
+{
+    let Some(name) = Name::new(name) else {
+        return Err(Refusal::BadName);
+    };
+    let Some(array) = shelf.remove(&name) else {
+        return Err(Refusal::NoSuchArray);
+    };
+    Ok(Answer::Freed(array.len()))
+}
+
+/// `free NAME`
+pub(crate) fn free_array(shelf: &mut Shelf, name: &[u8]) -> Reply
+    ensures { let before = store_of shelf.old in
+        Follows before (model.at_name before name.now model.freed_whole) (reply_of result) (store_of shelf.new) }
+{
+    let Some(name) = Name::new(name) else {
+        return Err(Refusal::BadName);
+    };
+    let Some(array) = shelf.get_mut(&name) else {
+        return Err(Refusal::NoSuchArray);
+    };
+    Ok(Answer::Freed(array.free()))
+}
+
+/// A command that names one key or word.
+pub(crate) fn on_key_at(shelf: &mut Shelf, name: &[u8], command: KeyCommand, key: &[u8]) -> Reply
+    ensures { let before = store_of shelf.old in
+        Follows before (model.at_name before name.now (model.on_key (key_command_of command) key.now)) (reply_of result) (store_of shelf.new) }
+{
+    let Some(name) = Name::new(name) else {
+        return Err(Refusal::BadName);
+    };
+    let Some(array) = shelf.get_mut(&name) else {
+        return Err(Refusal::NoSuchArray);
+    };
+    on_key(array, command, key)
+}
+
+fn on_key(array: &mut Array, command: KeyCommand, key: &[u8]) -> Reply
+    ensures { let before = value_of array.old in
+        Follows before (model.on_key (key_command_of command) key.now before) (reply_of result) (value_of array.new) }
+{
+    match array {
+        Array::Judy1(set) => set_on_key(set, command, key),
+        Array::JudyL(words) => words_on_key(words, command, key),
+    }
+}
+
+/// A command that names a key and its value, or two keys.
+pub(crate) fn on_pair_at(shelf: &mut Shelf, name: &[u8], command: PairCommand, first: &[u8], second: &[u8]) -> Reply
+    ensures { let before = store_of shelf.old in
+        Follows before (model.at_name before name.now (model.on_pair (pair_command_of command) first.now second.now)) (reply_of result) (store_of shelf.new) }
+{
+    let Some(name) = Name::new(name) else {
+        return Err(Refusal::BadName);
+    };
+    let Some(array) = shelf.get_mut(&name) else {
+        return Err(Refusal::NoSuchArray);
+    };
+    on_pair(array, command, first, second)
+}
+
+fn on_pair(array: &mut Array, command: PairCommand, first: &[u8], second: &[u8]) -> Reply
+    ensures { let before = value_of array.old in
+        Follows before (model.on_pair (pair_command_of command) first.now second.now before) (reply_of result) (value_of array.new) }
+{
+    match array {
+        Array::Judy1(set) => set_on_pair(set, command, first, second),
+        Array::JudyL(words) => words_on_pair(words, command, first, second),
+    }
+}

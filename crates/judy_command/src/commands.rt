@@ -1,0 +1,59 @@
+//! From a line's tokens to its command, and which arguments each command takes.
+
+ghost use Rattle.std.specs.Prelude.{◌≡◌};
+ghost use Rattle.judy_model.specs.Commands as model;
+ghost use Rattle.judy_model.specs.Steps.{outcome_of_tokens, carried_out_by_word};
+ghost use Rattle.judy_shelf.specs.Shelves.{store_of};
+ghost use Rattle.judy_command.specs.CommandsOf.{command_of};
+ghost use Rattle.judy_command.specs.Replies.{line_reply_of};
+ghost use Rattle.judy_command.specs.Follows.{Follows};
+ghost use Rattle.judy_command.specs.Texts.{texts};
+
+use crate::arrays::{drop_array, free_array, on_key_at, on_pair_at};
+use crate::command::Command;
+use crate::make::make_array;
+use crate::reply::{LineReply, Refusal};
+use judy_shelf::Shelf;
+
+/// What a line's tokens do to the shelf, and the line's reply. The first token is the command, the others
+/// its arguments; without a token, or where the first one begins with `;`, nothing is done.
+///
+/// A refusal is the first that applies, in the order of [`Refusal`], and leaves the shelf as it was.
+/// `NoMemory` comes only where the command would add a key or an array. Five tokens say all: no command has
+/// more. (This project's own script.)
+pub fn execute(shelf: &mut Shelf, tokens: &[&[u8]]) -> LineReply
+    ensures { let before = store_of shelf.old in let after = store_of shelf.new in
+        Follows before (outcome_of_tokens before (texts tokens.now)) (line_reply_of after result) after }
+{
+    match tokens {
+        [] => LineReply::Silent,
+        [[b';', ..], ..] => LineReply::Silent,
+        [word, arguments @ ..] => execute_word(shelf, word, arguments),
+    }
+}
+
+fn execute_word(shelf: &mut Shelf, word: &[u8], arguments: &[&[u8]]) -> LineReply
+    ensures { let before = store_of shelf.old in let after = store_of shelf.new in
+        Follows before (carried_out_by_word before word.now (texts arguments.now)) (line_reply_of after result) after }
+{
+    match Command::from_word(word) {
+        Some(command) => carry_out(shelf, command, arguments),
+        None => LineReply::Said(Err(Refusal::UnknownCommand)),
+    }
+}
+
+fn carry_out(shelf: &mut Shelf, command: Command, arguments: &[&[u8]]) -> LineReply
+    ensures { let before = store_of shelf.old in let after = store_of shelf.new in
+        Follows before (model.carried_out before (command_of command) (texts arguments.now)) (line_reply_of after result) after }
+{
+    LineReply::Said(match (command, arguments) {
+        (Command::Make, [name, kind]) => make_array(shelf, name, kind, None),
+        (Command::Make, [name, kind, limit]) => make_array(shelf, name, kind, Some(*limit)),
+        (Command::List, []) => return LineReply::Listed,
+        (Command::Drop, [name]) => drop_array(shelf, name),
+        (Command::Free, [name]) => free_array(shelf, name),
+        (Command::Key(command), [name, key]) => on_key_at(shelf, name, command, key),
+        (Command::Pair(command), [name, first, second]) => on_pair_at(shelf, name, command, first, second),
+        _ => Err(Refusal::ArgumentCount),
+    })
+}

@@ -1,0 +1,25 @@
+//! Commands: what the tokens of a script line do to a shelf of named arrays.
+//!
+//! [`execute`] is the line step of the definitions from the tokens on: it finds the command by its word,
+//! makes the checks in the order of the refusals, calls the shelf and its arrays, and gives the reply.
+//! `specs/Follows.antt` says what that is: what `judy_model` defines or, where the line adds a key or an
+//! array, that there was no memory and nothing changed.
+//!
+//! `command` has the commands and their words; `carry_out` says which arguments each takes and `arrays` finds
+//! the array that a command names; `sets` and `maps` say which commands each kind has. A new command is a
+//! case there and in the definitions.
+//!
+//! The crate stands on `judy_shelf` and the arrays; `judy_script` cuts lines into tokens and prints replies.
+#![tactic(auto)]
+
+mod arrays;
+mod command;
+mod commands;
+mod make;
+mod maps;
+mod reply;
+mod sets;
+mod words;
+
+pub use commands::execute;
+pub use reply::{Answer, LineReply, Refusal, Reply};
