@@ -1,11 +1,13 @@
 -- From what a line's tokens do to a step of the run.
-use Rattle.std.proofs.Common.{◌≡◌, ℕ, false, List, [], ◌∷◌, Result, Ok, Err, inl, inr, refl, sym, ap, ◌∙◌}
-use Rattle.std.specs.Prelude.{take}
+use Rattle.std.proofs.Common.{◌≡◌, ℕ, false, cond, List, [], ◌∷◌, Option, Some, None, Result, Ok, Err, inl, inr, refl, sym, ap, ◌∙◌}
+use Rattle.std.specs.Prelude.{take, ok_or, nat_eq}
+use Rattle.std.specs.List.{starts_with}
 use Rattle.judy_model.specs.Lines.{Line, is_too_long, text_of}
 use Rattle.judy_model.specs.Tokens.{tokens_of}
 use Rattle.judy_model.specs.Stores.{Store}
-use Rattle.judy_model.specs.Replies.{Reply, Refusal}
-use Rattle.judy_model.specs.Commands.{Outcome}
+use Rattle.judy_model.specs.Replies.{Reply, Refusal, silent, unknown_command}
+use Rattle.judy_model.specs.CommandWords.{Command, make, list, drop, free, on_key, on_pair, command_named}
+use Rattle.judy_model.specs.Commands.{Outcome, ◌>>=◌, unchanged, carried_out}
 use Rattle.judy_model.specs.Steps.{Step, outcome_grows, outcome_of, outcome_of_tokens}
 use Rattle.judy_command.specs.Follows.{Follows}
 
@@ -19,14 +21,28 @@ Step-by before after (Err first) line (Err refusal) is h = inl (rw (is, h.0, h.1
 pub Step-Follows : (before after : Store) (line : Line) (reply : Reply) → Follows before (outcome_of before line) reply after → Step before line reply after
 Step-Follows before after line reply h = Step-by before after (outcome_of before line) line reply refl h
 
--- five tokens decide: no command has four arguments
+-- four arguments decide: no command takes as many
+carried_out-take : (store : Store) (command : Command) (arguments : List (List ℕ)) → carried_out store command (take 4 arguments) ≡ carried_out store command arguments
+carried_out-take store command [] = refl
+carried_out-take store command (a ∷ []) = refl
+carried_out-take store command (a ∷ b ∷ []) = refl
+carried_out-take store command (a ∷ b ∷ c ∷ []) = refl
+carried_out-take store make (a ∷ b ∷ c ∷ d ∷ more) = refl
+carried_out-take store list (a ∷ b ∷ c ∷ d ∷ more) = refl
+carried_out-take store drop (a ∷ b ∷ c ∷ d ∷ more) = refl
+carried_out-take store free (a ∷ b ∷ c ∷ d ∷ more) = refl
+carried_out-take store (on_key command) (a ∷ b ∷ c ∷ d ∷ more) = refl
+carried_out-take store (on_pair command) (a ∷ b ∷ c ∷ d ∷ more) = refl
+
+found-take : (store : Store) (found : Option Command) (arguments : List (List ℕ)) → (ok_or found unknown_command >>= (λ command. carried_out store command (take 4 arguments))) ≡ (ok_or found unknown_command >>= (λ command. carried_out store command arguments))
+found-take store None arguments = refl
+found-take store (Some command) arguments = carried_out-take store command arguments
+
+-- so five tokens decide
 pub outcome_of_tokens-take : (store : Store) (tokens : List (List ℕ)) → outcome_of_tokens store (take 5 tokens) ≡ outcome_of_tokens store tokens
 outcome_of_tokens-take store [] = refl
-outcome_of_tokens-take store (a ∷ []) = refl
-outcome_of_tokens-take store (a ∷ b ∷ []) = refl
-outcome_of_tokens-take store (a ∷ b ∷ c ∷ []) = refl
-outcome_of_tokens-take store (a ∷ b ∷ c ∷ d ∷ []) = refl
-outcome_of_tokens-take store (a ∷ b ∷ c ∷ d ∷ e ∷ more) = refl
+outcome_of_tokens-take store (word ∷ arguments) =
+    ap (λ carried. cond (starts_with nat_eq word (59 ∷ [])) (Ok (unchanged store silent)) carried) (found-take store (command_named word) arguments)
 
 -- a line of at most 4,096 bytes does what its first five tokens do
 pub outcome_of-tokens : (store : Store) (line : Line) (tokens : List (List ℕ)) → is_too_long line ≡ false → tokens ≡ take 5 (tokens_of (text_of line)) → outcome_of store line ≡ outcome_of_tokens store tokens
