@@ -1,5 +1,5 @@
 -- What every array keeps, and its limit, through the changes of a map and the commands of one array.
-use Rattle.std.proofs.Common.{◌≡◌, ℕ, ◌+◌, ◌-◌, ◌≤◌, Bool, true, false, cond, not, ◌&&◌, ◌==◌, List, [], ◌∷◌, map, length, Some, None, Result, Less, Equal, Greater, refl, sym, ap, subst, ◌∙◌, ⊎_elim, arith, All, IfOk}
+use Rattle.std.proofs.Common.{◌≡◌, ℕ, ◌+◌, ◌-◌, ◌≤◌, Bool, true, false, cond, not, ◌&&◌, ◌==◌, List, [], ◌∷◌, map, length, Some, None, Less, Equal, Greater, refl, sym, ap, subst, ◌∙◌, ⊎_elim, arith, All, IfOk}
 use Rattle.std.specs.declared.cmp.Ordering.{Ordering}
 use Rattle.std.specs.Ordering.{eq_by_cmp, is_eq}
 use Rattle.std.specs.Cmp.{IsTotalOrder, nat_cmp_total, alike_right, eq_by_cmp_equiv}
@@ -9,16 +9,13 @@ use Rattle.std.proofs.lemmas.Bool.{cases_lt, eqb-false}
 use Rattle.std.proofs.lemmas.List.Elements.{All-nil, All-cons, All-head, All-tail}
 use Rattle.judy_model.specs.Keys.{IsWord, IsStringKey, IsBytesKey, word_order}
 use Rattle.judy_model.specs.Arrays.{ArrayOf, IsArrayOf, ArrayValue, judy1, judyl, judysl, judyhs, IsArray, limit_of, empty_array, with_map, ins, is_full}
-use Rattle.judy_model.specs.Tokens.{word_of}
-use Rattle.judy_model.specs.Replies.{Refusal, bad_word}
 use Rattle.judy_model.specs.CommandWords as command
 use Rattle.judy_model.specs.CommandWords.{KeyCommand, PairCommand}
-use Rattle.judy_model.specs.Commands.{Outcome, ◌>>=◌, word_at, added, inserted, overwritten, set_on_key, set_on_pair, words_on_key, words_on_pair, on_key, on_pair, freed_whole}
+use Rattle.judy_model.specs.Commands.{Outcome, added, inserted, overwritten, set_on_key, set_on_pair, words_on_key, words_on_pair, on_key, on_pair, freed_whole}
 use Rattle.judy_model.proofs.ChangesLemmas.{write-ins}
-use Rattle.judy_model.proofs.WordLemmas.{word_of-IsWord}
 use Rattle.judy_model.proofs.Inserts.{is_full_present}
 use Rattle.judy_model.proofs.ValuesLemmas.{All-values-empty, All-values-ins, All-values-del}
-use Rattle.judy_model.proofs.Outcomes.{chosen, found, followed}
+use Rattle.judy_model.proofs.Outcomes.{chosen, by_word}
 
 -- ---- the changes of a map
 
@@ -146,10 +143,6 @@ module _ {K : Type 0} {order : K → K → Ordering} (total : IsTotalOrder order
 -- a command of one array keeps its limit, and what every array keeps
 abbrev pub Keeps : ArrayValue → Outcome ArrayValue → Type 0
 Keeps array outcome = (limit_of outcome.after ≡ limit_of array) × (IsArray array → IsArray outcome.after)
-
-module _ (Q : Outcome ArrayValue → Type 0) where
-  by_word : (token : List ℕ) (rest : ℕ → Result (Outcome ArrayValue) Refusal) → ((word : ℕ) → IsWord word → IfOk (rest word) Q) → IfOk (word_at token >>= rest) Q
-  by_word token rest h = followed IsWord Q (word_at token) rest (found IsWord (word_of token) bad_word (word_of-IsWord token)) h
 
 module _ (set : ArrayOf word_order) where
   abbrev Q : Outcome ArrayValue → Type 0

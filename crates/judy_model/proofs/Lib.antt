@@ -23,3 +23,4 @@ pub mod ValuesLemmas
 pub mod Outcomes
 pub mod ArraysKept
 pub mod StoresKept
+pub mod ReadingLemmas

@@ -18,13 +18,13 @@ use Rattle.judy_model.specs.Kinds.{kind_named}
 use Rattle.judy_model.specs.Tokens.{is_name, name_of, tokens_of}
 use Rattle.judy_model.specs.Lines.{Line, lines_of, is_too_long, text_of}
 use Rattle.judy_model.specs.Stores.{Store, IsStore, IsRegular, array_named, with_array, with_new_array, without_array}
-use Rattle.judy_model.specs.Replies.{Reply, Refusal, bad_name, wrong_kind, no_such_array, bad_limit, exists, too_many_arrays, unknown_command}
+use Rattle.judy_model.specs.Replies.{Reply, Refusal, bad_name, wrong_kind, bad_limit, exists, too_many_arrays, unknown_command}
 use Rattle.judy_model.specs.CommandWords as command
 use Rattle.judy_model.specs.CommandWords.{Command, command_named}
-use Rattle.judy_model.specs.Commands.{Outcome, ◌>>=◌, provided, name_at, array_at, limit_at, made, at_name, on_key, on_pair, freed_whole, carried_out}
+use Rattle.judy_model.specs.Commands.{Outcome, provided, name_at, limit_at, made, at_name, on_key, on_pair, freed_whole, carried_out}
 use Rattle.judy_model.specs.Steps.{outcome_of_tokens, outcome_of, settled, Step}
 use Rattle.judy_model.specs.Runs.{Steps, Run, CutOff}
-use Rattle.judy_model.proofs.Outcomes.{chosen, found, followed, checked, anything, there}
+use Rattle.judy_model.proofs.Outcomes.{by_name, chosen, found, followed, checked, anything}
 use Rattle.judy_model.proofs.ArraysKept.{Keeps, empty-IsArrayOf, on_key-Keeps, on_pair-Keeps, freed_whole-Keeps}
 use Rattle.judy_model.proofs.ValuesLemmas.{All-values-empty}
 
@@ -171,14 +171,9 @@ module _ (P : Store → Type 0) (lasts : IsLasting P) where
         let array = makes limit (omega arith) (leb-true limit 4294967295 both.1) in
         lasts.with_new_array store name (empty limit) named new (ltb-true (length store) 64 room) array.0 array.1 is))))))
 
-    named_lasts : {A : Type 0} (R : A → Type 0) (token : List ℕ) (rest : List ℕ → ArrayValue → Result A Refusal) → ((name : List ℕ) (array : ArrayValue) → array_named store name ≡ Some array → IfOk (rest name array) R) → IfOk (name_at token >>= (λ name. array_at store name >>= rest name)) R
-    named_lasts R token rest each =
-        followed (λ _. ⊤) R (name_at token) _ (anything (name_at token)) (λ name _.
-        followed (λ array. array_named store name ≡ Some array) R (array_at store name) _ (found (λ array. array_named store name ≡ Some array) (array_named store name) no_such_array (there (array_named store name))) (each name))
-
     at_name_lasts : (token : List ℕ) (effect : ArrayValue → Result (Outcome ArrayValue) Refusal) → ((array : ArrayValue) → IfOk (effect array) (Keeps array)) → IfOk (at_name store token effect) Q
     at_name_lasts token effect keeps =
-        named_lasts Q token _ (λ name array here. followed (Keeps array) Q (effect array) _ (keeps array) (λ outcome kept. lasts.with_array store name array outcome.after here kept is))
+        by_name Q store token _ (λ name array here. followed (Keeps array) Q (effect array) _ (keeps array) (λ outcome kept. lasts.with_array store name array outcome.after here kept is))
 
     carried_out_lasts : (command : Command) (arguments : List (List ℕ)) → IfOk (carried_out store command arguments) Q
     carried_out_lasts command.make [] = tt
@@ -189,7 +184,7 @@ module _ (P : Store → Type 0) (lasts : IsLasting P) where
     carried_out_lasts command.list [] = is
     carried_out_lasts command.list (name ∷ rest) = tt
     carried_out_lasts command.drop [] = tt
-    carried_out_lasts command.drop (name ∷ []) = named_lasts Q name _ (λ name array here. lasts.without_array store name is)
+    carried_out_lasts command.drop (name ∷ []) = by_name Q store name _ (λ name array here. lasts.without_array store name is)
     carried_out_lasts command.drop (name ∷ more ∷ rest) = tt
     carried_out_lasts command.free [] = tt
     carried_out_lasts command.free (name ∷ []) = at_name_lasts name freed_whole freed_whole-Keeps
