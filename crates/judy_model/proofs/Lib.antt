@@ -20,3 +20,7 @@ pub mod Inserts
 pub mod Lent
 pub mod FullRunLemmas
 pub mod ValuesLemmas
+pub mod Outcomes
+pub mod ArraysKept
+pub mod StoresKept
+pub mod ReadingLemmas

@@ -1,5 +1,5 @@
 -- The commands, and the word of each. (The words are this project's own; most stand for calls of the manual.)
-use Rattle.std.specs.Prelude.{ℕ, if◌then◌else◌, List, codes, bytes_eq, Option, Some, None}
+use Rattle.std.specs.Prelude.{ℕ, Bool, true, false, if◌then◌else◌, List, codes, bytes_eq, Option, Some, None}
 
 -- On which side of a key its neighbour is sought, and whether the key itself counts.
 pub data Neighbour : Type 0 where
@@ -32,6 +32,18 @@ pub data Command : Type 0 where
   free : Command
   on_key : KeyCommand → Command
   on_pair : PairCommand → Command
+
+-- Whether a command only reads: it asks what a store or an array holds. Each other command may change what
+-- an array holds, or which arrays there are.
+abbrev pub only_reads : Command → Bool
+only_reads list = true
+only_reads (on_key test) = true
+only_reads (on_key get) = true
+only_reads (on_key (neighbour side)) = true
+only_reads (on_key (empty side)) = true
+only_reads (on_key by_count) = true
+only_reads (on_pair count) = true
+only_reads other = false
 
 -- The command that a word names.
 abbrev pub command_named : List ℕ → Option Command

@@ -7,4 +7,5 @@ pub mod empties;
 pub mod lines;
 pub mod neighbours;
 pub mod steps;
+pub mod stores;
 pub mod words;
