@@ -3,3 +3,4 @@ pub mod TokenLemmas
 pub mod StepsOfLines
 pub mod FeedLemmas
 pub mod ReadLemmas
+pub mod Listings

@@ -1,15 +1,14 @@
-use Rattle.std.proofs.Common.{◌≡◌, ◌+◌, ◌*◌, ◌-◌, ◌≤◌, ◌++◌, length, take}
-use Rattle.std.specs.Prelude.{flat_map, codes}
+use Rattle.std.proofs.Common.{◌≡◌, ◌+◌, ◌*◌, ◌-◌, ◌≤◌, ◌++◌, length}
+use Rattle.std.specs.Prelude.{codes}
 use Rattle.arrayvec.specs.ArrayVec.{array_vec_len}
-use Rattle.judy_model.specs.Replies.{listing_text}
-use Rattle.judy_shelf.specs.Shelves.{store_of}
+use Rattle.judy_script.proofs.Listings.{listed_of}
 use Rattle.judy_script.proofs.print.print_list.Given as goal
 
 -- the arrays before the place are printed, at most 61 bytes each
 abbrev pub invariant-arrays : goal.invariant-arrays
 invariant-arrays l = record {
   place : l.place ≤ length l.shelf;
-  items : l.text.items ≡ codes "names" ++ flat_map listing_text (store_of (take l.place l.shelf));
+  items : l.text.items ≡ codes "names" ++ listed_of l.place l.shelf;
   len : array_vec_len l.text ≤ 5 + 61 * l.place;
 }
 
