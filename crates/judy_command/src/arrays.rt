@@ -67,7 +67,13 @@ fn on_key(array: &mut Array, command: KeyCommand, key: &[u8]) -> Reply
 }
 
 /// A command that names a key and its value, or two keys.
-pub(crate) fn on_pair_at(shelf: &mut Shelf, name: &[u8], command: PairCommand, first: &[u8], second: &[u8]) -> Reply
+pub(crate) fn on_pair_at(
+    shelf: &mut Shelf,
+    name: &[u8],
+    command: PairCommand,
+    first: &[u8],
+    second: &[u8],
+) -> Reply
     ensures { let before = store_of shelf.old in
         Follows before (model.at_name before name.now (model.on_pair (pair_command_of command) first.now second.now)) (reply_of result) (store_of shelf.new) }
 {

@@ -53,7 +53,9 @@ fn carry_out(shelf: &mut Shelf, command: Command, arguments: &[&[u8]]) -> LineRe
         (Command::Drop, [name]) => drop_array(shelf, name),
         (Command::Free, [name]) => free_array(shelf, name),
         (Command::Key(command), [name, key]) => on_key_at(shelf, name, command, key),
-        (Command::Pair(command), [name, first, second]) => on_pair_at(shelf, name, command, first, second),
+        (Command::Pair(command), [name, first, second]) => on_pair_at(
+            shelf, name, command, first, second,
+        ),
         _ => Err(Refusal::ArgumentCount),
     })
 }

@@ -20,7 +20,10 @@ pub(crate) fn words_on_key(words: &mut JudyL, command: KeyCommand, token: &[u8])
     match command {
         KeyCommand::Get => Ok(number_or_nothing(words.get(word(token)?))),
         KeyCommand::Del => Ok(Answer::Flag(words.del(word(token)?))),
-        KeyCommand::Neighbour(side) => Ok(entry_or_nothing(words, neighbour(words, side, word(token)?))),
+        KeyCommand::Neighbour(side) => Ok(entry_or_nothing(
+            words,
+            neighbour(words, side, word(token)?),
+        )),
         KeyCommand::Empty(side) => Ok(number_or_nothing(empty(words, side, word(token)?))),
         KeyCommand::ByCount => Ok(entry_or_nothing(words, words.by_count(word(token)?))),
         KeyCommand::Set | KeyCommand::Unset | KeyCommand::Test => Err(Refusal::WrongKind),
@@ -28,7 +31,12 @@ pub(crate) fn words_on_key(words: &mut JudyL, command: KeyCommand, token: &[u8])
 }
 
 /// What a command of two words does to the array.
-pub(crate) fn words_on_pair(words: &mut JudyL, command: PairCommand, first: &[u8], second: &[u8]) -> Reply
+pub(crate) fn words_on_pair(
+    words: &mut JudyL,
+    command: PairCommand,
+    first: &[u8],
+    second: &[u8],
+) -> Reply
     ensures { Follows (judyl words.old) (model.words_on_pair (pair_command_of command) words.old first.now second.now) (reply_of result) (judyl words.new) }
 {
     match command {
@@ -71,10 +79,10 @@ fn overwrite(words: &mut JudyL, key: u64, value: u64) -> Answer
 fn entry_or_nothing(words: &JudyL, found: Option<u64>) -> Answer
     ensures { answer_of result ≡ model.entry_or_nothing words.now.map found }
 {
-    match found {
-        Some(key) => Answer::Entry(key, words.get(key).unwrap_or(0)),
-        None => Answer::Nothing,
-    }
+    let Some(key) = found else {
+        return Answer::Nothing;
+    };
+    Answer::Entry(key, words.get(key).unwrap_or(0))
 }
 
 fn neighbour(words: &JudyL, side: Neighbour, key: u64) -> Option<u64>

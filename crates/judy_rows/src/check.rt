@@ -16,6 +16,13 @@ pub fn check_answers<R: Abort>(rt: &R, shelf: &mut Shelf, script: &[u8], answers
     assert_eq!(rt; sink.bytes(), answers);
 }
 
+/// Runs the lines one by one over the shelf and compares each one's answer.
+pub fn check_lines<R: Abort>(rt: &R, shelf: &mut Shelf, table: &[(&[u8], &[u8])]) {
+    for (line, answer) in table {
+        check_answers(rt, shelf, line, answer);
+    }
+}
+
 /// Runs the script that a source gives, and compares how the run ends and what it writes.
 pub fn check_run<R: Abort>(
     rt: &R,

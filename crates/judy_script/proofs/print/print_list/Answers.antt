@@ -8,7 +8,7 @@ use Rattle.judy_script.proofs.print.print_list.Goals as goal
 pub arrays-preserved : goal.arrays-preserved
 arrays-preserved c =
     let next : listed_of (c.arrays.place + 1) c.args.shelf.now ≡ listed_of c.arrays.place c.args.shelf.now ++ listing_text (c.in-Some.name.now, value_of c.in-Some.array.now) =
-        listed_of-next c.args.shelf.now c.arrays.place c.in-Some.name.now c.in-Some.array.now c.in-Some.ensures.entry in
+    listed_of-next c.args.shelf.now c.arrays.place c.in-Some.name.now c.in-Some.array.now c.in-Some.ensures.entry in
     let within : c.arrays.place < length c.args.shelf.now = slice_get_within c.args.shelf.now c.arrays.place _ (sym c.in-Some.ensures.entry) in
     record {
       place = omega (arith, within);

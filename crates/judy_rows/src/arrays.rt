@@ -1,0 +1,175 @@
+//! Rows of arrays over words.
+
+use crate::check::{check_answers, check_lines};
+use judy_shelf::{Array, Kind, Name, Shelf};
+use std::process::Abort;
+
+#[test]
+fn edge_word(rt: HostRuntime) {
+    let mut shelf = Shelf::new(rt.alloc());
+    let table = [
+        (b"make a judy1".as_slice(), b"ok\n".as_slice()),
+        (b"set a 18446744073709551615", b"1\n"),
+        (b"next a 18446744073709551615", b"none\n"),
+        (b"ne a 18446744073709551615", b"none\n"),
+        (b"fe a 18446744073709551615", b"none\n"),
+        (b"le a 18446744073709551615", b"18446744073709551614\n"),
+        (b"first a 0", b"18446744073709551615\n"),
+        (b"prev a 0", b"none\n"),
+        (b"count a 0 18446744073709551615", b"1\n"),
+        (b"test a 18446744073709551616", b"error bad-word\n"),
+    ];
+    check_lines(&rt, &mut shelf, &table);
+}
+
+#[test]
+fn count_corners(rt: HostRuntime) {
+    let mut shelf = Shelf::new(rt.alloc());
+    let table = [
+        (b"make a judy1".as_slice(), b"ok\n".as_slice()),
+        (b"set a 3", b"1\n"),
+        (b"set a 5", b"1\n"),
+        (b"set a 9", b"1\n"),
+        (b"count a 9 3", b"0\n"),
+        (b"count a 3 9", b"3\n"),
+        (b"count a 4 8", b"1\n"),
+        (b"bycount a 0", b"none\n"),
+        (b"bycount a 3", b"9\n"),
+        (b"bycount a 4", b"none\n"),
+        (b"make l judyl", b"ok\n"),
+        (b"ins l 5 9", b"was 0\n"),
+        (b"first l 0", b"5 9\n"),
+        (b"bycount l 1", b"5 9\n"),
+    ];
+    check_lines(&rt, &mut shelf, &table);
+}
+
+// Puts the words from `from` on, below `to`, into the judy1 array `a`.
+fn fill<R: Abort>(rt: &R, shelf: &mut Shelf, from: u64, to: u64) {
+    let name = Name::new(b"a");
+    assert!(rt; name.is_some());
+    if let Some(name) = name
+        && let Some(Array::Judy1(set)) = shelf.get_mut(&name)
+    {
+        for word in from..to {
+            assert_eq!(rt; set.set(word), Ok(true));
+        }
+    }
+}
+
+#[test]
+fn full_ranges(rt: HostRuntime) {
+    let mut shelf = Shelf::new(rt.alloc());
+    check_answers(&rt, &mut shelf, b"make a judy1", b"ok\n");
+    fill(&rt, &mut shelf, 0, 256);
+    let table = [
+        (b"fe a 0".as_slice(), b"256\n".as_slice()),
+        (b"ne a 255", b"256\n"),
+        (b"le a 255", b"none\n"),
+        (b"pe a 256", b"none\n"),
+        (b"count a 10 20", b"11\n"),
+        (b"bycount a 256", b"255\n"),
+        (b"list", b"names a:judy1:256\n"),
+    ];
+    check_lines(&rt, &mut shelf, &table);
+    fill(&rt, &mut shelf, 256, 512);
+    check_answers(&rt, &mut shelf, b"fe a 0", b"512\n");
+}
+
+// Each command of a set and of an array of words, by what it answers before and after a change.
+#[test]
+fn every_command(rt: HostRuntime) {
+    let mut shelf = Shelf::new(rt.alloc());
+    let table = [
+        (b"make s judy1".as_slice(), b"ok\n".as_slice()),
+        (b"test s 7", b"0\n"),
+        (b"set s 7", b"1\n"),
+        (b"set s 7", b"0\n"),
+        (b"test s 7", b"1\n"),
+        (b"test s 6", b"0\n"),
+        (b"set s 9", b"1\n"),
+        (b"first s 7", b"7\n"),
+        (b"next s 7", b"9\n"),
+        (b"last s 9", b"9\n"),
+        (b"prev s 9", b"7\n"),
+        (b"fe s 7", b"8\n"),
+        (b"ne s 7", b"8\n"),
+        (b"le s 9", b"8\n"),
+        (b"pe s 7", b"6\n"),
+        (b"unset s 7", b"1\n"),
+        (b"unset s 7", b"0\n"),
+        (b"count s 0 100", b"1\n"),
+        (b"make l judyl", b"ok\n"),
+        (b"ins l 7 70", b"was 0\n"),
+        (b"ins l 9 90", b"was 0\n"),
+        (b"ins l 7 71", b"was 70\n"),
+        (b"get l 7", b"71\n"),
+        (b"get l 8", b"none\n"),
+        (b"put l 9 91", b"was 90\n"),
+        (b"first l 8", b"9 91\n"),
+        (b"next l 7", b"9 91\n"),
+        (b"last l 8", b"7 71\n"),
+        (b"prev l 9", b"7 71\n"),
+        (b"prev l 7", b"none\n"),
+        (b"fe l 7", b"8\n"),
+        (b"ne l 8", b"10\n"),
+        (b"le l 7", b"6\n"),
+        (b"pe l 9", b"8\n"),
+        (b"count l 7 9", b"2\n"),
+        (b"bycount l 2", b"9 91\n"),
+        (b"del l 7", b"1\n"),
+        (b"del l 7", b"0\n"),
+        (b"get l 7", b"none\n"),
+        (b"list", b"names s:judy1:1 l:judyl:1\n"),
+        (b"free s", b"freed 1\n"),
+        (b"list", b"names s:judy1:0 l:judyl:1\n"),
+        (b"drop s", b"freed 0\n"),
+        (b"drop l", b"freed 1\n"),
+        (b"list", b"names\n"),
+    ];
+    check_lines(&rt, &mut shelf, &table);
+}
+
+#[test]
+fn listing(rt: HostRuntime) {
+    let mut shelf = Shelf::new(rt.alloc());
+    let table = [
+        (b"list".as_slice(), b"names\n".as_slice()),
+        (b"make a judyl", b"ok\n"),
+        (b"make b judyl", b"ok\n"),
+        (b"drop a", b"freed 0\n"),
+        (b"make a judy1", b"ok\n"),
+        (b"list", b"names b:judyl:0 a:judy1:0\n"),
+    ];
+    check_lines(&rt, &mut shelf, &table);
+    // 62 more arrays are 64.
+    for first in b'c'..=b'z' {
+        make(&rt, &mut shelf, &[first]);
+    }
+    for first in b'A'..=b'Z' {
+        make(&rt, &mut shelf, &[first]);
+    }
+    for first in b'0'..=b'9' {
+        make(&rt, &mut shelf, &[first]);
+    }
+    make(&rt, &mut shelf, b"-");
+    make(&rt, &mut shelf, b"_");
+    assert_eq!(rt; shelf.len(), 64);
+    let table = [
+        (
+            b"make new judyl".as_slice(),
+            b"error too-many-arrays\n".as_slice(),
+        ),
+        (b"make a judyl", b"error exists\n"),
+    ];
+    check_lines(&rt, &mut shelf, &table);
+}
+
+fn make<R: Abort>(rt: &R, shelf: &mut Shelf, name: &[u8]) {
+    let name = Name::new(name);
+    assert!(rt; name.is_some());
+    if let Some(name) = name {
+        let made = shelf.make(name, Kind::JudyL, 1);
+        assert!(rt; made.is_ok());
+    }
+}
