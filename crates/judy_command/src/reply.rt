@@ -4,6 +4,8 @@ ghost use Rattle.std.specs.Prelude.{◌≡◌};
 ghost use Rattle.judy_model.specs.Replies.{refusal_word};
 ghost use Rattle.judy_command.specs.Replies.{refusal_of};
 
+use thiserror::Error;
+
 /// The answer of a command that isn't refused. (This project's own script.)
 #[derive(Clone, Copy, Debug, PartialEq, Eq)]
 pub enum Answer {
@@ -24,31 +26,43 @@ pub enum Answer {
 }
 
 /// Why a line is refused. Of several that apply, the first in this order is the answer. (This project's own.)
-#[derive(Clone, Copy, Debug, PartialEq, Eq)]
+#[derive(Clone, Copy, Debug, PartialEq, Eq, Error)]
 pub enum Refusal {
     /// The line has more than 4,096 bytes.
+    #[error("the line is too long")]
     LineTooLong,
     /// The first token names no command.
+    #[error("unknown command")]
     UnknownCommand,
     /// The command takes another number of arguments.
+    #[error("wrong number of arguments")]
     ArgumentCount,
     /// The name is none: 1 to 32 ASCII letters, digits, `_` or `-`.
+    #[error("not a name")]
     BadName,
     /// No array has the name.
+    #[error("no such array")]
     NoSuchArray,
     /// The array's kind doesn't have the command; or, for `make`, the word names no kind.
+    #[error("wrong kind")]
     WrongKind,
     /// A token is no decimal number below 2^64.
+    #[error("not a word")]
     BadWord,
     /// The limit isn't 1 to 4,294,967,295.
+    #[error("bad limit")]
     BadLimit,
     /// An array has the name.
+    #[error("the name is taken")]
     Exists,
     /// 64 arrays stand.
+    #[error("too many arrays")]
     TooManyArrays,
     /// The key is absent, and the array holds as many keys as its limit.
+    #[error("the array is full")]
     Full,
     /// There is no memory for what the line adds.
+    #[error("out of memory")]
     NoMemory,
 }
 
