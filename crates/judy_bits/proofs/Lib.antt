@@ -1,0 +1,4 @@
+pub mod Ranges
+pub mod BitLemmas
+pub mod Halvings
+pub mod MemberLemmas

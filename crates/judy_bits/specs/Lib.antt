@@ -1,0 +1,2 @@
+pub mod ByteSets
+pub mod BitWords

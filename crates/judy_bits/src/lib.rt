@@ -1,0 +1,9 @@
+//! Bytes of words, sets of bytes, skipped bytes and the meter of visits: the small tools of the tree.
+#![tactic(auto)]
+
+mod bits;
+mod bits256;
+mod word;
+
+pub use bits256::Bits256;
+pub use word::byte_of;
