@@ -1,2 +1,3 @@
 pub mod ByteSets
 pub mod BitWords
+pub mod Paddings

@@ -3,7 +3,11 @@
 
 mod bits;
 mod bits256;
+mod meter;
+mod skip;
 mod word;
 
 pub use bits256::Bits256;
+pub use meter::Meter;
+pub use skip::Skip;
 pub use word::byte_of;
