@@ -2,7 +2,7 @@
 use Rattle.std.specs.Prelude.{ℕ, ◌==◌, not, Bool, if◌then◌else◌, List, ◌∷◌, ◌++◌, length, filter, Option, Some, None, slice_get}
 use Rattle.std.specs.List.{list_any}
 use Rattle.std.specs.List.Sorted.{IsStrictlySortedBy}
-use Rattle.std.specs.Ordering.{is_lt, is_gt}
+use Rattle.std.specs.Ordering.{is_lt, is_le, is_gt}
 use Rattle.judy_model.specs.Keys.{IsByteString, word_order}
 use Rattle.judy_model.specs.Neighbours.{first_of, last_of}
 
@@ -18,6 +18,10 @@ has members byte = list_any (λ member. member == byte) members
 -- How many members are below the byte.
 abbrev pub rank : List ℕ → ℕ → ℕ
 rank members byte = length (filter (λ member. is_lt (word_order member byte)) members)
+
+-- How many members are at or below the byte.
+abbrev pub count_up_to : List ℕ → ℕ → ℕ
+count_up_to members byte = length (filter (λ member. is_le (word_order member byte)) members)
 
 -- The place of a member, which is its rank; none where the byte isn't a member.
 abbrev pub place : List ℕ → ℕ → Option ℕ

@@ -3,11 +3,13 @@
 
 mod bits;
 mod bits256;
+mod few_bytes;
 mod meter;
 mod skip;
 mod word;
 
 pub use bits256::Bits256;
+pub use few_bytes::FewBytes;
 pub use meter::Meter;
 pub use skip::Skip;
 pub use word::byte_of;
