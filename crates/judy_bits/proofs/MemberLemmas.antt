@@ -7,6 +7,9 @@ use Rattle.std.proofs.Math.Nat.{min-eq_left, min-eq_right}
 use Rattle.std.proofs.lemmas.Bool.{cases_lt, cases_order}
 use Rattle.std.proofs.lemmas.List.{length-append, get_or-set_same, get_or-set_other}
 use Rattle.std.proofs.lemmas.Nat.Bits.{bit_at_set_same, bit_at_set_other, bit_at_clear_same, bit_at_clear_other, bit_at-zero}
+use Rattle.std.specs.List.{range_with_len}
+use Rattle.std.proofs.lemmas.List.FromFn.{length-range_with_len}
+use Rattle.judy_model.proofs.Places.{length-filter-le}
 use Rattle.judy_bits.specs.ByteSets.{IsByteSet, has, rank, nth, next_from, prev_from, with_byte, without_byte}
 use Rattle.std.proofs.lemmas.Option.{slice_get_past}
 use Rattle.judy_bits.specs.BitWords.{is_set, members_of, IsSelected, IsLowestFrom, NoneFrom, IsHighestBelow, NoneBelow}
@@ -61,6 +64,11 @@ module _ (words : List ℕ) where
       ≡ ones (slice_index words 0 % 2 ^ min 64 (byte - 0)) + ones (slice_index words 1 % 2 ^ min 64 (byte - 64)) + ones (slice_index words 2 % 2 ^ min 64 (byte - 128)) + ones (slice_index words 3 % 2 ^ min 64 (byte - 192))
   unfolding members_of
   rank-members_of byte within = rank-chosen (is_set words) 256 byte (omega arith) ∙ length-chosen_four byte (omega arith)
+
+  -- There are at most 256 members.
+  pub length-members_of-le : length (members_of words) ≤ 256
+  unfolding members_of
+  length-members_of-le = let kept = length-filter-le (is_set words) (range_with_len 0 256) in let long = length-range_with_len 0 256 in omega arith
 
   pub members_of-IsByteSet : IsByteSet (members_of words)
   unfolding members_of

@@ -6,12 +6,13 @@ use Rattle.std.specs.Cmp.{nat_cmp_total}
 use Rattle.std.proofs.lemmas.Bool.{false_from_ne_true, cases_order, cases_lt, eqb-true, eq-eqb}
 use Rattle.std.proofs.lemmas.List.{append-nil, length-append}
 use Rattle.std.proofs.lemmas.List.Elements.{All-filter, All-cons, All-append}
+use Rattle.std.proofs.lemmas.List.Edits.{length-insert, length-remove}
 use Rattle.std.proofs.lemmas.Option.{same_Some, slice_get_within}
 use Rattle.judy_model.specs.Keys.{word_order}
 use Rattle.judy_model.proofs.Orders.{not_both, ge_is_not_lt}
 use Rattle.judy_model.proofs.WordOrder.{less_word, lt_word, lt_from_word, is_lt_word, is_gt_word, is_ge_word, is_le_word}
 use Rattle.judy_model.proofs.Ascending.{Among, all_among, all_from_among, place_among, Among-slice_get, among_from_filter, ascending-filter}
-use Rattle.judy_model.proofs.Places.{filter_none, below_at_place, up_to_place, find_at_count, find_before_count, before_place, before_place-suc, lt-IsDownward, le-IsDownward}
+use Rattle.judy_model.proofs.Places.{length-filter-le, filter_none, below_at_place, up_to_place, find_at_count, find_before_count, before_place, before_place-suc, lt-IsDownward, le-IsDownward}
 use Rattle.judy_bits.specs.ByteSets.{IsByteSet, has, rank, place, nth, next_from, prev_from, with_byte, without_byte}
 
 -- ---- the tests
@@ -150,6 +151,15 @@ with_other (x ∷ xs) byte ascending absent =
             apart)
         (cases_order x byte)
 
+-- The first members with the next one are the first, one more.
+pub with_next : (xs : List ℕ) (at byte : ℕ) → IsStrictlySortedBy word_order xs → slice_get xs at ≡ Some byte → with_byte (take at xs) byte ≡ take (suc at) xs
+unfolding IsStrictlySortedBy
+with_next [] at byte ascending is = cc
+with_next (x ∷ xs) zero byte ascending is = ap (λ first. first ∷ []) (sym (same_Some x byte is))
+with_next (x ∷ xs) (suc at) byte ascending is =
+    let less = all_among (λ y. x < y) xs byte (later_above x xs ascending.0) (Among-slice_get xs at byte is) in
+    with_below x byte (take at xs) less ∙ ap (λ rest. x ∷ rest) (with_next xs at byte ascending.1 is)
+
 -- To take out what isn't there changes nothing.
 pub without_other : (xs : List ℕ) (byte : ℕ) → has xs byte ≡ false → without_byte xs byte ≡ xs
 without_other xs byte absent = filter_all (λ member. not (member == byte)) xs (all_weaker (λ x. x ≢ byte) (λ x. not (x == byte) ≡ true) (λ x apart. ap not (ne_eqb x byte apart)) xs (not_among xs byte absent))
@@ -212,3 +222,31 @@ without_byte-IsByteSet xs byte is = record {
 pub empty-IsByteSet : IsByteSet []
 unfolding IsStrictlySortedBy
 empty-IsByteSet = record { ascending = tt; bytes = λ k d inside. let never : ⊥ = omega arith in absurd never }
+
+-- ---- how many they are
+
+-- A byte put in is one more where it wasn't there.
+pub length-with_byte : (xs : List ℕ) (byte : ℕ) → IsStrictlySortedBy word_order xs → length (with_byte xs byte) ≡ cond (has xs byte) (length xs) (length xs + 1)
+length-with_byte xs byte ascending = elim (has xs byte) as (λ b. has xs byte ≡ b → length (with_byte xs byte) ≡ cond b (length xs) (length xs + 1)) [
+  | true ↦ λ held. ap length (with_member xs byte ascending held)
+  | false ↦ λ absent. ap length (with_other xs byte ascending absent) ∙ length-insert xs (rank xs byte) byte (length-filter-le (λ member. is_lt (word_order member byte)) xs)
+] refl
+
+-- A byte taken out is one less where it was there.
+pub length-without_byte : (xs : List ℕ) (byte : ℕ) → IsStrictlySortedBy word_order xs → length (without_byte xs byte) ≡ cond (has xs byte) (length xs - 1) (length xs)
+length-without_byte xs byte ascending = elim (has xs byte) as (λ b. has xs byte ≡ b → length (without_byte xs byte) ≡ cond b (length xs - 1) (length xs)) [
+  | true ↦ λ held.
+      let there = slice_get-rank xs ascending byte held in
+      let fewer = length-remove xs (rank xs byte) (slice_get_within xs (rank xs byte) byte there) in
+      ap length (without_at xs (rank xs byte) byte ascending there) ∙ omega arith
+  | false ↦ λ absent. ap length (without_other xs byte absent)
+] refl
+
+pub length-with_byte-le : (xs : List ℕ) (byte : ℕ) → IsStrictlySortedBy word_order xs → length (with_byte xs byte) ≤ length xs + 1
+length-with_byte-le xs byte ascending =
+    let long = length-with_byte xs byte ascending in
+    let most : cond (has xs byte) (length xs) (length xs + 1) ≤ length xs + 1 = elim (has xs byte) as (λ b. cond b (length xs) (length xs + 1) ≤ length xs + 1) [ true ↦ omega arith | false ↦ omega arith ] in
+    omega arith
+
+pub length-without_byte-le : (xs : List ℕ) (byte : ℕ) → length (without_byte xs byte) ≤ length xs
+length-without_byte-le xs byte = length-filter-le (λ member. not (member == byte)) xs

@@ -1,6 +1,6 @@
 //! A set of bytes as 256 bits in four words.
 
-ghost use Rattle.std.specs.Prelude.{◌≡◌, ℕ, ◌-◌, ◌%◌, ◌^◌, min, count_ones, List, [], length};
+ghost use Rattle.std.specs.Prelude.{◌≡◌, ℕ, ◌-◌, ◌%◌, ◌^◌, ◌≤◌, min, count_ones, List, [], length};
 ghost use Rattle.judy_bits.specs.ByteSets as set;
 ghost use Rattle.judy_bits.specs.ByteSets.{IsByteSet};
 ghost use Rattle.judy_bits.specs.BitWords.{members_of};
@@ -66,6 +66,7 @@ impl Bits256 {
     /// How many members there are.
     pub fn len(&self) -> usize
         ensures count { result ≡ length self.now }
+        ensures within { result ≤ 256 }
         ensures is_set { IsByteSet self.now }
     {
         let [first, second, third, fourth] = self.words;

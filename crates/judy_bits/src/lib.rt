@@ -3,13 +3,17 @@
 
 mod bits;
 mod bits256;
+mod byte_set;
 mod few_bytes;
+mod form;
 mod meter;
 mod skip;
 mod word;
 
 pub use bits256::Bits256;
+pub use byte_set::ByteSet;
 pub use few_bytes::FewBytes;
+pub use form::Form;
 pub use meter::Meter;
 pub use skip::Skip;
 pub use word::byte_of;
