@@ -8,11 +8,12 @@ mod few_bytes;
 mod form;
 mod meter;
 mod skip;
+#[cfg(test)]
+mod tests;
 mod word;
 
 pub use bits256::Bits256;
 pub use byte_set::ByteSet;
-pub use few_bytes::FewBytes;
 pub use form::Form;
 pub use meter::Meter;
 pub use skip::Skip;
