@@ -30,9 +30,9 @@ length-chosen_bits word (suc count) =
     let on : suc count ≡ count + 1 = omega arith in
     let one : 1 + count ≡ suc count = omega arith in
     let last : length (chosen p (0 + count) 1) ≡ ones (bit_at word count) =
-        ap (λ at. length (chosen p at 1)) (let e : 0 + count ≡ count = omega arith in e)
-        ∙ elim (p count) as (λ b. length (cond b (count ∷ []) []) ≡ cond b 1 0) [ true ↦ refl | false ↦ refl ]
-        ∙ sym (ones_bit (bit_at word count) (bit_at-lt word count)) in
+    ap (λ at. length (chosen p at 1)) (let e : 0 + count ≡ count = omega arith in e)
+    ∙ elim (p count) as (λ b. length (cond b (count ∷ []) []) ≡ cond b 1 0) [ true ↦ refl | false ↦ refl ]
+    ∙ sym (ones_bit (bit_at word count) (bit_at-lt word count)) in
     ap (λ n. length (chosen p 0 n)) on ∙ ap length (chosen_split p 0 count 1) ∙ length-append (chosen p 0 count) (chosen p (0 + count) 1)
     ∙ (λ t. length-chosen_bits word count t + last t)
     ∙ (let turned : ones (word % 2 ^ count) + ones (bit_at word count) ≡ ones (bit_at word count) + ones (word % 2 ^ count) = omega arith in turned)
@@ -78,9 +78,9 @@ module _ (word count : ℕ) (within : count ≤ 64) (fits : word < 2 ^ 64) where
       let place = trailing_zeros w64 rest in
       let inside : place < 64 = found.0 in
       let above : count ≤ place = ⊎_elim
-          (λ below. let none = masked_high_below place below inside in let one = found.1 in absurd (let no_way : ⊥ = omega arith in no_way))
-          (λ above. above)
-          (cases_lt place count) in
+      (λ below. let none = masked_high_below place below inside in let one = found.1 in absurd (let no_way : ⊥ = omega arith in no_way))
+      (λ above. above)
+      (cases_lt place count) in
       record {
         inside = inside;
         not_before = above;
@@ -100,9 +100,9 @@ module _ (word count : ℕ) (within : count ≤ 64) (fits : word < 2 ^ 64) where
       let is : 63 - leading_zeros w64 rest ≡ place = let sum = top.1 in omega arith in
       let one : bit_at rest place ≡ 1 = top_bit rest place top.2 top.3 in
       let inside : place < count = ⊎_elim
-          (λ below. below)
-          (λ above. let none = masked_low_above place above in absurd (let no_way : ⊥ = omega arith in no_way))
-          (cases_lt place count) in
+      (λ below. below)
+      (λ above. let none = masked_low_above place above in absurd (let no_way : ⊥ = omega arith in no_way))
+      (cases_lt place count) in
       subst (λ at. IsHighestBelow word count at) (sym is) (record {
         inside = inside;
         one = sym (masked_low place inside) ∙ one;
@@ -135,7 +135,7 @@ length-chosen_moved p q from to zero agree = refl
 length-chosen_moved p q from to (suc count) agree =
     let start : p from ≡ q to = ap p (let e : from ≡ from + 0 = omega arith in e) ∙ agree 0 (omega arith) ∙ ap q (let e : to + 0 ≡ to = omega arith in e) in
     let rest = length-chosen_moved p q (from + 1) (to + 1) count (λ at below.
-        ap p (let e : from + 1 + at ≡ from + suc at = omega arith in e) ∙ agree (suc at) (omega arith) ∙ ap q (let e : to + suc at ≡ to + 1 + at = omega arith in e)) in
+    ap p (let e : from + 1 + at ≡ from + suc at = omega arith in e) ∙ agree (suc at) (omega arith) ∙ ap q (let e : to + suc at ≡ to + 1 + at = omega arith in e)) in
     counted (p from) from (chosen p (from + 1) count) ∙ (λ t. cond (start t) 1 0 + rest t) ∙ sym (counted (q to) to (chosen q (to + 1) count))
   where
     counted : (b : Bool) (x : ℕ) (xs : List ℕ) → length (cond b (x ∷ xs) xs) ≡ cond b 1 0 + length xs
@@ -146,7 +146,7 @@ length-chosen_moved p q from to (suc count) agree =
 pub length-chosen_word : (words : List ℕ) (word count : ℕ) → count ≤ 64 → length (chosen (is_set words) (64 * word) count) ≡ ones (slice_index words word % 2 ^ count)
 length-chosen_word words word count within =
     length-chosen_moved (is_set words) (λ at. bit_at (slice_index words word) at == 1) (64 * word) 0 count
-        (λ at below. is_set-word words word at (omega arith) ∙ ap (λ n. bit_at (slice_index words word) n == 1) (let e : at ≡ 0 + at = omega arith in e))
+    (λ at below. is_set-word words word at (omega arith) ∙ ap (λ n. bit_at (slice_index words word) n == 1) (let e : at ≡ 0 + at = omega arith in e))
     ∙ length-chosen_bits (slice_index words word) count
 
 -- How many are below a place in a word.

@@ -79,8 +79,8 @@ module _ (array : List ℕ) (count : ℕ) (padded : IsPadded 255 array count) (i
       let parts = is_new ∙ opened 255 array count at padded byte room within in
       let size = length-opened 255 array count at padded byte within in
       let value : take (count + 1) new ≡ with_byte (take count array) byte =
-          ap (take (count + 1)) parts ∙ take-from 255 (insert (take count array) at byte) (count + 1) size
-          ∙ ap (λ n. insert (take count array) n byte) ranked ∙ sym (with_other (take count array) byte is.ascending absent) in
+      ap (take (count + 1)) parts ∙ take-from 255 (insert (take count array) at byte) (count + 1) size
+      ∙ ap (λ n. insert (take count array) n byte) ranked ∙ sym (with_other (take count array) byte is.ascending absent) in
       (value, (subst (λ l. IsPadded 255 l (count + 1)) (sym parts) (IsPadded-from 255 (insert (take count array) at byte) (count + 1) size (omega arith)), subst IsByteSet (sym value) (with_byte-IsByteSet (take count array) byte is small)))
 
   -- A byte less.
@@ -91,7 +91,7 @@ module _ (array : List ℕ) (count : ℕ) (padded : IsPadded 255 array count) (i
       let parts = is_new ∙ closed 255 array count at padded inside in
       let size = length-closed 255 array count at padded inside in
       let value : take (count - 1) new ≡ without_byte (take count array) byte =
-          ap (take (count - 1)) parts ∙ take-from 255 (remove (take count array) at) (count - 1) size ∙ sym (without_at (take count array) at byte is.ascending there) in
+      ap (take (count - 1)) parts ∙ take-from 255 (remove (take count array) at) (count - 1) size ∙ sym (without_at (take count array) at byte is.ascending there) in
       (value, (subst (λ l. IsPadded 255 l (count - 1)) (sym parts) (IsPadded-from 255 (remove (take count array) at) (count - 1) size (let h = padded.within in omega arith)), subst IsByteSet (sym value) (without_byte-IsByteSet (take count array) byte is)))
 
 -- What a place says.

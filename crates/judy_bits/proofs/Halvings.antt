@@ -56,9 +56,9 @@ module _ (word index part left place width half : ℕ) (halving : IsHalving word
       let both : ones part ≡ ones (part / 2 ^ half) + ones (part % 2 ^ half) = ap ones (sym (div-add-mod' part (2 ^ half))) ∙ ones_cat half (part / 2 ^ half) (part % 2 ^ half) small in
       let turned : place + half ≡ half + place = omega arith in
       let passed : ones (word % 2 ^ (place + half)) ≡ ones (part % 2 ^ half) + ones (word % 2 ^ place) =
-          ap (λ n. ones (word % 2 ^ n)) turned ∙ ap ones (mod-pow-add word half place)
-          ∙ ones_cat place (word / 2 ^ place % 2 ^ half) (word % 2 ^ place) (mod_below word (2 ^ place) (pow_pos place))
-          ∙ ap (λ n. ones n + ones (word % 2 ^ place)) (sym rest_is) in
+      ap (λ n. ones (word % 2 ^ n)) turned ∙ ap ones (mod-pow-add word half place)
+      ∙ ones_cat place (word / 2 ^ place % 2 ^ half) (word % 2 ^ place) (mod_below word (2 ^ place) (pow_pos place))
+      ∙ ap (λ n. ones n + ones (word % 2 ^ place)) (sym rest_is) in
       let holds = halving.holds in
       let below = halving.below in
       record {

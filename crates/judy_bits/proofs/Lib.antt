@@ -5,3 +5,4 @@ pub mod MemberLemmas
 pub mod SetLemmas
 pub mod PaddingLemmas
 pub mod FewLemmas
+pub mod SetLaws

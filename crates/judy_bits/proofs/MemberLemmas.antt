@@ -1,5 +1,5 @@
 -- What the calls on four words answer of the set that they are.
-use Rattle.std.proofs.Common.{◌≡◌, ◌≢◌, ℕ, zero, suc, ◌+◌, ◌-◌, ◌*◌, ◌/◌, ◌%◌, ◌^◌, ◌<◌, ◌≤◌, ◌==◌, min, Bool, true, false, cond, List, [], ◌∷◌, ◌++◌, length, slice_index, get_or, Some, None, sym, refl, ap, ◌∙◌, subst, arith, inl, inr, ⊎_elim, count_ones, bit_and, bit_or}
+use Rattle.std.proofs.Common.{◌≡◌, ◌≢◌, ℕ, zero, suc, ◌+◌, ◌-◌, ◌*◌, ◌/◌, ◌%◌, ◌^◌, ◌<◌, ◌≤◌, ◌==◌, min, Bool, true, false, cond, nat_lt, List, [], ◌∷◌, ◌++◌, length, slice_index, get_or, Some, None, sym, refl, ap, ◌∙◌, subst, arith, inl, inr, ⊎_elim, count_ones, bit_and, bit_or}
 use Rattle.std.specs.Int.{w64, bit_at, bit_not}
 use Rattle.std.specs.Int.Count.{ones}
 use Rattle.std.proofs.Math.ListN.{set}
@@ -16,54 +16,46 @@ use Rattle.judy_bits.specs.BitWords.{is_set, members_of, IsSelected, IsLowestFro
 use Rattle.judy_bits.proofs.Ranges.{chosen, chosen_split, chosen_none, chosen_with, chosen_without, chosen-IsByteSet, has-chosen, rank-chosen, nth-chosen, next_from-chosen, next_from-chosen_none, prev_from-chosen, prev_from-chosen_none}
 use Rattle.judy_bits.proofs.BitLemmas.{ones_word, length-chosen_word, length-chosen_to, set_from_bit, unset_from_bit}
 
--- ---- how many, in four parts
-
-cut_part : (p : ℕ → Bool) (from limit : ℕ) → length (chosen p from (limit - from)) ≡ length (chosen p from (min 64 (limit - from))) + length (chosen p (from + 64) (limit - (from + 64)))
-cut_part p from limit = ⊎_elim
-    (λ whole.
-        let split : limit - from ≡ 64 + (limit - (from + 64)) = omega arith in
-        let least : 64 ≡ min 64 (limit - from) = omega arith in
-        ap (λ n. length (chosen p from n)) split ∙ ap length (chosen_split p from 64 (limit - (from + 64)))
-        ∙ length-append (chosen p from 64) (chosen p (from + 64) (limit - (from + 64)))
-        ∙ ap (λ n. length (chosen p from n) + length (chosen p (from + 64) (limit - (from + 64)))) least)
-    (λ part.
-        let least : limit - from ≡ min 64 (limit - from) = omega arith in
-        let none : 0 ≡ limit - (from + 64) = omega arith in
-        (let more : length (chosen p from (limit - from)) ≡ length (chosen p from (limit - from)) + 0 = omega arith in more)
-        ∙ (λ t. length (chosen p from (least t)) + length (chosen p (from + 64) (none t))))
-    (cases_lt 64 (limit - from))
+-- ---- how many, word by word
 
 module _ (words : List ℕ) where
-  -- How many bits of a word are for bytes below a limit.
-  part_ones : (word limit : ℕ) → length (chosen (is_set words) (64 * word) (min 64 (limit - 64 * word))) ≡ ones (slice_index words word % 2 ^ min 64 (limit - 64 * word))
-  part_ones word limit = length-chosen_word words word (min 64 (limit - 64 * word)) (omega arith)
+  -- How many bits are 1 in so many words, from the first on.
+  in_words : ℕ → ℕ
+  in_words zero = 0
+  in_words (suc word) = in_words word + ones (slice_index words word % 2 ^ 64)
 
-  -- How many are chosen below a limit, by the four words.
-  pub length-chosen_four : (limit : ℕ) → limit ≤ 256 → length (chosen (is_set words) 0 limit)
-      ≡ ones (slice_index words 0 % 2 ^ min 64 (limit - 0)) + ones (slice_index words 1 % 2 ^ min 64 (limit - 64)) + ones (slice_index words 2 % 2 ^ min 64 (limit - 128)) + ones (slice_index words 3 % 2 ^ min 64 (limit - 192))
-  length-chosen_four limit within =
-      let p = is_set words in
-      let whole : limit ≡ limit - 0 = omega arith in
-      let none : 0 ≡ limit - 256 = omega arith in
-      let one = cut_part p 0 limit in
-      let two = cut_part p 64 limit in
-      let three = cut_part p 128 limit in
-      let four = cut_part p 192 limit in
-      let last : length (chosen p 256 (limit - 256)) ≡ 0 = ap (λ n. length (chosen p 256 n)) (sym none) in
-      let a = part_ones 0 limit in
-      let b = part_ones 1 limit in
-      let c = part_ones 2 limit in
-      let d = part_ones 3 limit in
-      ap (λ n. length (chosen p 0 n)) whole ∙ omega arith
+  length-chosen_words : (word : ℕ) → length (chosen (is_set words) 0 (64 * word)) ≡ in_words word
+  unfolding in_words
+  length-chosen_words zero = refl
+  length-chosen_words (suc word) =
+      let next : 64 * suc word ≡ 64 * word + 64 = omega arith in
+      ap (λ n. length (chosen (is_set words) 0 n)) next ∙ length-chosen_to words word 64 (omega arith) ∙ ap (λ n. n + ones (slice_index words word % 2 ^ 64)) (length-chosen_words word)
+
+  -- Those in the words below one, each word where it is below.
+  words_below : (word : ℕ) → word < 4 → in_words word
+      ≡ cond (nat_lt 0 word) (ones (slice_index words 0 % 2 ^ 64)) 0 + cond (nat_lt 1 word) (ones (slice_index words 1 % 2 ^ 64)) 0 + cond (nat_lt 2 word) (ones (slice_index words 2 % 2 ^ 64)) 0
+  unfolding in_words
+  words_below zero within = omega arith
+  words_below (suc zero) within = omega arith
+  words_below (suc (suc zero)) within = omega arith
+  words_below (suc (suc (suc zero))) within = omega arith
+  words_below (suc (suc (suc (suc word)))) within = let never : ⊥ = omega arith in absurd never
 
   pub length-members_of : length (members_of words) ≡ ones (slice_index words 0 % 2 ^ 64) + ones (slice_index words 1 % 2 ^ 64) + ones (slice_index words 2 % 2 ^ 64) + ones (slice_index words 3 % 2 ^ 64)
-  unfolding members_of
-  length-members_of = length-chosen_four 256 (omega arith)
+  unfolding members_of in_words
+  length-members_of = length-chosen_words 4 ∙ omega arith
 
+  -- The rank of a byte: the whole words below its own, and the bits below its own.
   pub rank-members_of : (byte : ℕ) → byte < 256 → rank (members_of words) byte
-      ≡ ones (slice_index words 0 % 2 ^ min 64 (byte - 0)) + ones (slice_index words 1 % 2 ^ min 64 (byte - 64)) + ones (slice_index words 2 % 2 ^ min 64 (byte - 128)) + ones (slice_index words 3 % 2 ^ min 64 (byte - 192))
+      ≡ cond (nat_lt 0 (byte / 64)) (ones (slice_index words 0 % 2 ^ 64)) 0 + cond (nat_lt 1 (byte / 64)) (ones (slice_index words 1 % 2 ^ 64)) 0 + cond (nat_lt 2 (byte / 64)) (ones (slice_index words 2 % 2 ^ 64)) 0
+      + ones (slice_index words (byte / 64) % 2 ^ (byte % 64))
   unfolding members_of
-  rank-members_of byte within = rank-chosen (is_set words) 256 byte (omega arith) ∙ length-chosen_four byte (omega arith)
+  rank-members_of byte within =
+      let place : byte ≡ 64 * (byte / 64) + byte % 64 = omega arith in
+      rank-chosen (is_set words) 256 byte (omega arith)
+      ∙ ap (λ n. length (chosen (is_set words) 0 n)) place
+      ∙ length-chosen_to words (byte / 64) (byte % 64) (omega arith)
+      ∙ ap (λ n. n + ones (slice_index words (byte / 64) % 2 ^ (byte % 64))) (length-chosen_words (byte / 64) ∙ words_below (byte / 64) (omega arith))
 
   -- There are at most 256 members.
   pub length-members_of-le : length (members_of words) ≤ 256
@@ -84,11 +76,11 @@ module _ (words : List ℕ) where
       → is_set (set words word value) at ≡ is_set words at
   set_other word place value at inside apart within others = ⊎_elim
       (λ same.
-          let elsewhere : at % 64 ≢ place = λ e. apart (omega arith) in
-          (λ t. bit_at (get_or (set words word value) (same t) 0) (at % 64) == 1)
-          ∙ ap (λ n. bit_at n (at % 64) == 1) (get_or-set_same words word value 0 within)
-          ∙ ap (λ bit. bit == 1) (others (at % 64) (omega arith) elsewhere)
-          ∙ (λ t. bit_at (get_or words (sym same t) 0) (at % 64) == 1))
+      let elsewhere : at % 64 ≢ place = λ e. apart (omega arith) in
+      (λ t. bit_at (get_or (set words word value) (same t) 0) (at % 64) == 1)
+      ∙ ap (λ n. bit_at n (at % 64) == 1) (get_or-set_same words word value 0 within)
+      ∙ ap (λ bit. bit == 1) (others (at % 64) (omega arith) elsewhere)
+      ∙ (λ t. bit_at (get_or words (sym same t) 0) (at % 64) == 1))
       (λ differ. ap (λ n. bit_at n (at % 64) == 1) (get_or-set_other words word (at / 64) value 0 (λ e. ⊎_elim (λ less. omega arith) (λ more. omega arith) differ)))
       (cases_order (at / 64) word)
 
@@ -168,9 +160,9 @@ module _ (words : List ℕ) where
       let after = found.not_before in
       next_from-chosen (is_set words) 256 byte (64 * word + place) (omega arith) (omega arith) (set_from_bit words word place inside found.one)
       (λ at from before. ⊎_elim
-          (λ early. passed at from early)
-          (λ late. in_word word at late (omega arith) (found.lowest (at - 64 * word) (omega arith) (omega arith)))
-          (cases_lt at (64 * word)))
+      (λ early. passed at from early)
+      (λ late. in_word word at late (omega arith) (found.lowest (at - 64 * word) (omega arith) (omega arith)))
+      (cases_lt at (64 * word)))
 
   -- A word without one is passed.
   pub next_past_word : (byte word end : ℕ) → end ≡ 64 * word + 64 → NoneSetBefore byte (64 * word) → NoneFrom (slice_index words word) (byte - 64 * word) → NoneSetBefore byte end
@@ -190,9 +182,9 @@ module _ (words : List ℕ) where
       let inside = found.inside in
       prev_from-chosen (is_set words) 256 byte (64 * word + place) (omega arith) (omega arith) (set_from_bit words word place (omega arith) found.one)
       (λ at after upto. ⊎_elim
-          (λ here. in_word word at (omega arith) here (found.highest (at - 64 * word) (omega arith) (omega arith)))
-          (λ late. passed at late upto)
-          (cases_lt at (64 * word + 64)))
+      (λ here. in_word word at (omega arith) here (found.highest (at - 64 * word) (omega arith) (omega arith)))
+      (λ late. passed at late upto)
+      (cases_lt at (64 * word + 64)))
 
   pub prev_past_word : (byte word : ℕ) → 64 * word ≤ byte → NoneSet (64 * word + 64) byte → NoneBelow (slice_index words word) (min 64 (byte + 1 - 64 * word)) → NoneSet (64 * word) byte
   prev_past_word byte word which passed none = λ at from upto. ⊎_elim

@@ -59,14 +59,14 @@ module _ (filler : ℕ) where
         let room_left : 7 - count ≡ suc left = omega arith in
         let after : left ≡ 7 - (count + 1) = omega arith in
         let in_parts : array ≡ front ++ (back ++ replicate (suc left) filler) =
-            whole ∙ (λ t. sym (take-append-drop at xs) t ++ replicate (room_left t) filler) ∙ append_assoc front back (replicate (suc left) filler) in
+        whole ∙ (λ t. sym (take-append-drop at xs) t ++ replicate (room_left t) filler) ∙ append_assoc front back (replicate (suc left) filler) in
         let rest : 6 - at ≡ length back + left = omega arith in
         let moved : take (6 - at) (drop at array) ≡ back ++ replicate left filler =
-            ap (λ l. take (6 - at) (drop at l)) in_parts
-            ∙ ap (take (6 - at)) (drop_parts at front (back ++ replicate (suc left) filler) front_long)
-            ∙ ap (λ n. take n (back ++ replicate (suc left) filler)) rest
-            ∙ take-append-add back (replicate (suc left) filler) left
-            ∙ ap (λ l. back ++ l) (take-replicate left filler) in
+        ap (λ l. take (6 - at) (drop at l)) in_parts
+        ∙ ap (take (6 - at)) (drop_parts at front (back ++ replicate (suc left) filler) front_long)
+        ∙ ap (λ n. take n (back ++ replicate (suc left) filler)) rest
+        ∙ take-append-add back (replicate (suc left) filler) left
+        ∙ ap (λ l. back ++ l) (take-replicate left filler) in
         (λ t. (ap (take at) in_parts ∙ take_parts at front (back ++ replicate (suc left) filler) front_long) t ++ byte ∷ moved t)
         ∙ sym (append_assoc front (byte ∷ back) (replicate left filler))
         ∙ ap (λ n. (front ++ byte ∷ back) ++ replicate n filler) after

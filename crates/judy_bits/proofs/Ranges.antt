@@ -113,8 +113,8 @@ list_any_range number from zero low high = let never : ⊥ = omega arith in absu
 list_any_range number from (suc count) low high = ⊎_elim
     (λ same. ap (λ b. b || list_any (λ member. member == number) (range_with_len (from + 1) count)) (eq-eqb from number same))
     (λ apart. let later : from + 1 ≤ number = ⊎_elim (λ less. omega arith) (λ more. omega arith) apart in
-        ap (λ b. b || list_any (λ member. member == number) (range_with_len (from + 1) count)) (ne_eqb from number (λ same. omega arith))
-        ∙ list_any_range number (from + 1) count later (omega arith))
+    ap (λ b. b || list_any (λ member. member == number) (range_with_len (from + 1) count)) (ne_eqb from number (λ same. omega arith))
+    ∙ list_any_range number (from + 1) count later (omega arith))
     (cases_order from number)
 
 -- A number below the bound is a member where it passes.
@@ -175,10 +175,10 @@ module _ (p q : ℕ → Bool) (bound number : ℕ) (within : number < bound) (ot
   pub chosen_without : q number ≡ false → chosen q 0 bound ≡ without_byte (chosen p 0 bound) number
   chosen_without fails =
       chosen_agree q (λ x. p x && not (x == number)) 0 bound (λ at low high. ⊎_elim
-          (λ same. ap q same ∙ fails ∙ sym (ap (λ b. p at && not b) (eq-eqb at number same) ∙ and_false (p at)))
-          (λ apart. let differ : at ≢ number = λ e. ⊎_elim (λ less. omega arith) (λ more. omega arith) apart in
-              others at differ ∙ sym (ap (λ b. p at && not b) (ne_eqb at number differ) ∙ and_true (p at)))
-          (cases_order at number))
+      (λ same. ap q same ∙ fails ∙ sym (ap (λ b. p at && not b) (eq-eqb at number same) ∙ and_false (p at)))
+      (λ apart. let differ : at ≢ number = λ e. ⊎_elim (λ less. omega arith) (λ more. omega arith) apart in
+      others at differ ∙ sym (ap (λ b. p at && not b) (ne_eqb at number differ) ∙ and_true (p at)))
+      (cases_order at number))
       ∙ sym (filter-filter p (λ x. not (x == number)) (range_with_len 0 bound))
     where
       and_false : (b : Bool) → (b && false) ≡ false
@@ -204,8 +204,8 @@ find-chosen p q number from zero low high passes finds none = let never : ⊥ = 
 find-chosen p q number from (suc count) low high passes finds none = ⊎_elim
     (λ same. ap (λ b. find q (cond b (from ∷ chosen p (from + 1) count) (chosen p (from + 1) count))) (ap p same ∙ passes) ∙ ap (λ b. cond b (Some from) (find q (chosen p (from + 1) count))) (ap q same ∙ finds) ∙ ap Some same)
     (λ apart. let later : from < number = ⊎_elim (λ less. less) (λ more. omega arith) apart in
-        find_past p q from (chosen p (from + 1) count) (none from (omega arith) later)
-        ∙ find-chosen p q number (from + 1) count (omega arith) (omega arith) passes finds (λ at low high. none at (omega arith) high))
+    find_past p q from (chosen p (from + 1) count) (none from (omega arith) later)
+    ∙ find-chosen p q number (from + 1) count (omega arith) (omega arith) passes finds (λ at low high. none at (omega arith) high))
     (cases_order from number)
 
 find-chosen_none : (p q : ℕ → Bool) (from count : ℕ) → ((at : ℕ) → from ≤ at → at < from + count → (p at && q at) ≡ false) → find q (chosen p from count) ≡ None
@@ -242,10 +242,10 @@ find_last-chosen : (p q : ℕ → Bool) (number from count : ℕ) → from ≤ n
 find_last-chosen p q number from zero low high passes finds none = let never : ⊥ = omega arith in absurd never
 find_last-chosen p q number from (suc count) low high passes finds none = ⊎_elim
     (λ same. ap (λ b. find_last q (cond b (from ∷ chosen p (from + 1) count) (chosen p (from + 1) count))) (ap p same ∙ passes)
-        ∙ (λ t. option_or (find_last-chosen_none p q (from + 1) count (λ at low high. none at (omega arith) (omega arith)) t) (cond ((ap q same ∙ finds) t) (Some from) None)) ∙ ap Some same)
+    ∙ (λ t. option_or (find_last-chosen_none p q (from + 1) count (λ at low high. none at (omega arith) (omega arith)) t) (cond ((ap q same ∙ finds) t) (Some from) None)) ∙ ap Some same)
     (λ apart. let later : from < number = ⊎_elim (λ less. less) (λ more. omega arith) apart in
-        find_last_kept p q from number (chosen p (from + 1) count)
-            (find_last-chosen p q number (from + 1) count (omega arith) (omega arith) passes finds (λ at low high. none at low (omega arith))))
+    find_last_kept p q from number (chosen p (from + 1) count)
+    (find_last-chosen p q number (from + 1) count (omega arith) (omega arith) passes finds (λ at low high. none at low (omega arith))))
     (cases_order from number)
 
 fails_left : (c : Bool) {b : Bool} → b ≡ false → (b && c) ≡ false
@@ -262,17 +262,17 @@ module _ (p : ℕ → Bool) (bound from : ℕ) where
   next_from-chosen number low high passes none =
       find-chosen p (λ key. is_ge (word_order key from)) number 0 bound (omega arith) (omega arith) passes (is_ge_word number from ∙ le-leb from number low)
       (λ at _ below. ⊎_elim
-          (λ early. fails_right (p at) (is_ge_word at from ∙ not_at_most from at early))
-          (λ late. fails_left (is_ge (word_order at from)) (none at late below))
-          (cases_lt at from))
+      (λ early. fails_right (p at) (is_ge_word at from ∙ not_at_most from at early))
+      (λ late. fails_left (is_ge (word_order at from)) (none at late below))
+      (cases_lt at from))
 
   pub next_from-chosen_none : ((at : ℕ) → from ≤ at → at < bound → p at ≡ false) → next_from (chosen p 0 bound) from ≡ None
   next_from-chosen_none none =
       find-chosen_none p (λ key. is_ge (word_order key from)) 0 bound
       (λ at _ below. ⊎_elim
-          (λ early. fails_right (p at) (is_ge_word at from ∙ not_at_most from at early))
-          (λ late. fails_left (is_ge (word_order at from)) (none at late (omega arith)))
-          (cases_lt at from))
+      (λ early. fails_right (p at) (is_ge_word at from ∙ not_at_most from at early))
+      (λ late. fails_left (is_ge (word_order at from)) (none at late (omega arith)))
+      (cases_lt at from))
 
   -- The previous member is the greatest up to a number that passes.
   pub prev_from-chosen : (number : ℕ) → number ≤ from → number < bound → p number ≡ true → ((at : ℕ) → number < at → at ≤ from → p at ≡ false)
@@ -281,18 +281,18 @@ module _ (p : ℕ → Bool) (bound from : ℕ) where
       find-reverse (λ key. is_le (word_order key from)) (chosen p 0 bound)
       ∙ find_last-chosen p (λ key. is_le (word_order key from)) number 0 bound (omega arith) (omega arith) passes (is_le_word number from ∙ le-leb number from low)
       (λ at above _. ⊎_elim
-          (λ late. fails_right (p at) (is_le_word at from ∙ not_at_most at from late))
-          (λ early. fails_left (is_le (word_order at from)) (none at above early))
-          (cases_lt from at))
+      (λ late. fails_right (p at) (is_le_word at from ∙ not_at_most at from late))
+      (λ early. fails_left (is_le (word_order at from)) (none at above early))
+      (cases_lt from at))
 
   pub prev_from-chosen_none : ((at : ℕ) → at < bound → at ≤ from → p at ≡ false) → prev_from (chosen p 0 bound) from ≡ None
   prev_from-chosen_none none =
       find-reverse (λ key. is_le (word_order key from)) (chosen p 0 bound)
       ∙ find_last-chosen_none p (λ key. is_le (word_order key from)) 0 bound
       (λ at _ below. ⊎_elim
-          (λ late. fails_right (p at) (is_le_word at from ∙ not_at_most at from late))
-          (λ early. fails_left (is_le (word_order at from)) (none at (omega arith) early))
-          (cases_lt from at))
+      (λ late. fails_right (p at) (is_le_word at from ∙ not_at_most at from late))
+      (λ early. fails_left (is_le (word_order at from)) (none at (omega arith) early))
+      (cases_lt from at))
 
 -- ---- what is chosen is a set
 

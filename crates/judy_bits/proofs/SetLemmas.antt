@@ -51,7 +51,7 @@ filter_all q [] all = refl
 filter_all q (x ∷ xs) all = ap (λ b. cond b (x ∷ filter q xs) (filter q xs)) all.0 ∙ ap (λ rest. x ∷ rest) (filter_all q xs all.1)
 
 -- All after the first of an ascending list are greater.
-later_above : (x : ℕ) (xs : List ℕ) → AllByRecursion (λ y. word_order x y ≡ Less) xs → AllByRecursion (λ y. x < y) xs
+pub later_above : (x : ℕ) (xs : List ℕ) → AllByRecursion (λ y. word_order x y ≡ Less) xs → AllByRecursion (λ y. x < y) xs
 later_above x xs = all_weaker (λ y. word_order x y ≡ Less) (λ y. x < y) (λ y less. lt_from_word x y (ap is_lt less)) xs
 
 pub Among-has : (xs : List ℕ) (byte : ℕ) → has xs byte ≡ true → Among xs byte
@@ -105,7 +105,7 @@ above_all byte xs above = filter_all (λ member. is_gt (word_order member byte))
 with_below : (x byte : ℕ) (xs : List ℕ) → x < byte → with_byte (x ∷ xs) byte ≡ x ∷ with_byte xs byte
 with_below x byte xs below =
     λ t. cond (is_below x byte below t) (x ∷ filter (λ member. is_lt (word_order member byte)) xs) (filter (λ member. is_lt (word_order member byte)) xs)
-        ++ byte ∷ cond (not_above x byte (let e : x ≤ byte = omega arith in e) t) (x ∷ filter (λ member. is_gt (word_order member byte)) xs) (filter (λ member. is_gt (word_order member byte)) xs)
+    ++ byte ∷ cond (not_above x byte (let e : x ≤ byte = omega arith in e) t) (x ∷ filter (λ member. is_gt (word_order member byte)) xs) (filter (λ member. is_gt (word_order member byte)) xs)
 
 -- Where all are above, it goes first.
 with_first : (byte : ℕ) (xs : List ℕ) → AllByRecursion (λ x. byte < x) xs → with_byte xs byte ≡ byte ∷ xs
@@ -118,19 +118,19 @@ with_member [] byte ascending held = absurd (true≢false (sym held))
 with_member (x ∷ xs) byte ascending held =
     let later = later_above x xs ascending.0 in
     ⊎_elim
-        (λ same.
-            let above = all_weaker (λ y. x < y) (λ y. byte < y) (λ y less. omega arith) xs later in
-            (λ t. cond (not_below x byte (let e : byte ≤ x = omega arith in e) t) (x ∷ filter (λ member. is_lt (word_order member byte)) xs) (filter (λ member. is_lt (word_order member byte)) xs)
-                ++ byte ∷ cond (not_above x byte (let e : x ≤ byte = omega arith in e) t) (x ∷ filter (λ member. is_gt (word_order member byte)) xs) (filter (λ member. is_gt (word_order member byte)) xs))
-            ∙ with_first byte xs above ∙ ap (λ first. first ∷ xs) (sym same))
-        (λ apart. ⊎_elim
-            (λ less. with_below x byte xs less ∙ ap (λ rest. x ∷ rest) (with_member xs byte ascending.1 (ap (λ b. b || has xs byte) (sym (apart_less x byte less)) ∙ held)))
-            (λ more.
-                let here = Among-has (x ∷ xs) byte held in
-                let from : byte < byte = ⊎_elim (λ e. omega arith) (λ among. let above = all_among (λ y. x < y) xs byte later among in omega arith) here in
-                let never : ⊥ = omega arith in absurd never)
-            apart)
-        (cases_order x byte)
+    (λ same.
+    let above = all_weaker (λ y. x < y) (λ y. byte < y) (λ y less. omega arith) xs later in
+    (λ t. cond (not_below x byte (let e : byte ≤ x = omega arith in e) t) (x ∷ filter (λ member. is_lt (word_order member byte)) xs) (filter (λ member. is_lt (word_order member byte)) xs)
+    ++ byte ∷ cond (not_above x byte (let e : x ≤ byte = omega arith in e) t) (x ∷ filter (λ member. is_gt (word_order member byte)) xs) (filter (λ member. is_gt (word_order member byte)) xs))
+    ∙ with_first byte xs above ∙ ap (λ first. first ∷ xs) (sym same))
+    (λ apart. ⊎_elim
+    (λ less. with_below x byte xs less ∙ ap (λ rest. x ∷ rest) (with_member xs byte ascending.1 (ap (λ b. b || has xs byte) (sym (apart_less x byte less)) ∙ held)))
+    (λ more.
+    let here = Among-has (x ∷ xs) byte held in
+    let from : byte < byte = ⊎_elim (λ e. omega arith) (λ among. let above = all_among (λ y. x < y) xs byte later among in omega arith) here in
+    let never : ⊥ = omega arith in absurd never)
+    apart)
+    (cases_order x byte)
 
 -- To put another byte in puts it at its rank.
 pub with_other : (xs : List ℕ) (byte : ℕ) → IsStrictlySortedBy word_order xs → has xs byte ≡ false → with_byte xs byte ≡ insert xs (rank xs byte) byte
@@ -139,17 +139,17 @@ with_other [] byte ascending absent = refl
 with_other (x ∷ xs) byte ascending absent =
     let later = later_above x xs ascending.0 in
     ⊎_elim
-        (λ same. absurd (true≢false (sym (ap (λ b. b || has xs byte) (eq-eqb x byte same)) ∙ absent)))
-        (λ apart. ⊎_elim
-            (λ less.
-                with_below x byte xs less ∙ ap (λ rest. x ∷ rest) (with_other xs byte ascending.1 (ap (λ b. b || has xs byte) (sym (apart_less x byte less)) ∙ absent))
-                ∙ sym (ap (λ b. insert (x ∷ xs) (length (cond b (x ∷ filter (λ member. is_lt (word_order member byte)) xs) (filter (λ member. is_lt (word_order member byte)) xs))) byte) (is_below x byte less)))
-            (λ more.
-                let above : AllByRecursion (λ y. byte < y) (x ∷ xs) = (more, all_weaker (λ y. x < y) (λ y. byte < y) (λ y greater. omega arith) xs later) in
-                with_first byte (x ∷ xs) above
-                ∙ sym (ap (λ kept. insert (x ∷ xs) (length kept) byte) (below_none byte (x ∷ xs) (all_weaker (λ y. byte < y) (λ y. byte ≤ y) (λ y less. omega arith) (x ∷ xs) above))))
-            apart)
-        (cases_order x byte)
+    (λ same. absurd (true≢false (sym (ap (λ b. b || has xs byte) (eq-eqb x byte same)) ∙ absent)))
+    (λ apart. ⊎_elim
+    (λ less.
+    with_below x byte xs less ∙ ap (λ rest. x ∷ rest) (with_other xs byte ascending.1 (ap (λ b. b || has xs byte) (sym (apart_less x byte less)) ∙ absent))
+    ∙ sym (ap (λ b. insert (x ∷ xs) (length (cond b (x ∷ filter (λ member. is_lt (word_order member byte)) xs) (filter (λ member. is_lt (word_order member byte)) xs))) byte) (is_below x byte less)))
+    (λ more.
+    let above : AllByRecursion (λ y. byte < y) (x ∷ xs) = (more, all_weaker (λ y. x < y) (λ y. byte < y) (λ y greater. omega arith) xs later) in
+    with_first byte (x ∷ xs) above
+    ∙ sym (ap (λ kept. insert (x ∷ xs) (length kept) byte) (below_none byte (x ∷ xs) (all_weaker (λ y. byte < y) (λ y. byte ≤ y) (λ y less. omega arith) (x ∷ xs) above))))
+    apart)
+    (cases_order x byte)
 
 -- The first members with the next one are the first, one more.
 pub with_next : (xs : List ℕ) (at byte : ℕ) → IsStrictlySortedBy word_order xs → slice_get xs at ≡ Some byte → with_byte (take at xs) byte ≡ take (suc at) xs
@@ -203,8 +203,8 @@ with_byte-IsByteSet xs byte is small =
       ascending = ascending-append low (byte ∷ high) (ascending-filter word_order (λ member. is_lt (word_order member byte)) xs is.ascending)
           (first byte high (λ y here. less_word byte y (ltb-true byte y (sym (is_gt_word y byte) ∙ (among_from_filter (λ member. is_gt (word_order member byte)) xs y here).1))) (ascending-filter word_order (λ member. is_gt (word_order member byte)) xs is.ascending))
           (λ x y before after.
-              let less = lt_from_word x byte (among_from_filter (λ member. is_lt (word_order member byte)) xs x before).1 in
-              ⊎_elim (λ e. omega arith) (λ later. let more = ltb-true byte y (sym (is_gt_word y byte) ∙ (among_from_filter (λ member. is_gt (word_order member byte)) xs y later).1) in omega arith) after);
+          let less = lt_from_word x byte (among_from_filter (λ member. is_lt (word_order member byte)) xs x before).1 in
+          ⊎_elim (λ e. omega arith) (λ later. let more = ltb-true byte y (sym (is_gt_word y byte) ∙ (among_from_filter (λ member. is_gt (word_order member byte)) xs y later).1) in omega arith) after);
       bytes = All-append (λ b. b < 256) low (byte ∷ high) low_small (All-cons (λ b. b < 256) byte high small high_small);
     }
   where

@@ -8,7 +8,11 @@ pub fn low_ones(count: usize) -> u64
     requires { count ≤ 64 }
     ensures { result ≡ 2 ^ count - 1 }
 {
-    if count == 64 { u64::MAX } else { (1 << count) - 1 }
+    if count == 64 {
+        u64::MAX
+    } else {
+        (1 << count) - 1
+    }
 }
 
 /// The place of the lowest 1 that is at or above a place.
@@ -17,7 +21,11 @@ pub fn lowest_from(word: u64, from: usize) -> Option<usize>
     ensures { MatchOption result (NoneFrom word from) (λ at. IsLowestFrom word from at) }
 {
     let rest = word & !low_ones(from);
-    if rest == 0 { None } else { Some(rest.trailing_zeros() as usize) }
+    if rest == 0 {
+        None
+    } else {
+        Some(rest.trailing_zeros() as usize)
+    }
 }
 
 /// The place of the highest 1 that is below a place.
@@ -26,7 +34,11 @@ pub fn highest_below(word: u64, limit: usize) -> Option<usize>
     ensures { MatchOption result (NoneBelow word limit) (λ at. IsHighestBelow word limit at) }
 {
     let rest = word & low_ones(limit);
-    if rest == 0 { None } else { Some(63 - rest.leading_zeros() as usize) }
+    if rest == 0 {
+        None
+    } else {
+        Some(63 - rest.leading_zeros() as usize)
+    }
 }
 
 /// The place of the 1 that has so many others below it: six halvings of the word, each by one count.

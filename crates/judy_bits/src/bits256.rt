@@ -1,6 +1,6 @@
 //! A set of bytes as 256 bits in four words.
 
-ghost use Rattle.std.specs.Prelude.{◌≡◌, ℕ, ◌-◌, ◌%◌, ◌^◌, ◌≤◌, min, count_ones, List, [], length};
+ghost use Rattle.std.specs.Prelude.{◌≡◌, ℕ, ◌%◌, ◌^◌, ◌≤◌, if◌then◌else◌, count_ones, List, [], length};
 ghost use Rattle.judy_bits.specs.ByteSets as set;
 ghost use Rattle.judy_bits.specs.ByteSets.{IsByteSet};
 ghost use Rattle.judy_bits.specs.BitWords.{members_of};
@@ -27,11 +27,11 @@ fn count(word: u64) -> u32
     word.count_ones()
 }
 
-/// How many bits of a word are 1 among those for bytes below a limit, where its lowest is for `first`.
-fn count_below(word: u64, limit: usize, first: usize) -> u32
-    ensures { result ≡ count_ones (word % 2 ^ min 64 (limit - first)) }
+/// How many bits of a word are 1, where the word counts.
+fn count_where(counts: bool, word: u64) -> u32
+    ensures { result ≡ (if counts then count_ones (word % 2 ^ 64) else 0) }
 {
-    (word & low_ones(limit.saturating_sub(first).min(64))).count_ones()
+    if counts { count(word) } else { 0 }
 }
 
 impl Bits256 {
@@ -77,16 +77,24 @@ impl Bits256 {
     pub fn rank(&self, byte: u8) -> usize
         ensures { result ≡ set.rank self.now byte }
     {
-        let [first, second, third, fourth] = self.words;
-        let limit = byte as usize;
-        (count_below(first, limit, 0) + count_below(second, limit, 64) + count_below(third, limit, 128) + count_below(fourth, limit, 192)) as usize
+        let [first, second, third, _] = self.words;
+        let word = (byte / 64) as usize;
+        let here = self.words[word] & low_ones((byte % 64) as usize);
+        let words_below = count_where(word > 0, first)
+            + count_where(word > 1, second)
+            + count_where(word > 2, third);
+        (words_below + here.count_ones()) as usize
     }
 
     /// The place of a member, which is its rank; none where the byte isn't a member.
     pub fn place(&self, byte: u8) -> Option<usize>
         ensures { result ≡ set.place self.now byte }
     {
-        if self.has(byte) { Some(self.rank(byte)) } else { None }
+        if self.has(byte) {
+            Some(self.rank(byte))
+        } else {
+            None
+        }
     }
 
     /// The member at a place, counted from 0.

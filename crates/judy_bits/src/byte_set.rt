@@ -220,7 +220,9 @@ fn few_of(bits: &Bits256) -> FewBytes
 {
     let mut few = FewBytes::new();
     for at in 0..bits.len() {
-        let Some(byte) = bits.nth(at) else { unreachable!() };
+        let Some(byte) = bits.nth(at) else {
+            unreachable!()
+        };
         few.add(byte);
     }
     few
@@ -232,7 +234,9 @@ fn bits_of(few: &FewBytes) -> Bits256
 {
     let mut bits = Bits256::new();
     for at in 0..few.len() {
-        let Some(byte) = few.nth(at) else { unreachable!() };
+        let Some(byte) = few.nth(at) else {
+            unreachable!()
+        };
         bits.add(byte);
     }
     bits

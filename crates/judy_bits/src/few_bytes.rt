@@ -89,14 +89,22 @@ impl FewBytes {
         ensures { result ≡ set.place self.now byte }
     {
         let rank = self.rank(byte);
-        if rank < self.count as usize && self.bytes[rank] == byte { Some(rank) } else { None }
+        if rank < self.count as usize && self.bytes[rank] == byte {
+            Some(rank)
+        } else {
+            None
+        }
     }
 
     /// The member at a place, counted from 0.
     pub fn nth(&self, at: usize) -> Option<u8>
         ensures { result ≡ set.nth self.now at }
     {
-        if at < self.count as usize { Some(self.bytes[at]) } else { None }
+        if at < self.count as usize {
+            Some(self.bytes[at])
+        } else {
+            None
+        }
     }
 
     /// The nearest member at or above the byte.
@@ -104,7 +112,11 @@ impl FewBytes {
         ensures { result ≡ set.next_from self.now byte }
     {
         let at = self.rank(byte);
-        if at < self.count as usize { Some(self.bytes[at]) } else { None }
+        if at < self.count as usize {
+            Some(self.bytes[at])
+        } else {
+            None
+        }
     }
 
     /// The nearest member at or below the byte: it stands before the first that is above it.
@@ -112,14 +124,22 @@ impl FewBytes {
         ensures { result ≡ set.prev_from self.now byte }
     {
         let upto = self.count_up_to(byte);
-        if upto == 0 { None } else { Some(self.bytes[upto - 1]) }
+        if upto == 0 {
+            None
+        } else {
+            Some(self.bytes[upto - 1])
+        }
     }
 
     /// How many members are at or below the byte.
     fn count_up_to(&self, byte: u8) -> usize
         ensures { result ≡ set.count_up_to self.now byte }
     {
-        if byte == 255 { self.count as usize } else { self.rank(byte + 1) }
+        if byte == 255 {
+            self.count as usize
+        } else {
+            self.rank(byte + 1)
+        }
     }
 
     /// Makes the byte a member; there are fewer than seven.

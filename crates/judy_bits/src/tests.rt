@@ -28,10 +28,22 @@ fn bits_as_a_plain_list(rt: HostRuntime) -> Result<(), AllocError> {
         assert_eq!(rt; set.len(), count);
         for byte in 0..=255u8 {
             assert_eq!(rt; set.has(byte), plain.contains(&byte));
-            assert_eq!(rt; set.rank(byte), plain.iter().filter(|member| **member < byte).count());
-            assert_eq!(rt; set.place(byte), plain.iter().position(|member| *member == byte));
-            assert_eq!(rt; set.next_from(byte), plain.iter().copied().find(|member| *member >= byte));
-            assert_eq!(rt; set.prev_from(byte), plain.iter().copied().rev().find(|member| *member <= byte));
+            assert_eq!(rt;
+                set.rank(byte),
+                plain.iter().filter(|member| **member < byte).count()
+            );
+            assert_eq!(rt;
+                set.place(byte),
+                plain.iter().position(|member| *member == byte)
+            );
+            assert_eq!(rt;
+                set.next_from(byte),
+                plain.iter().copied().find(|member| *member >= byte)
+            );
+            assert_eq!(rt;
+                set.prev_from(byte),
+                plain.iter().copied().rev().find(|member| *member <= byte)
+            );
         }
         for at in 0..257 {
             assert_eq!(rt; set.nth(at), plain.get(at).copied());
@@ -62,9 +74,18 @@ fn set_as_a_plain_list(rt: HostRuntime) -> Result<(), AllocError> {
         assert_eq!(rt; set.len(), count);
         assert_eq!(rt; set.form(), form);
         for byte in 0..=255u8 {
-            assert_eq!(rt; set.place(byte), plain.iter().position(|member| *member == byte));
-            assert_eq!(rt; set.next_from(byte), plain.iter().copied().find(|member| *member >= byte));
-            assert_eq!(rt; set.prev_from(byte), plain.iter().copied().rev().find(|member| *member <= byte));
+            assert_eq!(rt;
+                set.place(byte),
+                plain.iter().position(|member| *member == byte)
+            );
+            assert_eq!(rt;
+                set.next_from(byte),
+                plain.iter().copied().find(|member| *member >= byte)
+            );
+            assert_eq!(rt;
+                set.prev_from(byte),
+                plain.iter().copied().rev().find(|member| *member <= byte)
+            );
         }
         for at in 0..257 {
             assert_eq!(rt; set.nth(at), plain.get(at).copied());

@@ -18,9 +18,9 @@ after c =
     let long = length-meant 255 c.self.inside.bytes c.self.inside.count c.self.invariant.0 in
     let room : length (take c.self.inside.count c.self.inside.bytes) < 7 = rw c.self.view_is c.requires in
     let absent : has (take c.self.inside.count c.self.inside.bytes) c.args.byte ≡ false =
-        ap (λ members. has members c.args.byte) c.self.view_is ∙ sym (has-is_some c.args.self.now c.args.byte) ∙ ap is_some (sym c.place.ensures) ∙ c.is_none.ensures ∙ ap not c.if-is_none.true in
+    ap (λ members. has members c.args.byte) c.self.view_is ∙ sym (has-is_some c.args.self.now c.args.byte) ∙ ap is_some (sym c.place.ensures) ∙ c.is_none.ensures ∙ ap not c.if-is_none.true in
     added c.self.inside.bytes c.self.inside.count c.self.invariant.0 c.self.invariant.1 c.args.byte c.rank-at.result c.ranges.byte.fits (omega arith) absent
-        (c.rank-at.ensures ∙ ap (λ members. rank members c.args.byte) (sym c.self.view_is)) c.open_place.new.bytes c.open_place.ensures
+    (c.rank-at.ensures ∙ ap (λ members. rank members c.args.byte) (sym c.self.view_is)) c.open_place.new.bytes c.open_place.ensures
 
 pub invariant_of-self : goal.invariant_of-self
 invariant_of-self c = (after c).1
@@ -31,4 +31,4 @@ returns-then-is_none c = (after c).0 ∙ ap (λ members. with_byte members c.arg
 pub returns-else-is_none : goal.returns-else-is_none
 returns-else-is_none c =
     rw (← c.self.view_is) (sym (with_member (take c.self.inside.count c.self.inside.bytes) c.args.byte c.self.invariant.1.ascending
-        (ap (λ members. has members c.args.byte) c.self.view_is ∙ sym (has-is_some c.args.self.now c.args.byte) ∙ ap is_some (sym c.place.ensures) ∙ c.is_none.ensures ∙ ap not c.if-is_none.false)))
+    (ap (λ members. has members c.args.byte) c.self.view_is ∙ sym (has-is_some c.args.self.now c.args.byte) ∙ ap is_some (sym c.place.ensures) ∙ c.is_none.ensures ∙ ap not c.if-is_none.false)))

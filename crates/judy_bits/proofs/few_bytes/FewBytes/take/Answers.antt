@@ -19,7 +19,7 @@ after : (c : goal.After-self-1) → (take (c.self.inside.count - 1) c.close_plac
     × (IsPadded 255 c.close_place.new.bytes (c.self.inside.count - 1) × IsByteSet (take (c.self.inside.count - 1) c.close_place.new.bytes))
 after c =
     taken c.self.inside.bytes c.self.inside.count c.self.invariant.0 c.self.invariant.1 c.args.byte c.in-Some.at
-        (there-place (take c.self.inside.count c.self.inside.bytes) c.args.byte c.in-Some.at c.self.invariant.1 (rw (← c.self.view_is) at c.in-Some.ensures)) c.close_place.new.bytes c.close_place.ensures
+    (there-place (take c.self.inside.count c.self.inside.bytes) c.args.byte c.in-Some.at c.self.invariant.1 (rw (← c.self.view_is) at c.in-Some.ensures)) c.close_place.new.bytes c.close_place.ensures
 
 pub invariant_of-self : goal.invariant_of-self
 invariant_of-self c = (after c).1
