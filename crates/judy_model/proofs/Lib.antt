@@ -3,6 +3,7 @@ pub mod Ascending
 pub mod KeysLemmas
 pub mod NearestLemmas
 pub mod WordOrder
+pub mod ByteLemmas
 pub mod EmptiesLemmas
 pub mod Places
 pub mod RankLemmas

@@ -1,4 +1,5 @@
 pub mod Keys
+pub mod WordBytes
 pub mod Arrays
 pub mod Neighbours
 pub mod Empties

@@ -1,0 +1,8 @@
+-- The form of a set of bytes.
+use Rattle.std.specs.Prelude.{ℕ, nat_le, if◌then◌else◌}
+use Rattle.judy_bits.specs.declared.form.Form.{Form}
+use Rattle.judy_bits.specs.declared.form.Form.TheVariants.{Linear, Bitmap, Full}
+
+-- It is linear for up to 7 members, a bitmap for 8 to 127, and full from 128 on.
+abbrev pub form_of : ℕ → Form
+form_of count = if nat_le count 7 then Linear else (if nat_le count 127 then Bitmap else Full)

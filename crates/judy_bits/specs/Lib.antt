@@ -1,0 +1,5 @@
+pub mod ByteSets
+pub mod BitWords
+pub mod Paddings
+pub mod Forms
+pub mod KeptMembers

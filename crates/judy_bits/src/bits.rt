@@ -1,0 +1,68 @@
+//! The bits of one word, by steps on the whole word.
+
+ghost use Rattle.std.specs.Prelude.{◌≡◌, ◌<◌, ◌≤◌, ◌^◌, ◌-◌, MatchOption, count_ones};
+ghost use Rattle.judy_bits.specs.BitWords.{NoneFrom, IsLowestFrom, NoneBelow, IsHighestBelow, IsSelected};
+
+/// A word whose lowest bits, so many, are 1.
+pub fn low_ones(count: usize) -> u64
+    requires { count ≤ 64 }
+    ensures { result ≡ 2 ^ count - 1 }
+{
+    if count == 64 {
+        u64::MAX
+    } else {
+        (1 << count) - 1
+    }
+}
+
+/// The place of the lowest 1 that is at or above a place.
+pub fn lowest_from(word: u64, from: usize) -> Option<usize>
+    requires { from ≤ 64 }
+    ensures { MatchOption result (NoneFrom word from) (λ at. IsLowestFrom word from at) }
+{
+    let rest = word & !low_ones(from);
+    if rest == 0 {
+        None
+    } else {
+        Some(rest.trailing_zeros() as usize)
+    }
+}
+
+/// The place of the highest 1 that is below a place.
+pub fn highest_below(word: u64, limit: usize) -> Option<usize>
+    requires { limit ≤ 64 }
+    ensures { MatchOption result (NoneBelow word limit) (λ at. IsHighestBelow word limit at) }
+{
+    let rest = word & low_ones(limit);
+    if rest == 0 {
+        None
+    } else {
+        Some(63 - rest.leading_zeros() as usize)
+    }
+}
+
+/// The place of the 1 that has so many others below it: six halvings of the word, each by one count.
+pub fn select(word: u64, index: u32) -> usize
+    requires { index < count_ones word }
+    ensures { IsSelected word index result }
+{
+    let mut rest = word;
+    let mut left = index;
+    let mut place = 0;
+    let mut width = 64;
+    while width > 1 {
+        let half = width / 2;
+        let low = rest & low_ones(half);
+        let count = low.count_ones();
+        if left < count {
+            rest = low;
+            width = half;
+        } else {
+            left -= count;
+            rest >>= half;
+            place += half;
+            width -= half;
+        }
+    }
+    place
+}

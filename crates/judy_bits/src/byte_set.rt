@@ -1,0 +1,243 @@
+//! A set of bytes in the form that its number of members has.
+
+ghost use Rattle.std.specs.Prelude.{◌≡◌, ◌≤◌, [], length};
+ghost use Rattle.judy_bits.specs.ByteSets as set;
+ghost use Rattle.judy_bits.specs.ByteSets.{IsByteSet};
+ghost use Rattle.judy_bits.specs.Forms.{form_of};
+ghost use Rattle.judy_bits.specs.KeptMembers.{members_in, IsInForm};
+
+use crate::bits256::Bits256;
+use crate::few_bytes::FewBytes;
+use crate::form::Form;
+use std::marker::Model;
+use std::mem;
+
+/// The members, in one of the three forms.
+#[derive(Drop)]
+enum Members {
+    Linear(FewBytes),
+    Bitmap(Bits256),
+    Full(Bits256),
+}
+
+/// A set of bytes. Its form follows from the number of its members alone, so a set that grew and shrank is the
+/// set that never grew.
+#[derive(Drop)]
+pub struct ByteSet {
+    members: Members,
+}
+
+const _: () = prove!(size_of::<ByteSet>() <= 40);
+
+impl Model for ByteSet {
+    ghost use Rattle.std.specs.Prelude.{ℕ, List};
+
+    ghost Value = { List ℕ };
+
+    ghost use Rattle.judy_bits.specs.KeptMembers.{members_in, IsInForm};
+
+    ghost view = { λ a. members_in a.members };
+
+    ghost invariant = { λ a. IsInForm a.members };
+}
+
+impl ByteSet {
+    /// The empty set.
+    pub fn new() -> ByteSet
+        ensures { result ≡ [] }
+    {
+        ByteSet {
+            members: Members::Linear(FewBytes::new()),
+        }
+    }
+
+    /// How many members there are.
+    pub fn len(&self) -> usize
+        ensures count { result ≡ length self.now }
+        ensures within { result ≤ 256 }
+        ensures is_set { IsByteSet self.now }
+    {
+        match &self.members {
+            Members::Linear(few) => few.len(),
+            Members::Bitmap(bits) => bits.len(),
+            Members::Full(bits) => bits.len(),
+        }
+    }
+
+    /// The form, by the number of members.
+    pub fn form(&self) -> Form
+        ensures { result ≡ form_of (length self.now) }
+    {
+        match &self.members {
+            Members::Linear(_) => Form::Linear,
+            Members::Bitmap(_) => Form::Bitmap,
+            Members::Full(_) => Form::Full,
+        }
+    }
+
+    /// The place of a member, which is the number of members below it; none where the byte isn't a member.
+    pub fn place(&self, byte: u8) -> Option<usize>
+        ensures { result ≡ set.place self.now byte }
+    {
+        match &self.members {
+            Members::Linear(few) => few.place(byte),
+            Members::Bitmap(bits) => bits.place(byte),
+            Members::Full(bits) => bits.place(byte),
+        }
+    }
+
+    /// The nearest member at or above the byte.
+    pub fn next_from(&self, byte: u8) -> Option<u8>
+        ensures { result ≡ set.next_from self.now byte }
+    {
+        match &self.members {
+            Members::Linear(few) => few.next_from(byte),
+            Members::Bitmap(bits) => bits.next_from(byte),
+            Members::Full(bits) => bits.next_from(byte),
+        }
+    }
+
+    /// The nearest member at or below the byte.
+    pub fn prev_from(&self, byte: u8) -> Option<u8>
+        ensures { result ≡ set.prev_from self.now byte }
+    {
+        match &self.members {
+            Members::Linear(few) => few.prev_from(byte),
+            Members::Bitmap(bits) => bits.prev_from(byte),
+            Members::Full(bits) => bits.prev_from(byte),
+        }
+    }
+
+    /// The member at a place, counted from 0.
+    pub fn nth(&self, at: usize) -> Option<u8>
+        ensures { result ≡ set.nth self.now at }
+    {
+        match &self.members {
+            Members::Linear(few) => few.nth(at),
+            Members::Bitmap(bits) => bits.nth(at),
+            Members::Full(bits) => bits.nth(at),
+        }
+    }
+
+    /// Makes the byte a member.
+    pub fn add(&mut self, byte: u8)
+        ensures { self.new ≡ set.with_byte self.old byte }
+    {
+        let members = mem::replace(&mut self.members, Members::Linear(FewBytes::new()));
+        self.members = with_byte(members, byte);
+    }
+
+    /// Takes the byte out, where it is a member.
+    pub fn take(&mut self, byte: u8)
+        ensures { self.new ≡ set.without_byte self.old byte }
+    {
+        let members = mem::replace(&mut self.members, Members::Linear(FewBytes::new()));
+        self.members = without_byte(members, byte);
+    }
+}
+
+/// The members with a byte.
+fn with_byte(members: Members, byte: u8) -> Members
+    requires { IsInForm members }
+    ensures value { members_in result ≡ set.with_byte (members_in members) byte }
+    ensures in_form { IsInForm result }
+{
+    match members {
+        Members::Linear(few) => few_with(few, byte),
+        Members::Bitmap(bits) => bits_with(bits, byte),
+        Members::Full(bits) => bits_with(bits, byte),
+    }
+}
+
+/// A few members with a byte: the eighth makes them bits.
+fn few_with(mut few: FewBytes, byte: u8) -> Members
+    ensures value { members_in result ≡ set.with_byte few byte }
+    ensures in_form { IsInForm result }
+{
+    if few.len() < 7 {
+        few.add(byte);
+        return Members::Linear(few);
+    }
+    if few.place(byte).is_some() {
+        return Members::Linear(few);
+    }
+    bits_with(bits_of(&few), byte)
+}
+
+/// Members as bits with a byte.
+fn bits_with(mut bits: Bits256, byte: u8) -> Members
+    ensures value { members_in result ≡ set.with_byte bits byte }
+    ensures in_form { IsInForm result }
+{
+    bits.add(byte);
+    in_form(bits)
+}
+
+/// The members without a byte.
+fn without_byte(members: Members, byte: u8) -> Members
+    requires { IsInForm members }
+    ensures value { members_in result ≡ set.without_byte (members_in members) byte }
+    ensures in_form { IsInForm result }
+{
+    match members {
+        Members::Linear(mut few) => {
+            few.take(byte);
+            Members::Linear(few)
+        }
+        Members::Bitmap(bits) => bits_without(bits, byte),
+        Members::Full(bits) => bits_without(bits, byte),
+    }
+}
+
+/// Members as bits without a byte.
+fn bits_without(mut bits: Bits256, byte: u8) -> Members
+    ensures value { members_in result ≡ set.without_byte bits byte }
+    ensures in_form { IsInForm result }
+{
+    bits.take(byte);
+    in_form(bits)
+}
+
+/// The members in the form for their number.
+fn in_form(bits: Bits256) -> Members
+    ensures value { members_in result ≡ bits }
+    ensures in_form { IsInForm result }
+{
+    let count = bits.len();
+    if count <= 7 {
+        Members::Linear(few_of(&bits))
+    } else if count <= 127 {
+        Members::Bitmap(bits)
+    } else {
+        Members::Full(bits)
+    }
+}
+
+/// At most seven members of bits, as a list.
+fn few_of(bits: &Bits256) -> FewBytes
+    requires { length bits.now ≤ 7 }
+    ensures { result ≡ bits.now }
+{
+    let mut few = FewBytes::new();
+    for at in 0..bits.len() {
+        let Some(byte) = bits.nth(at) else {
+            unreachable!()
+        };
+        few.add(byte);
+    }
+    few
+}
+
+/// A list of members, as bits.
+fn bits_of(few: &FewBytes) -> Bits256
+    ensures { result ≡ few.now }
+{
+    let mut bits = Bits256::new();
+    for at in 0..few.len() {
+        let Some(byte) = few.nth(at) else {
+            unreachable!()
+        };
+        bits.add(byte);
+    }
+    bits
+}
