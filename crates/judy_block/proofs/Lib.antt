@@ -1,0 +1,5 @@
+pub mod Cutting
+pub mod Gaps
+pub mod Sharing
+pub mod Values
+pub mod Writes

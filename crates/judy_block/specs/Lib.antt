@@ -1,0 +1,5 @@
+pub mod Contents
+pub mod Header
+pub mod Lends
+pub mod Ownership
+pub mod SlotLends
