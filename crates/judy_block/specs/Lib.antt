@@ -1,5 +1,5 @@
 pub mod Contents
-pub mod Header
+pub mod Layout
 pub mod Lends
 pub mod Ownership
 pub mod SlotLends
