@@ -19,5 +19,7 @@
 mod block;
 mod cells;
 mod header;
+#[cfg(test)]
+mod tests;
 
 pub use block::Block;
