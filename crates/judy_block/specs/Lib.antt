@@ -1,4 +1,5 @@
 pub mod Contents
+pub mod Deeds
 pub mod Layout
 pub mod Lends
 pub mod Ownership

@@ -3,9 +3,10 @@
 ghost use Rattle.std.specs.Prelude.{◌≡◌, ◌+◌, ◌-◌, ◌<◌, ◌≤◌, ◌^◌, length, take, drop, replicate, ◌++◌, slice_index, slice_set, IfOk};
 ghost use Rattle.std.specs.Borrow.{sem};
 ghost use Rattle.judy_block.specs.Contents.{Contents, empty_block, with_gap, without_gap};
+ghost use Rattle.judy_block.specs.Deeds.{IsDeedOf};
 ghost use Rattle.judy_block.specs.Layout.{used_of, capacity_of, tag_of, contents_of, IsBlock};
 
-use crate::cells::{Cells, Deed, allocate, release};
+use crate::cells::{Cells, Deed};
 use crate::header::Header;
 use std::alloc::{AllocError, Global};
 use std::marker::Model;
@@ -29,7 +30,7 @@ impl Model for Block {
 
     ghost view = { λ b. contents_of b.cells.items };
 
-    ghost invariant = { λ b. IsBlock b.cells.items × (b.deed.at ≡ b.cells.head) × (b.deed.len ≡ length b.cells.items) × (b.deed.alloc ≡ b.alloc) };
+    ghost invariant = { λ b. IsBlock b.cells.items × IsDeedOf b.deed b.alloc b.cells };
 }
 
 impl Block {
@@ -41,7 +42,7 @@ impl Block {
         requires within { (1 ≤ capacity) × (capacity ≤ 65535) }
         ensures { IfOk result (λ block. block ≡ empty_block capacity) }
     {
-        let (mut cells, deed) = allocate(&alloc, 1 + capacity)?;
+        let (mut cells, deed) = Cells::allocate(&alloc, 1 + capacity)?;
         cells.front_mut(1)[0] = Header::new(0, capacity, 0).bits;
         Ok(Block { cells, deed, alloc })
     }
@@ -173,7 +174,7 @@ impl Drop for Block {
         let header = Header {
             bits: cells.front(1)[0],
         };
-        release(&alloc, cells, deed, 1 + header.capacity());
+        cells.release(deed, &alloc, 1 + header.capacity());
     }
 }
 

@@ -1,5 +1,6 @@
 -- `allocate` takes room for the words, has them zeroed, and keeps the right to free them. Assumes `Logic`.
 use Rattle.std.proofs.Common.{◌≡◌, ℕ, ◌*◌, ◌<◌, ◌^◌, List, [], ◌∷◌, ◌++◌, replicate, refl, sym, ap, subst, arith, lit<, T, w64, Ok, Err}
+use Rattle.std.proofs.lemmas.List.{length-replicate}
 use Rattle.std.proofs.raw_atomic.Walks.{proved_at, leaves}
 use Rattle.std.proofs.alloc.Calls.{Al, seen, Takes, at_takes, Answered, Answer-typed, Takes-goes, Takes-gives, answers}
 use Rattle.std.proofs.alloc.Shapes.{after, head, arm_body}
@@ -38,15 +39,16 @@ use denote.Triple.Table.{framed}
 use denote.Triple.Walked.{Stays, stay_dropped, walk_of, Goes-dropped}
 use Rattle.std.specs.contracts.alloc.AllocError as AE
 use Rattle.std.specs.contracts.result.Result as RS
+use Rattle.judy_block.specs.Deeds.{IsDeedOf}
 use Rattle.judy_block.specs.Ownership.{words_type, words_own}
 use Rattle.judy_block.specs.contracts.cells.Cells as C
 use Rattle.judy_block.specs.contracts.cells.Deed as D
-use Rattle.judy_block.specs.contracts.cells.allocate as f
+use Rattle.judy_block.specs.contracts.cells.Cells.allocate as f
 use Rattle.judy_block.specs.contracts.cells.zero as g-zero
 use Rattle.judy_block.proofs.cells.zero.Met as zeroed
 use Rattle.judy_block.proofs.Values.{slot_at, cells_val, cells_own, cells_made, deed_val, deed_own, deed_made, pair_val, pair_of}
-use Rattle.judy_block.proofs.cells.allocate.Statement.{statement}
-use Rattle.judy_block.proofs.cells.allocate.Code as code
+use Rattle.judy_block.proofs.cells.Cells.allocate.Statement.{statement}
+use Rattle.judy_block.proofs.cells.Cells.allocate.Code as code
 
 pub allocate_spec : {M : Type 1} → statement M
 allocate_spec 𝓤 𝓛 𝓜 𝓡 wired A L g d dd met md =
@@ -92,7 +94,7 @@ allocate_spec 𝓤 𝓛 𝓜 𝓡 wired A L g d dd met md =
     lands_last ! refl (subst (λ (x : Val). T (has_ty ty_unit x) × WT x) (sym (ap only is_unit)) (tt, tt)) $ exec ! 𝓣.C 𝓣.Λ En (after 3 (arm_body 0 both)) Then $
     -- the two structs, the pair and the `Result` are made
     let made : Val = pair_val (cells_val p) deed_val in
-    sets ! (agg ! (no_more !)) refl (tt, tt) $ sets ! (agg ! (and_then ! (get ! refl) (no_more !))) refl (tt, (tt, tt)) $ sets ! (agg ! (and_then ! (get ! refl) (no_more !))) refl (tt, (tt, tt)) $
+    sets ! (agg ! (and_then ! (get ! refl) (no_more !))) refl (tt, (tt, tt)) $ sets ! (agg ! (no_more !)) refl (tt, tt) $ sets ! (agg ! (and_then ! (get ! refl) (no_more !))) refl (tt, (tt, tt)) $
     sets ! (agg ! (and_then ! (get ! refl) (and_then ! (get ! refl) (no_more !)))) refl (tt, ((tt, tt), ((tt, tt), tt))) $
     sets_last ! (agg ! (and_then ! (lit ! tt) (and_then ! (get ! refl) (no_more !)))) refl (tt, (record { fits = lit< tt }, (((tt, tt), ((tt, tt), tt)), tt))) $
     exec ! 𝓣.C 𝓣.Λ En (after 3 fn.body) (at_ret En Post) $ sets ! (of_opd ! (get ! refl)) refl (tt, (record { fits = lit< tt }, (((tt, tt), ((tt, tt), tt)), tt))) $
@@ -101,7 +103,8 @@ allocate_spec 𝓤 𝓛 𝓜 𝓡 wired A L g d dd met md =
     use0 𝓛 (‵ (cells_own p (cells_val p ∷ []))) (cells_made 𝓛 p) $ fjoin ! $ move ! (1 ∷ []) $ use0 𝓛 (‵ (deed_own (deed_val ∷ []))) (deed_made 𝓛) $ fjoin ! $ move ! (1 ∷ 0 ∷ []) $
     use2 𝓛 (‵ (Pair.own_val (x, k) (made ∷ []))) (pair_of 𝓛 C.the_row (D.the_row Z g) x k (cells_val p) deed_val) $
     use1 𝓛 (‵ (Out.own_val (Ok (x, k)) (live 0 (vcons made vnil) ∷ []))) (ok_of 𝓛 Pair AE.the_row (x, k) made) $
-    let Said : Type 0 = (zeros ≡ zeros) × (p ≡ p) × (n ≡ n) × (h ≡ h) in use0 𝓛 (raw (fact 𝓤 Said)) (fact_i 𝓤 Said (emp 𝓤) (refl, refl, refl, refl)) $
+    use0 𝓛 (raw (fact 𝓤 (IsDeedOf k h x))) (fact_i 𝓤 (IsDeedOf k h x) (emp 𝓤) (refl, refl, sym (length-replicate {A = ℕ} n 0))) $
+    use0 𝓛 (raw (fact 𝓤 (zeros ≡ zeros))) (fact_i 𝓤 (zeros ≡ zeros) (emp 𝓤) refl) $ join ! $
     nothing ! $ nothing ! $ fjoin ! $ nothing ! $ fjoin ! $ move ! (3 ∷ 0 ∷ 2 ∷ 1 ∷ []) $
     by ! (leaves 𝓛 E stays c z (live 0 (vcons made vnil)) (Ok (x, k)) (tt, (tt, tt)) (tt, (tt, tt))))))))
     -- none: [the two lifetimes]
@@ -114,5 +117,5 @@ allocate_spec 𝓤 𝓛 𝓜 𝓡 wired A L g d dd met md =
     returns ! (look_at ! 0 refl) $ free_all ! refl $
     owned ! Refusal (Is Refusal) (Struct-Makes 𝓛 (Declared.shape AE.the_type) tt) tt (vstruct vnil ∷ []) (tt, (refl, tt)) $
     use1 𝓛 (‵ (Out.own_val (Err (record {})) (none ∷ []))) (err_of 𝓛 Pair AE.the_row (record {}) (vstruct vnil)) $
-    use0 𝓛 (raw (fact 𝓤 (Unit {0}))) (fact_i 𝓤 (Unit {0}) (emp 𝓤) tt) $ nothing ! $ nothing ! $ fjoin ! $ nothing ! $ fjoin ! $ move ! (3 ∷ 0 ∷ 2 ∷ 1 ∷ []) $
+    use0 𝓛 (raw (fact 𝓤 (Unit {0}))) (fact_i 𝓤 (Unit {0}) (emp 𝓤) tt) $ use0 𝓛 (raw (fact 𝓤 (Unit {0}))) (fact_i 𝓤 (Unit {0}) (emp 𝓤) tt) $ join ! $ nothing ! $ nothing ! $ fjoin ! $ nothing ! $ fjoin ! $ move ! (3 ∷ 0 ∷ 2 ∷ 1 ∷ []) $
     by ! (leaves 𝓛 E stays c z none (Err (record {})) (tt, (tt, tt)) (tt, (tt, tt)))))))))
