@@ -1,4 +1,4 @@
--- `zero` writes one word after the other. Assumes `Logic`.
+-- `zero` writes one word after the other. How to read it: Lib.antt. Assumes `Logic`.
 use Rattle.std.proofs.Common.{◌≡◌, ℕ, suc, ◌+◌, ◌-◌, ◌*◌, ◌<◌, ◌≤◌, ◌^◌, List, [], ◌∷◌, ◌++◌, replicate, length, refl, arith, lit<, w64, ltb→lt, nltb→le}
 use Rattle.std.proofs.lemmas.List.{length-replicate, replicate_more}
 use Rattle.std.proofs.raw_atomic.Walks.{proved}
@@ -37,7 +37,7 @@ use Rattle.judy_block.proofs.cells.zero.Code as code
 abbrev stayed : Stays f.ended.signature.params f.ended.kept
 stayed = (stay_dropped _ yes, (stay_dropped _ yes, tt))
 
--- one turn of the loop, and the whole of it
+-- one turn of the loop
 abbrev turn : Body
 turn = code.Mir.turn-1
 
@@ -67,24 +67,26 @@ module _ {M : Type 1} {𝓤 : Ura M} (𝓛 : Logic 𝓤) (𝓣 : Tables 𝓤 �
     unfolding after_turn
     turns t =
         let i : ℕ = t.0 in let le = t.1 in
-        -- the test
+        -- `while i < count`
         sets ! (bin ! (get ! refl) (get ! refl) tt) refl (tt, tt) $ first ! $ branches ! (get ! refl)
         (λ less. let h : i < n = ltb→lt i n less in let far : i * 8 < 2 ^ 64 = omega arith in let next : i + 1 < 2 ^ 64 = omega arith in
         skips ! $ exec ! 𝓣.C 𝓣.Λ En (after 2 turn) (any_q (Turned t)) $ first ! $ blocks ! $
-        -- the place of the word
+        -- into `unsafe { .. }`: `head.add(i)`
         sets ! (bin ! (get ! refl) (lit ! tt) (record { fits = far })) refl (tt, record { fits = far }) $ sets ! (bin ! (get ! refl) (get ! refl) tt) refl (tt, tt) $
-        -- the room is cut after one word, which is written
+        -- `.write(0)`: the room is cut after one word, which is written
         move ! (1 ∷ []) $ rewrite ! 0 (λ (k : ℕ). ‵ (froom (words_type k) b (i * 8 + o))) {x = suc (n - suc i)} (omega arith) refl $
         use1 𝓛 (‵ (froom (ty_int w64) b (i * 8 + o)) ⊛ ‵ (froom (words_type (n - suc i)) b (i * 8 + o + 8))) (𝓛.laws.room_uncons (ty_int w64) (n - suc i) b (i * 8 + o)) $ split ! $
         assigns_last ! (of_opd ! (lit ! tt)) (through ! refl (stop !)) (init ! 0 refl (tt, record { fits = lit< tt })) $
+        -- `i += 1`
         exec ! 𝓣.C 𝓣.Λ En (after 3 turn) (any_q (Turned t)) $ sets_last ! (bin ! (get ! refl) (lit ! tt) (record { fits = next })) refl (tt, record { fits = next }) $
-        -- it goes to the words written
+        -- the word goes to the words written, and the turn ends nearer to n
         use1 𝓛 (‵ (part_at u64 full_share 0 b (i * 8 + o))) (uint_in 𝓛 full_share w64 0 b (i * 8 + o)) $ move ! (2 ∷ 0 ∷ []) $
         use2 𝓛 (‵ (cells (mem u64) (replicate i 0 ++ 0 ∷ []) b o)) (snoc 𝓛 b (replicate i 0) 0 o (i * 8 + o) (omega (arith, length-replicate {A = ℕ} i 0))) $
         rewrite ! 0 (λ (ws : List ℕ). ‵ (cells (mem u64) ws b o)) (replicate_more i 0) refl $
         rewrite ! 1 (λ (k : ℕ). ‵ (froom (words_type (n - suc i)) b k)) {x = (i + 1) * 8 + o} (omega arith) refl $
         rewrite ! 1 (λ (k : ℕ). ‵ (froom (words_type k) b ((i + 1) * 8 + o))) {x = n - (i + 1)} (omega arith) refl $
         forget_but ! En (1 ∷ 2 ∷ 3 ∷ []) refl $ again ! Nearer Now t (i + 1, omega arith) (omega arith))
+        -- the loop is over: all n are written, and the function returns
         (λ over. let all : i ≡ n = omega (arith, nltb→le i n over) in
         jumps ! $ exec ! 𝓣.C 𝓣.Λ En code.Mir.t-3 (at_ret En Post) $ sets ! (of_opd ! (unit_lit !)) refl (tt, tt) $
         returns ! (look_at ! 0 refl) $ free_all ! refl $ keep ! (0 ∷ []) $
@@ -94,6 +96,7 @@ module _ {M : Type 1} {𝓤 : Ura M} (𝓛 : Logic 𝓤) (𝓣 : Tables 𝓤 �
   runs_whole : n < 2 ^ 64 → Sq 𝓛 (‵ (froom (words_type n) b o) ∷ []) (prop (WpFn 𝓤 H 𝓣.C 𝓣.Λ code.function (vptr b o ∷ vint w64 n ∷ []) Post))
   runs_whole fits =
       enter ! 𝓣.C 𝓣.Λ code.function (vptr b o ∷ vint w64 n ∷ []) Post $ alloc_all ! (λ l. pass_all ! refl ((tt, tt), ((tt, record { fits = fits }), tt)) $
+      -- `let mut i = 0;`, and the loop from no word written on
       sets ! (of_opd ! (lit ! tt)) refl (tt, record { fits = lit< tt }) $
       rewrite ! 0 (λ (k : ℕ). ‵ (froom (words_type k) b o)) {x = n - 0} (omega arith) refl $ rewrite ! 0 (λ (k : ℕ). ‵ (froom (words_type (n - 0)) b k)) {x = 0 * 8 + o} (omega arith) refl $
       nothing ! $ first ! $ blocks ! $ loops ! 𝓣 Nearer (InvImage.wf (λ (t : Written). n - t.0) lt-wf_rel.wf) (Now l) (turns l) (0, omega arith))

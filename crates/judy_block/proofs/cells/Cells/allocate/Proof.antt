@@ -1,4 +1,4 @@
--- `allocate` takes room for the words, has them zeroed, and keeps the right to free them. Assumes `Logic`.
+-- `allocate` takes room for the words, has them zeroed, and keeps the right to free them. How to read it: Lib.antt. Assumes `Logic`.
 use Rattle.std.proofs.Common.{◌≡◌, ℕ, ◌*◌, ◌<◌, ◌^◌, List, [], ◌∷◌, ◌++◌, replicate, refl, sym, ap, subst, arith, lit<, T, w64, Ok, Err}
 use Rattle.std.proofs.lemmas.List.{length-replicate}
 use Rattle.std.proofs.raw_atomic.Walks.{proved_at, leaves}
@@ -58,6 +58,7 @@ allocate_spec 𝓤 𝓛 𝓜 𝓡 wired A L g d dd met md =
     let 𝓣 = tables 𝓤 𝓛.H 𝓜 𝓡 𝓡.env in let H = 𝓛.H in
     proved_at 𝓛 E stays c 𝓜 𝓡 (Goes-dropped 𝓛 2 (slot_at 0 E.signature.params) E.kept.0 (λ κs x w. refl), (Goes-dropped 𝓛 2 (slot_at 1 E.signature.params) E.kept.1.0 (λ κs x w. refl), tt))
     (f.Key.name args) fn (code.unfolded 𝓤 𝓛.H 𝓜 𝓡 wired (A, tt) d dd) (λ z are.
+    -- the premises: κ is the lifetime of the `&` to the handle, h the handle, n the count
     let Post : Val → SProp 𝓤 = (walk_of 𝓛 E stays c).post z in let a = z.0.3 in let vss = z.0.4 in
     let Y : Al = record { row = A; laws = L; g = g; d = d; drops = dd } in
     let κ : Lft = z.0.0.0 in let q : Share = z.0.1.0 in let h = a.0.now in let at = a.0.ref_ptr in let n : ℕ = a.1.0 in let fits = are.1.0.1 in
@@ -71,7 +72,9 @@ allocate_spec 𝓤 𝓛 𝓜 𝓡 wired A L g d dd met md =
     regoal ! (λ (us : List Val). prop (WpFn 𝓤 𝓛.H 𝓣.C 𝓣.Λ fn us Post)) (λ i. are.0.0 i ++ (are.1.0.0 i ++ [])) refl $
     enter ! 𝓣.C 𝓣.Λ fn (vptr at.0 at.1 ∷ vint w64 n ∷ []) Post $ alloc_all ! (λ l. pass_all ! refl ((tt, tt), ((tt, record { fits = fits }), tt)) $ let En : Env 𝓤 𝓛.H = env fn.locals l in
     let Then : After 𝓤 H = any_q (after_seq 𝓤 H (Wp 𝓤 H 𝓣.C 𝓣.Λ En (after 3 fn.body) (at_return 𝓤 H En Post)) (at_return 𝓤 H En Post)) in let both = head (after 2 fn.body) in
+    -- `count * size_of::<u64>()`
     sets ! (bin ! (get ! refl) (lit ! tt) (record { fits = bytes })) refl (tt, record { fits = bytes }) $
+    -- the call of `alloc.allocate`, and the two cases of its answer
     use2 𝓛 (raw ((Takes Y 𝓛 𝓜.mem 𝓡.returns).pre y))
     (Takes-goes Y 𝓛 𝓜.mem 𝓡.returns κ q at h (⊑_trans κ z.0.0.1.0 A.lives z.0.2.0 le) (n * 8) 8 (words_type n) (capped_is (n * 8) bytes) refl bytes (lit< tt)) $
     calls_at ! (framed 𝓤 𝓛.H 𝓜 𝓣) (Takes Y 𝓛 𝓜.mem 𝓡.returns) (met.allocate dd) y (and_then ! (get ! refl) (and_then ! (get ! refl) (and_then ! (lit ! tt) (no_more !)))) (λ v.
@@ -80,9 +83,10 @@ allocate_spec 𝓤 𝓛 𝓜 𝓡 wired A L g d dd met md =
     -- a block: [the room; the token; the two lifetimes]
     (λ b o e. move ! (2 ∷ 3 ∷ []) $ join ! $ move ! (1 ∷ 2 ∷ []) $ lands_as ! e refl (Answer-typed true b o) $
     let p : Ptr = block_ptr b o in let zeros = replicate n 0 in
+    -- into the arm `Ok(memory)`: `memory` and `head`
     first ! $ switches_on ! (get_tag ! (vrt ! refl (fld ! refl (stop !))) (whole !)) $ exec ! 𝓣.C 𝓣.Λ En (arm_body 0 both) Then $
     sets ! (of_opd ! (get_in ! (vrt ! refl (fld ! refl (stop !))) (in_variant ! 0 0 refl refl (whole !)))) refl (tt, tt) $ sets ! (of_opd ! (get ! refl)) refl (tt, tt) $
-    -- the call of `zero`
+    -- `unsafe { zero(head, count) }`: it takes the arguments, the bound and the room, and gives the words
     first ! $ blocks ! $ let G = triple_of 𝓛 g-zero.signature (g-zero.spec 𝓛 𝓜.mem 𝓡.returns) in
     let at_zero : G.Ghost = ((tt, tt, tt, (p, (n, tt)), (vptr b o ∷ [], (vint w64 n ∷ [], tt))), tt) in
     use0 𝓛 (raw (fact 𝓤 Asked)) (fact_i 𝓤 Asked (emp 𝓤) few) $ join ! $
@@ -92,13 +96,14 @@ allocate_spec 𝓤 𝓛 𝓜 𝓡 wired A L g d dd met md =
     use1 𝓛 (later (some (λ (r : Unit {0}). (‵ ftrue ⊛ ‵ (unit.own_val r (u ∷ []))) ⊛ some (λ (ws : Unit {0} × (Unit {0} × Unit {0})). ‵ (lasts g-zero.ended tt at_zero.0.3 ws) ⊛ ‵ (words_own p zeros))))) (id⊢ 𝓤 _) $
     await ! tt $ pick ! (λ r. split ! $ split ! $ drop ! $ feq_l ! (λ is_unit. pick ! (λ ws. split ! $ drop ! $
     lands_last ! refl (subst (λ (x : Val). T (has_ty ty_unit x) × WT x) (sym (ap only is_unit)) (tt, tt)) $ exec ! 𝓣.C 𝓣.Λ En (after 3 (arm_body 0 both)) Then $
-    -- the two structs, the pair and the `Result` are made
+    -- [the words; the token; the two lifetimes]. `Ok((Cells { head }, Deed { mark: PhantomData }))`: both structs, the pair, the `Result`
     let made : Val = pair_val (cells_val p) deed_val in
     sets ! (agg ! (and_then ! (get ! refl) (no_more !))) refl (tt, (tt, tt)) $ sets ! (agg ! (no_more !)) refl (tt, tt) $ sets ! (agg ! (and_then ! (get ! refl) (no_more !))) refl (tt, (tt, tt)) $
     sets ! (agg ! (and_then ! (get ! refl) (and_then ! (get ! refl) (no_more !)))) refl (tt, ((tt, tt), ((tt, tt), tt))) $
     sets_last ! (agg ! (and_then ! (lit ! tt) (and_then ! (get ! refl) (no_more !)))) refl (tt, (record { fits = lit< tt }, (((tt, tt), ((tt, tt), tt)), tt))) $
     exec ! 𝓣.C 𝓣.Λ En (after 3 fn.body) (at_ret En Post) $ sets ! (of_opd ! (get ! refl)) refl (tt, (record { fits = lit< tt }, (((tt, tt), ((tt, tt), tt)), tt))) $
     returns ! (look_at ! 0 refl) $ free_all ! refl $
+    -- the return: the words make the cells what they own, and the token the deed
     let x : (C.the_row).Denot = record { head = p; items = zeros } in let k : (D.the_row Z g).Denot = record { mark = record {}; alloc = h; at = p; len = n } in
     use0 𝓛 (‵ (cells_own p (cells_val p ∷ []))) (cells_made 𝓛 p) $ fjoin ! $ move ! (1 ∷ []) $ use0 𝓛 (‵ (deed_own (deed_val ∷ []))) (deed_made 𝓛) $ fjoin ! $ move ! (1 ∷ 0 ∷ []) $
     use2 𝓛 (‵ (Pair.own_val (x, k) (made ∷ []))) (pair_of 𝓛 C.the_row (D.the_row Z g) x k (cells_val p) deed_val) $
@@ -110,6 +115,7 @@ allocate_spec 𝓤 𝓛 𝓜 𝓡 wired A L g d dd met md =
     -- none: [the two lifetimes]
     (λ e. join ! $ lands_as ! e refl (Answer-typed false 0 0) $
     let Refusal : RattleType = Struct (Declared.shape AE.the_type) in let none : Val = live 1 (vcons (vstruct vnil) vnil) in
+    -- into the arm `Err(error)`, which hands the error on
     first ! $ switches_on ! (get_tag ! (vrt ! refl (fld ! refl (stop !))) (whole !)) $ exec ! 𝓣.C 𝓣.Λ En (arm_body 1 both) Then $
     sets ! (of_opd ! (get_in ! (vrt ! refl (fld ! refl (stop !))) (in_variant ! 1 0 refl refl (whole !)))) refl (tt, tt) $
     sets_last ! (agg ! (and_then ! (lit ! tt) (and_then ! (get ! refl) (no_more !)))) refl (tt, (record { fits = lit< tt }, (tt, tt))) $

@@ -1,4 +1,4 @@
--- `front` reads the pointer through the `&`, and shows the first words behind it. Assumes `Logic`.
+-- `front` reads the pointer through the `&`, and shows the first words behind it. How to read it: Lib.antt. Assumes `Logic`.
 use Rattle.std.proofs.Common.{◌≡◌, ℕ, ◌+◌, ◌*◌, ◌≤◌, ◌^◌, List, [], ◌∷◌, length, take, drop, refl, sym, ap, subst, arith, w64, length-take, take-append-drop}
 use Rattle.std.proofs.raw_atomic.Walks.{proved}
 use Rattle.std.proofs.Words.{pointer_in, pointer_out}
@@ -75,12 +75,13 @@ front_spec 𝓤 𝓛 𝓜 𝓡 wired =
     let inb : InBlock d.head = subst InBlock (sym e) tt in let at : ℕ × ℕ = (block_of d.head, count_of d.head) in
     rewrite ! 0 (λ (l : List ℕ). ‵ (elements_shared u64 l b o κ)) (sym (take-append-drop n d.items)) refl $ use1 𝓛 (‵ (elements_shared u64 ws b o κ)) (seen 𝓛 b κ ws (drop n d.items) o) $
     rewrite ! 0 (λ (p : Ptr). ‵ (elements_shared u64 ws (block_of p) (count_of p) κ)) {x = d.head} (sym e) refl $ hide ! $
-    -- the pointer is read
+    -- into `unsafe { .. }`: `self.head` is read
     move ! (1 ∷ 2 ∷ []) $ first ! $ blocks ! $ pointer_in ! tt d.head inb rb (ro + 0) (shows_head 𝓛 κ d.head rb ro) (λ q.
     sets ! (of_opd ! (load ! (through ! refl (fld ! refl (stop !))) (look ! 1 refl))) refl (tt, tt) $ pointer_out ! tt d.head inb rb (ro + 0) $
-    -- and put into the slice with the length
+    -- `from_raw_parts`: the pointer and the count make the slice
     sets_last ! (agg ! (and_then ! (get ! refl) (and_then ! (get ! refl) (no_more !)))) refl (tt, (tt, (record { fits = fits }, tt))) $
     exec ! 𝓣.C 𝓣.Λ (env code.Mir.locals l) code.Mir.t-2 (at_ret _ (W.post y)) $ sets ! (of_opd ! (get ! refl)) refl (tt, (tt, (record { fits = fits }, tt))) $
+    -- the return: the words shown are what the slice owns
     returns ! (look_at ! 0 refl) $ free_all ! refl $ keep ! (2 ∷ 0 ∷ []) $
     let long : length ws ≡ n = omega (arith, length-take n d.items) in
     flt_i ! (length ws * 8) (2 ^ 63) (omega arith) $ flt_i ! (length ws) (2 ^ 64) (omega arith) $ fjoin ! $

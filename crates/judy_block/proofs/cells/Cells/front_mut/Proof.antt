@@ -1,4 +1,4 @@
--- `front_mut` lends the first words behind the pointer, and the struct follows them. Assumes `Logic`.
+-- `front_mut` lends the first words behind the pointer, and the struct follows them. How to read it: Lib.antt. Assumes `Logic`.
 use Rattle.std.proofs.Common.{◌≡◌, ℕ, ◌+◌, ◌*◌, ◌<◌, ◌≤◌, ◌^◌, ◌∙◌, List, [], ◌∷◌, ◌++◌, length, take, drop, refl, sym, ap, arith, w64, length-take, length-drop, length-append, take-append-drop}
 use Rattle.std.proofs.raw_atomic.Walks.{proved}
 use Rattle.std.specs.List.{refill}
@@ -62,6 +62,7 @@ module _ {M : Type 1} {𝓤 : Ura M} (𝓛 : Logic 𝓤) (d : Cells) (n rb ro b 
   abbrev Rest : Fml
   Rest = fsep (cells (mem u64) (drop n d.items) b at) (fsep ((Struct (shape C.the_type)).own_val (d.head, tt) vs) (cell_at full_share R.mir vs rb ro))
 
+  -- whatever the n words have become, with the rest they are the struct at `new`
   back : d.head ≡ block_ptr b o → at ≡ n * 8 + o → n ≤ length d.items → length d.items < 65537 → (ws : List ℕ) → length ws ≡ length (take n d.items)
       → ent 𝓤 (sep 𝓤 (sem 𝓛 (cells (mem u64) ws b o)) (sem 𝓛 Rest)) (sem 𝓛 ((mem R).own_at (new d n ws) rb ro))
   unfolding part_of
@@ -88,12 +89,13 @@ front_mut_spec 𝓤 𝓛 𝓜 𝓡 wired =
     split ! $ split ! $ move ! (3 ∷ []) $ heard ! (n ≤ length d.items) (λ within. move ! (2 ∷ []) $ fsplit ! $ fsplit3 ! $ skip ! $ keep ! (0 ∷ 1 ∷ 3 ∷ []) $
     -- [two parts of the `&mut`; its token]
     enter ! _ _ _ _ _ $ alloc_all ! (λ l. pass_all ! refl ((tt, tt), ((tt, record { fits = fits }), tt)) $
+    -- the borrow is opened
     opens ! tt R {h = d} rb ro (λ vs. move ! (1 ∷ []) $ peeks ! R _ (shows 𝓛 R) d vs (λ is. fsplit ! $ move ! (1 ∷ []) $
     -- [the words; what the pointer owns; the struct's cell; the open borrow, in three entries]
     in_a_block ! d.head (λ p. words_own p d.items) (id⊢ 𝓤 (never 𝓤)) (λ b o e. fsplit ! $ flt_l ! (λ few.
     let word = lowers.val_is d vs is ∙ ap (λ (p : Ptr). lowers.lowered (record d { head = p }) ∷ []) e in
     let Cell = λ (us : List Val). ‵ (cell_at full_share R.mir us rb ro) in
-    -- the pointer is read, and put into the slice with the length
+    -- into `unsafe { .. }`: `self.head` is read, and `from_raw_parts_mut` makes the slice of it and the count
     rewrite ! 2 Cell word refl $ first ! $ blocks ! $ sets ! (of_opd ! (load ! (through ! refl (fld ! refl (stop !))) (look_in ! 2 (sub ! 0 refl (whole !))))) refl (tt, tt) $ rewrite ! 2 Cell (sym word) refl $
     sets_last ! (agg ! (and_then ! (get ! refl) (and_then ! (get ! refl) (no_more !)))) refl (tt, (tt, (record { fits = fits }, tt))) $
     exec ! 𝓣.C 𝓣.Λ (env code.Mir.locals l) code.Mir.t-2 (at_ret _ (W.post y)) $ sets ! (of_opd ! (get ! refl)) refl (tt, (tt, (record { fits = fits }, tt))) $
@@ -106,6 +108,7 @@ front_mut_spec 𝓤 𝓛 𝓜 𝓡 wired =
     let Lent = Elements 𝓛 R u64 (new d n) (named 0) κ q rb ro b o γ ws (few', fitting) (sem 𝓛 (Rest 𝓛 d n rb ro b o at vs)) (back 𝓛 d n rb ro b o at vs e refl within few) in
     use1 𝓛 (later (some (λ (δ : GName). raw (Lent δ))))
     (lends_Elements 𝓛 R u64 (new d n) (named 0) κ q rb ro b o γ ws (few', fitting) (sem 𝓛 (Rest 𝓛 d n rb ro b o at vs)) (back 𝓛 d n rb ro b o at vs e refl within few) mark mark) $ await ! tt $ pick ! (λ δ.
+    -- the return: [the slice; the token; that the struct follows the slice]
     returns ! (look_at ! 0 refl) $ free_all ! refl $ keep ! (0 ∷ []) $
     let r : MutBor (List ℕ) = record { ref_ptr = (b, o); ghost_name = δ; now = ws } in
     use1 𝓛 (‵ ((MutSlice (named 0) κ u64).own_val r (slice_val (b, o) (length ws) ∷ [])) ⊛ ‵ (flft κ q) ⊛ ‵ (follows R (Array u64 0) γ δ (new d n))) (id⊢ 𝓤 _) $ split3 ! $

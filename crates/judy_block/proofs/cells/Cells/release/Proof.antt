@@ -1,4 +1,4 @@
--- `release` gives the allocator its block and its token. Assumes `Logic`.
+-- `release` gives the allocator its block and its token. How to read it: Lib.antt. Assumes `Logic`.
 use Rattle.std.proofs.Common.{◌≡◌, ℕ, ◌*◌, ◌<◌, ◌^◌, List, [], ◌∷◌, ◌++◌, length, refl, sym, ap, subst, ◌∙◌, arith, lit<, T, w64}
 use Rattle.std.proofs.raw_atomic.Walks.{proved_at, leaves}
 use Rattle.std.proofs.alloc.Calls.{Al, seen, Goes-blank, Gives, at_gives, Gives-goes, Gives-Gives}
@@ -54,6 +54,7 @@ release_spec 𝓤 𝓛 𝓜 𝓡 wired A L g d dd met md =
       ),
     )
     (f.Key.name args) fn (code.unfolded 𝓤 𝓛.H 𝓜 𝓡 wired (A, tt) d dd) (λ z are.
+    -- the premises: κ is the lifetime of the `&` to the handle, x the cells, k the deed, h the handle, n the count
     let Post : Val → SProp 𝓤 = (walk_of 𝓛 E stays c).post z in let a = z.0.3 in let vss = z.0.4 in
     let Y : Al = record { row = A; laws = L; g = g; d = d; drops = dd } in
     let κ : Lft = z.0.0.0 in let q : Share = z.0.1.0 in let x = a.0 in let k = a.1.0 in let h = a.1.1.0.now in let at = a.1.1.0.ref_ptr in let n : ℕ = a.1.1.1.0 in
@@ -61,7 +62,7 @@ release_spec 𝓤 𝓛 𝓜 𝓡 wired A L g d dd met md =
     let Its : Type 0 = IsDeedOf k h x in let All : Type 0 = length x.items ≡ n in
     qed 𝓛 ((raw (alive 𝓛 E.signature z.0.0 z.0.1) ⊛ ‵ (owns (types_at E.signature.params z.0.0) a vss)) ∷ (raw (fact 𝓤 (z.0.0.1.0 ⊑ A.lives)) ⊛ raw (fact 𝓤 Its) ⊛ raw (fact 𝓤 All)) ∷ []) ∵
     move ! (1 ∷ []) $ split3 ! $ heard ! (z.0.0.1.0 ⊑ A.lives) (λ le. heard ! Its (λ its. heard ! All (λ all. split ! $
-    -- [the cells; the deed; the `&` to the handle, and the count; the tokens]
+    -- [the cells; the deed; the `&` to the handle, and the count; the tokens], of the cells the words, in a block b from o on
     move ! (1 ∷ []) $ fsplit3 ! $ fsplit ! $ drop ! $ in_a_block ! x.head (λ p. words_own p x.items) (id⊢ 𝓤 (never 𝓤)) (λ b o e. fsplit ! $ flt_l ! (λ few.
     let bytes : n * 8 < 2 ^ 64 = omega (arith, all) in let y = at_gives Y 𝓛 𝓜.mem 𝓡.returns κ q at h b o (n * 8) 8 (words_type n) in
     -- the words are room for as many
@@ -75,13 +76,18 @@ release_spec 𝓤 𝓛 𝓜 𝓡 wired A L g d dd met md =
     (λ i. (cells_told x.head vss.0 are.0.0 ∙ ap (λ (p : Ptr). cells_val p ∷ []) e) i ++ (deed_told vss.1.0 are.1.0.0 i ++ (are.1.1.0.0 i ++ (are.1.1.1.0.0 i ++ [])))) refl $
     enter ! 𝓣.C 𝓣.Λ fn (cells_val (block_ptr b o) ∷ deed_val ∷ vptr at.0 at.1 ∷ vint w64 n ∷ []) Post $
     alloc_all ! (λ l. pass_all ! refl ((tt, (tt, tt)), ((tt, (tt, tt)), ((tt, tt), ((tt, record { fits = fits }), tt)))) $ let En : Env 𝓤 𝓛.H = env fn.locals l in
-    sets ! (of_opd ! (get_in ! (fld ! refl (stop !)) (sub ! 0 refl (whole !)))) refl (tt, tt) $ first ! $ blocks ! $
+    -- `let Cells { head } = self;`
+    sets ! (of_opd ! (get_in ! (fld ! refl (stop !)) (sub ! 0 refl (whole !)))) refl (tt, tt) $
+    -- into `unsafe { .. }`: the two arguments, the pointer and the bytes
+    first ! $ blocks ! $
     sets ! (of_opd ! (get ! refl)) refl (tt, tt) $ sets ! (bin ! (get ! refl) (lit ! tt) (record { fits = bytes })) refl (tt, record { fits = bytes }) $
+    -- what `deallocate` requires is these four entries; the call takes them and leaves the lifetime
     group ! 4 $ use1 𝓛 (raw ((Gives Y 𝓛 𝓜.mem 𝓡.returns).pre y))
     (Gives-goes Y 𝓛 𝓜.mem 𝓡.returns κ q at h (⊑_trans κ z.0.0.1.0 A.lives z.0.2.0 le) b o (n * 8) 8 (words_type n) (capped_is (n * 8) bytes) refl bytes (lit< tt)) $
     calls_at_last ! (framed 𝓤 𝓛.H 𝓜 𝓣) (Gives Y 𝓛 𝓜.mem 𝓡.returns) (met.deallocate dd) y (and_then ! (get ! refl) (and_then ! (get ! refl) (and_then ! (get ! refl) (and_then ! (lit ! tt) (no_more !))))) (λ v.
     use1 𝓛 (later (given (v ≡ vunit) (‵ (flft κ q)))) (Gives-Gives Y 𝓛 𝓜.mem 𝓡.returns κ q at h b o (n * 8) 8 (words_type n) v) $ await ! tt $ learn ! (λ done_with. join ! $
     lands_last ! refl (subst (λ (u : Val). T (has_ty ty_unit u) × WT u) (sym done_with) (tt, tt)) $ exec ! 𝓣.C 𝓣.Λ En (after 2 fn.body) (at_ret En Post) $
+    -- the return: no part of the parameters is left
     sets ! (of_opd ! (unit_lit !)) refl (tt, tt) $ returns ! (look_at ! 0 refl) $ free_all ! refl $
     feq_i ! (List Val) (vunit ∷ []) (vunit ∷ []) refl $ nothing ! $ nothing ! $ nothing ! $ fjoin ! $ nothing ! $ fjoin ! $ nothing ! $ fjoin ! $ nothing ! $ fjoin ! $ move ! (3 ∷ 0 ∷ 2 ∷ 1 ∷ []) $
     by ! (leaves 𝓛 E stays c z vunit tt (tt, (tt, (tt, (tt, tt)))) (tt, (tt, (tt, (tt, tt))))))))))))))

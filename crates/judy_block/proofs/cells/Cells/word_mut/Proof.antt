@@ -1,4 +1,4 @@
--- `word_mut` lends one word behind the pointer, and the struct follows it. Assumes `Logic`.
+-- `word_mut` lends one word behind the pointer, and the struct follows it. How to read it: Lib.antt. Assumes `Logic`.
 use Rattle.std.proofs.Common.{◌≡◌, ℕ, ◌+◌, ◌*◌, ◌<◌, ◌^◌, ◌∙◌, List, [], ◌∷◌, length, refl, sym, ap, arith, w64}
 use Rattle.std.proofs.raw_atomic.Walks.{proved}
 use lib.ListN.{set, get_or, length-set}
@@ -58,6 +58,7 @@ module _ {M : Type 1} {𝓤 : Ura M} (𝓛 : Logic 𝓤) (d : Cells) (i rb ro b 
   abbrev Rest : Fml
   Rest = fsep (Besides 𝓛 b d.items i o at place within) (fsep ((Struct (shape C.the_type)).own_val (d.head, tt) vs) (cell_at full_share R.mir vs rb ro))
 
+  -- whatever the word has become, with the rest it is the struct at `new`
   back : d.head ≡ block_ptr b o → length d.items < 65537 → (w : ℕ) → ent 𝓤 (sep 𝓤 (sem 𝓛 ((mem u64).own_at w b at)) (sem 𝓛 Rest)) (sem 𝓛 ((mem R).own_at (new d i w) rb ro))
   unfolding part_of
   back e few w =
@@ -80,12 +81,13 @@ word_mut_spec 𝓤 𝓛 𝓜 𝓡 wired =
     split ! $ split ! $ move ! (3 ∷ []) $ heard ! (i < length d.items) (λ within. move ! (2 ∷ []) $ fsplit ! $ fsplit3 ! $ skip ! $ keep ! (0 ∷ 1 ∷ 3 ∷ []) $
     -- [two parts of the `&mut`; its token]
     enter ! _ _ _ _ _ $ alloc_all ! (λ l. pass_all ! refl ((tt, tt), ((tt, record { fits = fits }), tt)) $
+    -- the borrow is opened
     opens ! tt R {h = d} rb ro (λ vs. move ! (1 ∷ []) $ peeks ! R _ (shows 𝓛 R) d vs (λ is. fsplit ! $ move ! (1 ∷ []) $
     -- [the words; what the pointer owns; the struct's cell; the open borrow, in three entries]
     in_a_block ! d.head (λ p. words_own p d.items) (id⊢ 𝓤 (never 𝓤)) (λ b o e. fsplit ! $ flt_l ! (λ few.
     let word = lowers.val_is d vs is ∙ ap (λ (p : Ptr). lowers.lowered (record d { head = p }) ∷ []) e in
     let Cell = λ (us : List Val). ‵ (cell_at full_share R.mir us rb ro) in let far : i * 8 < 2 ^ 64 = omega arith in let at : ℕ = i * 8 + o in
-    -- the pointer is read, and moved on to the word
+    -- into `unsafe { .. }`: `self.head` is read, `.add(i)` moves it on to the word, and `&mut *` makes the reference
     rewrite ! 2 Cell word refl $ first ! $ blocks ! $ sets ! (of_opd ! (load ! (through ! refl (fld ! refl (stop !))) (look_in ! 2 (sub ! 0 refl (whole !))))) refl (tt, tt) $ rewrite ! 2 Cell (sym word) refl $
     sets ! (bin ! (get ! refl) (lit ! tt) (record { fits = far })) refl (tt, record { fits = far }) $ sets ! (bin ! (get ! refl) (get ! refl) tt) refl (tt, tt) $
     sets_last ! (addr ! (through ! refl (stop !))) refl (tt, tt) $ exec ! 𝓣.C 𝓣.Λ (env code.Mir.locals l) code.Mir.t-2 (at_ret _ (W.post y)) $ sets ! (of_opd ! (get ! refl)) refl (tt, tt) $
@@ -94,6 +96,7 @@ word_mut_spec 𝓤 𝓛 𝓜 𝓡 wired =
     move ! (1 ∷ 2 ∷ 3 ∷ []) $ fjoin3 ! $ move ! (2 ∷ 3 ∷ 4 ∷ 1 ∷ 0 ∷ []) $ group ! 5 $ let mark = R.coded.code d in
     use1 𝓛 (later (some (λ (δ : GName). raw (Part 𝓛 R u64 (new d i) (named 0) κ q rb ro b at γ (sem 𝓛 (Rest 𝓛 d i rb ro b o at refl within vs)) (back 𝓛 d i rb ro b o at refl within vs e few) w δ))))
     (lends_Part 𝓛 R u64 (new d i) (named 0) κ q rb ro b at γ (sem 𝓛 (Rest 𝓛 d i rb ro b o at refl within vs)) (back 𝓛 d i rb ro b o at refl within vs e few) mark mark w) $ await ! tt $ pick ! (λ δ.
+    -- the return: [the reference; the token; that the struct follows the word]
     returns ! (look_at ! 0 refl) $ free_all ! refl $ keep ! (0 ∷ []) $
     let r : MutBor ℕ = record { ref_ptr = (b, at); ghost_name = δ; now = w } in
     use1 𝓛 (‵ ((MutRef (named 0) κ u64).own_val r (vptr b at ∷ [])) ⊛ ‵ (flft κ q) ⊛ ‵ (follows R u64 γ δ (new d i))) (id⊢ 𝓤 _) $ split3 ! $
