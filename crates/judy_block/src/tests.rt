@@ -49,23 +49,13 @@ fn block_of(
 }
 
 #[test]
-fn a_new_block_is_empty(rt: HostRuntime) -> Result<(), Fail> {
-    for &capacity in &CAPACITIES {
-        assert!(rt; 1 <= capacity && capacity <= 65_535);
-        let block = Block::new(rt.alloc(), capacity)?;
-        assert_eq!(rt; block.len(), 0, "at {capacity}");
-        assert_eq!(rt; block.capacity(), capacity);
-        assert_eq!(rt; block.tag(), 0, "at {capacity}");
-        assert!(rt; block.words().is_empty(), "at {capacity}");
-    }
-    Ok(())
-}
-
-#[test]
-fn a_block_is_filled_to_its_capacity(rt: HostRuntime) -> Result<(), Fail> {
+fn a_new_block_is_empty_and_fills_to_its_capacity(rt: HostRuntime) -> Result<(), Fail> {
     for &capacity in &CAPACITIES {
         assert!(rt; 1 <= capacity && capacity <= 65_535);
         let mut block = Block::new(rt.alloc(), capacity)?;
+        assert!(rt; block.words().is_empty(), "at {capacity}");
+        assert_eq!(rt; block.capacity(), capacity);
+        assert_eq!(rt; block.tag(), 0, "at {capacity}");
         for place in 0..capacity {
             open(&rt, &mut block, place, 1);
             put(&rt, &mut block, place, u64::MAX - place as u64);
