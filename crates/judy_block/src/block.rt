@@ -58,7 +58,7 @@ impl Block {
     /// The number of words that there is room for, from 1 to 65,535.
     pub fn capacity(&self) -> usize
         ensures capacity { result ≡ self.now.capacity }
-        ensures within { result ≤ 65535 }
+        ensures within { (1 ≤ result) × (result ≤ 65535) }
     {
         self.header().capacity()
     }
@@ -161,6 +161,7 @@ impl Block {
         ensures capacity { capacity_of result.bits ≡ self.now.capacity }
         ensures tag { tag_of result.bits ≡ self.now.tag }
         ensures within { length self.now.words ≤ self.now.capacity }
+        ensures some { 1 ≤ self.now.capacity }
     {
         Header {
             bits: self.cells.front(1)[0],
