@@ -1,0 +1,25 @@
+//! Blocks of 64-bit words, in memory of their own.
+//!
+//! A [`Block`] is one allocation behind one pointer. What a contract sees of it is a record: the list of
+//! its words, its capacity, and a tag, a number that the block keeps for the crate above. The calls are
+//! those of a small vector whose capacity is fixed: a gap of zeros is opened among the words or closed
+//! again, a word is read, written or lent, and all words are copied from another block. Only
+//! [`Block::new`] asks for memory; where it is refused, nothing is kept. A block is freed at its end.
+//!
+//! The layout is this project's own. The first word of the allocation is a header, with the number of
+//! words in use, the capacity and the tag (header.rt); the words in use follow, and then spare words.
+//! So a block is one pointer wide, which keeps the nodes of a tree small.
+//!
+//! This is the one crate with raw pointers, and they stand in cells.rt alone: five functions that take
+//! the memory, give it back, and lend it as a slice or a word, each proved by hand, statement by
+//! statement, in proofs/cells. All else is safe code over slices. The crate stands on std alone; leaves
+//! stand on it.
+#![tactic(auto)]
+
+mod block;
+mod cells;
+mod header;
+#[cfg(test)]
+mod tests;
+
+pub use block::Block;
