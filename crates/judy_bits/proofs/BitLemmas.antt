@@ -1,15 +1,15 @@
 -- Bits of words, and how many of them are 1.
-use Rattle.std.proofs.Common.{◌≡◌, ◌≢◌, ℕ, zero, suc, ◌+◌, ◌-◌, ◌*◌, ◌/◌, ◌%◌, ◌^◌, ◌<◌, ◌≤◌, ◌==◌, min, Bool, true, false, cond, List, [], ◌∷◌, ◌++◌, length, slice_index, get_or, sym, refl, ap, ◌∙◌, subst, arith, inl, inr, ⊎_elim, ne_eqb, count_ones, bit_and}
-use Rattle.std.specs.Int.{w64, bit_at, bit_not, trailing_zeros, leading_zeros}
-use Rattle.std.specs.Int.Count.{ones, ones_cat, ones-ones, ones-le, ones_step}
+use Rattle.std.proofs.Common.{◌≡◌, ℕ, zero, suc, ◌+◌, ◌-◌, ◌*◌, ◌/◌, ◌%◌, ◌^◌, ◌<◌, ◌≤◌, ◌==◌, Bool, true, false, cond, List, [], ◌∷◌, length, slice_index, sym, refl, ap, ◌∙◌, subst, arith, ⊎_elim, bit_and}
+use Rattle.std.specs.Int.{w64, bit_at, trailing_zeros, leading_zeros}
+use Rattle.std.specs.Int.Count.{ones, ones_cat, ones-ones, ones-le}
 use Rattle.std.proofs.lemmas.List.{length-append}
 use Rattle.std.proofs.Math.Nat.{mod-eq_of_lt, div-eq_of_lt-le, pow-suc}
 use Rattle.std.proofs.Math.Pow.{pow_mono}
 use Rattle.std.proofs.lemmas.Nat.{and_le_l, mod-pow-add, mod_below, pow_pos, leading_top}
-use Rattle.std.proofs.lemmas.Nat.Bits.{bit_at-lt, bit_at_above, bit_at_and, bit_at_not, bit_at_ones, bit_at_ones_above, bit_at-trailing_zeros, bit_at-zero, same_from_bits_below}
-use Rattle.std.proofs.lemmas.Bool.{eqb-true, eq-eqb, cases_order, cases_lt}
-use Rattle.judy_bits.specs.BitWords.{is_set, IsLowestFrom, NoneFrom, IsHighestBelow, NoneBelow, IsSelected}
-use Rattle.judy_bits.proofs.Ranges.{chosen, chosen_split, chosen_agree}
+use Rattle.std.proofs.lemmas.Nat.Bits.{bit_at-lt, bit_at_above, bit_at_and, bit_at_not, bit_at_ones, bit_at_ones_above, bit_at-trailing_zeros, bit_at-zero}
+use Rattle.std.proofs.lemmas.Bool.{cases_lt}
+use Rattle.judy_bits.specs.BitWords.{is_set, IsLowestFrom, NoneFrom, IsHighestBelow, NoneBelow}
+use Rattle.judy_bits.proofs.Ranges.{chosen, chosen_split}
 
 -- ---- how many bits are 1
 

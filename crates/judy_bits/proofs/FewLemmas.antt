@@ -1,5 +1,5 @@
 -- What the calls on a few bytes answer of the set that they are.
-use Rattle.std.proofs.Common.{◌≡◌, ◌≢◌, ℕ, zero, suc, ◌+◌, ◌-◌, ◌<◌, ◌≤◌, ◌==◌, Bool, true, false, cond, nat_lt, List, [], ◌∷◌, ◌++◌, length, filter, count_by, take, drop, get_or, slice_get, Some, None, is_some, sym, refl, ap, ◌∙◌, subst, arith, true≢false, is_le, le-leb}
+use Rattle.std.proofs.Common.{◌≡◌, ◌≢◌, ℕ, zero, suc, ◌+◌, ◌-◌, ◌<◌, ◌≤◌, ◌==◌, true, false, cond, nat_lt, List, [], ◌∷◌, ◌++◌, length, count_by, take, drop, get_or, slice_get, Some, None, is_some, sym, refl, ap, ◌∙◌, subst, arith, is_le, le-leb}
 use Rattle.std.specs.List.{AllByRecursion, All, insert, remove}
 use Rattle.std.proofs.lemmas.Bool.{false_from_ne_true}
 use Rattle.std.proofs.lemmas.List.{take_all}
@@ -11,7 +11,7 @@ use Rattle.judy_model.proofs.Places.{length-filter-le, find_before_count, before
 use Rattle.std.specs.Cmp.{nat_cmp_total}
 use Rattle.judy_bits.specs.ByteSets.{IsByteSet, has, rank, count_up_to, place, next_from, prev_from, with_byte, without_byte}
 use Rattle.judy_bits.specs.Paddings.{IsPadded, length-meant}
-use Rattle.judy_bits.proofs.SetLemmas.{filter_all, slice_get-rank, has_at, rank_at, next_from-rank, with_member, with_other, without_other, without_at, with_byte-IsByteSet, without_byte-IsByteSet}
+use Rattle.judy_bits.proofs.SetLemmas.{filter_all, slice_get-rank, has_at, next_from-rank, with_other, without_at, with_byte-IsByteSet, without_byte-IsByteSet}
 use Rattle.judy_bits.proofs.PaddingLemmas.{meant_at, count_by-padded, opened, length-opened, closed, length-closed, IsPadded-from, take-from}
 
 all_by_recursion : (P : ℕ → Type 0) (xs : List ℕ) → All P xs → AllByRecursion P xs

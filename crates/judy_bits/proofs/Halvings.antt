@@ -1,10 +1,10 @@
 -- The search for the 1 of a word that has so many others below it, by halving the part that still holds it.
-use Rattle.std.proofs.Common.{◌≡◌, ℕ, zero, suc, ◌+◌, ◌-◌, ◌*◌, ◌/◌, ◌%◌, ◌^◌, ◌<◌, ◌≤◌, sym, refl, ap, ◌∙◌, subst, arith, count_ones}
+use Rattle.std.proofs.Common.{◌≡◌, ℕ, zero, suc, ◌+◌, ◌-◌, ◌/◌, ◌%◌, ◌^◌, ◌<◌, ◌≤◌, sym, refl, ap, ◌∙◌, subst, arith, count_ones}
 use Rattle.std.specs.Int.{bit_at}
-use Rattle.std.specs.Int.Count.{ones, ones_cat, ones-le, ones_step}
+use Rattle.std.specs.Int.Count.{ones, ones_cat, ones-le}
 use Rattle.std.proofs.Math.Nat.{mod-eq_of_lt, div-one}
 use Rattle.std.proofs.Math.Pow.{mod-mod-pow}
-use Rattle.std.proofs.lemmas.Nat.{mod-pow-add, mod_below, pow_pos, shr-shr, field_of, div-add-mod', shr_below}
+use Rattle.std.proofs.lemmas.Nat.{mod-pow-add, mod_below, pow_pos, shr-shr, field_of, div-add-mod'}
 use Rattle.std.proofs.lemmas.Nat.Bits.{bit_at-lt}
 use Rattle.judy_bits.specs.BitWords.{IsSelected}
 use Rattle.judy_bits.proofs.BitLemmas.{ones_none}

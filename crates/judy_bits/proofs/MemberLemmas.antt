@@ -1,11 +1,10 @@
 -- What the calls on four words answer of the set that they are.
-use Rattle.std.proofs.Common.{◌≡◌, ◌≢◌, ℕ, zero, suc, ◌+◌, ◌-◌, ◌*◌, ◌/◌, ◌%◌, ◌^◌, ◌<◌, ◌≤◌, ◌==◌, min, Bool, true, false, cond, nat_lt, List, [], ◌∷◌, ◌++◌, length, slice_index, get_or, Some, None, sym, refl, ap, ◌∙◌, subst, arith, inl, inr, ⊎_elim, count_ones, bit_and, bit_or}
-use Rattle.std.specs.Int.{w64, bit_at, bit_not}
+use Rattle.std.proofs.Common.{◌≡◌, ◌≢◌, ℕ, zero, suc, ◌+◌, ◌-◌, ◌*◌, ◌/◌, ◌%◌, ◌^◌, ◌<◌, ◌≤◌, ◌==◌, min, false, cond, nat_lt, List, [], ◌∷◌, length, slice_index, get_or, Some, None, sym, refl, ap, ◌∙◌, arith, ⊎_elim, bit_and, bit_or}
+use Rattle.std.specs.Int.{w64, bit_at}
 use Rattle.std.specs.Int.Count.{ones}
 use Rattle.std.proofs.Math.ListN.{set}
-use Rattle.std.proofs.Math.Nat.{min-eq_left, min-eq_right}
 use Rattle.std.proofs.lemmas.Bool.{cases_lt, cases_order}
-use Rattle.std.proofs.lemmas.List.{length-append, get_or-set_same, get_or-set_other}
+use Rattle.std.proofs.lemmas.List.{get_or-set_same, get_or-set_other}
 use Rattle.std.proofs.lemmas.Nat.Bits.{bit_at_set_same, bit_at_set_other, bit_at_clear_same, bit_at_clear_other, bit_at-zero}
 use Rattle.std.specs.List.{range_with_len}
 use Rattle.std.proofs.lemmas.List.FromFn.{length-range_with_len}
@@ -13,8 +12,8 @@ use Rattle.judy_model.proofs.Places.{length-filter-le}
 use Rattle.judy_bits.specs.ByteSets.{IsByteSet, has, rank, nth, next_from, prev_from, with_byte, without_byte}
 use Rattle.std.proofs.lemmas.Option.{slice_get_past}
 use Rattle.judy_bits.specs.BitWords.{is_set, members_of, IsSelected, IsLowestFrom, NoneFrom, IsHighestBelow, NoneBelow}
-use Rattle.judy_bits.proofs.Ranges.{chosen, chosen_split, chosen_none, chosen_with, chosen_without, chosen-IsByteSet, has-chosen, rank-chosen, nth-chosen, next_from-chosen, next_from-chosen_none, prev_from-chosen, prev_from-chosen_none}
-use Rattle.judy_bits.proofs.BitLemmas.{ones_word, length-chosen_word, length-chosen_to, set_from_bit, unset_from_bit}
+use Rattle.judy_bits.proofs.Ranges.{chosen, chosen_none, chosen_with, chosen_without, chosen-IsByteSet, has-chosen, rank-chosen, nth-chosen, next_from-chosen, next_from-chosen_none, prev_from-chosen, prev_from-chosen_none}
+use Rattle.judy_bits.proofs.BitLemmas.{length-chosen_to, set_from_bit, unset_from_bit}
 
 -- ---- how many, word by word
 

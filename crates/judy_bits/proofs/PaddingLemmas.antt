@@ -1,5 +1,5 @@
 -- Bytes in an array that is filled up: one more in its place, and one less.
-use Rattle.std.proofs.Common.{◌≡◌, ℕ, zero, suc, ◌+◌, ◌-◌, ◌<◌, ◌≤◌, Bool, true, false, cond, nat_lt, List, [], ◌∷◌, ◌++◌, length, filter, count_by, take, drop, get_or, slice_get, Some, sym, refl, ap, ◌∙◌, arith, get_or-take, drop-cons}
+use Rattle.std.proofs.Common.{◌≡◌, ℕ, zero, suc, ◌+◌, ◌-◌, ◌<◌, ◌≤◌, Bool, cond, nat_lt, List, [], ◌∷◌, ◌++◌, length, filter, count_by, take, drop, get_or, slice_get, Some, sym, refl, ap, ◌∙◌, arith, get_or-take, drop-cons}
 use borrow.Rule.Slice.PartMut.{put_mid}
 use Rattle.std.proofs.Math.ListN.{set, drop_of_length-le}
 use Rattle.std.proofs.lemmas.List.{append-nil, take_more, take_all, drop-drop, set_at}
@@ -12,7 +12,7 @@ use Rattle.std.specs.List.{insert, remove}
 use Rattle.std.proofs.Math.ListN.{replicate}
 use Rattle.std.proofs.Math.Seq.{take-append_seam, drop-append_seam, take-append-add}
 use Rattle.std.proofs.lemmas.List.{append_assoc, take-append-drop, take-append-le, drop-append-le, length-append, length-take, length-drop, length-replicate}
-use Rattle.judy_bits.specs.Paddings.{IsPadded, padded, padded-take, length-meant}
+use Rattle.judy_bits.specs.Paddings.{IsPadded, length-meant}
 
 -- ---- by parts: some bytes, more bytes, and the filler
 

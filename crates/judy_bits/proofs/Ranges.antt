@@ -1,15 +1,15 @@
 -- The numbers of a range that pass a test, as an ascending list.
-use Rattle.std.proofs.Common.{◌≡◌, ◌≢◌, ℕ, zero, suc, ◌+◌, ◌-◌, ◌<◌, ◌≤◌, ◌==◌, ◌&&◌, ◌||◌, Bool, true, false, cond, not, List, [], ◌∷◌, ◌++◌, length, filter, find, slice_get, Option, Some, None, sym, refl, ap, ◌∙◌, subst, arith, ne_eqb, ⊎_elim, inl, inr, Ordering, Less, nat_cmp, is_lt, is_le, is_gt, is_ge, nat_lt, nat_le, leb-true, le-leb, ltb-true, lt-ltb}
+use Rattle.std.proofs.Common.{◌≡◌, ◌≢◌, ℕ, zero, suc, ◌+◌, ◌-◌, ◌<◌, ◌≤◌, ◌==◌, ◌&&◌, ◌||◌, Bool, true, false, cond, not, List, [], ◌∷◌, ◌++◌, length, filter, find, slice_get, Option, Some, None, sym, refl, ap, ◌∙◌, arith, ne_eqb, ⊎_elim, Less, is_lt, is_le, is_gt, is_ge, nat_lt, nat_le, leb-true, le-leb, ltb-true, lt-ltb}
 use Rattle.std.specs.List.{list_any, range_with_len, AllByRecursion}
 use Rattle.std.specs.List.Sorted.{IsStrictlySortedBy}
 use Rattle.std.specs.Option.{option_or}
 use Rattle.std.proofs.lemmas.Bool.{false_from_ne_true, cases_order, cases_lt, eqb-true, eq-eqb}
 use Rattle.std.proofs.lemmas.Map.Views.{any-filter_same}
-use Rattle.std.proofs.lemmas.List.{length-append, append-nil}
+use Rattle.std.proofs.lemmas.List.{append-nil}
 use Rattle.std.proofs.lemmas.List.Elements.{filter-append, All-filter}
 use Rattle.std.proofs.lemmas.List.FromFn.{length-range_with_len, get_or-range_with_len}
 use Rattle.judy_model.specs.Keys.{word_order}
-use Rattle.judy_model.proofs.WordOrder.{less_word, lt_word, le_word, is_lt_word, is_gt_word, is_ge_word, is_le_word}
+use Rattle.judy_model.proofs.WordOrder.{less_word, lt_word, is_lt_word, is_gt_word, is_ge_word, is_le_word}
 use Rattle.judy_model.proofs.Ascending.{find_last, find-reverse, ascending-filter}
 use Rattle.judy_bits.specs.ByteSets.{IsByteSet, has, rank, nth, next_from, prev_from, with_byte, without_byte}
 

@@ -1,6 +1,6 @@
 -- The laws of sets of bytes.
-use Rattle.std.proofs.Common.{◌≡◌, ◌≢◌, ℕ, zero, suc, ◌<◌, ◌≤◌, ◌==◌, ◌&&◌, ◌||◌, ◌↔◌, inl, inr, ⊎_elim, Bool, true, false, cond, not, List, [], ◌∷◌, ◌++◌, length, filter, slice_get, Some, None, IsTrue, sym, refl, ap, ◌∙◌, subst, arith, true≢false, ne_eqb, Less, is_lt, is_gt, is_le, is_ge}
-use Rattle.std.specs.List.{list_any, AllByRecursion}
+use Rattle.std.proofs.Common.{◌≡◌, ◌≢◌, ℕ, ◌<◌, ◌≤◌, ◌==◌, ◌&&◌, ◌||◌, ◌↔◌, inl, ⊎_elim, Bool, true, false, cond, not, List, [], ◌∷◌, filter, slice_get, Some, None, sym, refl, ap, ◌∙◌, arith, true≢false, ne_eqb, is_lt, is_gt, is_le, is_ge}
+use Rattle.std.specs.List.{AllByRecursion}
 use Rattle.std.specs.List.Sorted.{IsStrictlySortedBy}
 use Rattle.std.specs.Cmp.{nat_cmp_total}
 use Rattle.std.proofs.lemmas.Bool.{false_from_ne_true, cases_order, eqb-true, eq-eqb}
@@ -9,7 +9,7 @@ use Rattle.std.proofs.lemmas.Map.Views.{any-filter_same}
 use Rattle.std.proofs.lemmas.Option.{same_Some}
 use Rattle.judy_model.specs.Keys.{word_order}
 use Rattle.judy_model.specs.Nearest.{IsFirst, IsLast}
-use Rattle.judy_model.proofs.Ascending.{Among, all_among, find_least, find_greatest}
+use Rattle.judy_model.proofs.Ascending.{all_among, find_least, find_greatest}
 use Rattle.judy_model.proofs.NearestLemmas.{IsLeast-from_among}
 use Rattle.judy_bits.specs.ByteSets.{IsByteSet, has, rank, place, nth, next_from, prev_from, with_byte, without_byte}
 use Rattle.judy_bits.proofs.SetLemmas.{Among-has, has-among, is_below, not_below, is_above, not_above, later_above, slice_get-rank, rank_at, has_at, with_byte-IsByteSet, without_byte-IsByteSet}

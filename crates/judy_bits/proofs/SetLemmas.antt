@@ -1,19 +1,18 @@
 -- Sets of bytes as ascending lists: where a byte stands, and what the list becomes with it and without it.
-use Rattle.std.proofs.Common.{◌≡◌, ◌≢◌, ℕ, zero, suc, ◌+◌, ◌-◌, ◌<◌, ◌≤◌, ◌==◌, ◌&&◌, ◌||◌, ◌⊎◌, inl, inr, ⊎_elim, Bool, true, false, cond, not, List, [], ◌∷◌, ◌++◌, length, filter, find, take, drop, slice_get, get_or, Option, Some, None, IsTrue, sym, refl, ap, ◌∙◌, subst, arith, true≢false, ne_eqb, Ordering, Less, nat_cmp, nat_lt, nat_le, is_lt, is_le, is_gt, is_ge, ltb-true, lt-ltb, leb-true, le-leb}
-use Rattle.std.specs.List.{list_any, AllByRecursion, insert, remove}
+use Rattle.std.proofs.Common.{◌≡◌, ◌≢◌, ℕ, zero, suc, ◌+◌, ◌-◌, ◌<◌, ◌≤◌, ◌==◌, ◌||◌, inl, inr, ⊎_elim, Bool, true, false, cond, not, List, [], ◌∷◌, ◌++◌, length, filter, find, take, slice_get, Some, sym, refl, ap, ◌∙◌, subst, arith, true≢false, ne_eqb, Less, nat_lt, is_lt, is_gt, ltb-true, lt-ltb}
+use Rattle.std.specs.List.{AllByRecursion, insert, remove}
 use Rattle.std.specs.List.Sorted.{IsStrictlySortedBy}
 use Rattle.std.specs.Cmp.{nat_cmp_total}
-use Rattle.std.proofs.lemmas.Bool.{false_from_ne_true, cases_order, cases_lt, eqb-true, eq-eqb}
-use Rattle.std.proofs.lemmas.List.{append-nil, length-append}
+use Rattle.std.proofs.lemmas.Bool.{false_from_ne_true, cases_order, eq-eqb}
 use Rattle.std.proofs.lemmas.List.Elements.{All-filter, All-cons, All-append}
 use Rattle.std.proofs.lemmas.List.Edits.{length-insert, length-remove}
 use Rattle.std.proofs.lemmas.Option.{same_Some, slice_get_within}
 use Rattle.judy_model.specs.Keys.{word_order}
-use Rattle.judy_model.proofs.Orders.{not_both, ge_is_not_lt}
-use Rattle.judy_model.proofs.WordOrder.{less_word, lt_word, lt_from_word, is_lt_word, is_gt_word, is_ge_word, is_le_word}
+use Rattle.judy_model.proofs.Orders.{ge_is_not_lt}
+use Rattle.judy_model.proofs.WordOrder.{less_word, lt_word, lt_from_word, is_lt_word, is_gt_word}
 use Rattle.judy_model.proofs.Ascending.{Among, all_among, all_from_among, place_among, Among-slice_get, among_from_filter, ascending-filter}
-use Rattle.judy_model.proofs.Places.{length-filter-le, filter_none, below_at_place, up_to_place, find_at_count, find_before_count, before_place, before_place-suc, lt-IsDownward, le-IsDownward}
-use Rattle.judy_bits.specs.ByteSets.{IsByteSet, has, rank, place, nth, next_from, prev_from, with_byte, without_byte}
+use Rattle.judy_model.proofs.Places.{length-filter-le, filter_none, below_at_place, find_at_count, lt-IsDownward}
+use Rattle.judy_bits.specs.ByteSets.{IsByteSet, has, rank, next_from, with_byte, without_byte}
 
 -- ---- the tests
 

@@ -1,14 +1,13 @@
 -- Words and their bytes.
-use Rattle.std.proofs.Common.{◌≡◌, ℕ, zero, suc, ◌+◌, ◌-◌, ◌*◌, ◌/◌, ◌%◌, ◌^◌, ◌<◌, ◌≤◌, ◌⊎◌, List, [], ◌∷◌, length, Some, slice_get, sym, refl, ap, ◌∙◌, subst, inl, inr, ⊎_elim, arith, Ordering, Less, Equal, Greater, nat_cmp}
-use Rattle.std.specs.Int.{w64, to_be_bytes}
+use Rattle.std.proofs.Common.{◌≡◌, ℕ, zero, suc, ◌+◌, ◌-◌, ◌*◌, ◌/◌, ◌%◌, ◌^◌, ◌<◌, List, [], ◌∷◌, length, sym, refl, ap, ◌∙◌, subst, ⊎_elim, arith, Ordering, Less, Equal, Greater, nat_cmp}
 use Rattle.std.specs.Cmp.{nat_cmp_is, nat_cmp_total, tied_itself}
 use Rattle.std.specs.Ordering.{ordering_then}
 use Rattle.std.proofs.Math.Arith.{mod-mul}
-use Rattle.std.proofs.Math.Nat.{mul-div-le, div-lt_iff_lt-mul, add_comm, mul_assoc, add-mul-div_right, add-mul-mod_self_right, pow-suc, pow-succ', mod-eq_of_lt, one-le-pow, mod-lt, div-eq_of_lt}
-use Rattle.std.proofs.lemmas.Nat.{mod-mul-add, div-mul-add, div-add-mod', mul-add-lt, mod_below}
+use Rattle.std.proofs.Math.Nat.{mul-div-le, div-lt_iff_lt-mul, add_comm, mul_assoc, add-mul-div_right, add-mul-mod_self_right, pow-suc, pow-succ', mod-eq_of_lt}
+use Rattle.std.proofs.lemmas.Nat.{div-mul-add, div-add-mod', mul-add-lt, mod_below}
 use Rattle.std.proofs.lemmas.List.Elements.{All-head, All-tail}
 use Rattle.std.proofs.lemmas.Bool.{cases_order}
-use Rattle.judy_model.specs.Keys.{IsWord, IsByteString, word_order, byte_order}
+use Rattle.judy_model.specs.Keys.{IsByteString, word_order, byte_order}
 use Rattle.judy_model.specs.WordBytes.{byte_of, low_bytes, number_of}
 
 pub unit_pos : (width : ℕ) → 0 < 256 ^ width
@@ -42,11 +41,11 @@ low_bytes-above zero high low = refl
 low_bytes-above (suc width) high low =
     let unit = 256 ^ width in
     let moved : high * 256 ^ suc width + low ≡ (high * 256) * unit + low =
-        ap (λ n. n + low) (ap (λ n. high * n) (pow-succ' 256 width) ∙ sym (mul_assoc high 256 unit)) in
+    ap (λ n. n + low) (ap (λ n. high * n) (pow-succ' 256 width) ∙ sym (mul_assoc high 256 unit)) in
     let digit : (high * 256 ^ suc width + low) / unit % 256 ≡ low / unit % 256 =
-        ap (λ n. n / unit % 256) (moved ∙ add_comm ((high * 256) * unit) low)
-        ∙ ap (λ n. n % 256) (add-mul-div_right low (high * 256) (unit_pos width))
-        ∙ add-mul-mod_self_right (low / unit) high 256 in
+    ap (λ n. n / unit % 256) (moved ∙ add_comm ((high * 256) * unit) low)
+    ∙ ap (λ n. n % 256) (add-mul-div_right low (high * 256) (unit_pos width))
+    ∙ add-mul-mod_self_right (low / unit) high 256 in
     let rest : low_bytes width (high * 256 ^ suc width + low) ≡ low_bytes width low = ap (low_bytes width) moved ∙ low_bytes-above width (high * 256) low in
     λ t. digit t ∷ rest t
 
@@ -56,7 +55,7 @@ low_bytes-number_of [] are = refl
 low_bytes-number_of (byte ∷ bytes) are =
     let later = All-tail (λ b. b < 256) byte bytes are in
     let digit : number_of (byte ∷ bytes) / 256 ^ length bytes % 256 ≡ byte =
-        ap (λ n. n % 256) (div-mul-add byte (256 ^ length bytes) (number_of bytes) (number_of-lt bytes later)) ∙ mod-eq_of_lt (All-head (λ b. b < 256) byte bytes are) in
+    ap (λ n. n % 256) (div-mul-add byte (256 ^ length bytes) (number_of bytes) (number_of-lt bytes later)) ∙ mod-eq_of_lt (All-head (λ b. b < 256) byte bytes are) in
     let rest : low_bytes (length bytes) (number_of (byte ∷ bytes)) ≡ bytes = low_bytes-above (length bytes) byte (number_of bytes) ∙ low_bytes-number_of bytes later in
     λ t. digit t ∷ rest t
 
@@ -80,12 +79,12 @@ same_high unit left right same =
     let right_is = div-add-mod' right unit in
     let one : left / unit * unit ≡ right / unit * unit = ap (λ n. n * unit) same in
     ⊎_elim
-        (λ e. let both : left ≡ right = omega arith in sym (nat_cmp_is left right Equal both) ∙ nat_cmp_is (left % unit) (right % unit) Equal e)
-        (λ apart. ⊎_elim
-            (λ less. sym (nat_cmp_is left right Less (omega arith)) ∙ nat_cmp_is (left % unit) (right % unit) Less less)
-            (λ more. sym (nat_cmp_is left right Greater (omega arith)) ∙ nat_cmp_is (left % unit) (right % unit) Greater more)
-            apart)
-        (cases_order (left % unit) (right % unit))
+    (λ e. let both : left ≡ right = omega arith in sym (nat_cmp_is left right Equal both) ∙ nat_cmp_is (left % unit) (right % unit) Equal e)
+    (λ apart. ⊎_elim
+    (λ less. sym (nat_cmp_is left right Less (omega arith)) ∙ nat_cmp_is (left % unit) (right % unit) Less less)
+    (λ more. sym (nat_cmp_is left right Greater (omega arith)) ∙ nat_cmp_is (left % unit) (right % unit) Greater more)
+    apart)
+    (cases_order (left % unit) (right % unit))
 
 -- The first byte of two numbers decides, and where it is one, the rests do.
 by_first : (unit left right : ℕ) (later : Ordering) → 0 < unit → (left / unit ≡ right / unit → nat_cmp (left % unit) (right % unit) ≡ later)
@@ -93,9 +92,9 @@ by_first : (unit left right : ℕ) (later : Ordering) → 0 < unit → (left / u
 by_first unit left right later some decides = ⊎_elim
     (λ same. same_high unit left right same ∙ decides same ∙ ap (λ answer. ordering_then answer later) (nat_cmp_is (left / unit) (right / unit) Equal same))
     (λ apart. ⊎_elim
-        (λ less. sym (nat_cmp_is left right Less (less_high unit left right some less)) ∙ ap (λ answer. ordering_then answer later) (nat_cmp_is (left / unit) (right / unit) Less less))
-        (λ more. sym (nat_cmp_is left right Greater (less_high unit right left some more)) ∙ ap (λ answer. ordering_then answer later) (nat_cmp_is (left / unit) (right / unit) Greater more))
-        apart)
+    (λ less. sym (nat_cmp_is left right Less (less_high unit left right some less)) ∙ ap (λ answer. ordering_then answer later) (nat_cmp_is (left / unit) (right / unit) Less less))
+    (λ more. sym (nat_cmp_is left right Greater (less_high unit right left some more)) ∙ ap (λ answer. ordering_then answer later) (nat_cmp_is (left / unit) (right / unit) Greater more))
+    apart)
     (cases_order (left / unit) (right / unit))
 
 -- The first byte of a number of one byte more than a width is all that stands above the width.
@@ -108,8 +107,8 @@ order-low_bytes zero left right p q = ap (λ n. nat_cmp n right) (let e : left �
 order-low_bytes (suc width) left right p q =
     let unit = 256 ^ width in
     let rests : nat_cmp (left % unit) (right % unit) ≡ byte_order (low_bytes width left) (low_bytes width right) =
-        order-low_bytes width (left % unit) (right % unit) (mod_below left unit (unit_pos width)) (mod_below right unit (unit_pos width))
-        ∙ (λ t. byte_order (sym (low_bytes-rest width left) t) (sym (low_bytes-rest width right) t)) in
+    order-low_bytes width (left % unit) (right % unit) (mod_below left unit (unit_pos width)) (mod_below right unit (unit_pos width))
+    ∙ (λ t. byte_order (sym (low_bytes-rest width left) t) (sym (low_bytes-rest width right) t)) in
     by_first unit left right (byte_order (low_bytes width left) (low_bytes width right)) (unit_pos width) (λ _. rests)
     ∙ (λ t. ordering_then (nat_cmp (sym (first_byte width left p) t) (sym (first_byte width right q) t)) (byte_order (low_bytes width left) (low_bytes width right)))
 

@@ -1,4 +1,4 @@
-use Rattle.std.proofs.Common.{◌≡◌, ℕ, ◌-◌, ◌^◌, ◌<◌, arith, sym, ap, ◌∙◌, bit_and, rules}
+use Rattle.std.proofs.Common.{arith, sym, ap, ◌∙◌, bit_and}
 use Rattle.judy_bits.proofs.BitLemmas.{none_below, highest_below_leading}
 use Rattle.judy_bits.proofs.bits.highest_below.Goals as goal
 

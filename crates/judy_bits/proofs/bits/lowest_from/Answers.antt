@@ -1,4 +1,4 @@
-use Rattle.std.proofs.Common.{◌≡◌, ℕ, ◌-◌, ◌^◌, ◌<◌, arith, sym, ap, ◌∙◌, bit_and, rules}
+use Rattle.std.proofs.Common.{◌-◌, ◌^◌, arith, sym, ap, ◌∙◌, bit_and}
 use Rattle.judy_bits.proofs.BitLemmas.{none_from, lowest_from_trailing}
 use Rattle.judy_bits.proofs.bits.lowest_from.Goals as goal
 

@@ -1,6 +1,6 @@
-use Rattle.std.proofs.Common.{◌≡◌, ℕ, ◌/◌, ◌%◌, ◌^◌, ◌<◌, ◌≤◌, ap, ◌∙◌, arith, bit_and, count_ones}
+use Rattle.std.proofs.Common.{◌≡◌, ◌/◌, ◌%◌, ◌^◌, ap, ◌∙◌, arith, bit_and}
 use Rattle.std.proofs.lemmas.Nat.{and_mask}
-use Rattle.judy_bits.proofs.Halvings.{halving_starts, halving_low, halving_high, halving_ends}
+use Rattle.judy_bits.proofs.Halvings.{halving_low, halving_high}
 use Rattle.judy_bits.proofs.bits.select.Goals as goal
 
 pub loop-width-preserved : goal.loop-width-preserved

@@ -1,4 +1,3 @@
-use Rattle.std.proofs.Common.{◌≡◌, ℕ, ◌+◌, ◌%◌, ◌/◌, ◌^◌, ◌<◌, ◌≤◌, count_ones}
 use Rattle.judy_bits.proofs.Halvings.{IsHalving}
 use Rattle.judy_bits.proofs.bits.select.Given as goal
 

@@ -1,4 +1,4 @@
-use Rattle.std.proofs.Common.{◌≡◌, ◌+◌, ◌≤◌, length, true, sym, ap, ◌∙◌, is_some, arith}
+use Rattle.std.proofs.Common.{◌≡◌, length, true, sym, ap, ◌∙◌, is_some, arith}
 use Rattle.judy_bits.specs.ByteSets.{has}
 use Rattle.judy_bits.proofs.SetLemmas.{with_member, length-with_byte-le}
 use Rattle.judy_bits.proofs.FewLemmas.{has-is_some}

@@ -1,4 +1,4 @@
-use Rattle.std.proofs.Common.{◌≡◌, ◌≤◌, length, ap, arith}
+use Rattle.std.proofs.Common.{length, ap, arith}
 use Rattle.judy_bits.proofs.SetLemmas.{length-without_byte-le}
 use Rattle.judy_bits.proofs.byte_set.without_byte.Goals as goal
 

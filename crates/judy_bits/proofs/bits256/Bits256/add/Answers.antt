@@ -1,4 +1,4 @@
-use Rattle.std.proofs.Common.{◌≡◌, ap, ◌∙◌}
+use Rattle.std.proofs.Common.{ap, ◌∙◌}
 use Rattle.judy_bits.specs.ByteSets.{with_byte}
 use Rattle.judy_bits.proofs.MemberLemmas.{members_of-add}
 use Rattle.judy_bits.proofs.bits256.Bits256.add.Goals as goal

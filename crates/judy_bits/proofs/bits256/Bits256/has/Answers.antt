@@ -1,4 +1,4 @@
-use Rattle.std.proofs.Common.{◌≡◌, ℕ, ◌/◌, ◌%◌, ◌==◌, sym, ap, ◌∙◌, slice_index}
+use Rattle.std.proofs.Common.{◌/◌, ◌%◌, ◌==◌, sym, ap, ◌∙◌, slice_index}
 use Rattle.std.proofs.lemmas.Nat.Bits.{shr_and_one}
 use Rattle.judy_bits.specs.ByteSets.{has}
 use Rattle.judy_bits.proofs.MemberLemmas.{has-members_of}

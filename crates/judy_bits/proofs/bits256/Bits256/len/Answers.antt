@@ -1,4 +1,4 @@
-use Rattle.std.proofs.Common.{◌≡◌, ◌+◌, ◌≤◌, arith, ap, sym, subst, length, ◌∙◌}
+use Rattle.std.proofs.Common.{◌≡◌, ◌+◌, arith, ap, sym, subst, length, ◌∙◌}
 use Rattle.judy_bits.specs.ByteSets.{IsByteSet}
 use Rattle.judy_bits.specs.BitWords.{members_of}
 use Rattle.judy_bits.proofs.MemberLemmas.{length-members_of, length-members_of-le, members_of-IsByteSet}

@@ -1,6 +1,6 @@
-use Rattle.std.proofs.Common.{◌≡◌, ◌≤◌, ◌+◌, ◌*◌, ap, sym, ◌∙◌, arith, rules}
+use Rattle.std.proofs.Common.{◌≤◌, ◌*◌, ap, sym, ◌∙◌, arith}
 use Rattle.judy_bits.specs.ByteSets.{next_from}
-use Rattle.judy_bits.proofs.MemberLemmas.{next_in_word, next_past_word, next_in_none}
+use Rattle.judy_bits.proofs.MemberLemmas.{next_in_word, next_in_none}
 use Rattle.judy_bits.proofs.bits256.Bits256.next_from.Goals as goal
 
 pub returns-in-Some : goal.returns-in-Some

@@ -1,4 +1,4 @@
-use Rattle.std.proofs.Common.{◌≡◌, ℕ, ◌*◌, ◌<◌, ◌≤◌}
+use Rattle.std.proofs.Common.{◌*◌}
 use Rattle.judy_bits.proofs.MemberLemmas.{NoneSetBefore}
 use Rattle.judy_bits.proofs.bits256.Bits256.next_from.Given as goal
 

@@ -1,4 +1,4 @@
-use Rattle.std.proofs.Common.{◌≡◌, ◌+◌, ◌*◌, ap, sym, length, ◌∙◌, arith, rules}
+use Rattle.std.proofs.Common.{◌≡◌, ◌*◌, ap, sym, length, ◌∙◌, arith}
 use Rattle.judy_bits.specs.ByteSets.{nth}
 use Rattle.judy_bits.specs.BitWords.{is_set}
 use Rattle.judy_bits.proofs.Ranges.{chosen}

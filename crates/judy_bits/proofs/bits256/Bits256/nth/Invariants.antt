@@ -1,4 +1,4 @@
-use Rattle.std.proofs.Common.{◌≡◌, ℕ, ◌+◌, ◌*◌, length}
+use Rattle.std.proofs.Common.{◌≡◌, ◌+◌, ◌*◌, length}
 use Rattle.judy_bits.specs.BitWords.{is_set}
 use Rattle.judy_bits.proofs.Ranges.{chosen}
 use Rattle.judy_bits.proofs.bits256.Bits256.nth.Given as goal

@@ -1,4 +1,4 @@
-use Rattle.std.proofs.Common.{◌≡◌, ◌+◌, ◌-◌, ◌*◌, min, ap, sym, ◌∙◌, arith, rules}
+use Rattle.std.proofs.Common.{◌≡◌, ◌+◌, ◌-◌, ◌*◌, min, ap, sym, ◌∙◌, arith}
 use Rattle.judy_bits.specs.ByteSets.{prev_from}
 use Rattle.judy_bits.proofs.MemberLemmas.{prev_in_word, prev_past_word, prev_in_none}
 use Rattle.judy_bits.proofs.bits256.Bits256.prev_from.Goals as goal

@@ -1,4 +1,4 @@
-use Rattle.std.proofs.Common.{◌≡◌, ◌+◌, ◌<◌, ◌≤◌, ◌++◌, ◌∷◌, ◌-◌, length, take, drop, not, false, is_some, sym, ap, ◌∙◌, arith}
+use Rattle.std.proofs.Common.{◌≡◌, ◌+◌, ◌<◌, length, take, not, false, is_some, sym, ap, ◌∙◌, arith}
 use Rattle.judy_bits.specs.ByteSets.{IsByteSet, has, rank, with_byte}
 use Rattle.judy_bits.specs.Paddings.{IsPadded, length-meant}
 use Rattle.judy_bits.proofs.SetLemmas.{with_member}

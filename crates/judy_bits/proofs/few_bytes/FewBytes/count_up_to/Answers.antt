@@ -1,4 +1,4 @@
-use Rattle.std.proofs.Common.{◌≡◌, sym, ap, ◌∙◌}
+use Rattle.std.proofs.Common.{sym, ◌∙◌}
 use Rattle.judy_bits.specs.ByteSets.{count_up_to}
 use Rattle.judy_bits.specs.Paddings.{length-meant}
 use Rattle.judy_bits.proofs.FewLemmas.{count_up_to-all}

@@ -1,4 +1,4 @@
-use Rattle.std.proofs.Common.{◌≤◌, arith}
+use Rattle.std.proofs.Common.{arith}
 use Rattle.judy_bits.proofs.FewLemmas.{upto-le, prev-there}
 use Rattle.judy_bits.proofs.few_bytes.FewBytes.prev_from.Goals as goal
 

@@ -1,6 +1,6 @@
-use Rattle.std.proofs.Common.{◌≡◌, ◌+◌, ◌<◌, ◌≤◌, ◌-◌, length, take, Some, slice_get, sym, ap, ◌∙◌, subst, arith}
+use Rattle.std.proofs.Common.{◌≡◌, ◌-◌, take, sym, ap, ◌∙◌, arith}
 use Rattle.std.proofs.lemmas.Option.{slice_get_within}
-use Rattle.judy_bits.specs.ByteSets.{IsByteSet, place, without_byte}
+use Rattle.judy_bits.specs.ByteSets.{IsByteSet, without_byte}
 use Rattle.judy_bits.specs.Paddings.{IsPadded, length-meant}
 use Rattle.judy_bits.proofs.SetLemmas.{without_other}
 use Rattle.judy_bits.proofs.FewLemmas.{taken, there-place, absent-place}
