@@ -18,9 +18,14 @@ tag_of header = header / 2 ^ 32
 -- The block that lies in these words.
 abbrev pub contents_of : List ℕ → Contents
 contents_of [] = empty_block 0
-contents_of (header ∷ words) = record { words = take (used_of header) words; capacity = capacity_of header; tag = tag_of header }
+contents_of (header ∷ words) = record {
+  words = take (used_of header) words;
+  capacity = capacity_of header;
+  tag = tag_of header;
+}
 
 -- As many words follow the header as the capacity says, at least one, and no more of them are in use.
 abbrev pub IsBlock : List ℕ → Type 0
 IsBlock [] = ⊥
-IsBlock (header ∷ words) = (length words ≡ capacity_of header) × (1 ≤ capacity_of header) × (used_of header ≤ capacity_of header) × (header < 2 ^ 64)
+IsBlock (header ∷ words) = (length words ≡ capacity_of header) × (1 ≤ capacity_of header)
+    × (used_of header ≤ capacity_of header) × (header < 2 ^ 64)

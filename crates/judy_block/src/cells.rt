@@ -1,9 +1,9 @@
 //! The memory of a block: the one module with a raw pointer.
 //!
-//! `Cells` owns the words behind the pointer, and `Deed` the right to give them back. The five functions
-//! over them are proved by hand: for each, proofs/cells has a walk that follows the compiled function
-//! statement by statement and says what is owned on the way. Safe code calls them by contracts that name
-//! no pointer.
+//! `Cells` owns the words behind the pointer, and `Deed` the right to give them back. The functions here
+//! are proved by hand: for each, proofs/cells has a walk that follows the compiled function statement by
+//! statement and says what is owned on the way. Safe code calls the methods of `Cells` by contracts that
+//! name no pointer.
 
 ghost use Rattle.std.specs.Prelude.{◌≡◌, ℕ, ◌<◌, ◌≤◌, List, length, take, replicate, slice_index, IfOk};
 ghost use Rattle.std.specs.Borrow.{sem};
@@ -74,7 +74,7 @@ impl Cells {
     {
         let Cells { head } = self;
         let Deed { mark: _ } = deed;
-        // SAFETY: the cells own the memory of `count` words, and the deed says that `alloc` gave it; both end.
+        // SAFETY: the cells own the memory of `count` words, and the deed says that `alloc` gave it.
         unsafe { alloc.deallocate(head as *mut u8, count * size_of::<u64>(), align_of::<u64>()) }
     }
 

@@ -10,10 +10,10 @@
 //! words in use, the capacity and the tag (header.rt); the words in use follow, and then spare words.
 //! So a block is one pointer wide, which keeps the nodes of a tree small.
 //!
-//! This is the one crate with raw pointers, and they stand in cells.rt alone: five functions that take
-//! the memory, give it back, and lend it as a slice or a word, each proved by hand, statement by
-//! statement, in proofs/cells. All else is safe code over slices. The crate stands on std alone; leaves
-//! stand on it.
+//! This is the one crate with raw pointers, and they stand in cells.rt alone: six functions that take the
+//! memory and fill it with zeros, give it back, and lend it as a slice or a word. Each is proved by hand,
+//! statement by statement, in proofs/cells. All else is safe code over slices. The crate stands on std
+//! alone, and on it stands what keeps keys and values in memory of its own.
 #![tactic(auto)]
 
 mod block;
