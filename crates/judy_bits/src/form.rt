@@ -4,7 +4,10 @@
 /// from 128 on as bits too. They are the forms of a branch; the limits are this project's own.
 #[derive(Clone, Copy, PartialEq, Eq, Debug)]
 pub enum Form {
+    /// At most 7 members.
     Linear,
+    /// 8 to 127 members.
     Bitmap,
+    /// 128 to 256 members.
     Full,
 }
