@@ -4,7 +4,7 @@ ghost use Rattle.std.specs.Prelude.{◌≡◌, ◌<◌, ◌≤◌, ◌^◌, ◌-
 ghost use Rattle.judy_bits.specs.BitWords.{NoneFrom, IsLowestFrom, NoneBelow, IsHighestBelow, IsSelected};
 
 /// A word whose lowest bits, so many, are 1.
-pub fn low_ones(count: usize) -> u64
+pub(crate) fn low_ones(count: usize) -> u64
     requires { count ≤ 64 }
     ensures { result ≡ 2 ^ count - 1 }
 {
@@ -16,7 +16,7 @@ pub fn low_ones(count: usize) -> u64
 }
 
 /// The place of the lowest 1 that is at or above a place.
-pub fn lowest_from(word: u64, from: usize) -> Option<usize>
+pub(crate) fn lowest_from(word: u64, from: usize) -> Option<usize>
     requires { from ≤ 64 }
     ensures { MatchOption result (NoneFrom word from) (λ at. IsLowestFrom word from at) }
 {
@@ -29,7 +29,7 @@ pub fn lowest_from(word: u64, from: usize) -> Option<usize>
 }
 
 /// The place of the highest 1 that is below a place.
-pub fn highest_below(word: u64, limit: usize) -> Option<usize>
+pub(crate) fn highest_below(word: u64, limit: usize) -> Option<usize>
     requires { limit ≤ 64 }
     ensures { MatchOption result (NoneBelow word limit) (λ at. IsHighestBelow word limit at) }
 {
@@ -42,7 +42,7 @@ pub fn highest_below(word: u64, limit: usize) -> Option<usize>
 }
 
 /// The place of the 1 that has so many others below it: six halvings of the word, each by one count.
-pub fn select(word: u64, index: u32) -> usize
+pub(crate) fn select(word: u64, index: u32) -> usize
     requires { index < count_ones word }
     ensures { IsSelected word index result }
 {

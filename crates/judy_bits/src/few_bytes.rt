@@ -10,7 +10,7 @@ use std::marker::Model;
 /// A set of at most seven bytes: the members in ascending order, and 255 in each place after them. Since 255
 /// is below no byte, a rank is counted over all seven places, whatever the number of members.
 #[derive(Clone, Copy, PartialEq, Eq, Debug)]
-pub struct FewBytes {
+pub(crate) struct FewBytes {
     bytes: [u8; 7],
     count: u8,
 }
@@ -53,7 +53,7 @@ fn close_place(bytes: &mut [u8; 7], at: usize)
 
 impl FewBytes {
     /// The empty set.
-    pub fn new() -> FewBytes
+    pub(crate) fn new() -> FewBytes
         ensures { result ≡ [] }
     {
         FewBytes {
@@ -63,7 +63,7 @@ impl FewBytes {
     }
 
     /// How many members there are.
-    pub fn len(&self) -> usize
+    pub(crate) fn len(&self) -> usize
         ensures count { result ≡ length self.now }
         ensures within { result ≤ 7 }
         ensures is_set { IsByteSet self.now }
@@ -72,7 +72,7 @@ impl FewBytes {
     }
 
     /// How many members are below the byte.
-    pub fn rank(&self, byte: u8) -> usize
+    pub(crate) fn rank(&self, byte: u8) -> usize
         ensures { result ≡ set.rank self.now byte }
     {
         let mut below = 0;
@@ -85,7 +85,7 @@ impl FewBytes {
     }
 
     /// The place of a member, which is its rank; none where the byte isn't a member.
-    pub fn place(&self, byte: u8) -> Option<usize>
+    pub(crate) fn place(&self, byte: u8) -> Option<usize>
         ensures { result ≡ set.place self.now byte }
     {
         let rank = self.rank(byte);
@@ -97,7 +97,7 @@ impl FewBytes {
     }
 
     /// The member at a place, counted from 0.
-    pub fn nth(&self, at: usize) -> Option<u8>
+    pub(crate) fn nth(&self, at: usize) -> Option<u8>
         ensures { result ≡ set.nth self.now at }
     {
         if at < self.count as usize {
@@ -108,7 +108,7 @@ impl FewBytes {
     }
 
     /// The nearest member at or above the byte.
-    pub fn next_from(&self, byte: u8) -> Option<u8>
+    pub(crate) fn next_from(&self, byte: u8) -> Option<u8>
         ensures { result ≡ set.next_from self.now byte }
     {
         let at = self.rank(byte);
@@ -120,7 +120,7 @@ impl FewBytes {
     }
 
     /// The nearest member at or below the byte: it stands before the first that is above it.
-    pub fn prev_from(&self, byte: u8) -> Option<u8>
+    pub(crate) fn prev_from(&self, byte: u8) -> Option<u8>
         ensures { result ≡ set.prev_from self.now byte }
     {
         let upto = self.count_up_to(byte);
@@ -143,7 +143,7 @@ impl FewBytes {
     }
 
     /// Makes the byte a member; there are fewer than seven.
-    pub fn add(&mut self, byte: u8)
+    pub(crate) fn add(&mut self, byte: u8)
         requires { length self.old < 7 }
         ensures { self.new ≡ set.with_byte self.old byte }
     {
@@ -155,7 +155,7 @@ impl FewBytes {
     }
 
     /// Takes the byte out, where it is a member.
-    pub fn take(&mut self, byte: u8)
+    pub(crate) fn take(&mut self, byte: u8)
         ensures { self.new ≡ set.without_byte self.old byte }
     {
         if let Some(at) = self.place(byte) {

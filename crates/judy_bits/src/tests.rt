@@ -48,6 +48,11 @@ fn bits_as_a_plain_list(rt: HostRuntime) -> Result<(), AllocError> {
         for at in 0..257 {
             assert_eq!(rt; set.nth(at), plain.get(at).copied());
         }
+        for byte in &plain {
+            set.take(*byte);
+            assert!(rt; !set.has(*byte));
+        }
+        assert_eq!(rt; set.len(), 0);
     }
     Ok(())
 }
