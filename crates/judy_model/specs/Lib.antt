@@ -17,3 +17,4 @@ pub mod Commands
 pub mod Steps
 pub mod Runs
 pub mod Examples
+pub mod Sizes
