@@ -18,3 +18,5 @@ pub mod Steps
 pub mod Runs
 pub mod Examples
 pub mod Sizes
+pub mod AmpleRuns
+pub mod CutRuns

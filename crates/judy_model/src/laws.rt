@@ -8,6 +8,7 @@ pub mod empties;
 pub mod growth;
 pub mod lines;
 pub mod neighbours;
+pub mod runs;
 pub mod steps;
 pub mod stores;
 pub mod words;
