@@ -27,3 +27,5 @@ pub mod StoresKept
 pub mod ReadingLemmas
 pub mod SizeLemmas
 pub mod RunLaws
+pub mod StringLemmas
+pub mod WholeLines

@@ -170,8 +170,10 @@ are_before : (earlier : List Line) (line : Line) (later : List Line) → are_lin
 are_before [] line later are = record { lines = refl; ended = refl; rest = are }
 are_before (first ∷ earlier) line later are =
     let here = both_first _ (are_lines (earlier ++ line ∷ later)) are in
+    let long = length-append earlier (line ∷ later) in
+    let some : 0 < length (earlier ++ line ∷ later) = omega arith in
+    let many : nat_lt (length (earlier ++ line ∷ later)) 1 ≡ false = more_than_none (length (earlier ++ line ∷ later)) some in
     let others : AreBefore earlier line later = are_before earlier line later (both_second _ _ are) in
-    let many : nat_lt (length (earlier ++ line ∷ later)) 1 ≡ false = more_than_none _ (omega (arith, length-append earlier (line ∷ later))) in
     let ended : first.ended ≡ true = not_last first.ended _ _ many (both_second (list_all is_inner first.bytes) _ here) in
     record {
       lines = both _ _ (both _ _ (both_first _ _ here) (ap (λ b. b || nat_lt (length earlier) 1 && nat_lt 0 (length first.bytes)) ended)) others.lines;

@@ -20,3 +20,4 @@ pub mod Examples
 pub mod Sizes
 pub mod AmpleRuns
 pub mod CutRuns
+pub mod StringOrder

@@ -1,5 +1,6 @@
 //! Short cases of the definitions, each computed by the check: what a reader would work out by hand.
 
+pub mod keys;
 pub mod runs;
 
 ghost use Rattle.std.specs.Prelude.{◌≡◌, ◌+◌, ◌*◌, ◌-◌, ◌^◌, true, false, [], ◌∷◌, ◌++◌, codes, replicate, Some, None, Ok, Err};

@@ -11,4 +11,6 @@ pub mod neighbours;
 pub mod runs;
 pub mod steps;
 pub mod stores;
+pub mod strings;
+pub mod whole_lines;
 pub mod words;

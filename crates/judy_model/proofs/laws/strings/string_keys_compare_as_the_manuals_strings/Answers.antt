@@ -1,0 +1,5 @@
+use Rattle.judy_model.proofs.StringLemmas.{byte_order-strings}
+use Rattle.judy_model.proofs.laws.strings.string_keys_compare_as_the_manuals_strings.Goals as goal
+
+pub returns : goal.returns
+returns c = byte_order-strings
