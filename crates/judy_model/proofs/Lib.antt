@@ -29,3 +29,4 @@ pub mod SizeLemmas
 pub mod RunLaws
 pub mod StringLemmas
 pub mod WholeLines
+pub mod KeptLemmas

@@ -71,7 +71,7 @@ without_lf : (bytes : List ℕ) → list_all is_inner bytes ≡ true → All (λ
 without_lf bytes inner = λ k d within is. never (AllPass-from_list_all is_inner bytes inner k d within) is
   where
     never : {byte : ℕ} → is_inner byte ≡ true → byte ≡ 10 → ⊥
-    never inner is = cc (ap is_inner is)
+    never inner is = (cc)
 
 inner_byte : (byte : ℕ) → byte ≢ 10 → is_inner byte ≡ true
 inner_byte byte other = ap not (false_from_ne_true (byte == 10) (λ is. other (eqb-true byte 10 is)))

@@ -6,6 +6,7 @@ pub mod changes;
 pub mod counts;
 pub mod empties;
 pub mod growth;
+pub mod kept;
 pub mod lines;
 pub mod neighbours;
 pub mod runs;
