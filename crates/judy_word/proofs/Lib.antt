@@ -3,3 +3,4 @@ mod Ranks
 mod KeyTests
 mod Edits
 mod Sets
+mod Kept

@@ -197,4 +197,12 @@ impl Judy1 {
     {
         self.pairs.clear()
     }
+
+    /// A law of every set that a program holds: its limit and keys are words, and it holds at most as many
+    /// keys as its limit. It answers nothing and reads each key, for a caller whose proof is to know it.
+    pub fn is_array(&self)
+        ensures { array.IsArray (array.judy1 self.now) }
+    {
+        self.pairs.are_an_array();
+    }
 }

@@ -4,6 +4,7 @@ ghost use Rattle.std.specs.Borrow.{sem};
 ghost use Rattle.std.specs.FinMap as map;
 ghost use Rattle.std.specs.Option.{option_copied_mut};
 ghost use Rattle.judy_model.specs.Arrays as array;
+ghost use Rattle.judy_model.specs.Keys.{IsWord};
 ghost use Rattle.judy_model.specs.Counts as counts;
 ghost use Rattle.judy_model.specs.Neighbours as neighbours;
 ghost use Rattle.judy_model.specs.Empties as empties;
@@ -205,5 +206,14 @@ impl JudyL {
         ensures emptied { self.new ≡ array.empty_array self.old.limit }
     {
         self.pairs.clear()
+    }
+
+    /// A law of every array that a program holds, whatever was left in its slots: its limit, keys and values
+    /// are words, and it holds at most as many keys as its limit. It answers nothing and reads each key and
+    /// value, for a caller whose proof is to know it.
+    pub fn is_array(&self)
+        ensures { array.IsArray (array.judyl self.now) }
+    {
+        self.pairs.are_an_array();
     }
 }
