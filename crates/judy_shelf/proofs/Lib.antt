@@ -1,1 +1,2 @@
 pub mod ShelfLemmas
+pub mod StoreLemmas

@@ -1,7 +1,7 @@
 //! An array of one of the kinds.
 
 ghost use Rattle.std.specs.Prelude.{◌≡◌, ◌≤◌, ◌==◌};
-ghost use Rattle.judy_model.specs.Arrays.{limit_of, len_of, emptied};
+ghost use Rattle.judy_model.specs.Arrays.{IsArray, limit_of, len_of, emptied};
 ghost use Rattle.judy_model.specs.Kinds.{kind_word_of};
 ghost use Rattle.judy_shelf.specs.Kinds.{kind_word};
 ghost use Rattle.judy_shelf.specs.Arrays.{new_array};
@@ -83,6 +83,18 @@ impl Array {
         match self {
             Array::Judy1(set) => set.free_array(),
             Array::JudyL(words) => words.free_array(),
+        }
+    }
+
+    /// A law of every array that a program holds: it is one of the definitions, its keys and values words and
+    /// no more keys than its limit. It answers nothing and reads each key and value, for a caller whose proof
+    /// is to know it.
+    pub fn is_array(&self)
+        ensures { IsArray (value_of self.now) }
+    {
+        match self {
+            Array::Judy1(set) => set.is_array(),
+            Array::JudyL(words) => words.is_array(),
         }
     }
 }

@@ -4,9 +4,10 @@ ghost use Rattle.std.specs.Prelude.{◌≡◌, ◌≤◌, OnOk, OnErr, IfErr, No
 ghost use Rattle.std.specs.Borrow.{sem};
 ghost use Rattle.std.specs.Option.{option_copied_mut};
 ghost use Rattle.std.specs.Map.Iter.{deref_pair};
-ghost use Rattle.judy_model.specs.Stores.{array_named, with_array, with_new_array, without_array};
+ghost use Rattle.judy_model.specs.Stores.{IsStore, array_named, with_array, with_new_array, without_array};
 ghost use Rattle.judy_shelf.specs.Kinds.{empty_of_kind};
 ghost use Rattle.judy_shelf.specs.Makes.{make_refusal, IsMakeRefusal};
+ghost use Rattle.judy_shelf.specs.Shelves.{IsShelf, store_of};
 
 use crate::array::{Array, new_array};
 use crate::error::MakeError;
@@ -127,5 +128,26 @@ impl Shelf {
         ensures within { length self.now ≤ 64 }
     {
         self.arrays.get_index(place)
+    }
+
+    /// A law of every shelf that a program holds, whatever was lent of it: it is a store of the definitions,
+    /// at most 64 arrays under names that differ. It answers nothing and reads each key and value, for a
+    /// caller whose proof is to know it.
+    pub fn is_store(&self)
+        ensures { IsStore (store_of self.now) }
+    {
+        self.is_shelf();
+        let mut place = 0;
+        'arrays: while let Some((name, array)) = self.at(place) {
+            name.bytes();
+            array.is_array();
+            place += 1;
+        }
+    }
+
+    fn is_shelf(&self)
+        ensures { IsShelf self.now }
+    {
+        let _ = &self.arrays;
     }
 }

@@ -211,8 +211,7 @@ fn are_words(pairs: &[(u64, u64)])
     }
 }
 
-fn are_two_words(key: u64, value: u64)
-    ensures { IsWord key × IsWord value }
+fn are_two_words(_key: u64, _value: u64)
+    ensures { IsWord _key × IsWord _value }
 {
-    let _ = (key, value);
 }
