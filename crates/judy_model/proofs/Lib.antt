@@ -25,3 +25,6 @@ pub mod Outcomes
 pub mod ArraysKept
 pub mod StoresKept
 pub mod ReadingLemmas
+pub mod FieldLemmas
+pub mod MadeMaps
+pub mod EntryLemmas

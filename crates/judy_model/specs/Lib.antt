@@ -16,4 +16,7 @@ pub mod CommandWords
 pub mod Commands
 pub mod Steps
 pub mod Runs
+pub mod Fields
+pub mod DumpText
+pub mod DumpGrammar
 pub mod Examples
