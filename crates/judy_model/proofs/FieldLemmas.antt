@@ -55,6 +55,13 @@ module _ {A : Type 0} (P Q : A → Type 0) (text : A → List ℕ) (part : Part 
     back = λ input value rest are e. let b = is.back input value rest are e in (b.0, to value b.1, b.2)
   }
 
+-- A value for which nothing is read.
+pub done-IsSpelled : {A : Type 0} (value : A) → IsSpelled (λ given. given ≡ value) (λ given. []) (done value)
+done-IsSpelled value = record {
+  again = λ given rest same. ap (λ v. Ok (v, rest)) (sym same);
+  back = λ input given rest are is. let d = done_ok value input given rest is in (d.1, sym d.0, subst IsByteString d.1 are)
+}
+
 -- ---- checks
 
 -- A value passes each check.

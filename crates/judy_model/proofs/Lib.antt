@@ -28,3 +28,6 @@ pub mod ReadingLemmas
 pub mod FieldLemmas
 pub mod MadeMaps
 pub mod EntryLemmas
+pub mod ContentsLemmas
+pub mod KindLemmas
+pub mod DumpLemmas
