@@ -1,22 +1,15 @@
 -- The entries of an array of each kind: what is read of them is spelled so, and what is spelled so is read.
-use Rattle.std.proofs.Common.{◌≡◌, ℕ, zero, suc, ◌+◌, ◌*◌, ◌^◌, ◌<◌, ◌≤◌, ◌≢◌, Bool, true, false, cond, not, ◌&&◌, ◌==◌, T, IsTrue, eqb, List, [], ◌∷◌, ◌++◌, length, map, Option, Some, None, Ok, refl, sym, ap, subst, ◌∙◌, append-nil, arith, All, nat_cmp, inl, inr}
+use Rattle.std.proofs.Common.{◌≡◌, ℕ, T, List, [], length, None, refl, sym, ap, ◌∙◌, append-nil, All}
 use Rattle.std.specs.declared.cmp.Ordering.{Ordering}
-use Rattle.std.specs.List.{flat_map, list_all}
-use Rattle.std.specs.Cmp.{IsTotalOrder, nat_cmp_total, on_total, then_total}
-use Rattle.std.specs.Ordering.{is_eq, ordering_then}
-use Rattle.std.specs.Cmp.Lexicographic.{nat_list_cmp_total}
-use Rattle.std.specs.FinMap.{FinMap, IsAntisymmetric, is_sorted, from_entries, entries_sorted, len, len-entries, nat_cmp-IsAntisymmetric, slice_cmp-IsAntisymmetric}
+use Rattle.std.specs.List.{flat_map}
+use Rattle.std.specs.Cmp.{IsTotalOrder}
+use Rattle.std.specs.FinMap.{FinMap, IsAntisymmetric, is_sorted, from_entries, entries_sorted, len, len-entries}
 use Rattle.std.specs.FinMap as map
-use Rattle.std.proofs.lemmas.Bool.{eqb-true, eqb-false}
-use Rattle.std.proofs.lemmas.List.Elements.{All-nil, All-cons, All-head, All-tail}
-use Rattle.judy_model.specs.Keys.{IsWord, IsStringKey, IsBytesKey, IsByteString, word_order, byte_order}
-use Rattle.judy_model.specs.Arrays.{ArrayOf, IsArrayOf, ArrayValue, judy1, judyl, judysl, judyhs, IsArray, limit_of, len_of}
-use Rattle.judy_model.specs.Fields.{Fault, Part, ◌>>=◌, done}
-use Rattle.judy_model.specs.DumpText as text
-use Rattle.judy_model.specs.DumpText.{length_order, entries_by, kind_number}
-use Rattle.judy_model.specs.DumpGrammar.{entries, filled, contents}
-use Rattle.judy_model.specs.DumpGrammar as grammar
-use Rattle.judy_model.proofs.FieldLemmas.{IsSpelled, sequence-IsSpelled, done-IsSpelled, retold-IsSpelled}
+use Rattle.judy_model.specs.Arrays.{ArrayOf, ArrayValue}
+use Rattle.judy_model.specs.Fields.{Part, done}
+use Rattle.judy_model.specs.DumpText.{entries_by}
+use Rattle.judy_model.specs.DumpGrammar.{entries, filled}
+use Rattle.judy_model.proofs.FieldLemmas.{IsSpelled, sequence-IsSpelled, done-IsSpelled}
 use Rattle.judy_model.proofs.MadeMaps.{len-from_entries, entries-made_twice, made_twice, entries-made, made_of_entries, All-made}
 use Rattle.judy_model.proofs.EntryLemmas.{Ascends, sorted-Ascends, Ascends-sorted, IsEntry, entry_text, entries-IsSpelled}
 
@@ -41,7 +34,7 @@ entries-IsListing total same = record {
   makes = made_of_entries total same;
   made = entries-made total same;
   to = λ P over m all. all;
-  from = All-made total
+  from = All-made total;
 }
 
 -- In another.
@@ -53,7 +46,7 @@ entries_by-IsListing {order = order} by total same by_total by_same = record {
   makes = made_twice by order by_total by_same total same;
   made = λ pairs sorted. entries-made_twice by order by_total by_same total same pairs sorted;
   to = λ P over m all. All-made by_total P over (map.entries m) all;
-  from = All-made total
+  from = All-made total;
 }
 
 -- ---- what an array of one kind gives
@@ -77,12 +70,12 @@ module _ {K : Type 0} {order : K → K → Ordering} (by : K → K → Ordering)
       (entries-IsSpelled by IsKey IsValue key_text value_text key value keys values count None)
       (λ held _. done-IsSpelled (array held))
       (λ y fits.
-        let inside = fits.0 in
-        let held = listing inside.map in
-        let same : inside ≡ record { limit = limit; map = from_entries held } = λ t. record { limit = fits.2 t; map = sym (lists.makes inside.map) t } in
-        (held, (lists.long inside.map ∙ fits.3, Ascends-sorted by held (lists.sorted inside.map), lists.to P over inside.map fits.4), fits.1 ∙ ap made same, ap whole fits.1 ∙ spelled inside ∙ sym (append-nil (write held))))
+      let inside = fits.0 in
+      let held = listing inside.map in
+      let same : inside ≡ record { limit = limit; map = from_entries held } = λ t. record { limit = fits.2 t; map = sym (lists.makes inside.map) t } in
+      (held, (lists.long inside.map ∙ fits.3, Ascends-sorted by held (lists.sorted inside.map), lists.to P over inside.map fits.4), fits.1 ∙ ap made same, ap whole fits.1 ∙ spelled inside ∙ sym (append-nil (write held))))
       (λ held y fits same.
-        let inside : ArrayOf order = record { limit = limit; map = from_entries held } in
-        let sorted = sorted-Ascends by lists.total None held fits.1 in
-        let listed = lists.made held sorted in
-        ((inside, same, refl, sym (lists.long inside.map) ∙ ap length listed ∙ fits.0, lists.from P over held fits.2), ap whole same ∙ spelled inside ∙ ap write listed ∙ sym (append-nil (write held))))
+      let inside : ArrayOf order = record { limit = limit; map = from_entries held } in
+      let sorted = sorted-Ascends by lists.total None held fits.1 in
+      let listed = lists.made held sorted in
+      ((inside, same, refl, sym (lists.long inside.map) ∙ ap length listed ∙ fits.0, lists.from P over held fits.2), ap whole same ∙ spelled inside ∙ ap write listed ∙ sym (append-nil (write held))))

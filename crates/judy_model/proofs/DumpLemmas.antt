@@ -1,6 +1,7 @@
 -- Arrays and stores: what is read of a dump is spelled so, and what is spelled so is read.
-use Rattle.std.proofs.Common.{◌≡◌, ℕ, zero, suc, ◌+◌, ◌^◌, ◌<◌, ◌≤◌, Bool, true, false, cond, ◌&&◌, ◌||◌, ◌==◌, ◌⊎◌, inl, inr, ⊎_elim, IsTrue, leb, ltb, List, [], ◌∷◌, ◌++◌, length, Option, Some, None, Result, Ok, Err, is_none, is_some, refl, sym, ap, subst, ◌∙◌, append_assoc, append-nil, arith, All}
-use Rattle.std.specs.Prelude.{bytes_eq}
+use Rattle.std.proofs.Common.{◌≡◌, ℕ, zero, suc, ◌+◌, ◌^◌, ◌<◌, ◌≤◌, Bool, true, false, ◌&&◌, ◌||◌, ◌==◌, ◌⊎◌, inl, inr, ⊎_elim, IsTrue, leb, ltb, List, [], ◌∷◌, ◌++◌, length, Option, Some, None, Result, Ok, Err, is_none, is_some, refl, sym, ap, subst, ◌∙◌, append_assoc, append-nil, arith, All}
+use Rattle.std.specs.Prelude.{bytes_eq, ◌↔◌}
+use Rattle.std.specs.Result.{result_err}
 use Rattle.std.specs.declared.cmp.Ordering.{Ordering}
 use Rattle.std.specs.FinMap.{len}
 use Rattle.std.specs.List.{flat_map, list_all, list_any, IsDistinct, AllByRecursion}
@@ -23,9 +24,9 @@ use Rattle.judy_model.specs.Fields.{Fault, bad_name, same_name, bad_kind, bad_li
 use Rattle.judy_model.specs.DumpText as text
 use Rattle.judy_model.specs.DumpText.{magic, array_text, dump_of, kind_number}
 use Rattle.judy_model.specs.DumpGrammar as grammar
-use Rattle.judy_model.specs.DumpGrammar.{is_name_length, is_new, is_kind, is_limit, IsDump}
+use Rattle.judy_model.specs.DumpGrammar.{is_name_length, is_new, is_kind, is_limit, IsDump, read_of, fault_of}
 use Rattle.judy_model.proofs.FieldLemmas.{IsSpelled, Passes, sequence-IsSpelled, done-IsSpelled, field-IsSpelled, number-IsSpelled, bytes-IsSpelled, followed_ok, done_ok}
-use Rattle.judy_model.proofs.KindLemmas.{All-from_test, test_from_All, IsContents, contents-IsSpelled}
+use Rattle.judy_model.proofs.KindLemmas.{All-from_test, contents-IsSpelled}
 use Rattle.judy_model.proofs.StoresKept.{IsStore-lasts, IsRegular-lasts, IsStore-none, IsRegular-none}
 
 -- ---- names
@@ -41,12 +42,12 @@ name_byte_is_byte : (byte : ℕ) → is_name_byte byte ≡ true → byte < 256
 name_byte_is_byte byte is =
     ⊎_elim
     (λ other. ⊎_elim
-      (λ letter. ⊎_elim
-        (λ more. ⊎_elim (λ digit. within 48 57 byte (omega arith) digit) (λ upper. within 65 90 byte (omega arith) upper) (either (is_in_range 48 57 byte) (is_in_range 65 90 byte) more))
-        (λ lower. within 97 122 byte (omega arith) lower)
-        (either (is_in_range 48 57 byte || is_in_range 65 90 byte) (is_in_range 97 122 byte) letter))
-      (λ line. let e = eqb-true byte 95 line in omega arith)
-      (either (is_ascii_alphanumeric byte) (byte == 95) other))
+    (λ letter. ⊎_elim
+    (λ more. ⊎_elim (λ digit. within 48 57 byte (omega arith) digit) (λ upper. within 65 90 byte (omega arith) upper) (either (is_in_range 48 57 byte) (is_in_range 65 90 byte) more))
+    (λ lower. within 97 122 byte (omega arith) lower)
+    (either (is_in_range 48 57 byte || is_in_range 65 90 byte) (is_in_range 97 122 byte) letter))
+    (λ line. let e = eqb-true byte 95 line in omega arith)
+    (either (is_ascii_alphanumeric byte) (byte == 95) other))
     (λ dash. let e = eqb-true byte 45 dash in omega arith)
     (either (is_ascii_alphanumeric byte || byte == 95) (byte == 45) is)
 
@@ -62,12 +63,12 @@ name-IsSpelled earlier =
     (field-IsSpelled _ (low_bytes 1) (number 1) lengths (number-IsSpelled 1))
     (λ long _. field-IsSpelled _ (λ name. name) (bytes long) names (bytes-IsSpelled long))
     (λ name is.
-      let both = and_parts (is_name_length (length name)) (list_all is_name_byte name) is.0 in
-      let short = leb-true (length name) 32 (and_parts (ltb 0 (length name)) (leb (length name) 32) both.0).1 in
-      (length name, (omega arith, (both.0, tt)), ((refl, All-from_test is_name_byte (λ byte. byte < 256) name_byte_is_byte name both.1), (both.1, (is.1, tt))), refl))
+    let both = and_parts (is_name_length (length name)) (list_all is_name_byte name) is.0 in
+    let short = leb-true (length name) 32 (and_parts (ltb 0 (length name)) (leb (length name) 32) both.0).1 in
+    (length name, (omega arith, (both.0, tt)), ((refl, All-from_test is_name_byte (λ byte. byte < 256) name_byte_is_byte name both.1), (both.1, (is.1, tt))), refl))
     (λ long name p q.
-      let same : length name ≡ long = q.0.0 in
-      ((ap (λ n. is_name_length n && list_all is_name_byte name) same ∙ (λ t. p.1.0 t && q.1.0 t), q.1.1.0), ap (λ n. low_bytes 1 n ++ name) same))
+    let same : length name ≡ long = q.0.0 in
+    ((ap (λ n. is_name_length n && list_all is_name_byte name) same ∙ (λ t. p.1.0 t && q.1.0 t), q.1.1.0), ap (λ n. low_bytes 1 n ++ name) same))
 
 -- ---- arrays
 
@@ -115,9 +116,9 @@ counted-IsSpelled kind limit known some small =
     (field-IsSpelled _ text.word (number 8) checks (number-IsSpelled 8))
     (λ count p. contents-IsSpelled limit count some small (leb-true count limit p.1.0) kind known)
     (λ array is.
-      let b = bounds array is.2 in let within = b.within in let same = is.1 in
-      let enough : len_of array ≤ limit = omega arith in
-      (len_of array, (omega arith, (le-leb (len_of array) limit enough, tt)), (is.0, is.1, refl, is.2), refl))
+    let b = bounds array is.2 in let within = b.within in let same = is.1 in
+    let enough : len_of array ≤ limit = omega arith in
+    (len_of array, (omega arith, (le-leb (len_of array) limit enough, tt)), (is.0, is.1, refl, is.2), refl))
     (λ count array p q. ((q.0, q.1, q.3), ap (λ n. text.word n ++ text.contents array) q.2))
 
 limited-IsSpelled : (kind : ℕ) → is_kind kind ≡ true → IsSpelled (IsLimited kind) (λ array. text.word (limit_of array) ++ text.word (len_of array) ++ text.contents array) (grammar.limit >>= λ limit. grammar.key_count limit >>= grammar.contents kind limit)
@@ -130,11 +131,11 @@ limited-IsSpelled kind known =
     (field-IsSpelled _ text.word (number 8) checks (number-IsSpelled 8))
     (λ limit p. let b = bounded limit p.1.0 in counted-IsSpelled kind limit known b.0 b.1)
     (λ array is.
-      let b = bounds array is.2 in let some = b.some in let small = is.1 in
-      (limit_of array, (omega arith, ((λ t. lt-ltb 0 (limit_of array) (omega arith) t && le-leb (limit_of array) 4294967295 small t), tt)), (is.0, refl, is.2), refl))
+    let b = bounds array is.2 in let some = b.some in let small = is.1 in
+    (limit_of array, (omega arith, ((λ t. lt-ltb 0 (limit_of array) (omega arith) t && le-leb (limit_of array) 4294967295 small t), tt)), (is.0, refl, is.2), refl))
     (λ limit array p q.
-      let b = bounded limit p.1.0 in
-      ((q.0, subst (λ l. l ≤ 4294967295) (sym q.1) b.1, q.2), ap (λ n. text.word n ++ text.word (len_of array) ++ text.contents array) q.1))
+    let b = bounded limit p.1.0 in
+    ((q.0, subst (λ l. l ≤ 4294967295) (sym q.1) b.1, q.2), ap (λ n. text.word n ++ text.word (len_of array) ++ text.contents array) q.1))
 
 body-IsSpelled : IsSpelled IsBody text.body grammar.body
 body-IsSpelled =
@@ -151,10 +152,10 @@ array-IsSpelled earlier =
     sequence-IsSpelled (IsNewName earlier) text.name_text (grammar.name earlier) (λ name array. (array.0 ≡ name) × IsBody array.1) (λ name array. text.body array.1) (λ name. grammar.body >>= λ held. done (name, held)) (λ array. IsNewName earlier array.0 × IsBody array.1) array_text
     (name-IsSpelled earlier)
     (λ name _. sequence-IsSpelled IsBody text.body grammar.body (λ held array. array ≡ (name, held)) (λ held array. []) (λ held. done (name, held)) (λ array. (array.0 ≡ name) × IsBody array.1) (λ array. text.body array.1)
-      body-IsSpelled
-      (λ held _. done-IsSpelled (name, held))
-      (λ array is. (array.1, is.1, (λ t. (is.0 t, array.1)), sym (append-nil (text.body array.1))))
-      (λ held array p same. ((ap (λ pair. pair.0) same, subst IsBody (sym (ap (λ pair. pair.1) same)) p), ap (λ pair. text.body pair.1) same ∙ sym (append-nil (text.body held)))))
+    body-IsSpelled
+    (λ held _. done-IsSpelled (name, held))
+    (λ array is. (array.1, is.1, (λ t. (is.0 t, array.1)), sym (append-nil (text.body array.1))))
+    (λ held array p same. ((ap (λ pair. pair.0) same, subst IsBody (sym (ap (λ pair. pair.1) same)) p), ap (λ pair. text.body pair.1) same ∙ sym (append-nil (text.body held)))))
     (λ array is. (array.0, is.0, (refl, is.1), refl))
     (λ name array p q. ((subst (IsNewName earlier) (sym q.0) p, q.1), ap (λ n. text.name_text n ++ text.body array.1) q.0))
 
@@ -216,14 +217,16 @@ module _ (earlier : Store) (next : List ℕ × ArrayValue) (later : Store) where
   -- An array of a store has a name that no array before it has.
   new_of_store : IsStore (earlier ++ next ∷ later) → IsNewName earlier next.0
   new_of_store is =
-      let apart = none_before next.0 (keys_of later) (keys_of earlier) (subst (IsDistinct bytes_eq) keys_in_a_row is.names_differ) in
-      (at_middle (λ name. IsTrue (is_name name)) next.0 (keys_of later) (keys_of earlier) (subst (All (λ name. IsTrue (is_name name))) keys_in_a_row is.names_are),
-        absent (array_named earlier next.0) (is_some-lookup (bytes_eq next.0) earlier ∙ apart))
+      let apart = none_before next.0 (keys_of later) (keys_of earlier) (subst (IsDistinct bytes_eq) keys_in_a_row is.names_differ) in (
+        at_middle (λ name. IsTrue (is_name name)) next.0 (keys_of later) (keys_of earlier) (subst (All (λ name. IsTrue (is_name name))) keys_in_a_row is.names_are),
+        absent (array_named earlier next.0) (is_some-lookup (bytes_eq next.0) earlier ∙ apart),
+      )
 
   body_of_store : IsGood (earlier ++ next ∷ later) → IsBody next.1
-  body_of_store is =
-      (at_middle IsArray next.1 (values_of later) (values_of earlier) (subst (All IsArray) values_in_a_row is.0.arrays_are),
-        at_middle (λ array. limit_of array ≤ 4294967295) next.1 (values_of later) (values_of earlier) (subst (All (λ array. limit_of array ≤ 4294967295)) values_in_a_row is.1))
+  body_of_store is = (
+    at_middle IsArray next.1 (values_of later) (values_of earlier) (subst (All IsArray) values_in_a_row is.0.arrays_are),
+    at_middle (λ array. limit_of array ≤ 4294967295) next.1 (values_of later) (values_of earlier) (subst (All (λ array. limit_of array ≤ 4294967295)) values_in_a_row is.1),
+  )
 
 arrays_again : (later earlier : Store) (rest : List ℕ) → IsGood (earlier ++ later) → grammar.arrays earlier (length later) (flat_map array_text later ++ rest) ≡ Ok (earlier ++ later, rest)
 arrays_again [] earlier rest good = ap (λ store. Ok (store, rest)) (sym (append-nil earlier))
@@ -246,8 +249,9 @@ end_ok : (input : List ℕ) (given : Unit {0} × List ℕ) → end input ≡ Ok 
 end_ok [] given is = refl
 end_ok (byte ∷ input) given is = absurd cc
 
-magic-IsByteString : IsByteString magic
-magic-IsByteString = All-from_test (λ byte. ltb byte 256) (λ byte. byte < 256) (λ byte is. ltb-true byte 256 is) magic refl
+-- Numbers that are bytes, by a test of each.
+pub bytes_are : (read : List ℕ) → list_all (λ byte. ltb byte 256) read ≡ true → IsByteString read
+bytes_are = All-from_test (λ byte. ltb byte 256) (λ byte. byte < 256) (λ byte is. ltb-true byte 256 is)
 
 abbrev magic_checks : List ((List ℕ → Bool) × Fault)
 magic_checks = (bytes_eq magic, bad_magic) ∷ []
@@ -270,34 +274,60 @@ after_count count = grammar.arrays [] count >>= at_last
 abbrev after_magic : Part Store
 after_magic = field (number 4) count_checks >>= after_count
 
+last_back : (made : Store) (input : List ℕ) (store : Store) (rest : List ℕ) → at_last made input ≡ Ok (store, rest) → (input ≡ []) × (made ≡ store)
+last_back made input store rest is =
+    let f = followed_ok (end input) (λ _. done made) (store, rest) is in
+    (end_ok input f.0 f.1, (done_ok made f.0.1 store rest f.2).0)
+
+whole_text : (input : List ℕ) (count : ℕ) (texts left : List ℕ) (later store : Store) → input ≡ low_bytes 4 count ++ texts → texts ≡ flat_map array_text later ++ left → left ≡ [] → length later ≡ count → later ≡ store → IsGood store
+    → (input ≡ low_bytes 4 (length store) ++ flat_map array_text store) × IsGood store
+whole_text input count texts left later store counted listed nothing long same good =
+    let arrays : texts ≡ flat_map array_text store = listed ∙ (λ t. flat_map array_text later ++ nothing t) ∙ append-nil (flat_map array_text later) ∙ ap (flat_map array_text) same in
+    let number : count ≡ length store = sym long ∙ ap length same in
+    (counted ∙ (λ t. low_bytes 4 (number t) ++ arrays t), good)
+
+count_back : (input : List ℕ) (store : Store) (rest : List ℕ) → IsByteString input → after_magic input ≡ Ok (store, rest) → (input ≡ low_bytes 4 (length store) ++ flat_map array_text store) × IsGood store
+count_back input store rest are is =
+    let f = followed_ok (field (number 4) count_checks input) after_count (store, rest) is in
+    let n = count-IsSpelled.back input f.0.0 f.0.1 are f.1 in
+    let g = followed_ok (grammar.arrays [] f.0.0 f.0.1) at_last (store, rest) f.2 in
+    let few = leb-true f.0.0 64 n.1.1.0 in
+    let a = arrays_back f.0.0 [] f.0.1 g.0.0 g.0.1 (omega arith) (IsStore-none, IsRegular-none) n.2 g.1 in
+    let l = last_back g.0.0 g.0.1 store rest g.2 in
+    whole_text input f.0.0 f.0.1 g.0.1 a.0 store n.0 a.3 l.0 a.2 (sym a.1 ∙ l.1) (subst IsGood l.1 a.4)
+
 -- What is read is the dump of the store that it gives, which is a store, and regular.
 pub dump_back : (dump : List ℕ) (store : Store) → IsByteString dump → IsDump dump store → (dump ≡ dump_of store) × IsStore store × IsRegular store
 dump_back dump store are is =
     let e = value_of_ok (grammar.store dump) store is in
-    let rest = e.0 in
-    let f = followed_ok (field (bytes 4) magic_checks dump) (λ _. after_magic) (store, rest) e.1 in
+    let f = followed_ok (field (bytes 4) magic_checks dump) (λ _. after_magic) (store, e.0) e.1 in
     let m = magic-IsSpelled.back dump f.0.0 f.0.1 are f.1 in
     let named : f.0.0 ≡ magic = sym (same_text magic f.0.0 (sym m.1.1.0)) in
-    let g = followed_ok (field (number 4) count_checks f.0.1) after_count (store, rest) f.2 in
-    let n = count-IsSpelled.back f.0.1 g.0.0 g.0.1 m.2 g.1 in
-    let h = followed_ok (grammar.arrays [] g.0.0 g.0.1) at_last (store, rest) g.2 in
-    let few = leb-true g.0.0 64 n.1.1.0 in
-    let a = arrays_back g.0.0 [] g.0.1 h.0.0 h.0.1 (omega arith) (IsStore-none, IsRegular-none) n.2 h.1 in
-    let k = followed_ok (end h.0.1) (λ _. done h.0.0) (store, rest) h.2 in
-    let nothing = end_ok h.0.1 k.0 k.1 in
-    let d = done_ok h.0.0 k.0.1 store rest k.2 in
-    let same : a.0 ≡ store = sym a.1 ∙ d.0 in
-    let texts : g.0.1 ≡ flat_map array_text store = a.3 ∙ ap (λ t. flat_map array_text a.0 ++ t) nothing ∙ append-nil (flat_map array_text a.0) ∙ ap (flat_map array_text) same in
-    let counted : low_bytes 4 g.0.0 ≡ low_bytes 4 (length store) = ap (low_bytes 4) (sym a.2 ∙ ap length same) in
-    let good = subst IsGood d.0 a.4 in
-    (m.0 ∙ (λ t. named t ++ f.0.1) ∙ ap (λ t. magic ++ t) (n.0 ∙ (λ t. counted t ++ texts t)), good.0, good.1)
+    let c = count_back f.0.1 store e.0 m.2 f.2 in
+    (m.0 ∙ (λ t. named t ++ c.0 t), c.1.0, c.1.1)
 
 -- The dump of a regular store gives it.
 pub dump_again : (store : Store) → IsStore store → IsRegular store → IsDump (dump_of store) store
 dump_again store is regular =
     let texts = flat_map array_text store in
     let few = is.within_limit in
-    let one = magic-IsSpelled.again magic (low_bytes 4 (length store) ++ texts) ((refl, magic-IsByteString), (refl, tt)) in
+    let one = magic-IsSpelled.again magic (low_bytes 4 (length store) ++ texts) ((refl, bytes_are magic refl), (refl, tt)) in
     let two = count-IsSpelled.again (length store) texts (omega arith, (le-leb (length store) 64 few, tt)) in
     let three : grammar.arrays [] (length store) texts ≡ Ok (store, []) = ap (grammar.arrays [] (length store)) (sym (append-nil texts)) ∙ arrays_again store [] [] (is, regular) in
     ap value_of (ap (λ read. followed_by read (λ _. after_magic)) one ∙ ap (λ read. followed_by read after_count) two ∙ ap (λ read. followed_by read at_last) three)
+
+one_ok : {A : Type 0} (read : Result A Fault) (one other : A) → read ≡ Ok one → read ≡ Ok other → one ≡ other
+one_ok {A} (Ok given) one other is also = let same : ◌≡◌ {A = Result A Fault} (Ok one) (Ok other) = sym is ∙ also in cc
+one_ok (Err fault) one other is also = absurd cc
+
+-- Bytes give one store at most.
+pub one_store : (dump : List ℕ) (store other : Store) → IsDump dump store → IsDump dump other → store ≡ other
+one_store dump store other is also = one_ok (read_of dump) store other is also
+
+no_fault : (read : Result Store Fault) → ((store : Store) × (read ≡ Ok store)) ↔ (result_err read ≡ None)
+no_fault (Ok given) = ((λ _. refl), λ _. (given, refl))
+no_fault (Err fault) = ((λ given. absurd (let e = given.1 in cc)), λ none. absurd cc)
+
+-- They give one exactly where they have no fault.
+pub gives_exactly : (dump : List ℕ) → ((store : Store) × IsDump dump store) ↔ (fault_of dump ≡ None)
+gives_exactly dump = no_fault (read_of dump)

@@ -1,15 +1,14 @@
 -- Entries in the order of their keys: what is read of them is spelled so, and what is spelled so is read.
-use Rattle.std.proofs.Common.{◌≡◌, ℕ, zero, suc, Bool, true, false, ◌&&◌, T, IsTrue, List, [], ◌∷◌, ◌++◌, length, map, Option, Some, None, Ok, refl, sym, ap, subst, ◌∙◌, append_assoc, append-nil, arith, All, Less, Equal, Greater}
+use Rattle.std.proofs.Common.{◌≡◌, ℕ, zero, suc, Bool, true, false, ◌&&◌, T, IsTrue, List, [], ◌∷◌, ◌++◌, length, Option, Some, None, Ok, refl, sym, ap, subst, ◌∙◌, append_assoc, arith, All, Less, Equal, Greater}
 use Rattle.std.specs.declared.cmp.Ordering.{Ordering}
 use Rattle.std.specs.Ordering.{is_lt}
 use Rattle.std.specs.List.{flat_map}
 use Rattle.std.specs.Cmp.{IsTotalOrder}
 use Rattle.std.specs.FinMap.{is_sorted}
 use Rattle.std.specs.FinMap.Entries.{below_all}
-use Rattle.std.proofs.lemmas.List.Concat.{flat_map-cons}
 use Rattle.std.proofs.lemmas.List.Elements.{All-nil, All-cons, All-head, All-tail}
 use Rattle.judy_model.specs.Keys.{IsByteString}
-use Rattle.judy_model.specs.Fields.{Fault, bad_order, Part, followed_by, ◌>>=◌, done, field}
+use Rattle.judy_model.specs.Fields.{bad_order, Part, ◌>>=◌, done, field}
 use Rattle.judy_model.specs.DumpGrammar.{is_above, entry, entries}
 use Rattle.judy_model.proofs.FieldLemmas.{IsSpelled, followed_ok, done_ok, field-IsSpelled}
 
@@ -97,7 +96,7 @@ module _ {K : Type 0} (order : K → K → Ordering) (IsKey : K → Type 0) (IsV
               let d = done_ok (f.0.0, g.0.0) g.0.1 pair rest g.2 in
               let made : K × ℕ = (f.0.0, g.0.0) in
               subst (λ (p : K × ℕ). (input ≡ entry_text p ++ rest) × (IsTrue (is_above order before p.0) × IsEntry p) × IsByteString rest) d.0
-              (b.0 ∙ ap (λ t. key_text f.0.0 ++ t) (c.0 ∙ ap (λ t. value_text g.0.0 ++ t) d.1) ∙ sym (append_assoc (key_text f.0.0) (value_text g.0.0) rest), (b.1.1.0, (b.1.0, c.1)), subst IsByteString d.1 c.2)
+              (b.0 ∙ ap (λ t. key_text f.0.0 ++ t) (c.0 ∙ ap (λ t. value_text g.0.0 ++ t) d.1) ∙ sym (append_assoc (key_text f.0.0) (value_text g.0.0) rest), (b.1.1.0, (b.1.0, c.1)), subst IsByteString d.1 c.2);
         }
 
     again-none : (before : Option K) (pairs : List (K × ℕ)) (rest : List ℕ) → (length pairs ≡ 0) × Ascends order before pairs × All IsEntry pairs → entries order key value before 0 (flat_map entry_text pairs ++ rest) ≡ Ok (pairs, rest)
@@ -120,7 +119,7 @@ module _ {K : Type 0} (order : K → K → Ordering) (IsKey : K → Type 0) (IsV
       back = λ input pairs rest are is.
           let d = done_ok [] input pairs rest is in
           subst (λ (ps : List (K × ℕ)). (input ≡ flat_map entry_text ps ++ rest) × ((length ps ≡ 0) × Ascends order before ps × All IsEntry ps) × IsByteString rest) d.0
-          (d.1, (refl, tt, All-nil IsEntry), subst IsByteString d.1 are)
+          (d.1, (refl, tt, All-nil IsEntry), subst IsByteString d.1 are);
     }
     entries-IsSpelled (suc count) before = record {
       again = again-more count before (entries-IsSpelled count);
@@ -130,7 +129,9 @@ module _ {K : Type 0} (order : K → K → Ordering) (IsKey : K → Type 0) (IsV
           let b = (entry-IsSpelled before).back input f.0.0 f.0.1 are f.1 in
           let c = (entries-IsSpelled count (Some f.0.0.0)).back f.0.1 g.0.0 g.0.1 b.2 g.1 in
           let d = done_ok (f.0.0 ∷ g.0.0) g.0.1 pairs rest g.2 in
-          subst (λ (ps : List (K × ℕ)). (input ≡ flat_map entry_text ps ++ rest) × ((length ps ≡ suc count) × Ascends order before ps × All IsEntry ps) × IsByteString rest) d.0
-          (b.0 ∙ ap (λ t. entry_text f.0.0 ++ t) (c.0 ∙ ap (λ t. flat_map entry_text g.0.0 ++ t) d.1) ∙ sym (append_assoc (entry_text f.0.0) (flat_map entry_text g.0.0) rest),
-            (ap suc c.1.0, (b.1.0, c.1.1), All-cons IsEntry f.0.0 g.0.0 b.1.1 c.1.2), subst IsByteString d.1 c.2)
+          subst (λ (ps : List (K × ℕ)). (input ≡ flat_map entry_text ps ++ rest) × ((length ps ≡ suc count) × Ascends order before ps × All IsEntry ps) × IsByteString rest) d.0 (
+            b.0 ∙ ap (λ t. entry_text f.0.0 ++ t) (c.0 ∙ ap (λ t. flat_map entry_text g.0.0 ++ t) d.1) ∙ sym (append_assoc (entry_text f.0.0) (flat_map entry_text g.0.0) rest),
+            (ap suc c.1.0, (b.1.0, c.1.1), All-cons IsEntry f.0.0 g.0.0 b.1.1 c.1.2),
+            subst IsByteString d.1 c.2,
+          );
     }

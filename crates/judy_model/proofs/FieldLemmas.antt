@@ -1,6 +1,6 @@
 -- Fields that are spelled in one way: what is read is spelled so, and what is spelled so is read.
-use Rattle.std.proofs.Common.{◌≡◌, ℕ, zero, suc, ◌+◌, ◌/◌, ◌^◌, ◌<◌, ◌≤◌, Bool, true, false, cond, ltb, inl, inr, List, [], ◌∷◌, ◌++◌, length, take, drop, Result, Ok, Err, refl, sym, ap, subst, ◌∙◌, append_assoc, arith, IsTrue}
-use Rattle.std.proofs.lemmas.Bool.{cases_lt, ltb-false, le-ltb}
+use Rattle.std.proofs.Common.{◌≡◌, ℕ, zero, suc, ◌+◌, ◌/◌, ◌^◌, ◌<◌, ◌≤◌, Bool, true, false, cond, ltb, List, [], ◌∷◌, ◌++◌, length, take, drop, Result, Ok, Err, refl, sym, ap, subst, ◌∙◌, append_assoc, arith, IsTrue}
+use Rattle.std.proofs.lemmas.Bool.{ltb-false, le-ltb}
 use Rattle.std.proofs.lemmas.List.{take_at, drop_at, take-append-drop, length-append, length-take}
 use Rattle.std.proofs.lemmas.List.Elements.{All-nil, All-cons, All-take, All-drop}
 use Rattle.std.proofs.Math.Nat.{mod-eq_of_lt}
@@ -44,7 +44,7 @@ module _ {A B : Type 0} (P : A → Type 0) (text : A → List ℕ) (part : Part 
         let b = one.back input x f.0.1 are f.1 in
         let c = (others x b.1).back f.0.1 value after b.2 f.2 in
         let j = join x value b.1 c.1 in
-        (b.0 ∙ ap (λ t. text x ++ t) c.0 ∙ sym (append_assoc (text x) (later x value) after) ∙ ap (λ t. t ++ after) (sym j.1), j.0, c.2)
+        (b.0 ∙ ap (λ t. text x ++ t) c.0 ∙ sym (append_assoc (text x) (later x value) after) ∙ ap (λ t. t ++ after) (sym j.1), j.0, c.2);
   }
 
 module _ {A : Type 0} (P Q : A → Type 0) (text : A → List ℕ) (part : Part A) where
@@ -52,14 +52,14 @@ module _ {A : Type 0} (P Q : A → Type 0) (text : A → List ℕ) (part : Part 
   pub retold-IsSpelled : ((value : A) → P value → Q value) → ((value : A) → Q value → P value) → IsSpelled P text part → IsSpelled Q text part
   retold-IsSpelled to from is = record {
     again = λ value rest fits. is.again value rest (from value fits);
-    back = λ input value rest are e. let b = is.back input value rest are e in (b.0, to value b.1, b.2)
+    back = λ input value rest are e. let b = is.back input value rest are e in (b.0, to value b.1, b.2);
   }
 
 -- A value for which nothing is read.
 pub done-IsSpelled : {A : Type 0} (value : A) → IsSpelled (λ given. given ≡ value) (λ given. []) (done value)
 done-IsSpelled value = record {
   again = λ given rest same. ap (λ v. Ok (v, rest)) (sym same);
-  back = λ input given rest are is. let d = done_ok value input given rest is in (d.1, sym d.0, subst IsByteString d.1 are)
+  back = λ input given rest are is. let d = done_ok value input given rest is in (d.1, sym d.0, subst IsByteString d.1 are);
 }
 
 -- ---- checks
@@ -96,7 +96,7 @@ module _ {A : Type 0} (P : A → Type 0) (text : A → List ℕ) (part : Part A)
         let c = Passes-checked checks f.0.0 f.0.1 (value, rest) f.2 in
         let same : f.0 ≡ (value, rest) = c.1 in
         let b = is.back input value rest are (f.1 ∙ ap (λ read. Ok read) same) in
-        (b.0, (b.1, subst (Passes checks) (ap (λ read. read.0) same) c.0), b.2)
+        (b.0, (b.1, subst (Passes checks) (ap (λ read. read.0) same) c.0), b.2);
   }
 
 -- ---- bytes and numbers
@@ -119,7 +119,7 @@ bytes-IsSpelled count = record {
       let two : drop count input ≡ rest = ap (λ pair. pair.1) w.1 in
       let enough = ltb-false (length input) count w.0 in
       let l : length (take count input) ≡ count = let m = length-take count input in omega arith in
-      (sym (take-append-drop count input) ∙ (λ t. one t ++ two t), (ap length (sym one) ∙ l, subst IsByteString one (All-take (λ byte. byte < 256) count input are)), subst IsByteString two (All-drop (λ byte. byte < 256) count input are))
+      (sym (take-append-drop count input) ∙ (λ t. one t ++ two t), (ap length (sym one) ∙ l, subst IsByteString one (All-take (λ byte. byte < 256) count input are)), subst IsByteString two (All-drop (λ byte. byte < 256) count input are));
 }
 
 low_bytes-IsByteString : (width value : ℕ) → IsByteString (low_bytes width value)
@@ -140,5 +140,5 @@ number-IsSpelled width = record {
       let n = same.0 in
       let after = same.1 in
       let spelled : f.0.0 ≡ low_bytes width value = sym (low_bytes-number_of f.0.0 b.1.1) ∙ (λ t. low_bytes (b.1.0 t) (n t)) in
-      (b.0 ∙ (λ t. spelled t ++ after t), subst (λ k. k < 256 ^ width) n (subst (λ w. number_of f.0.0 < 256 ^ w) b.1.0 (number_of-lt f.0.0 b.1.1)), subst IsByteString after b.2)
+      (b.0 ∙ (λ t. spelled t ++ after t), subst (λ k. k < 256 ^ width) n (subst (λ w. number_of f.0.0 < 256 ^ w) b.1.0 (number_of-lt f.0.0 b.1.1)), subst IsByteString after b.2);
 }

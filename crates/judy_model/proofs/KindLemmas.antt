@@ -1,24 +1,24 @@
 -- The keys, the values and the arrays of the four kinds: what is read is spelled so, and what is spelled so is read.
-use Rattle.std.proofs.Common.{◌≡◌, ℕ, ◌+◌, ◌^◌, ◌<◌, ◌≤◌, ◌≢◌, Bool, true, false, cond, not, ◌&&◌, ◌==◌, IsTrue, eqb, leb, ltb, List, [], ◌∷◌, ◌++◌, length, map, None, Equal, refl, sym, ap, subst, ◌∙◌, arith, All}
+use Rattle.std.proofs.Common.{◌≡◌, ℕ, ◌≤◌, ◌≢◌, Bool, true, false, cond, not, ◌&&◌, ◌==◌, leb, ltb, List, [], ◌∷◌, ◌++◌, length, map, None, Equal, refl, sym, ap, subst, ◌∙◌, arith, All}
 use Rattle.std.specs.declared.cmp.Ordering.{Ordering}
 use Rattle.std.specs.List.{list_all}
 use Rattle.std.specs.Ordering.{nat_cmp, ordering_then}
 use Rattle.std.specs.Cmp.{IsTotalOrder, nat_cmp_total, on_total, then_total}
 use Rattle.std.specs.Cmp.Lexicographic.{nat_list_cmp_total}
-use Rattle.std.specs.FinMap.{FinMap, IsAntisymmetric, len, nat_cmp-IsAntisymmetric, slice_cmp-IsAntisymmetric}
+use Rattle.std.specs.FinMap.{IsAntisymmetric, len, nat_cmp-IsAntisymmetric, slice_cmp-IsAntisymmetric}
 use Rattle.std.specs.FinMap as map
 use Rattle.std.proofs.lemmas.Bool.{eqb-true, eqb-false, ltb-true, leb-true, le-leb, and_parts}
 use Rattle.std.proofs.lemmas.List.Elements.{All-nil, All-cons, All-head, All-tail, All-weaker}
 use Rattle.judy_model.specs.Keys.{IsWord, IsStringKey, IsBytesKey, IsByteString, word_order, byte_order}
 use Rattle.judy_model.specs.Arrays.{ArrayOf, IsArrayOf, ArrayValue, judy1, judyl, judysl, judyhs, IsArray, limit_of, len_of}
 use Rattle.judy_model.specs.WordBytes.{low_bytes}
-use Rattle.judy_model.specs.Fields.{Fault, bad_key, Part, done, bytes, number, field}
+use Rattle.judy_model.specs.Fields.{Fault, bad_key, Part, bytes, number, field}
 use Rattle.judy_model.specs.DumpText as text
 use Rattle.judy_model.specs.DumpText.{length_order, entries_by, kind_number}
 use Rattle.judy_model.specs.DumpGrammar as grammar
 use Rattle.judy_model.specs.DumpGrammar.{filled, contents, is_kind}
 use Rattle.judy_model.proofs.FieldLemmas.{IsSpelled, sequence-IsSpelled, done-IsSpelled, retold-IsSpelled, field-IsSpelled, number-IsSpelled, bytes-IsSpelled}
-use Rattle.judy_model.proofs.ContentsLemmas.{IsListing, entries-IsListing, entries_by-IsListing, IsFilled, filled-IsSpelled}
+use Rattle.judy_model.proofs.ContentsLemmas.{entries-IsListing, entries_by-IsListing, IsFilled, filled-IsSpelled}
 
 -- ---- orders
 
@@ -72,8 +72,8 @@ string-IsSpelled =
     (λ long _. bytes-IsSpelled long)
     (λ key is. let within = is.within_limit in (length key, (omega arith, (le-leb (length key) 1024 within, tt)), (refl, is.is_byte_string), refl))
     (λ long key p q.
-      let within = leb-true long 1024 p.1.0 in let same = q.0 in
-      (record { is_byte_string = q.1; within_limit = omega arith }, ap (λ n. low_bytes 2 n ++ key) same))
+    let within = leb-true long 1024 p.1.0 in let same = q.0 in
+    (record { is_byte_string = q.1; within_limit = omega arith }, ap (λ n. low_bytes 2 n ++ key) same))
 
 pub string_without_zero-IsSpelled : IsSpelled IsStringKey text.string grammar.string_without_zero
 string_without_zero-IsSpelled =
@@ -120,7 +120,7 @@ module _ (limit count : ℕ) (some : 1 ≤ limit) (small : limit ≤ 4294967295)
     limit_is_word = omega arith;
     within_limit = omega arith;
     keys_are = keys_are IsKey IsWord (map.entries inside.map) all;
-    values_are = values_are IsKey IsWord (map.entries inside.map) all
+    values_are = values_are IsKey IsWord (map.entries inside.map) all;
   }
 
   -- The array that is read behind a kind, a limit and a number of keys.
@@ -153,32 +153,36 @@ module _ (limit count : ℕ) (some : 1 ≤ limit) (small : limit ≤ 4294967295)
 
   set-IsSpelled : IsSpelled (IsContents 1) text.contents (filled judy1 limit (grammar.entries word_order grammar.word grammar.no_value None count))
   set-IsSpelled = retold-IsSpelled (IsFilled word_order map.entries IsWord (λ value. value ≡ 0) text.word (λ value. []) grammar.word grammar.no_value judy1 text.contents limit count) (IsContents 1) text.contents _
-      (λ array is. subst (IsContents 1) (sym is.1) (refl, is.2, is.3,
-        (IsArrayOf-filled IsWord is.0 is.2 is.3 (All-weaker (λ pair. IsWord pair.0 × (pair.1 ≡ 0)) (λ pair. IsWord pair.0 × IsWord pair.1) (λ pair both. (both.0, (let e = both.1 in omega arith))) (map.entries is.0.map) is.4), values_are IsWord (λ value. value ≡ 0) (map.entries is.0.map) is.4)))
+      (λ array is. subst (IsContents 1) (sym is.1) (
+        refl,
+        is.2,
+        is.3,
+        (IsArrayOf-filled IsWord is.0 is.2 is.3 (All-weaker (λ pair. IsWord pair.0 × (pair.1 ≡ 0)) (λ pair. IsWord pair.0 × IsWord pair.1) (λ pair both. (both.0, (let e = both.1 in omega arith))) (map.entries is.0.map) is.4), values_are IsWord (λ value. value ≡ 0) (map.entries is.0.map) is.4),
+      ))
       set_inside
       (filled-IsSpelled word_order map.entries IsWord (λ value. value ≡ 0) text.word (λ value. []) grammar.word grammar.no_value judy1 text.contents limit count
-        (entries-IsListing nat_cmp_total nat_cmp-IsAntisymmetric) word-IsSpelled (done-IsSpelled 0) (λ inside. refl))
+      (entries-IsListing nat_cmp_total nat_cmp-IsAntisymmetric) word-IsSpelled (done-IsSpelled 0) (λ inside. refl))
 
   words-IsSpelled : IsSpelled (IsContents 2) text.contents (filled judyl limit (grammar.entries word_order grammar.word grammar.word None count))
   words-IsSpelled = retold-IsSpelled (IsFilled word_order map.entries IsWord IsWord text.word text.word grammar.word grammar.word judyl text.contents limit count) (IsContents 2) text.contents _
       (λ array is. subst (IsContents 2) (sym is.1) (refl, is.2, is.3, IsArrayOf-filled IsWord is.0 is.2 is.3 is.4))
       words_inside
       (filled-IsSpelled word_order map.entries IsWord IsWord text.word text.word grammar.word grammar.word judyl text.contents limit count
-        (entries-IsListing nat_cmp_total nat_cmp-IsAntisymmetric) word-IsSpelled word-IsSpelled (λ inside. refl))
+      (entries-IsListing nat_cmp_total nat_cmp-IsAntisymmetric) word-IsSpelled word-IsSpelled (λ inside. refl))
 
   strings-IsSpelled : IsSpelled (IsContents 3) text.contents (filled judysl limit (grammar.entries byte_order grammar.string_without_zero grammar.word None count))
   strings-IsSpelled = retold-IsSpelled (IsFilled byte_order map.entries IsStringKey IsWord text.string text.word grammar.string_without_zero grammar.word judysl text.contents limit count) (IsContents 3) text.contents _
       (λ array is. subst (IsContents 3) (sym is.1) (refl, is.2, is.3, IsArrayOf-filled IsStringKey is.0 is.2 is.3 is.4))
       strings_inside
       (filled-IsSpelled byte_order map.entries IsStringKey IsWord text.string text.word grammar.string_without_zero grammar.word judysl text.contents limit count
-        (entries-IsListing nat_list_cmp_total byte_order-IsAntisymmetric) string_without_zero-IsSpelled word-IsSpelled (λ inside. refl))
+      (entries-IsListing nat_list_cmp_total byte_order-IsAntisymmetric) string_without_zero-IsSpelled word-IsSpelled (λ inside. refl))
 
   byte_strings-IsSpelled : IsSpelled (IsContents 4) text.contents (filled judyhs limit (grammar.entries length_order grammar.string grammar.word None count))
   byte_strings-IsSpelled = retold-IsSpelled (IsFilled length_order (entries_by length_order) IsBytesKey IsWord text.string text.word grammar.string grammar.word judyhs text.contents limit count) (IsContents 4) text.contents _
       (λ array is. subst (IsContents 4) (sym is.1) (refl, is.2, is.3, IsArrayOf-filled IsBytesKey is.0 is.2 is.3 is.4))
       byte_strings_inside
       (filled-IsSpelled length_order (entries_by length_order) IsBytesKey IsWord text.string text.word grammar.string grammar.word judyhs text.contents limit count
-        (entries_by-IsListing length_order nat_list_cmp_total byte_order-IsAntisymmetric length_order-total length_order-IsAntisymmetric) string-IsSpelled word-IsSpelled (λ inside. refl))
+      (entries_by-IsListing length_order nat_list_cmp_total byte_order-IsAntisymmetric length_order-total length_order-IsAntisymmetric) string-IsSpelled word-IsSpelled (λ inside. refl))
 
   abbrev not_words : ℕ → Part ArrayValue
   not_words kind = cond (kind == 3) (filled judysl limit (grammar.entries byte_order grammar.string_without_zero grammar.word None count)) (filled judyhs limit (grammar.entries length_order grammar.string grammar.word None count))

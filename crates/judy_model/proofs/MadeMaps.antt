@@ -1,9 +1,9 @@
 -- Maps that are made of a list of entries, and the entries of a map in another order of the keys.
-use Rattle.std.proofs.Common.{◌≡◌, ℕ, suc, ◌+◌, Bool, true, false, cond, ◌&&◌, T, List, [], ◌∷◌, map, length, Option, Some, None, is_some, refl, sym, ap, subst, ◌∙◌, arith, All, Less, Equal, Greater}
+use Rattle.std.proofs.Common.{◌≡◌, ℕ, suc, ◌+◌, Bool, true, false, cond, ◌&&◌, T, List, [], ◌∷◌, length, Some, None, is_some, refl, sym, ap, subst, ◌∙◌, arith, All, Less, Equal, Greater}
 use Rattle.std.specs.declared.cmp.Ordering.{Ordering}
 use Rattle.std.specs.Ordering.{is_lt, is_eq, eq_by_cmp}
 use Rattle.std.specs.Cmp.{IsTotalOrder, tied_itself}
-use Rattle.std.specs.FinMap.{FinMap, IsAntisymmetric, find, put, is_sorted, empty, from_sorted, from_entries, entries, entries_sorted, get, insert, len, get-entries, get-from_entries, get-from_sorted, entries-from_sorted, entries-insert, len-entries, len-empty, len-insert, same_map}
+use Rattle.std.specs.FinMap.{FinMap, IsAntisymmetric, find, put, is_sorted, empty, from_sorted, from_entries, entries, get, len, get-entries, get-from_entries, get-from_sorted, entries-from_sorted, entries-insert, len-entries, len-empty, len-insert, same_map}
 use Rattle.std.specs.FinMap.Entries.{below_all, by_order}
 use Rattle.std.proofs.lemmas.List.Elements.{All-nil, All-cons, All-head, All-tail}
 
@@ -30,6 +30,9 @@ is_Equal Less h = absurd cc
 is_Equal Equal h = refl
 is_Equal Greater h = absurd cc
 
+more_by_one : {m n : ℕ} → m ≡ n → m + 1 ≡ suc n
+more_by_one e = omega arith
+
 no_pairs : {A : Type 0} (pairs : List A) → length pairs ≡ 0 → pairs ≡ []
 no_pairs [] none = refl
 no_pairs (pair ∷ pairs) none = absurd (omega arith)
@@ -55,11 +58,11 @@ module _ {K : Type 0} (one other : K → K → Ordering) (one_total : IsTotalOrd
   pub len-from_entries : (pairs : List (K × ℕ)) → T (is_sorted one pairs) → len (from_entries {R = other} pairs) ≡ length pairs
   len-from_entries [] sorted = len-empty other ℕ
   len-from_entries (pair ∷ pairs) sorted =
-      let rest = len-from_entries pairs (second_part _ _ sorted) in
+      let rest : len (from_entries {R = other} pairs) ≡ length pairs = len-from_entries pairs (second_part _ _ sorted) in
       let new : get (from_entries {R = other} pairs) pair.0 ≡ None = get-from_entries other_total pairs pair.0 ∙ find-below pair.0 pairs (first_part _ _ sorted) in
       len-insert other_total (from_entries pairs) pair.0 pair.1
       ∙ ap (λ found. cond (is_some found) (len (from_entries {R = other} pairs)) (len (from_entries {R = other} pairs) + 1)) new
-      ∙ (omega arith)
+      ∙ more_by_one rest
 
   -- To make a map of the entries of another, and one in the first order of its entries, gives these again.
   pub entries-made_twice : (pairs : List (K × ℕ)) → T (is_sorted one pairs) → entries (from_entries {R = one} (entries (from_entries {R = other} pairs))) ≡ pairs

@@ -19,4 +19,5 @@ pub mod Runs
 pub mod Fields
 pub mod DumpText
 pub mod DumpGrammar
+pub mod DumpExamples
 pub mod Examples
