@@ -30,3 +30,9 @@ pub mod RunLaws
 pub mod StringLemmas
 pub mod WholeLines
 pub mod KeptLemmas
+pub mod FieldLemmas
+pub mod MadeMaps
+pub mod EntryLemmas
+pub mod ContentsLemmas
+pub mod KindLemmas
+pub mod DumpLemmas

@@ -16,6 +16,10 @@ pub mod CommandWords
 pub mod Commands
 pub mod Steps
 pub mod Runs
+pub mod Fields
+pub mod DumpText
+pub mod DumpGrammar
+pub mod DumpExamples
 pub mod Examples
 pub mod Sizes
 pub mod AmpleRuns

@@ -4,6 +4,7 @@
 pub mod bytes;
 pub mod changes;
 pub mod counts;
+pub mod dumps;
 pub mod empties;
 pub mod growth;
 pub mod kept;

@@ -1,0 +1,333 @@
+-- Arrays and stores: what is read of a dump is spelled so, and what is spelled so is read.
+use Rattle.std.proofs.Common.{◌≡◌, ℕ, zero, suc, ◌+◌, ◌^◌, ◌<◌, ◌≤◌, Bool, true, false, ◌&&◌, ◌||◌, ◌==◌, ◌⊎◌, inl, inr, ⊎_elim, IsTrue, leb, ltb, List, [], ◌∷◌, ◌++◌, length, Option, Some, None, Result, Ok, Err, is_none, is_some, refl, sym, ap, subst, ◌∙◌, append_assoc, append-nil, arith, All}
+use Rattle.std.specs.Prelude.{bytes_eq, ◌↔◌}
+use Rattle.std.specs.Result.{result_err}
+use Rattle.std.specs.declared.cmp.Ordering.{Ordering}
+use Rattle.std.specs.FinMap.{len}
+use Rattle.std.specs.List.{flat_map, list_all, list_any, IsDistinct, AllByRecursion}
+use Rattle.std.specs.Char.{is_ascii_alphanumeric}
+use Rattle.std.specs.Int.{is_in_range}
+use Rattle.std.specs.Map.{keys_of, values_of}
+use Rattle.std.proofs.lemmas.Bool.{eqb-true, ltb-true, lt-ltb, leb-true, le-leb, and_parts}
+use Rattle.std.proofs.lemmas.Cmp.{nat_list_eq_equiv}
+use Rattle.std.proofs.lemmas.List.{length-append, map-append}
+use Rattle.std.proofs.lemmas.List.Elements.{All-head, All-tail}
+use Rattle.std.proofs.lemmas.Map.Keys.{IsDistinct-head, IsDistinct-tail}
+use Rattle.std.proofs.lemmas.Map.Made.{is_some-lookup}
+use Rattle.std.specs.Cmp.Lexicographic.{same_text}
+use Rattle.judy_model.specs.Keys.{IsByteString}
+use Rattle.judy_model.specs.Arrays.{ArrayOf, IsArrayOf, ArrayValue, judy1, judyl, judysl, judyhs, IsArray, limit_of, len_of}
+use Rattle.judy_model.specs.Tokens.{is_name, is_name_byte}
+use Rattle.judy_model.specs.Stores.{Store, IsStore, IsRegular, array_named, with_new_array}
+use Rattle.judy_model.specs.WordBytes.{low_bytes}
+use Rattle.judy_model.specs.Fields.{Fault, bad_name, same_name, bad_kind, bad_limit, bad_count, bad_magic, too_many, Part, followed_by, value_of, end, ◌>>=◌, done, bytes, number, field}
+use Rattle.judy_model.specs.DumpText as text
+use Rattle.judy_model.specs.DumpText.{magic, array_text, dump_of, kind_number}
+use Rattle.judy_model.specs.DumpGrammar as grammar
+use Rattle.judy_model.specs.DumpGrammar.{is_name_length, is_new, is_kind, is_limit, IsDump, read_of, fault_of}
+use Rattle.judy_model.proofs.FieldLemmas.{IsSpelled, Passes, sequence-IsSpelled, done-IsSpelled, field-IsSpelled, number-IsSpelled, bytes-IsSpelled, followed_ok, done_ok}
+use Rattle.judy_model.proofs.KindLemmas.{All-from_test, contents-IsSpelled}
+use Rattle.judy_model.proofs.StoresKept.{IsStore-lasts, IsRegular-lasts, IsStore-none, IsRegular-none}
+
+-- ---- names
+
+either : (a b : Bool) → (a || b) ≡ true → (a ≡ true) ⊎ (b ≡ true)
+either true b is = inl refl
+either false b is = inr is
+
+within : (low high byte : ℕ) → high < 256 → is_in_range low high byte ≡ true → byte < 256
+within low high byte small is = let below = leb-true byte high (and_parts (leb low byte) (leb byte high) is).1 in omega arith
+
+name_byte_is_byte : (byte : ℕ) → is_name_byte byte ≡ true → byte < 256
+name_byte_is_byte byte is =
+    ⊎_elim
+    (λ other. ⊎_elim
+    (λ letter. ⊎_elim
+    (λ more. ⊎_elim (λ digit. within 48 57 byte (omega arith) digit) (λ upper. within 65 90 byte (omega arith) upper) (either (is_in_range 48 57 byte) (is_in_range 65 90 byte) more))
+    (λ lower. within 97 122 byte (omega arith) lower)
+    (either (is_in_range 48 57 byte || is_in_range 65 90 byte) (is_in_range 97 122 byte) letter))
+    (λ line. let e = eqb-true byte 95 line in omega arith)
+    (either (is_ascii_alphanumeric byte) (byte == 95) other))
+    (λ dash. let e = eqb-true byte 45 dash in omega arith)
+    (either (is_ascii_alphanumeric byte || byte == 95) (byte == 45) is)
+
+-- A name that no array before it has.
+abbrev IsNewName : Store → List ℕ → Type 0
+IsNewName earlier name = IsTrue (is_name name) × IsTrue (is_new earlier name)
+
+name-IsSpelled : (earlier : Store) → IsSpelled (IsNewName earlier) text.name_text (grammar.name earlier)
+name-IsSpelled earlier =
+    let lengths : List ((ℕ → Bool) × Fault) = (is_name_length, bad_name) ∷ [] in
+    let names : List ((List ℕ → Bool) × Fault) = (list_all is_name_byte, bad_name) ∷ (is_new earlier, same_name) ∷ [] in
+    sequence-IsSpelled _ (low_bytes 1) (field (number 1) lengths) _ (λ long name. name) (λ long. field (bytes long) names) (IsNewName earlier) text.name_text
+    (field-IsSpelled _ (low_bytes 1) (number 1) lengths (number-IsSpelled 1))
+    (λ long _. field-IsSpelled _ (λ name. name) (bytes long) names (bytes-IsSpelled long))
+    (λ name is.
+    let both = and_parts (is_name_length (length name)) (list_all is_name_byte name) is.0 in
+    let short = leb-true (length name) 32 (and_parts (ltb 0 (length name)) (leb (length name) 32) both.0).1 in
+    (length name, (omega arith, (both.0, tt)), ((refl, All-from_test is_name_byte (λ byte. byte < 256) name_byte_is_byte name both.1), (both.1, (is.1, tt))), refl))
+    (λ long name p q.
+    let same : length name ≡ long = q.0.0 in
+    ((ap (λ n. is_name_length n && list_all is_name_byte name) same ∙ (λ t. p.1.0 t && q.1.0 t), q.1.1.0), ap (λ n. low_bytes 1 n ++ name) same))
+
+-- ---- arrays
+
+-- What an array's limit and its number of keys are.
+record Bounds (array : ArrayValue) : Type 0 where
+  some : 1 ≤ limit_of array
+  within : len_of array ≤ limit_of array
+
+bounds_of : {K : Type 0} {order : K → K → Ordering} {IsKey : K → Type 0} (made : ArrayOf order → ArrayValue) (inside : ArrayOf order) → IsArrayOf IsKey inside → limit_of (made inside) ≡ inside.limit → len_of (made inside) ≡ len inside.map → Bounds (made inside)
+bounds_of made inside is same long = let some = is.holds_some in let within = is.within_limit in record { some = omega arith; within = omega arith }
+
+bounds : (array : ArrayValue) → IsArray array → Bounds array
+bounds (judy1 inside) is = bounds_of judy1 inside is.0 refl refl
+bounds (judyl inside) is = bounds_of judyl inside is refl refl
+bounds (judysl inside) is = bounds_of judysl inside is refl refl
+bounds (judyhs inside) is = bounds_of judyhs inside is refl refl
+
+known_kind : (array : ArrayValue) → is_kind (kind_number array) ≡ true
+known_kind (judy1 inside) = refl
+known_kind (judyl inside) = refl
+known_kind (judysl inside) = refl
+known_kind (judyhs inside) = refl
+
+kind_is_byte : (array : ArrayValue) → kind_number array < 256 ^ 1
+kind_is_byte (judy1 inside) = omega arith
+kind_is_byte (judyl inside) = omega arith
+kind_is_byte (judysl inside) = omega arith
+kind_is_byte (judyhs inside) = omega arith
+
+-- An array behind its kind, and behind its limit too.
+abbrev IsCounted : ℕ → ℕ → ArrayValue → Type 0
+IsCounted kind limit array = (kind_number array ≡ kind) × (limit_of array ≡ limit) × IsArray array
+
+abbrev IsLimited : ℕ → ArrayValue → Type 0
+IsLimited kind array = (kind_number array ≡ kind) × (limit_of array ≤ 4294967295) × IsArray array
+
+-- An array with a limit that scripts give.
+abbrev IsBody : ArrayValue → Type 0
+IsBody array = IsArray array × (limit_of array ≤ 4294967295)
+
+counted-IsSpelled : (kind limit : ℕ) → is_kind kind ≡ true → 1 ≤ limit → limit ≤ 4294967295 → IsSpelled (IsCounted kind limit) (λ array. text.word (len_of array) ++ text.contents array) (grammar.key_count limit >>= grammar.contents kind limit)
+counted-IsSpelled kind limit known some small =
+    let checks : List ((ℕ → Bool) × Fault) = ((λ count. leb count limit), bad_count) ∷ [] in
+    sequence-IsSpelled _ text.word (field (number 8) checks) (λ count array. (kind_number array ≡ kind) × (limit_of array ≡ limit) × (len_of array ≡ count) × IsArray array) (λ count. text.contents) (grammar.contents kind limit) (IsCounted kind limit) (λ array. text.word (len_of array) ++ text.contents array)
+    (field-IsSpelled _ text.word (number 8) checks (number-IsSpelled 8))
+    (λ count p. contents-IsSpelled limit count some small (leb-true count limit p.1.0) kind known)
+    (λ array is.
+    let b = bounds array is.2 in let within = b.within in let same = is.1 in
+    let enough : len_of array ≤ limit = omega arith in
+    (len_of array, (omega arith, (le-leb (len_of array) limit enough, tt)), (is.0, is.1, refl, is.2), refl))
+    (λ count array p q. ((q.0, q.1, q.3), ap (λ n. text.word n ++ text.contents array) q.2))
+
+limited-IsSpelled : (kind : ℕ) → is_kind kind ≡ true → IsSpelled (IsLimited kind) (λ array. text.word (limit_of array) ++ text.word (len_of array) ++ text.contents array) (grammar.limit >>= λ limit. grammar.key_count limit >>= grammar.contents kind limit)
+limited-IsSpelled kind known =
+    let checks : List ((ℕ → Bool) × Fault) = (is_limit, bad_limit) ∷ [] in
+    let bounded : (limit : ℕ) → is_limit limit ≡ true → (1 ≤ limit) × (limit ≤ 4294967295) = λ limit is.
+    let both = and_parts (ltb 0 limit) (leb limit 4294967295) is in
+    let above = ltb-true 0 limit both.0 in (omega arith, leb-true limit 4294967295 both.1) in
+    sequence-IsSpelled _ text.word (field (number 8) checks) (λ limit. IsCounted kind limit) (λ limit array. text.word (len_of array) ++ text.contents array) (λ limit. grammar.key_count limit >>= grammar.contents kind limit) (IsLimited kind) (λ array. text.word (limit_of array) ++ text.word (len_of array) ++ text.contents array)
+    (field-IsSpelled _ text.word (number 8) checks (number-IsSpelled 8))
+    (λ limit p. let b = bounded limit p.1.0 in counted-IsSpelled kind limit known b.0 b.1)
+    (λ array is.
+    let b = bounds array is.2 in let some = b.some in let small = is.1 in
+    (limit_of array, (omega arith, ((λ t. lt-ltb 0 (limit_of array) (omega arith) t && le-leb (limit_of array) 4294967295 small t), tt)), (is.0, refl, is.2), refl))
+    (λ limit array p q.
+    let b = bounded limit p.1.0 in
+    ((q.0, subst (λ l. l ≤ 4294967295) (sym q.1) b.1, q.2), ap (λ n. text.word n ++ text.word (len_of array) ++ text.contents array) q.1))
+
+body-IsSpelled : IsSpelled IsBody text.body grammar.body
+body-IsSpelled =
+    let checks : List ((ℕ → Bool) × Fault) = (is_kind, bad_kind) ∷ [] in
+    let later : ArrayValue → List ℕ = λ array. text.word (limit_of array) ++ text.word (len_of array) ++ text.contents array in
+    sequence-IsSpelled _ (low_bytes 1) (field (number 1) checks) IsLimited (λ kind. later) (λ kind. grammar.limit >>= λ limit. grammar.key_count limit >>= grammar.contents kind limit) IsBody text.body
+    (field-IsSpelled _ (low_bytes 1) (number 1) checks (number-IsSpelled 1))
+    (λ kind p. limited-IsSpelled kind p.1.0)
+    (λ array is. (kind_number array, (kind_is_byte array, (known_kind array, tt)), (refl, is.1, is.0), refl))
+    (λ kind array p q. ((q.2, q.1), ap (λ n. low_bytes 1 n ++ later array) q.0))
+
+array-IsSpelled : (earlier : Store) → IsSpelled (λ array. IsNewName earlier array.0 × IsBody array.1) array_text (grammar.array earlier)
+array-IsSpelled earlier =
+    sequence-IsSpelled (IsNewName earlier) text.name_text (grammar.name earlier) (λ name array. (array.0 ≡ name) × IsBody array.1) (λ name array. text.body array.1) (λ name. grammar.body >>= λ held. done (name, held)) (λ array. IsNewName earlier array.0 × IsBody array.1) array_text
+    (name-IsSpelled earlier)
+    (λ name _. sequence-IsSpelled IsBody text.body grammar.body (λ held array. array ≡ (name, held)) (λ held array. []) (λ held. done (name, held)) (λ array. (array.0 ≡ name) × IsBody array.1) (λ array. text.body array.1)
+    body-IsSpelled
+    (λ held _. done-IsSpelled (name, held))
+    (λ array is. (array.1, is.1, (λ t. (is.0 t, array.1)), sym (append-nil (text.body array.1))))
+    (λ held array p same. ((ap (λ pair. pair.0) same, subst IsBody (sym (ap (λ pair. pair.1) same)) p), ap (λ pair. text.body pair.1) same ∙ sym (append-nil (text.body held)))))
+    (λ array is. (array.0, is.0, (refl, is.1), refl))
+    (λ name array p q. ((subst (IsNewName earlier) (sym q.0) p, q.1), ap (λ n. text.name_text n ++ text.body array.1) q.0))
+
+-- ---- stores
+
+abbrev IsGood : Store → Type 0
+IsGood store = IsStore store × IsRegular store
+
+module _ (earlier : Store) (name : List ℕ) (held : ArrayValue) where
+  -- One more array that is read is one more of a store.
+  good_more : length earlier < 64 → IsNewName earlier name → IsBody held → IsGood earlier → IsGood (with_new_array earlier name held)
+  good_more room new body is =
+      (IsStore-lasts.with_new_array earlier name held new.0 new.1 room body.0 body.1 is.0, IsRegular-lasts.with_new_array earlier name held new.0 new.1 room body.0 body.1 is.1)
+
+arrays_back : (count : ℕ) (earlier : Store) (input : List ℕ) (store : Store) (rest : List ℕ) → length earlier + count ≤ 64 → IsGood earlier → IsByteString input → grammar.arrays earlier count input ≡ Ok (store, rest)
+    → (later : Store) × (store ≡ earlier ++ later) × (length later ≡ count) × (input ≡ flat_map array_text later ++ rest) × IsGood store × IsByteString rest
+arrays_back zero earlier input store rest room good are is =
+    let d = done_ok earlier input store rest is in
+    ([], sym d.0 ∙ sym (append-nil earlier), refl, d.1, subst IsGood d.0 good, subst IsByteString d.1 are)
+arrays_back (suc count) earlier input store rest room good are is =
+    let f = followed_ok (grammar.array earlier input) (λ next. grammar.arrays (with_new_array earlier next.0 next.1) count) (store, rest) is in
+    let next = f.0.0 in
+    let b = (array-IsSpelled earlier).back input next f.0.1 are f.1 in
+    let more = with_new_array earlier next.0 next.1 in
+    let long : length more ≡ length earlier + 1 = length-append earlier (next ∷ []) in
+    let c = arrays_back count more f.0.1 store rest (omega arith) (good_more earlier next.0 next.1 (omega arith) b.1.0 b.1.1 good) b.2 f.2 in
+    (next ∷ c.0, c.1 ∙ append_assoc earlier (next ∷ []) c.0, ap suc c.2, b.0 ∙ ap (λ t. array_text next ++ t) c.3 ∙ sym (append_assoc (array_text next) (flat_map array_text c.0) rest), c.4, c.5)
+
+absent : {A : Type 0} (o : Option A) → is_some o ≡ false → is_none o ≡ true
+absent None e = refl
+absent (Some value) e = absurd cc
+
+in_middle : {X : Type 0} (P : X → Type 0) (here : X) (after before : List X) → AllByRecursion P (before ++ here ∷ after) → P here
+in_middle P here after [] all = all.0
+in_middle P here after (first ∷ before) all = in_middle P here after before all.1
+
+-- The key in the middle is none of those before it.
+module _ (key : List ℕ) (after : List (List ℕ)) where
+  none_before : (before : List (List ℕ)) → IsDistinct bytes_eq (before ++ key ∷ after) → list_any (bytes_eq key) before ≡ false
+  none_before [] differ = refl
+  none_before (first ∷ before) differ =
+      let apart : bytes_eq first key ≡ false = in_middle (λ other. bytes_eq first other ≡ false) key after before (IsDistinct-head bytes_eq first (before ++ key ∷ after) differ) in
+      let turned : bytes_eq key first ≡ false = nat_list_eq_equiv.symm key first ∙ apart in
+      (λ t. turned t || list_any (bytes_eq key) before) ∙ none_before before (IsDistinct-tail bytes_eq first (before ++ key ∷ after) differ)
+
+module _ {X : Type 0} (P : X → Type 0) (here : X) (after : List X) where
+  -- What holds of each holds of the one in the middle.
+  at_middle : (before : List X) → All P (before ++ here ∷ after) → P here
+  at_middle [] all = All-head P here after all
+  at_middle (first ∷ before) all = at_middle before (All-tail P first (before ++ here ∷ after) all)
+
+module _ (earlier : Store) (next : List ℕ × ArrayValue) (later : Store) where
+  keys_in_a_row : keys_of (earlier ++ next ∷ later) ≡ keys_of earlier ++ next.0 ∷ keys_of later
+  keys_in_a_row = map-append (λ (pair : List ℕ × ArrayValue). pair.0) earlier (next ∷ later)
+
+  values_in_a_row : values_of (earlier ++ next ∷ later) ≡ values_of earlier ++ next.1 ∷ values_of later
+  values_in_a_row = map-append (λ (pair : List ℕ × ArrayValue). pair.1) earlier (next ∷ later)
+
+  -- An array of a store has a name that no array before it has.
+  new_of_store : IsStore (earlier ++ next ∷ later) → IsNewName earlier next.0
+  new_of_store is =
+      let apart = none_before next.0 (keys_of later) (keys_of earlier) (subst (IsDistinct bytes_eq) keys_in_a_row is.names_differ) in (
+        at_middle (λ name. IsTrue (is_name name)) next.0 (keys_of later) (keys_of earlier) (subst (All (λ name. IsTrue (is_name name))) keys_in_a_row is.names_are),
+        absent (array_named earlier next.0) (is_some-lookup (bytes_eq next.0) earlier ∙ apart),
+      )
+
+  body_of_store : IsGood (earlier ++ next ∷ later) → IsBody next.1
+  body_of_store is = (
+    at_middle IsArray next.1 (values_of later) (values_of earlier) (subst (All IsArray) values_in_a_row is.0.arrays_are),
+    at_middle (λ array. limit_of array ≤ 4294967295) next.1 (values_of later) (values_of earlier) (subst (All (λ array. limit_of array ≤ 4294967295)) values_in_a_row is.1),
+  )
+
+arrays_again : (later earlier : Store) (rest : List ℕ) → IsGood (earlier ++ later) → grammar.arrays earlier (length later) (flat_map array_text later ++ rest) ≡ Ok (earlier ++ later, rest)
+arrays_again [] earlier rest good = ap (λ store. Ok (store, rest)) (sym (append-nil earlier))
+arrays_again (next ∷ later) earlier rest good =
+    let more = with_new_array earlier next.0 next.1 in
+    let together : earlier ++ next ∷ later ≡ more ++ later = sym (append_assoc earlier (next ∷ []) later) in
+    let one = (array-IsSpelled earlier).again next (flat_map array_text later ++ rest) (new_of_store earlier next later good.0, body_of_store earlier next later good) in
+    ap (grammar.arrays earlier (suc (length later))) (append_assoc (array_text next) (flat_map array_text later) rest)
+    ∙ ap (λ read. followed_by read (λ next. grammar.arrays (with_new_array earlier next.0 next.1) (length later))) one
+    ∙ arrays_again later more rest (subst IsGood together good)
+    ∙ ap (λ store. Ok (store, rest)) (sym together)
+
+-- ---- dumps
+
+value_of_ok : (read : Result (Store × List ℕ) Fault) (store : Store) → value_of read ≡ Ok store → (rest : List ℕ) × (read ≡ Ok (store, rest))
+value_of_ok (Ok given) store is = let same : given.0 ≡ store = cc in (given.1, ap (λ (s : Store). Ok (s, given.1)) same)
+value_of_ok (Err fault) store is = absurd cc
+
+end_ok : (input : List ℕ) (given : Unit {0} × List ℕ) → end input ≡ Ok given → input ≡ []
+end_ok [] given is = refl
+end_ok (byte ∷ input) given is = absurd cc
+
+-- Numbers that are bytes, by a test of each.
+pub bytes_are : (read : List ℕ) → list_all (λ byte. ltb byte 256) read ≡ true → IsByteString read
+bytes_are = All-from_test (λ byte. ltb byte 256) (λ byte. byte < 256) (λ byte is. ltb-true byte 256 is)
+
+abbrev magic_checks : List ((List ℕ → Bool) × Fault)
+magic_checks = (bytes_eq magic, bad_magic) ∷ []
+
+abbrev count_checks : List ((ℕ → Bool) × Fault)
+count_checks = ((λ count. leb count 64), too_many) ∷ []
+
+magic-IsSpelled : IsSpelled (λ read. ((length read ≡ 4) × IsByteString read) × Passes magic_checks read) (λ read. read) (field (bytes 4) magic_checks)
+magic-IsSpelled = field-IsSpelled _ (λ read. read) (bytes 4) magic_checks (bytes-IsSpelled 4)
+
+count-IsSpelled : IsSpelled (λ count. (count < 256 ^ 4) × Passes count_checks count) (low_bytes 4) (field (number 4) count_checks)
+count-IsSpelled = field-IsSpelled _ (low_bytes 4) (number 4) count_checks (number-IsSpelled 4)
+
+abbrev at_last : Store → Part Store
+at_last made = end >>= λ _. done made
+
+abbrev after_count : ℕ → Part Store
+after_count count = grammar.arrays [] count >>= at_last
+
+abbrev after_magic : Part Store
+after_magic = field (number 4) count_checks >>= after_count
+
+last_back : (made : Store) (input : List ℕ) (store : Store) (rest : List ℕ) → at_last made input ≡ Ok (store, rest) → (input ≡ []) × (made ≡ store)
+last_back made input store rest is =
+    let f = followed_ok (end input) (λ _. done made) (store, rest) is in
+    (end_ok input f.0 f.1, (done_ok made f.0.1 store rest f.2).0)
+
+whole_text : (input : List ℕ) (count : ℕ) (texts left : List ℕ) (later store : Store) → input ≡ low_bytes 4 count ++ texts → texts ≡ flat_map array_text later ++ left → left ≡ [] → length later ≡ count → later ≡ store → IsGood store
+    → (input ≡ low_bytes 4 (length store) ++ flat_map array_text store) × IsGood store
+whole_text input count texts left later store counted listed nothing long same good =
+    let arrays : texts ≡ flat_map array_text store = listed ∙ (λ t. flat_map array_text later ++ nothing t) ∙ append-nil (flat_map array_text later) ∙ ap (flat_map array_text) same in
+    let number : count ≡ length store = sym long ∙ ap length same in
+    (counted ∙ (λ t. low_bytes 4 (number t) ++ arrays t), good)
+
+count_back : (input : List ℕ) (store : Store) (rest : List ℕ) → IsByteString input → after_magic input ≡ Ok (store, rest) → (input ≡ low_bytes 4 (length store) ++ flat_map array_text store) × IsGood store
+count_back input store rest are is =
+    let f = followed_ok (field (number 4) count_checks input) after_count (store, rest) is in
+    let n = count-IsSpelled.back input f.0.0 f.0.1 are f.1 in
+    let g = followed_ok (grammar.arrays [] f.0.0 f.0.1) at_last (store, rest) f.2 in
+    let few = leb-true f.0.0 64 n.1.1.0 in
+    let a = arrays_back f.0.0 [] f.0.1 g.0.0 g.0.1 (omega arith) (IsStore-none, IsRegular-none) n.2 g.1 in
+    let l = last_back g.0.0 g.0.1 store rest g.2 in
+    whole_text input f.0.0 f.0.1 g.0.1 a.0 store n.0 a.3 l.0 a.2 (sym a.1 ∙ l.1) (subst IsGood l.1 a.4)
+
+-- What is read is the dump of the store that it gives, which is a store, and regular.
+pub dump_back : (dump : List ℕ) (store : Store) → IsByteString dump → IsDump dump store → (dump ≡ dump_of store) × IsStore store × IsRegular store
+dump_back dump store are is =
+    let e = value_of_ok (grammar.store dump) store is in
+    let f = followed_ok (field (bytes 4) magic_checks dump) (λ _. after_magic) (store, e.0) e.1 in
+    let m = magic-IsSpelled.back dump f.0.0 f.0.1 are f.1 in
+    let named : f.0.0 ≡ magic = sym (same_text magic f.0.0 (sym m.1.1.0)) in
+    let c = count_back f.0.1 store e.0 m.2 f.2 in
+    (m.0 ∙ (λ t. named t ++ c.0 t), c.1.0, c.1.1)
+
+-- The dump of a regular store gives it.
+pub dump_again : (store : Store) → IsStore store → IsRegular store → IsDump (dump_of store) store
+dump_again store is regular =
+    let texts = flat_map array_text store in
+    let few = is.within_limit in
+    let one = magic-IsSpelled.again magic (low_bytes 4 (length store) ++ texts) ((refl, bytes_are magic refl), (refl, tt)) in
+    let two = count-IsSpelled.again (length store) texts (omega arith, (le-leb (length store) 64 few, tt)) in
+    let three : grammar.arrays [] (length store) texts ≡ Ok (store, []) = ap (grammar.arrays [] (length store)) (sym (append-nil texts)) ∙ arrays_again store [] [] (is, regular) in
+    ap value_of (ap (λ read. followed_by read (λ _. after_magic)) one ∙ ap (λ read. followed_by read after_count) two ∙ ap (λ read. followed_by read at_last) three)
+
+one_ok : {A : Type 0} (read : Result A Fault) (one other : A) → read ≡ Ok one → read ≡ Ok other → one ≡ other
+one_ok {A} (Ok given) one other is also = let same : ◌≡◌ {A = Result A Fault} (Ok one) (Ok other) = sym is ∙ also in cc
+one_ok (Err fault) one other is also = absurd cc
+
+-- Bytes give one store at most.
+pub one_store : (dump : List ℕ) (store other : Store) → IsDump dump store → IsDump dump other → store ≡ other
+one_store dump store other is also = one_ok (read_of dump) store other is also
+
+no_fault : (read : Result Store Fault) → ((store : Store) × (read ≡ Ok store)) ↔ (result_err read ≡ None)
+no_fault (Ok given) = ((λ _. refl), λ _. (given, refl))
+no_fault (Err fault) = ((λ given. absurd (let e = given.1 in cc)), λ none. absurd cc)
+
+-- They give one exactly where they have no fault.
+pub gives_exactly : (dump : List ℕ) → ((store : Store) × IsDump dump store) ↔ (fault_of dump ≡ None)
+gives_exactly dump = no_fault (read_of dump)

@@ -1,0 +1,137 @@
+-- Entries in the order of their keys: what is read of them is spelled so, and what is spelled so is read.
+use Rattle.std.proofs.Common.{◌≡◌, ℕ, zero, suc, Bool, true, false, ◌&&◌, T, IsTrue, List, [], ◌∷◌, ◌++◌, length, Option, Some, None, Ok, refl, sym, ap, subst, ◌∙◌, append_assoc, arith, All, Less, Equal, Greater}
+use Rattle.std.specs.declared.cmp.Ordering.{Ordering}
+use Rattle.std.specs.Ordering.{is_lt}
+use Rattle.std.specs.List.{flat_map}
+use Rattle.std.specs.Cmp.{IsTotalOrder}
+use Rattle.std.specs.FinMap.{is_sorted}
+use Rattle.std.specs.FinMap.Entries.{below_all}
+use Rattle.std.proofs.lemmas.List.Elements.{All-nil, All-cons, All-head, All-tail}
+use Rattle.judy_model.specs.Keys.{IsByteString}
+use Rattle.judy_model.specs.Fields.{bad_order, Part, ◌>>=◌, done, field}
+use Rattle.judy_model.specs.DumpGrammar.{is_above, entry, entries}
+use Rattle.judy_model.proofs.FieldLemmas.{IsSpelled, followed_ok, done_ok, field-IsSpelled}
+
+-- ---- keys that ascend
+
+both : (a b : Bool) → T a → T b → T (a && b)
+both true b h k = k
+both false b h k = absurd h
+
+left_of : (a b : Bool) → T (a && b) → T a
+left_of true b h = tt
+left_of false b h = h
+
+right_of : (a b : Bool) → T (a && b) → T b
+right_of true b h = h
+right_of false b h = absurd h
+
+is_Less : (r : Ordering) → T (is_lt r) → r ≡ Less
+is_Less Less h = refl
+is_Less Equal h = absurd h
+is_Less Greater h = absurd h
+
+test_holds : (b : Bool) → b ≡ true → T b
+test_holds true e = tt
+test_holds false e = absurd cc
+
+holds_test : (b : Bool) → T b → b ≡ true
+holds_test true h = refl
+holds_test false h = absurd h
+
+module _ {K : Type 0} (order : K → K → Ordering) where
+  -- Each key is greater than the one before.
+  abbrev pub Ascends : Option K → List (K × ℕ) → Type 0
+  Ascends before [] = Unit {0}
+  Ascends before (pair ∷ pairs) = IsTrue (is_above order before pair.0) × Ascends (Some pair.0) pairs
+
+  module _ (total : IsTotalOrder order) where
+    below_all-less : (x y : K) (pairs : List (K × ℕ)) → order x y ≡ Less → T (below_all order y pairs) → T (below_all order x pairs)
+    below_all-less x y [] less below = tt
+    below_all-less x y (pair ∷ pairs) less below =
+        both _ _ (subst (λ r. T (is_lt r)) (sym (total.trans x y pair.0 less (is_Less _ (left_of _ _ below)))) tt) (below_all-less x y pairs less (right_of _ _ below))
+
+    below-Ascends : (key : K) (pairs : List (K × ℕ)) → Ascends (Some key) pairs → T (below_all order key pairs)
+    below-Ascends key [] ascends = tt
+    below-Ascends key (pair ∷ pairs) ascends =
+        let here = test_holds (is_lt (order key pair.0)) ascends.0 in
+        both _ _ here (below_all-less key pair.0 pairs (is_Less _ here) (below-Ascends pair.0 pairs ascends.1))
+
+    pub sorted-Ascends : (before : Option K) (pairs : List (K × ℕ)) → Ascends before pairs → T (is_sorted order pairs)
+    sorted-Ascends before [] ascends = tt
+    sorted-Ascends before (pair ∷ pairs) ascends = both _ _ (below-Ascends pair.0 pairs ascends.1) (sorted-Ascends (Some pair.0) pairs ascends.1)
+
+  Ascends-above : (key : K) (pairs : List (K × ℕ)) → T (below_all order key pairs) → T (is_sorted order pairs) → Ascends (Some key) pairs
+  Ascends-above key [] below sorted = tt
+  Ascends-above key (pair ∷ pairs) below sorted =
+      (holds_test _ (left_of _ _ below), Ascends-above pair.0 pairs (left_of _ _ sorted) (right_of _ _ sorted))
+
+  pub Ascends-sorted : (pairs : List (K × ℕ)) → T (is_sorted order pairs) → Ascends None pairs
+  Ascends-sorted [] sorted = tt
+  Ascends-sorted (pair ∷ pairs) sorted = (refl, Ascends-above pair.0 pairs (left_of _ _ sorted) (right_of _ _ sorted))
+
+-- ---- entries
+
+module _ {K : Type 0} (order : K → K → Ordering) (IsKey : K → Type 0) (IsValue : ℕ → Type 0) (key_text : K → List ℕ) (value_text : ℕ → List ℕ) (key : Part K) (value : Part ℕ) where
+  abbrev pub IsEntry : K × ℕ → Type 0
+  IsEntry pair = IsKey pair.0 × IsValue pair.1
+
+  abbrev pub entry_text : K × ℕ → List ℕ
+  entry_text pair = key_text pair.0 ++ value_text pair.1
+
+  module _ (keys : IsSpelled IsKey key_text key) (values : IsSpelled IsValue value_text value) where
+    entry-IsSpelled : (before : Option K) → IsSpelled (λ pair. IsTrue (is_above order before pair.0) × IsEntry pair) entry_text (entry order key value before)
+    entry-IsSpelled before =
+        let first = field-IsSpelled IsKey key_text key ((is_above order before, bad_order) ∷ []) keys in
+        record {
+          again = λ pair rest fits.
+              let one = first.again pair.0 (value_text pair.1 ++ rest) (fits.1.0, (fits.0, tt)) in
+              let two = values.again pair.1 rest fits.1.1 in
+              ap (entry order key value before) (append_assoc (key_text pair.0) (value_text pair.1) rest) ∙ rw (one, two) refl;
+          back = λ input pair rest are is.
+              let f = followed_ok (field key ((is_above order before, bad_order) ∷ []) input) (λ first. value >>= λ held. done (first, held)) (pair, rest) is in
+              let g = followed_ok (value f.0.1) (λ held. done (f.0.0, held)) (pair, rest) f.2 in
+              let b = first.back input f.0.0 f.0.1 are f.1 in
+              let c = values.back f.0.1 g.0.0 g.0.1 b.2 g.1 in
+              let d = done_ok (f.0.0, g.0.0) g.0.1 pair rest g.2 in
+              let made : K × ℕ = (f.0.0, g.0.0) in
+              subst (λ (p : K × ℕ). (input ≡ entry_text p ++ rest) × (IsTrue (is_above order before p.0) × IsEntry p) × IsByteString rest) d.0
+              (b.0 ∙ ap (λ t. key_text f.0.0 ++ t) (c.0 ∙ ap (λ t. value_text g.0.0 ++ t) d.1) ∙ sym (append_assoc (key_text f.0.0) (value_text g.0.0) rest), (b.1.1.0, (b.1.0, c.1)), subst IsByteString d.1 c.2);
+        }
+
+    again-none : (before : Option K) (pairs : List (K × ℕ)) (rest : List ℕ) → (length pairs ≡ 0) × Ascends order before pairs × All IsEntry pairs → entries order key value before 0 (flat_map entry_text pairs ++ rest) ≡ Ok (pairs, rest)
+    again-none before [] rest fits = refl
+    again-none before (pair ∷ pairs) rest fits = absurd (let l = fits.0 in omega arith)
+
+    again-more : (count : ℕ) (before : Option K) → ((before : Option K) → IsSpelled (λ pairs. (length pairs ≡ count) × Ascends order before pairs × All IsEntry pairs) (flat_map entry_text) (entries order key value before count))
+        → (pairs : List (K × ℕ)) (rest : List ℕ) → (length pairs ≡ suc count) × Ascends order before pairs × All IsEntry pairs → entries order key value before (suc count) (flat_map entry_text pairs ++ rest) ≡ Ok (pairs, rest)
+    again-more count before others [] rest fits = absurd (let l = fits.0 in omega arith)
+    again-more count before others (pair ∷ pairs) rest fits =
+        let regrouped : flat_map entry_text (pair ∷ pairs) ++ rest ≡ entry_text pair ++ (flat_map entry_text pairs ++ rest) = append_assoc (entry_text pair) (flat_map entry_text pairs) rest in
+        let one = (entry-IsSpelled before).again pair (flat_map entry_text pairs ++ rest) (fits.1.0, All-head IsEntry pair pairs fits.2) in
+        let two = (others (Some pair.0)).again pairs rest (let l = fits.0 in omega arith, fits.1.1, All-tail IsEntry pair pairs fits.2) in
+        ap (entries order key value before (suc count)) regrouped ∙ rw (one, two) refl
+
+    -- So many entries in order.
+    pub entries-IsSpelled : (count : ℕ) (before : Option K) → IsSpelled (λ pairs. (length pairs ≡ count) × Ascends order before pairs × All IsEntry pairs) (flat_map entry_text) (entries order key value before count)
+    entries-IsSpelled zero before = record {
+      again = again-none before;
+      back = λ input pairs rest are is.
+          let d = done_ok [] input pairs rest is in
+          subst (λ (ps : List (K × ℕ)). (input ≡ flat_map entry_text ps ++ rest) × ((length ps ≡ 0) × Ascends order before ps × All IsEntry ps) × IsByteString rest) d.0
+          (d.1, (refl, tt, All-nil IsEntry), subst IsByteString d.1 are);
+    }
+    entries-IsSpelled (suc count) before = record {
+      again = again-more count before (entries-IsSpelled count);
+      back = λ input pairs rest are is.
+          let f = followed_ok (entry order key value before input) (λ first. entries order key value (Some first.0) count >>= λ others. done (first ∷ others)) (pairs, rest) is in
+          let g = followed_ok (entries order key value (Some f.0.0.0) count f.0.1) (λ others. done (f.0.0 ∷ others)) (pairs, rest) f.2 in
+          let b = (entry-IsSpelled before).back input f.0.0 f.0.1 are f.1 in
+          let c = (entries-IsSpelled count (Some f.0.0.0)).back f.0.1 g.0.0 g.0.1 b.2 g.1 in
+          let d = done_ok (f.0.0 ∷ g.0.0) g.0.1 pairs rest g.2 in
+          subst (λ (ps : List (K × ℕ)). (input ≡ flat_map entry_text ps ++ rest) × ((length ps ≡ suc count) × Ascends order before ps × All IsEntry ps) × IsByteString rest) d.0 (
+            b.0 ∙ ap (λ t. entry_text f.0.0 ++ t) (c.0 ∙ ap (λ t. flat_map entry_text g.0.0 ++ t) d.1) ∙ sym (append_assoc (entry_text f.0.0) (flat_map entry_text g.0.0) rest),
+            (ap suc c.1.0, (b.1.0, c.1.1), All-cons IsEntry f.0.0 g.0.0 b.1.1 c.1.2),
+            subst IsByteString d.1 c.2,
+          );
+    }

@@ -1,0 +1,53 @@
+//! Short cases of dumps, each computed by the check: the bytes of a store and the faults of bytes that are none.
+
+ghost use Rattle.std.specs.Prelude.{◌≡◌, [], ◌∷◌, ◌++◌, codes, take, length, Some};
+ghost use Rattle.judy_model.specs.Fields.{truncated, bad_magic, too_many, bad_name, same_name, bad_kind, bad_limit, bad_count, bad_key, bad_order, trailing};
+ghost use Rattle.judy_model.specs.DumpText.{dump_of};
+ghost use Rattle.judy_model.specs.DumpGrammar.{IsDump, fault_of};
+ghost use Rattle.judy_model.specs.DumpExamples.{small, heading, overwritten, set_of_one, dump_of_one, three_arrays, dump_of_three};
+
+/// The empty store has a dump of eight bytes, a set of one key one of 35.
+pub fn smallest_dumps()
+    ensures empty { dump_of [] ≡ codes "JDY1" ++ 0 ∷ 0 ∷ 0 ∷ 0 ∷ [] }
+    ensures one { dump_of set_of_one ≡ dump_of_one }
+    ensures long { length dump_of_one ≡ 35 }
+    ensures empty_again { IsDump (heading 0) [] }
+    ensures one_again { IsDump dump_of_one set_of_one }
+{}
+
+/// Each kind with values has its entries in the order of its keys, judyhs the shorter keys first.
+pub fn store_of_three()
+    ensures text { dump_of three_arrays ≡ dump_of_three }
+    ensures again { IsDump dump_of_three three_arrays }
+    ensures long { length dump_of_three ≡ 135 }
+{}
+
+/// The first fault in the order of the fields is the answer.
+pub fn dump_faults()
+    ensures nothing { fault_of [] ≡ Some truncated }
+    ensures cut { fault_of (take 34 dump_of_one) ≡ Some truncated }
+    ensures more { fault_of (dump_of_one ++ 0 ∷ []) ≡ Some trailing }
+    ensures magic { fault_of (overwritten dump_of_one 0 (75 ∷ [])) ≡ Some bad_magic }
+    ensures cut_magic { fault_of (codes "JDX") ≡ Some truncated }
+    ensures many { fault_of (heading 65) ≡ Some too_many }
+    ensures most { fault_of (heading 64) ≡ Some truncated }
+    ensures no_name { fault_of (heading 1 ++ 0 ∷ []) ≡ Some bad_name }
+    ensures long_name { fault_of (heading 1 ++ 33 ∷ []) ≡ Some bad_name }
+    ensures name { fault_of (overwritten dump_of_one 9 (33 ∷ [])) ≡ Some bad_name }
+    ensures kind { fault_of (overwritten dump_of_one 10 (5 ∷ [])) ≡ Some bad_kind }
+    ensures no_kind { fault_of (overwritten dump_of_one 10 (0 ∷ [])) ≡ Some bad_kind }
+    ensures no_limit { fault_of (overwritten dump_of_one 11 (small 0)) ≡ Some bad_limit }
+    ensures great_limit { fault_of (overwritten dump_of_one 11 (0 ∷ 0 ∷ 0 ∷ 1 ∷ 0 ∷ 0 ∷ 0 ∷ 0 ∷ [])) ≡ Some bad_limit }
+    ensures count { fault_of (overwritten dump_of_one 19 (0 ∷ 0 ∷ 0 ∷ 1 ∷ 0 ∷ 0 ∷ 0 ∷ 0 ∷ [])) ≡ Some bad_count }
+    ensures falling { fault_of (take 19 dump_of_one ++ small 2 ++ small 2 ++ small 1) ≡ Some bad_order }
+    ensures twice { fault_of (take 19 dump_of_one ++ small 2 ++ small 1 ++ small 1) ≡ Some bad_order }
+{}
+
+/// Faults of the arrays with string keys, and of a name that stands twice.
+pub fn faults_in_store_of_three()
+    ensures long_key { fault_of (overwritten dump_of_three 62 (4 ∷ 1 ∷ [])) ≡ Some bad_key }
+    ensures zero_byte { fault_of (overwritten dump_of_three 75 (0 ∷ [])) ≡ Some bad_key }
+    ensures order { fault_of (overwritten dump_of_three 126 (0 ∷ [])) ≡ Some bad_order }
+    ensures name { fault_of (overwritten dump_of_three 44 (108 ∷ [])) ≡ Some same_name }
+    ensures limit { fault_of (overwritten dump_of_three 46 (small 1)) ≡ Some bad_count }
+{}
