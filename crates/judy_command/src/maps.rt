@@ -4,6 +4,7 @@ ghost use Rattle.std.specs.Prelude.{◌≡◌, Ok};
 ghost use Rattle.std.specs.FinMap.{get};
 ghost use Rattle.judy_model.specs.Arrays.{judyl};
 ghost use Rattle.judy_model.specs.Commands as model;
+ghost use Rattle.judy_model.specs.Replies.{entry};
 ghost use Rattle.judy_command.specs.CommandsOf.{neighbour_of, key_command_of, pair_command_of};
 ghost use Rattle.judy_command.specs.Replies.{reply_of, answer_of};
 ghost use Rattle.judy_command.specs.Follows.{Follows};
@@ -77,7 +78,7 @@ fn overwrite(words: &mut JudyL, key: u64, value: u64) -> Answer
 
 // The key that was found and its value, or `none`.
 fn entry_or_nothing(words: &JudyL, found: Option<u64>) -> Answer
-    ensures { answer_of result ≡ model.entry_or_nothing words.now.map found }
+    ensures { answer_of result ≡ model.entry_or_nothing entry words.now.map found }
 {
     let Some(key) = found else {
         return Answer::Nothing;

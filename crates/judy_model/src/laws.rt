@@ -5,6 +5,7 @@ pub mod bytes;
 pub mod changes;
 pub mod counts;
 pub mod empties;
+pub mod keys;
 pub mod lines;
 pub mod neighbours;
 pub mod steps;
