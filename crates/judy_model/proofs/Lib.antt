@@ -26,3 +26,5 @@ pub mod Outcomes
 pub mod ArraysKept
 pub mod StoresKept
 pub mod ReadingLemmas
+pub mod SizeLemmas
+pub mod RunLaws

@@ -73,7 +73,7 @@ lines_of-unended (byte ∷ []) h some = rw (inner byte (both_first _ _ h)) refl
 lines_of-unended (byte ∷ other ∷ bytes) h some =
     rw (inner byte (both_first _ _ h)) (ap (onto_first_line byte) (lines_of-unended (other ∷ bytes) (both_second _ _ h) (omega arith)))
 
-no_lines : (lines : List Line) → nat_lt (length lines) 1 ≡ true → lines ≡ []
+pub no_lines : (lines : List Line) → nat_lt (length lines) 1 ≡ true → lines ≡ []
 no_lines [] h = refl
 no_lines (line ∷ lines) h = absurd (search rules)
 

@@ -18,3 +18,6 @@ pub mod Commands
 pub mod Steps
 pub mod Runs
 pub mod Examples
+pub mod Sizes
+pub mod AmpleRuns
+pub mod CutRuns

@@ -1,5 +1,7 @@
 //! Short cases of the definitions, each computed by the check: what a reader would work out by hand.
 
+pub mod runs;
+
 ghost use Rattle.std.specs.Prelude.{◌≡◌, ◌+◌, ◌*◌, ◌-◌, ◌^◌, true, false, [], ◌∷◌, ◌++◌, codes, replicate, Some, None, Ok, Err};
 ghost use Rattle.judy_model.specs.Arrays.{judy1, empty_array};
 ghost use Rattle.judy_model.specs.Lines.{lines_of, text_of, is_too_long};
