@@ -1,12 +1,12 @@
 -- The checks of a new array, by the shelf and by the definitions.
 use Rattle.std.proofs.Common.{◌≡◌, ℕ, Bool, true, false, not, ◌&&◌, nat_lt, nat_le, cond, List, length, Option, Some, None, Result, Ok, Err, refl, sym, ap, ◌∙◌}
 use Rattle.std.specs.Prelude.{option_map, is_none, is_some, MatchOption}
+use Rattle.std.specs.Result.{IsErrAnd}
 use Rattle.judy_model.specs.Arrays.{ArrayValue}
-use Rattle.judy_model.specs.Tokens.{name_of}
 use Rattle.judy_model.specs.Stores.{Store, array_named, with_new_array}
 use Rattle.judy_model.specs.Replies as model
 use Rattle.judy_model.specs.Kinds.{kind_named}
-use Rattle.judy_model.specs.Commands.{Outcome, ◌>>=◌, provided, limit_at, made}
+use Rattle.judy_model.specs.Commands.{Outcome, ◌>>=◌, name_at, provided, limit_at, made}
 use Rattle.judy_shelf.specs.declared.array.Array.{Array}
 use Rattle.judy_shelf.specs.declared.kind.Kind.{Kind}
 use Rattle.judy_shelf.specs.declared.kind.Kind.TheVariants.{Judy1, JudyL}
@@ -18,8 +18,13 @@ use Rattle.judy_shelf.specs.Shelves.{Entries, store_of}
 use Rattle.judy_shelf.specs.Makes.{make_refusal, IsMakeRefusal}
 use Rattle.judy_shelf.proofs.ShelfLemmas.{array_named-store_of, with_new_array-store_of, length-store_of}
 use Rattle.judy_command.specs.Replies.{refusal_of}
-use Rattle.judy_command.specs.Makes.{refusal_of_make}
+use Rattle.judy_command.specs.Refusals.{refusal_of_make}
 use Rattle.judy_command.specs.Follows.{Follows}
+
+-- an error of which it is said what it is
+pub error_is : {A E : Type 0} (result : Result A E) (error : E) → IsErrAnd result (λ other. other ≡ error) → result ≡ Err error
+error_is (Ok value) error h = absurd h
+error_is (Err other) error h = ap Err h
 
 -- what a new array does to the store, where nothing refuses it
 abbrev pub new_outcome : Store → List ℕ → ArrayValue → Outcome Store
@@ -43,7 +48,7 @@ alike true (Some array) room outcome = refl
 alike true None false outcome = refl
 alike true None true outcome = refl
 
-module _ (entries : Entries) (token kind_token : List ℕ) (given : Option (List ℕ)) (name : List ℕ) (kind : Kind) (limit : ℕ) (named : name_of token ≡ Some name) (kinded : kind_named kind_token ≡ Some (empty_of_kind kind)) (limited : limit_at given ≡ Ok limit) where
+module _ (entries : Entries) (token kind_token : List ℕ) (given : Option (List ℕ)) (name : List ℕ) (kind : Kind) (limit : ℕ) (named : name_at token ≡ Ok name) (kinded : kind_named kind_token ≡ Some (empty_of_kind kind)) (limited : limit_at given ≡ Ok limit) where
   abbrev in_range : Bool
   in_range = nat_lt 0 limit && nat_le limit 4294967295
 

@@ -1,7 +1,5 @@
 -- The code's commands as those of the definitions.
 use Rattle.judy_model.specs.CommandWords as model
-use Rattle.judy_command.specs.declared.command.Neighbour.{Neighbour}
-use Rattle.judy_command.specs.declared.command.Neighbour.TheVariants.{First, Next, Last, Prev}
 use Rattle.judy_command.specs.declared.command.KeyCommand.{KeyCommand}
 use Rattle.judy_command.specs.declared.command.KeyCommand.TheVariants as on_key
 use Rattle.judy_command.specs.declared.command.PairCommand.{PairCommand}
@@ -9,20 +7,20 @@ use Rattle.judy_command.specs.declared.command.PairCommand.TheVariants as on_pai
 use Rattle.judy_command.specs.declared.command.Command.{Command}
 use Rattle.judy_command.specs.declared.command.Command.TheVariants as command
 
-abbrev pub neighbour_of : Neighbour → model.Neighbour
-neighbour_of First = model.first
-neighbour_of Next = model.next
-neighbour_of Last = model.last
-neighbour_of Prev = model.prev
-
 abbrev pub key_command_of : KeyCommand → model.KeyCommand
 key_command_of on_key.Set = model.set
 key_command_of on_key.Unset = model.unset
 key_command_of on_key.Test = model.test
 key_command_of on_key.Get = model.get
 key_command_of on_key.Del = model.del
-key_command_of (on_key.Neighbour side) = model.neighbour (neighbour_of side)
-key_command_of (on_key.Empty side) = model.empty (neighbour_of side)
+key_command_of on_key.First = model.neighbour model.first
+key_command_of on_key.Next = model.neighbour model.next
+key_command_of on_key.Last = model.neighbour model.last
+key_command_of on_key.Prev = model.neighbour model.prev
+key_command_of on_key.FirstEmpty = model.empty model.first
+key_command_of on_key.NextEmpty = model.empty model.next
+key_command_of on_key.LastEmpty = model.empty model.last
+key_command_of on_key.PrevEmpty = model.empty model.prev
 key_command_of on_key.ByCount = model.by_count
 
 abbrev pub pair_command_of : PairCommand → model.PairCommand

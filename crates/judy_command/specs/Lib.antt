@@ -2,4 +2,6 @@ pub mod Replies
 pub mod CommandsOf
 pub mod Follows
 pub mod Texts
-pub mod Makes
+pub mod Refusals
+pub mod Lends
+pub mod Slots

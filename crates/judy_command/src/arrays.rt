@@ -1,11 +1,13 @@
 //! Commands of one array, which a token names.
 
 ghost use Rattle.std.specs.Prelude.{◌≡◌};
+ghost use Rattle.std.specs.Borrow.{sem};
 ghost use Rattle.judy_model.specs.Commands as model;
 ghost use Rattle.judy_shelf.specs.Arrays.{value_of};
 ghost use Rattle.judy_shelf.specs.Shelves.{store_of};
 ghost use Rattle.judy_command.specs.CommandsOf.{key_command_of, pair_command_of};
-ghost use Rattle.judy_command.specs.Replies.{reply_of};
+ghost use Rattle.judy_command.specs.Lends.{LendsNamed, lent_array, named};
+ghost use Rattle.judy_command.specs.Replies.{checked, reply_of};
 ghost use Rattle.judy_command.specs.Follows.{Follows};
 
 use crate::command::{KeyCommand, PairCommand};
@@ -14,14 +16,31 @@ use crate::reply::{Answer, Refusal, Reply};
 use crate::sets::{set_on_key, set_on_pair};
 use judy_shelf::{Array, Name, Shelf};
 
+// The name that a token says.
+pub(crate) fn name_at(token: &[u8]) -> Result<Name, Refusal>
+    ensures { checked result ≡ model.name_at token.now }
+{
+    Name::new(token).ok_or(Refusal::BadName)
+}
+
+// The array that a token names, to be changed.
+fn array_at<'a>(shelf: &'a mut Shelf, token: &[u8]) -> Result<&'a mut Array, Refusal>
+    ensures* writes_back { sem 𝓛 (LendsNamed shelf.entry token.now result) }
+    ensures value { lent_array result ≡ named (store_of shelf.old) token.now }
+{
+    let name = name_at(token)?;
+    match shelf.get_mut(&name) {
+        Some(array) => Ok(array),
+        None => Err(Refusal::NoSuchArray),
+    }
+}
+
 /// `drop NAME`
 pub(crate) fn drop_array(shelf: &mut Shelf, name: &[u8]) -> Reply
     ensures { let before = store_of shelf.old in
         Follows before (model.dropped before name.now) (reply_of result) (store_of shelf.new) }
 {
-    let Some(name) = Name::new(name) else {
-        return Err(Refusal::BadName);
-    };
+    let name = name_at(name)?;
     let Some(array) = shelf.remove(&name) else {
         return Err(Refusal::NoSuchArray);
     };
@@ -33,13 +52,7 @@ pub(crate) fn free_array(shelf: &mut Shelf, name: &[u8]) -> Reply
     ensures { let before = store_of shelf.old in
         Follows before (model.at_name before name.now model.freed_whole) (reply_of result) (store_of shelf.new) }
 {
-    let Some(name) = Name::new(name) else {
-        return Err(Refusal::BadName);
-    };
-    let Some(array) = shelf.get_mut(&name) else {
-        return Err(Refusal::NoSuchArray);
-    };
-    Ok(Answer::Freed(array.free()))
+    Ok(Answer::Freed(array_at(shelf, name)?.free()))
 }
 
 /// A command that names one key or word.
@@ -47,13 +60,7 @@ pub(crate) fn on_key_at(shelf: &mut Shelf, name: &[u8], command: KeyCommand, key
     ensures { let before = store_of shelf.old in
         Follows before (model.at_name before name.now (model.on_key (key_command_of command) key.now)) (reply_of result) (store_of shelf.new) }
 {
-    let Some(name) = Name::new(name) else {
-        return Err(Refusal::BadName);
-    };
-    let Some(array) = shelf.get_mut(&name) else {
-        return Err(Refusal::NoSuchArray);
-    };
-    on_key(array, command, key)
+    on_key(array_at(shelf, name)?, command, key)
 }
 
 fn on_key(array: &mut Array, command: KeyCommand, key: &[u8]) -> Reply
@@ -77,13 +84,7 @@ pub(crate) fn on_pair_at(
     ensures { let before = store_of shelf.old in
         Follows before (model.at_name before name.now (model.on_pair (pair_command_of command) first.now second.now)) (reply_of result) (store_of shelf.new) }
 {
-    let Some(name) = Name::new(name) else {
-        return Err(Refusal::BadName);
-    };
-    let Some(array) = shelf.get_mut(&name) else {
-        return Err(Refusal::NoSuchArray);
-    };
-    on_pair(array, command, first, second)
+    on_pair(array_at(shelf, name)?, command, first, second)
 }
 
 fn on_pair(array: &mut Array, command: PairCommand, first: &[u8], second: &[u8]) -> Reply

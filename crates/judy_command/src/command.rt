@@ -4,19 +4,6 @@ ghost use Rattle.std.specs.Prelude.{◌≡◌, option_map};
 ghost use Rattle.judy_model.specs.CommandWords.{command_named};
 ghost use Rattle.judy_command.specs.CommandsOf.{command_of};
 
-/// On which side of a key its neighbour is sought, and whether the key itself counts.
-#[derive(Clone, Copy)]
-pub(crate) enum Neighbour {
-    /// From the key on.
-    First,
-    /// Above the key.
-    Next,
-    /// From the key downwards.
-    Last,
-    /// Below the key.
-    Prev,
-}
-
 /// The commands of one array that name one key or word beside it.
 #[derive(Clone, Copy)]
 pub(crate) enum KeyCommand {
@@ -25,9 +12,19 @@ pub(crate) enum KeyCommand {
     Test,
     Get,
     Del,
-    Neighbour(Neighbour),
-    /// The neighbour among the words that are no keys.
-    Empty(Neighbour),
+    /// The least key from the given one on.
+    First,
+    /// The least above it.
+    Next,
+    /// The greatest up to it.
+    Last,
+    /// The greatest below it.
+    Prev,
+    /// The same four among the words that are no keys.
+    FirstEmpty,
+    NextEmpty,
+    LastEmpty,
+    PrevEmpty,
     ByCount,
 }
 
@@ -69,14 +66,14 @@ impl Command {
             b"test" => Command::Key(KeyCommand::Test),
             b"get" => Command::Key(KeyCommand::Get),
             b"del" => Command::Key(KeyCommand::Del),
-            b"first" => Command::Key(KeyCommand::Neighbour(Neighbour::First)),
-            b"next" => Command::Key(KeyCommand::Neighbour(Neighbour::Next)),
-            b"last" => Command::Key(KeyCommand::Neighbour(Neighbour::Last)),
-            b"prev" => Command::Key(KeyCommand::Neighbour(Neighbour::Prev)),
-            b"fe" => Command::Key(KeyCommand::Empty(Neighbour::First)),
-            b"ne" => Command::Key(KeyCommand::Empty(Neighbour::Next)),
-            b"le" => Command::Key(KeyCommand::Empty(Neighbour::Last)),
-            b"pe" => Command::Key(KeyCommand::Empty(Neighbour::Prev)),
+            b"first" => Command::Key(KeyCommand::First),
+            b"next" => Command::Key(KeyCommand::Next),
+            b"last" => Command::Key(KeyCommand::Last),
+            b"prev" => Command::Key(KeyCommand::Prev),
+            b"fe" => Command::Key(KeyCommand::FirstEmpty),
+            b"ne" => Command::Key(KeyCommand::NextEmpty),
+            b"le" => Command::Key(KeyCommand::LastEmpty),
+            b"pe" => Command::Key(KeyCommand::PrevEmpty),
             b"ins" => Command::Pair(PairCommand::Ins),
             b"put" => Command::Pair(PairCommand::Put),
             b"count" => Command::Pair(PairCommand::Count),

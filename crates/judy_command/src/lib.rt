@@ -17,8 +17,10 @@ mod command;
 mod commands;
 mod make;
 mod maps;
+mod refusals;
 mod reply;
 mod sets;
+mod values;
 mod words;
 
 pub use commands::execute;

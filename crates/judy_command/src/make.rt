@@ -5,28 +5,24 @@ ghost use Rattle.judy_model.specs.Commands as model;
 ghost use Rattle.judy_shelf.specs.Shelves.{store_of};
 ghost use Rattle.judy_command.specs.Replies.{reply_of, checked};
 ghost use Rattle.judy_command.specs.Follows.{Follows};
-ghost use Rattle.judy_command.specs.Makes.{refusal_of_make};
 
+use crate::arrays::name_at;
 use crate::reply::{Answer, Refusal, Reply};
 use crate::words::word;
-use judy_shelf::{Kind, MAX_LIMIT, MakeError, Name, Shelf};
+use judy_shelf::{Kind, MAX_LIMIT, Shelf};
 
 /// `make NAME KIND [LIMIT]`
 pub(crate) fn make_array(shelf: &mut Shelf, name: &[u8], kind: &[u8], limit: Option<&[u8]>) -> Reply
     ensures { let before = store_of shelf.old in
         Follows before (model.made before name.now kind.now (option_copied limit.entry)) (reply_of result) (store_of shelf.new) }
 {
-    let Some(name) = Name::new(name) else {
-        return Err(Refusal::BadName);
-    };
+    let name = name_at(name)?;
     let Some(kind) = Kind::from_word(kind) else {
         return Err(Refusal::WrongKind);
     };
     let limit = limit_of(limit)?;
-    match shelf.make(name, kind, limit) {
-        Ok(()) => Ok(Answer::Done),
-        Err(error) => Err(refusal_of(error)),
-    }
+    shelf.make(name, kind, limit)?;
+    Ok(Answer::Done)
 }
 
 // The limit that the line gives, or else the greatest.
@@ -36,17 +32,5 @@ fn limit_of(limit: Option<&[u8]>) -> Result<u64, Refusal>
     match limit {
         Some(token) => word(token),
         None => Ok(MAX_LIMIT),
-    }
-}
-
-// The refusal that a shelf's is for a script.
-fn refusal_of(error: MakeError) -> Refusal
-    ensures { result ≡ refusal_of_make error }
-{
-    match error {
-        MakeError::BadLimit => Refusal::BadLimit,
-        MakeError::Exists => Refusal::Exists,
-        MakeError::TooMany => Refusal::TooManyArrays,
-        MakeError::NoMemory => Refusal::NoMemory,
     }
 }

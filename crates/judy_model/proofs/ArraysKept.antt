@@ -1,21 +1,23 @@
 -- What every array keeps, and its limit, through the changes of a map and the commands of one array.
-use Rattle.std.proofs.Common.{◌≡◌, ℕ, ◌+◌, ◌-◌, ◌≤◌, Bool, true, false, cond, not, ◌&&◌, ◌==◌, List, [], ◌∷◌, map, length, Some, None, Less, Equal, Greater, refl, sym, ap, subst, ◌∙◌, ⊎_elim, arith, All, IfOk}
+use Rattle.std.proofs.Common.{◌≡◌, ℕ, ◌+◌, ◌-◌, ◌≤◌, Bool, true, false, cond, not, ◌&&◌, ◌==◌, List, [], ◌∷◌, map, length, Some, None, Result, Less, Equal, Greater, refl, sym, ap, subst, ◌∙◌, ⊎_elim, arith, All, IfOk}
 use Rattle.std.specs.declared.cmp.Ordering.{Ordering}
 use Rattle.std.specs.Ordering.{eq_by_cmp, is_eq}
 use Rattle.std.specs.Cmp.{IsTotalOrder, nat_cmp_total, alike_right, eq_by_cmp_equiv}
-use Rattle.std.specs.FinMap.{FinMap, IsAntisymmetric, empty, entries, entries_sorted, entries-insert, from_sorted, entries-from_sorted, get-entries, get-from_sorted, get-remove, same_map, len-entries, find, contains_key, get, insert, remove, len, len-empty, len-insert, len-remove, put, nat_cmp-IsAntisymmetric}
+use Rattle.std.specs.FinMap.{FinMap, IsAntisymmetric, empty, entries, entries_sorted, entries-insert, from_sorted, entries-from_sorted, get-entries, get-from_sorted, get-remove, same_map, len-entries, find, contains_key, get, insert, remove, len, len-empty, len-insert, len-remove, put, nat_cmp-IsAntisymmetric, slice_cmp-IsAntisymmetric}
 use Rattle.std.specs.FinMap.Entries.{where_key, by_order, is_sorted-where_key, find-where_key}
 use Rattle.std.proofs.lemmas.Bool.{cases_lt, eqb-false}
+use Rattle.std.proofs.lemmas.Cmp.{nat_list_cmp_total}
 use Rattle.std.proofs.lemmas.List.Elements.{All-nil, All-cons, All-head, All-tail}
-use Rattle.judy_model.specs.Keys.{IsWord, IsStringKey, IsBytesKey, word_order}
+use Rattle.judy_model.specs.Keys.{IsWord, IsStringKey, IsBytesKey, word_order, byte_order}
 use Rattle.judy_model.specs.Arrays.{ArrayOf, IsArrayOf, ArrayValue, judy1, judyl, judysl, judyhs, IsArray, limit_of, empty_array, with_map, ins, is_full}
 use Rattle.judy_model.specs.CommandWords as command
 use Rattle.judy_model.specs.CommandWords.{KeyCommand, PairCommand}
-use Rattle.judy_model.specs.Commands.{Outcome, added, inserted, overwritten, set_on_key, set_on_pair, words_on_key, words_on_pair, on_key, on_pair, freed_whole}
+use Rattle.judy_model.specs.Commands.{Outcome, ◌>>=◌, word_at, string_key_at, bytes_key_at, added, inserted, overwritten, set_on_key, set_on_pair, map_on_key, map_on_pair, words_on_key, words_on_pair, strings_on_key, on_key, on_pair, freed_whole}
+use Rattle.judy_model.specs.Replies.{Refusal}
 use Rattle.judy_model.proofs.ChangesLemmas.{write-ins}
 use Rattle.judy_model.proofs.Inserts.{is_full_present}
 use Rattle.judy_model.proofs.ValuesLemmas.{All-values-empty, All-values-ins, All-values-del}
-use Rattle.judy_model.proofs.Outcomes.{chosen, by_word}
+use Rattle.judy_model.proofs.Outcomes.{chosen, followed, by_word, word_at-IsWord, string_key_at-IsStringKey, bytes_key_at-IsBytesKey}
 
 -- ---- the changes of a map
 
@@ -168,47 +170,104 @@ module _ (set : ArrayOf word_order) where
   set_pair_kept command.put key value = tt
   set_pair_kept command.count key value = by_word Q key _ (λ from _. by_word Q value _ (λ to _. (refl, λ is. is)))
 
+-- a kind of maps: what the kind keeps is what its arrays keep, over keys that its tokens say
+module _ {K : Type 0} {order : K → K → Ordering} (total : IsTotalOrder order) (same : IsAntisymmetric order) (IsKey : K → Type 0) (kind : ArrayOf order → ArrayValue)
+    (limited : (array : ArrayOf order) → limit_of (kind array) ≡ array.limit)
+    (opened : (array : ArrayOf order) → IsArray (kind array) → IsArrayOf IsKey array)
+    (closed : (array : ArrayOf order) → IsArrayOf IsKey array → IsArray (kind array)) where
+  -- what is left of an array that keeps its limit
+  kept : (array : ArrayOf order) (map : FinMap order ℕ) → (IsArrayOf IsKey array → IsArrayOf IsKey (with_map array map))
+      → (limit_of (kind (with_map array map)) ≡ limit_of (kind array)) × (IsArray (kind array) → IsArray (kind (with_map array map)))
+  kept array map keeps = (limited (with_map array map) ∙ sym (limited array), λ is. closed (with_map array map) (keeps (opened array is)))
+
+  module _ (array : ArrayOf order) where
+    abbrev M : Outcome ArrayValue → Type 0
+    M = Keeps (kind array)
+
+    inserted_kept : (key : K) (value : ℕ) → IsKey key → IsWord value → IfOk (inserted kind array key value) M
+    inserted_kept key value good small = chosen M (is_full array key) _ _ (λ _. tt) (λ free.
+        kept array _ (λ is. subst (λ m. IsArrayOf IsKey (with_map array m)) (sym (write-ins total array.map key same value)) (insert-IsArrayOf total same IsKey array key is value good small free)))
+
+    overwritten_kept : (key : K) (value : ℕ) → IsKey key → IsWord value → M (overwritten kind array key value (get array.map key))
+    overwritten_kept key value good small =
+        elim (get array.map key) as (λ before. get array.map key ≡ before → M (overwritten kind array key value before)) [
+          | None ↦ λ _. (refl, λ is. is)
+          | Some before ↦ λ held. kept array _ (λ is. insert-IsArrayOf total same IsKey array key is value good small (is_full_present array key before held))
+        ] refl
+
+    -- the key that is said is one of the kind's
+    module _ (said : Result K Refusal) (is_key : IfOk said IsKey) where
+      map_key_kept : (command : KeyCommand) → IfOk (map_on_key kind command array said) M
+      map_key_kept command.set = tt
+      map_key_kept command.unset = tt
+      map_key_kept command.test = tt
+      map_key_kept command.get = followed IsKey M said _ is_key (λ key good. (refl, λ is. is))
+      map_key_kept command.del = followed IsKey M said _ is_key (λ key good. kept array _ (λ is. del-IsArrayOf total same IsKey array key is))
+      map_key_kept (command.neighbour side) = tt
+      map_key_kept (command.empty side) = tt
+      map_key_kept command.by_count = tt
+
+      map_pair_kept : (command : PairCommand) (value : List ℕ) → IfOk (map_on_pair kind command array said value) M
+      map_pair_kept command.ins value = followed IsKey M said _ is_key (λ k good. by_word M value _ (λ v small. inserted_kept k v good small))
+      map_pair_kept command.put value = followed IsKey M said _ is_key (λ k good. by_word M value _ (λ v small. overwritten_kept k v good small))
+      map_pair_kept command.count value = tt
+
 module _ (array : ArrayOf word_order) where
-  abbrev W : Outcome ArrayValue → Type 0
-  W = Keeps (judyl array)
+  words_map_key : (command : KeyCommand) (token : List ℕ) → IfOk (map_on_key judyl command array (word_at token)) (Keeps (judyl array))
+  words_map_key command token = map_key_kept nat_cmp_total nat_cmp-IsAntisymmetric IsWord judyl (λ _. refl) (λ _ is. is) (λ _ is. is) array (word_at token) (word_at-IsWord token) command
 
-  inserted_kept : (key value : ℕ) → IsWord key → IsWord value → IfOk (inserted judyl array key value) W
-  inserted_kept key value good small = chosen W (is_full array key) _ _ (λ _. tt) (λ free.
-      (refl, λ is. subst (λ m. IsArrayOf IsWord (with_map array m)) (sym (write-ins nat_cmp_total array.map key nat_cmp-IsAntisymmetric value)) (insert-IsArrayOf nat_cmp_total nat_cmp-IsAntisymmetric IsWord array key is value good small free)))
+  words_map_pair : (command : PairCommand) (key value : List ℕ) → IfOk (map_on_pair judyl command array (word_at key) value) (Keeps (judyl array))
+  words_map_pair command key value = map_pair_kept nat_cmp_total nat_cmp-IsAntisymmetric IsWord judyl (λ _. refl) (λ _ is. is) (λ _ is. is) array (word_at key) (word_at-IsWord key) command value
 
-  overwritten_kept : (key value : ℕ) → IsWord key → IsWord value → W (overwritten judyl array key value (get array.map key))
-  overwritten_kept key value good small =
-      elim (get array.map key) as (λ before. get array.map key ≡ before → W (overwritten judyl array key value before)) [
-        | None ↦ λ _. (refl, λ is. is)
-        | Some before ↦ λ held. (refl, λ is. insert-IsArrayOf nat_cmp_total nat_cmp-IsAntisymmetric IsWord array key is value good small (is_full_present array key before held))
-      ] refl
-
-  words_key_kept : (command : KeyCommand) (token : List ℕ) → IfOk (words_on_key command array token) W
+  words_key_kept : (command : KeyCommand) (token : List ℕ) → IfOk (words_on_key command array token) (Keeps (judyl array))
   words_key_kept command.set token = tt
   words_key_kept command.unset token = tt
   words_key_kept command.test token = tt
-  words_key_kept command.get token = by_word W token _ (λ key small. (refl, λ is. is))
-  words_key_kept command.del token = by_word W token _ (λ key small. (refl, λ is. del-IsArrayOf nat_cmp_total nat_cmp-IsAntisymmetric IsWord array key is))
-  words_key_kept (command.neighbour side) token = by_word W token _ (λ key small. (refl, λ is. is))
-  words_key_kept (command.empty side) token = by_word W token _ (λ key small. (refl, λ is. is))
-  words_key_kept command.by_count token = by_word W token _ (λ key small. (refl, λ is. is))
+  words_key_kept command.get token = words_map_key command.get token
+  words_key_kept command.del token = words_map_key command.del token
+  words_key_kept (command.neighbour side) token = by_word _ token _ (λ key small. (refl, λ is. is))
+  words_key_kept (command.empty side) token = by_word _ token _ (λ key small. (refl, λ is. is))
+  words_key_kept command.by_count token = by_word _ token _ (λ key small. (refl, λ is. is))
 
-  words_pair_kept : (command : PairCommand) (key value : List ℕ) → IfOk (words_on_pair command array key value) W
-  words_pair_kept command.ins key value = by_word W key _ (λ k good. by_word W value _ (λ v small. inserted_kept k v good small))
-  words_pair_kept command.put key value = by_word W key _ (λ k good. by_word W value _ (λ v small. overwritten_kept k v good small))
-  words_pair_kept command.count key value = by_word W key _ (λ from _. by_word W value _ (λ to _. (refl, λ is. is)))
+  words_pair_kept : (command : PairCommand) (key value : List ℕ) → IfOk (words_on_pair command array key value) (Keeps (judyl array))
+  words_pair_kept command.ins key value = words_map_pair command.ins key value
+  words_pair_kept command.put key value = words_map_pair command.put key value
+  words_pair_kept command.count key value = by_word _ key _ (λ from _. by_word _ value _ (λ to _. (refl, λ is. is)))
+
+module _ (array : ArrayOf byte_order) where
+  strings_map_key : (command : KeyCommand) (token : List ℕ) → IfOk (map_on_key judysl command array (string_key_at token)) (Keeps (judysl array))
+  strings_map_key command token = map_key_kept nat_list_cmp_total (slice_cmp-IsAntisymmetric nat_cmp-IsAntisymmetric) IsStringKey judysl (λ _. refl) (λ _ is. is) (λ _ is. is) array (string_key_at token) (string_key_at-IsStringKey token) command
+
+  strings_key_kept : (command : KeyCommand) (token : List ℕ) → IfOk (strings_on_key command array token) (Keeps (judysl array))
+  strings_key_kept command.set token = tt
+  strings_key_kept command.unset token = tt
+  strings_key_kept command.test token = tt
+  strings_key_kept command.get token = strings_map_key command.get token
+  strings_key_kept command.del token = strings_map_key command.del token
+  strings_key_kept (command.neighbour side) token = followed IsStringKey _ (string_key_at token) _ (string_key_at-IsStringKey token) (λ key good. (refl, λ is. is))
+  strings_key_kept (command.empty side) token = tt
+  strings_key_kept command.by_count token = tt
+
+  strings_pair_kept : (command : PairCommand) (key value : List ℕ) → IfOk (map_on_pair judysl command array (string_key_at key) value) (Keeps (judysl array))
+  strings_pair_kept command key value = map_pair_kept nat_list_cmp_total (slice_cmp-IsAntisymmetric nat_cmp-IsAntisymmetric) IsStringKey judysl (λ _. refl) (λ _ is. is) (λ _ is. is) array (string_key_at key) (string_key_at-IsStringKey key) command value
+
+  bytes_key_kept : (command : KeyCommand) (token : List ℕ) → IfOk (map_on_key judyhs command array (bytes_key_at token)) (Keeps (judyhs array))
+  bytes_key_kept command token = map_key_kept nat_list_cmp_total (slice_cmp-IsAntisymmetric nat_cmp-IsAntisymmetric) IsBytesKey judyhs (λ _. refl) (λ _ is. is) (λ _ is. is) array (bytes_key_at token) (bytes_key_at-IsBytesKey token) command
+
+  bytes_pair_kept : (command : PairCommand) (key value : List ℕ) → IfOk (map_on_pair judyhs command array (bytes_key_at key) value) (Keeps (judyhs array))
+  bytes_pair_kept command key value = map_pair_kept nat_list_cmp_total (slice_cmp-IsAntisymmetric nat_cmp-IsAntisymmetric) IsBytesKey judyhs (λ _. refl) (λ _ is. is) (λ _ is. is) array (bytes_key_at key) (bytes_key_at-IsBytesKey key) command value
 
 pub on_key-Keeps : (command : KeyCommand) (key : List ℕ) (array : ArrayValue) → IfOk (on_key command key array) (Keeps array)
 on_key-Keeps command key (judy1 set) = set_key_kept set command key
 on_key-Keeps command key (judyl array) = words_key_kept array command key
-on_key-Keeps command key (judysl array) = tt
-on_key-Keeps command key (judyhs array) = tt
+on_key-Keeps command key (judysl array) = strings_key_kept array command key
+on_key-Keeps command key (judyhs array) = bytes_key_kept array command key
 
 pub on_pair-Keeps : (command : PairCommand) (key value : List ℕ) (array : ArrayValue) → IfOk (on_pair command key value array) (Keeps array)
 on_pair-Keeps command key value (judy1 set) = set_pair_kept set command key value
 on_pair-Keeps command key value (judyl array) = words_pair_kept array command key value
-on_pair-Keeps command key value (judysl array) = tt
-on_pair-Keeps command key value (judyhs array) = tt
+on_pair-Keeps command key value (judysl array) = strings_pair_kept array command key value
+on_pair-Keeps command key value (judyhs array) = bytes_pair_kept array command key value
 
 pub freed_whole-Keeps : (array : ArrayValue) → IfOk (freed_whole array) (Keeps array)
 freed_whole-Keeps (judy1 set) = (refl, λ is. (empty-IsArrayOf IsWord set.limit is.0.holds_some is.0.limit_is_word, All-values-empty (λ value. value ≡ 0)))

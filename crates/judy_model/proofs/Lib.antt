@@ -14,6 +14,7 @@ pub mod SortedEntries
 pub mod LineLemmas
 pub mod StepLemmas
 pub mod WordLemmas
+pub mod KeyTokenLemmas
 pub mod RunLemmas
 pub mod Pairs
 pub mod SortedMaps

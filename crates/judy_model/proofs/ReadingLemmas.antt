@@ -5,14 +5,15 @@ use Rattle.std.specs.FinMap.{get}
 use Rattle.std.proofs.lemmas.Bool.{false_from_ne_true}
 use Rattle.std.proofs.lemmas.Map.Steps.{set_value_same}
 use Rattle.std.proofs.lemmas.Result.{IfOk-at_ok}
-use Rattle.judy_model.specs.Keys.{word_order}
+use Rattle.std.specs.declared.cmp.Ordering.{Ordering}
+use Rattle.judy_model.specs.Keys.{word_order, byte_order}
 use Rattle.judy_model.specs.Arrays.{ArrayOf, ArrayValue, judy1, judyl, judysl, judyhs, is_full}
 use Rattle.judy_model.specs.Kinds.{kind_named}
 use Rattle.judy_model.specs.Stores.{Store, array_named, with_array}
 use Rattle.judy_model.specs.Replies.{Refusal, wrong_kind, bad_limit, exists, too_many_arrays}
 use Rattle.judy_model.specs.CommandWords as command
 use Rattle.judy_model.specs.CommandWords.{KeyCommand, PairCommand, Command, only_reads}
-use Rattle.judy_model.specs.Commands.{Outcome, ◌>>=◌, set_on_key, set_on_pair, words_on_key, words_on_pair, overwritten, on_key, on_pair, freed_whole, at_name, name_at, limit_at, provided, made, carried_out}
+use Rattle.judy_model.specs.Commands.{Outcome, ◌>>=◌, set_on_key, set_on_pair, map_on_key, map_on_pair, words_on_key, words_on_pair, strings_on_key, overwritten, on_key, on_pair, freed_whole, at_name, name_at, word_at, string_key_at, bytes_key_at, limit_at, provided, made, carried_out}
 use Rattle.judy_model.proofs.Outcomes.{chosen, followed, anything, by_word, by_name}
 
 -- a command that may add an array or a key
@@ -40,25 +41,53 @@ set_key_fits (command.neighbour side) set token = by_word _ token _ (λ key _. (
 set_key_fits (command.empty side) set token = by_word _ token _ (λ key _. (λ _. refl, never))
 set_key_fits command.by_count set token = by_word _ token _ (λ key _. (λ _. refl, never))
 
+-- what all maps have
+module _ {K : Type 0} {order : K → K → Ordering} (kind : ArrayOf order → ArrayValue) where
+  map_key_fits : (which : KeyCommand) (array : ArrayOf order) (said : Result K Refusal) → IfOk (map_on_key kind which array said) (Fits (command.on_key which) (kind array))
+  map_key_fits command.set array said = tt
+  map_key_fits command.unset array said = tt
+  map_key_fits command.test array said = tt
+  map_key_fits command.get array said = past _ said _ (λ key. (λ _. refl, never))
+  map_key_fits command.del array said = past _ said _ (λ key. (never, never))
+  map_key_fits (command.neighbour side) array said = tt
+  map_key_fits (command.empty side) array said = tt
+  map_key_fits command.by_count array said = tt
+
+  overwritten_fits : (array : ArrayOf order) (key : K) (value : ℕ) (before : Option ℕ) → Fits (command.on_pair command.put) (kind array) (overwritten kind array key value before)
+  overwritten_fits array key value None = (never, never)
+  overwritten_fits array key value (Some before) = (never, never)
+
+  map_pair_fits : (which : PairCommand) (array : ArrayOf order) (said : Result K Refusal) (value : List ℕ) → IfOk (map_on_pair kind which array said value) (Fits (command.on_pair which) (kind array))
+  map_pair_fits command.ins array said value =
+      past _ said _ (λ k. by_word _ value _ (λ v _. chosen _ (is_full array k) _ _ (λ _. tt) (λ _. (never, λ _. inr (inr refl)))))
+  map_pair_fits command.put array said value = past _ said _ (λ k. by_word _ value _ (λ v _. overwritten_fits array k v (get array.map k)))
+  map_pair_fits command.count array said value = tt
+
 words_key_fits : (which : KeyCommand) (array : ArrayOf word_order) (token : List ℕ) → IfOk (words_on_key which array token) (Fits (command.on_key which) (judyl array))
 words_key_fits command.set array token = tt
 words_key_fits command.unset array token = tt
 words_key_fits command.test array token = tt
-words_key_fits command.get array token = by_word _ token _ (λ key _. (λ _. refl, never))
-words_key_fits command.del array token = by_word _ token _ (λ key _. (never, never))
+words_key_fits command.get array token = map_key_fits judyl command.get array (word_at token)
+words_key_fits command.del array token = map_key_fits judyl command.del array (word_at token)
 words_key_fits (command.neighbour side) array token = by_word _ token _ (λ key _. (λ _. refl, never))
 words_key_fits (command.empty side) array token = by_word _ token _ (λ key _. (λ _. refl, never))
 words_key_fits command.by_count array token = by_word _ token _ (λ key _. (λ _. refl, never))
 
+strings_key_fits : (which : KeyCommand) (array : ArrayOf byte_order) (token : List ℕ) → IfOk (strings_on_key which array token) (Fits (command.on_key which) (judysl array))
+strings_key_fits command.set array token = tt
+strings_key_fits command.unset array token = tt
+strings_key_fits command.test array token = tt
+strings_key_fits command.get array token = map_key_fits judysl command.get array (string_key_at token)
+strings_key_fits command.del array token = map_key_fits judysl command.del array (string_key_at token)
+strings_key_fits (command.neighbour side) array token = past _ (string_key_at token) _ (λ key. (λ _. refl, never))
+strings_key_fits (command.empty side) array token = tt
+strings_key_fits command.by_count array token = tt
+
 key_fits : (which : KeyCommand) (key : List ℕ) (array : ArrayValue) → IfOk (on_key which key array) (Fits (command.on_key which) array)
 key_fits which key (judy1 set) = set_key_fits which set key
 key_fits which key (judyl array) = words_key_fits which array key
-key_fits which key (judysl array) = tt
-key_fits which key (judyhs array) = tt
-
-overwritten_fits : (array : ArrayOf word_order) (key value : ℕ) (before : Option ℕ) → Fits (command.on_pair command.put) (judyl array) (overwritten judyl array key value before)
-overwritten_fits array key value None = (never, never)
-overwritten_fits array key value (Some before) = (never, never)
+key_fits which key (judysl array) = strings_key_fits which array key
+key_fits which key (judyhs array) = map_key_fits judyhs which array (bytes_key_at key)
 
 set_pair_fits : (which : PairCommand) (set : ArrayOf word_order) (key value : List ℕ) → IfOk (set_on_pair which set key value) (Fits (command.on_pair which) (judy1 set))
 set_pair_fits command.ins set key value = tt
@@ -66,16 +95,15 @@ set_pair_fits command.put set key value = tt
 set_pair_fits command.count set key value = by_word _ key _ (λ from _. by_word _ value _ (λ to _. (λ _. refl, never)))
 
 words_pair_fits : (which : PairCommand) (array : ArrayOf word_order) (key value : List ℕ) → IfOk (words_on_pair which array key value) (Fits (command.on_pair which) (judyl array))
-words_pair_fits command.ins array key value =
-    by_word _ key _ (λ k _. by_word _ value _ (λ v _. chosen _ (is_full array k) _ _ (λ _. tt) (λ _. (never, λ _. inr (inr refl)))))
-words_pair_fits command.put array key value = by_word _ key _ (λ k _. by_word _ value _ (λ v _. overwritten_fits array k v (get array.map k)))
+words_pair_fits command.ins array key value = map_pair_fits judyl command.ins array (word_at key) value
+words_pair_fits command.put array key value = map_pair_fits judyl command.put array (word_at key) value
 words_pair_fits command.count array key value = by_word _ key _ (λ from _. by_word _ value _ (λ to _. (λ _. refl, never)))
 
 pair_fits : (which : PairCommand) (key value : List ℕ) (array : ArrayValue) → IfOk (on_pair which key value array) (Fits (command.on_pair which) array)
 pair_fits which key value (judy1 set) = set_pair_fits which set key value
 pair_fits which key value (judyl array) = words_pair_fits which array key value
-pair_fits which key value (judysl array) = tt
-pair_fits which key value (judyhs array) = tt
+pair_fits which key value (judysl array) = map_pair_fits judysl which array (string_key_at key) value
+pair_fits which key value (judyhs array) = map_pair_fits judyhs which array (bytes_key_at key) value
 
 module _ (store : Store) where
   -- an array that is left as it was leaves the store as it was

@@ -4,9 +4,10 @@ use Rattle.std.specs.Prelude.{bytes_eq, ⊤, map, ◌&&◌}
 use Rattle.std.specs.List.{sum, starts_with}
 use Rattle.std.specs.declared.cmp.Ordering.{Ordering}
 use Rattle.std.specs.Cmp.{IsTotalOrder, nat_cmp_total}
-use Rattle.std.specs.FinMap.{FinMap, IsAntisymmetric, empty, get, contains_key, insert, len, len-empty, len-insert, nat_cmp-IsAntisymmetric}
+use Rattle.std.specs.FinMap.{FinMap, IsAntisymmetric, empty, get, contains_key, insert, len, len-empty, len-insert, nat_cmp-IsAntisymmetric, slice_cmp-IsAntisymmetric}
+use Rattle.std.proofs.lemmas.Cmp.{nat_list_cmp_total}
 use Rattle.std.proofs.lemmas.Result.{IfOk-at_ok}
-use Rattle.judy_model.specs.Keys.{word_order}
+use Rattle.judy_model.specs.Keys.{word_order, byte_order}
 use Rattle.judy_model.specs.Arrays.{ArrayOf, ArrayValue, judy1, judyl, judysl, judyhs, len_of, emptied, empty_array, is_full}
 use Rattle.judy_model.specs.Kinds.{kind_named}
 use Rattle.judy_model.specs.Lines.{Line, is_too_long, text_of}
@@ -16,7 +17,7 @@ use Rattle.judy_model.specs.Sizes.{size_of}
 use Rattle.judy_model.specs.Replies.{Refusal, no_memory, wrong_kind, bad_limit, exists, too_many_arrays, unknown_command}
 use Rattle.judy_model.specs.CommandWords as command
 use Rattle.judy_model.specs.CommandWords.{KeyCommand, PairCommand, Command, command_named}
-use Rattle.judy_model.specs.Commands.{Outcome, ◌>>=◌, added, inserted, overwritten, removed, set_on_key, set_on_pair, words_on_key, words_on_pair, on_key, on_pair, freed_whole, at_name, name_at, limit_at, provided, made, carried_out}
+use Rattle.judy_model.specs.Commands.{Outcome, ◌>>=◌, added, inserted, overwritten, removed, set_on_key, set_on_pair, map_on_key, map_on_pair, words_on_key, words_on_pair, strings_on_key, on_key, on_pair, freed_whole, at_name, name_at, word_at, string_key_at, bytes_key_at, limit_at, provided, made, carried_out}
 use Rattle.judy_model.specs.Steps.{outcome_of_tokens, outcome_of, settled, step, outcome_grows, grows, Step}
 use Rattle.judy_model.proofs.ChangesLemmas.{len-ins, len-del, write-ins}
 use Rattle.judy_model.proofs.StepLemmas.{outcome_of-never_no_memory, NeverNoMemory}
@@ -98,33 +99,64 @@ module _ (set : ArrayOf word_order) where
   set_pair_counted command.put key value = tt
   set_pair_counted command.count key value = by_word _ key _ (λ from _. by_word _ value _ (λ to _. Adds-same (len set.map)))
 
+-- what all maps have, by the key that is said
+module _ {K : Type 0} {order : K → K → Ordering} (total : IsTotalOrder order) (same : IsAntisymmetric order) (kind : ArrayOf order → ArrayValue) (sized : (array : ArrayOf order) → len_of (kind array) ≡ len array.map) (array : ArrayOf order) (said : Result K Refusal) where
+  by_key : (rest : K → Result (Outcome ArrayValue) Refusal) → ((key : K) → IfOk (rest key) (Counted (kind array))) → IfOk (said >>= rest) (Counted (kind array))
+  by_key rest each = followed (λ _. ⊤) (Counted (kind array)) said rest (anything said) (λ key _. each key)
+
+  map_key_counted : (command : KeyCommand) → IfOk (map_on_key kind command array said) (Counted (kind array))
+  map_key_counted command.set = tt
+  map_key_counted command.unset = tt
+  map_key_counted command.test = tt
+  map_key_counted command.get = by_key _ (λ key. Adds-same (len_of (kind array)))
+  map_key_counted command.del = by_key _ (λ key. removed_counted total kind sized array key)
+  map_key_counted (command.neighbour side) = tt
+  map_key_counted (command.empty side) = tt
+  map_key_counted command.by_count = tt
+
+  map_pair_counted : (command : PairCommand) (value : List ℕ) → IfOk (map_on_pair kind command array said value) (Counted (kind array))
+  map_pair_counted command.ins value = by_key _ (λ k. by_word _ value _ (λ v _. inserted_counted total kind sized array k same v))
+  map_pair_counted command.put value = by_key _ (λ k. by_word _ value _ (λ v _. overwritten_counted total kind sized array k v))
+  map_pair_counted command.count value = tt
+
 module _ (array : ArrayOf word_order) where
   words_key_counted : (command : KeyCommand) (token : List ℕ) → IfOk (words_on_key command array token) (Counted (judyl array))
   words_key_counted command.set token = tt
   words_key_counted command.unset token = tt
   words_key_counted command.test token = tt
-  words_key_counted command.get token = by_word _ token _ (λ key _. Adds-same (len array.map))
-  words_key_counted command.del token = by_word _ token _ (λ key _. removed_counted nat_cmp_total judyl (λ _. refl) array key)
+  words_key_counted command.get token = map_key_counted nat_cmp_total nat_cmp-IsAntisymmetric judyl (λ _. refl) array (word_at token) command.get
+  words_key_counted command.del token = map_key_counted nat_cmp_total nat_cmp-IsAntisymmetric judyl (λ _. refl) array (word_at token) command.del
   words_key_counted (command.neighbour side) token = by_word _ token _ (λ key _. Adds-same (len array.map))
   words_key_counted (command.empty side) token = by_word _ token _ (λ key _. Adds-same (len array.map))
   words_key_counted command.by_count token = by_word _ token _ (λ key _. Adds-same (len array.map))
 
   words_pair_counted : (command : PairCommand) (key value : List ℕ) → IfOk (words_on_pair command array key value) (Counted (judyl array))
-  words_pair_counted command.ins key value = by_word _ key _ (λ k _. by_word _ value _ (λ v _. inserted_counted nat_cmp_total judyl (λ _. refl) array k nat_cmp-IsAntisymmetric v))
-  words_pair_counted command.put key value = by_word _ key _ (λ k _. by_word _ value _ (λ v _. overwritten_counted nat_cmp_total judyl (λ _. refl) array k v))
+  words_pair_counted command.ins key value = map_pair_counted nat_cmp_total nat_cmp-IsAntisymmetric judyl (λ _. refl) array (word_at key) command.ins value
+  words_pair_counted command.put key value = map_pair_counted nat_cmp_total nat_cmp-IsAntisymmetric judyl (λ _. refl) array (word_at key) command.put value
   words_pair_counted command.count key value = by_word _ key _ (λ from _. by_word _ value _ (λ to _. Adds-same (len array.map)))
+
+module _ (array : ArrayOf byte_order) where
+  strings_key_counted : (command : KeyCommand) (token : List ℕ) → IfOk (strings_on_key command array token) (Counted (judysl array))
+  strings_key_counted command.set token = tt
+  strings_key_counted command.unset token = tt
+  strings_key_counted command.test token = tt
+  strings_key_counted command.get token = map_key_counted nat_list_cmp_total (slice_cmp-IsAntisymmetric nat_cmp-IsAntisymmetric) judysl (λ _. refl) array (string_key_at token) command.get
+  strings_key_counted command.del token = map_key_counted nat_list_cmp_total (slice_cmp-IsAntisymmetric nat_cmp-IsAntisymmetric) judysl (λ _. refl) array (string_key_at token) command.del
+  strings_key_counted (command.neighbour side) token = by_key nat_list_cmp_total (slice_cmp-IsAntisymmetric nat_cmp-IsAntisymmetric) judysl (λ _. refl) array (string_key_at token) _ (λ key. Adds-same (len array.map))
+  strings_key_counted (command.empty side) token = tt
+  strings_key_counted command.by_count token = tt
 
 key_counted : (command : KeyCommand) (key : List ℕ) (array : ArrayValue) → IfOk (on_key command key array) (Counted array)
 key_counted command key (judy1 set) = set_key_counted set command key
 key_counted command key (judyl array) = words_key_counted array command key
-key_counted command key (judysl array) = tt
-key_counted command key (judyhs array) = tt
+key_counted command key (judysl array) = strings_key_counted array command key
+key_counted command key (judyhs array) = map_key_counted nat_list_cmp_total (slice_cmp-IsAntisymmetric nat_cmp-IsAntisymmetric) judyhs (λ _. refl) array (bytes_key_at key) command
 
 pair_counted : (command : PairCommand) (key value : List ℕ) (array : ArrayValue) → IfOk (on_pair command key value array) (Counted array)
 pair_counted command key value (judy1 set) = set_pair_counted set command key value
 pair_counted command key value (judyl array) = words_pair_counted array command key value
-pair_counted command key value (judysl array) = tt
-pair_counted command key value (judyhs array) = tt
+pair_counted command key value (judysl array) = map_pair_counted nat_list_cmp_total (slice_cmp-IsAntisymmetric nat_cmp-IsAntisymmetric) judysl (λ _. refl) array (string_key_at key) command value
+pair_counted command key value (judyhs array) = map_pair_counted nat_list_cmp_total (slice_cmp-IsAntisymmetric nat_cmp-IsAntisymmetric) judyhs (λ _. refl) array (bytes_key_at key) command value
 
 none_left : {K : Type 0} (order : K → K → Ordering) (n : ℕ) → len (empty {X = ℕ} {R = order}) ≤ n
 none_left order n = let none = len-empty order ℕ in omega arith

@@ -1,17 +1,19 @@
 -- What a line's outcome can be.
 use Rattle.std.proofs.Common.{◌≡◌, ◌≢◌, ℕ, Bool, true, false, inl, inr, cond, List, [], ◌∷◌, Option, Some, None, Result, Ok, Err, refl, ap, ◌∙◌}
-use Rattle.judy_model.specs.Keys.{word_order}
+use Rattle.std.specs.declared.cmp.Ordering.{Ordering}
+use Rattle.judy_model.specs.Keys.{word_order, byte_order}
 use Rattle.std.specs.Prelude.{ok_or, nat_lt, nat_le, ◌&&◌, is_none, length, nat_eq}
 use Rattle.std.specs.List.{starts_with}
 use Rattle.judy_model.specs.Arrays.{ArrayOf, ArrayValue, judy1, judyl, judysl, judyhs, is_full}
 use Rattle.judy_model.specs.Tokens.{word_of, name_of, tokens_of}
+use Rattle.judy_model.specs.KeyTokens.{string_key_of, bytes_key_of}
 use Rattle.judy_model.specs.Lines.{Line, is_too_long, text_of}
 use Rattle.judy_model.specs.Stores.{Store, array_named}
-use Rattle.judy_model.specs.Replies.{Reply, Refusal, line_too_long, unknown_command, argument_count, bad_name, no_such_array, wrong_kind, bad_word, bad_limit, exists, too_many_arrays, full, no_memory}
+use Rattle.judy_model.specs.Replies.{Reply, Refusal, line_too_long, unknown_command, argument_count, bad_name, no_such_array, wrong_kind, bad_word, bad_key, bad_limit, exists, too_many_arrays, full, no_memory}
 use Rattle.judy_model.specs.Kinds.{kind_named}
 use Rattle.judy_model.specs.CommandWords as command
 use Rattle.judy_model.specs.CommandWords.{KeyCommand, PairCommand, Command, command_named}
-use Rattle.judy_model.specs.Commands.{Outcome, ◌>>=◌, provided, limit_at, made, set_on_key, set_on_pair, words_on_key, words_on_pair, on_key, on_pair, freed_whole, at_name, carried_out, name_at, word_at, array_at}
+use Rattle.judy_model.specs.Commands.{Outcome, ◌>>=◌, provided, limit_at, made, set_on_key, set_on_pair, map_on_key, map_on_pair, words_on_key, words_on_pair, strings_on_key, on_key, on_pair, freed_whole, at_name, carried_out, name_at, word_at, string_key_at, bytes_key_at, array_at}
 use Rattle.judy_model.specs.Steps.{outcome_of, outcome_of_tokens, carried_out_by_word, settled, step, outcome_grows, grows, Step}
 
 module _ {A : Type 0} where
@@ -79,33 +81,66 @@ set_pair_never command.ins set key value = wrong
 set_pair_never command.put set key value = wrong
 set_pair_never command.count set key value = read_never key _ (λ k. read_never value _ (λ v. given _))
 
+-- what all maps have, by a key that a token says
+module _ {K : Type 0} {order : K → K → Ordering} (kind : ArrayOf order → ArrayValue) where
+  map_key_never : (command : KeyCommand) (array : ArrayOf order) (said : Result K Refusal) → NeverNoMemory said → NeverNoMemory (map_on_key kind command array said)
+  map_key_never command.set array said a_key = wrong
+  map_key_never command.unset array said a_key = wrong
+  map_key_never command.test array said a_key = wrong
+  map_key_never command.get array said a_key = followed said _ a_key (λ key. given _)
+  map_key_never command.del array said a_key = followed said _ a_key (λ key. given _)
+  map_key_never (command.neighbour side) array said a_key = wrong
+  map_key_never (command.empty side) array said a_key = wrong
+  map_key_never command.by_count array said a_key = wrong
+
+  map_pair_never : (command : PairCommand) (array : ArrayOf order) (said : Result K Refusal) (value : List ℕ) → NeverNoMemory said → NeverNoMemory (map_on_pair kind command array said value)
+  map_pair_never command.ins array said value a_key =
+      followed said _ a_key (λ k. read_never value _ (λ v. chosen (is_full array k) _ _ (refused full (λ e. cc)) (given _)))
+  map_pair_never command.put array said value a_key = followed said _ a_key (λ k. read_never value _ (λ v. given _))
+  map_pair_never command.count array said value a_key = wrong
+
 words_key_never : (command : KeyCommand) (array : ArrayOf word_order) (token : List ℕ) → NeverNoMemory (words_on_key command array token)
 words_key_never command.set array token = wrong
 words_key_never command.unset array token = wrong
 words_key_never command.test array token = wrong
-words_key_never command.get array token = read_never token _ (λ key. given _)
-words_key_never command.del array token = read_never token _ (λ key. given _)
+words_key_never command.get array token = map_key_never judyl command.get array (word_at token) (a_word token)
+words_key_never command.del array token = map_key_never judyl command.del array (word_at token) (a_word token)
 words_key_never (command.neighbour side) array token = read_never token _ (λ key. given _)
 words_key_never (command.empty side) array token = read_never token _ (λ key. given _)
 words_key_never command.by_count array token = read_never token _ (λ key. given _)
 
 words_pair_never : (command : PairCommand) (array : ArrayOf word_order) (key value : List ℕ) → NeverNoMemory (words_on_pair command array key value)
-words_pair_never command.ins array key value =
-    read_never key _ (λ k. read_never value _ (λ v. chosen (is_full array k) _ _ (refused full (λ e. cc)) (given _)))
-words_pair_never command.put array key value = read_never key _ (λ k. read_never value _ (λ v. given _))
+words_pair_never command.ins array key value = map_pair_never judyl command.ins array (word_at key) value (a_word key)
+words_pair_never command.put array key value = map_pair_never judyl command.put array (word_at key) value (a_word key)
 words_pair_never command.count array key value = read_never key _ (λ k. read_never value _ (λ v. given _))
+
+a_string_key : (token : List ℕ) → NeverNoMemory (string_key_at token)
+a_string_key token = found (string_key_of token) bad_key (λ e. cc)
+
+a_bytes_key : (token : List ℕ) → NeverNoMemory (bytes_key_at token)
+a_bytes_key token = found (bytes_key_of token) bad_key (λ e. cc)
+
+strings_key_never : (command : KeyCommand) (array : ArrayOf byte_order) (token : List ℕ) → NeverNoMemory (strings_on_key command array token)
+strings_key_never command.set array token = wrong
+strings_key_never command.unset array token = wrong
+strings_key_never command.test array token = wrong
+strings_key_never command.get array token = map_key_never judysl command.get array (string_key_at token) (a_string_key token)
+strings_key_never command.del array token = map_key_never judysl command.del array (string_key_at token) (a_string_key token)
+strings_key_never (command.neighbour side) array token = followed (string_key_at token) _ (a_string_key token) (λ key. given _)
+strings_key_never (command.empty side) array token = wrong
+strings_key_never command.by_count array token = wrong
 
 key_never : (command : KeyCommand) (key : List ℕ) (array : ArrayValue) → NeverNoMemory (on_key command key array)
 key_never command key (judy1 set) = set_key_never command set key
 key_never command key (judyl array) = words_key_never command array key
-key_never command key (judysl array) = wrong
-key_never command key (judyhs array) = wrong
+key_never command key (judysl array) = strings_key_never command array key
+key_never command key (judyhs array) = map_key_never judyhs command array (bytes_key_at key) (a_bytes_key key)
 
 pair_never : (command : PairCommand) (key value : List ℕ) (array : ArrayValue) → NeverNoMemory (on_pair command key value array)
 pair_never command key value (judy1 set) = set_pair_never command set key value
 pair_never command key value (judyl array) = words_pair_never command array key value
-pair_never command key value (judysl array) = wrong
-pair_never command key value (judyhs array) = wrong
+pair_never command key value (judysl array) = map_pair_never judysl command array (string_key_at key) value (a_string_key key)
+pair_never command key value (judyhs array) = map_pair_never judyhs command array (bytes_key_at key) value (a_bytes_key key)
 
 -- a command of one array: the rest of its checks, where the name is one of the store's
 named_never : {A : Type 0} (store : Store) (name : List ℕ) (rest : List ℕ → ArrayValue → Result A Refusal) → ((name : List ℕ) (array : ArrayValue) → NeverNoMemory (rest name array)) → NeverNoMemory (name_at name >>= (λ name. array_at store name >>= rest name))

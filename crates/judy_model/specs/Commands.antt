@@ -3,15 +3,16 @@
 use Rattle.std.specs.Prelude.{ℕ, Bool, true, false, not, ◌&&◌, nat_lt, nat_le, is_none, if◌then◌else◌, List, [], ◌∷◌, length, Option, Some, None, ok_or, unwrap_or, Result, Ok, Err}
 use Rattle.std.specs.declared.cmp.Ordering.{Ordering}
 use Rattle.std.specs.FinMap.{FinMap, contains_key, get}
-use Rattle.judy_model.specs.Keys.{word_order}
-use Rattle.judy_model.specs.Arrays.{ArrayOf, ArrayValue, judy1, judyl, with_map, ins, write, del, is_full, len_of, emptied}
+use Rattle.judy_model.specs.Keys.{word_order, byte_order}
+use Rattle.judy_model.specs.Arrays.{ArrayOf, ArrayValue, judy1, judyl, judysl, judyhs, with_map, ins, write, del, is_full, len_of, emptied}
 use Rattle.judy_model.specs.Neighbours as neighbours
 use Rattle.judy_model.specs.Empties as empties
 use Rattle.judy_model.specs.Counts as counts
 use Rattle.judy_model.specs.Kinds.{kind_named}
 use Rattle.judy_model.specs.Tokens.{word_of, name_of}
+use Rattle.judy_model.specs.KeyTokens.{string_key_of, bytes_key_of}
 use Rattle.judy_model.specs.Stores.{Store, array_named, with_array, with_new_array, without_array}
-use Rattle.judy_model.specs.Replies.{Answer, done, was, flag, number, entry, freed, listed, nothing, Refusal, argument_count, bad_name, no_such_array, wrong_kind, bad_word, bad_limit, exists, too_many_arrays, full}
+use Rattle.judy_model.specs.Replies.{Answer, done, was, flag, number, entry, string_entry, freed, listed, nothing, Refusal, argument_count, bad_name, no_such_array, wrong_kind, bad_word, bad_key, bad_limit, exists, too_many_arrays, full}
 use Rattle.judy_model.specs.CommandWords as command
 use Rattle.judy_model.specs.CommandWords.{Neighbour, KeyCommand, PairCommand, Command}
 
@@ -39,6 +40,12 @@ name_at token = ok_or (name_of token) bad_name
 abbrev pub word_at : List ℕ → Result ℕ Refusal
 word_at token = ok_or (word_of token) bad_word
 
+abbrev pub string_key_at : List ℕ → Result (List ℕ) Refusal
+string_key_at token = ok_or (string_key_of token) bad_key
+
+abbrev pub bytes_key_at : List ℕ → Result (List ℕ) Refusal
+bytes_key_at token = ok_or (bytes_key_of token) bad_key
+
 abbrev pub array_at : Store → List ℕ → Result ArrayValue Refusal
 array_at store name = ok_or (array_named store name) no_such_array
 
@@ -62,10 +69,10 @@ abbrev pub number_or_nothing : Option ℕ → Answer
 number_or_nothing None = nothing
 number_or_nothing (Some found) = number found
 
--- The key that was found, and its value; or `none`.
-abbrev pub entry_or_nothing : FinMap word_order ℕ → Option ℕ → Answer
-entry_or_nothing map None = nothing
-entry_or_nothing map (Some key) = entry key (value_of map key)
+-- The key that was found, and its value, as an answer; or `none`.
+abbrev pub entry_or_nothing : {K : Type 0} {order : K → K → Ordering} → (K → ℕ → Answer) → FinMap order ℕ → Option K → Answer
+entry_or_nothing answer map None = nothing
+entry_or_nothing answer map (Some key) = answer key (value_of map key)
 
 -- A key is put into a set, and the answer is whether it was absent.
 abbrev pub added : ArrayOf word_order → ℕ → Result (Outcome ArrayValue) Refusal
@@ -99,7 +106,7 @@ removed kind array key =
     record { answer = flag (contains_key array.map key); after = kind (with_map array (del array.map key)); grows = false }
 
 -- The neighbour of a key, and that among the words that are no keys.
-abbrev pub neighbour_of : Neighbour → FinMap word_order ℕ → ℕ → Option ℕ
+abbrev pub neighbour_of : {K : Type 0} {order : K → K → Ordering} → Neighbour → FinMap order ℕ → K → Option K
 neighbour_of command.first = neighbours.first
 neighbour_of command.next = neighbours.next
 neighbour_of command.last = neighbours.last
@@ -142,50 +149,70 @@ set_on_pair command.count set from to = do
   Ok (unchanged (judy1 set) (number (counts.count set.map from to)))
 set_on_pair other set key value = Err wrong_kind
 
--- A judyl array is a map from words to words.
+-- What all maps have: the value of a key is looked up, put in, overwritten and deleted. The key is what a
+-- token says, or why it is refused.
+module _ {K : Type 0} {order : K → K → Ordering} (kind : ArrayOf order → ArrayValue) where
+  abbrev pub map_on_key : KeyCommand → ArrayOf order → Result K Refusal → Result (Outcome ArrayValue) Refusal
+  map_on_key command.get array said = do
+    key ← said
+    Ok (unchanged (kind array) (number_or_nothing (get array.map key)))
+  map_on_key command.del array said = do
+    key ← said
+    Ok (removed kind array key)
+  map_on_key other array said = Err wrong_kind
+
+  abbrev pub map_on_pair : PairCommand → ArrayOf order → Result K Refusal → List ℕ → Result (Outcome ArrayValue) Refusal
+  map_on_pair command.ins array said value = do
+    key ← said
+    value ← word_at value
+    inserted kind array key value
+  map_on_pair command.put array said value = do
+    key ← said
+    value ← word_at value
+    Ok (overwritten kind array key value (get array.map key))
+  map_on_pair other array said value = Err wrong_kind
+
+-- A judyl array is a map from words to words, which has the order of the words beside.
 abbrev pub words_on_key : KeyCommand → ArrayOf word_order → List ℕ → Result (Outcome ArrayValue) Refusal
-words_on_key command.get array token = do
-  key ← word_at token
-  Ok (unchanged (judyl array) (number_or_nothing (get array.map key)))
-words_on_key command.del array token = do
-  key ← word_at token
-  Ok (removed judyl array key)
 words_on_key (command.neighbour side) array token = do
   key ← word_at token
-  Ok (unchanged (judyl array) (entry_or_nothing array.map (neighbour_of side array.map key)))
+  Ok (unchanged (judyl array) (entry_or_nothing entry array.map (neighbour_of side array.map key)))
 words_on_key (command.empty side) array token = do
   word ← word_at token
   Ok (unchanged (judyl array) (number_or_nothing (empty_neighbour_of side array.map word)))
 words_on_key command.by_count array token = do
   n ← word_at token
-  Ok (unchanged (judyl array) (entry_or_nothing array.map (counts.by_count array.map n)))
-words_on_key other array token = Err wrong_kind
+  Ok (unchanged (judyl array) (entry_or_nothing entry array.map (counts.by_count array.map n)))
+words_on_key other array token = map_on_key judyl other array (word_at token)
 
 abbrev pub words_on_pair : PairCommand → ArrayOf word_order → List ℕ → List ℕ → Result (Outcome ArrayValue) Refusal
-words_on_pair command.ins array key value = do
-  key ← word_at key
-  value ← word_at value
-  inserted judyl array key value
-words_on_pair command.put array key value = do
-  key ← word_at key
-  value ← word_at value
-  Ok (overwritten judyl array key value (get array.map key))
 words_on_pair command.count array from to = do
   from ← word_at from
   to ← word_at to
   Ok (unchanged (judyl array) (number (counts.count array.map from to)))
+words_on_pair other array key value = map_on_pair judyl other array (word_at key) value
+
+-- A judysl array is a map from byte strings to words; it has the neighbours of a key beside.
+abbrev pub strings_on_key : KeyCommand → ArrayOf byte_order → List ℕ → Result (Outcome ArrayValue) Refusal
+strings_on_key (command.neighbour side) array token = do
+  key ← string_key_at token
+  Ok (unchanged (judysl array) (entry_or_nothing string_entry array.map (neighbour_of side array.map key)))
+strings_on_key other array token = map_on_key judysl other array (string_key_at token)
 
 -- ---- the commands of one array
 
+-- What a command does, by the kind of the array. A judyhs array is a map from byte strings, and no more.
 abbrev pub on_key : KeyCommand → List ℕ → ArrayValue → Result (Outcome ArrayValue) Refusal
 on_key command key (judy1 set) = set_on_key command set key
 on_key command key (judyl array) = words_on_key command array key
-on_key command key array = Err wrong_kind
+on_key command key (judysl array) = strings_on_key command array key
+on_key command key (judyhs array) = map_on_key judyhs command array (bytes_key_at key)
 
 abbrev pub on_pair : PairCommand → List ℕ → List ℕ → ArrayValue → Result (Outcome ArrayValue) Refusal
 on_pair command key value (judy1 set) = set_on_pair command set key value
 on_pair command key value (judyl array) = words_on_pair command array key value
-on_pair command key value array = Err wrong_kind
+on_pair command key value (judysl array) = map_on_pair judysl command array (string_key_at key) value
+on_pair command key value (judyhs array) = map_on_pair judyhs command array (bytes_key_at key) value
 
 -- The array is emptied and keeps its place and its limit.
 abbrev pub freed_whole : ArrayValue → Result (Outcome ArrayValue) Refusal

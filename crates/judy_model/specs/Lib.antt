@@ -7,6 +7,7 @@ pub mod Nearest
 pub mod Counts
 pub mod Laws
 pub mod Tokens
+pub mod KeyTokens
 pub mod Lines
 pub mod LineLists
 pub mod Kinds

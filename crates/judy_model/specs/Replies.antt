@@ -1,6 +1,7 @@
 -- What a line is answered, and how that is printed. (This project's own script.)
 use Rattle.std.specs.Prelude.{ℕ, Bool, true, false, List, [], ◌∷◌, ◌++◌, codes, decimal, flat_map, Result, Ok, Err}
 use Rattle.judy_model.specs.Arrays.{ArrayValue, len_of}
+use Rattle.judy_model.specs.KeyTokens.{printed_key}
 use Rattle.judy_model.specs.Kinds.{kind_word_of}
 use Rattle.judy_model.specs.Stores.{Store}
 
@@ -15,8 +16,9 @@ pub data Answer : Type 0 where
   flag : Bool → Answer
   -- a value, a key or a count
   number : ℕ → Answer
-  -- a key and its value
+  -- a key and its value: of an array over words, and of one over byte strings
   entry : ℕ → ℕ → Answer
+  string_entry : List ℕ → ℕ → Answer
   -- how many keys were freed
   freed : ℕ → Answer
   -- the arrays of a store
@@ -63,7 +65,7 @@ refusal_word no_memory = codes "no-memory"
 abbrev pub listing_text : List ℕ × ArrayValue → List ℕ
 listing_text (name, array) = 32 ∷ name ++ 58 ∷ kind_word_of array ++ 58 ∷ decimal (len_of array)
 
--- The text of an answer. Words are printed in decimal without leading zeros.
+-- The text of an answer. Words are printed in decimal without leading zeros, byte strings as `printed_key`.
 abbrev pub answer_text : Answer → List ℕ
 answer_text silent = []
 answer_text done = codes "ok"
@@ -72,6 +74,7 @@ answer_text (flag true) = codes "1"
 answer_text (flag false) = codes "0"
 answer_text (number value) = decimal value
 answer_text (entry key value) = decimal key ++ 32 ∷ decimal value
+answer_text (string_entry key value) = printed_key key ++ 32 ∷ decimal value
 answer_text (freed count) = codes "freed " ++ decimal count
 answer_text (listed store) = codes "names" ++ flat_map listing_text store
 answer_text nothing = codes "none"

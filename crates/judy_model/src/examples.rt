@@ -7,11 +7,12 @@ ghost use Rattle.std.specs.Prelude.{◌≡◌, ◌+◌, ◌*◌, ◌-◌, ◌^�
 ghost use Rattle.judy_model.specs.Arrays.{judy1, empty_array};
 ghost use Rattle.judy_model.specs.Lines.{lines_of, text_of, is_too_long};
 ghost use Rattle.judy_model.specs.Tokens.{tokens_of, word_of, name_of};
-ghost use Rattle.judy_model.specs.Replies.{silent, done, was, flag, number, entry, freed, listed, nothing, output_of, unknown_command, argument_count, bad_name, no_such_array, wrong_kind, bad_word, bad_limit, exists};
+ghost use Rattle.judy_model.specs.KeyTokens.{key_of, is_bytes_key, is_string_key, bytes_key_of, string_key_of, printed_key};
+ghost use Rattle.judy_model.specs.Replies.{silent, done, was, flag, number, entry, string_entry, freed, listed, nothing, output_of, unknown_command, argument_count, bad_name, no_such_array, wrong_kind, bad_word, bad_key, bad_limit, exists};
 ghost use Rattle.judy_model.specs.Steps.{step};
 ghost use Rattle.judy_model.specs.CommandWords as command;
 ghost use Rattle.judy_model.specs.CommandWords.{command_named};
-ghost use Rattle.judy_model.specs.Examples.{line, one_array, two_arrays};
+ghost use Rattle.judy_model.specs.Examples.{line, one_array, two_arrays, string_arrays};
 
 /// An LF ends a line; what stands after the last LF is a line if it isn't empty.
 pub fn scripts_are_cut_at_each_line_feed()
@@ -58,6 +59,38 @@ pub fn names_are_letters_digits_and_two_signs()
     ensures too_long { name_of (replicate 33 97) ≡ None }
 {}
 
+/// A key token is `=` and bytes from `!` to `~`, or `#` and two hexadecimal digits of either case a byte.
+pub fn keys_are_signs_or_digits()
+    ensures empty { key_of (codes "=") ≡ Some [] }
+    ensures empty_digits { key_of (codes "#") ≡ Some [] }
+    ensures signs { key_of (codes "=a=#~!") ≡ Some (codes "a=#~!") }
+    ensures digits { key_of (codes "#00fFa9") ≡ Some (0 ∷ 255 ∷ 169 ∷ []) }
+    ensures odd { key_of (codes "#0") ≡ None }
+    ensures no_digit { key_of (codes "#0g") ≡ None }
+    ensures bare { key_of (codes "abc") ≡ None }
+    ensures none { key_of [] ≡ None }
+    ensures space { tokens_of (codes "=a b") ≡ codes "=a" ∷ codes "b" ∷ [] }
+    ensures tab { key_of (61 ∷ 9 ∷ []) ≡ None }
+    ensures delete_sign { key_of (61 ∷ 127 ∷ []) ≡ None }
+{}
+
+/// A key of a string kind has at most 1,024 bytes, and that of a judysl array no zero byte.
+pub fn keys_of_strings_are_short_and_without_zero()
+    ensures zero { string_key_of (codes "#00") ≡ None }
+    ensures zero_byte { bytes_key_of (codes "#00") ≡ Some (0 ∷ []) }
+    ensures longest { is_string_key (replicate 1024 97) ≡ true }
+    ensures too_long { is_bytes_key (replicate 1025 97) ≡ false }
+{}
+
+/// A key is printed as it stands where each byte is from `!` to `~`, else in lower-case digits.
+pub fn keys_are_printed_as_signs_or_digits()
+    ensures empty { printed_key [] ≡ codes "=" }
+    ensures signs { printed_key (codes "!a~") ≡ codes "=!a~" }
+    ensures space { printed_key (codes "a b") ≡ codes "#612062" }
+    ensures delete_sign { printed_key (127 ∷ []) ≡ codes "#7f" }
+    ensures zero { printed_key (0 ∷ []) ≡ codes "#00" }
+{}
+
 /// The first refusal that applies is the answer, and the store stays.
 pub fn refusals_come_in_their_order()
     ensures command { step [] (line (codes "SET a 1")) ≡ (Err unknown_command, []) }
@@ -68,6 +101,9 @@ pub fn refusals_come_in_their_order()
     ensures word { step (one_array 1) (line (codes "make b judyl x")) ≡ (Err bad_word, one_array 1) }
     ensures key { step (one_array 1) (line (codes "ins a x 5")) ≡ (Err bad_word, one_array 1) }
     ensures value { step (one_array 1) (line (codes "ins a 5 x")) ≡ (Err bad_word, one_array 1) }
+    ensures string_key { step string_arrays (line (codes "ins t #00 x")) ≡ (Err bad_key, string_arrays) }
+    ensures bytes_value { step string_arrays (line (codes "ins h #00 x")) ≡ (Err bad_word, string_arrays) }
+    ensures string_value { step string_arrays (line (codes "ins t =a x")) ≡ (Err bad_word, string_arrays) }
     ensures limit { step (one_array 1) (line (codes "make a judyl 0")) ≡ (Err bad_limit, one_array 1) }
     ensures greater { step (one_array 1) (line (codes "make b judyl 4294967296")) ≡ (Err bad_limit, one_array 1) }
     ensures taken { step (one_array 1) (line (codes "make a judyl 4294967295")) ≡ (Err exists, one_array 1) }
@@ -82,6 +118,10 @@ pub fn each_kind_has_its_commands()
     ensures unset { step two_arrays (line (codes "unset a x")) ≡ (Err wrong_kind, two_arrays) }
     ensures test { step two_arrays (line (codes "test a x")) ≡ (Err wrong_kind, two_arrays) }
     ensures count { step two_arrays (line (codes "count s x 1")) ≡ (Err bad_word, two_arrays) }
+    ensures string_first { step string_arrays (line (codes "first t x")) ≡ (Err bad_key, string_arrays) }
+    ensures string_empty { step string_arrays (line (codes "fe t x")) ≡ (Err wrong_kind, string_arrays) }
+    ensures string_count { step string_arrays (line (codes "count t x y")) ≡ (Err wrong_kind, string_arrays) }
+    ensures bytes_first { step string_arrays (line (codes "first h x")) ≡ (Err wrong_kind, string_arrays) }
     ensures missing { step two_arrays (line (codes "fe b x")) ≡ (Err no_such_array, two_arrays) }
     ensures string_kind { step [] (line (codes "make b judysl")) ≡ (Err wrong_kind, []) }
 {}
@@ -121,6 +161,7 @@ pub fn answers_are_lines()
     ensures yes { output_of (Ok (flag true)) ≡ codes "1" ++ 10 ∷ [] }
     ensures no { output_of (Ok (flag false)) ≡ codes "0" ++ 10 ∷ [] }
     ensures entry { output_of (Ok (entry 5 9)) ≡ codes "5 9" ++ 10 ∷ [] }
+    ensures string_entry { output_of (Ok (string_entry (codes "ab") 9)) ≡ codes "=ab 9" ++ 10 ∷ [] }
     ensures freed { output_of (Ok (freed 2)) ≡ codes "freed 2" ++ 10 ∷ [] }
     ensures list { output_of (Ok (listed [])) ≡ codes "names" ++ 10 ∷ [] }
     ensures number { output_of (Ok (number (2 ^ 64 - 1))) ≡ codes "18446744073709551615" ++ 10 ∷ [] }

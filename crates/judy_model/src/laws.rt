@@ -8,6 +8,7 @@ pub mod dumps;
 pub mod empties;
 pub mod growth;
 pub mod kept;
+pub mod keys;
 pub mod lines;
 pub mod neighbours;
 pub mod runs;

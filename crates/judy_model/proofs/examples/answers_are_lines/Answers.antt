@@ -17,3 +17,7 @@ returns-clause-entry c = refl
 pub returns-clause-freed : goal.returns-clause-freed
 unfolding digits
 returns-clause-freed c = refl
+
+pub returns-clause-string_entry : goal.returns-clause-string_entry
+unfolding digits
+returns-clause-string_entry c = refl

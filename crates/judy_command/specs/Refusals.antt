@@ -1,0 +1,17 @@
+-- The refusals of a shelf and of its arrays as those of a script.
+use Rattle.judy_shelf.specs.declared.error.MakeError.{MakeError}
+use Rattle.judy_shelf.specs.declared.error.MakeError.TheVariants as make
+use Rattle.judy_word.specs.declared.error.InsertError.{InsertError}
+use Rattle.judy_word.specs.declared.error.InsertError.TheVariants as word
+use Rattle.judy_command.specs.declared.reply.Refusal.{Refusal}
+use Rattle.judy_command.specs.declared.reply.Refusal.TheVariants.{BadLimit, Exists, TooManyArrays, Full, NoMemory}
+
+abbrev pub refusal_of_make : MakeError → Refusal
+refusal_of_make make.BadLimit = BadLimit
+refusal_of_make make.Exists = Exists
+refusal_of_make make.TooMany = TooManyArrays
+refusal_of_make make.NoMemory = NoMemory
+
+abbrev pub refusal_of_insert : InsertError → Refusal
+refusal_of_insert word.Full = Full
+refusal_of_insert word.NoMemory = NoMemory

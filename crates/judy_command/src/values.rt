@@ -1,0 +1,157 @@
+//! What all arrays with values have, whatever their keys are: a value is looked up, put in, overwritten and
+//! deleted.
+
+ghost use Rattle.std.specs.Prelude.{◌≡◌, ℕ, Some, Ok, IfOk, IfErr, OnOk, IsTrue, IsFalse};
+ghost use Rattle.std.specs.declared.cmp.Ordering.{Ordering};
+ghost use Rattle.std.specs.Borrow.{sem, LendsIf, LendsIfOk, u64};
+ghost use Rattle.std.specs.Option.{option_copied_mut};
+ghost use Rattle.std.specs.Cmp.{IsTotalOrder, nat_cmp_total};
+ghost use Rattle.std.specs.FinMap as finite;
+ghost use Rattle.std.specs.FinMap.{IsAntisymmetric, nat_cmp-IsAntisymmetric};
+ghost use Rattle.judy_model.specs.Arrays as array;
+ghost use Rattle.judy_model.specs.Arrays.{ArrayOf, ArrayValue};
+ghost use Rattle.judy_model.specs.Commands as model;
+ghost use Rattle.judy_command.specs.CommandsOf.{key_command_of, pair_command_of};
+ghost use Rattle.judy_command.specs.Replies.{reply_of, answer_of, checked};
+ghost use Rattle.judy_command.specs.Follows.{Follows};
+ghost use Rattle.judy_command.specs.Slots.{with_value, said, IsInsertRefusal};
+
+use crate::command::{KeyCommand, PairCommand};
+use crate::reply::{Answer, Refusal, Reply};
+use crate::words::{number_or_nothing, word};
+use judy_word::JudyL;
+use std::mem::replace;
+
+/// An array that maps keys to values and lends their slots; a call is given a key as a `K`.
+pub(crate) trait ValueMap<K> {
+    // The keys, their order, and the array, as the definitions see them.
+    ghost Key: { Type 0 };
+
+    ghost order: { Key → Key → Ordering };
+
+    ghost key_of: { K → Key };
+
+    ghost array_of: { Self → ArrayOf order };
+
+    ghost kind_of: { ArrayOf order → ArrayValue };
+
+    // The array with a value written at a key.
+    ghost written: { Self → K → ℕ → Self };
+
+    /// The slot of the key, which is put in with the value 0 where it is absent. `Full` or `NoMemory`, only
+    /// where it is absent, and then the array is as it was.
+    fn ins(&mut self, key: K) -> Result<&mut u64, Refusal>
+        ensures* writes_back { sem 𝓛 (LendsIfOk Self.row u64 self.entry result (written self.entry.now key) self.entry.now) }
+        ensures value { IfOk result (λ slot. Some slot.now ≡ finite.get (array.ins (array_of self.old).map (key_of key)) (key_of key)) }
+        ensures accepted { OnOk result (IsFalse (array.is_full (array_of self.old) (key_of key))) }
+        ensures refused { IfErr result (IsInsertRefusal (array_of self.old) (key_of key)) };
+
+    /// The slot of the key, where it is there.
+    fn slot(&mut self, key: K) -> Option<&mut u64>
+        ensures* writes_back { sem 𝓛 (LendsIf Self.row u64 self.entry result (written self.entry.now key) self.entry.now) }
+        ensures value { option_copied_mut result ≡ finite.get (array_of self.old).map (key_of key) };
+
+    /// The value of the key.
+    fn get(&self, key: K) -> Option<u64>
+        ensures { result ≡ finite.get (array_of self.now).map (key_of key) };
+
+    /// Takes the key out, and answers whether it was there.
+    fn del(&mut self, key: K) -> bool
+        ensures answer { result ≡ finite.contains_key (array_of self.old).map (key_of key) }
+        ensures deleted { array_of self.new ≡ array.with_map (array_of self.old) (array.del (array_of self.old).map (key_of key)) };
+
+    // Laws: the order is one, and a write changes the value of its key and nothing else.
+    ghost is_total: { IsTotalOrder order };
+
+    ghost is_antisymmetric: { IsAntisymmetric order };
+
+    ghost writes: { (array : Self) (key : K) (value : ℕ) → array_of (written array key value) ≡ with_value (array_of array) (key_of key) value };
+}
+
+impl ValueMap<u64> for JudyL {
+    ghost use Rattle.std.specs.Prelude.{refl};
+    ghost use Rattle.judy_model.specs.Keys.{word_order};
+    ghost use Rattle.judy_model.specs.Arrays.{judyl};
+
+    ghost Key = { ℕ };
+
+    ghost order = { word_order };
+
+    ghost key_of = { λ key. key };
+
+    ghost array_of = { λ array. array };
+
+    ghost kind_of = { judyl };
+
+    ghost written = { with_value };
+
+    fn ins(&mut self, key: u64) -> Result<&mut u64, Refusal> {
+        Ok(JudyL::ins(self, key)?)
+    }
+
+    fn slot(&mut self, key: u64) -> Option<&mut u64> {
+        JudyL::slot(self, key)
+    }
+
+    fn get(&self, key: u64) -> Option<u64> {
+        JudyL::get(self, key)
+    }
+
+    fn del(&mut self, key: u64) -> bool {
+        JudyL::del(self, key)
+    }
+
+    ghost is_total = { nat_cmp_total };
+
+    ghost is_antisymmetric = { nat_cmp-IsAntisymmetric };
+
+    ghost writes = { λ array key value. refl };
+}
+
+/// What a command of one key does to the array. The key is what a token said, or why it was refused.
+pub(crate) fn map_on_key<K: Drop, M: ValueMap<K>>(
+    map: &mut M,
+    command: KeyCommand,
+    key: Result<K, Refusal>,
+) -> Reply
+    ensures { Follows (M.kind_of (M.array_of map.old)) (model.map_on_key M.kind_of (key_command_of command) (M.array_of map.old) (said M.key_of key)) (reply_of result) (M.kind_of (M.array_of map.new)) }
+{
+    match command {
+        KeyCommand::Get => Ok(number_or_nothing(map.get(key?))),
+        KeyCommand::Del => Ok(Answer::Flag(map.del(key?))),
+        _ => Err(Refusal::WrongKind),
+    }
+}
+
+/// What a command of a key and a value does to the array.
+pub(crate) fn map_on_pair<K: Drop, M: ValueMap<K>>(
+    map: &mut M,
+    command: PairCommand,
+    key: Result<K, Refusal>,
+    value: &[u8],
+) -> Reply
+    ensures { Follows (M.kind_of (M.array_of map.old)) (model.map_on_pair M.kind_of (pair_command_of command) (M.array_of map.old) (said M.key_of key) value.now) (reply_of result) (M.kind_of (M.array_of map.new)) }
+{
+    match command {
+        PairCommand::Ins => insert(map, key?, word(value)?),
+        PairCommand::Put => Ok(overwrite(map, key?, word(value)?)),
+        PairCommand::Count => Err(Refusal::WrongKind),
+    }
+}
+
+// Reads the slot of the key, which is new or not, and writes the value through it.
+fn insert<K, M: ValueMap<K>>(map: &mut M, key: K, value: u64) -> Reply
+    ensures { Follows (M.kind_of (M.array_of map.old)) (model.inserted M.kind_of (M.array_of map.old) (M.key_of key) value) (reply_of result) (M.kind_of (M.array_of map.new)) }
+{
+    Ok(Answer::Was(replace(map.ins(key)?, value)))
+}
+
+// Writes the value through the slot of the key, where it is there.
+fn overwrite<K, M: ValueMap<K>>(map: &mut M, key: K, value: u64) -> Answer
+    ensures { Follows (M.kind_of (M.array_of map.old)) (Ok (model.overwritten M.kind_of (M.array_of map.old) (M.key_of key) value (finite.get (M.array_of map.old).map (M.key_of key)))) (Ok (answer_of result)) (M.kind_of (M.array_of map.new)) }
+{
+    match map.slot(key) {
+        Some(slot) => Answer::Was(replace(slot, value)),
+        None => Answer::Nothing,
+    }
+}
