@@ -1,12 +1,10 @@
 //! Words as tokens say them and as answers.
 
-ghost use Rattle.std.specs.Prelude.{◌≡◌, ◌<◌, ◌^◌, length, IsTrue, nat_lt, if◌then◌else◌, Some, None};
-ghost use Rattle.std.specs.Str.Parse.{digits_value};
+ghost use Rattle.std.specs.Prelude.{◌≡◌, ◌+◌, ◌*◌, ◌^◌, ◌&&◌, nat_lt, if◌then◌else◌, Some, None};
+ghost use Rattle.std.specs.Char.{is_ascii_digit, digit_value};
 ghost use Rattle.judy_command.specs.Replies.{checked, answer_of};
 ghost use Rattle.judy_model.specs.Commands as model;
 ghost use Rattle.judy_model.specs.Commands.{word_at};
-ghost use Rattle.std.specs.List.{list_all};
-ghost use Rattle.std.specs.Char.{is_ascii_digit};
 
 use crate::reply::{Answer, Refusal};
 
@@ -14,30 +12,29 @@ use crate::reply::{Answer, Refusal};
 pub(crate) fn word(token: &[u8]) -> Result<u64, Refusal>
     ensures { checked result ≡ word_at token.now }
 {
-    if token.is_empty() || token.len() > 20 || !are_digits(token) {
+    if token.is_empty() || token.len() > 20 {
         return Err(Refusal::BadWord);
     }
-    number(token).ok_or(Refusal::BadWord)
-}
-
-// The number that decimal digits write, if it is below 2^64.
-fn number(digits: &[u8]) -> Option<u64>
-    requires some { 0 < length digits.now }
-    requires digits { IsTrue (list_all is_ascii_digit digits.now) }
-    ensures { let value = digits_value 10 digits.now in
-        result ≡ (if nat_lt value (2 ^ 64) then Some value else None) }
-{
-    match str::from_utf8(digits) {
-        Ok(text) => text.parse::<u64>().ok(),
-        Err(_) => None,
+    let mut number = 0;
+    for byte in token {
+        let Some(longer) = with_digit(number, *byte) else {
+            return Err(Refusal::BadWord);
+        };
+        number = longer;
     }
+    Ok(number)
 }
 
-// Whether each byte is a decimal digit.
-fn are_digits(token: &[u8]) -> bool
-    ensures { result ≡ list_all is_ascii_digit token.now }
+// The number that one more decimal digit makes of a number, where that is a digit and below 2^64.
+fn with_digit(number: u64, byte: u8) -> Option<u64>
+    ensures { let longer = number * 10 + digit_value byte in
+        result ≡ (if is_ascii_digit byte && nat_lt longer (2 ^ 64) then Some longer else None) }
 {
-    token.iter().all(|byte| byte.is_ascii_digit())
+    let digit = byte.wrapping_sub(b'0');
+    if digit > 9 {
+        return None;
+    }
+    number.checked_mul(10)?.checked_add(u64::from(digit))
 }
 
 /// The number that was found, or `none`.
