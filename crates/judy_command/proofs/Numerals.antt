@@ -5,8 +5,9 @@ use Rattle.std.specs.Char.{is_ascii_digit, digit_value}
 use Rattle.std.specs.Str.Parse.{digits_value}
 use Rattle.std.proofs.lemmas.Int.Digits.{digits_value_more}
 use Rattle.std.proofs.lemmas.Str.Parse.{digits_value-take-le}
-use Rattle.std.proofs.lemmas.List.Folds.{list_all_at, list_all_more}
+use Rattle.std.proofs.lemmas.List.Folds.{list_all_at, list_all_more, list_all_kept}
 use Rattle.std.proofs.Math.Seq.{take-length}
+use Rattle.std.proofs.Math.Nat.{pow-succ', pow-le-pow_right}
 use Rattle.std.proofs.lemmas.Bool.{lt-ltb, le-ltb, le-leb, ltb-true, ltb-false}
 use Rattle.judy_model.specs.Tokens.{is_word_token, word_of}
 
@@ -19,9 +20,20 @@ pub passed : (test : Bool) (value found : ℕ) (result : Option ℕ) → result 
 passed true value found result is some = search rules
 passed false value found result is some = search rules
 
-pub passed_both : (one two : Bool) → (one && two) ≡ true → (one ≡ true) × (two ≡ true)
+passed_both : (one two : Bool) → (one && two) ≡ true → (one ≡ true) × (two ≡ true)
 passed_both true two h = (refl, h)
 passed_both false two h = search rules
+
+-- one more digit behind a number that is below 10^i, i at most 18
+pub next_power : (number digit i : ℕ) → number < 10 ^ i → digit < 10 → number * 10 + digit < 10 ^ (i + 1)
+next_power number digit i small least =
+    let power : 10 ^ (i + 1) ≡ 10 * 10 ^ i = ap (λ n. 10 ^ n) (omega arith) ∙ pow-succ' 10 i in omega arith
+
+pub fits_word : (number digit i : ℕ) → number < 10 ^ i → digit < 10 → i < 19 → number * 10 + digit < 2 ^ 64
+fits_word number digit i small least few =
+    let below = next_power number digit i small least in
+    let most : 10 ^ (i + 1) ≤ 10 ^ 19 = pow-le-pow_right {n = 10} (omega arith) {i = i + 1} {j = 19} (omega arith) in
+    let word : 10 ^ 19 ≤ 2 ^ 64 = omega arith in omega arith
 
 -- a token that fails one of the tests of word tokens says no word
 fails_third : (one two three four : Bool) → three ≡ false → (one && two && three && four) ≡ false
@@ -69,3 +81,22 @@ says_number token i end some few digits fits =
     let all : list_all is_ascii_digit token ≡ true = ap (list_all is_ascii_digit) (sym whole) ∙ digits in
     let below : digits_value 10 token < 2 ^ 64 = rw (← whole) fits in
     rw (whole, lt-ltb 0 (length token) some, le-leb (length token) 20 few, all, lt-ltb (digits_value 10 token) (2 ^ 64) below) refl
+
+-- twenty digits of which the first nineteen were read
+module _ (token : List ℕ) (twenty : length token ≡ 20) where
+  pub inside : 19 < length token
+  inside = omega arith
+
+  pub no_word : list_all is_ascii_digit (take 19 token) ≡ false → word_of token ≡ None
+  no_word not =
+      let whole : take 20 token ≡ token = ap (λ n. take n token) (sym twenty) ∙ take-length token in
+      let none : list_all is_ascii_digit token ≡ false = ap (list_all is_ascii_digit) (sym whole) ∙ list_all_kept is_ascii_digit token 19 not in
+      says_nothing token (fails_third (nat_lt 0 (length token)) (nat_le (length token) 20) (list_all is_ascii_digit token) (nat_lt (digits_value 10 token) (2 ^ 64)) none)
+
+  pub last_digit : list_all is_ascii_digit (take 19 token) ≡ true → (test : Bool) → (is_ascii_digit (get_or token 19 0) && nat_lt (longer token 19 inside) (2 ^ 64)) ≡ test
+      → cond test (Some (longer token 19 inside)) None ≡ word_of token
+  last_digit digits false is = sym (refused token 19 inside is)
+  last_digit digits true is =
+      let both = passed_both (is_ascii_digit (get_or token 19 0)) (nat_lt (longer token 19 inside) (2 ^ 64)) is in
+      let fits : digits_value 10 (take 20 token) < 2 ^ 64 = rw (longer_is token 19 inside) (ltb-true (longer token 19 inside) (2 ^ 64) both.1) in
+      sym (says_number token 20 (sym twenty) (omega arith) (omega arith) (one_more token 19 inside digits both.0) fits ∙ ap Some (longer_is token 19 inside))
