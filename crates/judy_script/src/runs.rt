@@ -13,7 +13,7 @@ use judy_pipe::{MemSource, Sink, Source, SourceTrouble, read_some};
 use judy_shelf::Shelf;
 
 // How many bytes are read at once.
-const PIECE_LEN: usize = 16384;
+const PIECE_LEN: usize = 65536;
 
 /// Runs the script that a source gives, in whatever pieces it comes: each line is executed, then its answer
 /// is written whole, then the next line begins. No more than a piece and a line are kept of the script.
