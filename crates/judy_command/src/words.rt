@@ -1,43 +1,75 @@
 //! Words as tokens say them and as answers.
 
-ghost use Rattle.std.specs.Prelude.{◌≡◌, ◌<◌, ◌^◌, length, IsTrue, nat_lt, if◌then◌else◌, Some, None};
+ghost use Rattle.std.specs.Prelude.{◌≡◌, ◌<◌, ◌≤◌, ◌+◌, ◌*◌, ◌^◌, ◌&&◌, length, nat_lt, if◌then◌else◌, Some, None, IfSome};
+ghost use Rattle.std.specs.Char.{is_ascii_digit, digit_value};
+ghost use Rattle.std.specs.List.{list_all};
 ghost use Rattle.std.specs.Str.Parse.{digits_value};
+ghost use Rattle.judy_model.specs.Tokens.{word_of};
 ghost use Rattle.judy_command.specs.Replies.{checked, answer_of};
 ghost use Rattle.judy_model.specs.Commands as model;
 ghost use Rattle.judy_model.specs.Commands.{word_at};
-ghost use Rattle.std.specs.List.{list_all};
-ghost use Rattle.std.specs.Char.{is_ascii_digit};
 
 use crate::reply::{Answer, Refusal};
+
+// So many digits always write a word; one more may or may not.
+const SAFE_DIGITS: usize = 19;
 
 /// The word that a token says: 1 to 20 decimal digits with a number below 2^64. Else `BadWord`.
 pub(crate) fn word(token: &[u8]) -> Result<u64, Refusal>
     ensures { checked result ≡ word_at token.now }
 {
-    if token.is_empty() || token.len() > 20 || !are_digits(token) {
-        return Err(Refusal::BadWord);
-    }
-    number(token).ok_or(Refusal::BadWord)
+    let number = match token.len() {
+        0 => None,
+        1..=SAFE_DIGITS => short_number(token),
+        20 => long_number(token),
+        _ => None,
+    };
+    number.ok_or(Refusal::BadWord)
 }
 
-// The number that decimal digits write, if it is below 2^64.
-fn number(digits: &[u8]) -> Option<u64>
-    requires some { 0 < length digits.now }
-    requires digits { IsTrue (list_all is_ascii_digit digits.now) }
-    ensures { let value = digits_value 10 digits.now in
-        result ≡ (if nat_lt value (2 ^ 64) then Some value else None) }
+// The number of at most 19 decimal digits.
+fn short_number(digits: &[u8]) -> Option<u64>
+    requires { length digits.now ≤ 19 }
+    ensures { result ≡ (if list_all is_ascii_digit digits.now then Some (digits_value 10 digits.now) else None) }
 {
-    match str::from_utf8(digits) {
-        Ok(text) => text.parse::<u64>().ok(),
-        Err(_) => None,
+    let mut number = 0;
+    for byte in digits {
+        let Some(digit) = digit_of(*byte) else {
+            return None;
+        };
+        number = number * 10 + digit;
     }
+    Some(number)
 }
 
-// Whether each byte is a decimal digit.
-fn are_digits(token: &[u8]) -> bool
-    ensures { result ≡ list_all is_ascii_digit token.now }
+// The number of 20 decimal digits, where it is below 2^64.
+fn long_number(digits: &[u8]) -> Option<u64>
+    requires { length digits.now ≡ 20 }
+    ensures { result ≡ word_of digits.now }
 {
-    token.iter().all(|byte| byte.is_ascii_digit())
+    let front = short_number(&digits[..SAFE_DIGITS])?;
+    with_digit(front, digits[SAFE_DIGITS])
+}
+
+// The number that one more decimal digit makes of a number, where that is a digit and below 2^64.
+fn with_digit(number: u64, byte: u8) -> Option<u64>
+    ensures { let longer = number * 10 + digit_value byte in
+        result ≡ (if is_ascii_digit byte && nat_lt longer (2 ^ 64) then Some longer else None) }
+{
+    let digit = digit_of(byte)?;
+    number.checked_mul(10)?.checked_add(digit)
+}
+
+// The value of a decimal digit.
+fn digit_of(byte: u8) -> Option<u64>
+    ensures value { result ≡ (if is_ascii_digit byte then Some (digit_value byte) else None) }
+    ensures small { IfSome result (λ digit. digit < 10) }
+{
+    let digit = byte.wrapping_sub(b'0');
+    if digit > 9 {
+        return None;
+    }
+    Some(u64::from(digit))
 }
 
 /// The number that was found, or `none`.

@@ -3,7 +3,7 @@ use Rattle.std.proofs.Common.{◌≡◌, ℕ, ◌+◌, ◌-◌, ◌≤◌, List,
 use Rattle.std.specs.Prelude.{Result, Ok, Err, IfOk}
 use Rattle.std.specs.Result.{result_unwrap_or}
 use Rattle.std.proofs.Math.Seq.{take-add}
-use Rattle.std.proofs.lemmas.List.{take_rest, take_at}
+use Rattle.std.proofs.lemmas.List.{take_rest, take_at, drop-drop, take-append-drop}
 use Rattle.judy_pipe.specs.Pipe.{grown}
 
 -- two pieces in turn are the one piece of both
@@ -16,6 +16,26 @@ pub grown-next : (known : Option (List ℕ)) (bytes : List ℕ) (count n : ℕ) 
     grown (grown known (take count bytes)) (take n (take (length bytes - count) (drop count bytes))) ≡ grown known (take (count + n) bytes)
 grown-next known bytes count n =
     rw (take_rest bytes count, take-add count n bytes) (grown-grown known (take count bytes) (take n (drop count bytes)))
+
+-- of what stands from `start` on: the bytes up to `count`, and then the first `n` of what is left, are those up to `count + n`
+pub grown-on : (known : Option (List ℕ)) (bytes : List ℕ) (start count n : ℕ) → start ≤ count →
+    grown (grown known (take (count - start) (drop start bytes))) (take n (take (length bytes - count) (drop count bytes)))
+    ≡ grown known (take (count + n - start) (drop start bytes))
+grown-on known bytes start count n order =
+    let first = count - start in
+    let reached : start + first ≡ count = omega arith in
+    let in_all : count + n - start ≡ first + n = omega arith in
+    let rest : drop first (drop start bytes) ≡ drop count bytes = drop-drop first start bytes ∙ ap (λ at. drop at bytes) reached in
+    rw (take_rest bytes count, in_all, take-add first n (drop start bytes), rest) (grown-grown known (take first (drop start bytes)) (take n (drop count bytes)))
+
+-- of what stands from `start` on: the bytes up to `count`, and then those after it, are all of it
+pub grown-rest : (known : Option (List ℕ)) (bytes : List ℕ) (start count : ℕ) → start ≤ count →
+    grown (grown known (take (count - start) (drop start bytes))) (drop count bytes) ≡ grown known (drop start bytes)
+grown-rest known bytes start count order =
+    let first = count - start in
+    let reached : start + first ≡ count = omega arith in
+    let rest : drop first (drop start bytes) ≡ drop count bytes = drop-drop first start bytes ∙ ap (λ at. drop at bytes) reached in
+    rw (sym rest) (grown-grown known (take first (drop start bytes)) (drop first (drop start bytes)) ∙ ap (grown known) (take-append-drop first (drop start bytes)))
 
 -- an answer moved no more bytes than it was allowed
 pub moved_within : {E : Type 0} (answer : Result ℕ E) (most : ℕ) → IfOk answer (λ n. n ≤ most) → result_unwrap_or answer 0 ≤ most

@@ -1,6 +1,6 @@
 //! What takes bytes, and how a whole piece is written.
 
-ghost use Rattle.std.specs.Prelude.{◌≡◌, ℕ, ◌+◌, ◌-◌, ◌<◌, ◌≤◌, ◌^◌, List, Option, length, is_ok, if◌then◌else◌, IfOk, OnOk, OnErr};
+ghost use Rattle.std.specs.Prelude.{◌≡◌, ℕ, ◌+◌, ◌-◌, ◌<◌, ◌≤◌, ◌^◌, List, Option, length, take, drop, is_ok, if◌then◌else◌, IfOk, OnOk, OnErr};
 ghost use Rattle.judy_pipe.specs.Pipe.{grown, moved, GrewByFront};
 ghost use Rattle.judy_pipe.specs.Tally.{after_write};
 
@@ -25,6 +25,15 @@ pub trait Sink {
         ensures taken { taken self.new ≡ grown (taken self.old) (moved result piece.now) }
         ensures tally { tally self.new ≡ after_write (tally self.old) piece.now result };
 
+    /// Hands on what it keeps in a buffer of its own, where it has one: its bytes are then with whom it
+    /// writes to. It takes no byte by that. At the one error, `BrokenPipe`, it couldn't hand on all of
+    /// them and has exactly one failure more.
+    fn flush(&mut self) -> Result<(), BrokenPipe>
+        requires { (tally self.old).failures < 2 ^ 64 - 1 }
+        ensures taken { taken self.new ≡ taken self.old }
+        ensures failures { let before = (tally self.old).failures in
+            (tally self.new).failures ≡ (if is_ok result then before else before + 1) };
+
     /// The number of its failures so far.
     fn failures(&self) -> u64
         ensures { result ≡ (tally self.now).failures };
@@ -41,10 +50,30 @@ pub fn write_all<W: Sink>(sink: &mut W, bytes: &[u8]) -> Result<(), BrokenPipe>
     ensures failures { let before = (W.tally sink.old).failures in
         (W.tally sink.new).failures ≡ (if is_ok result then before else before + 1) }
 {
-    let before = sink.failures();
     let mut count = 0;
-    while count < bytes.len() {
-        count += sink.write(&bytes[count..]).unwrap_or(0);
+    write_on(sink, bytes, &mut count)
+}
+
+/// Writes what stands in `bytes` from place `count` on, trying an interrupted write again until the sink's
+/// failures rise; `count` then says how far it came.
+///
+/// At Ok it came to the end. At the one error, `BrokenPipe`, the sink has exactly one failure more.
+pub(crate) fn write_on<W: Sink>(
+    sink: &mut W,
+    bytes: &[u8],
+    count: &mut usize,
+) -> Result<(), BrokenPipe>
+    requires within { count.old ≤ length bytes.now }
+    requires failures { (W.tally sink.old).failures < 2 ^ 64 - 1 }
+    ensures within { (count.old ≤ count.new) × (count.new ≤ length bytes.now) }
+    ensures taken { W.taken sink.new ≡ grown (W.taken sink.old) (take (count.new - count.old) (drop count.old bytes.now)) }
+    ensures ok { OnOk result (count.new ≡ length bytes.now) }
+    ensures failures { let before = (W.tally sink.old).failures in
+        (W.tally sink.new).failures ≡ (if is_ok result then before else before + 1) }
+{
+    let before = sink.failures();
+    while *count < bytes.len() {
+        *count += sink.write(&bytes[*count..]).unwrap_or(0);
         if sink.failures() > before {
             return Err(BrokenPipe);
         }

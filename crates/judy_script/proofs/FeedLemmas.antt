@@ -1,6 +1,7 @@
 -- A run that is fed piece by piece.
 use Rattle.std.proofs.Common.{◌≡◌, ℕ, ◌<◌, Bool, true, false, ◌&&◌, List, [], ◌∷◌, ◌++◌, length, take, Option, Some, None, refl, sym, ap, ◌∙◌, arith, append_assoc, append-nil}
 use Rattle.std.specs.Prelude.{flat_map, Result, Ok, Err, OnErr}
+use Rattle.std.proofs.Math.Seq.{take-length}
 use Rattle.std.specs.List.{list_all}
 use Rattle.std.proofs.lemmas.List.Folds.{list_all-append}
 use Rattle.judy_model.specs.Lines.{Line, lines_of}
@@ -183,6 +184,12 @@ module _ (piece rest : List ℕ) (buffer_before buffer : LineBuffer) (taken_befo
       let here = feeding.fed first fed before so_far in
       rw (piece_is head after cut.0, ← append_assoc fed feeding.done (head ++ 10 ∷ after))
       (RanInWholeLines-line first (fed ++ feeding.done) before buffer taken store here head after taken_after store_after cut.1 (served here.rest here.holds))
+
+-- a line whose answer was written whole was answered in part, by all of it
+pub Served-in_part : (before : Store) (line : Line) (taken_before taken_after : Option (List ℕ)) (after : Store) → Served before line taken_before taken_after after → ServedInPart before line taken_before taken_after after
+Served-in_part before line taken_before taken_after after served =
+    let output = output_of served.reply in
+    record { reply = served.reply; step = served.step; written = (length output, omega arith, rw (take-length output) served.written) }
 
 -- a run that was cut off in whole lines was cut off in any script that begins with them
 pub RanInPart-longer : (first : Store) (closed later : List ℕ) (before taken : Option (List ℕ)) (now : Store) → are_whole_lines closed ≡ true → RanInPart first closed before taken now → RanInPart first (closed ++ later) before taken now

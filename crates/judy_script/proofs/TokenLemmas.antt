@@ -1,9 +1,15 @@
 -- The tokens of a text by its first space.
-use Rattle.std.proofs.Common.{◌≡◌, ℕ, ◌<◌, Bool, true, false, cond, not, ◌&&◌, ◌==◌, nat_lt, List, [], ◌∷◌, ◌++◌, length, Option, Some, None, refl, sym, ap, arith, length-append}
+use Rattle.std.proofs.Common.{◌≡◌, ℕ, ◌<◌, Bool, true, false, cond, not, ◌&&◌, ◌==◌, nat_lt, List, [], ◌∷◌, ◌++◌, length, Option, Some, None, refl, sym, ap, arith, length-append, take, drop, get_or, zero, suc, ◌∙◌, ◌≤◌}
 use Rattle.std.specs.Prelude.{filter, unwrap_or}
 use Rattle.std.specs.List.{slice_split, onto_first}
+use Rattle.std.proofs.Common.{◌+◌, add-one, drop-cons}
+use Rattle.std.proofs.Math.Seq.{take-length, drop-length}
+use Rattle.std.proofs.lemmas.List.{length-take-le, length-drop, get_or-drop}
+use Rattle.std.proofs.lemmas.Bool.{lt-ltb, ltb-true, ltb-false, eqb-true}
 use Rattle.judy_model.specs.Tokens.{tokens_of}
-use Rattle.judy_script.specs.Cuts.{is_without, IsCutAt}
+use Rattle.judy_script.proofs.CutLemmas.{around_place}
+use Rattle.std.specs.List.{list_all}
+use Rattle.judy_script.specs.Cuts.{is_without, IsCutAt, is_space}
 
 first_of_both : (a b : Bool) → (a && b) ≡ true → a ≡ true
 first_of_both true b h = refl
@@ -38,7 +44,52 @@ tokens_of-cut text piece None h =
 tokens_of-cut text piece (Some rest) h =
     rw h.0 (ap (filter (λ token. nat_lt 0 (length token))) (slice_split-at 32 piece rest h.1 refl))
 
--- what stands after the cut is shorter than a text that isn't empty
-pub shorter_after : (text piece : List ℕ) (after : Option (List ℕ)) → IsCutAt 32 text piece after → 0 < length text → length (unwrap_or after []) < length text
-shorter_after text piece None h some = some
-shorter_after text piece (Some rest) h some = rw h.0 (omega (arith, length-append piece (32 ∷ rest)))
+-- spaces at the front of a text are no part of a token
+pub tokens_of-spaces : (text : List ℕ) (count : ℕ) → list_all (is_space true) (take count text) ≡ true → tokens_of (drop count text) ≡ tokens_of text
+tokens_of-spaces text zero h = refl
+tokens_of-spaces [] (suc count) h = refl
+tokens_of-spaces (byte ∷ text) (suc count) h =
+    let space : (byte == 32) ≡ true = first_of_both (byte == 32) _ h in
+    tokens_of-spaces text count (second_of_both (byte == 32) _ h) ∙ rw space refl
+
+is_the_space : (b : Bool) → not b ≡ false → b ≡ true
+is_the_space true h = refl
+is_the_space false h = sym h
+
+-- what stands before the first space of a text that begins with none is its first token
+pub tokens_of-front : (text : List ℕ) (count : ℕ) → 0 < count → count ≤ length text → list_all (is_space false) (take count text) ≡ true
+    → (count < length text → is_space false (get_or text count 0) ≡ false) → tokens_of text ≡ take count text ∷ tokens_of (drop count text)
+tokens_of-front text count some within front end =
+    elim (nat_lt count (length text)) as (λ b. nat_lt count (length text) ≡ b → tokens_of text ≡ take count text ∷ tokens_of (drop count text)) [
+      | true ↦ λ inside. to_space (ltb-true count (length text) inside)
+      | false ↦ λ outside. to_end (omega (arith, ltb-false count (length text) outside))
+    ] refl
+  where
+    is_token : nat_lt 0 (length (take count text)) ≡ true
+    is_token = lt-ltb 0 (length (take count text)) (omega (arith, length-take-le count text within))
+
+    to_space : count < length text → tokens_of text ≡ take count text ∷ tokens_of (drop count text)
+    to_space inside =
+        let space : (get_or text count 0 == 32) ≡ true = is_the_space (get_or text count 0 == 32) (end inside) in
+        let there : get_or text count 0 ≡ 32 = eqb-true (get_or text count 0) 32 space in
+        let rest : drop count text ≡ 32 ∷ drop (count + 1) text = drop-cons text count 0 inside ∙ rw (there, add-one) refl in
+        tokens_of-cut text (take count text) (Some (drop (count + 1) text)) (around_place 32 text count inside space, front) ∙ rw (is_token, rest) refl
+
+    to_end : count ≡ length text → tokens_of text ≡ take count text ∷ tokens_of (drop count text)
+    to_end all =
+        let whole : take count text ≡ text = ap (λ n. take n text) all ∙ take-length text in
+        let none : drop count text ≡ [] = ap (λ n. drop n text) all ∙ drop-length text in
+        tokens_of-cut text (take count text) None (sym whole, front) ∙ rw (is_token, none) refl
+
+one_of_both : (b : Bool) → b ≡ false → not b ≡ false → ⊥
+one_of_both true h k = cc
+one_of_both false h k = cc
+
+-- behind the spaces at the front of a text its first token has a byte
+pub token_begins : (text : List ℕ) (spaces count : ℕ) → spaces < length text → is_space true (get_or text spaces 0) ≡ false
+    → (count < length (drop spaces text) → is_space false (get_or (drop spaces text) count 0) ≡ false) → 0 < count
+token_begins text spaces zero inside first end =
+    let some : 0 < length (drop spaces text) = omega (arith, length-drop spaces text) in
+    let same : get_or (drop spaces text) 0 0 ≡ get_or text spaces 0 = get_or-drop spaces text 0 0 ∙ ap (λ at. get_or text at 0) (omega arith) in
+    absurd (one_of_both (get_or text spaces 0 == 32) first (ap (λ byte. not (byte == 32)) (sym same) ∙ end some))
+token_begins text spaces (suc count) inside first end = omega arith

@@ -1,6 +1,6 @@
 //! The engine of a run: it is fed the script in whatever pieces it comes.
 
-ghost use Rattle.std.specs.Prelude.{◌≡◌, ℕ, ◌+◌, ◌-◌, ◌<◌, ◌^◌, true, List, [], ◌++◌, Option, is_ok, if◌then◌else◌, IfErr, OnOk, OnErr};
+ghost use Rattle.std.specs.Prelude.{◌≡◌, ℕ, ◌+◌, ◌-◌, ◌<◌, ◌^◌, true, List, [], ◌++◌, Option, is_ok, if◌then◌else◌, IsTrue, IfOk, IfErr, OnOk, OnErr};
 ghost use Rattle.judy_model.specs.Stores.{Store};
 ghost use Rattle.judy_model.specs.Replies.{output_of};
 ghost use Rattle.judy_model.specs.Steps.{Step};
@@ -39,10 +39,48 @@ impl Buffers {
 }
 
 /// Feeds a piece of the script: the lines that end in it are executed and answered one by one, and what
-/// comes after the last of them is kept.
+/// comes after the last of them is kept. Answers whether a line ended in it.
 ///
 /// The one fault is `Write`: the shelf is then as after the line whose answer was being written.
 pub(crate) fn feed<W: Sink>(
+    piece: &[u8],
+    buffers: &mut Buffers,
+    shelf: &mut Shelf,
+    sink: &mut W,
+) -> Result<bool, RunFault>
+    requires { (W.tally sink.old).failures < 2 ^ 64 - 1 }
+    ensures ok { OnOk result ((first : Store) (fed : List ℕ) (before : Option (List ℕ)) →
+        Fed first fed before buffers.old.line (W.taken sink.old) (store_of shelf.old) →
+        Fed first (fed ++ piece.now) before buffers.new.line (W.taken sink.new) (store_of shelf.new)) }
+    // Should the answers not get out, the last line that ended is the one whose answer was being written.
+    ensures last { IfOk result (λ ended. IsTrue ended → (first : Store) (fed : List ℕ) (before : Option (List ℕ)) →
+        Fed first fed before buffers.old.line (W.taken sink.old) (store_of shelf.old) →
+        RanInWholeLines first (fed ++ piece.now) before (W.taken sink.new) (store_of shelf.new)) }
+    ensures err { OnErr result ((first : Store) (fed : List ℕ) (before : Option (List ℕ)) →
+        Fed first fed before buffers.old.line (W.taken sink.old) (store_of shelf.old) →
+        RanInWholeLines first (fed ++ piece.now) before (W.taken sink.new) (store_of shelf.new)) }
+    ensures fault { IfErr result (λ fault. fault ≡ Write) }
+    ensures failures { let before = (W.tally sink.old).failures in
+        (W.tally sink.new).failures ≡ (if is_ok result then before else before + 1) }
+{
+    let mut rest = piece;
+    'lines: loop {
+        let (head, after) = cut_at(rest, b'\n');
+        let Some(after) = after else {
+            buffers.line.push(head);
+            return Ok(rest.len() < piece.len());
+        };
+        end_line(head, buffers, shelf, sink)?;
+        rest = after;
+    }
+}
+
+/// Feeds a piece of the script and hands the answers of its lines on: the next read may wait for whoever
+/// waits for them.
+///
+/// The one fault is `Write`: the shelf is then as after the line whose answer was being written, which is
+/// the last one where the answers couldn't be handed on.
+pub(crate) fn serve<W: Sink>(
     piece: &[u8],
     buffers: &mut Buffers,
     shelf: &mut Shelf,
@@ -59,15 +97,13 @@ pub(crate) fn feed<W: Sink>(
     ensures failures { let before = (W.tally sink.old).failures in
         (W.tally sink.new).failures ≡ (if is_ok result then before else before + 1) }
 {
-    let mut rest = piece;
-    'lines: loop {
-        let (head, after) = cut_at(rest, b'\n');
-        let Some(after) = after else {
-            buffers.line.push(head);
-            return Ok(());
-        };
-        end_line(head, buffers, shelf, sink)?;
-        rest = after;
+    let ended = feed(piece, buffers, shelf, sink)?;
+    if !ended {
+        return Ok(());
+    }
+    match sink.flush() {
+        Ok(()) => Ok(()),
+        Err(_) => Err(RunFault::Write),
     }
 }
 

@@ -7,24 +7,26 @@ ghost use Rattle.judy_script.specs.declared.fault.RunFault.TheVariants.{Write};
 ghost use Rattle.judy_script.specs.Feeds.{Ran, RanInPart};
 ghost use Rattle.judy_script.specs.RunEnds.{RanToEnd, LeftBy, read_failures, write_failures};
 
-use crate::engine::{Buffers, feed, finish};
+use crate::engine::{Buffers, feed, finish, serve};
 use crate::fault::RunFault;
 use judy_pipe::{MemSource, Sink, Source, SourceTrouble, read_some};
 use judy_shelf::Shelf;
 
 // How many bytes are read at once.
-const PIECE_LEN: usize = 16384;
+const PIECE_LEN: usize = 65536;
 
 /// Runs the script that a source gives, in whatever pieces it comes: each line is executed, then its answer
 /// is written whole, then the next line begins. No more than a piece and a line are kept of the script.
+/// Before it asks the source for more, it flushes the sink where a line was answered, so that whoever waits
+/// for an answer before giving the next line gets it. The last answers are for the caller to flush.
 ///
 /// At Ok the source gave at most `max_bytes` bytes and then the end, and the shelf and what was written are
 /// those of a run of these bytes by the definitions. Else the fault is
 /// - `Read`, where the source failed: the lines whose LF was read before are executed and answered, and
 ///   nothing else is done;
 /// - `TooLong`, where it gave more than `max_bytes` bytes: the same for the first `max_bytes` of them;
-/// - `Write`, where the sink failed: the shelf is as after the line whose answer was being written, and
-///   written are the answers before it and a front of its own.
+/// - `Write`, where the sink failed, a flush included: the shelf is as after the line whose answer was being
+///   written, and written are the answers before it and a front of its own.
 ///
 /// Neither must have failed `u64::MAX` times before; a fault adds one failure to the one that failed.
 pub fn run<R: Source, W: Sink>(
@@ -59,11 +61,11 @@ pub fn run<R: Source, W: Sink>(
         }
         if count as u64 > left {
             return match feed(&room[..left as usize], &mut buffers, shelf, sink) {
-                Ok(()) => Err(RunFault::TooLong),
+                Ok(_) => Err(RunFault::TooLong),
                 Err(_) => Err(RunFault::Write),
             };
         }
-        match feed(&room[..count], &mut buffers, shelf, sink) {
+        match serve(&room[..count], &mut buffers, shelf, sink) {
             Ok(()) => left -= count as u64,
             Err(_) => return Err(RunFault::Write),
         }

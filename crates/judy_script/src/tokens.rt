@@ -1,7 +1,9 @@
 //! Tokens of a line.
 
-ghost use Rattle.std.specs.Prelude.{◌≡◌, [], ◌∷◌, map, take, MatchOption};
+ghost use Rattle.std.specs.Prelude.{◌≡◌, ◌<◌, ◌≤◌, [], ◌∷◌, length, get_or, map, take, IsTrue, IsFalse, MatchOption};
+ghost use Rattle.std.specs.List.{list_all};
 ghost use Rattle.judy_model.specs.Tokens.{tokens_of};
+ghost use Rattle.judy_script.specs.Cuts.{is_space};
 
 use crate::cut::cut_at;
 use arrayvec::ArrayVec;
@@ -29,13 +31,26 @@ pub(crate) fn split(text: &[u8]) -> Tokens<'_>
 fn first_token(text: &[u8]) -> Option<(&[u8], &[u8])>
     ensures { MatchOption result (tokens_of text.now ≡ []) (λ found. tokens_of text.now ≡ found.0.now ∷ tokens_of found.1.now) }
 {
-    let mut rest = text;
-    while !rest.is_empty() {
-        let (piece, after) = cut_at(rest, b' ');
-        rest = after.unwrap_or(&[]);
-        if !piece.is_empty() {
-            return Some((piece, rest));
-        }
+    let text = &text[front_len(text, true)..];
+    if text.is_empty() {
+        return None;
     }
-    None
+    Some(text.split_at(front_len(text, false)))
+}
+
+// How many bytes stand at the front of a text that all are spaces, or all are none. Tokens are short, so that
+// a loop is done sooner than a search made for long texts.
+fn front_len(text: &[u8], spaces: bool) -> usize
+    ensures within { result ≤ length text.now }
+    ensures front { IsTrue (list_all (is_space spaces) (take result text.now)) }
+    ensures end { result < length text.now → IsFalse (is_space spaces (get_or text.now result 0)) }
+{
+    let mut count = 0;
+    for byte in text {
+        if (*byte == b' ') != spaces {
+            return count;
+        }
+        count += 1;
+    }
+    count
 }

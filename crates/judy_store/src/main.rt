@@ -11,9 +11,9 @@ mod pipes;
 
 use crate::end::{End, status, write_line};
 use crate::pipes::{ReadSource, WriteSink};
+use judy_pipe::{BufferedSink, Sink};
 use judy_script::{RunFault, run};
 use judy_shelf::Shelf;
-use std::io::BufWriter;
 use std::process::ExitCode;
 
 // The most bytes of a script. (This project's own.)
@@ -29,30 +29,18 @@ fn main(rt: HostRuntime) -> ExitCode {
     ExitCode::from(status(&end))
 }
 
-// Runs the script of standard input over an empty store. The answers already given are flushed also where
-// the run ends for want of more script; where the writer failed, nothing more is flushed.
+// Runs the script of standard input over an empty store. The answers already given are handed on also where
+// the run ends for want of more script; where the writer failed, nothing more is.
 fn run_store(rt: &HostRuntime) -> End {
-    let alloc = rt.alloc();
-    let Ok(output) = BufWriter::with_capacity(alloc, OUTPUT_LEN, rt.stdout()) else {
-        return End::NoMemory;
-    };
     let mut source = ReadSource::new(rt.stdin());
-    let mut sink = WriteSink::new(output);
-    match run(
-        &mut source,
-        &mut Shelf::new(alloc),
-        &mut sink,
-        MAX_SCRIPT_LEN,
-    ) {
+    let mut sink = BufferedSink::<_, OUTPUT_LEN>::new(WriteSink::new(rt.stdout()));
+    let mut shelf = Shelf::new(rt.alloc());
+    match run(&mut source, &mut shelf, &mut sink, MAX_SCRIPT_LEN) {
         Ok(()) => match sink.flush() {
             Ok(()) => End::Done,
             Err(_) => End::Run(RunFault::Write),
         },
-        Err(RunFault::Write) => {
-            // The output's buffer would be flushed where it is dropped: it is let go beside its writer.
-            let _ = sink.into_inner().into_parts();
-            End::Run(RunFault::Write)
-        }
+        Err(RunFault::Write) => End::Run(RunFault::Write),
         Err(fault) => {
             let _ = sink.flush();
             End::Run(fault)

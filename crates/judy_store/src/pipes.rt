@@ -3,7 +3,7 @@
 ghost use Rattle.std.specs.Prelude.{◌≡◌, None};
 ghost use Rattle.judy_pipe.specs.Tally.{new_tally};
 
-use judy_pipe::{Sink, Source, Stop, Tally};
+use judy_pipe::{BrokenPipe, Sink, Source, Stop, Tally};
 use std::io;
 use std::io::{ErrorKind, Read, Write};
 
@@ -66,20 +66,6 @@ impl<W: Write> WriteSink<W> {
         }
     }
 
-    /// The writer itself.
-    pub fn into_inner(self) -> W
-        ensures { result ≡ self.inner }
-    {
-        self.inner
-    }
-
-    /// Hands on what the writer keeps in a buffer of its own. That is no write of this sink: its failures
-    /// stay.
-    pub fn flush(&mut self) -> io::Result<()>
-        ensures { self.new.tally ≡ self.old.tally }
-    {
-        self.inner.flush()
-    }
 }
 
 impl<W: Write> Sink for WriteSink<W> {
@@ -91,6 +77,19 @@ impl<W: Write> Sink for WriteSink<W> {
         let answer = self.inner.write(piece).map_err(stop_of);
         self.tally.count_write(piece, &answer);
         answer
+    }
+
+    fn flush(&mut self) -> Result<(), BrokenPipe> {
+        let before = self.tally.failures;
+        loop {
+            match self.inner.flush() {
+                Ok(()) => return Ok(()),
+                Err(error) => self.tally.stopped(stop_of(error)),
+            }
+            if self.tally.failures > before {
+                return Err(BrokenPipe);
+            }
+        }
     }
 
     fn failures(&self) -> u64 {

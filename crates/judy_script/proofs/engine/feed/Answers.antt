@@ -1,15 +1,18 @@
-use Rattle.std.proofs.Common.{refl, ◌∙◌}
-use Rattle.judy_script.proofs.FeedLemmas.{Feeding-nothing, Feeding-line, Feeding-rest, Feeding-cut, on_err_holds}
+use Rattle.std.proofs.Common.{refl, ◌∙◌, arith}
+use Rattle.judy_script.proofs.FeedLemmas.{Feeding-nothing, Feeding-line, Feeding-rest, Feeding-cut, Served-in_part, on_err_holds}
 use Rattle.judy_script.proofs.engine.feed.Goals as goal
 
 pub lines-init : goal.lines-init
-lines-init g c = record { feeding = Feeding-nothing _ _ _ _; failures = refl }
+lines-init g c = record { feeding = Feeding-nothing _ _ _ _; last = λ shorter. absurd (omega arith); failures = refl }
 
 pub lines-preserved : goal.lines-preserved
 lines-preserved g c = record {
   feeding =
       Feeding-line _ _ _ _ _ _ _ _ c.lines.invariant.feeding c.cut_at.result.0.now c.in-Some.after.now c.end_line.new.buffers.line _ _
       (rw c.in-Some.is at c.cut_at.ensures) c.end_line.ensures.cleared c.in_ok-end_line.ensures.ok;
+  last = λ _.
+      Feeding-cut _ _ _ _ _ _ _ _ c.lines.invariant.feeding c.cut_at.result.0.now c.in-Some.after.now _ _ (rw c.in-Some.is at c.cut_at.ensures)
+      (λ kept holds. Served-in_part _ _ _ _ _ (c.in_ok-end_line.ensures.ok kept holds));
   failures = c.in_ok-end_line.ensures.failures ∙ c.lines.invariant.failures;
 }
 

@@ -23,14 +23,14 @@ returns-in-Err-feed-clause-left g c =
 pub pieces-preserved : goal.pieces-preserved
 pieces-preserved g c = record {
   reading =
-      Reading-piece _ _ _ _ _ _ _ _ _ _ _ c.pieces.invariant.reading c.read_some.new.room c.in-Ok.count _ c.in-Ok.ensures.given (omega (arith, c.in-Ok.ensures.count, c.read_some.auto.room)) _ _ _ _ _ c.in-Ok.ensures.ended c.if-count-left.false c.in-Ok-feed-2.ensures.ok;
+      Reading-piece _ _ _ _ _ _ _ _ _ _ _ c.pieces.invariant.reading c.read_some.new.room c.in-Ok.count _ c.in-Ok.ensures.given (omega (arith, c.in-Ok.ensures.count, c.read_some.auto.room)) _ _ _ _ _ c.in-Ok.ensures.ended c.if-count-left.false c.in-Ok-serve.ensures.ok;
   room = c.read_some.auto.room ∙ c.pieces.invariant.room;
   read_failures = c.in-Ok.ensures.failures ∙ c.pieces.invariant.read_failures;
-  write_failures = c.in-Ok-feed-2.ensures.failures ∙ c.pieces.invariant.write_failures;
+  write_failures = c.in-Ok-serve.ensures.failures ∙ c.pieces.invariant.write_failures;
   content = c.in-Ok.ensures.content ∙ c.pieces.invariant.content;
   unfailing = c.in-Ok.ensures.unfailing ∙ c.pieces.invariant.unfailing;
 }
 
-pub returns-in-Err-feed-2-clause-left : goal.returns-in-Err-feed-2-clause-left
-returns-in-Err-feed-2-clause-left g c =
-    CutAtWrite-piece _ _ _ _ _ _ _ _ _ _ _ c.pieces.invariant.reading c.read_some.new.room c.in-Ok.count _ c.in-Ok.ensures.given (omega (arith, c.in-Ok.ensures.count, c.read_some.auto.room)) _ _ _ c.if-count-left.false c.in-Err-feed-2.ensures.err
+pub returns-in-Err-serve-clause-left : goal.returns-in-Err-serve-clause-left
+returns-in-Err-serve-clause-left g c =
+    CutAtWrite-piece _ _ _ _ _ _ _ _ _ _ _ c.pieces.invariant.reading c.read_some.new.room c.in-Ok.count _ c.in-Ok.ensures.given (omega (arith, c.in-Ok.ensures.count, c.read_some.auto.room)) _ _ _ c.if-count-left.false c.in-Err-serve.ensures.err

@@ -8,7 +8,7 @@ invariant-pieces g l = record {
   reading :
       Reading (store_of l.fn.shelf) l.max_bytes l.left (g.R.Source.given l.fn.source) (g.R.Source.given l.source) (g.R.Source.ended l.fn.source) (g.R.Source.ended l.source)
       l.buffers.line (g.W.Sink.taken l.fn.sink) (g.W.Sink.taken l.sink) (store_of l.shelf);
-  room : length l.room ≡ 16384;
+  room : length l.room ≡ 65536;
   read_failures : (g.R.Source.tally l.source).failures ≡ (g.R.Source.tally l.fn.source).failures;
   write_failures : (g.W.Sink.tally l.sink).failures ≡ (g.W.Sink.tally l.fn.sink).failures;
   content : g.R.Source.content l.source ≡ g.R.Source.content l.fn.source;

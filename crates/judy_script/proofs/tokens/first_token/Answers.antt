@@ -1,16 +1,31 @@
-use Rattle.std.proofs.Common.{◌≡◌, ◌∷◌, nat_lt, length, Option, Some, None, Bor, refl, sym, ap, ◌∙◌, rules, true}
-use Rattle.std.specs.Prelude.{unwrap_or, option_copied}
-use Rattle.std.proofs.lemmas.Bool.{lt-ltb}
+use Rattle.std.proofs.Common.{◌≡◌, ◌<◌, length, [], ◌∷◌, refl, sym, ap, subst, ◌∙◌, arith, take, drop, get_or, length-drop, ◌-◌, List, ℕ, ◌≤◌}
+use Rattle.std.proofs.lemmas.List.{take_rest}
 use Rattle.judy_model.specs.Tokens.{tokens_of}
-use Rattle.judy_script.proofs.TokenLemmas.{tokens_of-cut}
+use Rattle.judy_script.proofs.TokenLemmas.{tokens_of-spaces, tokens_of-front, token_begins}
 use Rattle.judy_script.proofs.tokens.first_token.Goals as goal
 
-pointed_to : {A : Type 0} (o : Option (Bor A)) (d : Bor A) → (unwrap_or o d).now ≡ unwrap_or (option_copied o) d.now
-pointed_to None d = refl
-pointed_to (Some text) d = refl
+pub returns-then-is_empty : goal.returns-then-is_empty
+returns-then-is_empty c =
+    let text = c.args.text.now in
+    let spaces = c.front_len.result in
+    let none : length (drop spaces text) ≡ 0 = grind (arith, take_rest text spaces, c.is_empty.ensures, c.if-is_empty.true) in
+    sym (tokens_of-spaces text spaces c.front_len.ensures.front) ∙ ap tokens_of (empty (drop spaces text) none)
+  where
+    empty : (bytes : List ℕ) → length bytes ≡ 0 → bytes ≡ []
+    empty [] h = refl
+    empty (byte ∷ bytes) h = absurd (omega arith)
 
-pub returns-then-not-is_empty : goal.returns-then-not-is_empty
-returns-then-not-is_empty c =
-    let some : nat_lt 0 (length c.cut_at.result.0.now) ≡ true = lt-ltb _ _ (search rules) in
-    sym c.loop-rest.invariant ∙ tokens_of-cut c.loop-rest.rest.now c.cut_at.result.0.now (option_copied c.cut_at.result.1) c.cut_at.ensures
-    ∙ rw some (ap (λ rest. c.cut_at.result.0.now ∷ tokens_of rest) (sym (ap (λ text. text.now) c.unwrap_or-rest.ensures ∙ pointed_to c.cut_at.result.1 _)))
+pub returns : goal.returns
+returns c =
+    let text = c.args.text.now in
+    let spaces = c.front_len.result in
+    let count = c.front_len-2.result in
+    let rest = take (length text - spaces) (drop spaces text) in
+    let is_rest : rest ≡ drop spaces text = take_rest text spaces in
+    let some : 0 < length rest = grind (arith, c.is_empty.ensures, c.if-is_empty.false) in
+    let inside : spaces < length text = omega (arith, some, ap length is_rest, length-drop spaces text) in
+    let begins : 0 < count = token_begins text spaces count inside (c.front_len.ensures.end inside) (rw (← is_rest) c.front_len-2.ensures.end) in
+    sym (tokens_of-spaces text spaces c.front_len.ensures.front)
+    ∙ ap tokens_of (sym is_rest)
+    ∙ tokens_of-front rest count begins c.front_len-2.ensures.within c.front_len-2.ensures.front c.front_len-2.ensures.end
+    ∙ rw (c.split_at.ensures.front, c.split_at.ensures.back) refl

@@ -1,12 +1,13 @@
-use Rattle.std.proofs.Common.{length, take, ◌-◌, ◌≡◌, ◌+◌, ◌≤◌, ◌*◌}
+use Rattle.std.proofs.Common.{length, take, drop, ◌-◌, ◌≡◌, ◌+◌, ◌≤◌, ◌*◌}
 use Rattle.judy_pipe.specs.Pipe.{grown}
-use Rattle.judy_pipe.proofs.sink.write_all.Given as goal
+use Rattle.judy_pipe.proofs.sink.write_on.Given as goal
 
--- so far the first `count` bytes were taken, and no failure was counted
+-- so far the bytes from the first place up to `count` were taken, and no failure was counted
 abbrev pub invariant-loop-count : goal.invariant-loop-count
 invariant-loop-count g l = record {
+  begun : l.fn.count ≤ l.count;
   within : l.count ≤ length l.bytes;
-  taken : g.W.Sink.taken l.sink ≡ grown (g.W.Sink.taken l.fn.sink) (take l.count l.bytes);
+  taken : g.W.Sink.taken l.sink ≡ grown (g.W.Sink.taken l.fn.sink) (take (l.count - l.fn.count) (drop l.fn.count l.bytes));
   failures : (g.W.Sink.tally l.sink).failures ≡ l.before;
   before : l.before ≡ (g.W.Sink.tally l.fn.sink).failures;
 }

@@ -2,9 +2,9 @@ use Rattle.std.proofs.Common.{◌≡◌, ◌-◌, ◌≤◌, ◌<◌, ◌∙◌,
 use Rattle.std.specs.Result.{result_unwrap_or}
 use Rattle.std.proofs.lemmas.List.{take_rest}
 use Rattle.judy_pipe.specs.Pipe.{grown}
-use Rattle.judy_pipe.proofs.Moves.{grown-next, moved_within}
+use Rattle.judy_pipe.proofs.Moves.{grown-on, moved_within}
 use Rattle.judy_pipe.proofs.Counts.{after_write-failures, after_write-fewer}
-use Rattle.judy_pipe.proofs.sink.write_all.Goals as goal
+use Rattle.judy_pipe.proofs.sink.write_on.Goals as goal
 
 length_rest : (bytes : List ℕ) (count : ℕ) → length (take (length bytes - count) (drop count bytes)) ≡ length bytes - count
 length_rest bytes count = rw take_rest (length-drop count bytes)
@@ -18,8 +18,9 @@ loop-count-preserved g c =
     let grew = after_write-failures (g.W.Sink.tally c.loop-count.sink) piece c.write.result in
     let rest = length_rest bytes count in
     record {
+      begun = omega (arith, c.loop-count.invariant.begun);
       within = omega arith;
-      taken = rw c.unwrap_or-count.ensures (c.write.ensures.taken ∙ ap (λ known. grown known (take (result_unwrap_or c.write.result 0) piece)) c.loop-count.invariant.taken ∙ grown-next (g.W.Sink.taken c.args.sink.now) bytes count (result_unwrap_or c.write.result 0));
+      taken = rw c.unwrap_or.ensures (c.write.ensures.taken ∙ ap (λ known. grown known (take (result_unwrap_or c.write.result 0) piece)) c.loop-count.invariant.taken ∙ grown-on (g.W.Sink.taken c.args.sink.now) bytes c.args.count.now count (result_unwrap_or c.write.result 0) c.loop-count.invariant.begun);
       failures = omega (arith, ap (λ t. t.failures) c.write.ensures.tally);
       before = c.loop-count.invariant.before;
     }
