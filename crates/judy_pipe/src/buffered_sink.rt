@@ -64,6 +64,8 @@ impl<W: Sink + Drop, const N: usize> Sink for BufferedSink<W, N> {
 
     ghost taken = { λ s. grown (W.taken s.inner) (drop s.sent s.held.items) };
 
+    ghost kept = { λ s. drop s.sent s.held.items };
+
     ghost tally = { λ s. record { failures = (W.tally s.inner).failures; interruptions = 0 } };
 
     // Interruptions are tried again while it hands on, and counted there.

@@ -1,6 +1,6 @@
 //! A sink over a fixed buffer, for tests and for callers that want the bytes in hand.
 
-ghost use Rattle.std.specs.Prelude.{◌≡◌, ℕ, ◌+◌, ◌-◌, ◌<◌, ◌≤◌, ◌^◌, List, [], ◌++◌, length, Some, IfOk, IsOk, is_ok, if◌then◌else◌, take};
+ghost use Rattle.std.specs.Prelude.{◌≡◌, ℕ, ◌+◌, ◌-◌, ◌<◌, ◌≤◌, ◌^◌, List, [], ◌++◌, length, Some, IfOk, take};
 ghost use Rattle.judy_pipe.specs.declared.mem_sink.SinkTrouble.TheVariants.{Never};
 ghost use Rattle.judy_pipe.specs.Pipe.{grown, moved};
 ghost use Rattle.judy_pipe.specs.Tally.{new_tally, after_write};
@@ -147,15 +147,8 @@ impl<const N: usize> Sink for MemSink<N> {
         answer
     }
 
-    // It writes to nobody: what it took is where it stays.
-    fn flush(&mut self) -> Result<(), BrokenPipe>
-        requires { (sink_tally self.old).failures < 2 ^ 64 - 1 }
-        ensures same { self.new ≡ self.old }
-        ensures ok { IsOk result }
-        ensures taken { Some (taken_bytes self.new) ≡ Some (taken_bytes self.old) }
-        ensures failures { let before = (sink_tally self.old).failures in
-            (sink_tally self.new).failures ≡ (if is_ok result then before else before + 1) }
-    {
+    // It keeps nothing for anybody else.
+    fn flush(&mut self) -> Result<(), BrokenPipe> {
         Ok(())
     }
 

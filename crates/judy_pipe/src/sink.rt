@@ -1,6 +1,6 @@
 //! What takes bytes, and how a whole piece is written.
 
-ghost use Rattle.std.specs.Prelude.{◌≡◌, ℕ, ◌+◌, ◌-◌, ◌<◌, ◌≤◌, ◌^◌, List, Option, length, take, drop, is_ok, if◌then◌else◌, IfOk, OnOk, OnErr};
+ghost use Rattle.std.specs.Prelude.{◌≡◌, ℕ, ◌+◌, ◌-◌, ◌<◌, ◌≤◌, ◌^◌, List, [], Option, length, take, drop, is_ok, if◌then◌else◌, IfOk, OnOk, OnErr};
 ghost use Rattle.judy_pipe.specs.Pipe.{grown, moved, GrewByFront};
 ghost use Rattle.judy_pipe.specs.Tally.{after_write};
 
@@ -12,6 +12,9 @@ pub trait Sink {
 
     // The bytes that it took so far, in order; `None` where it tells nothing of them.
     ghost taken: { Self → Option (List ℕ) };
+
+    // The last of these, which it keeps in a buffer of its own; none where it tells nothing of them.
+    ghost kept: { Self → List ℕ } = { λ _. [] };
 
     // Its failures and its interruptions in a row.
     ghost tally: { Self → Tally };
@@ -31,6 +34,7 @@ pub trait Sink {
     fn flush(&mut self) -> Result<(), BrokenPipe>
         requires { (tally self.old).failures < 2 ^ 64 - 1 }
         ensures taken { taken self.new ≡ taken self.old }
+        ensures handed_on { OnOk result (kept self.new ≡ []) }
         ensures failures { let before = (tally self.old).failures in
             (tally self.new).failures ≡ (if is_ok result then before else before + 1) };
 

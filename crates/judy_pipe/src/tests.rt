@@ -20,6 +20,21 @@ fn expect_written(rt: &impl Abort, most: usize, trouble: SinkTrouble, taken: usi
     assert_eq!(rt; outcome.is_ok(), failures == 0, "{trouble:?} by {most}");
 }
 
+// Writes the text through a buffer of four bytes and flushes it, and says what the sink behind it holds and
+// counts then.
+fn expect_handed_on(rt: &impl Abort, trouble: SinkTrouble, taken: usize, failures: u64)
+    requires taken { taken ≤ 6 }
+{
+    let mut sink = BufferedSink::<_, 4>::new(MemSink::<6>::new(3, trouble));
+    let outcome = match write_all(&mut sink, &TEXT) {
+        Ok(()) => sink.flush(),
+        Err(broken) => Err(broken),
+    };
+    assert_eq!(rt; outcome.is_ok(), failures == 0, "{trouble:?}");
+    assert_eq!(rt; sink.failures(), failures, "{trouble:?}");
+    assert_eq!(rt; sink.into_inner().bytes(), &TEXT[..taken], "{trouble:?}");
+}
+
 // Reads into buffers of `size` bytes until the end or a failure, and says what the source gave and counts.
 fn expect_read(
     rt: &impl Abort,
@@ -113,6 +128,31 @@ fn reads_meet_trouble_at_each_place(rt: HostRuntime) {
             }
         }
     }
+}
+
+#[test]
+fn a_buffer_meets_trouble_behind_it(rt: HostRuntime) {
+    expect_handed_on(&rt, SinkTrouble::Never, 6, 0);
+    for at in 0..6 {
+        expect_handed_on(&rt, SinkTrouble::Fails { at }, at, 1);
+        expect_handed_on(&rt, SinkTrouble::TakesNothing { at }, at, 1);
+        expect_handed_on(&rt, SinkTrouble::Interrupts { at, times: 999 }, 6, 0);
+        expect_handed_on(&rt, SinkTrouble::Interrupts { at, times: 1000 }, at, 1);
+    }
+}
+
+// What a failed write left in the buffer is handed on by the next flush that succeeds, once and in order.
+#[test]
+fn a_buffer_tries_again(rt: HostRuntime) {
+    let mut sink = BufferedSink::<_, 8>::new(MemSink::<6>::new(
+        6,
+        SinkTrouble::Interrupts { at: 2, times: 1000 },
+    ));
+    assert_eq!(rt; write_all(&mut sink, &TEXT), Ok(()));
+    assert_eq!(rt; sink.flush(), Err(BrokenPipe));
+    assert_eq!(rt; sink.flush(), Ok(()));
+    assert_eq!(rt; sink.failures(), 1);
+    assert_eq!(rt; sink.into_inner().bytes(), TEXT.as_slice());
 }
 
 #[test]
