@@ -30,3 +30,4 @@ pub mod RunLaws
 pub mod StringLemmas
 pub mod WholeLines
 pub mod KeptLemmas
+pub mod EndLemmas

@@ -9,6 +9,7 @@ pub mod growth;
 pub mod kept;
 pub mod lines;
 pub mod neighbours;
+pub mod run_ends;
 pub mod runs;
 pub mod steps;
 pub mod stores;
