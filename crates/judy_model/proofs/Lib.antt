@@ -37,3 +37,4 @@ pub mod EntryLemmas
 pub mod ContentsLemmas
 pub mod KindLemmas
 pub mod DumpLemmas
+pub mod EndLemmas

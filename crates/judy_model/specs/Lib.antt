@@ -26,3 +26,4 @@ pub mod Sizes
 pub mod AmpleRuns
 pub mod CutRuns
 pub mod StringOrder
+pub mod RunEnds

@@ -3,14 +3,16 @@ use Rattle.std.proofs.Common.{◌≡◌, ℕ, ◌+◌, ◌-◌, ◌<◌, ◌≤�
 use Rattle.std.specs.Prelude.{unwrap_or, false}
 use Rattle.std.proofs.lemmas.List.{length-take-le, take-append-drop, take-take}
 use Rattle.std.proofs.Math.Seq.{take-append-add}
+use Rattle.judy_model.specs.LineLists.{whole_lines}
 use Rattle.judy_model.specs.Stores.{Store}
+use Rattle.judy_model.specs.RunEnds.{RanToEnd, CutAtWrite, CutAtRead, CutAtMost}
 use Rattle.judy_pipe.specs.Pipe.{grown, told, GivesInOrder}
 use Rattle.judy_pipe.proofs.Moves.{grown-grown}
 use Rattle.judy_script.proofs.FeedLemmas.{grown-nothing, Fed-nothing, Ran-whole_lines, RanInPart-longer}
 use Rattle.judy_script.specs.declared.line.LineBuffer.{LineBuffer}
 use Rattle.judy_script.specs.LineBuffers.{Holds}
+use Rattle.judy_script.specs.RunEnds.{Since}
 use Rattle.judy_script.specs.Feeds.{Fed, Ran, RanInPart, RanInWholeLines}
-use Rattle.judy_script.specs.RunEnds.{RanToEnd, CutAtWrite, CutAtRead, CutAtMost}
 
 -- So many bytes were given and fed, and so many more may come.
 pub record Reading (first : Store) (most left : ℕ) (given_before given : Option (List ℕ)) (ended_before ended : Option Bool) (buffer : LineBuffer) (taken_before taken : Option (List ℕ)) (now : Store) : Type 0 where
@@ -31,15 +33,20 @@ Reading-nothing first most given ended buffer taken holds =
     record { bytes = []; given_is = grown-nothing given; fits = omega arith; ended_is = refl; fed = Fed-nothing first taken buffer holds }
 
 -- the writer failed in whole lines of what was read
-CutAtWrite-within : (first : Store) (most : ℕ) (taken_before taken : Option (List ℕ)) (now : Store) (ended_before ended : Option Bool) (fed rest : List ℕ) → length fed ≤ most → RanInWholeLines first fed taken_before taken now → CutAtWrite first most taken_before taken now (fed ++ rest) ended_before ended
-CutAtWrite-within first most taken_before taken now ended_before ended fed rest fits (closed, later, split, whole, ran) = record {
-  closed = closed;
-  later = later ++ rest;
-  split = ap (λ bytes. bytes ++ rest) split ∙ append_assoc closed later rest;
-  fits = let long : length fed ≡ length closed + length later = ap length split ∙ length-append closed later in omega arith;
-  line_end = inl whole;
-  ran = ran;
-}
+CutAtWrite-within : (first : Store) (most : ℕ) (taken_before taken : Option (List ℕ)) (now : Store) (AtEnd : Type 0) (fed rest : List ℕ) → length fed ≤ most → RanInWholeLines first fed taken_before taken now
+    → Since taken_before taken (λ output. CutAtWrite first most (fed ++ rest) AtEnd output now)
+CutAtWrite-within first most taken_before taken now AtEnd fed rest fits (closed, later, split, whole, ran) = (
+  ran.0,
+  ran.1,
+  record {
+    closed = closed;
+    later = later ++ rest;
+    split = ap (λ bytes. bytes ++ rest) split ∙ append_assoc closed later rest;
+    fits = let long : length fed ≡ length closed + length later = ap length split ∙ length-append closed later in omega arith;
+    line_end = inl whole;
+    ran = ran.2;
+  },
+)
 
 module _ (first : Store) (most left : ℕ) (given_before given : Option (List ℕ)) (ended_before ended : Option Bool) (buffer : LineBuffer) (taken_before taken : Option (List ℕ)) (now : Store) (reading : Reading first most left given_before given ended_before ended buffer taken_before taken now) where
   -- what the reader gave, once a read gave more
@@ -51,46 +58,43 @@ module _ (first : Store) (most left : ℕ) (given_before given : Option (List �
   given_nothing given_after is = given_more [] given_after is ∙ ap (grown given_before) (append-nil reading.bytes)
 
   -- a read that failed
-  pub CutAtRead-here : (given_after : Option (List ℕ)) → given_after ≡ grown given [] → (bytes : List ℕ) × (given_after ≡ grown given_before bytes) × CutAtRead first most taken_before taken now bytes
-  CutAtRead-here given_after is = (
-    reading.bytes,
-    given_nothing given_after is,
-    record {
-      fits = omega (arith, reading.fits);
-      ran = Ran-whole_lines first reading.bytes taken_before buffer taken now reading.fed;
-    },
-  )
+  pub CutAtRead-here : (AtEnd : Type 0) (given_after : Option (List ℕ)) → given_after ≡ grown given [] → Since given_before given_after (λ bytes. Since taken_before taken (λ output. CutAtRead first most bytes AtEnd output now))
+  CutAtRead-here AtEnd given_after is =
+      let ran = Ran-whole_lines first reading.bytes taken_before buffer taken now reading.fed in
+      (reading.bytes, given_nothing given_after is, (ran.0, ran.1, record { fits = omega (arith, reading.fits); ran = ran.2 }))
 
   -- a read that gave the end, and what is kept of a last line was run
   pub RanToEnd-here : (given_after : Option (List ℕ)) (ended_after : Option Bool) (taken_after : Option (List ℕ)) (after : Store) → given_after ≡ grown given [] → ended_after ≡ told ended true
       → ((before : Store) (fed : List ℕ) (known : Option (List ℕ)) → Fed before fed known buffer taken now → Ran before fed known taken_after after)
-      → (script : List ℕ) × (given_after ≡ grown given_before script) × RanToEnd first most taken_before taken_after after script ended_before ended_after
-  RanToEnd-here given_after ended_after taken_after after is end finished = (
-    reading.bytes,
-    given_nothing given_after is,
-    record {
-      fits = omega (arith, reading.fits);
-      at_end = end ∙ reading.ended_is;
-      ran = finished first reading.bytes taken_before reading.fed;
-    },
-  )
+      → Since given_before given_after (λ script. Since taken_before taken_after (λ output. RanToEnd first most script (ended_after ≡ told ended_before true) output after))
+  RanToEnd-here given_after ended_after taken_after after is end finished =
+      let ran = finished first reading.bytes taken_before reading.fed in (
+        reading.bytes,
+        given_nothing given_after is,
+        (ran.0, ran.1, record { fits = omega (arith, reading.fits); at_end = end ∙ reading.ended_is; ran = ran.2 }),
+      )
 
   -- the writer failed at that last line
   pub CutAtWrite-last : (given_after : Option (List ℕ)) (ended_after : Option Bool) (taken_after : Option (List ℕ)) (after : Store) → given_after ≡ grown given [] → ended_after ≡ told ended true
       → ((before : Store) (fed : List ℕ) (known : Option (List ℕ)) → Fed before fed known buffer taken now → RanInPart before fed known taken_after after)
-      → (bytes : List ℕ) × (given_after ≡ grown given_before bytes) × CutAtWrite first most taken_before taken_after after bytes ended_before ended_after
-  CutAtWrite-last given_after ended_after taken_after after is end finished = (
-    reading.bytes,
-    given_nothing given_after is,
-    record {
-      closed = reading.bytes;
-      later = [];
-      split = sym (append-nil reading.bytes);
-      fits = omega (arith, reading.fits);
-      line_end = inr (refl, end ∙ reading.ended_is);
-      ran = finished first reading.bytes taken_before reading.fed;
-    },
-  )
+      → Since given_before given_after (λ bytes. Since taken_before taken_after (λ output. CutAtWrite first most bytes (ended_after ≡ told ended_before true) output after))
+  CutAtWrite-last given_after ended_after taken_after after is end finished =
+      let ran = finished first reading.bytes taken_before reading.fed in (
+        reading.bytes,
+        given_nothing given_after is,
+        (
+          ran.0,
+          ran.1,
+          record {
+            closed = reading.bytes;
+            later = [];
+            split = sym (append-nil reading.bytes);
+            fits = omega (arith, reading.fits);
+            line_end = inr (refl, end ∙ reading.ended_is);
+            ran = ran.2;
+          },
+        ),
+      )
 
   module _ (room : List ℕ) (count : ℕ) (given_after : Option (List ℕ)) (is : given_after ≡ grown given (take count room)) (fills : count ≤ length room) where
     long : length (take count room) ≡ count
@@ -109,14 +113,14 @@ module _ (first : Store) (most left : ℕ) (given_before given : Option (List �
     }
 
     -- the writer failed in a piece that fits
-    pub CutAtWrite-piece : (ended_after : Option Bool) (taken_after : Option (List ℕ)) (after : Store) → count ≤ left
+    pub CutAtWrite-piece : (AtEnd : Type 0) (taken_after : Option (List ℕ)) (after : Store) → count ≤ left
         → ((before : Store) (fed : List ℕ) (known : Option (List ℕ)) → Fed before fed known buffer taken now → RanInWholeLines before (fed ++ take count room) known taken_after after)
-        → (bytes : List ℕ) × (given_after ≡ grown given_before bytes) × CutAtWrite first most taken_before taken_after after bytes ended_before ended_after
-    CutAtWrite-piece ended_after taken_after after within cut = (
+        → Since given_before given_after (λ bytes. Since taken_before taken_after (λ output. CutAtWrite first most bytes AtEnd output after))
+    CutAtWrite-piece AtEnd taken_after after within cut = (
       reading.bytes ++ take count room,
       given_more (take count room) given_after is,
-      subst (λ bytes. CutAtWrite first most taken_before taken_after after bytes ended_before ended_after) (append-nil (reading.bytes ++ take count room))
-          (CutAtWrite-within first most taken_before taken_after after ended_before ended_after (reading.bytes ++ take count room) [] (omega (arith, length-append reading.bytes (take count room), long, reading.fits)) (cut first reading.bytes taken_before reading.fed)),
+      subst (λ bytes. Since taken_before taken_after (λ output. CutAtWrite first most bytes AtEnd output after)) (append-nil (reading.bytes ++ take count room))
+          (CutAtWrite-within first most taken_before taken_after after AtEnd (reading.bytes ++ take count room) [] (omega (arith, length-append reading.bytes (take count room), long, reading.fits)) (cut first reading.bytes taken_before reading.fed)),
     )
 
     -- the piece has more bytes than may come
@@ -127,26 +131,25 @@ module _ (first : Store) (most left : ℕ) (given_before given : Option (List �
       within_most : length (reading.bytes ++ take left room) ≤ most
       within_most = omega (arith, length-append reading.bytes (take left room), length-take-le left room (omega arith), reading.fits)
 
-      pub CutAtWrite-most : (ended_after : Option Bool) (taken_after : Option (List ℕ)) (after : Store)
+      pub CutAtWrite-most : (AtEnd : Type 0) (taken_after : Option (List ℕ)) (after : Store)
           → ((before : Store) (fed : List ℕ) (known : Option (List ℕ)) → Fed before fed known buffer taken now → RanInWholeLines before (fed ++ take left room) known taken_after after)
-          → (bytes : List ℕ) × (given_after ≡ grown given_before bytes) × CutAtWrite first most taken_before taken_after after bytes ended_before ended_after
-      CutAtWrite-most ended_after taken_after after cut = (
+          → Since given_before given_after (λ bytes. Since taken_before taken_after (λ output. CutAtWrite first most bytes AtEnd output after))
+      CutAtWrite-most AtEnd taken_after after cut = (
         (reading.bytes ++ take left room) ++ drop left (take count room),
         given_more (take count room) given_after is ∙ ap (grown given_before) (ap (λ piece. reading.bytes ++ piece) piece_is ∙ sym (append_assoc reading.bytes (take left room) (drop left (take count room)))),
-        CutAtWrite-within first most taken_before taken_after after ended_before ended_after (reading.bytes ++ take left room) (drop left (take count room)) within_most (cut first reading.bytes taken_before reading.fed),
+        CutAtWrite-within first most taken_before taken_after after AtEnd (reading.bytes ++ take left room) (drop left (take count room)) within_most (cut first reading.bytes taken_before reading.fed),
       )
 
-      pub CutAtMost-here : (filled : LineBuffer) (taken_after : Option (List ℕ)) (after : Store)
+      pub CutAtMost-here : (AtEnd : Type 0) (filled : LineBuffer) (taken_after : Option (List ℕ)) (after : Store)
           → ((before : Store) (fed : List ℕ) (known : Option (List ℕ)) → Fed before fed known buffer taken now → Fed before (fed ++ take left room) known filled taken_after after)
-          → (bytes : List ℕ) × (given_after ≡ grown given_before bytes) × CutAtMost first most taken_before taken_after after bytes
-      CutAtMost-here filled taken_after after fed = (
-        reading.bytes ++ take count room,
-        given_more (take count room) given_after is,
-        record {
-          exceeds = omega (arith, length-append reading.bytes (take count room), long, reading.fits);
-          ran = rw first_bytes (Ran-whole_lines first (reading.bytes ++ take left room) taken_before filled taken_after after (fed first reading.bytes taken_before reading.fed));
-        },
-      )
+          → Since given_before given_after (λ bytes. Since taken_before taken_after (λ output. CutAtMost first most bytes AtEnd output after))
+      CutAtMost-here AtEnd filled taken_after after fed =
+          let ran : Ran first (whole_lines (take most (reading.bytes ++ take count room))) taken_before taken_after after =
+          rw first_bytes (Ran-whole_lines first (reading.bytes ++ take left room) taken_before filled taken_after after (fed first reading.bytes taken_before reading.fed)) in (
+            reading.bytes ++ take count room,
+            given_more (take count room) given_after is,
+            (ran.0, ran.1, record { exceeds = omega (arith, length-append reading.bytes (take count room), long, reading.fits); ran = ran.2 }),
+          )
         where
           first_bytes : take most (reading.bytes ++ take count room) ≡ reading.bytes ++ take left room
           first_bytes =
@@ -155,17 +158,20 @@ module _ (first : Store) (most left : ℕ) (given_before given : Option (List �
 
 -- a run that the writer cut off, over a source that gives a script in order, was cut off in that script
 pub RanInPart-script : (first : Store) (most : ℕ) (taken_before taken : Option (List ℕ)) (now : Store) (script : List ℕ) (ended_before ended : Option Bool) (bytes : List ℕ)
-    → GivesInOrder script (Some bytes) ended → ended_before ≡ Some false → CutAtWrite first most taken_before taken now bytes ended_before ended → RanInPart first script taken_before taken now
-RanInPart-script first most taken_before taken now script ended_before ended bytes order fresh cut =
-    elim cut.line_end [
-      | inl whole ↦ subst (λ whole. RanInPart first whole taken_before taken now) (sym split) (RanInPart-longer first cut.closed (cut.later ++ order.front.0) taken_before taken now whole cut.ran)
-      | inr (none, end) ↦ subst (λ whole. RanInPart first whole taken_before taken now) (at_end none end) cut.ran
+    → GivesInOrder script (Some bytes) ended → ended_before ≡ Some false → Since taken_before taken (λ output. CutAtWrite first most bytes (ended ≡ told ended_before true) output now) → RanInPart first script taken_before taken now
+RanInPart-script first most taken_before taken now script ended_before ended bytes order fresh since =
+    elim since.2.line_end [
+      | inl whole ↦ subst (λ whole. RanInPart first whole taken_before taken now) (sym split) (RanInPart-longer first since.2.closed (since.2.later ++ order.front.0) taken_before taken now whole ran)
+      | inr (none, end) ↦ subst (λ whole. RanInPart first whole taken_before taken now) (at_end none end) ran
     ]
   where
-    split : script ≡ cut.closed ++ (cut.later ++ order.front.0)
-    split = order.front.1 ∙ ap (λ front. front ++ order.front.0) cut.split ∙ append_assoc cut.closed cut.later order.front.0
+    ran : RanInPart first since.2.closed taken_before taken now
+    ran = (since.0, since.1, since.2.ran)
 
-    at_end : cut.later ≡ [] → ended ≡ told ended_before true → cut.closed ≡ script
+    split : script ≡ since.2.closed ++ (since.2.later ++ order.front.0)
+    split = order.front.1 ∙ ap (λ front. front ++ order.front.0) since.2.split ∙ append_assoc since.2.closed since.2.later order.front.0
+
+    at_end : since.2.later ≡ [] → ended ≡ told ended_before true → since.2.closed ≡ script
     at_end none end =
         let all : Some bytes ≡ Some script = order.end (end ∙ ap (λ known. told known true) fresh) in
-        sym (append-nil cut.closed) ∙ ap (λ later. cut.closed ++ later) (sym none) ∙ sym cut.split ∙ ap (λ known. unwrap_or known []) all
+        sym (append-nil since.2.closed) ∙ ap (λ later. since.2.closed ++ later) (sym none) ∙ sym since.2.split ∙ ap (λ known. unwrap_or known []) all

@@ -10,6 +10,7 @@ use Rattle.judy_pipe.specs.Pipe.{grown, GrewByFront}
 use Rattle.judy_script.specs.declared.line.LineBuffer.{LineBuffer}
 use Rattle.judy_script.specs.LineBuffers.{Holds}
 use Rattle.judy_script.specs.Cuts.{is_without}
+use Rattle.judy_script.specs.RunEnds.{Since}
 
 -- The bytes fed are whole lines and a line that goes on. The lines are answered one by one, and the buffer
 -- holds what came of the line that goes on.
@@ -37,12 +38,10 @@ pub record ServedInPart (before : Store) (line : Line) (taken_before taken_after
 
 -- What was put out since a time is the output of a run, or of one that a failed writer cut off.
 abbrev pub Ran : Store → List ℕ → Option (List ℕ) → Option (List ℕ) → Store → Type 0
-Ran before script taken_before taken_after after =
-    (output : List ℕ) × (taken_after ≡ grown taken_before output) × Run before script output after
+Ran before script taken_before taken_after after = Since taken_before taken_after (λ output. Run before script output after)
 
 abbrev pub RanInPart : Store → List ℕ → Option (List ℕ) → Option (List ℕ) → Store → Type 0
-RanInPart before script taken_before taken_after after =
-    (output : List ℕ) × (taken_after ≡ grown taken_before output) × CutOff before script output after
+RanInPart before script taken_before taken_after after = Since taken_before taken_after (λ output. CutOff before script output after)
 
 -- The same, at a line that an LF ended: among the bytes fed there is a front of whole lines that has it.
 abbrev pub RanInWholeLines : Store → List ℕ → Option (List ℕ) → Option (List ℕ) → Store → Type 0

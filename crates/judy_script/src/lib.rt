@@ -2,8 +2,8 @@
 //!
 //! [`run`] runs the script that a source gives, [`run_bytes`] one in hand. Their contracts are the headline
 //! of the project: for every script and every starting store, what is written is the scripted answers of
-//! plain finite maps, line by line, and the store left is theirs. `Ran` of `specs/Feeds.antt` says it by the
-//! definitions of `judy_model`, and `specs/RunEnds.antt` what each fault leaves.
+//! plain finite maps, line by line, and the store left is theirs. `RanToEnd` of `judy_model` says it, and
+//! `LeftBy` what each fault leaves.
 //!
 //! The way of a script: `engine` is fed its bytes in pieces and cuts them into lines (`cut`, `line`); a
 //! line's tokens (`tokens`) are carried out by `judy_command` over the shelf, and its reply is printed

@@ -1,11 +1,12 @@
 //! The runs of a script: over a reader, and over bytes in hand.
 
-ghost use Rattle.std.specs.Prelude.{◌≡◌, ℕ, ◌+◌, ◌-◌, ◌<◌, ◌^◌, List, is_ok, if◌then◌else◌, OnOk, OnErr, IfErr};
-ghost use Rattle.judy_pipe.specs.Pipe.{grown};
+ghost use Rattle.std.specs.Prelude.{◌≡◌, ℕ, ◌+◌, ◌-◌, ◌<◌, ◌^◌, List, true, is_ok, if◌then◌else◌, OnOk, OnErr, IfErr};
+ghost use Rattle.judy_model.specs.Runs.{Run, CutOff};
+ghost use Rattle.judy_model.specs.RunEnds.{RanToEnd, LeftBy};
+ghost use Rattle.judy_pipe.specs.Pipe.{told};
 ghost use Rattle.judy_shelf.specs.Shelves.{store_of};
 ghost use Rattle.judy_script.specs.declared.fault.RunFault.TheVariants.{Write};
-ghost use Rattle.judy_script.specs.Feeds.{Ran, RanInPart};
-ghost use Rattle.judy_script.specs.RunEnds.{RanToEnd, LeftBy, read_failures, write_failures};
+ghost use Rattle.judy_script.specs.RunEnds.{Since, fault_of, read_failures, write_failures};
 
 use crate::engine::{Buffers, feed, finish, serve};
 use crate::fault::RunFault;
@@ -37,10 +38,10 @@ pub fn run<R: Source, W: Sink>(
 ) -> Result<(), RunFault>
     requires source { (R.tally source.old).failures < 2 ^ 64 - 1 }
     requires sink { (W.tally sink.old).failures < 2 ^ 64 - 1 }
-    ensures run { OnOk result ((script : List ℕ) × (R.given source.new ≡ grown (R.given source.old) script)
-        × RanToEnd (store_of shelf.old) max_bytes (W.taken sink.old) (W.taken sink.new) (store_of shelf.new) script (R.ended source.old) (R.ended source.new)) }
-    ensures left { IfErr result (λ fault. (bytes : List ℕ) × (R.given source.new ≡ grown (R.given source.old) bytes)
-        × LeftBy (store_of shelf.old) max_bytes (W.taken sink.old) (W.taken sink.new) (store_of shelf.new) fault bytes (R.ended source.old) (R.ended source.new)) }
+    ensures run { OnOk result (Since (R.given source.old) (R.given source.new) (λ script. Since (W.taken sink.old) (W.taken sink.new) (λ output.
+        RanToEnd (store_of shelf.old) max_bytes script (R.ended source.new ≡ told (R.ended source.old) true) output (store_of shelf.new)))) }
+    ensures left { IfErr result (λ fault. Since (R.given source.old) (R.given source.new) (λ bytes. Since (W.taken sink.old) (W.taken sink.new) (λ output.
+        LeftBy (store_of shelf.old) max_bytes bytes (R.ended source.new ≡ told (R.ended source.old) true) output (store_of shelf.new) (fault_of fault)))) }
     ensures read_failures { (R.tally source.new).failures ≡ (R.tally source.old).failures + read_failures result }
     ensures write_failures { (W.tally sink.new).failures ≡ (W.tally sink.old).failures + write_failures result }
     ensures content { R.content source.new ≡ R.content source.old }
@@ -81,8 +82,8 @@ pub fn run<R: Source, W: Sink>(
 /// `u64::MAX` times before; a fault adds one failure, and Ok none.
 pub fn run_bytes<W: Sink>(script: &[u8], shelf: &mut Shelf, sink: &mut W) -> Result<(), RunFault>
     requires { (W.tally sink.old).failures < 2 ^ 64 - 1 }
-    ensures run { OnOk result (Ran (store_of shelf.old) script.now (W.taken sink.old) (W.taken sink.new) (store_of shelf.new)) }
-    ensures write { OnErr result (RanInPart (store_of shelf.old) script.now (W.taken sink.old) (W.taken sink.new) (store_of shelf.new)) }
+    ensures run { OnOk result (Since (W.taken sink.old) (W.taken sink.new) (λ output. Run (store_of shelf.old) script.now output (store_of shelf.new))) }
+    ensures write { OnErr result (Since (W.taken sink.old) (W.taken sink.new) (λ output. CutOff (store_of shelf.old) script.now output (store_of shelf.new))) }
     ensures fault { IfErr result (λ fault. fault ≡ Write) }
     ensures failures { let before = (W.tally sink.old).failures in
         (W.tally sink.new).failures ≡ (if is_ok result then before else before + 1) }

@@ -15,6 +15,9 @@ use crate::places::{place_of, search};
 use std::alloc::Global;
 use std::marker::Model;
 
+#[cfg(test)]
+mod tests;
+
 #[derive(Drop)]
 pub struct SortedPairs {
     limit: u64,
