@@ -1,13 +1,12 @@
 -- What a fault leaves of a run begins a run that goes on.
-use Rattle.std.proofs.Common.{◌≡◌, ℕ, zero, suc, ◌+◌, ◌-◌, ◌≤◌, true, inl, inr, List, [], ◌∷◌, ◌++◌, length, take, drop, refl, sym, ap, subst, ◌∙◌, ⊎_elim, arith, append_assoc, append-nil}
-use Rattle.std.proofs.lemmas.List.{take-append-drop}
+use Rattle.std.proofs.Common.{◌≡◌, ℕ, zero, suc, ◌+◌, ◌-◌, ◌≤◌, true, List, [], ◌∷◌, ◌++◌, length, take, refl, sym, ap, subst, ◌∙◌, ⊎_elim, arith, append_assoc, append-nil}
 use Rattle.std.proofs.Math.Seq.{take-append-add}
 use Rattle.judy_model.specs.LineLists.{are_whole_lines, whole_lines}
 use Rattle.judy_model.specs.Stores.{Store}
 use Rattle.judy_model.specs.Runs.{Run, CutOff}
 use Rattle.judy_model.specs.AmpleRuns.{ample_output, store_after}
 use Rattle.judy_model.specs.CutRuns.{Begins}
-use Rattle.judy_model.specs.RunEnds.{Fault, read, write, too_long, CutAtRead, CutAtWrite, CutAtMost, LeftBy}
+use Rattle.judy_model.specs.RunEnds.{Fault, read, write, too_long, CutAtWrite, LeftBy}
 use Rattle.judy_model.proofs.RunLaws.{Run-append, Run-ample, CutOff-goes_on}
 use Rattle.judy_model.proofs.WholeLines.{whole_lines-split}
 

@@ -1,10 +1,10 @@
 -- A shelf whose arrays were read one by one is a store.
-use Rattle.std.proofs.Common.{◌≡◌, ℕ, ◌+◌, ◌<◌, ◌≤◌, List, [], ◌∷◌, map, length, ⊎_elim, Some, None, All, IsTrue, refl, sym, ap, subst, ◌∙◌, arith}
+use Rattle.std.proofs.Common.{◌≡◌, ℕ, ◌+◌, ◌≤◌, List, [], ◌∷◌, map, length, ⊎_elim, Some, None, All, IsTrue, refl, sym, ap, subst, ◌∙◌, arith}
 use Rattle.std.specs.Prelude.{bytes_eq}
-use Rattle.std.specs.List.{IsDistinct, AllWithin, HoldsAt, slice_get}
+use Rattle.std.specs.List.{IsDistinct, AllWithin, slice_get}
 use Rattle.std.specs.Map.{keys_of, values_of}
 use Rattle.std.proofs.lemmas.List.{length-map}
-use Rattle.std.proofs.lemmas.List.Elements.{All-map, AllWithin-more, All-from_all_within}
+use Rattle.std.proofs.lemmas.List.Elements.{All-map, AllWithin-more}
 use Rattle.std.proofs.lemmas.Option.{slice_get_cases, get_or_from_slice_get, none-some}
 use Rattle.judy_model.specs.Arrays.{IsArray}
 use Rattle.judy_model.specs.Tokens.{is_name}

@@ -1,6 +1,6 @@
 -- What sorted pairs of words keep as an array.
-use Rattle.std.proofs.Common.{◌≡◌, ℕ, ◌≤◌, List, map, All, subst, sym, ap, ◌∙◌}
-use Rattle.std.specs.FinMap.{keys, values, entries, from_sorted, entries-from_sorted, len}
+use Rattle.std.proofs.Common.{ℕ, ◌≤◌, List, map, All, subst, sym}
+use Rattle.std.specs.FinMap.{entries-from_sorted}
 use Rattle.std.proofs.lemmas.List.Elements.{All-map}
 use Rattle.judy_model.specs.Keys.{IsWord, word_order}
 use Rattle.judy_model.specs.Arrays.{IsArrayOf}

@@ -68,7 +68,7 @@ impl Judy1 {
         self.pairs.set(i)
     }
 
-    /// Takes the key `i` out, and answers whether it was there. It asks for no memory.
+    /// Takes the key `i` out, and answers whether it was there. It can't fail.
     /// (Manual: J1U, Judy1Unset.)
     pub fn unset(&mut self, i: u64) -> bool
         ensures answer { result ≡ map.contains_key self.old.map i }

@@ -88,7 +88,7 @@ impl JudyL {
         self.pairs.slot(i)
     }
 
-    /// Takes the key `i` out, and answers whether it was there. It asks for no memory. (Manual: JLD, JudyLDel.)
+    /// Takes the key `i` out, and answers whether it was there. It can't fail. (Manual: JLD, JudyLDel.)
     pub fn del(&mut self, i: u64) -> bool
         ensures answer { result ≡ map.contains_key self.old.map i }
         ensures deleted { self.new ≡ array.with_map self.old (array.del self.old.map i) }

@@ -216,5 +216,4 @@ fn are_words(pairs: &[(u64, u64)])
 
 fn are_two_words(_key: u64, _value: u64)
     ensures { IsWord _key × IsWord _value }
-{
-}
+{}
