@@ -13,6 +13,9 @@ use judy_pipe::{Sink, Source};
 use judy_script::{RunFault, run};
 use judy_shelf::Shelf;
 
+#[cfg(test)]
+mod tests;
+
 /// Runs the script that a source gives, of at most `max_bytes` bytes, and hands its answers on.
 ///
 /// The end is `Done` where the whole script was run and the sink keeps no answer back. It is the run's fault
@@ -31,9 +34,9 @@ pub fn run_store<R: Source, W: Sink>(
     requires sink { (W.tally sink.old).failures < 2 ^ 64 - 1 }
     ensures run { EndsRun
         (Since (R.given source.old) (R.given source.new) (λ script. Since (W.taken sink.old) (W.taken sink.new) (λ output.
-            RanToEnd (store_of shelf.old) max_bytes script (R.ended source.new ≡ told (R.ended source.old) true) output (store_of shelf.new))))
+        RanToEnd (store_of shelf.old) max_bytes script (R.ended source.new ≡ told (R.ended source.old) true) output (store_of shelf.new))))
         (λ fault. Since (R.given source.old) (R.given source.new) (λ bytes. Since (W.taken sink.old) (W.taken sink.new) (λ output.
-            LeftBy (store_of shelf.old) max_bytes bytes (R.ended source.new ≡ told (R.ended source.old) true) output (store_of shelf.new) (fault_of fault))))
+        LeftBy (store_of shelf.old) max_bytes bytes (R.ended source.new ≡ told (R.ended source.old) true) output (store_of shelf.new) (fault_of fault))))
         result }
     ensures handed_on { result ≡ Done → W.kept sink.new ≡ [] }
     ensures read_failures { (R.tally source.new).failures ≡ (R.tally source.old).failures + read_failures result }
