@@ -43,6 +43,9 @@ def run(program, stdin=subprocess.DEVNULL, stdout=subprocess.PIPE, script=None):
 
 def check_ends(checks, program):
     checks.expect("first script", run(program, script=FIRST_SCRIPT), (0, FIRST_ANSWERS, b""))
+    # A script of more than a million bytes is no longer than scripts may be.
+    comments = b";" * 1000 + b"\n"
+    checks.expect("a long script", run(program, script=comments * 2000 + FIRST_SCRIPT), (0, FIRST_ANSWERS, b""))
     checks.expect("no script", run(program, script=b""), (0, b"", b""))
     folder = os.open("/", os.O_RDONLY)
     checks.expect("a folder as script", run(program, stdin=folder), (1, b"", b"judystore: run: read\n"))

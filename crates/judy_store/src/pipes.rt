@@ -7,6 +7,9 @@ use judy_pipe::{BrokenPipe, Sink, Source, Stop, Tally};
 use std::io;
 use std::io::{ErrorKind, Read, Write};
 
+#[cfg(test)]
+mod tests;
+
 /// A reader as a source.
 #[derive(Drop)]
 pub struct ReadSource<R> {
@@ -65,7 +68,6 @@ impl<W: Write> WriteSink<W> {
             tally: Tally::new(),
         }
     }
-
 }
 
 impl<W: Write> Sink for WriteSink<W> {
