@@ -15,6 +15,7 @@
 mod arrays;
 mod command;
 mod commands;
+mod keys;
 mod make;
 mod maps;
 mod refusals;

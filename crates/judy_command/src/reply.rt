@@ -49,6 +49,10 @@ pub enum Refusal {
     /// A token is no decimal number below 2^64.
     #[error("not a word")]
     BadWord,
+    /// A token is no key of the array's kind: `=` and bytes from `!` to `~`, or `#` and hexadecimal digits, for
+    /// at most 1,024 bytes, and for a judysl array no zero byte.
+    #[error("not a key")]
+    BadKey,
     /// The limit isn't 1 to 4,294,967,295.
     #[error("bad limit")]
     BadLimit,
@@ -79,6 +83,7 @@ impl Refusal {
             Refusal::NoSuchArray => b"no-such-array",
             Refusal::WrongKind => b"wrong-kind",
             Refusal::BadWord => b"bad-word",
+            Refusal::BadKey => b"bad-key",
             Refusal::BadLimit => b"bad-limit",
             Refusal::Exists => b"exists",
             Refusal::TooManyArrays => b"too-many-arrays",
