@@ -25,4 +25,5 @@ mod values;
 mod words;
 
 pub use commands::execute;
+pub use keys::KeyBuf;
 pub use reply::{Answer, LineReply, Refusal, Reply};

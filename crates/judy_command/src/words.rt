@@ -41,8 +41,11 @@ fn are_digits(token: &[u8]) -> bool
 }
 
 /// The number that was found, or `none`.
-pub(crate) fn number_or_nothing(found: Option<u64>) -> Answer
+pub(crate) fn number_or_nothing(found: Option<u64>) -> Answer<'static>
     ensures { answer_of result ≡ model.number_or_nothing found }
 {
-    found.map_or(Answer::Nothing, Answer::Number)
+    match found {
+        Some(number) => Answer::Number(number),
+        None => Answer::Nothing,
+    }
 }
