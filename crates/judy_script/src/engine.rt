@@ -149,8 +149,8 @@ fn put_out<W: Sink>(
     sink: &mut W,
 ) -> Result<(), RunFault>
     requires { (W.tally sink.old).failures < 2 ^ 64 - 1 }
-    ensures ok { OnOk result (W.taken sink.new ≡ grown (W.taken sink.old) (output_of (line_reply_of (store_of shelf.now) reply))) }
-    ensures err { OnErr result (GrewByFront (W.taken sink.old) (output_of (line_reply_of (store_of shelf.now) reply)) (W.taken sink.new)) }
+    ensures ok { OnOk result (W.taken sink.new ≡ grown (W.taken sink.old) (output_of (line_reply_of (store_of shelf.now) reply.entry))) }
+    ensures err { OnErr result (GrewByFront (W.taken sink.old) (output_of (line_reply_of (store_of shelf.now) reply.entry)) (W.taken sink.new)) }
     ensures fault { IfErr result (λ fault. fault ≡ Write) }
     ensures failures { let before = (W.tally sink.old).failures in
         (W.tally sink.new).failures ≡ (if is_ok result then before else before + 1) }

@@ -2,7 +2,8 @@
 
 ghost use Rattle.std.specs.Prelude.{◌≡◌, ◌+◌, ◌*◌, ◌≤◌, ◌++◌, length, decimal, flat_map, codes, Ok, [], ◌∷◌};
 ghost use Rattle.arrayvec.specs.ArrayVec.{array_vec_len};
-ghost use Rattle.judy_model.specs.KeyTokens.{printed_key, digits_of};
+ghost use Rattle.judy_model.specs.KeyTokens.{is_shown, printed_key, digits_of};
+ghost use Rattle.std.specs.List.{list_all};
 ghost use Rattle.judy_model.specs.Replies.{output_of, listed, listing_text};
 ghost use Rattle.judy_shelf.specs.Arrays.{value_of};
 ghost use Rattle.judy_shelf.specs.Shelves.{store_of};
@@ -17,7 +18,7 @@ pub(crate) type Text = ArrayVec<u8, 8192>;
 
 /// Puts the reply into the buffer, in the place of what it held. The shelf is as the line left it.
 pub(crate) fn print(reply: LineReply<'_>, shelf: &Shelf, text: &mut Text)
-    ensures { text.new.items ≡ output_of (line_reply_of (store_of shelf.now) reply) }
+    ensures { text.new.items ≡ output_of (line_reply_of (store_of shelf.now) reply.entry) }
 {
     text.clear();
     match reply {
@@ -34,7 +35,7 @@ pub(crate) fn print(reply: LineReply<'_>, shelf: &Shelf, text: &mut Text)
 
 fn print_answer(answer: Answer<'_>, text: &mut Text)
     requires { text.old.items ≡ [] }
-    ensures { text.new.items ≡ output_of (Ok (answer_of answer)) }
+    ensures { text.new.items ≡ output_of (Ok (answer_of answer.entry)) }
 {
     match answer {
         Answer::Done => append(text, b"ok\n"),
@@ -98,13 +99,20 @@ fn append_key(text: &mut Text, key: &KeyBuf)
     ensures len { array_vec_len text.new ≤ array_vec_len text.old + 2049 }
 {
     let bytes = key.as_slice();
-    if bytes.iter().all(|byte| byte.is_ascii_graphic()) {
+    if are_shown(bytes) {
         append(text, b"=");
         append(text, bytes);
     } else {
         append(text, b"#");
         append_digits(text, bytes);
     }
+}
+
+// Whether each byte stands for itself in a key token.
+fn are_shown(bytes: &[u8]) -> bool
+    ensures { result ≡ list_all is_shown bytes.now }
+{
+    bytes.iter().all(|byte| byte.is_ascii_graphic())
 }
 
 // Puts two hexadecimal digits a byte behind what the buffer holds.
