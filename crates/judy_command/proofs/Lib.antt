@@ -1,3 +1,4 @@
 pub mod Numerals
 pub mod NamedArrays
 pub mod MakeLemmas
+pub mod KeyReadLemmas

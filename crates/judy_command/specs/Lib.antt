@@ -5,3 +5,4 @@ pub mod Texts
 pub mod Refusals
 pub mod Lends
 pub mod Slots
+pub mod KeyReads

@@ -3,9 +3,9 @@ use Rattle.std.specs.Prelude.{Result, Ok, Err}
 use Rattle.judy_model.specs.Stores.{Store}
 use Rattle.judy_model.specs.Replies as model
 use Rattle.judy_command.specs.declared.reply.Answer.{Answer}
-use Rattle.judy_command.specs.declared.reply.Answer.TheVariants.{Done, Was, Flag, Number, Entry, Freed, Nothing}
+use Rattle.judy_command.specs.declared.reply.Answer.TheVariants.{Done, Was, Flag, Number, Entry, StringEntry, Freed, Nothing}
 use Rattle.judy_command.specs.declared.reply.Refusal.{Refusal}
-use Rattle.judy_command.specs.declared.reply.Refusal.TheVariants.{LineTooLong, UnknownCommand, ArgumentCount, BadName, NoSuchArray, WrongKind, BadWord, BadLimit, Exists, TooManyArrays, Full, NoMemory}
+use Rattle.judy_command.specs.declared.reply.Refusal.TheVariants.{LineTooLong, UnknownCommand, ArgumentCount, BadName, NoSuchArray, WrongKind, BadWord, BadKey, BadLimit, Exists, TooManyArrays, Full, NoMemory}
 use Rattle.judy_command.specs.declared.reply.LineReply.{LineReply}
 use Rattle.judy_command.specs.declared.reply.LineReply.TheVariants.{Silent, Listed, Said}
 
@@ -17,6 +17,7 @@ refusal_of BadName = model.bad_name
 refusal_of NoSuchArray = model.no_such_array
 refusal_of WrongKind = model.wrong_kind
 refusal_of BadWord = model.bad_word
+refusal_of BadKey = model.bad_key
 refusal_of BadLimit = model.bad_limit
 refusal_of Exists = model.exists
 refusal_of TooManyArrays = model.too_many_arrays
@@ -29,6 +30,7 @@ answer_of (Was value) = model.was value
 answer_of (Flag holds) = model.flag holds
 answer_of (Number value) = model.number value
 answer_of (Entry key value) = model.entry key value
+answer_of (StringEntry key value) = model.string_entry key.now.items value
 answer_of (Freed count) = model.freed count
 answer_of Nothing = model.nothing
 

@@ -11,6 +11,7 @@ ghost use Rattle.judy_command.specs.Replies.{checked, reply_of};
 ghost use Rattle.judy_command.specs.Follows.{Follows};
 
 use crate::command::{KeyCommand, PairCommand};
+use crate::keys::KeyBuf;
 use crate::maps::{words_on_key, words_on_pair};
 use crate::reply::{Answer, Refusal, Reply};
 use crate::sets::{set_on_key, set_on_pair};
@@ -36,7 +37,7 @@ fn array_at<'a>(shelf: &'a mut Shelf, token: &[u8]) -> Result<&'a mut Array, Ref
 }
 
 /// `drop NAME`
-pub(crate) fn drop_array(shelf: &mut Shelf, name: &[u8]) -> Reply
+pub(crate) fn drop_array(shelf: &mut Shelf, name: &[u8]) -> Reply<'static>
     ensures { let before = store_of shelf.old in
         Follows before (model.dropped before name.now) (reply_of result) (store_of shelf.new) }
 {
@@ -48,7 +49,7 @@ pub(crate) fn drop_array(shelf: &mut Shelf, name: &[u8]) -> Reply
 }
 
 /// `free NAME`
-pub(crate) fn free_array(shelf: &mut Shelf, name: &[u8]) -> Reply
+pub(crate) fn free_array(shelf: &mut Shelf, name: &[u8]) -> Reply<'static>
     ensures { let before = store_of shelf.old in
         Follows before (model.at_name before name.now model.freed_whole) (reply_of result) (store_of shelf.new) }
 {
@@ -56,20 +57,31 @@ pub(crate) fn free_array(shelf: &mut Shelf, name: &[u8]) -> Reply
 }
 
 /// A command that names one key or word.
-pub(crate) fn on_key_at(shelf: &mut Shelf, name: &[u8], command: KeyCommand, key: &[u8]) -> Reply
+pub(crate) fn on_key_at<'k>(
+    shelf: &mut Shelf,
+    name: &[u8],
+    command: KeyCommand,
+    token: &[u8],
+    key: &'k mut KeyBuf,
+) -> Reply<'k>
     ensures { let before = store_of shelf.old in
-        Follows before (model.at_name before name.now (model.on_key (key_command_of command) key.now)) (reply_of result) (store_of shelf.new) }
+        Follows before (model.at_name before name.now (model.on_key (key_command_of command) token.now)) (reply_of result) (store_of shelf.new) }
 {
-    on_key(array_at(shelf, name)?, command, key)
+    on_key(array_at(shelf, name)?, command, token, key)
 }
 
-fn on_key(array: &mut Array, command: KeyCommand, key: &[u8]) -> Reply
+fn on_key<'k>(
+    array: &mut Array,
+    command: KeyCommand,
+    token: &[u8],
+    key: &'k mut KeyBuf,
+) -> Reply<'k>
     ensures { let before = value_of array.old in
-        Follows before (model.on_key (key_command_of command) key.now before) (reply_of result) (value_of array.new) }
+        Follows before (model.on_key (key_command_of command) token.now before) (reply_of result) (value_of array.new) }
 {
     match array {
-        Array::Judy1(set) => set_on_key(set, command, key),
-        Array::JudyL(words) => words_on_key(words, command, key),
+        Array::Judy1(set) => set_on_key(set, command, token),
+        Array::JudyL(words) => words_on_key(words, command, token),
     }
 }
 
@@ -80,14 +92,14 @@ pub(crate) fn on_pair_at(
     command: PairCommand,
     first: &[u8],
     second: &[u8],
-) -> Reply
+) -> Reply<'static>
     ensures { let before = store_of shelf.old in
         Follows before (model.at_name before name.now (model.on_pair (pair_command_of command) first.now second.now)) (reply_of result) (store_of shelf.new) }
 {
     on_pair(array_at(shelf, name)?, command, first, second)
 }
 
-fn on_pair(array: &mut Array, command: PairCommand, first: &[u8], second: &[u8]) -> Reply
+fn on_pair(array: &mut Array, command: PairCommand, first: &[u8], second: &[u8]) -> Reply<'static>
     ensures { let before = value_of array.old in
         Follows before (model.on_pair (pair_command_of command) first.now second.now before) (reply_of result) (value_of array.new) }
 {

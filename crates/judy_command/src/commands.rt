@@ -11,6 +11,7 @@ ghost use Rattle.judy_command.specs.Texts.{texts};
 
 use crate::arrays::{drop_array, free_array, on_key_at, on_pair_at};
 use crate::command::Command;
+use crate::keys::KeyBuf;
 use crate::make::make_array;
 use crate::reply::{LineReply, Refusal};
 use judy_shelf::Shelf;
@@ -21,28 +22,38 @@ use judy_shelf::Shelf;
 /// A refusal is the first that applies, in the order of [`Refusal`], and leaves the shelf as it was.
 /// `NoMemory` comes only where the command would add a key or an array. Five tokens say all: no command has
 /// more. (This project's own script.)
-pub fn execute(shelf: &mut Shelf, tokens: &[&[u8]]) -> LineReply
+pub fn execute<'k>(shelf: &mut Shelf, tokens: &[&[u8]], key: &'k mut KeyBuf) -> LineReply<'k>
     ensures { let before = store_of shelf.old in let after = store_of shelf.new in
         Follows before (outcome_of_tokens before (texts tokens.now)) (line_reply_of after result) after }
 {
     match tokens {
         [] => LineReply::Silent,
         [[b';', ..], ..] => LineReply::Silent,
-        [word, arguments @ ..] => execute_word(shelf, word, arguments),
+        [word, arguments @ ..] => execute_word(shelf, word, arguments, key),
     }
 }
 
-fn execute_word(shelf: &mut Shelf, word: &[u8], arguments: &[&[u8]]) -> LineReply
+fn execute_word<'k>(
+    shelf: &mut Shelf,
+    word: &[u8],
+    arguments: &[&[u8]],
+    key: &'k mut KeyBuf,
+) -> LineReply<'k>
     ensures { let before = store_of shelf.old in let after = store_of shelf.new in
         Follows before (carried_out_by_word before word.now (texts arguments.now)) (line_reply_of after result) after }
 {
     match Command::from_word(word) {
-        Some(command) => carry_out(shelf, command, arguments),
+        Some(command) => carry_out(shelf, command, arguments, key),
         None => LineReply::Said(Err(Refusal::UnknownCommand)),
     }
 }
 
-fn carry_out(shelf: &mut Shelf, command: Command, arguments: &[&[u8]]) -> LineReply
+fn carry_out<'k>(
+    shelf: &mut Shelf,
+    command: Command,
+    arguments: &[&[u8]],
+    key: &'k mut KeyBuf,
+) -> LineReply<'k>
     ensures { let before = store_of shelf.old in let after = store_of shelf.new in
         Follows before (model.carried_out before (command_of command) (texts arguments.now)) (line_reply_of after result) after }
 {
@@ -52,7 +63,7 @@ fn carry_out(shelf: &mut Shelf, command: Command, arguments: &[&[u8]]) -> LineRe
         (Command::List, []) => return LineReply::Listed,
         (Command::Drop, [name]) => drop_array(shelf, name),
         (Command::Free, [name]) => free_array(shelf, name),
-        (Command::Key(command), [name, key]) => on_key_at(shelf, name, command, key),
+        (Command::Key(command), [name, token]) => on_key_at(shelf, name, command, token, key),
         (Command::Pair(command), [name, first, second]) => on_pair_at(
             shelf, name, command, first, second,
         ),

@@ -15,6 +15,7 @@
 mod arrays;
 mod command;
 mod commands;
+mod keys;
 mod make;
 mod maps;
 mod refusals;
@@ -24,4 +25,5 @@ mod values;
 mod words;
 
 pub use commands::execute;
+pub use keys::KeyBuf;
 pub use reply::{Answer, LineReply, Refusal, Reply};

@@ -12,7 +12,12 @@ use crate::words::word;
 use judy_shelf::{Kind, MAX_LIMIT, Shelf};
 
 /// `make NAME KIND [LIMIT]`
-pub(crate) fn make_array(shelf: &mut Shelf, name: &[u8], kind: &[u8], limit: Option<&[u8]>) -> Reply
+pub(crate) fn make_array(
+    shelf: &mut Shelf,
+    name: &[u8],
+    kind: &[u8],
+    limit: Option<&[u8]>,
+) -> Reply<'static>
     ensures { let before = store_of shelf.old in
         Follows before (model.made before name.now kind.now (option_copied limit.entry)) (reply_of result) (store_of shelf.new) }
 {

@@ -16,7 +16,7 @@ use crate::words::{number_or_nothing, word};
 use judy_word::JudyL;
 
 /// What a command of one key or word does to the array.
-pub(crate) fn words_on_key(words: &mut JudyL, command: KeyCommand, token: &[u8]) -> Reply
+pub(crate) fn words_on_key(words: &mut JudyL, command: KeyCommand, token: &[u8]) -> Reply<'static>
     ensures { Follows (judyl words.old) (model.words_on_key (key_command_of command) words.old token.now) (reply_of result) (judyl words.new) }
 {
     match command {
@@ -39,7 +39,7 @@ pub(crate) fn words_on_pair(
     command: PairCommand,
     first: &[u8],
     second: &[u8],
-) -> Reply
+) -> Reply<'static>
     ensures { Follows (judyl words.old) (model.words_on_pair (pair_command_of command) words.old first.now second.now) (reply_of result) (judyl words.new) }
 {
     match command {
@@ -49,7 +49,7 @@ pub(crate) fn words_on_pair(
 }
 
 // The key that was found and its value, or `none`.
-fn entry_or_nothing(words: &JudyL, found: Option<u64>) -> Answer
+fn entry_or_nothing(words: &JudyL, found: Option<u64>) -> Answer<'static>
     ensures { answer_of result ≡ model.entry_or_nothing entry words.now.map found }
 {
     let Some(key) = found else {

@@ -4,11 +4,12 @@ ghost use Rattle.std.specs.Prelude.{◌≡◌};
 ghost use Rattle.judy_model.specs.Replies.{refusal_word};
 ghost use Rattle.judy_command.specs.Replies.{refusal_of};
 
+use crate::keys::KeyBuf;
 use thiserror::Error;
 
 /// The answer of a command that isn't refused. (This project's own script.)
 #[derive(Clone, Copy, Debug, PartialEq, Eq)]
-pub enum Answer {
+pub enum Answer<'k> {
     /// `ok`
     Done,
     /// `was` and the value that a slot held before.
@@ -19,6 +20,8 @@ pub enum Answer {
     Number(u64),
     /// A key and its value.
     Entry(u64, u64),
+    /// A key of bytes, which stands in the buffer that it was sought with, and its value.
+    StringEntry(&'k KeyBuf, u64),
     /// `freed` and how many keys were freed.
     Freed(u64),
     /// `none`
@@ -49,6 +52,10 @@ pub enum Refusal {
     /// A token is no decimal number below 2^64.
     #[error("not a word")]
     BadWord,
+    /// A token is no key of the array's kind: `=` and bytes from `!` to `~`, or `#` and hexadecimal digits, for
+    /// at most 1,024 bytes, and for a judysl array no zero byte.
+    #[error("not a key")]
+    BadKey,
     /// The limit isn't 1 to 4,294,967,295.
     #[error("bad limit")]
     BadLimit,
@@ -79,6 +86,7 @@ impl Refusal {
             Refusal::NoSuchArray => b"no-such-array",
             Refusal::WrongKind => b"wrong-kind",
             Refusal::BadWord => b"bad-word",
+            Refusal::BadKey => b"bad-key",
             Refusal::BadLimit => b"bad-limit",
             Refusal::Exists => b"exists",
             Refusal::TooManyArrays => b"too-many-arrays",
@@ -89,16 +97,16 @@ impl Refusal {
 }
 
 /// The reply of a command: its answer, or why it is refused.
-pub type Reply = Result<Answer, Refusal>;
+pub type Reply<'k> = Result<Answer<'k>, Refusal>;
 
 /// What a line is answered. The list of the arrays isn't kept in it: it is that of the shelf as the line left
 /// it, so that a reply is small and takes no memory.
 #[derive(Clone, Copy, Debug, PartialEq, Eq)]
-pub enum LineReply {
+pub enum LineReply<'k> {
     /// No answer at all: a blank line or a comment.
     Silent,
     /// `names`, and the name, kind and count of each array of the shelf.
     Listed,
     /// The reply of any other command.
-    Said(Reply),
+    Said(Reply<'k>),
 }

@@ -13,7 +13,7 @@ use crate::words::{number_or_nothing, word};
 use judy_word::Judy1;
 
 /// What a command of one key or word does to the set.
-pub(crate) fn set_on_key(set: &mut Judy1, command: KeyCommand, token: &[u8]) -> Reply
+pub(crate) fn set_on_key(set: &mut Judy1, command: KeyCommand, token: &[u8]) -> Reply<'static>
     ensures { Follows (judy1 set.old) (model.set_on_key (key_command_of command) set.old token.now) (reply_of result) (judy1 set.new) }
 {
     match command {
@@ -34,7 +34,12 @@ pub(crate) fn set_on_key(set: &mut Judy1, command: KeyCommand, token: &[u8]) -> 
 }
 
 /// What a command of two words does to the set.
-pub(crate) fn set_on_pair(set: &Judy1, command: PairCommand, first: &[u8], second: &[u8]) -> Reply
+pub(crate) fn set_on_pair(
+    set: &Judy1,
+    command: PairCommand,
+    first: &[u8],
+    second: &[u8],
+) -> Reply<'static>
     ensures { Follows (judy1 set.now) (model.set_on_pair (pair_command_of command) set.now first.now second.now) (reply_of result) (judy1 set.now) }
 {
     match command {

@@ -113,7 +113,7 @@ pub(crate) fn map_on_key<K: Drop, M: ValueMap<K>>(
     map: &mut M,
     command: KeyCommand,
     key: Result<K, Refusal>,
-) -> Reply
+) -> Reply<'static>
     ensures { Follows (M.kind_of (M.array_of map.old)) (model.map_on_key M.kind_of (key_command_of command) (M.array_of map.old) (said M.key_of key)) (reply_of result) (M.kind_of (M.array_of map.new)) }
 {
     match command {
@@ -129,7 +129,7 @@ pub(crate) fn map_on_pair<K: Drop, M: ValueMap<K>>(
     command: PairCommand,
     key: Result<K, Refusal>,
     value: &[u8],
-) -> Reply
+) -> Reply<'static>
     ensures { Follows (M.kind_of (M.array_of map.old)) (model.map_on_pair M.kind_of (pair_command_of command) (M.array_of map.old) (said M.key_of key) value.now) (reply_of result) (M.kind_of (M.array_of map.new)) }
 {
     match command {
@@ -140,14 +140,14 @@ pub(crate) fn map_on_pair<K: Drop, M: ValueMap<K>>(
 }
 
 // Reads the slot of the key, which is new or not, and writes the value through it.
-fn insert<K, M: ValueMap<K>>(map: &mut M, key: K, value: u64) -> Reply
+fn insert<K, M: ValueMap<K>>(map: &mut M, key: K, value: u64) -> Reply<'static>
     ensures { Follows (M.kind_of (M.array_of map.old)) (model.inserted M.kind_of (M.array_of map.old) (M.key_of key) value) (reply_of result) (M.kind_of (M.array_of map.new)) }
 {
     Ok(Answer::Was(replace(map.ins(key)?, value)))
 }
 
 // Writes the value through the slot of the key, where it is there.
-fn overwrite<K, M: ValueMap<K>>(map: &mut M, key: K, value: u64) -> Answer
+fn overwrite<K, M: ValueMap<K>>(map: &mut M, key: K, value: u64) -> Answer<'static>
     ensures { Follows (M.kind_of (M.array_of map.old)) (Ok (model.overwritten M.kind_of (M.array_of map.old) (M.key_of key) value (finite.get (M.array_of map.old).map (M.key_of key)))) (Ok (answer_of result)) (M.kind_of (M.array_of map.new)) }
 {
     match map.slot(key) {

@@ -73,8 +73,11 @@ fn digit_of(byte: u8) -> Option<u64>
 }
 
 /// The number that was found, or `none`.
-pub(crate) fn number_or_nothing(found: Option<u64>) -> Answer
+pub(crate) fn number_or_nothing(found: Option<u64>) -> Answer<'static>
     ensures { answer_of result ≡ model.number_or_nothing found }
 {
-    found.map_or(Answer::Nothing, Answer::Number)
+    match found {
+        Some(number) => Answer::Number(number),
+        None => Answer::Nothing,
+    }
 }

@@ -1,10 +1,11 @@
 -- Byte strings as key tokens say them, and as they are printed. (This project's own script.)
 use Rattle.std.specs.Prelude.{ℕ, ◌+◌, ◌-◌, ◌*◌, ◌/◌, ◌%◌, Bool, not, ◌&&◌, ◌==◌, nat_lt, nat_le, if◌then◌else◌, List, [], ◌∷◌, length, Option, Some, None}
 use Rattle.std.specs.List.{list_all}
+use Rattle.std.specs.Char.{is_ascii_graphic}
 
 -- The bytes that stand for themselves in a key token: 33 to 126, the ASCII signs without the space.
 abbrev pub is_shown : ℕ → Bool
-is_shown byte = nat_le 33 byte && nat_le byte 126
+is_shown byte = is_ascii_graphic byte
 
 -- The number of a hexadecimal digit: `0` to `9` (48 to 57), `A` to `F` (65 to 70) or `a` to `f` (97 to 102).
 abbrev pub digit_value : ℕ → Option ℕ

@@ -1,3 +1,4 @@
+pub mod KeyTexts
 pub mod CutLemmas
 pub mod TokenLemmas
 pub mod StepsOfLines

@@ -15,14 +15,16 @@ use crate::cut::cut_at;
 use crate::fault::RunFault;
 use crate::line::{LineBuffer, line_reply};
 use crate::print::{Text, print};
-use judy_command::LineReply;
+use judy_command::{KeyBuf, LineReply};
 use judy_pipe::{Sink, write_all};
 use judy_shelf::Shelf;
 
-/// The buffers of a run: of the line that goes on, and of an answer. They are made once a run.
+/// The buffers of a run: of the line that goes on, of a line's key, and of an answer. They are made once a
+/// run.
 #[derive(Drop)]
 pub(crate) struct Buffers {
     line: LineBuffer,
+    key: KeyBuf,
     text: Text,
 }
 
@@ -33,6 +35,7 @@ impl Buffers {
     {
         Buffers {
             line: LineBuffer::new(),
+            key: KeyBuf::new(),
             text: Text::new(),
         }
     }
@@ -127,7 +130,7 @@ pub(crate) fn finish<W: Sink>(
     if buffers.line.is_empty() {
         return Ok(());
     }
-    let reply = buffers.line.reply(false, shelf);
+    let reply = buffers.line.reply(false, shelf, &mut buffers.key);
     put_out(reply, shelf, &mut buffers.text, sink)
 }
 
@@ -149,36 +152,41 @@ fn end_line<W: Sink>(
     ensures failures { let before = (W.tally sink.old).failures in
         (W.tally sink.new).failures ≡ (if is_ok result then before else before + 1) }
 {
-    let reply = whole_line_reply(head, &mut buffers.line, shelf);
+    let reply = whole_line_reply(head, &mut buffers.line, shelf, &mut buffers.key);
     put_out(reply, shelf, &mut buffers.text, sink)
 }
 
 // What the line that was kept, with `head` and an LF behind it, does; the buffer begins the next line.
-fn whole_line_reply(head: &[u8], line: &mut LineBuffer, shelf: &mut Shelf) -> LineReply
+fn whole_line_reply<'k>(
+    head: &[u8],
+    line: &mut LineBuffer,
+    shelf: &mut Shelf,
+    key: &'k mut KeyBuf,
+) -> LineReply<'k>
     ensures step { (kept : List ℕ) → Holds line.old kept →
         Step (store_of shelf.old) (record { bytes = kept ++ head.now; ended = true }) (line_reply_of (store_of shelf.new) result) (store_of shelf.new) }
     ensures cleared { Holds line.new [] }
 {
     if line.is_empty() {
         line.clear();
-        return line_reply(head, true, shelf);
+        return line_reply(head, true, shelf, key);
     }
     line.push(head);
-    let reply = line.reply(true, shelf);
+    let reply = line.reply(true, shelf, key);
     line.clear();
     reply
 }
 
 // Prints the reply of a line that left the shelf so, and writes it.
 fn put_out<W: Sink>(
-    reply: LineReply,
+    reply: LineReply<'_>,
     shelf: &Shelf,
     text: &mut Text,
     sink: &mut W,
 ) -> Result<(), RunFault>
     requires { (W.tally sink.old).failures < 2 ^ 64 - 1 }
-    ensures ok { OnOk result (W.taken sink.new ≡ grown (W.taken sink.old) (output_of (line_reply_of (store_of shelf.now) reply))) }
-    ensures err { OnErr result (GrewByFront (W.taken sink.old) (output_of (line_reply_of (store_of shelf.now) reply)) (W.taken sink.new)) }
+    ensures ok { OnOk result (W.taken sink.new ≡ grown (W.taken sink.old) (output_of (line_reply_of (store_of shelf.now) reply.entry))) }
+    ensures err { OnErr result (GrewByFront (W.taken sink.old) (output_of (line_reply_of (store_of shelf.now) reply.entry)) (W.taken sink.new)) }
     ensures fault { IfErr result (λ fault. fault ≡ Write) }
     ensures failures { let before = (W.tally sink.old).failures in
         (W.tally sink.new).failures ≡ (if is_ok result then before else before + 1) }

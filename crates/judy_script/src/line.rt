@@ -8,21 +8,26 @@ ghost use Rattle.judy_command.specs.Replies.{line_reply_of};
 
 use crate::tokens::split;
 use arrayvec::ArrayVec;
-use judy_command::{LineReply, Refusal, execute};
+use judy_command::{KeyBuf, LineReply, Refusal, execute};
 use judy_shelf::Shelf;
 
 /// The most bytes of a line before its LF, a CR counted. (This project's own.)
 pub(crate) const MAX_LINE_LEN: usize = 4096;
 
-/// What a line does: its bytes without the LF, and whether an LF ended it.
-pub(crate) fn line_reply(bytes: &[u8], ended: bool, shelf: &mut Shelf) -> LineReply
+/// What a line does: its bytes without the LF, and whether an LF ended it. `key` serves the line for its key.
+pub(crate) fn line_reply<'k>(
+    bytes: &[u8],
+    ended: bool,
+    shelf: &mut Shelf,
+    key: &'k mut KeyBuf,
+) -> LineReply<'k>
     ensures { let before = store_of shelf.old in
         Step before (record { bytes = bytes.now; ended = ended }) (line_reply_of (store_of shelf.new) result) (store_of shelf.new) }
 {
     if bytes.len() > MAX_LINE_LEN {
         return LineReply::Said(Err(Refusal::LineTooLong));
     }
-    execute(shelf, &split(without_return(bytes, ended)))
+    execute(shelf, &split(without_return(bytes, ended)), key)
 }
 
 // The line's text: its bytes without a CR that stands just before its LF.
@@ -80,13 +85,18 @@ impl LineBuffer {
     }
 
     /// What the line does, now that it is whole.
-    pub(crate) fn reply(&self, ended: bool, shelf: &mut Shelf) -> LineReply
+    pub(crate) fn reply<'k>(
+        &self,
+        ended: bool,
+        shelf: &mut Shelf,
+        key: &'k mut KeyBuf,
+    ) -> LineReply<'k>
         ensures { (bytes : List ℕ) → Holds self.now bytes →
             Step (store_of shelf.old) (record { bytes = bytes; ended = ended }) (line_reply_of (store_of shelf.new) result) (store_of shelf.new) }
     {
         if self.is_long {
             return LineReply::Said(Err(Refusal::LineTooLong));
         }
-        line_reply(&self.bytes, ended, shelf)
+        line_reply(&self.bytes, ended, shelf, key)
     }
 }

@@ -1,22 +1,24 @@
 //! Replies as text.
 
-ghost use Rattle.std.specs.Prelude.{◌≡◌, ◌+◌, ◌≤◌, ◌++◌, length, decimal, flat_map, codes, Ok, [], ◌∷◌};
+ghost use Rattle.std.specs.Prelude.{◌≡◌, ◌+◌, ◌*◌, ◌≤◌, ◌++◌, length, decimal, flat_map, codes, Ok, [], ◌∷◌};
 ghost use Rattle.arrayvec.specs.ArrayVec.{array_vec_len};
+ghost use Rattle.judy_model.specs.KeyTokens.{is_shown, printed_key, digits_of};
+ghost use Rattle.std.specs.List.{list_all};
 ghost use Rattle.judy_model.specs.Replies.{output_of, listed, listing_text};
 ghost use Rattle.judy_shelf.specs.Arrays.{value_of};
 ghost use Rattle.judy_shelf.specs.Shelves.{store_of};
 ghost use Rattle.judy_command.specs.Replies.{line_reply_of, answer_of};
 
 use arrayvec::ArrayVec;
-use judy_command::{Answer, LineReply};
+use judy_command::{Answer, KeyBuf, LineReply};
 use judy_shelf::{Array, Name, Shelf};
 
 /// The buffer of an answer line: it is made once a run and takes no memory.
 pub(crate) type Text = ArrayVec<u8, 8192>;
 
 /// Puts the reply into the buffer, in the place of what it held. The shelf is as the line left it.
-pub(crate) fn print(reply: LineReply, shelf: &Shelf, text: &mut Text)
-    ensures { text.new.items ≡ output_of (line_reply_of (store_of shelf.now) reply) }
+pub(crate) fn print(reply: LineReply<'_>, shelf: &Shelf, text: &mut Text)
+    ensures { text.new.items ≡ output_of (line_reply_of (store_of shelf.now) reply.entry) }
 {
     text.clear();
     match reply {
@@ -31,9 +33,9 @@ pub(crate) fn print(reply: LineReply, shelf: &Shelf, text: &mut Text)
     }
 }
 
-fn print_answer(answer: Answer, text: &mut Text)
+fn print_answer(answer: Answer<'_>, text: &mut Text)
     requires { text.old.items ≡ [] }
-    ensures { text.new.items ≡ output_of (Ok (answer_of answer)) }
+    ensures { text.new.items ≡ output_of (Ok (answer_of answer.entry)) }
 {
     match answer {
         Answer::Done => append(text, b"ok\n"),
@@ -46,6 +48,11 @@ fn print_answer(answer: Answer, text: &mut Text)
         Answer::Number(value) => append_last(text, value),
         Answer::Entry(key, value) => {
             append_number(text, key);
+            append(text, b" ");
+            append_last(text, value);
+        }
+        Answer::StringEntry(key, value) => {
+            append_key(text, key);
             append(text, b" ");
             append_last(text, value);
         }
@@ -82,6 +89,43 @@ fn append_listing(text: &mut Text, name: &Name, array: &Array)
     append(text, array.kind().word());
     append(text, b":");
     append_number(text, array.len());
+}
+
+// Puts the key behind what the buffer holds: `=` and its bytes where all of them stand for themselves, else `#`
+// and hexadecimal digits.
+fn append_key(text: &mut Text, key: &KeyBuf)
+    requires { array_vec_len text.old ≤ 4096 }
+    ensures items { text.new.items ≡ text.old.items ++ printed_key key.now.items }
+    ensures len { array_vec_len text.new ≤ array_vec_len text.old + 2049 }
+{
+    let bytes = key.as_slice();
+    if are_shown(bytes) {
+        append(text, b"=");
+        append(text, bytes);
+    } else {
+        append(text, b"#");
+        append_digits(text, bytes);
+    }
+}
+
+// Whether each byte stands for itself in a key token.
+fn are_shown(bytes: &[u8]) -> bool
+    ensures { result ≡ list_all is_shown bytes.now }
+{
+    bytes.iter().all(|byte| byte.is_ascii_graphic())
+}
+
+// Puts two hexadecimal digits a byte behind what the buffer holds.
+fn append_digits(text: &mut Text, bytes: &[u8])
+    requires fits { length bytes.now ≤ 1024 }
+    requires room { array_vec_len text.old ≤ 4097 }
+    ensures items { text.new.items ≡ text.old.items ++ digits_of bytes.now }
+    ensures len { array_vec_len text.new ≡ array_vec_len text.old + 2 * length bytes.now }
+{
+    let mut room = [0; 2048];
+    let digits = &mut room[..2 * bytes.len()];
+    let _ = hex::encode_to_slice(bytes, digits);
+    append(text, digits);
 }
 
 // Puts the number in decimal and an LF behind what the buffer holds.

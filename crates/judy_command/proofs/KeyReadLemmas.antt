@@ -1,0 +1,117 @@
+-- Key tokens by `hex` and by the definitions.
+use Rattle.std.proofs.Common.{◌≡◌, ℕ, ◌+◌, ◌*◌, ◌/◌, ◌%◌, ◌<◌, ◌==◌, Bool, true, false, cond, not, nat_le, List, [], ◌∷◌, length, Option, Some, None, Result, Ok, Err, ok_or, suc, refl, sym, ap, ◌∙◌, arith, IfSome}
+use Rattle.std.specs.Prelude.{MatchResult, ◌&&◌}
+use Rattle.std.specs.List.{list_all}
+use Rattle.std.specs.Result.{result_ok, is_err}
+use Rattle.hex.specs.Hex.{hex_digit_value, digit_or_error, value_at, pair_value, decode_pairs, decode_sized, ◌>>=◌}
+use Rattle.hex.specs.declared.error.FromHexError.{FromHexError}
+use Rattle.hex.proofs.HexLemmas.{decode_sized-twice, decode_of-even}
+use Rattle.judy_model.specs.KeyTokens.{digit_value, with_byte, bytes_of_digits, is_bytes_key, is_string_key, passing}
+use Rattle.judy_model.specs.Replies.{Refusal, bad_key}
+use Rattle.judy_command.specs.KeyReads.{key_or_refusal}
+
+-- ---- keys without a zero byte
+
+abbrev without_zero : List ℕ → Bool
+without_zero key = list_all (λ byte. not (byte == 0)) key
+
+abbrev string_key : Option (List ℕ) → Result (List ℕ) Refusal
+string_key said = ok_or (passing is_string_key said) bad_key
+
+string_by : (short : Bool) (said key : List ℕ) (whole : Bool) → without_zero key ≡ whole → ok_or (cond short (Some said) None) bad_key ≡ Ok key → ok_or (cond (short && without_zero said) (Some said) None) bad_key ≡ cond whole (Ok key) (Err bad_key)
+string_by true said key true e h = let same : said ≡ key = cc in rw (same, e) refl
+string_by true said key false e h = let same : said ≡ key = cc in rw (same, e) refl
+string_by false said key whole e h = absurd (cc)
+
+-- a key that is short enough is one of a judysl array where it has no zero byte
+pub string_key-from : (said : Option (List ℕ)) (key : List ℕ) (whole : Bool) → without_zero key ≡ whole → key_or_refusal said ≡ Ok key → string_key said ≡ cond whole (Ok key) (Err bad_key)
+string_key-from None key whole e h = absurd (cc)
+string_key-from (Some said) key whole e h = string_by (is_bytes_key said) said key whole e h
+
+refused_by : (short whole : Bool) (said : List ℕ) (refusal : Refusal) → ok_or (cond short (Some said) None) bad_key ≡ Err refusal → ok_or (cond (short && whole) (Some said) None) bad_key ≡ Err refusal
+refused_by true whole said refusal h = absurd (cc)
+refused_by false whole said refusal h = h
+
+pub string_key-refused : (said : Option (List ℕ)) (refusal : Refusal) → key_or_refusal said ≡ Err refusal → string_key said ≡ Err refusal
+string_key-refused None refusal h = h
+string_key-refused (Some said) refusal h = refused_by (is_bytes_key said) (without_zero said) said refusal h
+
+-- ---- hexadecimal digits
+
+digit_value-hex : (sign : ℕ) → digit_value sign ≡ hex_digit_value sign
+digit_value-hex sign = grind (arith)
+
+by_pair : (i high low : ℕ) (h l : Option ℕ) (rest : Result (List ℕ) FromHexError)
+    → with_byte h l (result_ok rest) ≡ result_ok ((digit_or_error high i h >>= (λ one. digit_or_error low (i + 1) l >>= (λ two. Ok (one * 16 + two)))) >>= (λ byte. rest >>= (λ bytes. Ok (byte ∷ bytes))))
+by_pair i high low (Some one) (Some two) (Ok bytes) = refl
+by_pair i high low (Some one) (Some two) (Err error) = refl
+by_pair i high low (Some one) None rest = refl
+by_pair i high low None l rest = refl
+
+-- pairs of digits write the same bytes
+bytes_of_digits-decode_pairs : (i : ℕ) (signs : List ℕ) → bytes_of_digits signs ≡ result_ok (decode_pairs i signs)
+unfolding decode_pairs
+bytes_of_digits-decode_pairs i [] = refl
+bytes_of_digits-decode_pairs i (sign ∷ []) = refl
+bytes_of_digits-decode_pairs i (high ∷ low ∷ signs) =
+    rw (bytes_of_digits-decode_pairs (i + 2) signs, digit_value-hex high, digit_value-hex low)
+    (by_pair i high low (hex_digit_value high) (hex_digit_value low) (decode_pairs (i + 2) signs))
+
+with_byte-none : (high low : Option ℕ) → with_byte high low None ≡ None
+with_byte-none (Some high) (Some low) = refl
+with_byte-none (Some high) None = refl
+with_byte-none None low = refl
+
+odd : (signs : List ℕ) → length signs % 2 ≡ 1 → bytes_of_digits signs ≡ None
+odd [] h = absurd (omega arith)
+odd (sign ∷ []) h = refl
+odd (high ∷ low ∷ signs) h = rw (odd signs (omega arith)) (with_byte-none (digit_value high) (digit_value low))
+
+-- they are two digits a byte
+twice : (high low : Option ℕ) (count : ℕ) (bytes : Option (List ℕ)) → IfSome bytes (λ bytes. count ≡ 2 * length bytes) → IfSome (with_byte high low bytes) (λ bytes. suc (suc count) ≡ 2 * length bytes)
+twice (Some high) (Some low) count (Some bytes) h = omega arith
+twice (Some high) (Some low) count None h = tt
+twice (Some high) None count bytes h = tt
+twice None low count bytes h = tt
+
+length-bytes_of_digits : (signs : List ℕ) → IfSome (bytes_of_digits signs) (λ bytes. length signs ≡ 2 * length bytes)
+length-bytes_of_digits [] = refl
+length-bytes_of_digits (sign ∷ []) = tt
+length-bytes_of_digits (high ∷ low ∷ signs) = twice (digit_value high) (digit_value low) (length signs) (bytes_of_digits signs) (length-bytes_of_digits signs)
+
+too_long : (said : Option (List ℕ)) (count : ℕ) → 1024 < count / 2 → IfSome said (λ bytes. count ≡ 2 * length bytes) → Err bad_key ≡ key_or_refusal said
+too_long None count long h = refl
+too_long (Some bytes) count long h =
+    let more : 1024 < length bytes = omega arith in
+    let over : nat_le (length bytes) 1024 ≡ false = grind (arith, more) in
+    rw over refl
+
+-- more digits than a key has
+pub digits-too_long : (signs : List ℕ) → 1024 < length signs / 2 → Err bad_key ≡ key_or_refusal (bytes_of_digits signs)
+digits-too_long signs long = too_long (bytes_of_digits signs) (length signs) long (length-bytes_of_digits signs)
+
+-- ---- what decoding into half as many bytes gives
+
+whole : (signs : List ℕ) (n : ℕ) → n ≡ length signs / 2 → bytes_of_digits signs ≡ result_ok (decode_sized signs n)
+whole signs n half =
+    elim (length signs % 2 == 1) as (λ b. (length signs % 2 == 1) ≡ b → bytes_of_digits signs ≡ result_ok (decode_sized signs n)) [
+      | true ↦ λ is. rw (odd signs (grind (arith, is)), is) refl
+      | false ↦ λ isnt.
+          let even : length signs % 2 ≡ 0 = grind (arith, isnt) in
+          bytes_of_digits-decode_pairs 0 signs ∙ ap result_ok (sym (decode_sized-twice signs n (omega (arith, even, half)) ∙ decode_of-even signs even))
+    ] refl
+
+module _ (signs out : List ℕ) (n : ℕ) (half : n ≡ length signs / 2) (result : Result (Unit {0}) FromHexError) where
+  gave : (decoded : Result (List ℕ) FromHexError) → MatchResult decoded (λ bytes. (result ≡ Ok tt) × (out ≡ bytes)) (λ error. result ≡ Err error) → is_err result ≡ false → result_ok decoded ≡ Some out
+  gave (Ok bytes) h fine = ap Some (sym h.1)
+  gave (Err error) h fine = absurd (cc)
+
+  refused : (decoded : Result (List ℕ) FromHexError) → MatchResult decoded (λ bytes. (result ≡ Ok tt) × (out ≡ bytes)) (λ error. result ≡ Err error) → is_err result ≡ true → result_ok decoded ≡ None
+  refused (Ok bytes) h failed = absurd (cc)
+  refused (Err error) h failed = refl
+
+  pub digits-decoded : MatchResult (decode_sized signs n) (λ bytes. (result ≡ Ok tt) × (out ≡ bytes)) (λ error. result ≡ Err error) → is_err result ≡ false → bytes_of_digits signs ≡ Some out
+  digits-decoded h fine = whole signs n half ∙ gave (decode_sized signs n) h fine
+
+  pub digits-refused : MatchResult (decode_sized signs n) (λ bytes. (result ≡ Ok tt) × (out ≡ bytes)) (λ error. result ≡ Err error) → is_err result ≡ true → bytes_of_digits signs ≡ None
+  digits-refused h failed = whole signs n half ∙ refused (decode_sized signs n) h failed

@@ -1,0 +1,90 @@
+//! Keys of the string kinds as tokens say them.
+
+ghost use Rattle.std.specs.Prelude.{◌≡◌, ◌==◌, not, if◌then◌else◌, Some, None};
+ghost use Rattle.std.specs.List.{list_all};
+ghost use Rattle.judy_model.specs.KeyTokens.{is_shown, bytes_of_digits};
+ghost use Rattle.judy_model.specs.Commands.{bytes_key_at, string_key_at};
+ghost use Rattle.judy_command.specs.KeyReads.{read_into, key_or_refusal};
+
+use crate::reply::Refusal;
+use arrayvec::ArrayVec;
+
+// The most bytes of a key. (This project's own.)
+const MAX_KEY_LEN: usize = 1024;
+
+/// A buffer that a key fits.
+pub type KeyBuf = ArrayVec<u8, MAX_KEY_LEN>;
+
+/// Puts the key of a judyhs array that a token says into the buffer: `=` and bytes from `!` to `~`, or `#` and
+/// hexadecimal digits, for at most 1,024 bytes. Else `BadKey`.
+pub(crate) fn read_bytes_key(token: &[u8], key: &mut KeyBuf) -> Result<(), Refusal>
+    ensures { read_into result key.new.items ≡ bytes_key_at token.now }
+{
+    match token {
+        [b'=', signs @ ..] => read_signs(signs, key),
+        [b'#', digits @ ..] => read_digits(digits, key),
+        _ => Err(Refusal::BadKey),
+    }
+}
+
+/// The same for a judysl array, whose keys hold no zero byte.
+pub(crate) fn read_string_key(token: &[u8], key: &mut KeyBuf) -> Result<(), Refusal>
+    ensures { read_into result key.new.items ≡ string_key_at token.now }
+{
+    read_bytes_key(token, key)?;
+    if !are_non_zero(key) {
+        return Err(Refusal::BadKey);
+    }
+    Ok(())
+}
+
+// Puts bytes that stand for themselves into the buffer.
+fn read_signs(signs: &[u8], key: &mut KeyBuf) -> Result<(), Refusal>
+    ensures { read_into result key.new.items ≡ key_or_refusal (if list_all is_shown signs.now then Some signs.now else None) }
+{
+    if !are_shown(signs) {
+        return Err(Refusal::BadKey);
+    }
+    put(signs, key)
+}
+
+// Puts the bytes that hexadecimal digits write into the buffer.
+fn read_digits(digits: &[u8], key: &mut KeyBuf) -> Result<(), Refusal>
+    ensures { read_into result key.new.items ≡ key_or_refusal (bytes_of_digits digits.now) }
+{
+    let mut room = [0; MAX_KEY_LEN];
+    let count = digits.len() / 2;
+    if count > MAX_KEY_LEN {
+        return Err(Refusal::BadKey);
+    }
+    let bytes = &mut room[..count];
+    if hex::decode_to_slice(digits, bytes).is_err() {
+        return Err(Refusal::BadKey);
+    }
+    put(bytes, key)
+}
+
+// Puts the bytes into the buffer, where they fit.
+fn put(bytes: &[u8], key: &mut KeyBuf) -> Result<(), Refusal>
+    ensures { read_into result key.new.items ≡ key_or_refusal (Some bytes.now) }
+{
+    key.clear();
+    if key.try_extend_from_slice(bytes).is_err() {
+        return Err(Refusal::BadKey);
+    }
+    Ok(())
+}
+
+// Whether each byte stands for itself in a key token.
+fn are_shown(signs: &[u8]) -> bool
+    ensures { result ≡ list_all is_shown signs.now }
+{
+    signs.iter().all(|sign| sign.is_ascii_graphic())
+}
+
+// Whether none of the bytes is zero.
+fn are_non_zero(bytes: &[u8]) -> bool
+    ensures { result ≡ list_all (λ byte. not (byte == 0)) bytes.now }
+{
+    bytes.iter().all(|byte| *byte != 0)
+}
