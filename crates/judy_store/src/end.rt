@@ -16,8 +16,6 @@ mod tests;
 pub enum End {
     /// The script was run, and its answers are out.
     Done,
-    /// There was no memory for the output's buffer.
-    NoMemory,
     /// The run ended with a fault, or standard output couldn't be flushed, which is `Write`.
     Run(RunFault),
 }
@@ -28,7 +26,7 @@ pub fn status(end: &End) -> u8
 {
     match end {
         End::Done => 0,
-        End::NoMemory | End::Run(_) => 1,
+        End::Run(_) => 1,
     }
 }
 
@@ -54,7 +52,6 @@ fn line(end: &End) -> &'static [u8]
 {
     match end {
         End::Done => b"",
-        End::NoMemory => b"judystore: no-memory\n",
         End::Run(RunFault::Read) => b"judystore: run: read\n",
         End::Run(RunFault::Write) => b"judystore: run: write\n",
         End::Run(RunFault::TooLong) => b"judystore: run: too-long\n",

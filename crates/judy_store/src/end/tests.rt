@@ -6,7 +6,6 @@ use judy_pipe::{MemSink, SinkTrouble};
 fn ends(rt: HostRuntime) {
     let table = [
         (End::Done, 0, b"".as_slice()),
-        (End::NoMemory, 1, b"judystore: no-memory\n"),
         (End::Run(RunFault::Read), 1, b"judystore: run: read\n"),
         (End::Run(RunFault::Write), 1, b"judystore: run: write\n"),
         (
@@ -22,6 +21,6 @@ fn ends(rt: HostRuntime) {
         assert_eq!(rt; sink.bytes(), line);
     }
     let mut sink = MemSink::<64>::new(64, SinkTrouble::Fails { at: 9 });
-    assert_eq!(rt; write_line(&End::NoMemory, &mut sink), Err(RunFault::Write));
+    assert_eq!(rt; write_line(&End::Run(RunFault::Read), &mut sink), Err(RunFault::Write));
     assert_eq!(rt; sink.bytes(), b"judystore".as_slice());
 }
