@@ -3,4 +3,4 @@ mod Ranks
 mod KeyTests
 mod Edits
 mod Sets
-mod Kept
+mod SeenWords

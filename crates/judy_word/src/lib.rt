@@ -6,8 +6,8 @@
 //
 // What lies below the two public types, one sorted vector of pairs, shows in no contract. Each public call hands
 // on to a method of `SortedPairs`: sorted.rt has the vector, the search in it and its changes, and on these
-// stand counts.rt, neighbours.rt and empties.rt. The proof of `SortedPairs::first` is in
-// proofs/sorted/SortedPairs/first, and so of each method, whichever of the four files has it; a public call
+// stand counts.rt, neighbours.rt, empties.rt and kept.rt. The proof of `SortedPairs::first` is in
+// proofs/sorted/SortedPairs/first, and so of each method, whichever of these files has it; a public call
 // that has no folder in proofs/ needs none.
 #![tactic(auto)]
 
@@ -16,6 +16,7 @@ mod empties;
 mod error;
 mod judy1;
 mod judyl;
+mod kept;
 mod neighbours;
 mod places;
 mod sorted;

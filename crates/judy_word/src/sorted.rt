@@ -1,11 +1,10 @@
 // An array of words to words as a limit and one vector of pairs whose keys strictly ascend: what the public
 // arrays are made of. One search finds each key's place; an insert or a delete moves the pairs behind it.
-ghost use Rattle.std.specs.Prelude.{◌≡◌, ◌≤◌, ◌↔◌, not, Some, All, IfOk, OnOk, IfErr, OnErr, IsTrue, IsFalse};
+ghost use Rattle.std.specs.Prelude.{◌≡◌, ◌≤◌, ◌↔◌, not, Some, IfOk, OnOk, IfErr, OnErr, IsTrue, IsFalse};
 ghost use Rattle.std.specs.Borrow.{sem};
 ghost use Rattle.std.specs.FinMap as map;
 ghost use Rattle.std.specs.Option.{option_copied_mut};
 ghost use Rattle.judy_model.specs.Arrays as array;
-ghost use Rattle.judy_model.specs.Keys.{IsWord};
 ghost use Rattle.judy_model.specs.Counts as counts;
 ghost use Rattle.judy_word.specs.Refusals.{IsRefusal};
 ghost use Rattle.judy_word.specs.PairSlots.{LendsPair, LendsPairIf, LendsPairIfOk};
@@ -195,25 +194,4 @@ impl SortedPairs {
         self.pairs = Vec::new(alloc);
         freed
     }
-
-    // What they keep, whatever was left in a slot. It reads each pair and changes nothing.
-    pub fn are_an_array(&self)
-        ensures { array.IsArrayOf IsWord self.now }
-    {
-        let _limit = self.limit;
-        are_words(&self.pairs);
-    }
 }
-
-// That keys and values are words.
-fn are_words(pairs: &[(u64, u64)])
-    ensures { All (λ pair. IsWord pair.0 × IsWord pair.1) pairs.now }
-{
-    for pair in pairs {
-        are_two_words(pair.0, pair.1);
-    }
-}
-
-fn are_two_words(_key: u64, _value: u64)
-    ensures { IsWord _key × IsWord _value }
-{}

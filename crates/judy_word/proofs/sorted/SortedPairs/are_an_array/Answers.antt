@@ -1,6 +1,28 @@
-use Rattle.std.proofs.Common.{arith}
-use Rattle.judy_word.proofs.Kept.{words_are_array}
+use Rattle.std.proofs.Common.{◌<◌, ◌≤◌, Option, ℕ, sym, ap, subst, ◌∙◌}
+use Rattle.std.specs.Prelude.{unwrap_or}
+use Rattle.judy_model.specs.Keys.{IsWord}
+use Rattle.judy_model.specs.Neighbours.{next}
+use Rattle.judy_word.proofs.SeenWords.{Seen, left_from, Seen-start, Seen-step, falls, IsArrayOf-seen}
 use Rattle.judy_word.proofs.sorted.SortedPairs.are_an_array.Goals as goal
 
+pub keys-init : goal.keys-init
+keys-init c = subst (Seen c.args.self.now.map) (sym c.first-found.ensures) (Seen-start c.args.self.now.map)
+
+pub keys-smaller : goal.keys-smaller
+keys-smaller c =
+    subst (λ o. left_from o < left_from c.keys.found) (sym c.next-found.ensures)
+    (subst (λ o. left_from (next c.args.self.now.map c.in-Some.key) < left_from o) (sym c.in-Some.is) (falls c.args.self.now.map c.in-Some.key c.are_words-in-Some.ensures.0))
+
+pub keys-preserved : goal.keys-preserved
+keys-preserved c =
+    let words = c.are_words-in-Some.ensures in
+    subst (Seen c.args.self.now.map) (sym c.next-found.ensures)
+    (Seen-step c.args.self.now.map c.in-Some.key c.unwrap_or-value.result (subst (Seen c.args.self.now.map) c.in-Some.is c.keys.invariant) words.0
+    (λ held is. sym (c.unwrap_or-value.ensures ∙ ap (λ (o : Option ℕ). unwrap_or o 0) (c.get.ensures ∙ is))) words.1)
+
 pub returns : goal.returns
-returns c = rw (← c.self.view_is) (words_are_array c.self.inside.limit c.self.inside.pairs.items c.self.invariant (omega arith) (rw c.deref.ensures.value at c.are_words.ensures))
+returns c =
+    IsArrayOf-seen c.args.self.now (subst (Seen c.args.self.now.map) c.in_default.is c.keys.invariant)
+    (subst (λ n. 1 ≤ n) c.limit.ensures.value c.limit.ensures.some)
+    (subst IsWord c.limit.ensures.value c.are_words.ensures.1)
+    (subst (λ n. n ≤ c.args.self.now.limit) c.len.ensures.count c.len.ensures.within)
