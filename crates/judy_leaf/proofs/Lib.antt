@@ -1,2 +1,5 @@
 pub mod Digits
 pub mod WordSteps
+pub mod Placed
+pub mod Counted
+pub mod EditSteps

@@ -1,6 +1,6 @@
 -- Keys of a few bytes packed into words: a word has as many places as whole keys fit into its eight bytes, the first of
 -- them in its lowest bits.
-use Rattle.std.specs.Prelude.{ℕ, zero, suc, ◌*◌, ◌/◌, ◌%◌, ◌^◌, ◌<◌, ◌≤◌, List, [], ◌∷◌, ◌++◌}
+use Rattle.std.specs.Prelude.{◌≡◌, ℕ, zero, suc, ◌-◌, ◌*◌, ◌/◌, ◌%◌, ◌^◌, ◌<◌, ◌≤◌, List, [], ◌∷◌, ◌++◌, length, take, drop, replicate}
 use Rattle.std.specs.List.{AllByRecursion}
 
 -- The digits of a number in a base, so many, the lowest first.
@@ -25,6 +25,17 @@ IsTight width word = word < (256 ^ width) ^ (8 / width)
 pub record IsWidth (width : ℕ) : Type 0 where
   pub some : 1 ≤ width
   pub most : width ≤ 8
+
+-- The keys that words hold, so many: what stands in their first places.
+abbrev pub keys_in : ℕ → ℕ → List ℕ → List ℕ
+keys_in width count words = take count (places_of width words)
+
+-- Words hold so many keys, and all their other bits are 0.
+pub record IsPacked (width count : ℕ) (words : List ℕ) : Type 0 where
+  pub is_width : IsWidth width
+  pub enough : count ≤ length words * (8 / width)
+  pub clear : drop count (places_of width words) ≡ replicate (length words * (8 / width) - count) 0
+  pub tight : AllByRecursion (IsTight width) words
 
 -- A list with an element put in at a place: those from there on move on by one, and the last falls out.
 abbrev pub pushed : ℕ → ℕ → List ℕ → List ℕ

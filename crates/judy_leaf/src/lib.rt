@@ -1,6 +1,8 @@
 //! The leaves of a tree.
 #![tactic(auto)]
 
+mod edit;
+mod packed;
 mod place;
 mod words;
 
