@@ -3,3 +3,10 @@ pub mod WordSteps
 pub mod Placed
 pub mod Counted
 pub mod EditSteps
+pub mod WordsFor
+pub mod ListEdits
+pub mod KeyEdits
+pub mod LeafLists
+pub mod PairLists
+pub mod ValueSteps
+pub mod PairSteps

@@ -2,8 +2,15 @@
 #![tactic(auto)]
 
 mod edit;
+mod keys;
+mod leaf;
+mod leaf_ref;
 mod packed;
+mod pairs;
 mod place;
+mod values;
 mod words;
 
+pub use leaf::{Leaf, LeafOf};
+pub use leaf_ref::LeafRef;
 pub use words::{Width, Words};

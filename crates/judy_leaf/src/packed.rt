@@ -39,7 +39,7 @@ fn count_below<const W: usize>(words: &[u64], key: u64) -> usize
 }
 
 // How many of the keys are below a key.
-fn rank_in<const W: usize>(count: usize, words: &[u64], key: u64) -> usize
+pub(crate) fn rank_in<const W: usize>(count: usize, words: &[u64], key: u64) -> usize
     requires packed { IsPacked W count words.now }
     requires few { length words.now ≤ 65535 }
     ensures { result ≡ set.rank (keys_in W count words.now) key }
@@ -57,7 +57,7 @@ pub(crate) fn key_of<const W: usize>(words: &[u64], at: usize) -> u64
 }
 
 // The place of a key, where it is among the keys.
-fn find_in<const W: usize>(count: usize, words: &[u64], key: u64) -> Option<usize>
+pub(crate) fn find_in<const W: usize>(count: usize, words: &[u64], key: u64) -> Option<usize>
     requires packed { IsPacked W count words.now }
     requires ascending { IsStrictlySortedBy word_order (keys_in W count words.now) }
     requires few { length words.now ≤ 65535 }
