@@ -56,14 +56,16 @@ module _ (width : ℕ) (is : IsWidth width) where
         let one_more : length (xs ++ 0 ∷ []) ≡ length xs + 1 = length-append xs (0 ∷ []) in
         let whole : length (xs ++ 0 ∷ []) * (8 / width) ≡ length xs * (8 / width) + 8 / width = ap (λ n. n * (8 / width)) one_more ∙ omega arith in
         let fits = packed.enough in
-        let sum : length xs * (8 / width) - count + 8 / width ≡ length (xs ++ 0 ∷ []) * (8 / width) - count = omega arith in
-        (record {
-          is_width = is;
-          enough = omega arith;
-          clear = ap (drop count) parts ∙ drop-append-le count (places_of width xs) (replicate (8 / width) 0) within ∙ ap (λ l. l ++ replicate (8 / width) 0) packed.clear
-              ∙ replicate-add (length xs * (8 / width) - count) (8 / width) 0 ∙ ap (λ n. replicate n 0) sum;
-          tight = all_append (IsTight width) xs (0 ∷ []) packed.tight (power_pos (256 ^ width) (base_pos width is) (8 / width), tt);
-        }, ap (take count) parts ∙ take-append-le count (places_of width xs) (replicate (8 / width) 0) within)
+        let sum : length xs * (8 / width) - count + 8 / width ≡ length (xs ++ 0 ∷ []) * (8 / width) - count = omega arith in (
+          record {
+            is_width = is;
+            enough = omega arith;
+            clear = ap (drop count) parts ∙ drop-append-le count (places_of width xs) (replicate (8 / width) 0) within ∙ ap (λ l. l ++ replicate (8 / width) 0) packed.clear
+                ∙ replicate-add (length xs * (8 / width) - count) (8 / width) 0 ∙ ap (λ n. replicate n 0) sum;
+            tight = all_append (IsTight width) xs (0 ∷ []) packed.tight (power_pos (256 ^ width) (base_pos width is) (8 / width), tt);
+          },
+          ap (take count) parts ∙ take-append-le count (places_of width xs) (replicate (8 / width) 0) within,
+        )
 
     -- A key more.
     pub packed_with : (at key : ℕ) (ys : List ℕ) → at ≤ count → count + 1 ≤ length xs * (8 / width) → length ys ≡ length xs → places_of width ys ≡ pushed at key (places_of width xs) → AllByRecursion (IsTight width) ys
@@ -72,13 +74,15 @@ module _ (width : ℕ) (is : IsWidth width) where
         let h = long in
         let left = length xs * (8 / width) - (count + 1) in
         let one : length xs * (8 / width) - count ≡ suc left = omega arith in
-        let all : length xs * (8 / width) ≡ length ys * (8 / width) = ap (λ n. n * (8 / width)) (sym same) in
-        (record {
-          is_width = is;
-          enough = omega arith;
-          clear = ap (drop (count + 1)) changed ∙ drop-pushed at key count left (places_of width xs) place (packed.clear ∙ ap (λ n. replicate n 0) one) ∙ ap (λ n. replicate (n - (count + 1)) 0) all;
-          tight = tight;
-        }, ap (take (count + 1)) changed ∙ take-pushed at key count (places_of width xs) place (omega arith))
+        let all : length xs * (8 / width) ≡ length ys * (8 / width) = ap (λ n. n * (8 / width)) (sym same) in (
+          record {
+            is_width = is;
+            enough = omega arith;
+            clear = ap (drop (count + 1)) changed ∙ drop-pushed at key count left (places_of width xs) place (packed.clear ∙ ap (λ n. replicate n 0) one) ∙ ap (λ n. replicate (n - (count + 1)) 0) all;
+            tight = tight;
+          },
+          ap (take (count + 1)) changed ∙ take-pushed at key count (places_of width xs) place (omega arith),
+        )
 
   -- A key less.
   pub packed_without : (count : ℕ) (xs : List ℕ) → IsPacked width (count + 1) xs → (at : ℕ) (ys : List ℕ) → at ≤ count → length ys ≡ length xs → places_of width ys ≡ pulled at 0 (places_of width xs) → AllByRecursion (IsTight width) ys
@@ -88,13 +92,15 @@ module _ (width : ℕ) (is : IsWidth width) where
       let room = packed.enough in
       let left = length xs * (8 / width) - (count + 1) in
       let one : suc left ≡ length xs * (8 / width) - count = omega arith in
-      let all : length xs * (8 / width) ≡ length ys * (8 / width) = ap (λ n. n * (8 / width)) (sym same) in
-      (record {
-        is_width = is;
-        enough = omega arith;
-        clear = ap (drop count) changed ∙ drop-pulled at count left (places_of width xs) place (omega arith) packed.clear ∙ ap (λ n. replicate n 0) one ∙ ap (λ n. replicate (n - count) 0) all;
-        tight = tight;
-      }, ap (take count) changed ∙ take-pulled at count (places_of width xs) place (omega arith))
+      let all : length xs * (8 / width) ≡ length ys * (8 / width) = ap (λ n. n * (8 / width)) (sym same) in (
+        record {
+          is_width = is;
+          enough = omega arith;
+          clear = ap (drop count) changed ∙ drop-pulled at count left (places_of width xs) place (omega arith) packed.clear ∙ ap (λ n. replicate n 0) one ∙ ap (λ n. replicate (n - count) 0) all;
+          tight = tight;
+        },
+        ap (take count) changed ∙ take-pulled at count (places_of width xs) place (omega arith),
+      )
 
   -- A word less, where the keys don't need it.
   pub packed_front : (count : ℕ) (xs ys : List ℕ) → IsPacked width count (xs ++ ys) → count ≤ length xs * (8 / width) → IsPacked width count xs × (keys_in width count xs ≡ keys_in width count (xs ++ ys))
@@ -104,13 +110,15 @@ module _ (width : ℕ) (is : IsWidth width) where
       let behind : drop count (places_of width xs) ++ places_of width ys ≡ replicate (length (xs ++ ys) * (8 / width) - count) 0 =
       sym (drop-append-le count (places_of width xs) (places_of width ys) (omega arith)) ∙ ap (drop count) (sym parts) ∙ packed.clear in
       let left = length-drop count (places_of width xs) in
-      let size : length (drop count (places_of width xs)) ≡ length xs * (8 / width) - count = omega arith in
-      (record {
-        is_width = is;
-        enough = room;
-        clear = front_of_zeros (drop count (places_of width xs)) (places_of width ys) (length (xs ++ ys) * (8 / width) - count) behind ∙ ap (λ n. replicate n 0) size;
-        tight = all_front (IsTight width) xs ys packed.tight;
-      }, sym (take-append-le count (places_of width xs) (places_of width ys) (omega arith)) ∙ ap (take count) (sym parts))
+      let size : length (drop count (places_of width xs)) ≡ length xs * (8 / width) - count = omega arith in (
+        record {
+          is_width = is;
+          enough = room;
+          clear = front_of_zeros (drop count (places_of width xs)) (places_of width ys) (length (xs ++ ys) * (8 / width) - count) behind ∙ ap (λ n. replicate n 0) size;
+          tight = all_front (IsTight width) xs ys packed.tight;
+        },
+        sym (take-append-le count (places_of width xs) (places_of width ys) (omega arith)) ∙ ap (take count) (sym parts),
+      )
 
   -- ---- in a block
 

@@ -10,3 +10,4 @@ pub mod LeafLists
 pub mod PairLists
 pub mod ValueSteps
 pub mod PairSteps
+pub mod LeafChanges

@@ -54,7 +54,13 @@ pub(crate) fn rank(width: usize, block: &Block, start: usize, count: usize, key:
 }
 
 // The place of a key, where it is among the keys.
-pub(crate) fn find(width: usize, block: &Block, start: usize, count: usize, key: u64) -> Option<usize>
+pub(crate) fn find(
+    width: usize,
+    block: &Block,
+    start: usize,
+    count: usize,
+    key: u64,
+) -> Option<usize>
     requires start { start ≤ 32 }
     requires keys { AreKeysFrom width count start block.now }
     requires ascending { IsStrictlySortedBy word_order (keys_from width count start block.now) }
@@ -132,7 +138,14 @@ fn insert_in<const W: usize>(block: &mut Block, start: usize, count: usize, at: 
 }
 
 // Puts a key in at a place. There are fewer than 32, and the block has room for one more.
-pub(crate) fn insert(width: usize, block: &mut Block, start: usize, count: usize, at: usize, key: u64)
+pub(crate) fn insert(
+    width: usize,
+    block: &mut Block,
+    start: usize,
+    count: usize,
+    at: usize,
+    key: u64,
+)
     requires start { start ≤ 32 }
     requires few { count < 32 }
     requires keys { AreKeysFrom width count start block.old }
@@ -194,5 +207,24 @@ pub(crate) fn remove(width: usize, block: &mut Block, start: usize, count: usize
         6 => remove_in::<6>(block, start, count, at),
         7 => remove_in::<7>(block, start, count, at),
         _ => remove_in::<8>(block, start, count, at),
+    }
+}
+
+// How many words so many keys take.
+pub(crate) fn words_of(width: usize, count: usize) -> usize
+    requires width { IsWidth width }
+    requires few { count ≤ 33 }
+    ensures value { result ≡ words_for width count }
+    ensures within { result ≤ 33 }
+{
+    match width {
+        1 => words_for::<1>(count),
+        2 => words_for::<2>(count),
+        3 => words_for::<3>(count),
+        4 => words_for::<4>(count),
+        5 => words_for::<5>(count),
+        6 => words_for::<6>(count),
+        7 => words_for::<7>(count),
+        _ => words_for::<8>(count),
     }
 }

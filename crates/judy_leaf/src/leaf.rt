@@ -8,6 +8,7 @@ ghost use Rattle.judy_leaf.specs.Leaves.{IsLeafParts, leaf_list};
 
 use crate::leaf_ref::LeafRef;
 use crate::words::{Width, Words};
+use crate::{keys, pairs};
 use judy_block::Block;
 use std::alloc::{AllocError, Global};
 use std::marker::{Model, PhantomData};
@@ -53,7 +54,11 @@ impl<V: Words + Drop> LeafOf<V> {
         ensures parts { IsLeafParts V.WORDS result.0 result.1 }
         ensures list { leaf_list V.WORDS result.0 result.1 ≡ self }
     {
-        let LeafOf { count, block, words: _ } = self;
+        let LeafOf {
+            count,
+            block,
+            words: _,
+        } = self;
         (count, block)
     }
 
@@ -62,5 +67,47 @@ impl<V: Words + Drop> LeafOf<V> {
         ensures { result ≡ self.now }
     {
         LeafRef::new(self.count, self.block.tag() as u8, &self.block)
+    }
+
+    /// Puts a key in, with the value 0. The key is absent and below 256 to the power of the width, and there are fewer than 32.
+    /// The error is want of memory; the leaf is unchanged then.
+    pub fn insert(&mut self, alloc: Global, key: u64) -> Result<(), AllocError>
+        requires absent { IsFalse (set.has (keys_of self.old.pairs) key) }
+        requires room { length self.old.pairs < 32 }
+        requires below { key < 256 ^ self.old.width }
+        ensures added { OnOk result (self.new ≡ record self.old { pairs = with_pair key 0 self.old.pairs }) }
+        ensures unchanged { OnErr result (self.new ≡ self.old) }
+    {
+        self.insert_pair(alloc, key, 0)
+    }
+
+    /// Puts a key in with its value, which is 0 where keys have no value; else as `insert`.
+    pub fn insert_pair(&mut self, alloc: Global, key: u64, value: u64) -> Result<(), AllocError>
+        requires absent { IsFalse (set.has (keys_of self.old.pairs) key) }
+        requires room { length self.old.pairs < 32 }
+        requires below { key < 256 ^ self.old.width }
+        requires no_value { V.WORDS ≡ 0 → value ≡ 0 }
+        ensures added { OnOk result (self.new ≡ record self.old { pairs = with_pair key value self.old.pairs }) }
+        ensures unchanged { OnErr result (self.new ≡ self.old) }
+    {
+        let at = self.reading().rank(key);
+        let width = self.block.tag() as usize;
+        let count = usize::from(self.count);
+        let needed = V::WORDS * (count + 1) + keys::words_of(width, count + 1);
+        pairs::give_room(&mut self.block, alloc, needed)?;
+        pairs::put::<V>(&mut self.block, width, count, at, key, value);
+        self.count += 1;
+        Ok(())
+    }
+
+    /// Takes the key at a place out, with its value. No memory is asked for.
+    pub fn remove(&mut self, at: usize)
+        requires { at < length self.old.pairs }
+        ensures { self.new ≡ record self.old { pairs = remove self.old.pairs at } }
+    {
+        let width = self.block.tag() as usize;
+        let count = usize::from(self.count);
+        pairs::take::<V>(&mut self.block, width, count, at);
+        self.count -= 1;
     }
 }

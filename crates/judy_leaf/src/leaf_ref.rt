@@ -69,7 +69,13 @@ impl<'a, V: Words + Drop> LeafRef<'a, V> {
         ensures within { result ≤ length self.now.pairs }
     {
         let count = usize::from(self.count);
-        keys::rank(usize::from(self.width), self.block, V::WORDS * count, count, key)
+        keys::rank(
+            usize::from(self.width),
+            self.block,
+            V::WORDS * count,
+            count,
+            key,
+        )
     }
 
     /// The place of a key; none where the word isn't one of the keys.
@@ -77,7 +83,13 @@ impl<'a, V: Words + Drop> LeafRef<'a, V> {
         ensures { result ≡ set.place (keys_of self.now.pairs) key }
     {
         let count = usize::from(self.count);
-        keys::find(usize::from(self.width), self.block, V::WORDS * count, count, key)
+        keys::find(
+            usize::from(self.width),
+            self.block,
+            V::WORDS * count,
+            count,
+            key,
+        )
     }
 
     /// The key at a place, counted from 0.
@@ -86,7 +98,13 @@ impl<'a, V: Words + Drop> LeafRef<'a, V> {
         ensures { result ≡ slice_index (keys_of self.now.pairs) at }
     {
         let count = usize::from(self.count);
-        keys::key_at(usize::from(self.width), self.block, V::WORDS * count, count, at)
+        keys::key_at(
+            usize::from(self.width),
+            self.block,
+            V::WORDS * count,
+            count,
+            at,
+        )
     }
 
     /// The value at a place, 0 where keys have no value.
@@ -94,10 +112,6 @@ impl<'a, V: Words + Drop> LeafRef<'a, V> {
         requires { at < length self.now.pairs }
         ensures { result ≡ slice_index (values_of self.now.pairs) at }
     {
-        if V::WORDS == 1 {
-            self.block.get(at)
-        } else {
-            0
-        }
+        if V::WORDS == 1 { self.block.get(at) } else { 0 }
     }
 }

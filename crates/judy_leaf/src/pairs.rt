@@ -25,7 +25,14 @@ pub(crate) fn give_room(block: &mut Block, alloc: Global, needed: usize) -> Resu
 }
 
 // Puts a key in at a place, with its value.
-pub(crate) fn put<V: Words + Drop>(block: &mut Block, width: usize, count: usize, at: usize, key: u64, value: u64)
+pub(crate) fn put<V: Words + Drop>(
+    block: &mut Block,
+    width: usize,
+    count: usize,
+    at: usize,
+    key: u64,
+    value: u64,
+)
     requires one { V.WORDS ≤ 1 }
     requires tag { block.old.tag ≡ width }
     requires keys { AreKeysFrom width count (V.WORDS * count) block.old }
