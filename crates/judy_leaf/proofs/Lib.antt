@@ -11,3 +11,5 @@ pub mod PairLists
 pub mod ValueSteps
 pub mod PairSteps
 pub mod LeafChanges
+pub mod Filled
+pub mod ImmLists

@@ -31,6 +31,7 @@ put_with_value words count at key value before mid after one place are changed p
     let tags = put.tag ∙ changed.tag in
     let keys : keys_from before.tag (count + 1) (count + 1) after ≡ insert old at key = put.changed ∙ ap (λ keys. insert keys at key) changed.same in
     record {
+      capacity = put.capacity ∙ changed.capacity;
       tag = tags;
       are = subst (λ n. AreKeysFrom before.tag (count + 1) n after) (sym (once (count + 1))) put.keys;
       keys = (λ t. keys_from before.tag (count + 1) (once (count + 1) t) after) ∙ keys ∙ ap (λ n. insert (keys_from before.tag count n before) at key) (sym (once count));
@@ -49,6 +50,7 @@ put_without words count at key value before after none zero_value place are put 
     let old = keys_from before.tag count 0 before in
     let long = length-keys_from before.tag count 0 before here in
     record {
+      capacity = put.capacity;
       tag = put.tag;
       are = subst (λ n. AreKeysFrom before.tag (count + 1) n after) (sym (never_more (count + 1))) put.keys;
       keys = ap (λ n. keys_from before.tag (count + 1) n after) (never_more (count + 1)) ∙ put.changed ∙ ap (λ n. insert (keys_from before.tag count n before) at key) (sym (never_more count));

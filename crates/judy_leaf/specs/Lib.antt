@@ -5,3 +5,4 @@ pub mod Leaves
 pub mod KeyChanges
 pub mod ValueChanges
 pub mod PairChanges
+pub mod Immediates

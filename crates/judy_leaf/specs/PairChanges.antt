@@ -6,6 +6,7 @@ use Rattle.judy_leaf.specs.Leaves.{keys_from, leaf_list, AreKeysFrom}
 
 -- A key and its value are put in at a place.
 pub record IsPairPut (words count at key value : ℕ) (before after : Contents) : Type 0 where
+  pub capacity : after.capacity ≡ before.capacity
   pub tag : after.tag ≡ before.tag
   pub are : AreKeysFrom before.tag (count + 1) (words * (count + 1)) after
   pub keys : keys_from before.tag (count + 1) (words * (count + 1)) after ≡ insert (keys_from before.tag count (words * count) before) at key

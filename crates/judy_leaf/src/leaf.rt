@@ -1,9 +1,9 @@
 //! A leaf: up to 32 keys of one width in a block.
 
 ghost use Rattle.std.specs.Prelude.{◌≡◌, ◌+◌, ◌*◌, ◌<◌, ◌≤◌, ◌^◌, length, IfOk, OnOk, OnErr, IsFalse};
-ghost use Rattle.std.specs.List.{remove};
+ghost use Rattle.std.specs.List.{remove, AllByRecursion};
 ghost use Rattle.judy_bits.specs.ByteSets as set;
-ghost use Rattle.judy_leaf.specs.KeyLists.{KeyList, keys_of, with_pair};
+ghost use Rattle.judy_leaf.specs.KeyLists.{keys_of, with_pair, IsKeyList};
 ghost use Rattle.judy_leaf.specs.Leaves.{IsLeafParts, leaf_list};
 
 use crate::leaf_ref::LeafRef;
@@ -109,5 +109,29 @@ impl<V: Words + Drop> LeafOf<V> {
         let count = usize::from(self.count);
         pairs::take::<V>(&mut self.block, width, count, at);
         self.count -= 1;
+    }
+
+    /// The leaf of pairs whose keys strictly ascend and have `width` bytes, 1 to 8; at most 32. Where keys have no value, each
+    /// value is 0. The error is want of memory; nothing is kept then.
+    pub fn from_sorted(
+        alloc: Global,
+        width: u8,
+        pairs: &[(u64, u64)],
+    ) -> Result<LeafOf<V>, AllocError>
+        requires words { V.WORDS ≤ 1 }
+        requires list { IsKeyList (record { width = width; pairs = pairs.now }) }
+        requires few { length pairs.now ≤ 32 }
+        requires no_values { V.WORDS ≡ 0 → AllByRecursion (λ pair. pair.1 ≡ 0) pairs.now }
+        ensures { IfOk result (λ leaf. leaf ≡ record { width = width; pairs = pairs.now }) }
+    {
+        let needed = V::WORDS * pairs.len() + keys::words_of(usize::from(width), pairs.len());
+        let mut block = Block::new(alloc, needed / 4 * 4 + 4)?;
+        block.set_tag(u32::from(width));
+        pairs::put_all::<V>(&mut block, usize::from(width), pairs);
+        Ok(LeafOf {
+            count: pairs.len() as u8,
+            block,
+            words: PhantomData,
+        })
     }
 }

@@ -1,7 +1,9 @@
 //! Changes of a leaf's block: a pair of key and value more, or one less.
 
-ghost use Rattle.std.specs.Prelude.{◌≡◌, ◌+◌, ◌-◌, ◌*◌, ◌<◌, ◌≤◌, ◌^◌, length, IfOk, OnOk, OnErr};
-ghost use Rattle.judy_leaf.specs.Leaves.{words_for, AreKeysFrom};
+ghost use Rattle.std.specs.Prelude.{◌≡◌, ◌+◌, ◌-◌, ◌*◌, ◌<◌, ◌≤◌, ◌^◌, length, [], OnOk, OnErr};
+ghost use Rattle.std.specs.List.{AllByRecursion};
+ghost use Rattle.judy_leaf.specs.KeyLists.{IsKeyList};
+ghost use Rattle.judy_leaf.specs.Leaves.{words_for, leaf_list, AreKeysFrom};
 ghost use Rattle.judy_leaf.specs.PairChanges.{IsPairPut, IsPairTaken, HasRoom};
 
 use crate::words::Words;
@@ -64,5 +66,24 @@ pub(crate) fn take<V: Words + Drop>(block: &mut Block, width: usize, count: usiz
         values::remove(block, count, at);
     } else {
         keys::remove(width, block, 0, count, at);
+    }
+}
+
+// Puts pairs, whose keys ascend, into a block without words, whose tag is the width.
+pub(crate) fn put_all<V: Words + Drop>(block: &mut Block, width: usize, pairs: &[(u64, u64)])
+    requires one { V.WORDS ≤ 1 }
+    requires tag { block.old.tag ≡ width }
+    requires empty { block.old.words ≡ [] }
+    requires list { IsKeyList (record { width = width; pairs = pairs.now }) }
+    requires few { length pairs.now ≤ 32 }
+    requires no_values { V.WORDS ≡ 0 → AllByRecursion (λ pair. pair.1 ≡ 0) pairs.now }
+    requires room { V.WORDS * length pairs.now + words_for width (length pairs.now) ≤ block.old.capacity }
+    ensures tag { block.new.tag ≡ width }
+    ensures keys { AreKeysFrom width (length pairs.now) (V.WORDS * length pairs.now) block.new }
+    ensures pairs { (leaf_list V.WORDS (length pairs.now) block.new).pairs ≡ pairs.now }
+{
+    for at in 0..pairs.len() {
+        let (key, value) = pairs[at];
+        put::<V>(block, width, at, at, key, value);
     }
 }
