@@ -9,7 +9,7 @@ use Rattle.judy_model.specs.Keys.{word_order}
 use Rattle.judy_bits.specs.ByteSets as set
 use Rattle.judy_leaf.specs.Packing.{places_of, keys_in, IsPacked, IsWidth}
 use Rattle.judy_leaf.specs.KeyLists.{KeyList, keys_of, values_of, pairs_of, with_pair}
-use Rattle.judy_leaf.specs.Immediates.{imm_list, imm_room, IsImm, IsWordChange}
+use Rattle.judy_leaf.specs.Immediates.{imm_list, imm_room, count_in, keys_part, value_part, parts_list, IsImm, IsWordChange}
 use Rattle.judy_leaf.proofs.Placed.{per_pos, length-places_of}
 use Rattle.judy_leaf.proofs.KeyEdits.{packed_more}
 use Rattle.judy_leaf.proofs.LeafLists.{keys_of-pairs_of, length-pairs_of, length-keys_of, no_value, value_of, rank_within}
@@ -30,7 +30,7 @@ imm_empty words width one is = record {
   ascending = tt;
 }
 
-length-keys_in : (width count keys : ℕ) → IsPacked width count (keys ∷ []) → length (keys_in width count (keys ∷ [])) ≡ count
+pub length-keys_in : (width count keys : ℕ) → IsPacked width count (keys ∷ []) → length (keys_in width count (keys ∷ [])) ≡ count
 length-keys_in width count keys packed =
     let room = packed.enough in
     length-take-le count (places_of width (keys ∷ [])) (subst (λ n. count ≤ n) (sym (length-places_of width packed.is_width (keys ∷ []))) room)
@@ -171,3 +171,11 @@ module _ (words width count keys value : ℕ) (is : IsImm words width count keys
   -- Whether another key fits.
   pub full_without : (room : ℕ) → words ≡ 0 → room ≡ 8 / width → (count == room) ≡ (length list.pairs == imm_room words list.width)
   full_without room none is_room = λ t. sym imm_length t == (is_room ∙ ap (λ w. 8 / w) (sym width_is) ∙ sym (room_none words list.width none)) t
+
+  -- One key with its value, as two words.
+  pub parts_one : words ≡ 1 → 1 ≤ length list.pairs → parts_list words list.width keys value ≡ list
+  parts_one one some =
+      let all = imm_length in
+      let few = is.few one in
+      let single : 1 ≡ count = omega arith in
+      (λ t. imm_list words (width_is t) ((ap (λ w. count_in w keys) one ∙ single) t) (ap (λ w. keys_part w keys value) one t) (ap (λ w. value_part w value) one t)) ∙ seen

@@ -13,3 +13,4 @@ pub mod PairSteps
 pub mod LeafChanges
 pub mod Filled
 pub mod ImmLists
+pub mod SlotSteps

@@ -24,3 +24,22 @@ pub record IsImm (words width count keys : ℕ) : Type 0 where
 pub record IsWordChange (width count later : ℕ) (change : List ℕ → List ℕ) (before after : ℕ) : Type 0 where
   pub packed : IsPacked width later (after ∷ [])
   pub changed : keys_in width later (after ∷ []) ≡ change (keys_in width count (before ∷ []))
+
+-- How many keys the two words of an immediate in a node stand for, the word that holds them, and the value.
+abbrev pub count_in : ℕ → ℕ → ℕ
+count_in words head = if words == 1 then 1 else head
+
+abbrev pub keys_part : ℕ → ℕ → ℕ → ℕ
+keys_part words head word = if words == 1 then head else word
+
+abbrev pub value_part : ℕ → ℕ → ℕ
+value_part words word = if words == 1 then word else 0
+
+-- The list that the two words are.
+abbrev pub parts_list : ℕ → ℕ → ℕ → ℕ → KeyList
+parts_list words width head word = imm_list words width (count_in words head) (keys_part words head word) (value_part words word)
+
+-- The two words are an immediate that holds a key.
+pub record IsImmParts (words width head word : ℕ) : Type 0 where
+  pub imm : IsImm words width (count_in words head) (keys_part words head word)
+  pub some : 1 ≤ count_in words head

@@ -1,5 +1,5 @@
 -- What a leaf or an immediate is to its callers.
-use Rattle.std.specs.Prelude.{ℕ, ◌^◌, ◌<◌, ◌≤◌, List, [], ◌∷◌}
+use Rattle.std.specs.Prelude.{ℕ, zero, suc, ◌^◌, ◌<◌, ◌≤◌, List, [], ◌∷◌}
 use Rattle.std.specs.List.{AllByRecursion, insert}
 use Rattle.std.specs.List.Sorted.{IsStrictlySortedBy}
 use Rattle.judy_model.specs.Keys.{word_order}
@@ -29,6 +29,16 @@ pairs_of (key ∷ keys) (value ∷ values) = (key, value) ∷ pairs_of keys valu
 -- The pairs with one more, in its place among the keys.
 abbrev pub with_pair : ℕ → ℕ → List (ℕ × ℕ) → List (ℕ × ℕ)
 with_pair key value pairs = insert pairs (set.rank (keys_of pairs) key) (key, value)
+
+-- The pairs with another value at a place.
+abbrev pub valued : ℕ → List (ℕ × ℕ) → ℕ → List (ℕ × ℕ)
+valued at [] value = []
+valued zero (pair ∷ pairs) value = (pair.0, value) ∷ pairs
+valued (suc at) (pair ∷ pairs) value = pair ∷ valued at pairs value
+
+-- The list with another value at a place.
+abbrev pub with_value_at : ℕ → KeyList → ℕ → KeyList
+with_value_at at list value = record list { pairs = valued at list.pairs value }
 
 -- What always holds: a key has 1 to 8 bytes, and the keys ascend.
 pub record IsKeyList (list : KeyList) : Type 0 where

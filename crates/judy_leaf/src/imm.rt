@@ -4,8 +4,8 @@ ghost use Rattle.std.specs.Prelude.{◌≡◌, ◌+◌, ◌-◌, ◌*◌, ◌/�
 ghost use Rattle.std.specs.List.{remove};
 ghost use Rattle.judy_bits.specs.ByteSets as set;
 ghost use Rattle.judy_leaf.specs.Packing.{IsWidth};
-ghost use Rattle.judy_leaf.specs.KeyLists.{keys_of, values_of, with_pair};
-ghost use Rattle.judy_leaf.specs.Immediates.{imm_list, imm_room, IsImm};
+ghost use Rattle.judy_leaf.specs.KeyLists.{keys_of, values_of, with_pair, with_value_at};
+ghost use Rattle.judy_leaf.specs.Immediates.{imm_room, parts_list, IsImmParts};
 
 use crate::one_word;
 use crate::words::{Width, Words};
@@ -37,6 +37,9 @@ impl<V: Words + Drop> Model for ImmOf<V> {
 }
 
 impl<V: Words + Drop> ImmOf<V> {
+    ghost use Rattle.std.specs.Borrow.{sem, Lends, u64 as word};
+    ghost use Rattle.judy_leaf.specs.contracts.imm.ImmOf.{the_row};
+
     /// An immediate without keys, for keys of `width` bytes, 1 to 8.
     pub fn new(width: u8) -> ImmOf<V>
         requires words { V.WORDS ≤ 1 }
@@ -130,5 +133,53 @@ impl<V: Words + Drop> ImmOf<V> {
     {
         self.keys = one_word::without_key(self.width, usize::from(self.count), self.keys, at);
         self.count -= 1;
+    }
+
+    /// The immediate of the two words that stand for it in a node. Where keys have a value, there is one key, which is the first
+    /// word, and the second is its value; else the first is the number of keys, and the second holds them, packed.
+    pub fn of_parts(width: u8, head: u64, word: u64) -> ImmOf<V>
+        requires { IsImmParts V.WORDS width head word }
+        ensures { result ≡ parts_list V.WORDS width head word }
+    {
+        if V::WORDS == 1 {
+            ImmOf {
+                width,
+                count: 1,
+                keys: head,
+                value: word,
+                words: PhantomData,
+            }
+        } else {
+            ImmOf {
+                width,
+                count: head as u8,
+                keys: word,
+                value: 0,
+                words: PhantomData,
+            }
+        }
+    }
+
+    /// The two words that stand for the immediate in a node; it holds a key.
+    pub fn into_parts(self) -> (u64, u64)
+        requires { 1 ≤ length self.pairs }
+        ensures parts { IsImmParts V.WORDS self.width result.0 result.1 }
+        ensures list { parts_list V.WORDS self.width result.0 result.1 ≡ self }
+    {
+        if V::WORDS == 1 {
+            (self.keys, self.value)
+        } else {
+            (u64::from(self.count), self.keys)
+        }
+    }
+
+    /// Lends the value at a place; nothing else changes.
+    pub fn slot_at(&mut self, at: usize) -> &mut u64
+        requires map { V.WORDS ≡ 1 }
+        requires inside { at < length self.old.pairs }
+        ensures* changes { sem 𝓛 (Lends (the_row V.row V.Words) word self.entry result (with_value_at at self.entry.now)) }
+        ensures value { result.now ≡ slice_index (values_of self.old.pairs) at }
+    {
+        &mut self.value
     }
 }

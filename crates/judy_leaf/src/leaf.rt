@@ -1,9 +1,9 @@
 //! A leaf: up to 32 keys of one width in a block.
 
-ghost use Rattle.std.specs.Prelude.{◌≡◌, ◌+◌, ◌*◌, ◌<◌, ◌≤◌, ◌^◌, length, IfOk, OnOk, OnErr, IsFalse};
+ghost use Rattle.std.specs.Prelude.{◌≡◌, ◌+◌, ◌*◌, ◌<◌, ◌≤◌, ◌^◌, length, slice_index, IfOk, OnOk, OnErr, IsFalse};
 ghost use Rattle.std.specs.List.{remove, AllByRecursion};
 ghost use Rattle.judy_bits.specs.ByteSets as set;
-ghost use Rattle.judy_leaf.specs.KeyLists.{keys_of, with_pair, IsKeyList};
+ghost use Rattle.judy_leaf.specs.KeyLists.{keys_of, values_of, with_pair, with_value_at, IsKeyList};
 ghost use Rattle.judy_leaf.specs.Leaves.{IsLeafParts, leaf_list};
 
 use crate::leaf_ref::LeafRef;
@@ -37,6 +37,9 @@ impl<V: Words + Drop> Model for LeafOf<V> {
 }
 
 impl<V: Words + Drop> LeafOf<V> {
+    ghost use Rattle.std.specs.Borrow.{sem, Lends, u64 as word};
+    ghost use Rattle.judy_leaf.specs.contracts.leaf.LeafOf.{the_row};
+
     /// The leaf that is made of a number of keys and a block.
     pub fn of_parts(count: u8, block: Block) -> LeafOf<V>
         requires { IsLeafParts V.WORDS count block }
@@ -133,5 +136,15 @@ impl<V: Words + Drop> LeafOf<V> {
             block,
             words: PhantomData,
         })
+    }
+
+    /// Lends the value at a place; nothing else changes.
+    pub fn slot_at(&mut self, at: usize) -> &mut u64
+        requires map { V.WORDS ≡ 1 }
+        requires inside { at < length self.old.pairs }
+        ensures* changes { sem 𝓛 (Lends (the_row V.row V.Words) word self.entry result (with_value_at at self.entry.now)) }
+        ensures value { result.now ≡ slice_index (values_of self.old.pairs) at }
+    {
+        self.block.slot(at)
     }
 }

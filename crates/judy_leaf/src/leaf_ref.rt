@@ -1,6 +1,6 @@
 //! The reading of a leaf whose parts stand in a node.
 
-ghost use Rattle.std.specs.Prelude.{◌≡◌, ◌+◌, ◌*◌, ◌<◌, ◌≤◌, ◌^◌, length, slice_index};
+ghost use Rattle.std.specs.Prelude.{◌≡◌, ◌+◌, ◌*◌, ◌<◌, ◌≤◌, ◌^◌, ◌==◌, length, slice_index};
 ghost use Rattle.judy_bits.specs.ByteSets as set;
 ghost use Rattle.judy_leaf.specs.KeyLists.{KeyList, keys_of, values_of};
 ghost use Rattle.judy_leaf.specs.Leaves.{IsLeafParts, leaf_list};
@@ -53,6 +53,13 @@ impl<'a, V: Words + Drop> LeafRef<'a, V> {
         ensures within { result ≤ 32 }
     {
         usize::from(self.count)
+    }
+
+    /// Whether no further key fits: there are 32.
+    pub fn is_full(&self) -> bool
+        ensures { result ≡ (length self.now.pairs == 32) }
+    {
+        self.len() == 32
     }
 
     /// How many bytes a key has, 1 to 8.
