@@ -1,0 +1,41 @@
+-- Pairs put in one after another.
+use Rattle.std.proofs.Common.{◌≡◌, ℕ, zero, suc, ◌+◌, ◌-◌, ◌*◌, ◌/◌, ◌<◌, ◌≤◌, List, [], ◌∷◌, ◌++◌, length, take, drop, replicate, get_or, refl, ap, sym, ◌∙◌, subst, arith}
+use Rattle.std.specs.List.{insert, AllByRecursion}
+use Rattle.std.proofs.Math.Nat.{div-eq_of_lt}
+use Rattle.std.proofs.lemmas.List.{drop_all}
+use Rattle.judy_block.specs.Contents.{Contents}
+use Rattle.judy_leaf.specs.Packing.{IsPacked, IsWidth}
+use Rattle.judy_leaf.specs.KeyLists.{KeyList, keys_of, IsKeyList}
+use Rattle.judy_leaf.specs.Leaves.{words_for, leaf_list, AreKeysFrom}
+use Rattle.judy_leaf.proofs.Placed.{per_pos}
+
+-- One put after the first ones.
+pub insert_last : {X : Type 0} (xs : List X) (at : ℕ) (d : X) → at < length xs → insert (take at xs) at (get_or xs at d) ≡ take (at + 1) xs
+insert_last xs at d inside = last d xs at inside ∙ ap (λ n. take n xs) (let e : suc at ≡ at + 1 = omega arith in e)
+  where
+    last : {X : Type 0} (d : X) (xs : List X) (at : ℕ) → at < length xs → insert (take at xs) at (get_or xs at d) ≡ take (suc at) xs
+    last d [] at inside = let never : ⊥ = omega arith in absurd never
+    last d (x ∷ xs) zero inside = refl
+    last d (x ∷ xs) (suc at) inside = ap (λ rest. x ∷ rest) (last d xs at (omega arith))
+
+pub keys_below : (bound : ℕ) (pairs : List (ℕ × ℕ)) (at : ℕ) (d : ℕ × ℕ) → AllByRecursion (λ key. key < bound) (keys_of pairs) → at < length pairs → (get_or pairs at d).0 < bound
+keys_below bound [] at d all inside = let never : ⊥ = omega arith in absurd never
+keys_below bound (pair ∷ pairs) zero d all inside = all.0
+keys_below bound (pair ∷ pairs) (suc at) d all inside = keys_below bound pairs at d all.1 (omega arith)
+
+pub values_zero : (pairs : List (ℕ × ℕ)) (at : ℕ) (d : ℕ × ℕ) → AllByRecursion (λ pair. pair.1 ≡ 0) pairs → at < length pairs → (get_or pairs at d).1 ≡ 0
+values_zero [] at d all inside = let never : ⊥ = omega arith in absurd never
+values_zero (pair ∷ pairs) zero d all inside = all.0
+values_zero (pair ∷ pairs) (suc at) d all inside = values_zero pairs at d all.1 (omega arith)
+
+-- No keys take no words.
+pub no_keys : (width start : ℕ) (block : Contents) → IsWidth width → start ≡ 0 → block.words ≡ [] → AreKeysFrom width 0 start block
+no_keys width start block is none empty =
+    let some = per_pos width is in
+    let no_words : words_for width 0 ≡ 0 = div-eq_of_lt (omega arith) in
+    subst (λ n. AreKeysFrom width 0 n block) (sym none)
+    (record {
+      few = omega arith;
+      exact = ap length empty ∙ sym no_words ∙ (let e : words_for width 0 ≡ 0 + words_for width 0 = omega arith in e);
+      packed = subst (IsPacked width 0) (sym empty) (record { is_width = is; enough = omega arith; clear = ap (λ n. replicate n 0) (let e : 0 ≡ 0 * (8 / width) - 0 = omega arith in e); tight = tt });
+    })

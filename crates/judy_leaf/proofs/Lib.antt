@@ -1,0 +1,16 @@
+pub mod Digits
+pub mod WordSteps
+pub mod Placed
+pub mod Counted
+pub mod EditSteps
+pub mod WordsFor
+pub mod ListEdits
+pub mod KeyEdits
+pub mod LeafLists
+pub mod PairLists
+pub mod ValueSteps
+pub mod PairSteps
+pub mod LeafChanges
+pub mod Filled
+pub mod ImmLists
+pub mod SlotSteps

@@ -1,0 +1,6 @@
+use Rattle.std.proofs.Common.{◌≡◌, ℕ, ◌<◌, ◌≤◌, slice_index, ap, sym, subst, ◌∙◌, arith}
+use Rattle.judy_leaf.proofs.ImmLists.{imm_length}
+use Rattle.judy_leaf.proofs.imm.ImmOf.len.Goals as goal
+
+pub returns-clause-count : goal.returns-clause-count
+returns-clause-count g c = c.from.ensures ∙ sym (imm_length g.V.Words.WORDS c.self.inside.width c.self.inside.count c.self.inside.keys c.self.inside.value c.self.invariant c.args.self.now c.self.view_is)

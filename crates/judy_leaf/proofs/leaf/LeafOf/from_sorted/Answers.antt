@@ -1,0 +1,19 @@
+use Rattle.std.proofs.Common.{◌≡◌, ℕ, ◌*◌, length, ap, sym, subst, ◌∙◌}
+use Rattle.std.proofs.lemmas.List.{take_all}
+use Rattle.std.specs.List.Sorted.{IsStrictlySortedBy}
+use Rattle.judy_model.specs.Keys.{word_order}
+use Rattle.judy_leaf.specs.KeyLists.{keys_of}
+use Rattle.judy_leaf.specs.Leaves.{AreKeysFrom, keys_from, leaf_list}
+use Rattle.judy_leaf.proofs.LeafLists.{keys_of-pairs_of}
+use Rattle.judy_leaf.proofs.leaf.LeafOf.from_sorted.Goals as goal
+
+pub invariant_of-result : goal.invariant_of-result
+invariant_of-result g c =
+    let n = length c.args.pairs.now in
+    let block = c.put_all.new.block in
+    let put = c.put_all.ensures in
+    record {
+      one = c.requires.words;
+      keys = subst (λ w. AreKeysFrom w n (g.V.Words.WORDS * n) block) (sym put.tag) put.keys;
+      ascending = subst (IsStrictlySortedBy word_order) (sym (sym (keys_of-pairs_of (keys_from block.tag n (g.V.Words.WORDS * n) block) _) ∙ ap keys_of put.pairs)) c.requires.list.ascending;
+    }

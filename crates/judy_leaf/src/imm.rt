@@ -1,0 +1,185 @@
+//! An immediate: a few keys in the node itself.
+
+ghost use Rattle.std.specs.Prelude.{◌≡◌, ◌+◌, ◌-◌, ◌*◌, ◌/◌, ◌<◌, ◌≤◌, ◌^◌, ◌==◌, [], ◌∷◌, length, slice_index, IsFalse};
+ghost use Rattle.std.specs.List.{remove};
+ghost use Rattle.judy_bits.specs.ByteSets as set;
+ghost use Rattle.judy_leaf.specs.Packing.{IsWidth};
+ghost use Rattle.judy_leaf.specs.KeyLists.{keys_of, values_of, with_pair, with_value_at};
+ghost use Rattle.judy_leaf.specs.Immediates.{imm_room, parts_list, IsImmParts};
+
+use crate::one_word;
+use crate::words::{Width, Words};
+use std::marker::{Model, PhantomData};
+
+/// A few keys, and a value where `V` says so, without memory: one key where keys have a value, else as many as fit into a word.
+#[derive(Drop)]
+pub struct ImmOf<V: Words + Drop> {
+    width: u8,
+    count: u8,
+    keys: u64,
+    value: u64,
+    words: PhantomData<V>,
+}
+
+/// An immediate whose keys have `W` words of value each, 0 or 1.
+pub type Imm<const W: usize> = ImmOf<Width<W>>;
+
+impl<V: Words + Drop> Model for ImmOf<V> {
+    ghost use Rattle.judy_leaf.specs.KeyLists.{KeyList};
+
+    ghost Value = { KeyList };
+
+    ghost use Rattle.judy_leaf.specs.Immediates.{imm_list, IsImm};
+
+    ghost view = { λ i. imm_list V.WORDS i.width i.count i.keys i.value };
+
+    ghost invariant = { λ i. IsImm V.WORDS i.width i.count i.keys };
+}
+
+impl<V: Words + Drop> ImmOf<V> {
+    ghost use Rattle.std.specs.Borrow.{sem, Lends, u64 as word};
+    ghost use Rattle.judy_leaf.specs.contracts.imm.ImmOf.{the_row};
+
+    /// An immediate without keys, for keys of `width` bytes, 1 to 8.
+    pub fn new(width: u8) -> ImmOf<V>
+        requires words { V.WORDS ≤ 1 }
+        requires width { IsWidth width }
+        ensures { result ≡ record { width = width; pairs = [] } }
+    {
+        ImmOf {
+            width,
+            count: 0,
+            keys: 0,
+            value: 0,
+            words: PhantomData,
+        }
+    }
+
+    /// How many keys there are, at most 8.
+    pub fn len(&self) -> usize
+        ensures count { result ≡ length self.now.pairs }
+        ensures within { result ≤ 8 }
+    {
+        usize::from(self.count)
+    }
+
+    /// How many bytes a key has, 1 to 8.
+    pub fn width(&self) -> u8
+        ensures value { result ≡ self.now.width }
+        ensures within { (1 ≤ result) × (result ≤ 8) }
+    {
+        self.width
+    }
+
+    /// Whether no further key fits.
+    pub fn is_full(&self) -> bool
+        ensures { result ≡ (length self.now.pairs == imm_room V.WORDS self.now.width) }
+    {
+        if V::WORDS == 1 {
+            self.count == 1
+        } else {
+            self.count == one_word::room(self.width)
+        }
+    }
+
+    /// How many keys are below a word.
+    pub fn rank(&self, key: u64) -> usize
+        ensures value { result ≡ set.rank (keys_of self.now.pairs) key }
+        ensures within { result ≤ length self.now.pairs }
+    {
+        one_word::rank(self.width, usize::from(self.count), self.keys, key)
+    }
+
+    /// The place of a key; none where the word isn't one of the keys.
+    pub fn find(&self, key: u64) -> Option<usize>
+        ensures { result ≡ set.place (keys_of self.now.pairs) key }
+    {
+        one_word::find(self.width, usize::from(self.count), self.keys, key)
+    }
+
+    /// The key at a place, counted from 0.
+    pub fn key_at(&self, at: usize) -> u64
+        requires { at < length self.now.pairs }
+        ensures { result ≡ slice_index (keys_of self.now.pairs) at }
+    {
+        one_word::key_at(self.width, usize::from(self.count), self.keys, at)
+    }
+
+    /// The value at a place, 0 where keys have no value.
+    pub fn value_at(&self, at: usize) -> u64
+        requires { at < length self.now.pairs }
+        ensures { result ≡ slice_index (values_of self.now.pairs) at }
+    {
+        if V::WORDS == 1 { self.value } else { 0 }
+    }
+
+    /// Puts a key in, with the value 0. The key is absent and below 256 to the power of the width, and the immediate isn't full.
+    pub fn insert(&mut self, key: u64)
+        requires absent { IsFalse (set.has (keys_of self.old.pairs) key) }
+        requires room { length self.old.pairs < imm_room V.WORDS self.old.width }
+        requires below { key < 256 ^ self.old.width }
+        ensures { self.new ≡ record self.old { pairs = with_pair key 0 self.old.pairs } }
+    {
+        let at = self.rank(key);
+        self.keys = one_word::with_key(self.width, usize::from(self.count), self.keys, at, key);
+        self.value = 0;
+        self.count += 1;
+    }
+
+    /// Takes the key at a place out, with its value.
+    pub fn remove(&mut self, at: usize)
+        requires { at < length self.old.pairs }
+        ensures { self.new ≡ record self.old { pairs = remove self.old.pairs at } }
+    {
+        self.keys = one_word::without_key(self.width, usize::from(self.count), self.keys, at);
+        self.count -= 1;
+    }
+
+    /// The immediate of the two words that stand for it in a node. Where keys have a value, there is one key, which is the first
+    /// word, and the second is its value; else the first is the number of keys, and the second holds them, packed.
+    pub fn of_parts(width: u8, head: u64, word: u64) -> ImmOf<V>
+        requires { IsImmParts V.WORDS width head word }
+        ensures { result ≡ parts_list V.WORDS width head word }
+    {
+        if V::WORDS == 1 {
+            ImmOf {
+                width,
+                count: 1,
+                keys: head,
+                value: word,
+                words: PhantomData,
+            }
+        } else {
+            ImmOf {
+                width,
+                count: head as u8,
+                keys: word,
+                value: 0,
+                words: PhantomData,
+            }
+        }
+    }
+
+    /// The two words that stand for the immediate in a node; it holds a key.
+    pub fn into_parts(self) -> (u64, u64)
+        requires { 1 ≤ length self.pairs }
+        ensures parts { IsImmParts V.WORDS self.width result.0 result.1 }
+        ensures list { parts_list V.WORDS self.width result.0 result.1 ≡ self }
+    {
+        if V::WORDS == 1 {
+            (self.keys, self.value)
+        } else {
+            (u64::from(self.count), self.keys)
+        }
+    }
+
+    /// Lends the value at a place; nothing else changes.
+    pub fn slot_at(&mut self, at: usize) -> &mut u64
+        requires map { V.WORDS ≡ 1 }
+        requires inside { at < length self.old.pairs }
+        ensures* changes { sem 𝓛 (Lends (the_row V.row V.Words) word self.entry result (with_value_at at self.entry.now)) }
+        ensures value { result.now ≡ slice_index (values_of self.old.pairs) at }
+    {
+        &mut self.value
+    }
+}

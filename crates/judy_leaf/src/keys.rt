@@ -1,0 +1,230 @@
+//! The keys of a leaf as they stand in its block, from a word on to the block's end. What is called here knows the width at
+//! run time, and hands on to code for that width alone, which has neither a division nor a multiplication.
+
+ghost use Rattle.std.specs.Prelude.{◌≡◌, ◌+◌, ◌-◌, ◌/◌, ◌<◌, ◌≤◌, ◌^◌, length, take, drop, slice_index};
+ghost use Rattle.std.specs.List.{insert, remove};
+ghost use Rattle.std.specs.List.Sorted.{IsStrictlySortedBy};
+ghost use Rattle.judy_model.specs.Keys.{word_order};
+ghost use Rattle.judy_bits.specs.ByteSets as set;
+ghost use Rattle.judy_leaf.specs.Packing.{IsWidth};
+ghost use Rattle.judy_leaf.specs.Leaves.{words_for, keys_from, AreKeysFrom};
+ghost use Rattle.judy_leaf.specs.KeyChanges.{IsKeyChange, HasPlace, HasPlaceFor};
+
+use crate::edit::{pull_key, push_key};
+use crate::packed::{find_in, key_of, rank_in};
+use judy_block::Block;
+
+// How many words so many keys take.
+fn words_for<const W: usize>(count: usize) -> usize
+    requires width { IsWidth W }
+    requires few { count ≤ 33 }
+    ensures value { result ≡ words_for W count }
+    ensures within { result ≤ 33 }
+{
+    (count + (8 / W - 1)) / (8 / W)
+}
+
+// The words of the keys.
+fn words_from<const W: usize>(block: &Block, start: usize, count: usize) -> &[u64]
+    requires width { IsWidth W }
+    requires start { start ≤ 32 }
+    requires keys { AreKeysFrom W count start block.now }
+    ensures words { result.now ≡ drop start block.now.words }
+    ensures few { length result.now ≤ 33 }
+{
+    &block.words()[start..start + words_for::<W>(count)]
+}
+
+// How many keys are below a key.
+pub(crate) fn rank(width: usize, block: &Block, start: usize, count: usize, key: u64) -> usize
+    requires start { start ≤ 32 }
+    requires keys { AreKeysFrom width count start block.now }
+    ensures { result ≡ set.rank (keys_from width count start block.now) key }
+{
+    match width {
+        1 => rank_in::<1>(count, words_from::<1>(block, start, count), key),
+        2 => rank_in::<2>(count, words_from::<2>(block, start, count), key),
+        3 => rank_in::<3>(count, words_from::<3>(block, start, count), key),
+        4 => rank_in::<4>(count, words_from::<4>(block, start, count), key),
+        5 => rank_in::<5>(count, words_from::<5>(block, start, count), key),
+        6 => rank_in::<6>(count, words_from::<6>(block, start, count), key),
+        7 => rank_in::<7>(count, words_from::<7>(block, start, count), key),
+        _ => rank_in::<8>(count, words_from::<8>(block, start, count), key),
+    }
+}
+
+// The place of a key, where it is among the keys.
+pub(crate) fn find(
+    width: usize,
+    block: &Block,
+    start: usize,
+    count: usize,
+    key: u64,
+) -> Option<usize>
+    requires start { start ≤ 32 }
+    requires keys { AreKeysFrom width count start block.now }
+    requires ascending { IsStrictlySortedBy word_order (keys_from width count start block.now) }
+    ensures { result ≡ set.place (keys_from width count start block.now) key }
+{
+    match width {
+        1 => find_in::<1>(count, words_from::<1>(block, start, count), key),
+        2 => find_in::<2>(count, words_from::<2>(block, start, count), key),
+        3 => find_in::<3>(count, words_from::<3>(block, start, count), key),
+        4 => find_in::<4>(count, words_from::<4>(block, start, count), key),
+        5 => find_in::<5>(count, words_from::<5>(block, start, count), key),
+        6 => find_in::<6>(count, words_from::<6>(block, start, count), key),
+        7 => find_in::<7>(count, words_from::<7>(block, start, count), key),
+        _ => find_in::<8>(count, words_from::<8>(block, start, count), key),
+    }
+}
+
+// The key at a place.
+fn key_in_block<const W: usize>(block: &Block, start: usize, count: usize, at: usize) -> u64
+    requires width { IsWidth W }
+    requires start { start ≤ 32 }
+    requires keys { AreKeysFrom W count start block.now }
+    requires inside { at < count }
+    ensures { result ≡ slice_index (keys_from W count start block.now) at }
+{
+    key_of::<W>(words_from::<W>(block, start, count), at)
+}
+
+// The key at a place.
+pub(crate) fn key_at(width: usize, block: &Block, start: usize, count: usize, at: usize) -> u64
+    requires start { start ≤ 32 }
+    requires keys { AreKeysFrom width count start block.now }
+    requires inside { at < count }
+    ensures { result ≡ slice_index (keys_from width count start block.now) at }
+{
+    match width {
+        1 => key_in_block::<1>(block, start, count, at),
+        2 => key_in_block::<2>(block, start, count, at),
+        3 => key_in_block::<3>(block, start, count, at),
+        4 => key_in_block::<4>(block, start, count, at),
+        5 => key_in_block::<5>(block, start, count, at),
+        6 => key_in_block::<6>(block, start, count, at),
+        7 => key_in_block::<7>(block, start, count, at),
+        _ => key_in_block::<8>(block, start, count, at),
+    }
+}
+
+// One word more, of zeros, where the words of so many keys have no place for another.
+fn make_place<const W: usize>(block: &mut Block, start: usize, count: usize)
+    requires width { IsWidth W }
+    requires start { start ≤ 32 }
+    requires few { count < 32 }
+    requires keys { AreKeysFrom W count start block.old }
+    requires room { start + words_for W (count + 1) ≤ block.old.capacity }
+    ensures { HasPlace W count start block.old block.new }
+{
+    if words_for::<W>(count) < words_for::<W>(count + 1) {
+        block.open_gap(start + words_for::<W>(count), 1);
+    }
+}
+
+// Puts a key in at a place.
+fn insert_in<const W: usize>(block: &mut Block, start: usize, count: usize, at: usize, key: u64)
+    requires width { IsWidth W }
+    requires start { start ≤ 32 }
+    requires few { count < 32 }
+    requires keys { AreKeysFrom W count start block.old }
+    requires room { start + words_for W (count + 1) ≤ block.old.capacity }
+    requires place { at ≤ count }
+    requires below { key < 256 ^ W }
+    ensures { IsKeyChange W start count (count + 1) (λ keys. insert keys at key) block.old block.new }
+{
+    make_place::<W>(block, start, count);
+    push_key::<W>(block, start, at, key);
+}
+
+// Puts a key in at a place. There are fewer than 32, and the block has room for one more.
+pub(crate) fn insert(
+    width: usize,
+    block: &mut Block,
+    start: usize,
+    count: usize,
+    at: usize,
+    key: u64,
+)
+    requires start { start ≤ 32 }
+    requires few { count < 32 }
+    requires keys { AreKeysFrom width count start block.old }
+    requires room { start + words_for width (count + 1) ≤ block.old.capacity }
+    requires place { at ≤ count }
+    requires below { key < 256 ^ width }
+    ensures { IsKeyChange width start count (count + 1) (λ keys. insert keys at key) block.old block.new }
+{
+    match width {
+        1 => insert_in::<1>(block, start, count, at, key),
+        2 => insert_in::<2>(block, start, count, at, key),
+        3 => insert_in::<3>(block, start, count, at, key),
+        4 => insert_in::<4>(block, start, count, at, key),
+        5 => insert_in::<5>(block, start, count, at, key),
+        6 => insert_in::<6>(block, start, count, at, key),
+        7 => insert_in::<7>(block, start, count, at, key),
+        _ => insert_in::<8>(block, start, count, at, key),
+    }
+}
+
+// Lets the last word go where the words of one key fewer don't need it.
+fn drop_place<const W: usize>(block: &mut Block, start: usize, count: usize)
+    requires width { IsWidth W }
+    requires start { start ≤ 32 }
+    requires some { (1 ≤ count) × (count ≤ 32) }
+    requires keys { HasPlaceFor W start count block.old }
+    ensures { IsKeyChange W start (count - 1) (count - 1) (λ keys. keys) block.old block.new }
+{
+    if words_for::<W>(count - 1) < words_for::<W>(count) {
+        block.close_gap(start + words_for::<W>(count - 1), 1);
+    }
+}
+
+// Takes out the key at a place.
+fn remove_in<const W: usize>(block: &mut Block, start: usize, count: usize, at: usize)
+    requires width { IsWidth W }
+    requires start { start ≤ 32 }
+    requires keys { AreKeysFrom W count start block.old }
+    requires inside { at < count }
+    ensures { IsKeyChange W start count (count - 1) (λ keys. remove keys at) block.old block.new }
+{
+    pull_key::<W>(block, start, at);
+    drop_place::<W>(block, start, count);
+}
+
+// Takes out the key at a place.
+pub(crate) fn remove(width: usize, block: &mut Block, start: usize, count: usize, at: usize)
+    requires start { start ≤ 32 }
+    requires keys { AreKeysFrom width count start block.old }
+    requires inside { at < count }
+    ensures { IsKeyChange width start count (count - 1) (λ keys. remove keys at) block.old block.new }
+{
+    match width {
+        1 => remove_in::<1>(block, start, count, at),
+        2 => remove_in::<2>(block, start, count, at),
+        3 => remove_in::<3>(block, start, count, at),
+        4 => remove_in::<4>(block, start, count, at),
+        5 => remove_in::<5>(block, start, count, at),
+        6 => remove_in::<6>(block, start, count, at),
+        7 => remove_in::<7>(block, start, count, at),
+        _ => remove_in::<8>(block, start, count, at),
+    }
+}
+
+// How many words so many keys take.
+pub(crate) fn words_of(width: usize, count: usize) -> usize
+    requires width { IsWidth width }
+    requires few { count ≤ 33 }
+    ensures value { result ≡ words_for width count }
+    ensures within { result ≤ 33 }
+{
+    match width {
+        1 => words_for::<1>(count),
+        2 => words_for::<2>(count),
+        3 => words_for::<3>(count),
+        4 => words_for::<4>(count),
+        5 => words_for::<5>(count),
+        6 => words_for::<6>(count),
+        7 => words_for::<7>(count),
+        _ => words_for::<8>(count),
+    }
+}

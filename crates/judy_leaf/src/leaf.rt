@@ -1,0 +1,150 @@
+//! A leaf: up to 32 keys of one width in a block.
+
+ghost use Rattle.std.specs.Prelude.{◌≡◌, ◌+◌, ◌*◌, ◌<◌, ◌≤◌, ◌^◌, length, slice_index, IfOk, OnOk, OnErr, IsFalse};
+ghost use Rattle.std.specs.List.{remove, AllByRecursion};
+ghost use Rattle.judy_bits.specs.ByteSets as set;
+ghost use Rattle.judy_leaf.specs.KeyLists.{keys_of, values_of, with_pair, with_value_at, IsKeyList};
+ghost use Rattle.judy_leaf.specs.Leaves.{IsLeafParts, leaf_list};
+
+use crate::leaf_ref::LeafRef;
+use crate::words::{Width, Words};
+use crate::{keys, pairs};
+use judy_block::Block;
+use std::alloc::{AllocError, Global};
+use std::marker::{Model, PhantomData};
+
+/// Up to 32 keys, and a value for each where `V` says so, in one block.
+#[derive(Drop)]
+pub struct LeafOf<V: Words + Drop> {
+    count: u8,
+    block: Block,
+    words: PhantomData<V>,
+}
+
+/// A leaf whose keys have `W` words of value each, 0 or 1.
+pub type Leaf<const W: usize> = LeafOf<Width<W>>;
+
+impl<V: Words + Drop> Model for LeafOf<V> {
+    ghost use Rattle.judy_leaf.specs.KeyLists.{KeyList};
+
+    ghost Value = { KeyList };
+
+    ghost use Rattle.judy_leaf.specs.Leaves.{leaf_list, IsLeafParts};
+
+    ghost view = { λ l. leaf_list V.WORDS l.count l.block };
+
+    ghost invariant = { λ l. IsLeafParts V.WORDS l.count l.block };
+}
+
+impl<V: Words + Drop> LeafOf<V> {
+    ghost use Rattle.std.specs.Borrow.{sem, Lends, u64 as word};
+    ghost use Rattle.judy_leaf.specs.contracts.leaf.LeafOf.{the_row};
+
+    /// The leaf that is made of a number of keys and a block.
+    pub fn of_parts(count: u8, block: Block) -> LeafOf<V>
+        requires { IsLeafParts V.WORDS count block }
+        ensures { result ≡ leaf_list V.WORDS count block }
+    {
+        LeafOf {
+            count,
+            block,
+            words: PhantomData,
+        }
+    }
+
+    /// The number of keys and the block that it is made of.
+    pub fn into_parts(self) -> (u8, Block)
+        ensures parts { IsLeafParts V.WORDS result.0 result.1 }
+        ensures list { leaf_list V.WORDS result.0 result.1 ≡ self }
+    {
+        let LeafOf {
+            count,
+            block,
+            words: _,
+        } = self;
+        (count, block)
+    }
+
+    /// The leaf for reading.
+    pub fn reading(&self) -> LeafRef<'_, V>
+        ensures { result ≡ self.now }
+    {
+        LeafRef::new(self.count, self.block.tag() as u8, &self.block)
+    }
+
+    /// Puts a key in, with the value 0. The key is absent and below 256 to the power of the width, and there are fewer than 32.
+    /// The error is want of memory; the leaf is unchanged then.
+    pub fn insert(&mut self, alloc: Global, key: u64) -> Result<(), AllocError>
+        requires absent { IsFalse (set.has (keys_of self.old.pairs) key) }
+        requires room { length self.old.pairs < 32 }
+        requires below { key < 256 ^ self.old.width }
+        ensures added { OnOk result (self.new ≡ record self.old { pairs = with_pair key 0 self.old.pairs }) }
+        ensures unchanged { OnErr result (self.new ≡ self.old) }
+    {
+        self.insert_pair(alloc, key, 0)
+    }
+
+    /// Puts a key in with its value, which is 0 where keys have no value; else as `insert`.
+    pub fn insert_pair(&mut self, alloc: Global, key: u64, value: u64) -> Result<(), AllocError>
+        requires absent { IsFalse (set.has (keys_of self.old.pairs) key) }
+        requires room { length self.old.pairs < 32 }
+        requires below { key < 256 ^ self.old.width }
+        requires no_value { V.WORDS ≡ 0 → value ≡ 0 }
+        ensures added { OnOk result (self.new ≡ record self.old { pairs = with_pair key value self.old.pairs }) }
+        ensures unchanged { OnErr result (self.new ≡ self.old) }
+    {
+        let at = self.reading().rank(key);
+        let width = self.block.tag() as usize;
+        let count = usize::from(self.count);
+        let needed = V::WORDS * (count + 1) + keys::words_of(width, count + 1);
+        pairs::give_room(&mut self.block, alloc, needed)?;
+        pairs::put::<V>(&mut self.block, width, count, at, key, value);
+        self.count += 1;
+        Ok(())
+    }
+
+    /// Takes the key at a place out, with its value. No memory is asked for.
+    pub fn remove(&mut self, at: usize)
+        requires { at < length self.old.pairs }
+        ensures { self.new ≡ record self.old { pairs = remove self.old.pairs at } }
+    {
+        let width = self.block.tag() as usize;
+        let count = usize::from(self.count);
+        pairs::take::<V>(&mut self.block, width, count, at);
+        self.count -= 1;
+    }
+
+    /// The leaf of pairs whose keys strictly ascend and have `width` bytes, 1 to 8; at most 32. Where keys have no value, each
+    /// value is 0. The error is want of memory; nothing is kept then.
+    pub fn from_sorted(
+        alloc: Global,
+        width: u8,
+        pairs: &[(u64, u64)],
+    ) -> Result<LeafOf<V>, AllocError>
+        requires words { V.WORDS ≤ 1 }
+        requires list { IsKeyList (record { width = width; pairs = pairs.now }) }
+        requires few { length pairs.now ≤ 32 }
+        requires no_values { V.WORDS ≡ 0 → AllByRecursion (λ pair. pair.1 ≡ 0) pairs.now }
+        ensures { IfOk result (λ leaf. leaf ≡ record { width = width; pairs = pairs.now }) }
+    {
+        let needed = V::WORDS * pairs.len() + keys::words_of(usize::from(width), pairs.len());
+        let mut block = Block::new(alloc, needed / 4 * 4 + 4)?;
+        block.set_tag(u32::from(width));
+        pairs::put_all::<V>(&mut block, usize::from(width), pairs);
+        Ok(LeafOf {
+            count: pairs.len() as u8,
+            block,
+            words: PhantomData,
+        })
+    }
+
+    /// Lends the value at a place; nothing else changes.
+    pub fn slot_at(&mut self, at: usize) -> &mut u64
+        requires map { V.WORDS ≡ 1 }
+        requires inside { at < length self.old.pairs }
+        ensures* changes { sem 𝓛 (Lends (the_row V.row V.Words) word self.entry result (with_value_at at self.entry.now)) }
+        ensures value { result.now ≡ slice_index (values_of self.old.pairs) at }
+    {
+        self.block.slot(at)
+    }
+}

@@ -1,0 +1,124 @@
+//! The reading of a leaf whose parts stand in a node.
+
+ghost use Rattle.std.specs.Prelude.{◌≡◌, ◌+◌, ◌*◌, ◌<◌, ◌≤◌, ◌^◌, ◌==◌, length, slice_index};
+ghost use Rattle.judy_bits.specs.ByteSets as set;
+ghost use Rattle.judy_leaf.specs.KeyLists.{KeyList, keys_of, values_of};
+ghost use Rattle.judy_leaf.specs.Leaves.{IsLeafParts, leaf_list};
+
+use crate::keys;
+use crate::words::{Width, Words};
+use judy_block::Block;
+use std::marker::{Model, PhantomData};
+
+/// A leaf as it is read: the number of its keys, their width, and the block. No call reads the block's header.
+#[derive(Drop)]
+pub struct LeafRef<'a, V: Words + Drop> {
+    count: u8,
+    width: u8,
+    block: &'a Block,
+    words: PhantomData<V>,
+}
+
+impl<'a, V: Words + Drop> Model for LeafRef<'a, V> {
+    ghost use Rattle.std.specs.Prelude.{◌≡◌};
+    ghost use Rattle.judy_leaf.specs.KeyLists.{KeyList};
+
+    ghost Value = { KeyList };
+
+    ghost use Rattle.judy_leaf.specs.Leaves.{leaf_list, IsLeafParts};
+
+    ghost view = { λ l. leaf_list V.WORDS l.count l.block.now };
+
+    ghost invariant = { λ l. IsLeafParts V.WORDS l.count l.block.now × (l.block.now.tag ≡ l.width) };
+}
+
+impl<'a, V: Words + Drop> LeafRef<'a, V> {
+    /// The leaf that is made of a number of keys and a block, whose tag is the width of the keys in bytes.
+    pub fn new(count: u8, width: u8, block: &'a Block) -> LeafRef<'a, V>
+        requires parts { IsLeafParts V.WORDS count block.now }
+        requires width { block.now.tag ≡ width }
+        ensures { result ≡ leaf_list V.WORDS count block.now }
+    {
+        LeafRef {
+            count,
+            width,
+            block,
+            words: PhantomData,
+        }
+    }
+
+    /// How many keys there are, at most 32.
+    pub fn len(&self) -> usize
+        ensures count { result ≡ length self.now.pairs }
+        ensures within { result ≤ 32 }
+    {
+        usize::from(self.count)
+    }
+
+    /// Whether no further key fits: there are 32.
+    pub fn is_full(&self) -> bool
+        ensures { result ≡ (length self.now.pairs == 32) }
+    {
+        self.len() == 32
+    }
+
+    /// How many bytes a key has, 1 to 8.
+    pub fn width(&self) -> u8
+        ensures value { result ≡ self.now.width }
+        ensures within { (1 ≤ result) × (result ≤ 8) }
+    {
+        self.width
+    }
+
+    /// How many keys are below a word.
+    pub fn rank(&self, key: u64) -> usize
+        ensures value { result ≡ set.rank (keys_of self.now.pairs) key }
+        ensures within { result ≤ length self.now.pairs }
+    {
+        let count = usize::from(self.count);
+        keys::rank(
+            usize::from(self.width),
+            self.block,
+            V::WORDS * count,
+            count,
+            key,
+        )
+    }
+
+    /// The place of a key; none where the word isn't one of the keys.
+    pub fn find(&self, key: u64) -> Option<usize>
+        ensures { result ≡ set.place (keys_of self.now.pairs) key }
+    {
+        let count = usize::from(self.count);
+        keys::find(
+            usize::from(self.width),
+            self.block,
+            V::WORDS * count,
+            count,
+            key,
+        )
+    }
+
+    /// The key at a place, counted from 0.
+    pub fn key_at(&self, at: usize) -> u64
+        requires { at < length self.now.pairs }
+        ensures { result ≡ slice_index (keys_of self.now.pairs) at }
+    {
+        let count = usize::from(self.count);
+        keys::key_at(
+            usize::from(self.width),
+            self.block,
+            V::WORDS * count,
+            count,
+            at,
+        )
+    }
+
+    /// The value at a place, 0 where keys have no value.
+    pub fn value_at(&self, at: usize) -> u64
+        requires { at < length self.now.pairs }
+        ensures { result ≡ slice_index (values_of self.now.pairs) at }
+    {
+        if V::WORDS == 1 { self.block.get(at) } else { 0 }
+    }
+}

@@ -1,0 +1,30 @@
+//! The leaves of a tree over words: a few keys of one width, from 1 to 8 bytes, and a value for each where the tree is a map.
+//!
+//! What each is to its callers is a key list (specs/KeyLists.antt): the width, and the pairs of key and value by strictly
+//! ascending key. A [`Leaf`] holds up to 32 keys in one block: the values, a word each, and then the keys, as many to a word as fit
+//! into its eight bytes. An [`Imm`] holds as many keys as fit into one word, or one key with its value, and asks for no memory. In a node
+//! they stand as their parts: a leaf as its number of keys and its block, whose tag is the width; an immediate as two words. So both
+//! are made of their parts and taken apart again where they change, and [`LeafRef`] reads a leaf where its parts stand. An immediate is read as
+//! itself.
+//!
+//! place.rt has the places of one word, for a width that is known when a program is compiled; packed.rt searches words, and edit.rt
+//! changes those of a block, place by place. keys.rt and one_word.rt know the width at run time and hand on to these. values.rt and pairs.rt put
+//! values beside the keys. The crate stands on judy_model, judy_bits and judy_block; the nodes of the tree stand on it.
+#![tactic(auto)]
+
+mod edit;
+mod imm;
+mod keys;
+mod leaf;
+mod leaf_ref;
+mod one_word;
+mod packed;
+mod pairs;
+mod place;
+mod values;
+mod words;
+
+pub use imm::{Imm, ImmOf};
+pub use leaf::{Leaf, LeafOf};
+pub use leaf_ref::LeafRef;
+pub use words::{Width, Words};

@@ -1,0 +1,140 @@
+//! Keys packed into one word, for a width that is known at run time.
+
+ghost use Rattle.std.specs.Prelude.{◌≡◌, ◌+◌, ◌-◌, ◌/◌, ◌<◌, ◌≤◌, ◌^◌, [], ◌∷◌, slice_index};
+ghost use Rattle.std.specs.List.{insert, remove};
+ghost use Rattle.std.specs.List.Sorted.{IsStrictlySortedBy};
+ghost use Rattle.judy_model.specs.Keys.{word_order};
+ghost use Rattle.judy_bits.specs.ByteSets as set;
+ghost use Rattle.judy_leaf.specs.Packing.{keys_in, IsPacked, IsWidth};
+ghost use Rattle.judy_leaf.specs.Immediates.{IsWordChange};
+
+use crate::packed::{find_in, key_of, rank_in};
+use crate::place;
+
+// How many keys a word holds.
+pub(crate) fn room(width: u8) -> u8
+    requires { IsWidth width }
+    ensures { result ≡ 8 / width }
+{
+    8 / width
+}
+
+// How many of the keys are below a key.
+pub(crate) fn rank(width: u8, count: usize, word: u64, key: u64) -> usize
+    requires { IsPacked width count (word ∷ []) }
+    ensures { result ≡ set.rank (keys_in width count (word ∷ [])) key }
+{
+    match width {
+        1 => rank_in::<1>(count, &[word], key),
+        2 => rank_in::<2>(count, &[word], key),
+        3 => rank_in::<3>(count, &[word], key),
+        4 => rank_in::<4>(count, &[word], key),
+        5 => rank_in::<5>(count, &[word], key),
+        6 => rank_in::<6>(count, &[word], key),
+        7 => rank_in::<7>(count, &[word], key),
+        _ => rank_in::<8>(count, &[word], key),
+    }
+}
+
+// The place of a key, where it is among the keys.
+pub(crate) fn find(width: u8, count: usize, word: u64, key: u64) -> Option<usize>
+    requires packed { IsPacked width count (word ∷ []) }
+    requires ascending { IsStrictlySortedBy word_order (keys_in width count (word ∷ [])) }
+    ensures { result ≡ set.place (keys_in width count (word ∷ [])) key }
+{
+    match width {
+        1 => find_in::<1>(count, &[word], key),
+        2 => find_in::<2>(count, &[word], key),
+        3 => find_in::<3>(count, &[word], key),
+        4 => find_in::<4>(count, &[word], key),
+        5 => find_in::<5>(count, &[word], key),
+        6 => find_in::<6>(count, &[word], key),
+        7 => find_in::<7>(count, &[word], key),
+        _ => find_in::<8>(count, &[word], key),
+    }
+}
+
+// The key at a place.
+fn key_in<const W: usize>(count: usize, word: u64, at: usize) -> u64
+    requires packed { IsPacked W count (word ∷ []) }
+    requires inside { at < count }
+    ensures { result ≡ slice_index (keys_in W count (word ∷ [])) at }
+{
+    key_of::<W>(&[word], at)
+}
+
+// The key at a place.
+pub(crate) fn key_at(width: u8, count: usize, word: u64, at: usize) -> u64
+    requires packed { IsPacked width count (word ∷ []) }
+    requires inside { at < count }
+    ensures { result ≡ slice_index (keys_in width count (word ∷ [])) at }
+{
+    match width {
+        1 => key_in::<1>(count, word, at),
+        2 => key_in::<2>(count, word, at),
+        3 => key_in::<3>(count, word, at),
+        4 => key_in::<4>(count, word, at),
+        5 => key_in::<5>(count, word, at),
+        6 => key_in::<6>(count, word, at),
+        7 => key_in::<7>(count, word, at),
+        _ => key_in::<8>(count, word, at),
+    }
+}
+
+// The word with a key put in at a place.
+fn put_in<const W: usize>(count: usize, word: u64, at: usize, key: u64) -> u64
+    requires packed { IsPacked W count (word ∷ []) }
+    requires room { count < 8 / W }
+    requires place { at ≤ count }
+    requires below { key < 256 ^ W }
+    ensures { IsWordChange W count (count + 1) (λ keys. insert keys at key) word result }
+{
+    place::with_key::<W>(word, at, key)
+}
+
+// The word with a key put in at a place.
+pub(crate) fn with_key(width: u8, count: usize, word: u64, at: usize, key: u64) -> u64
+    requires packed { IsPacked width count (word ∷ []) }
+    requires room { count < 8 / width }
+    requires place { at ≤ count }
+    requires below { key < 256 ^ width }
+    ensures { IsWordChange width count (count + 1) (λ keys. insert keys at key) word result }
+{
+    match width {
+        1 => put_in::<1>(count, word, at, key),
+        2 => put_in::<2>(count, word, at, key),
+        3 => put_in::<3>(count, word, at, key),
+        4 => put_in::<4>(count, word, at, key),
+        5 => put_in::<5>(count, word, at, key),
+        6 => put_in::<6>(count, word, at, key),
+        7 => put_in::<7>(count, word, at, key),
+        _ => put_in::<8>(count, word, at, key),
+    }
+}
+
+// The word without the key at a place.
+fn take_out<const W: usize>(count: usize, word: u64, at: usize) -> u64
+    requires packed { IsPacked W count (word ∷ []) }
+    requires inside { at < count }
+    ensures { IsWordChange W count (count - 1) (λ keys. remove keys at) word result }
+{
+    place::without_key::<W>(word, at, 0)
+}
+
+// The word without the key at a place.
+pub(crate) fn without_key(width: u8, count: usize, word: u64, at: usize) -> u64
+    requires packed { IsPacked width count (word ∷ []) }
+    requires inside { at < count }
+    ensures { IsWordChange width count (count - 1) (λ keys. remove keys at) word result }
+{
+    match width {
+        1 => take_out::<1>(count, word, at),
+        2 => take_out::<2>(count, word, at),
+        3 => take_out::<3>(count, word, at),
+        4 => take_out::<4>(count, word, at),
+        5 => take_out::<5>(count, word, at),
+        6 => take_out::<6>(count, word, at),
+        7 => take_out::<7>(count, word, at),
+        _ => take_out::<8>(count, word, at),
+    }
+}

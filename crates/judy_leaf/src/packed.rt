@@ -1,0 +1,72 @@
+//! Keys packed into words, as a list: the key at a place, and where a key stands.
+//!
+//! A search counts the keys below a key over all words, without a branch a key: which of a few keys is the first that isn't
+//! below can't be foreseen, and a wrong guess costs more than all the comparisons. The places of the last word that hold no
+//! key are 0, so they count as below every key but 0.
+
+ghost use Rattle.std.specs.Prelude.{◌≡◌, ◌*◌, ◌/◌, ◌<◌, ◌≤◌, ℕ, length, slice_index, count_by, nat_lt};
+ghost use Rattle.std.specs.List.Sorted.{IsStrictlySortedBy};
+ghost use Rattle.judy_model.specs.Keys.{word_order};
+ghost use Rattle.judy_bits.specs.ByteSets as set;
+ghost use Rattle.judy_leaf.specs.Packing.{places, places_of, keys_in, IsPacked, IsWidth};
+
+use crate::place::key_in;
+
+// How many keys of a word are below a key.
+fn below_in<const W: usize>(word: u64, key: u64) -> usize
+    requires { IsWidth W }
+    ensures count { result ≡ count_by (λ place. nat_lt place key) (places W word) }
+    ensures within { result ≤ 8 }
+{
+    let mut below = 0;
+    for at in 0..8 / W {
+        below += (key_in::<W>(word, at) < key) as usize;
+    }
+    below
+}
+
+// How many places of words hold less than a key.
+fn count_below<const W: usize>(words: &[u64], key: u64) -> usize
+    requires width { IsWidth W }
+    requires few { length words.now ≤ 65535 }
+    ensures { result ≡ count_by (λ place. nat_lt place key) (places_of W words.now) }
+{
+    let mut below = 0;
+    for word in words {
+        below += below_in::<W>(*word, key);
+    }
+    below
+}
+
+// How many of the keys are below a key.
+pub(crate) fn rank_in<const W: usize>(count: usize, words: &[u64], key: u64) -> usize
+    requires packed { IsPacked W count words.now }
+    requires few { length words.now ≤ 65535 }
+    ensures { result ≡ set.rank (keys_in W count words.now) key }
+{
+    count_below::<W>(words, key).saturating_sub(words.len() * (8 / W) - count)
+}
+
+// The key at a place.
+pub(crate) fn key_of<const W: usize>(words: &[u64], at: usize) -> u64
+    requires width { IsWidth W }
+    requires inside { at < length words.now * (8 / W) }
+    ensures { result ≡ slice_index (places_of W words.now) at }
+{
+    key_in::<W>(words[at / (8 / W)], at % (8 / W))
+}
+
+// The place of a key, where it is among the keys.
+pub(crate) fn find_in<const W: usize>(count: usize, words: &[u64], key: u64) -> Option<usize>
+    requires packed { IsPacked W count words.now }
+    requires ascending { IsStrictlySortedBy word_order (keys_in W count words.now) }
+    requires few { length words.now ≤ 65535 }
+    ensures { result ≡ set.place (keys_in W count words.now) key }
+{
+    let at = rank_in::<W>(count, words, key);
+    if at < count && key_of::<W>(words, at) == key {
+        Some(at)
+    } else {
+        None
+    }
+}

@@ -1,0 +1,89 @@
+//! Changes of a leaf's block: a pair of key and value more, or one less.
+
+ghost use Rattle.std.specs.Prelude.{◌≡◌, ◌+◌, ◌-◌, ◌*◌, ◌<◌, ◌≤◌, ◌^◌, length, [], OnOk, OnErr};
+ghost use Rattle.std.specs.List.{AllByRecursion};
+ghost use Rattle.judy_leaf.specs.KeyLists.{IsKeyList};
+ghost use Rattle.judy_leaf.specs.Leaves.{words_for, leaf_list, AreKeysFrom};
+ghost use Rattle.judy_leaf.specs.PairChanges.{IsPairPut, IsPairTaken, HasRoom};
+
+use crate::words::Words;
+use crate::{keys, values};
+use judy_block::Block;
+use std::alloc::{AllocError, Global};
+
+// Sees to it that a block has room for so many words: by a larger one, whose capacity is a multiple of 4, where it hasn't.
+pub(crate) fn give_room(block: &mut Block, alloc: Global, needed: usize) -> Result<(), AllocError>
+    requires within { needed ≤ 66 }
+    requires fits { length block.old.words ≤ needed }
+    ensures room { OnOk result (HasRoom needed block.old block.new) }
+    ensures unchanged { OnErr result (block.new ≡ block.old) }
+{
+    if block.capacity() < needed {
+        let mut larger = Block::new(alloc, (needed + 3) / 4 * 4)?;
+        larger.copy_from(block);
+        *block = larger;
+    }
+    Ok(())
+}
+
+// Puts a key in at a place, with its value.
+pub(crate) fn put<V: Words + Drop>(
+    block: &mut Block,
+    width: usize,
+    count: usize,
+    at: usize,
+    key: u64,
+    value: u64,
+)
+    requires one { V.WORDS ≤ 1 }
+    requires tag { block.old.tag ≡ width }
+    requires keys { AreKeysFrom width count (V.WORDS * count) block.old }
+    requires few { count < 32 }
+    requires place { at ≤ count }
+    requires below { key < 256 ^ width }
+    requires no_value { V.WORDS ≡ 0 → value ≡ 0 }
+    requires room { V.WORDS * (count + 1) + words_for width (count + 1) ≤ block.old.capacity }
+    ensures { IsPairPut V.WORDS count at key value block.old block.new }
+{
+    if V::WORDS == 1 {
+        values::insert(block, count, at, value);
+        keys::insert(width, block, count + 1, count, at, key);
+    } else {
+        keys::insert(width, block, 0, count, at, key);
+    }
+}
+
+// Takes the key at a place out, with its value.
+pub(crate) fn take<V: Words + Drop>(block: &mut Block, width: usize, count: usize, at: usize)
+    requires one { V.WORDS ≤ 1 }
+    requires tag { block.old.tag ≡ width }
+    requires keys { AreKeysFrom width count (V.WORDS * count) block.old }
+    requires inside { at < count }
+    ensures { IsPairTaken V.WORDS (count - 1) at block.old block.new }
+{
+    if V::WORDS == 1 {
+        keys::remove(width, block, count, count, at);
+        values::remove(block, count, at);
+    } else {
+        keys::remove(width, block, 0, count, at);
+    }
+}
+
+// Puts pairs, whose keys ascend, into a block without words, whose tag is the width.
+pub(crate) fn put_all<V: Words + Drop>(block: &mut Block, width: usize, pairs: &[(u64, u64)])
+    requires one { V.WORDS ≤ 1 }
+    requires tag { block.old.tag ≡ width }
+    requires empty { block.old.words ≡ [] }
+    requires list { IsKeyList (record { width = width; pairs = pairs.now }) }
+    requires few { length pairs.now ≤ 32 }
+    requires no_values { V.WORDS ≡ 0 → AllByRecursion (λ pair. pair.1 ≡ 0) pairs.now }
+    requires room { V.WORDS * length pairs.now + words_for width (length pairs.now) ≤ block.old.capacity }
+    ensures tag { block.new.tag ≡ width }
+    ensures keys { AreKeysFrom width (length pairs.now) (V.WORDS * length pairs.now) block.new }
+    ensures pairs { (leaf_list V.WORDS (length pairs.now) block.new).pairs ≡ pairs.now }
+{
+    for at in 0..pairs.len() {
+        let (key, value) = pairs[at];
+        put::<V>(block, width, at, at, key, value);
+    }
+}
