@@ -1,6 +1,5 @@
 -- A chain: long keys and their values, as a list of pairs.
-use Rattle.std.specs.Prelude.{ℕ, zero, suc, Bool, cond, bytes_eq, List, [], ◌∷◌, Option, Some, None, option_map, slice_get}
-use Rattle.std.specs.List.{position}
+use Rattle.std.specs.Prelude.{◌≡◌, ◌≢◌, ℕ, zero, suc, Bool, cond, bytes_eq, List, [], ◌∷◌, Option, Some, None, option_map, slice_get}
 
 -- Pairs of a key and its value.
 abbrev pub Pairs : Type 0
@@ -15,9 +14,16 @@ abbrev pub value_in : Pairs → List ℕ → Option ℕ
 value_in [] key = None
 value_in (pair ∷ rest) key = cond (has_key key pair) (Some pair.1) (value_in rest key)
 
--- The place of a key.
-abbrev pub place_in : Pairs → List ℕ → Option ℕ
-place_in pairs key = position (has_key key) pairs
+-- The first pair with the key is the one at the place.
+abbrev pub IsPlace : Pairs → List ℕ → ℕ → Type 0
+IsPlace [] key at = ⊥
+IsPlace (pair ∷ rest) key zero = pair.0 ≡ key
+IsPlace (pair ∷ rest) key (suc at) = (pair.0 ≢ key) × IsPlace rest key at
+
+-- No two pairs have one key.
+abbrev pub AreApart : Pairs → Type 0
+AreApart [] = Unit {0}
+AreApart (pair ∷ rest) = (value_in rest pair.0 ≡ None) × AreApart rest
 
 -- The value at a place.
 abbrev pub value_at : Pairs → ℕ → Option ℕ

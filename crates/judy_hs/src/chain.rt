@@ -1,10 +1,11 @@
 //! The long keys of one length and one hash, with their values.
 
-ghost use Rattle.std.specs.Prelude.{◌≡◌, ◌++◌, ◌∷◌, [], ◌<◌, ◌↔◌, IsTrue, IfOk, OnOk, OnErr, length};
+ghost use Rattle.std.specs.Prelude.{◌≡◌, ◌++◌, ◌∷◌, [], ◌<◌, ◌↔◌, IsTrue, IfOk, OnOk, OnErr, None, MatchOption, length};
 ghost use Rattle.std.specs.Borrow.{sem};
-ghost use Rattle.std.specs.List.{remove};
+ghost use Rattle.std.specs.List.{position, remove};
 ghost use Rattle.std.specs.Option.{option_copied_mut};
-ghost use Rattle.judy_hs.specs.Chains.{place_in, value_at};
+ghost use Rattle.judy_hs.specs.Chains.{value_in, IsPlace, value_at};
+ghost use Rattle.judy_hs.specs.Entries.{holds};
 
 use std::alloc::{AllocError, Global};
 use std::marker::Model;
@@ -14,6 +15,15 @@ use std::marker::Model;
 pub struct LongEntry {
     pub key: Vec<u8>,
     pub value: u64,
+}
+
+// The place of the first entry with the key.
+fn place_of(entries: &[LongEntry], key: &[u8]) -> Option<usize>
+    ensures { result ≡ position (holds key.now) entries.now }
+{
+    entries
+        .iter()
+        .position(|entry| entry.key.as_slice() == key)
 }
 
 // Keys that differ, each with its value, in the order in which they came. In contracts it is the list of these pairs.
@@ -64,11 +74,9 @@ impl Chain {
 
     // The place of the key.
     pub fn find(&self, key: &[u8]) -> Option<usize>
-        ensures { result ≡ place_in self.now key.now }
+        ensures { MatchOption result (value_in self.now key.now ≡ None) (IsPlace self.now key.now) }
     {
-        self.entries
-            .iter()
-            .position(|entry| entry.key.as_slice() == key)
+        place_of(&self.entries, key)
     }
 
     // The value at a place.

@@ -11,4 +11,5 @@
 #![tactic(auto)]
 
 mod chain;
+mod long_group;
 
