@@ -77,9 +77,8 @@ abbrev pub IsFound : Long → Option ℕ → ℕ → ℕ → Type 0
 IsFound long None place at = IsFreePlace long.chains place × (at ≡ 0)
 IsFound long (Some held) place at = (place ≡ held) × (at ≡ length (chain_at long held))
 
-pub record IsAdded (before after : Long) (hash : ℕ) (key : List ℕ) (place at : ℕ) : Type 0 where
-  pub found : IsFound before (get before.hashes.map hash) place at
-  pub made : after ≡ added_long before hash key (get before.hashes.map hash) place
+abbrev pub IsAdded : Long → Long → ℕ → List ℕ → ℕ → ℕ → Type 0
+IsAdded before after hash key place at = IsFound before (get before.hashes.map hash) place at × (after ≡ added_long before hash key (get before.hashes.map hash) place)
 
 -- The group without the key at a place of a chain: a chain that becomes empty goes, with its hash.
 abbrev pub hashes_without : Long → ℕ → Pairs → ArrayOf word_order
