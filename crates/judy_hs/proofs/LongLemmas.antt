@@ -8,9 +8,9 @@ use Rattle.judy_model.specs.Arrays.{ArrayOf, with_map}
 use Rattle.judy_hs.specs.declared.long_group.ChainPlace.{ChainPlace}
 use Rattle.judy_hs.specs.declared.long_group.ChainPlace.TheVariants.{Free, Taken}
 use Rattle.judy_hs.specs.Chains.{Pairs, value_in, value_at, with_value_at, IsPlace}
-use Rattle.judy_hs.specs.LongGroups.{Long, chain_at, in_long, in_chain, put_at, with_chain, with_key, added_long, IsAdded, IsFound, hashes_without, without_key}
+use Rattle.judy_hs.specs.LongGroups.{Long, long_with, chain_at, in_long, in_chain, put_at, with_chain, with_key, added_long, IsAdded, IsFound, hashes_without, without_key}
 use Rattle.judy_hs.specs.ChainPlaces.{pairs_at, chains_of}
-use Rattle.judy_hs.specs.LongLends.{place_with, long_with}
+use Rattle.judy_hs.specs.LongLends.{place_with}
 
 -- The group that its parts are.
 abbrev pub long_of : ArrayOf word_order → List ChainPlace → Long

@@ -4,3 +4,6 @@ pub mod ChainLends
 pub mod LongGroups
 pub mod ChainPlaces
 pub mod LongLends
+pub mod Groups
+pub mod GroupPlaces
+pub mod GroupLends

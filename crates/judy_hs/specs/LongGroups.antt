@@ -89,3 +89,7 @@ abbrev pub without_key : Long → ℕ → ℕ → ℕ → Long
 without_key long hash place at =
     let left = list.remove (chain_at long place) at in
     record { hashes = hashes_without long hash left; chains = slice_set long.chains place left }
+
+-- The group with a value in one of its chains.
+abbrev pub long_with : Long → ℕ → ℕ → ℕ → Long
+long_with long place at value = record long { chains = slice_set long.chains place (with_value_at (chain_at long place) at value) }

@@ -11,5 +11,6 @@
 #![tactic(auto)]
 
 mod chain;
+mod group;
 mod long_group;
 
