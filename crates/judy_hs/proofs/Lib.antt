@@ -1,2 +1,4 @@
+pub mod ListLemmas
 pub mod ChainLemmas
 pub mod LongLemmas
+pub mod GroupLemmas

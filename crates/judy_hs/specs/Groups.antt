@@ -1,6 +1,6 @@
 -- A group: the keys of one length. A key is found in it by a word, its part: the number that a key of at most 8 bytes
 -- spells, or the hash of a longer one.
-use Rattle.std.specs.Prelude.{◌≡◌, ◌≢◌, ◌<◌, ℕ, List, [], length, Option, Some, None, ◌⊎◌, refl, IfSome}
+use Rattle.std.specs.Prelude.{◌≡◌, ◌≢◌, ◌<◌, ℕ, List, [], length, Option, Some, None, ◌⊎◌, refl, IfSome, nat_le, if◌then◌else◌}
 use Rattle.std.specs.Coded.{Coded, code_by, coded⊎, coded_option}
 use Rattle.std.specs.FinMap.{FinMap, get, insert, empty, remove}
 use Rattle.std.proofs.Common.{inl, inr}
@@ -8,7 +8,7 @@ use Rattle.judy_model.specs.Keys.{word_order}
 use Rattle.judy_model.specs.Arrays.{ArrayOf, array_code, with_map}
 use Rattle.judy_word.specs.Writes.{with_value}
 use Rattle.std.specs.Coded.{coded_ℕ}
-use Rattle.judy_hs.specs.LongGroups.{Long, long_code, chain_at, in_long, IsLongPlace, value_of_place, long_with, IsFound, added_long, without_key}
+use Rattle.judy_hs.specs.LongGroups.{Long, long_code, one_word, one_long, chain_at, in_long, IsLongPlace, value_of_place, long_with, IsFound, added_long, without_key}
 use Rattle.judy_hs.specs.declared.group.Inside.{Inside}
 use Rattle.judy_hs.specs.declared.group.Inside.TheVariants.{Word, Chained}
 
@@ -117,3 +117,10 @@ abbrev pub IsEmptyGroup : Group → Type 0
 IsEmptyGroup none = Unit {0}
 IsEmptyGroup (short words) = words.map ≡ empty
 IsEmptyGroup (long group) = group.hashes.map ≡ empty
+
+-- The group of one key, with the value 0, and where the key stands in it.
+abbrev pub one_group : ℕ → List ℕ → Group
+one_group part key = if nat_le (length key) 8 then short (one_word part 0) else long (one_long part key)
+
+abbrev pub one_inside : ℕ → List ℕ → Inside
+one_inside part key = if nat_le (length key) 8 then Word part else Chained 0 0

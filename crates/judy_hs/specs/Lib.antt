@@ -7,3 +7,5 @@ pub mod LongLends
 pub mod Groups
 pub mod GroupPlaces
 pub mod GroupLends
+pub mod Keyed
+pub mod KeyedLends

@@ -12,5 +12,6 @@
 
 mod chain;
 mod group;
+mod groups;
 mod long_group;
 
