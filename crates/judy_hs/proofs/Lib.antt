@@ -2,3 +2,4 @@ pub mod ListLemmas
 pub mod ChainLemmas
 pub mod LongLemmas
 pub mod GroupLemmas
+pub mod TwoLevels

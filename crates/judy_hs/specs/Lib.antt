@@ -9,3 +9,5 @@ pub mod GroupPlaces
 pub mod GroupLends
 pub mod Keyed
 pub mod KeyedLends
+pub mod Fnv
+pub mod Parts

@@ -13,5 +13,7 @@
 mod chain;
 mod group;
 mod groups;
+mod hash;
 mod long_group;
+mod part;
 
