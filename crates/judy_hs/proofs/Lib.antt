@@ -3,3 +3,4 @@ pub mod ChainLemmas
 pub mod LongLemmas
 pub mod GroupLemmas
 pub mod TwoLevels
+pub mod PartLemmas

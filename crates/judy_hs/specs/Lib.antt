@@ -11,3 +11,6 @@ pub mod Keyed
 pub mod KeyedLends
 pub mod Fnv
 pub mod Parts
+pub mod Kept
+pub mod Refusals
+pub mod Slots

@@ -22,10 +22,8 @@ impl ByteHash for Fnv1a {
     ghost hash_of = { fnv1a };
 
     fn hash(&self, bytes: &[u8]) -> u32 {
-        let mut hash: u32 = 2166136261;
-        for byte in bytes {
-            hash = (hash ^ u32::from(*byte)).wrapping_mul(16777619);
-        }
-        hash
+        bytes.iter().fold(2166136261, |hash: u32, byte| {
+            (hash ^ u32::from(*byte)).wrapping_mul(16777619)
+        })
     }
 }

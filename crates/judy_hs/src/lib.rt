@@ -10,10 +10,15 @@
 //! it (long_group.rt, chain.rt), where their bytes decide.
 #![tactic(auto)]
 
+mod bytes;
 mod chain;
+mod error;
 mod group;
 mod groups;
 mod hash;
 mod long_group;
 mod part;
 
+pub use bytes::JudyHs;
+pub use error::HsError;
+pub use hash::{ByteHash, Fnv1a};
