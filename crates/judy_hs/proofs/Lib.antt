@@ -4,3 +4,4 @@ pub mod LongLemmas
 pub mod GroupLemmas
 pub mod TwoLevels
 pub mod PartLemmas
+pub mod GroupSteps
