@@ -19,7 +19,7 @@ use Rattle.judy_hs.proofs.ChainLemmas.{bytes_cases, value_in-head, value_in-late
 use Rattle.judy_hs.proofs.PartLemmas.{number_same, part_short, part_long}
 use Rattle.judy_hs.proofs.TwoLevels.{same_or_not, through, IsTwo, two-set, through-set, through-set_other, two-put, through-put, through-put_other, two-gone, through-gone, through-gone_other}
 
-some_none : {A B : Type 0} (x : A) → ◌≡◌ {A = Option A} (Some x) None → B
+pub some_none : {A B : Type 0} (x : A) → ◌≡◌ {A = Option A} (Some x) None → B
 some_none x e = absurd (let f : ⊥ = cc in f)
 
 module _ (hash_of : List ℕ → ℕ) (key : List ℕ) (bytes : IsByteString key) where
@@ -107,7 +107,7 @@ module _ (hash_of : List ℕ → ℕ) (key : List ℕ) (bytes : IsByteString key
   }
 
   -- The chain of the key alone.
-  chain_of_one : (hash : ℕ) → hash_of key ≡ hash → IsChain hash_of (length key) hash ((key, 0) ∷ [])
+  pub chain_of_one : (hash : ℕ) → hash_of key ≡ hash → IsChain hash_of (length key) hash ((key, 0) ∷ [])
   chain_of_one hash has = record {
     used = λ e. cc;
     apart = (refl, tt);
@@ -118,7 +118,7 @@ module _ (hash_of : List ℕ → ℕ) (key : List ℕ) (bytes : IsByteString key
   }
 
   -- A chain with a value for a key isn't empty.
-  has_value : (chain : Pairs) (other : List ℕ) (value : ℕ) → value_in chain other ≡ Some value → chain ≢ []
+  pub has_value : (chain : Pairs) (other : List ℕ) (value : ℕ) → value_in chain other ≡ Some value → chain ≢ []
   has_value chain other value e gone = some_none value (sym e ∙ ap (λ (pairs : Pairs). value_in pairs other) gone)
 
   module _ (group : Long) (is : IsLong hash_of (length key) group) where

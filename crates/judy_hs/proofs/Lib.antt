@@ -5,3 +5,5 @@ pub mod GroupLemmas
 pub mod TwoLevels
 pub mod PartLemmas
 pub mod GroupSteps
+pub mod GroupChanges
+pub mod KeyedSteps

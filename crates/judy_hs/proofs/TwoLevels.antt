@@ -94,6 +94,19 @@ module _ {X : Type 0} (none : X) (look : X → List ℕ → Option ℕ) where
           (λ differ. ap (λ x. look x key) (get_or-set_there xs place at new none differ))
           (same_or_not at place)
 
+      unmoved : (other at : ℕ) → other ≢ word → get outer other ≡ Some at → at ≢ place
+      unmoved other at differ e same = differ (two.apart other word place (e ∙ ap (λ (p : ℕ). Some p) same) leads)
+
+      untouched : (other : ℕ) (key : List ℕ) → other ≢ word → (found : Option ℕ) → get outer other ≡ found → through (set xs place new) found key ≡ through xs found key
+      untouched other key differ None e = refl
+      untouched other key differ (Some at) e = ap (λ x. look x key) (get_or-set_there xs place at new none (unmoved other at differ e))
+
+      pub through-set_at : (other : ℕ) (key : List ℕ) → (other ≡ word → look new key ≡ look (get_or xs place none) key) → through (set xs place new) (get outer other) key ≡ through xs (get outer other) key
+      through-set_at other key alike = ⊎_elim
+          (λ (same : other ≡ word). through-set_other (get outer other) key (alike same))
+          (λ differ. untouched other key differ (get outer other) refl)
+          (same_or_not other word)
+
     -- ---- something is put at a free place
 
     module _ (absent : get outer word ≡ None) (within : place ≤ length xs) (free : get_or xs place none ≡ none) (new : X) where
