@@ -38,7 +38,7 @@ put_within xs at x within = ⊎_elim
     (λ (below : at < length xs). let e : nat_lt at (length xs) ≡ true = lt-ltb at (length xs) below in rw e (omega (arith, length-set xs at x)))
     (⊎_elim (λ e. inl e) (λ apart. ⊎_elim (λ less. inr less) (λ more. absurd (omega arith)) apart) (cases_order at (length xs)))
 
-set_within : {X : Type 0} (xs : List X) (held at : ℕ) (x : X) → at ≡ held → held < length xs → at < length (set xs held x)
+pub set_within : {X : Type 0} (xs : List X) (held at : ℕ) (x : X) → at ≡ held → held < length xs → at < length (set xs held x)
 set_within xs held at x same within = omega (arith, length-set xs held x)
 
 used_within : (chains : List Pairs) (place : ℕ) → get_or chains place [] ≢ [] → place < length chains

@@ -7,3 +7,4 @@ pub mod PartLemmas
 pub mod GroupSteps
 pub mod GroupChanges
 pub mod KeyedSteps
+pub mod HsLemmas

@@ -1,6 +1,6 @@
 //! All groups of an array, by the length of their keys.
 
-ghost use Rattle.std.specs.Prelude.{◌≡◌, ◌≢◌, ◌<◌, ◌≤◌, [], IfOk, OnErr, IfSome, None, Some, MatchOption, length, vec_len, vec_capacity};
+ghost use Rattle.std.specs.Prelude.{◌≡◌, ◌≢◌, ◌<◌, ◌≤◌, [], IfOk, IsOk, OnErr, IsSome, IfSome, None, Some, MatchOption, length, vec_len, vec_capacity};
 ghost use Rattle.std.specs.Borrow.{sem};
 ghost use Rattle.std.specs.FinMap.{get};
 ghost use Rattle.std.specs.Option.{option_copied_mut};
@@ -8,6 +8,7 @@ ghost use Rattle.judy_hs.specs.Groups.{one_group, one_inside};
 ghost use Rattle.judy_hs.specs.GroupPlaces.{group_of, groups_of};
 ghost use Rattle.judy_hs.specs.Keyed.{IsFreeGroup};
 
+use crate::error::HsError;
 use crate::group::{GroupPlace, Inside};
 use crate::long_group::{LongGroup, put};
 use judy_word::JudyL;
@@ -63,7 +64,7 @@ fn group_of_one(alloc: Global, part: u64, key: &[u8]) -> Result<(GroupPlace, Ins
 impl Groups {
     ghost use Rattle.judy_hs.specs.Groups.{IsUsable, CanTakeKey, IsRemovable, IsEmptyGroup, value_inside, group_without};
     ghost use Rattle.judy_hs.specs.Keyed.{no_keys, in_keyed, group_at, IsSpot, IsNewSpot, added_keyed, with_group, keyed_without, without_group};
-    ghost use Rattle.judy_hs.specs.KeyedLends.{LendsSpot};
+    ghost use Rattle.judy_hs.specs.KeyedLends.{LendsSpot, LendsSpotOk};
 
     // No groups.
     pub fn new(alloc: Global) -> Groups
@@ -116,6 +117,21 @@ impl Groups {
     {
         let group = &mut self.groups[spot.group];
         group.slot(spot.inside)
+    }
+
+    // The same where something stands there.
+    pub fn slot_of(&mut self, spot: Spot) -> Result<&mut u64, HsError>
+        requires within { spot.group < length self.old.groups }
+        requires usable { IsUsable (group_at self.old spot.group) spot.inside }
+        requires present { IsSome (value_inside (group_at self.old spot.group) spot.inside) }
+        ensures* writes_back { sem 𝓛 (LendsSpotOk self.entry spot.group spot.inside result) }
+        ensures value { IfOk result (λ slot. Some slot.now ≡ value_inside (group_at self.old spot.group) spot.inside) }
+        ensures present { IsOk result }
+    {
+        match self.slot(spot) {
+            Some(slot) => Ok(slot),
+            None => unreachable!(),
+        }
     }
 
     // Puts a key in that isn't there, with the value 0, and answers where it stands.
