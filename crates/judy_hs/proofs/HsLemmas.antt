@@ -1,8 +1,9 @@
 -- Arrays: what the changes of their groups make of them.
-use Rattle.std.proofs.Common.{◌≡◌, ◌≢◌, ℕ, zero, suc, ◌+◌, ◌-◌, ◌<◌, ◌≤◌, ◌==◌, Bool, true, false, cond, not, ◌&&◌, List, [], length, get_or, set, Option, Some, None, is_some, IfSome, IsTrue, IsFalse, eq-eqb, refl, sym, ap, ◌∙◌, subst, ⊎_elim, arith}
+use Rattle.std.proofs.Common.{◌≡◌, ◌≢◌, ℕ, zero, suc, ◌+◌, ◌-◌, ◌<◌, ◌≤◌, ◌==◌, Bool, true, false, cond, not, ◌&&◌, List, [], length, get_or, set, Option, Some, None, is_some, IfSome, IsTrue, IsFalse, ◌↔◌, eq-eqb, refl, sym, ap, ◌∙◌, subst, ⊎_elim, arith}
 use Rattle.std.specs.FinMap.{FinMap, get, insert, remove, empty, len, contains_key, len-empty, len-insert, len-remove, get-empty, empty_of_len}
 use Rattle.std.specs.Cmp.{nat_cmp_total}
 use Rattle.std.proofs.lemmas.Bool.{ne_eqb, cond-true, cond-false}
+use Rattle.std.proofs.lemmas.Bool.Decides.{Decides-eqb}
 use Rattle.std.proofs.lemmas.List.{get_or_default}
 use Rattle.judy_model.specs.Keys.{word_order, byte_order, IsByteString, IsBytesKey}
 use Rattle.judy_model.specs.Arrays.{ArrayOf, with_map, empty_array, ins, del, is_full}
@@ -179,3 +180,10 @@ module _ (hash_of : List ℕ → ℕ) where
           holds_some = is.holds_some;
           limit_fits = is.limit_fits;
         }
+
+-- A count of no keys is that of the empty map.
+pub empty_iff : (map : FinMap byte_order ℕ) (count : ℕ) → count ≡ len map → IsTrue (count == 0) ↔ (map ≡ empty)
+empty_iff map count counted = (
+    λ e. empty_of_len map (sym counted ∙ (Decides-eqb count 0).0 e),
+    λ e. eq-eqb count 0 (counted ∙ ap len e ∙ len-empty byte_order ℕ),
+  )

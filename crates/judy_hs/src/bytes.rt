@@ -61,15 +61,101 @@ impl<H: ByteHash + Drop> JudyHs<H> {
         }
     }
 
+    /// The slot of a key, which is put in with the value 0 where it is absent; a key that is there keeps its value, and
+    /// is never refused. What the caller leaves in the slot is then the key's value. (Manual: JHSI, JudyHSIns.)
+    ///
+    /// The first that applies: `TooLong` where the key has more than 1,024 bytes; `Full` where it is absent and the array
+    /// holds as many keys as its limit (both limits are this project's own); `NoMemory`, only where it is absent and the
+    /// array isn't full. Each leaves the array as it was.
+    pub fn ins(&mut self, key: &[u8]) -> Result<&mut u64, HsError>
+        ensures* writes_back { sem 𝓛 (LendsIns H.row H.ByteHash self.entry key.now result) }
+        ensures value { IfOk result (λ slot. Some slot.now ≡ map.get (array.ins self.old.map key.now) key.now) }
+        ensures fits { OnOk result (length key.now ≤ 1024) }
+        ensures accepted { OnOk result (IsFalse (array.is_full self.old key.now)) }
+        ensures refused { IfErr result (IsRefusal self.old key.now) }
+    {
+        let is_full = self.count == self.limit;
+        if key.len() > MAX_KEY {
+            return Err(HsError::TooLong);
+        }
+        let part = part_of(&self.hasher, key);
+        match self.groups.find(part, key) {
+            Some(spot) => self.groups.slot_of(spot),
+            None => {
+                if is_full {
+                    return Err(HsError::Full);
+                }
+                let alloc = self.groups.allocator();
+                match self.groups.add(alloc, part, key) {
+                    Ok(spot) => {
+                        self.count += 1;
+                        self.groups.slot_of(spot)
+                    }
+                    Err(_) => Err(HsError::NoMemory),
+                }
+            }
+        }
+    }
+
+    /// The slot of a key, and `None` where it is absent, as every key of more than 1,024 bytes is. What the caller leaves
+    /// in the slot is then the key's value. (Manual: JHSG, JudyHSGet, whose answer is this slot.)
+    pub fn slot(&mut self, key: &[u8]) -> Option<&mut u64>
+        ensures* writes_back { sem 𝓛 (LendsSlot H.row H.ByteHash self.entry key.now result) }
+        ensures value { option_copied_mut result ≡ map.get self.old.map key.now }
+    {
+        let _groups = &self.groups;
+        if key.len() > MAX_KEY {
+            return None;
+        }
+        match self.groups.find(part_of(&self.hasher, key), key) {
+            Some(spot) => self.groups.slot(spot),
+            None => None,
+        }
+    }
+
+    /// Takes a key out, and answers whether it was there; a key of more than 1,024 bytes never is. It asks for no memory.
+    /// (Manual: JHSD, JudyHSDel.)
+    pub fn del(&mut self, key: &[u8]) -> bool
+        ensures answer { result ≡ map.contains_key self.old.map key.now }
+        ensures deleted { self.new ≡ array.with_map self.old (array.del self.old.map key.now) }
+    {
+        let _groups = &self.groups;
+        if key.len() > MAX_KEY {
+            return false;
+        }
+        let part = part_of(&self.hasher, key);
+        match self.groups.find(part, key) {
+            Some(spot) => {
+                self.groups.remove(key.len() as u64, part, spot);
+                self.count -= 1;
+                true
+            }
+            None => false,
+        }
+    }
+
+    /// Takes every key out, gives their memory back, and answers how many they were. The array keeps its limit and may be
+    /// used again. (Manual: JHSFA, JudyHSFreeArray, which answers the bytes freed.)
+    pub fn free_array(&mut self) -> u64
+        ensures freed { result ≡ map.len self.old.map }
+        ensures emptied { self.new ≡ array.empty_array self.old.limit }
+    {
+        let freed = self.count;
+        self.groups = Groups::new(self.groups.allocator());
+        self.count = 0;
+        freed
+    }
+
     /// The value of a key, and `None` where it is absent, as every key of more than 1,024 bytes is. (Manual: JHSG,
     /// JudyHSGet.)
     pub fn get(&self, key: &[u8]) -> Option<u64>
         ensures { result ≡ map.get self.now.map key.now }
     {
+        let groups = &self.groups;
         if key.len() > MAX_KEY {
             return None;
         }
-        self.groups.get(part_of(&self.hasher, key), key)
+        groups.get(part_of(&self.hasher, key), key)
     }
 
     /// How many keys the array may hold: at least 1 (limit: this project's own).
@@ -86,5 +172,12 @@ impl<H: ByteHash + Drop> JudyHs<H> {
         ensures within { result ≤ self.now.limit }
     {
         self.count
+    }
+
+    /// Whether the array holds no key.
+    pub fn is_empty(&self) -> bool
+        ensures { IsTrue result ↔ (self.now.map ≡ map.empty) }
+    {
+        self.count == 0
     }
 }
