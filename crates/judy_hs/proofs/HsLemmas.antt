@@ -1,8 +1,10 @@
 -- Arrays: what the changes of their groups make of them.
-use Rattle.std.proofs.Common.{◌≡◌, ◌≢◌, ℕ, zero, suc, ◌+◌, ◌-◌, ◌<◌, ◌≤◌, ◌==◌, Bool, true, false, cond, not, ◌&&◌, List, [], length, get_or, set, Option, Some, None, is_some, IfSome, IsTrue, IsFalse, ◌↔◌, eq-eqb, refl, sym, ap, ◌∙◌, subst, ⊎_elim, arith}
+use Rattle.std.proofs.Common.{◌≡◌, ◌≢◌, ℕ, zero, suc, ◌+◌, ◌-◌, ◌<◌, ◌≤◌, ◌==◌, Bool, true, false, cond, not, ◌&&◌, List, [], length, get_or, set, Option, Some, None, is_some, IsSome, IfSome, Result, Ok, Err, IsOk, IfOk, OnOk, IfErr, MutBor, IsTrue, IsFalse, ◌↔◌, eq-eqb, refl, sym, ap, ◌∙◌, subst, ◌⊎◌, inl, inr, ⊎_elim, arith}
 use Rattle.std.specs.FinMap.{FinMap, get, insert, remove, empty, len, contains_key, len-empty, len-insert, len-remove, get-empty, empty_of_len}
 use Rattle.std.specs.Cmp.{nat_cmp_total}
-use Rattle.std.proofs.lemmas.Bool.{ne_eqb, cond-true, cond-false}
+use Rattle.std.specs.Borrow.{name_if_ok}
+use borrow.Follows.Closed.{read_of}
+use Rattle.std.proofs.lemmas.Bool.{ne_eqb, false≢true}
 use Rattle.std.proofs.lemmas.Bool.Decides.{Decides-eqb}
 use Rattle.std.proofs.lemmas.List.{get_or_default}
 use Rattle.judy_model.specs.Keys.{word_order, byte_order, IsByteString, IsBytesKey}
@@ -11,15 +13,16 @@ use Rattle.judy_model.specs.Tables.{table, bytes_keys}
 use Rattle.judy_model.proofs.TableLemmas.{bytes_keys-all, byte_order_total, byte_order_same, get-table, get-table_bad, table_none}
 use Rattle.judy_model.proofs.ChangesLemmas.{write-write, del_absent}
 use Rattle.judy_model.proofs.Inserts.{get-insert_itself, ins_present, ins_absent, is_full_present, is_full_absent}
+use Rattle.judy_hs.specs.declared.error.HsError.{HsError}
 use Rattle.judy_hs.specs.declared.group.Inside.{Inside}
-use Rattle.judy_hs.specs.Groups.{Group, none, in_group, IsInside, IsUsable, IsRemovable, IsEmptyGroup, CanTakeKey, value_inside, group_with, group_with_key, group_without}
+use Rattle.judy_hs.specs.Groups.{Group, none, short, long, in_group, IsInside, IsUsable, IsRemovable, IsEmptyGroup, CanTakeKey, value_inside, group_with, group_with_key, group_without}
 use Rattle.judy_hs.specs.Keyed.{Keyed, no_keys, group_at, in_place, in_keyed, IsSpot, IsFreeGroup, IsNewSpot, keyed_with, with_group, added_keyed, keyed_without, without_group}
 use Rattle.judy_hs.specs.Parts.{part_of}
 use Rattle.judy_hs.specs.Kept.{IsGroup, IsKeyed, value_of, map_of, array_of, IsHs}
 use Rattle.judy_hs.specs.Slots.{with_value}
 use Rattle.judy_hs.proofs.GroupSteps.{IsOther, IsStep, some_none}
 use Rattle.judy_hs.proofs.GroupChanges.{IsChanged, IsGrown, IsShrunk, group-write, group-add, group-remove, group-takes, inside-usable, inside-removable, value-inside, inside-some, empty-none, set_within}
-use Rattle.judy_hs.proofs.TwoLevels.{get_or-set_here}
+use Rattle.judy_hs.proofs.TwoLevels.{get_or-set_here, same_or_not}
 use Rattle.judy_hs.proofs.KeyedSteps.{IsMade, IsPut, made-set, made-without, made-gone, put-group}
 
 -- A key that a slice of bytes holds.
@@ -63,7 +66,7 @@ module _ (hash_of : List ℕ → ℕ) where
     get_is is_key = get-table bytes_keys-all (value_of hash_of keyed) key is_key
 
     pub get_long : 1024 < length key → get (map_of hash_of keyed) key ≡ None
-    get_long long = get-table_bad bytes_keys-all (value_of hash_of keyed) key (λ is. absurd (omega (arith, is.within_limit)))
+    get_long over = get-table_bad bytes_keys-all (value_of hash_of keyed) key (λ is. absurd (omega (arith, is.within_limit)))
 
     -- ---- where a key stands
 
@@ -187,3 +190,109 @@ empty_iff map count counted = (
     λ e. empty_of_len map (sym counted ∙ (Decides-eqb count 0).0 e),
     λ e. eq-eqb count 0 (counted ∙ ap len e ∙ len-empty byte_order ℕ),
   )
+
+-- ---- a delete
+
+empty_or_not : (map : FinMap word_order ℕ) → (map ≡ empty) ⊎ ((map ≡ empty) → ⊥)
+empty_or_not map = ⊎_elim (λ none. inl (empty_of_len map none)) (λ some. inr (λ e. some (ap len e ∙ len-empty word_order ℕ))) (same_or_not (len map) 0)
+
+group_or_not : (group : Group) → IsEmptyGroup group ⊎ (IsEmptyGroup group → ⊥)
+group_or_not none = inl tt
+group_or_not (short words) = empty_or_not words.map
+group_or_not (long group) = empty_or_not group.hashes.map
+
+module _ (hash_of : List ℕ → ℕ) (limit count : ℕ) (keyed : Keyed) (is : IsHs hash_of limit count keyed) (key : List ℕ) (is_key : IsBytesKey key) (place : ℕ) (inside : Inside) (spot : IsSpot keyed (part_of hash_of key) key place inside) (after : Keyed)
+  (kept : (IsEmptyGroup (group_without (group_at keyed place) (part_of hash_of key) inside) → ⊥) → after ≡ keyed_without keyed place (part_of hash_of key) inside)
+  (emptied : IsEmptyGroup (group_without (group_at keyed place) (part_of hash_of key) inside) → after ≡ without_group keyed (length key) place) where
+  removed_made : IsMade hash_of after (remove (map_of hash_of keyed) key)
+  removed_made = ⊎_elim
+      (λ gone. subst (λ k. IsMade hash_of k (remove (map_of hash_of keyed) key)) (sym (emptied gone)) (made_emptied hash_of limit count keyed is key is_key place inside spot gone))
+      (λ used. subst (λ k. IsMade hash_of k (remove (map_of hash_of keyed) key)) (sym (kept used)) (made_kept hash_of limit count keyed is key is_key place inside spot used))
+      (group_or_not (group_without (group_at keyed place) (part_of hash_of key) inside))
+
+  pub IsHs-deleted : IsHs hash_of limit (count - 1) after
+  IsHs-deleted = let held = spot-some hash_of keyed key is_key place inside spot in IsHs-removed hash_of limit count keyed is key is_key after removed_made held.0 held.1
+
+  pub array-deleted : array_of hash_of limit after ≡ with_map (array_of hash_of limit keyed) (del (map_of hash_of keyed) key)
+  array-deleted = ap (λ (map : FinMap byte_order ℕ). record { limit = limit; map = map }) removed_made.map_is
+
+-- A key that isn't there isn't deleted.
+pub not_deleted : (array : ArrayOf byte_order) (key : List ℕ) → get array.map key ≡ None → array ≡ with_map array (del array.map key)
+not_deleted array key absent = ap (with_map array) (sym (del_absent byte_order_total array.map key byte_order_same absent))
+
+pub not_contained : (map : FinMap byte_order ℕ) (key : List ℕ) → get map key ≡ None → false ≡ contains_key map key
+not_contained map key absent = sym (ap (λ (found : Option ℕ). is_some found) absent)
+
+pub contained : (map : FinMap byte_order ℕ) (key : List ℕ) (value : ℕ) → get map key ≡ Some value → true ≡ contains_key map key
+contained map key value held = sym (ap (λ (found : Option ℕ). is_some found) held)
+
+-- A count of keys of which there is one is at least 1.
+pub counts_one : (map : FinMap byte_order ℕ) (key : List ℕ) (value count : ℕ) → get map key ≡ Some value → count ≡ len map → 1 ≤ count
+counts_one map key value count held counted = ⊎_elim
+    (λ (none : count ≡ 0). some_none value (sym held ∙ ap (λ (m : FinMap byte_order ℕ). get m key) (empty_of_len map (sym counted ∙ none)) ∙ get-empty byte_order key))
+    (λ some. omega arith)
+    (same_or_not count 0)
+
+-- ---- an insert
+
+-- A result that is Ok lends alike where it lends alike for each value.
+pub ok_only : {D : Type 0} (r : Result (MutBor ℕ) HsError) → IsOk r → (one two : ℕ → D) (x y : D) → ((w : ℕ) → one w ≡ two w)
+    → read_of (name_if_ok (λ (b : MutBor ℕ). b.ghost_name) r) one x ≡ read_of (name_if_ok (λ (b : MutBor ℕ). b.ghost_name) r) two y
+ok_only (Ok slot) is one two x y e = λ t. read_of (name_if_ok {E = HsError} (λ (b : MutBor ℕ). b.ghost_name) (Ok slot)) (λ w. e w t) x
+ok_only (Err error) is one two x y e = absurd (false≢true is)
+
+pub on_ok : (r : Result (MutBor ℕ) HsError) (P : Type 0) → P → OnOk r P
+on_ok (Ok slot) P p = p
+on_ok (Err error) P p = tt
+
+pub if_err : (r : Result (MutBor ℕ) HsError) (P : HsError → Type 0) → IsOk r → IfErr r P
+if_err (Ok slot) P is = tt
+if_err (Err error) P is = absurd (false≢true is)
+
+pub if_ok : (r : Result (MutBor ℕ) HsError) (P Q : MutBor ℕ → Type 0) → ((slot : MutBor ℕ) → P slot → Q slot) → IfOk r P → IfOk r Q
+if_ok (Ok slot) P Q f h = f slot h
+if_ok (Err error) P Q f h = tt
+
+module _ (hash_of : List ℕ → ℕ) (limit count : ℕ) (keyed : Keyed) (is : IsHs hash_of limit count keyed) (key : List ℕ) (is_key : IsBytesKey key) where
+  pub full-absent : value_of hash_of keyed key ≡ None → count ≡ limit → IsTrue (is_full (array_of hash_of limit keyed) key)
+  full-absent absent full = is_full_absent (array_of hash_of limit keyed) key (get_is hash_of keyed key is_key ∙ absent) ∙ eq-eqb _ _ (sym is.counted ∙ full)
+
+  pub room-absent : value_of hash_of keyed key ≡ None → count ≢ limit → IsFalse (is_full (array_of hash_of limit keyed) key)
+  room-absent absent room = is_full_absent (array_of hash_of limit keyed) key (get_is hash_of keyed key is_key ∙ absent) ∙ ne_eqb _ _ (λ e. room (is.counted ∙ e))
+
+  module _ (place : ℕ) (inside : Inside) (spot : IsSpot keyed (part_of hash_of key) key place inside) where
+    pub present-some : IsSome (value_inside (group_at keyed place) inside)
+    present-some = let held = spot-some hash_of keyed key is_key place inside spot in ap (λ (found : Option ℕ). is_some found) (sym (spot-value hash_of keyed key is_key place inside spot) ∙ held.1)
+
+    pub present-room : IsFalse (is_full (array_of hash_of limit keyed) key)
+    present-room = let held = spot-some hash_of keyed key is_key place inside spot in is_full_present (array_of hash_of limit keyed) key held.0 held.1
+
+    pub present-value : (slot : ℕ) → Some slot ≡ value_inside (group_at keyed place) inside → Some slot ≡ get (ins (map_of hash_of keyed) key) key
+    present-value slot e =
+        let held = spot-some hash_of keyed key is_key place inside spot in
+        e ∙ sym (spot-value hash_of keyed key is_key place inside spot) ∙ ap (λ (map : FinMap byte_order ℕ). get map key) (sym (ins_present (map_of hash_of keyed) key held.0 held.1))
+
+  module _ (place : ℕ) (inside : Inside) (absent : value_of hash_of keyed key ≡ None) (new : IsNewSpot keyed (part_of hash_of key) key (get keyed.lengths.map (length key)) place inside)
+    (after : Keyed) (made : after ≡ added_keyed keyed (part_of hash_of key) key (get keyed.lengths.map (length key)) place inside) where
+    pub after-spot : IsSpot after (part_of hash_of key) key place inside
+    after-spot = subst (λ k. IsSpot k (part_of hash_of key) key place inside) (sym made) (added-spot hash_of limit count keyed is key is_key place inside absent new)
+
+    after_map : map_of hash_of after ≡ insert (map_of hash_of keyed) key 0
+    after_map = ap (map_of hash_of) made ∙ added-map hash_of limit count keyed is key is_key place inside absent new
+
+    pub after-hs : count ≢ limit → IsHs hash_of limit (count + 1) after
+    after-hs room = subst (IsHs hash_of limit (count + 1)) (sym made) (IsHs-added hash_of limit count keyed is key is_key place inside absent new room)
+
+    pub after-some : IsSome (value_inside (group_at after place) inside)
+    after-some = let held = spot-some hash_of after key is_key place inside after-spot in ap (λ (found : Option ℕ). is_some found) (sym (spot-value hash_of after key is_key place inside after-spot) ∙ held.1)
+
+    pub after-value : (slot : ℕ) → Some slot ≡ value_inside (group_at after place) inside → Some slot ≡ get (ins (map_of hash_of keyed) key) key
+    after-value slot e =
+        e ∙ sym (spot-value hash_of after key is_key place inside after-spot)
+        ∙ ap (λ (map : FinMap byte_order ℕ). get map key) (after_map ∙ sym (ins_absent (map_of hash_of keyed) key (get_is hash_of keyed key is_key ∙ absent)))
+
+    pub after-written : count ≢ limit → (value : ℕ) → array_of hash_of limit (keyed_with after place inside value) ≡ with_value (array_of hash_of limit keyed) key value
+    after-written room value =
+        array-written hash_of limit (count + 1) after (after-hs room) key is_key place inside after-spot value
+        ∙ ap (λ (map : FinMap byte_order ℕ). record { limit = limit; map = map })
+        (ap (λ (map : FinMap byte_order ℕ). insert map key value) after_map ∙ write-write byte_order_total (map_of hash_of keyed) key byte_order_same 0 value)

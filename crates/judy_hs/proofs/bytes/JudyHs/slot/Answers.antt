@@ -14,7 +14,7 @@ pub invariant_of-self-lent : goal.invariant_of-self-lent
 invariant_of-self-lent g c =
     let is_key = is_key_of c.args.key.now (λ i. omega (arith, c.type_inv.key i)) c.if-key-gt-MAX_KEY.false in
     let spot = rw c.part_of.ensures at c.in-Some.ensures in
-    λ w. IsHs-written g.H.ByteHash.hash_of c.self.inside.limit c.self.inside.count c.self.inside.groups c.self.invariant c.args.key.now is_key c.in-Some.spot.group c.in-Some.spot.inside spot w
+    λ lent. (λ w. IsHs-written g.H.ByteHash.hash_of c.self.inside.limit c.self.inside.count c.self.inside.groups c.self.invariant c.args.key.now is_key c.in-Some.spot.group c.in-Some.spot.inside spot w, c.self.invariant)
 
 pub returns-in-Some : goal.returns-in-Some
 returns-in-Some g c =
