@@ -1,5 +1,5 @@
 -- Chains: what a look-up finds after a change.
-use Rattle.std.proofs.Common.{◌≡◌, ◌≢◌, ℕ, zero, suc, ◌+◌, ◌<◌, ◌≤◌, Bool, true, false, cond, List, [], ◌∷◌, ◌++◌, map, length, take, drop, get_or, set, Option, Some, None, option_map, slice_get, MatchOption, MatchBool, not, nat_lt, bytes_eq, refl, sym, ap, ◌∙◌, ◌⊎◌, inl, inr, arith, true≢false}
+use Rattle.std.proofs.Common.{◌≡◌, ◌≢◌, ℕ, zero, suc, ◌+◌, ◌<◌, ◌≤◌, Bool, true, false, cond, List, [], ◌∷◌, ◌++◌, length, get_or, set, Option, Some, None, option_map, slice_get, MatchOption, MatchBool, not, nat_lt, bytes_eq, refl, sym, ap, ◌∙◌, ◌⊎◌, inl, inr, arith, true≢false}
 use Rattle.std.specs.List.{position, position_or_len, remove}
 use Rattle.std.proofs.lemmas.Slice.Eq.{bytes_eq-Decides}
 use Rattle.std.proofs.lemmas.Bool.{false_from_ne_true}
@@ -27,9 +27,9 @@ bytes_differ xs ys e same = true≢false (sym ((bytes_eq-Decides xs ys).1 same) 
 -- Bytes are the same or differ.
 pub bytes_cases : (xs ys : List ℕ) → (xs ≡ ys) ⊎ (xs ≢ ys)
 bytes_cases xs ys = elim (bytes_eq xs ys) as (λ b. bytes_eq xs ys ≡ b → (xs ≡ ys) ⊎ (xs ≢ ys)) [
-    | true ↦ λ e. inl (bytes_same xs ys e)
-    | false ↦ λ e. inr (bytes_differ xs ys e)
-  ] refl
+  | true ↦ λ e. inl (bytes_same xs ys e)
+  | false ↦ λ e. inr (bytes_differ xs ys e)
+] refl
 
 -- ---- one pair
 
@@ -85,9 +85,9 @@ value_in-written_other (pair ∷ rest) key (suc at) value other is differ =
 pub value_in-push : (pairs : Pairs) (key : List ℕ) (value : ℕ) → value_in pairs key ≡ None → value_in (pairs ++ (key, value) ∷ []) key ≡ Some value
 value_in-push [] key value absent = value_in-head key value []
 value_in-push (pair ∷ rest) key value absent = elim (bytes_cases pair.0 key) [
-    | inl same ↦ absurd (let e : Some pair.1 ≡ None = sym (value_in-here pair rest key same) ∙ absent in cc)
-    | inr differ ↦ value_in-later pair (rest ++ (key, value) ∷ []) key differ ∙ value_in-push rest key value (sym (value_in-later pair rest key differ) ∙ absent)
-  ]
+  | inl same ↦ absurd (let e : Some pair.1 ≡ None = sym (value_in-here pair rest key same) ∙ absent in cc)
+  | inr differ ↦ value_in-later pair (rest ++ (key, value) ∷ []) key differ ∙ value_in-push rest key value (sym (value_in-later pair rest key differ) ∙ absent)
+]
 
 pub value_in-push_other : (pairs : Pairs) (key : List ℕ) (value : ℕ) (other : List ℕ) → key ≢ other → value_in (pairs ++ (key, value) ∷ []) other ≡ value_in pairs other
 value_in-push_other [] key value other differ = value_in-later (key, value) [] other differ
@@ -96,9 +96,9 @@ value_in-push_other (pair ∷ rest) key value other differ = value_in-tail pair 
 pub IsPlace-push : (pairs : Pairs) (key : List ℕ) (value : ℕ) → value_in pairs key ≡ None → IsPlace (pairs ++ (key, value) ∷ []) key (length pairs)
 IsPlace-push [] key value absent = refl
 IsPlace-push (pair ∷ rest) key value absent = elim (bytes_cases pair.0 key) [
-    | inl same ↦ absurd (let e : Some pair.1 ≡ None = sym (value_in-here pair rest key same) ∙ absent in cc)
-    | inr differ ↦ (differ, IsPlace-push rest key value (sym (value_in-later pair rest key differ) ∙ absent))
-  ]
+  | inl same ↦ absurd (let e : Some pair.1 ≡ None = sym (value_in-here pair rest key same) ∙ absent in cc)
+  | inr differ ↦ (differ, IsPlace-push rest key value (sym (value_in-later pair rest key differ) ∙ absent))
+]
 
 -- ---- a key taken out
 
@@ -124,12 +124,12 @@ module _ (key : List ℕ) where
   pub AreApart-push : (pairs : Pairs) (value : ℕ) → value_in pairs key ≡ None → AreApart pairs → AreApart (pairs ++ (key, value) ∷ [])
   AreApart-push [] value absent apart = (refl, tt)
   AreApart-push (pair ∷ rest) value absent apart = elim (bytes_cases pair.0 key) [
-      | inl same ↦ absurd (let e : Some pair.1 ≡ None = sym (value_in-here pair rest key same) ∙ absent in cc)
-      | inr differ ↦ (
-        value_in-push_other rest key value pair.0 (λ e. differ (sym e)) ∙ apart.0,
-        AreApart-push rest value (sym (value_in-later pair rest key differ) ∙ absent) apart.1,
-      )
-    ]
+    | inl same ↦ absurd (let e : Some pair.1 ≡ None = sym (value_in-here pair rest key same) ∙ absent in cc)
+    | inr differ ↦ (
+      value_in-push_other rest key value pair.0 (λ e. differ (sym e)) ∙ apart.0,
+      AreApart-push rest value (sym (value_in-later pair rest key differ) ∙ absent) apart.1,
+    )
+  ]
 
   pub AreApart-remove : (pairs : Pairs) (at : ℕ) → IsPlace pairs key at → AreApart pairs → AreApart (remove pairs at)
   AreApart-remove [] at is apart = absurd is
@@ -175,7 +175,7 @@ place_or_none : (entries : List LongEntry) (key : List ℕ) → MatchBool (nat_l
 place_or_none [] key = refl
 place_or_none (entry ∷ rest) key =
     elim (holds key entry) as (λ b. holds key entry ≡ b
-      → MatchBool (nat_lt (cond (not b) (1 + position_or_len (holds key) rest) 0) (suc (length rest))) (IsPlace (pairs_of (entry ∷ rest)) key (cond (not b) (1 + position_or_len (holds key) rest) 0)) (value_in (pairs_of (entry ∷ rest)) key ≡ None)) [
+    → MatchBool (nat_lt (cond (not b) (1 + position_or_len (holds key) rest) 0) (suc (length rest))) (IsPlace (pairs_of (entry ∷ rest)) key (cond (not b) (1 + position_or_len (holds key) rest) 0)) (value_in (pairs_of (entry ∷ rest)) key ≡ None)) [
       | true ↦ λ same. here (length rest) _ _ (bytes_same entry.key.items key same)
       | false ↦ λ differ. later entry (position_or_len (holds key) rest) (length rest) (pairs_of rest) key (bytes_differ entry.key.items key differ) (place_or_none rest key)
     ] refl

@@ -1,24 +1,24 @@
 -- One group under the changes of its calls: what each leaves at the key, at the other keys, and of what groups keep.
 use Rattle.std.proofs.Common.{◌≡◌, ◌≢◌, ℕ, zero, suc, ◌<◌, ◌≤◌, true, false, cond, List, [], ◌∷◌, ◌++◌, length, get_or, set, Option, Some, None, IfSome, nat_lt, inl, inr, refl, sym, ap, ◌∙◌, subst, ⊎_elim, arith}
-use Rattle.std.specs.FinMap.{FinMap, get, insert, remove, empty, entries, len, len-entries, empty_of_len, get-entries, get-empty, find}
+use Rattle.std.specs.FinMap.{FinMap, get, insert, remove, empty, entries, len-entries, empty_of_len, get-entries, get-empty, find}
 use Rattle.std.specs.Cmp.{nat_cmp_total, tied_itself}
 use Rattle.std.specs.Ordering.{is_eq}
 use Rattle.std.specs.List as list
 use Rattle.std.proofs.lemmas.Bool.{lt-ltb, le-ltb, cases_order}
 use Rattle.std.proofs.lemmas.List.{length_push, length-set}
 use Rattle.judy_model.specs.Keys.{word_order, IsByteString}
-use Rattle.judy_model.specs.Arrays.{ArrayOf, with_map}
+use Rattle.judy_model.specs.Arrays.{with_map}
 use Rattle.judy_model.proofs.ChangesLemmas.{get-write_same, get-del_same}
 use Rattle.judy_hs.specs.declared.group.Inside.{Inside}
 use Rattle.judy_hs.specs.declared.group.Inside.TheVariants.{Word, Chained}
 use Rattle.judy_hs.specs.Chains.{Pairs, value_in, with_value_at, IsPlace, AreApart}
-use Rattle.judy_hs.specs.LongGroups.{Long, chain_at, in_chain, in_long, IsLongPlace, IsFreePlace, IsFound, with_chain, with_key, added_long, hashes_without, without_key, long_with, one_long, one_word, put_at}
-use Rattle.judy_hs.specs.Groups.{Group, none, short, long, in_group, IsInside, IsNewInside, CanTakeKey, IsRemovable, IsUsable, IsEmptyGroup, value_inside, group_with, group_with_key, group_without, one_group, one_inside}
+use Rattle.judy_hs.specs.LongGroups.{Long, chain_at, in_chain, IsLongPlace, IsFound, added_long, hashes_without, put_at}
+use Rattle.judy_hs.specs.Groups.{Group, none, short, long, in_group, IsInside, IsNewInside, CanTakeKey, IsRemovable, IsUsable, IsEmptyGroup, value_inside, group_with, group_with_key, group_without}
 use Rattle.judy_hs.specs.Parts.{part_of}
-use Rattle.judy_hs.specs.Kept.{IsUsed, IsShort, IsChain, IsLong, IsGroup}
-use Rattle.judy_hs.proofs.ChainLemmas.{value_in-head, value_in-later, value_in-place, value_place, IsPlace-lt, value_in-written, value_in-written_other, value_in-push, value_in-push_other, IsPlace-push, value_in-remove, value_in-remove_other, AreApart-written, AreApart-push, AreApart-remove}
+use Rattle.judy_hs.specs.Kept.{IsUsed, IsLong, IsGroup}
+use Rattle.judy_hs.proofs.ChainLemmas.{value_in-place, value_place, IsPlace-lt, value_in-written, value_in-written_other, value_in-push, value_in-push_other, IsPlace-push, value_in-remove, value_in-remove_other, AreApart-written, AreApart-push, AreApart-remove}
 use Rattle.judy_hs.proofs.TwoLevels.{get_or-set_here, get_or-put}
-use Rattle.judy_hs.proofs.GroupSteps.{some_none, IsOther, IsStep, short-write, IsShort-write, short-remove, IsShort-remove, chain_of_one, has_value, long-changed, IsLong-changed, in_long-changed, long-chain, IsLong-chain, in_long-chain, long-gone, IsLong-gone}
+use Rattle.judy_hs.proofs.GroupSteps.{IsStep, short-write, IsShort-write, short-remove, IsShort-remove, has_value, long-changed, IsLong-changed, in_long-changed, long-chain, IsLong-chain, in_long-chain, long-gone, IsLong-gone}
 
 -- ---- maps
 
@@ -145,7 +145,7 @@ module _ (hash_of : List ℕ → ℕ) (key : List ℕ) (bytes : IsByteString key
           leads = e ∙ ap (λ (p : ℕ). Some p) (sym new.0);
           within = set_within group.chains held place grown new.0 within;
           is_place = subst (λ p. IsPlace (get_or (set group.chains held grown) p []) key at) (sym new.0)
-            (subst (λ (chain : Pairs). IsPlace chain key at) (sym (get_or-set_here group.chains held grown [] within)) (subst (λ n. IsPlace grown key n) (sym new.1) (IsPlace-push old key 0 absent)));
+              (subst (λ (chain : Pairs). IsPlace chain key at) (sym (get_or-set_here group.chains held grown [] within)) (subst (λ n. IsPlace grown key n) (sym new.1) (IsPlace-push old key 0 absent)));
         };
       }
 

@@ -1,18 +1,17 @@
 -- Groups by length: what a change of their list makes of them.
-use Rattle.std.proofs.Common.{◌≡◌, ◌≢◌, ℕ, zero, suc, ◌<◌, List, [], ◌∷◌, length, get_or, set, Option, Some, refl, sym, ap, ◌∙◌, arith}
-use Rattle.std.specs.FinMap.{get, insert}
+use Rattle.std.proofs.Common.{◌≡◌, ℕ, zero, suc, ◌<◌, List, [], ◌∷◌, length, get_or, set, refl, sym, ap, ◌∙◌, arith}
 use Rattle.std.proofs.lemmas.List.{map-set, get_or-map, length-map}
 use Rattle.judy_model.specs.Keys.{word_order}
-use Rattle.judy_model.specs.Arrays.{ArrayOf, with_map}
+use Rattle.judy_model.specs.Arrays.{ArrayOf}
 use Rattle.judy_hs.specs.declared.group.GroupPlace.{GroupPlace}
 use Rattle.judy_hs.specs.declared.group.GroupPlace.TheVariants.{Free, Short, Long}
 use Rattle.judy_hs.specs.declared.group.Inside.{Inside}
 use Rattle.judy_hs.specs.declared.group.Inside.TheVariants.{Word, Chained}
 use Rattle.judy_hs.specs.LongGroups.{put_at}
-use Rattle.judy_hs.specs.Groups.{Group, none, group_with, one_group, CanTakeKey}
+use Rattle.judy_hs.specs.Groups.{Group, none, group_with, CanTakeKey}
 use Rattle.judy_hs.specs.GroupPlaces.{group_of, groups_of}
 use Rattle.judy_hs.specs.GroupLends.{place_with}
-use Rattle.judy_hs.specs.Keyed.{Keyed, keyed_with, with_group}
+use Rattle.judy_hs.specs.Keyed.{Keyed, keyed_with}
 use Rattle.judy_hs.proofs.ListLemmas.{set-twice, set_same, map-put}
 
 -- The groups that their parts are.

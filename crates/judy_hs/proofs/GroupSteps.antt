@@ -1,23 +1,20 @@
 -- One group, its keys of one length: what a change at one key leaves of the others, and of what the group keeps.
-use Rattle.std.proofs.Common.{◌≡◌, ◌≢◌, ℕ, zero, suc, ◌+◌, ◌<◌, ◌≤◌, ◌^◌, List, [], ◌∷◌, ◌++◌, length, get_or, set, Option, Some, None, IfSome, refl, sym, ap, ◌∙◌, subst, ◌⊎◌, inl, inr, ⊎_elim, arith}
-use Rattle.std.specs.FinMap.{FinMap, get, insert, remove, empty, nat_cmp-IsAntisymmetric}
+use Rattle.std.proofs.Common.{◌≡◌, ◌≢◌, ℕ, ◌<◌, ◌≤◌, ◌^◌, List, [], ◌∷◌, length, set, Option, Some, None, refl, sym, ap, ◌∙◌, subst, ⊎_elim, arith}
+use Rattle.std.specs.FinMap.{get, insert, remove, nat_cmp-IsAntisymmetric}
 use Rattle.std.specs.Cmp.{nat_cmp_total}
-use Rattle.std.specs.List as list
-use Rattle.judy_model.specs.Keys.{word_order, IsByteString, IsBytesKey}
+use Rattle.judy_model.specs.Keys.{word_order, IsByteString}
 use Rattle.judy_model.specs.Arrays.{ArrayOf, with_map}
 use Rattle.judy_model.specs.WordBytes.{number_of}
 use Rattle.judy_model.proofs.ByteLemmas.{number_of-lt}
 use Rattle.judy_model.proofs.ChangesLemmas.{get-write_same, get-write_other, get-del_same, get-del_other}
-use Rattle.judy_hs.specs.declared.group.Inside.{Inside}
-use Rattle.judy_hs.specs.declared.group.Inside.TheVariants.{Word, Chained}
-use Rattle.judy_hs.specs.Chains.{Pairs, value_in, value_at, with_value_at, IsPlace, AreApart}
-use Rattle.judy_hs.specs.LongGroups.{Long, chain_at, in_chain, in_long, IsLongPlace, IsFreePlace, IsFound, put_at, with_chain, with_key, added_long, hashes_without, without_key, long_with, one_long, one_word}
-use Rattle.judy_hs.specs.Groups.{Group, none, short, long, in_group, IsInside, IsNewInside, CanTakeKey, IsRemovable, IsEmptyGroup, value_inside, group_with, group_with_key, group_without, one_group, one_inside}
+use Rattle.judy_hs.specs.Chains.{Pairs, value_in, AreApart}
+use Rattle.judy_hs.specs.LongGroups.{Long, chain_at, in_chain, in_long, IsFreePlace, with_chain}
+use Rattle.judy_hs.specs.Groups.{Group, short, long, in_group}
 use Rattle.judy_hs.specs.Parts.{part_of}
-use Rattle.judy_hs.specs.Kept.{IsUsed, IsShort, IsChain, IsLong, IsGroup}
-use Rattle.judy_hs.proofs.ChainLemmas.{bytes_cases, value_in-head, value_in-later, value_in-place, value_place, IsPlace-lt, value_in-written, value_in-written_other, value_in-push, value_in-push_other, IsPlace-push, value_in-remove, value_in-remove_other, AreApart-written, AreApart-push, AreApart-remove}
+use Rattle.judy_hs.specs.Kept.{IsUsed, IsShort, IsChain, IsLong}
+use Rattle.judy_hs.proofs.ChainLemmas.{bytes_cases, value_in-head, value_in-later}
 use Rattle.judy_hs.proofs.PartLemmas.{number_same, part_short, part_long}
-use Rattle.judy_hs.proofs.TwoLevels.{same_or_not, through, IsTwo, two-set, through-set, through-set_other, two-put, through-put, through-put_other, two-gone, through-gone, through-gone_other}
+use Rattle.judy_hs.proofs.TwoLevels.{same_or_not, through, IsTwo, two-set, through-set, through-set_other, two-put, through-put, through-put_other, two-gone, through-gone_other}
 
 pub some_none : {A B : Type 0} (x : A) → ◌≡◌ {A = Option A} (Some x) None → B
 some_none x e = absurd (let f : ⊥ = cc in f)
@@ -61,9 +58,9 @@ module _ (hash_of : List ℕ → ℕ) (key : List ℕ) (bytes : IsByteString key
       limit = is.limit;
       used = (part_of hash_of key, value, get-write_same nat_cmp_total words.map (part_of hash_of key) value);
       fits = λ word held e. ⊎_elim
-        (λ (same : part_of hash_of key ≡ word). subst (λ w. w < 256 ^ length key) same part_fits)
-        (λ differ. is.fits word held (sym (get-write_other nat_cmp_total words.map (part_of hash_of key) nat_cmp-IsAntisymmetric value word differ) ∙ e))
-        (same_or_not (part_of hash_of key) word);
+          (λ (same : part_of hash_of key ≡ word). subst (λ w. w < 256 ^ length key) same part_fits)
+          (λ differ. is.fits word held (sym (get-write_other nat_cmp_total words.map (part_of hash_of key) nat_cmp-IsAntisymmetric value word differ) ∙ e))
+          (same_or_not (part_of hash_of key) word);
     }
 
     pub short-remove : IsStep (short words) (short (with_map words (remove words.map (part_of hash_of key))))
@@ -77,9 +74,9 @@ module _ (hash_of : List ℕ → ℕ) (key : List ℕ) (bytes : IsByteString key
       limit = is.limit;
       used = used;
       fits = λ word held e. ⊎_elim
-        (λ (same : part_of hash_of key ≡ word). some_none held (sym e ∙ ap (get (remove words.map (part_of hash_of key))) (sym same) ∙ get-del_same nat_cmp_total words.map (part_of hash_of key)))
-        (λ differ. is.fits word held (sym (get-del_other nat_cmp_total words.map (part_of hash_of key) nat_cmp-IsAntisymmetric word differ) ∙ e))
-        (same_or_not (part_of hash_of key) word);
+          (λ (same : part_of hash_of key ≡ word). some_none held (sym e ∙ ap (get (remove words.map (part_of hash_of key))) (sym same) ∙ get-del_same nat_cmp_total words.map (part_of hash_of key)))
+          (λ differ. is.fits word held (sym (get-del_other nat_cmp_total words.map (part_of hash_of key) nat_cmp-IsAntisymmetric word differ) ∙ e))
+          (same_or_not (part_of hash_of key) word);
     }
 
   -- ---- long keys
@@ -101,9 +98,9 @@ module _ (hash_of : List ℕ → ℕ) (key : List ℕ) (bytes : IsByteString key
     used = used;
     apart = apart;
     keys = λ other value e. ⊎_elim
-      (λ (same : key ≡ other). subst (λ k. IsByteString k × (length k ≡ length key) × (hash_of k ≡ hash)) same (bytes, refl, has))
-      (λ differ. is.keys other value (sym (others other differ) ∙ e))
-      (bytes_cases key other);
+        (λ (same : key ≡ other). subst (λ k. IsByteString k × (length k ≡ length key) × (hash_of k ≡ hash)) same (bytes, refl, has))
+        (λ differ. is.keys other value (sym (others other differ) ∙ e))
+        (bytes_cases key other);
   }
 
   -- The chain of the key alone.
@@ -112,9 +109,9 @@ module _ (hash_of : List ℕ → ℕ) (key : List ℕ) (bytes : IsByteString key
     used = λ e. cc;
     apart = (refl, tt);
     keys = λ other value e. ⊎_elim
-      (λ (same : key ≡ other). subst (λ k. IsByteString k × (length k ≡ length key) × (hash_of k ≡ hash)) same (bytes, refl, has))
-      (λ differ. some_none value (sym e ∙ value_in-later (key, 0) [] other differ))
-      (bytes_cases key other);
+        (λ (same : key ≡ other). subst (λ k. IsByteString k × (length k ≡ length key) × (hash_of k ≡ hash)) same (bytes, refl, has))
+        (λ differ. some_none value (sym e ∙ value_in-later (key, 0) [] other differ))
+        (bytes_cases key other);
   }
 
   -- A chain with a value for a key isn't empty.
@@ -130,11 +127,11 @@ module _ (hash_of : List ℕ → ℕ) (key : List ℕ) (bytes : IsByteString key
         → IsStep (long group) (long (record group { chains = set group.chains place new }))
     long-changed place new leads within others = record {
       others = λ other o.
-        let after : Long = record group { chains = set group.chains place new } in
-        let found = get group.hashes.map (part_of hash_of other) in
-        chain_is after found other
-        ∙ through-set_other [] value_in (IsChain hash_of (length key)) (never (length key)) group.hashes.map group.chains (two_of group is) (part_of hash_of key) place leads within new found other (others other o.differs)
-        ∙ sym (chain_is group found other);
+          let after : Long = record group { chains = set group.chains place new } in
+          let found = get group.hashes.map (part_of hash_of other) in
+          chain_is after found other
+          ∙ through-set_other [] value_in (IsChain hash_of (length key)) (never (length key)) group.hashes.map group.chains (two_of group is) (part_of hash_of key) place leads within new found other (others other o.differs)
+          ∙ sym (chain_is group found other);
     }
 
     pub IsLong-changed : (place : ℕ) (new : Pairs) → get group.hashes.map (part_of hash_of key) ≡ Some place → place < length group.chains → new ≢ [] → AreApart new → ((other : List ℕ) → key ≢ other → value_in new other ≡ value_in (chain_at group place) other)
@@ -152,9 +149,9 @@ module _ (hash_of : List ℕ → ℕ) (key : List ℕ) (bytes : IsByteString key
     pub long-chain : (place : ℕ) → get group.hashes.map (part_of hash_of key) ≡ None → IsFreePlace group.chains place → IsStep (long group) (long (with_chain group (part_of hash_of key) key place))
     long-chain place absent free = record {
       others = λ other o.
-        chain_is (with_chain group (part_of hash_of key) key place) (get (insert group.hashes.map (part_of hash_of key) place) (part_of hash_of other)) other
-        ∙ through-put_other [] value_in (IsChain hash_of (length key)) (never (length key)) group.hashes.map group.chains (two_of group is) (part_of hash_of key) place absent free.within free.no_key ((key, 0) ∷ []) (part_of hash_of other) other (λ _. value_in-later (key, 0) [] other o.differs)
-        ∙ sym (chain_is group (get group.hashes.map (part_of hash_of other)) other);
+          chain_is (with_chain group (part_of hash_of key) key place) (get (insert group.hashes.map (part_of hash_of key) place) (part_of hash_of other)) other
+          ∙ through-put_other [] value_in (IsChain hash_of (length key)) (never (length key)) group.hashes.map group.chains (two_of group is) (part_of hash_of key) place absent free.within free.no_key ((key, 0) ∷ []) (part_of hash_of other) other (λ _. value_in-later (key, 0) [] other o.differs)
+          ∙ sym (chain_is group (get group.hashes.map (part_of hash_of other)) other);
     }
 
     pub IsLong-chain : (place : ℕ) → get group.hashes.map (part_of hash_of key) ≡ None → IsFreePlace group.chains place → IsLong hash_of (length key) (with_chain group (part_of hash_of key) key place)
@@ -173,10 +170,10 @@ module _ (hash_of : List ℕ → ℕ) (key : List ℕ) (bytes : IsByteString key
       pub long-gone : IsStep (long group) (long (record { hashes = with_map group.hashes (remove group.hashes.map (part_of hash_of key)); chains = set group.chains place [] }))
       long-gone = record {
         others = λ other o.
-          let after : Long = record { hashes = with_map group.hashes (remove group.hashes.map (part_of hash_of key)); chains = set group.chains place [] } in
-          chain_is after (get (remove group.hashes.map (part_of hash_of key)) (part_of hash_of other)) other
-          ∙ through-gone_other [] value_in (IsChain hash_of (length key)) (never (length key)) group.hashes.map group.chains (two_of group is) (part_of hash_of key) place leads (part_of hash_of other) other (λ _. alone other o.differs)
-          ∙ sym (chain_is group (get group.hashes.map (part_of hash_of other)) other);
+            let after : Long = record { hashes = with_map group.hashes (remove group.hashes.map (part_of hash_of key)); chains = set group.chains place [] } in
+            chain_is after (get (remove group.hashes.map (part_of hash_of key)) (part_of hash_of other)) other
+            ∙ through-gone_other [] value_in (IsChain hash_of (length key)) (never (length key)) group.hashes.map group.chains (two_of group is) (part_of hash_of key) place leads (part_of hash_of other) other (λ _. alone other o.differs)
+            ∙ sym (chain_is group (get group.hashes.map (part_of hash_of other)) other);
       }
 
       pub IsLong-gone : IsUsed (remove group.hashes.map (part_of hash_of key)) → IsLong hash_of (length key) (record { hashes = with_map group.hashes (remove group.hashes.map (part_of hash_of key)); chains = set group.chains place [] })

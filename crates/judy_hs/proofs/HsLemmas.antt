@@ -1,27 +1,25 @@
 -- Arrays: what the changes of their groups make of them.
-use Rattle.std.proofs.Common.{◌≡◌, ◌≢◌, ℕ, zero, suc, ◌+◌, ◌-◌, ◌<◌, ◌≤◌, ◌==◌, Bool, true, false, cond, not, ◌&&◌, List, [], length, get_or, set, Option, Some, None, is_some, IsSome, IfSome, Result, Ok, Err, IsOk, IfOk, OnOk, IfErr, MutBor, IsTrue, IsFalse, ◌↔◌, eq-eqb, refl, sym, ap, ◌∙◌, subst, ◌⊎◌, inl, inr, ⊎_elim, arith}
+use Rattle.std.proofs.Common.{◌≡◌, ◌≢◌, ℕ, ◌+◌, ◌-◌, ◌<◌, ◌≤◌, ◌==◌, true, false, cond, List, length, get_or, set, Option, Some, None, is_some, IsSome, IfSome, Result, Ok, Err, IsOk, IfOk, OnOk, IfErr, MutBor, IsTrue, IsFalse, ◌↔◌, eq-eqb, refl, sym, ap, ◌∙◌, subst, ◌⊎◌, inl, inr, ⊎_elim, arith}
 use Rattle.std.specs.FinMap.{FinMap, get, insert, remove, empty, len, contains_key, len-empty, len-insert, len-remove, get-empty, empty_of_len}
-use Rattle.std.specs.Cmp.{nat_cmp_total}
 use Rattle.std.specs.Borrow.{name_if_ok}
 use borrow.Follows.Closed.{read_of}
 use Rattle.std.proofs.lemmas.Bool.{ne_eqb, false≢true}
 use Rattle.std.proofs.lemmas.Bool.Decides.{Decides-eqb}
 use Rattle.std.proofs.lemmas.List.{get_or_default}
-use Rattle.judy_model.specs.Keys.{word_order, byte_order, IsByteString, IsBytesKey}
+use Rattle.judy_model.specs.Keys.{word_order, byte_order, IsBytesKey}
 use Rattle.judy_model.specs.Arrays.{ArrayOf, with_map, empty_array, ins, del, is_full}
-use Rattle.judy_model.specs.Tables.{table, bytes_keys}
 use Rattle.judy_model.proofs.TableLemmas.{bytes_keys-all, byte_order_total, byte_order_same, get-table, get-table_bad, table_none}
 use Rattle.judy_model.proofs.ChangesLemmas.{write-write, del_absent}
-use Rattle.judy_model.proofs.Inserts.{get-insert_itself, ins_present, ins_absent, is_full_present, is_full_absent}
+use Rattle.judy_model.proofs.Inserts.{ins_present, ins_absent, is_full_present, is_full_absent}
 use Rattle.judy_hs.specs.declared.error.HsError.{HsError}
 use Rattle.judy_hs.specs.declared.group.Inside.{Inside}
-use Rattle.judy_hs.specs.Groups.{Group, none, short, long, in_group, IsInside, IsUsable, IsRemovable, IsEmptyGroup, CanTakeKey, value_inside, group_with, group_with_key, group_without}
-use Rattle.judy_hs.specs.Keyed.{Keyed, no_keys, group_at, in_place, in_keyed, IsSpot, IsFreeGroup, IsNewSpot, keyed_with, with_group, added_keyed, keyed_without, without_group}
+use Rattle.judy_hs.specs.Groups.{Group, none, short, long, IsInside, IsUsable, IsRemovable, IsEmptyGroup, CanTakeKey, value_inside, group_with, group_with_key, group_without}
+use Rattle.judy_hs.specs.Keyed.{Keyed, no_keys, group_at, in_place, IsSpot, IsNewSpot, keyed_with, with_group, added_keyed, keyed_without, without_group}
 use Rattle.judy_hs.specs.Parts.{part_of}
-use Rattle.judy_hs.specs.Kept.{IsGroup, IsKeyed, value_of, map_of, array_of, IsHs}
+use Rattle.judy_hs.specs.Kept.{value_of, map_of, array_of, IsHs}
 use Rattle.judy_hs.specs.Slots.{with_value}
-use Rattle.judy_hs.proofs.GroupSteps.{IsOther, IsStep, some_none}
-use Rattle.judy_hs.proofs.GroupChanges.{IsChanged, IsGrown, IsShrunk, group-write, group-add, group-remove, group-takes, inside-usable, inside-removable, value-inside, inside-some, empty-none, set_within}
+use Rattle.judy_hs.proofs.GroupSteps.{some_none}
+use Rattle.judy_hs.proofs.GroupChanges.{group-write, group-add, group-remove, group-takes, inside-usable, inside-removable, value-inside, inside-some, empty-none, set_within}
 use Rattle.judy_hs.proofs.TwoLevels.{get_or-set_here, same_or_not}
 use Rattle.judy_hs.proofs.KeyedSteps.{IsMade, IsPut, made-set, made-without, made-gone, put-group}
 
@@ -131,7 +129,7 @@ module _ (hash_of : List ℕ → ℕ) where
             leads = leads ∙ ap (λ (p : ℕ). Some p) (sym new.0);
             within = set_within keyed.groups held place (group_with_key group (part_of hash_of key) key inside) new.0 new.1;
             is_inside = subst (λ p. IsInside (get_or (set keyed.groups held (group_with_key group (part_of hash_of key) key inside)) p none) (part_of hash_of key) key inside) (sym new.0)
-              (subst (λ (g : Group). IsInside g (part_of hash_of key) key inside) (sym (get_or-set_here keyed.groups held (group_with_key group (part_of hash_of key) key inside) none new.1)) grown.there);
+                (subst (λ (g : Group). IsInside g (part_of hash_of key) key inside) (sym (get_or-set_here keyed.groups held (group_with_key group (part_of hash_of key) key inside) none new.1)) grown.there);
           };
         }
 
@@ -187,9 +185,9 @@ module _ (hash_of : List ℕ → ℕ) where
 -- A count of no keys is that of the empty map.
 pub empty_iff : (map : FinMap byte_order ℕ) (count : ℕ) → count ≡ len map → IsTrue (count == 0) ↔ (map ≡ empty)
 empty_iff map count counted = (
-    λ e. empty_of_len map (sym counted ∙ (Decides-eqb count 0).0 e),
-    λ e. eq-eqb count 0 (counted ∙ ap len e ∙ len-empty byte_order ℕ),
-  )
+  λ e. empty_of_len map (sym counted ∙ (Decides-eqb count 0).0 e),
+  λ e. eq-eqb count 0 (counted ∙ ap len e ∙ len-empty byte_order ℕ),
+)
 
 -- ---- a delete
 
@@ -202,8 +200,8 @@ group_or_not (short words) = empty_or_not words.map
 group_or_not (long group) = empty_or_not group.hashes.map
 
 module _ (hash_of : List ℕ → ℕ) (limit count : ℕ) (keyed : Keyed) (is : IsHs hash_of limit count keyed) (key : List ℕ) (is_key : IsBytesKey key) (place : ℕ) (inside : Inside) (spot : IsSpot keyed (part_of hash_of key) key place inside) (after : Keyed)
-  (kept : (IsEmptyGroup (group_without (group_at keyed place) (part_of hash_of key) inside) → ⊥) → after ≡ keyed_without keyed place (part_of hash_of key) inside)
-  (emptied : IsEmptyGroup (group_without (group_at keyed place) (part_of hash_of key) inside) → after ≡ without_group keyed (length key) place) where
+    (kept : (IsEmptyGroup (group_without (group_at keyed place) (part_of hash_of key) inside) → ⊥) → after ≡ keyed_without keyed place (part_of hash_of key) inside)
+    (emptied : IsEmptyGroup (group_without (group_at keyed place) (part_of hash_of key) inside) → after ≡ without_group keyed (length key) place) where
   removed_made : IsMade hash_of after (remove (map_of hash_of keyed) key)
   removed_made = ⊎_elim
       (λ gone. subst (λ k. IsMade hash_of k (remove (map_of hash_of keyed) key)) (sym (emptied gone)) (made_emptied hash_of limit count keyed is key is_key place inside spot gone))
@@ -273,7 +271,7 @@ module _ (hash_of : List ℕ → ℕ) (limit count : ℕ) (keyed : Keyed) (is : 
         e ∙ sym (spot-value hash_of keyed key is_key place inside spot) ∙ ap (λ (map : FinMap byte_order ℕ). get map key) (sym (ins_present (map_of hash_of keyed) key held.0 held.1))
 
   module _ (place : ℕ) (inside : Inside) (absent : value_of hash_of keyed key ≡ None) (new : IsNewSpot keyed (part_of hash_of key) key (get keyed.lengths.map (length key)) place inside)
-    (after : Keyed) (made : after ≡ added_keyed keyed (part_of hash_of key) key (get keyed.lengths.map (length key)) place inside) where
+      (after : Keyed) (made : after ≡ added_keyed keyed (part_of hash_of key) key (get keyed.lengths.map (length key)) place inside) where
     pub after-spot : IsSpot after (part_of hash_of key) key place inside
     after-spot = subst (λ k. IsSpot k (part_of hash_of key) key place inside) (sym made) (added-spot hash_of limit count keyed is key is_key place inside absent new)
 

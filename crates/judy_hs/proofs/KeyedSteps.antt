@@ -1,27 +1,24 @@
 -- All groups: what a change at one key makes of the map that they are, and of what they keep.
-use Rattle.std.proofs.Common.{◌≡◌, ◌≢◌, ℕ, zero, suc, ◌^◌, ◌<◌, ◌≤◌, true, false, cond, List, [], ◌∷◌, length, get_or, set, Option, Some, None, nat_le, refl, sym, ap, ◌∙◌, subst, ◌⊎◌, inl, inr, ⊎_elim, arith}
+use Rattle.std.proofs.Common.{◌≡◌, ◌≢◌, ℕ, zero, suc, ◌^◌, ◌<◌, ◌≤◌, cond, List, [], ◌∷◌, length, get_or, set, Option, Some, None, refl, sym, ap, ◌∙◌, subst, inl, inr, ⊎_elim, arith}
 use Rattle.std.specs.FinMap.{FinMap, get, insert, remove, empty, get-empty, nat_cmp-IsAntisymmetric}
 use Rattle.std.specs.Cmp.{nat_cmp_total}
 use Rattle.std.proofs.lemmas.Bool.{le-leb, lt-leb, cases_order}
 use Rattle.judy_model.specs.Keys.{word_order, byte_order, IsByteString, IsBytesKey}
-use Rattle.judy_model.specs.Arrays.{ArrayOf, with_map, empty_array}
-use Rattle.judy_model.specs.Tables.{table, bytes_keys}
-use Rattle.judy_model.proofs.TableLemmas.{bytes_keys-all, table_none, table_insert, table_remove}
+use Rattle.judy_model.proofs.TableLemmas.{bytes_keys-all, table_insert, table_remove}
 use Rattle.judy_model.proofs.ByteLemmas.{number_of-lt}
 use Rattle.judy_model.proofs.ChangesLemmas.{get-write_same, get-write_other}
 use Rattle.judy_hs.specs.declared.group.Inside.{Inside}
 use Rattle.judy_hs.specs.declared.group.Inside.TheVariants.{Word, Chained}
-use Rattle.judy_hs.specs.Chains.{Pairs, value_in}
-use Rattle.judy_hs.specs.LongGroups.{Long, in_chain, one_long, one_word, put_at}
-use Rattle.judy_hs.specs.Groups.{Group, none, short, long, in_group, IsInside, IsEmptyGroup, group_with, group_with_key, group_without, one_group, one_inside}
-use Rattle.judy_hs.specs.Keyed.{Keyed, no_keys, group_at, in_place, in_keyed, IsSpot, IsFreeGroup, IsNewSpot, keyed_with, with_group, added_keyed, keyed_without, without_group}
+use Rattle.judy_hs.specs.LongGroups.{in_chain, one_long, one_word}
+use Rattle.judy_hs.specs.Groups.{Group, none, short, long, in_group, IsInside, IsEmptyGroup, one_group, one_inside}
+use Rattle.judy_hs.specs.Keyed.{Keyed, group_at, in_place, IsSpot, IsFreeGroup, with_group, without_group}
 use Rattle.judy_hs.specs.Parts.{part_of}
-use Rattle.judy_hs.specs.Kept.{IsUsed, IsShort, IsChain, IsLong, IsGroup, IsKeyed, value_of, map_of}
-use Rattle.judy_hs.proofs.ChainLemmas.{bytes_cases, value_in-head, value_in-later}
+use Rattle.judy_hs.specs.Kept.{IsChain, IsGroup, IsKeyed, value_of, map_of}
+use Rattle.judy_hs.proofs.ChainLemmas.{value_in-head, value_in-later}
 use Rattle.judy_hs.proofs.PartLemmas.{part_short, part_long, number_same}
 use Rattle.judy_hs.proofs.TwoLevels.{same_or_not, through, IsTwo, two-set, through-set, through-set_at, two-put, through-put, through-put_other, two-gone, through-gone, through-gone_other, get_or-put}
 use Rattle.judy_hs.proofs.GroupSteps.{some_none, IsOther, IsStep, chain_of_one}
-use Rattle.judy_hs.proofs.GroupChanges.{IsChanged, IsGrown, IsShrunk, put_within}
+use Rattle.judy_hs.proofs.GroupChanges.{IsChanged, IsShrunk, put_within}
 
 module _ (hash_of : List ℕ → ℕ) where
   -- The value of a key in a group.
@@ -112,9 +109,9 @@ module _ (hash_of : List ℕ → ℕ) where
         limit = refl;
         used = (part_of hash_of key, 0, word_one);
         fits = λ word value e. ⊎_elim
-          (λ (same : word ≡ part_of hash_of key). subst (λ w. w < 256 ^ length key) (sym (same ∙ part_short hash_of key few)) (number_of-lt key is_key.is_byte_string))
-          (λ differ. some_none value (sym e ∙ no_word word differ))
-          (same_or_not word (part_of hash_of key));
+            (λ (same : word ≡ part_of hash_of key). subst (λ w. w < 256 ^ length key) (sym (same ∙ part_short hash_of key few)) (number_of-lt key is_key.is_byte_string))
+            (λ differ. some_none value (sym e ∙ no_word word differ))
+            (same_or_not word (part_of hash_of key));
       };
       there = (refl, (0, word_one));
     }
@@ -141,9 +138,9 @@ module _ (hash_of : List ℕ → ℕ) where
         used = (part_of hash_of key, 0, word_one);
         apart = λ one other place p q. (one_place place one p).0 ∙ sym (one_place place other q).0;
         chains = λ hash place e.
-          let at = one_place place hash e in
-          subst (λ h. IsChain hash_of (length key) h (get_or (((key, 0) ∷ []) ∷ []) place [])) (sym at.0)
-          (subst (λ p. IsChain hash_of (length key) (part_of hash_of key) (get_or (((key, 0) ∷ []) ∷ []) p [])) (sym at.1) (chain_of_one hash_of key is_key.is_byte_string (part_of hash_of key) (sym (part_long hash_of key many))));
+            let at = one_place place hash e in
+            subst (λ h. IsChain hash_of (length key) h (get_or (((key, 0) ∷ []) ∷ []) place [])) (sym at.0)
+            (subst (λ p. IsChain hash_of (length key) (part_of hash_of key) (get_or (((key, 0) ∷ []) ∷ []) p [])) (sym at.1) (chain_of_one hash_of key is_key.is_byte_string (part_of hash_of key) (sym (part_long hash_of key many))));
       };
       there = record { leads = word_one; within = omega arith; is_place = refl };
     }
@@ -167,12 +164,12 @@ module _ (hash_of : List ℕ → ℕ) where
           made = record {
             is = record { limit = is.limit; apart = both.apart; groups = both.good };
             map_is = written after 0
-              (place_is after (get (insert keyed.lengths.map (length key) place) (length key)) key
-              ∙ through-put none held (IsGroup hash_of) never keyed.lengths.map keyed.groups (two_of keyed is) (length key) place absent free.within free.no_group new key
-              ∙ one.here)
-              (λ other also differ. place_is after (get (insert keyed.lengths.map (length key) place) (length other)) other
-              ∙ through-put_other none held (IsGroup hash_of) never keyed.lengths.map keyed.groups (two_of keyed is) (length key) place absent free.within free.no_group new (length other) other (λ same. one.others other (other_of other also differ same))
-              ∙ sym (place_is keyed (get keyed.lengths.map (length other)) other));
+                (place_is after (get (insert keyed.lengths.map (length key) place) (length key)) key
+                ∙ through-put none held (IsGroup hash_of) never keyed.lengths.map keyed.groups (two_of keyed is) (length key) place absent free.within free.no_group new key
+                ∙ one.here)
+                (λ other also differ. place_is after (get (insert keyed.lengths.map (length key) place) (length other)) other
+                ∙ through-put_other none held (IsGroup hash_of) never keyed.lengths.map keyed.groups (two_of keyed is) (length key) place absent free.within free.no_group new (length other) other (λ same. one.others other (other_of other also differ same))
+                ∙ sym (place_is keyed (get keyed.lengths.map (length other)) other));
           };
           spot = record {
             leads = get-write_same nat_cmp_total keyed.lengths.map (length key) place;
@@ -190,9 +187,9 @@ module _ (hash_of : List ℕ → ℕ) where
         record {
           is = record { limit = is.limit; apart = both.apart; groups = both.good };
           map_is = removed after
-            (place_is after (get (remove keyed.lengths.map (length key)) (length key)) key
-            ∙ through-gone none held (IsGroup hash_of) never keyed.lengths.map keyed.groups (two_of keyed is) (length key) place leads key)
-            (λ other also differ. place_is after (get (remove keyed.lengths.map (length key)) (length other)) other
-            ∙ through-gone_other none held (IsGroup hash_of) never keyed.lengths.map keyed.groups (two_of keyed is) (length key) place leads (length other) other (λ same. alone other (other_of other also differ same))
-            ∙ sym (place_is keyed (get keyed.lengths.map (length other)) other));
+              (place_is after (get (remove keyed.lengths.map (length key)) (length key)) key
+              ∙ through-gone none held (IsGroup hash_of) never keyed.lengths.map keyed.groups (two_of keyed is) (length key) place leads key)
+              (λ other also differ. place_is after (get (remove keyed.lengths.map (length key)) (length other)) other
+              ∙ through-gone_other none held (IsGroup hash_of) never keyed.lengths.map keyed.groups (two_of keyed is) (length key) place leads (length other) other (λ same. alone other (other_of other also differ same))
+              ∙ sym (place_is keyed (get keyed.lengths.map (length other)) other));
         }

@@ -1,7 +1,6 @@
 -- Lists of places and what stands at them.
-use Rattle.std.proofs.Common.{◌≡◌, ℕ, zero, suc, ◌<◌, ◌≤◌, true, false, cond, List, [], ◌∷◌, ◌++◌, map, length, get_or, set, nat_lt, refl, sym, ap, ◌∙◌, ◌≢◌, ◌⊎◌, inl, inr, ⊎_elim, arith}
-use Rattle.std.proofs.lemmas.List.{map-set, length-map, map-append, get_or-set_same, get_or-set_other}
-use Rattle.std.proofs.lemmas.Bool.{lt-ltb, le-ltb}
+use Rattle.std.proofs.Common.{◌≡◌, ℕ, zero, suc, true, false, cond, List, [], ◌∷◌, ◌++◌, map, length, get_or, set, nat_lt, refl, ap}
+use Rattle.std.proofs.lemmas.List.{map-set, length-map, map-append}
 use Rattle.judy_hs.specs.LongGroups.{put_at}
 
 -- The later of two elements written at a place stays.

@@ -1,14 +1,14 @@
 -- Groups of long keys: what a change of their lists makes of them.
-use Rattle.std.proofs.Common.{◌≡◌, ◌≢◌, ℕ, zero, suc, ◌<◌, ◌≤◌, Bool, true, false, cond, List, [], ◌∷◌, ◌++◌, map, length, get_or, set, Option, Some, None, nat_lt, refl, sym, ap, ◌∙◌, subst, arith}
+use Rattle.std.proofs.Common.{◌≡◌, ◌≢◌, ℕ, zero, suc, ◌<◌, true, false, cond, List, [], ◌∷◌, ◌++◌, length, get_or, set, Option, Some, nat_lt, refl, sym, ap, ◌∙◌, subst, arith}
 use Rattle.std.specs.List as list
-use Rattle.std.specs.FinMap.{FinMap, get, insert}
+use Rattle.std.specs.FinMap.{get, insert}
 use Rattle.std.proofs.lemmas.List.{map-set, get_or-map, length-map, map-append}
 use Rattle.judy_model.specs.Keys.{word_order}
 use Rattle.judy_model.specs.Arrays.{ArrayOf, with_map}
 use Rattle.judy_hs.specs.declared.long_group.ChainPlace.{ChainPlace}
 use Rattle.judy_hs.specs.declared.long_group.ChainPlace.TheVariants.{Free, Taken}
-use Rattle.judy_hs.specs.Chains.{Pairs, value_in, value_at, with_value_at, IsPlace}
-use Rattle.judy_hs.specs.LongGroups.{Long, long_with, chain_at, in_long, in_chain, put_at, with_chain, with_key, added_long, IsAdded, IsFound, hashes_without, without_key}
+use Rattle.judy_hs.specs.Chains.{Pairs, with_value_at}
+use Rattle.judy_hs.specs.LongGroups.{Long, long_with, put_at, with_chain, added_long, IsAdded, IsFound, hashes_without, without_key}
 use Rattle.judy_hs.specs.ChainPlaces.{pairs_at, chains_of}
 use Rattle.judy_hs.specs.LongLends.{place_with}
 

@@ -1,9 +1,8 @@
 -- Two levels: an array leads from words to places, and at each place stands something with keys. Chains under their
 -- hashes and groups under their lengths are such.
-use Rattle.std.proofs.Common.{◌≡◌, ◌≢◌, ℕ, zero, suc, ◌<◌, ◌≤◌, Bool, true, false, cond, List, [], ◌∷◌, ◌++◌, length, get_or, set, Option, Some, None, nat_lt, refl, sym, ap, ◌∙◌, subst, ◌⊎◌, inl, inr, ⊎_elim, arith}
+use Rattle.std.proofs.Common.{◌≡◌, ◌≢◌, ℕ, zero, suc, ◌<◌, ◌≤◌, true, false, List, [], ◌∷◌, ◌++◌, length, get_or, set, Option, Some, None, nat_lt, refl, sym, ap, ◌∙◌, subst, ◌⊎◌, inl, inr, ⊎_elim, arith}
 use Rattle.std.specs.FinMap.{FinMap, get, insert, remove, nat_cmp-IsAntisymmetric}
 use Rattle.std.specs.Cmp.{nat_cmp_total}
-use Rattle.std.proofs.lemmas.List.{get_or-set_same, get_or-set_other}
 use Rattle.std.proofs.lemmas.Bool.{lt-ltb, le-ltb, cases_order}
 use Rattle.judy_model.specs.Keys.{word_order}
 use Rattle.judy_model.proofs.ChangesLemmas.{get-write_same, get-write_other, get-del_same, get-del_other}
@@ -78,10 +77,10 @@ module _ {X : Type 0} (none : X) (look : X → List ℕ → Option ℕ) where
       two-set good = record {
         apart = two.apart;
         good = λ other at e. ⊎_elim
-          (λ (same : at ≡ place). subst (Good other) (sym (ap (λ p. get_or (set xs place new) p none) same ∙ get_or-set_here xs place new none within))
+            (λ (same : at ≡ place). subst (Good other) (sym (ap (λ p. get_or (set xs place new) p none) same ∙ get_or-set_here xs place new none within))
             (subst (λ w. Good w new) (two.apart word other place leads (e ∙ ap (λ (p : ℕ). Some p) same)) good))
-          (λ differ. subst (Good other) (sym (get_or-set_there xs place at new none differ)) (two.good other at e))
-          (same_or_not at place);
+            (λ differ. subst (Good other) (sym (get_or-set_there xs place at new none differ)) (two.good other at e))
+            (same_or_not at place);
       }
 
       pub through-set : (key : List ℕ) → through (set xs place new) (get outer word) key ≡ look new key
@@ -119,23 +118,23 @@ module _ {X : Type 0} (none : X) (look : X → List ℕ → Option ℕ) where
       pub two-put : Good word new → IsTwo Good (insert outer word place) (put_at xs place new)
       two-put good = record {
         apart = λ left right at l r. ⊎_elim
-          (λ (one : left ≡ word). ⊎_elim
+            (λ (one : left ≡ word). ⊎_elim
             (λ (other : right ≡ word). one ∙ sym other)
             (λ other. absurd (not_free free right at (sym (leads_there right other) ∙ r) (some_same at place (sym l ∙ ap (get (insert outer word place)) one ∙ leads_here))))
             (same_or_not right word))
-          (λ one. ⊎_elim
+            (λ one. ⊎_elim
             (λ (other : right ≡ word). absurd (not_free free left at (sym (leads_there left one) ∙ l) (some_same at place (sym r ∙ ap (get (insert outer word place)) other ∙ leads_here))))
             (λ other. two.apart left right at (sym (leads_there left one) ∙ l) (sym (leads_there right other) ∙ r))
             (same_or_not right word))
-          (same_or_not left word);
+            (same_or_not left word);
         good = λ other at e. ⊎_elim
-          (λ (one : other ≡ word).
+            (λ (one : other ≡ word).
             let here : at ≡ place = some_same at place (sym e ∙ ap (get (insert outer word place)) one ∙ leads_here) in
             subst (λ w. Good w (get_or (put_at xs place new) at none)) (sym one) (subst (Good word) (sym (ap (λ p. get_or (put_at xs place new) p none) here ∙ get_or-put xs place new none within)) good))
-          (λ differ.
+            (λ differ.
             let before = sym (leads_there other differ) ∙ e in
             subst (Good other) (sym (get_or-put_other xs place at new none within (not_free free other at before))) (two.good other at before))
-          (same_or_not other word);
+            (same_or_not other word);
       }
 
       pub through-put : (key : List ℕ) → through (put_at xs place new) (get (insert outer word place) word) key ≡ look new key
@@ -170,8 +169,8 @@ module _ {X : Type 0} (none : X) (look : X → List ℕ → Option ℕ) where
       two-gone = record {
         apart = λ left right at l r. two.apart left right at (sym (gone_there left (kept left at l)) ∙ l) (sym (gone_there right (kept right at r)) ∙ r);
         good = λ other at e.
-          let before = sym (gone_there other (kept other at e)) ∙ e in
-          subst (Good other) (sym (get_or-set_there xs place at none none (elsewhere other at (kept other at e) before))) (two.good other at before);
+            let before = sym (gone_there other (kept other at e)) ∙ e in
+            subst (Good other) (sym (get_or-set_there xs place at none none (elsewhere other at (kept other at e) before))) (two.good other at before);
       }
 
       pub through-gone : (key : List ℕ) → through (set xs place none) (get (remove outer word) word) key ≡ None

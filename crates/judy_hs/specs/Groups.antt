@@ -2,7 +2,7 @@
 -- spells, or the hash of a longer one.
 use Rattle.std.specs.Prelude.{◌≡◌, ◌≢◌, ◌<◌, ℕ, List, [], length, Option, Some, None, ◌⊎◌, refl, IfSome, nat_le, if◌then◌else◌}
 use Rattle.std.specs.Coded.{Coded, code_by, coded⊎, coded_option}
-use Rattle.std.specs.FinMap.{FinMap, get, insert, empty, remove}
+use Rattle.std.specs.FinMap.{get, insert, empty, remove}
 use Rattle.std.proofs.Common.{inl, inr}
 use Rattle.judy_model.specs.Keys.{word_order}
 use Rattle.judy_model.specs.Arrays.{ArrayOf, array_code, with_map}

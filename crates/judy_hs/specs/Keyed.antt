@@ -1,7 +1,7 @@
 -- The groups of an array by the length of their keys.
 use Rattle.std.specs.Prelude.{◌≡◌, ◌≤◌, ◌<◌, ℕ, List, [], length, get_or, slice_set, Option, Some, None, refl}
 use Rattle.std.specs.Coded.{Coded, code_by, coded×, coded_list, coded_ℕ}
-use Rattle.std.specs.FinMap.{FinMap, get, insert, remove, empty}
+use Rattle.std.specs.FinMap.{get, insert, remove}
 use Rattle.judy_model.specs.Keys.{word_order}
 use Rattle.judy_model.specs.Arrays.{ArrayOf, array_code, with_map, empty_array}
 use Rattle.judy_hs.specs.LongGroups.{put_at}

@@ -1,7 +1,7 @@
 -- The keys of one length above 8 bytes: chains of keys with one hash.
-use Rattle.std.specs.Prelude.{◌≡◌, ◌<◌, ◌^◌, ℕ, List, [], ◌∷◌, get_or, length, Option, refl, ◌++◌, ◌≤◌, Bool, cond, nat_lt, slice_set, unwrap_or, Some, None}
+use Rattle.std.specs.Prelude.{◌≡◌, ◌<◌, ℕ, List, [], ◌∷◌, get_or, length, Option, refl, ◌++◌, ◌≤◌, cond, nat_lt, slice_set, Some, None}
 use Rattle.std.specs.Coded.{Coded, code_by, coded×, coded_list, coded_ℕ}
-use Rattle.std.specs.FinMap.{FinMap, get, insert, empty, remove}
+use Rattle.std.specs.FinMap.{get, insert, empty, remove}
 use Rattle.judy_model.specs.Keys.{word_order}
 use Rattle.judy_model.specs.Arrays.{ArrayOf, array_code, with_map}
 use Rattle.judy_hs.specs.Chains.{Pairs, value_in, value_at, with_value_at, IsPlace}

@@ -21,9 +21,7 @@ pub struct LongEntry {
 fn place_of(entries: &[LongEntry], key: &[u8]) -> Option<usize>
     ensures { result ≡ position (holds key.now) entries.now }
 {
-    entries
-        .iter()
-        .position(|entry| entry.key.as_slice() == key)
+    entries.iter().position(|entry| entry.key.as_slice() == key)
 }
 
 // Keys that differ, each with its value, in the order in which they came. In contracts it is the list of these pairs.

@@ -177,7 +177,12 @@ impl LongGroup {
     }
     // Puts a key in that isn't there, with the value 0: last in the chain of its hash, or in a chain of its own. It
     // answers the place of the chain and the key's place in it.
-    pub fn add(&mut self, alloc: Global, hash: u64, key: &[u8]) -> Result<(usize, usize), AllocError>
+    pub fn add(
+        &mut self,
+        alloc: Global,
+        hash: u64,
+        key: &[u8],
+    ) -> Result<(usize, usize), AllocError>
         requires used { IfSome (get self.old.hashes.map hash) (λ place. chain_at self.old place ≢ []) }
         ensures added { IfOk result (λ found. IsAdded self.old self.new hash key.now found.0 found.1) }
         ensures unchanged { OnErr result (self.new ≡ self.old) }

@@ -14,8 +14,7 @@ overflow_add-word c =
 
 pub loop-byte-preserved : goal.loop-byte-preserved
 loop-byte-preserved c =
-    let small : c.from.result < 256 = omega (arith, c.type_inv.bytes c.loop-byte.byte-index) in
-    (
+    let small : c.from.result < 256 = omega (arith, c.type_inv.bytes c.loop-byte.byte-index) in (
       (λ t. c.loop-byte.invariant.0 t * 256 + c.from.ensures t) ∙ sym (number_of-push _ _) ∙ ap number_of (sym (take_more c.args.bytes.now c.loop-byte.byte-index 0 c.loop-byte-test.true)),
       below_next c.loop-byte.word c.loop-byte.byte-index c.from.result c.loop-byte.invariant.1 small,
     )

@@ -1,4 +1,4 @@
-use Rattle.std.proofs.Common.{sym, ap, ◌∙◌, arith}
+use Rattle.std.proofs.Common.{◌∙◌, arith}
 use Rattle.judy_hs.proofs.HsLemmas.{is_key_of, get_is, get_long, spot-some, spot-removable, IsHs-deleted, array-deleted, not_deleted, not_contained, contained, counts_one}
 use Rattle.judy_hs.specs.Kept.{map_of, array_of}
 use Rattle.judy_hs.proofs.bytes.JudyHs.del.Goals as goal

@@ -10,7 +10,7 @@ pub returns : goal.returns
 returns g c =
     let is_key = is_key_of c.args.key.now (λ i. omega (arith, c.type_inv.key i)) c.if-key-gt-MAX_KEY.false in
     rw (← c.self.view_is) (
-      c.get.ensures
-      ∙ ap (λ part. in_keyed c.self.inside.groups part c.args.key.now) c.part_of.ensures
-      ∙ sym (get_is g.H.ByteHash.hash_of c.self.inside.groups c.args.key.now is_key)
+    c.get.ensures
+    ∙ ap (λ part. in_keyed c.self.inside.groups part c.args.key.now) c.part_of.ensures
+    ∙ sym (get_is g.H.ByteHash.hash_of c.self.inside.groups c.args.key.now is_key)
     )

@@ -1,8 +1,8 @@
-use Rattle.std.proofs.Common.{◌+◌, Some, refl, sym, ap, ◌∙◌, MutBor, arith}
+use Rattle.std.proofs.Common.{◌+◌, refl, ◌∙◌, MutBor, arith}
 use Rattle.std.specs.Borrow.{name_if_ok}
 use borrow.Follows.Closed.{read_of}
 use Rattle.judy_hs.specs.Kept.{array_of}
-use Rattle.judy_hs.proofs.HsLemmas.{is_key_of, get_is, spot-usable, array-written, IsHs-written, keyed-takes, ok_only, on_ok, if_ok, if_err, full-absent, room-absent, present-some, present-room, present-value, after-spot, after-hs, after-some, after-value, after-written}
+use Rattle.judy_hs.proofs.HsLemmas.{is_key_of, get_is, spot-usable, array-written, IsHs-written, ok_only, on_ok, if_ok, if_err, full-absent, room-absent, present-some, present-room, present-value, after-spot, after-hs, after-some, after-value, after-written}
 use Rattle.judy_hs.proofs.bytes.JudyHs.ins.Goals as goal
 
 pub slot_of-requires-clause-present : goal.slot_of-requires-clause-present

@@ -1,8 +1,7 @@
-use Rattle.std.proofs.Common.{refl, sym, ap, ◌∙◌, arith}
+use Rattle.std.proofs.Common.{refl, sym, ◌∙◌, arith}
 use Rattle.std.specs.Option.{ghost_name_of}
 use borrow.Follows.Closed.{read_of}
 use Rattle.judy_hs.specs.Kept.{array_of}
-use Rattle.judy_hs.specs.Keyed.{in_keyed}
 use Rattle.judy_hs.proofs.HsLemmas.{is_key_of, get_is, get_long, spot-value, array-written, IsHs-written}
 use Rattle.judy_hs.proofs.bytes.JudyHs.slot.Goals as goal
 
@@ -22,8 +21,8 @@ returns-in-Some g c =
     let spot = rw c.part_of.ensures at c.in-Some.ensures in
     rw (← c.self.view_is) (
       λ t. read_of (ghost_name_of c.slot.result)
-        (λ w. array-written g.H.ByteHash.hash_of c.self.inside.limit c.self.inside.count c.self.inside.groups c.self.invariant c.args.key.now is_key c.in-Some.spot.group c.in-Some.spot.inside spot w t)
-        (array_of g.H.ByteHash.hash_of c.self.inside.limit c.self.inside.groups),
+          (λ w. array-written g.H.ByteHash.hash_of c.self.inside.limit c.self.inside.count c.self.inside.groups c.self.invariant c.args.key.now is_key c.in-Some.spot.group c.in-Some.spot.inside spot w t)
+          (array_of g.H.ByteHash.hash_of c.self.inside.limit c.self.inside.groups),
       record { writes_back = tt; value = c.slot.ensures.value ∙ sym (spot-value g.H.ByteHash.hash_of c.self.inside.groups c.args.key.now is_key c.in-Some.spot.group c.in-Some.spot.inside spot) },
     )
 

@@ -1,4 +1,3 @@
-use Rattle.std.proofs.Common.{sym, ◌∙◌}
 use Rattle.judy_hs.proofs.ChainLemmas.{found_among}
 use Rattle.judy_hs.proofs.chain.Chain.find.Goals as goal
 

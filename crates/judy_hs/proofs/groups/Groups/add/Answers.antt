@@ -1,4 +1,4 @@
-use Rattle.std.proofs.Common.{length, sym, ap, ◌∙◌}
+use Rattle.std.proofs.Common.{sym, ap, ◌∙◌}
 use Rattle.judy_hs.specs.Groups.{Group, group_with_key}
 use Rattle.judy_hs.proofs.GroupLemmas.{used-within, held-is, keyed-set}
 use Rattle.judy_hs.proofs.groups.Groups.add.Goals as goal

@@ -10,8 +10,8 @@ returns-in_ok-at-in-Some-clause-added c =
     let within = used-within c.self.inside.chains.items c.in-Some.held (rw leads at used) in
     let held = held-is c.self.inside.hashes c.self.inside.chains.items c.in-Some.held 0 c.index_mut.result.now within c.index_mut.ensures.value in
     rw (← c.self.view_is) (
-      added-held c.self.inside.hashes c.self.inside.chains.items c.args.hash c.in-Some.held c.in_ok-at-in-Some.at c.args.key.now c.add.new.self
-      leads
-      (c.in_ok-at-in-Some.ensures.place ∙ ap (λ (pairs : Pairs). length pairs) held)
-      (c.in_ok-at-in-Some.ensures.added ∙ ap (λ (pairs : Pairs). pairs ++ (c.args.key.now, 0) ∷ []) held)
+    added-held c.self.inside.hashes c.self.inside.chains.items c.args.hash c.in-Some.held c.in_ok-at-in-Some.at c.args.key.now c.add.new.self
+    leads
+    (c.in_ok-at-in-Some.ensures.place ∙ ap (λ (pairs : Pairs). length pairs) held)
+    (c.in_ok-at-in-Some.ensures.added ∙ ap (λ (pairs : Pairs). pairs ++ (c.args.key.now, 0) ∷ []) held)
     )

@@ -1,4 +1,4 @@
-use Rattle.std.proofs.Common.{◌≡◌, Some, get_or, [], sym, ap, ◌∙◌}
+use Rattle.std.proofs.Common.{◌≡◌, get_or, [], sym, ap, ◌∙◌}
 use Rattle.judy_hs.specs.Chains.{Pairs, value_in}
 use Rattle.judy_hs.specs.ChainPlaces.{pairs_at, chains_of}
 use Rattle.judy_hs.proofs.ChainLemmas.{value_in-place}
