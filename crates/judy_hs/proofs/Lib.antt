@@ -8,3 +8,4 @@ pub mod GroupSteps
 pub mod GroupChanges
 pub mod KeyedSteps
 pub mod HsLemmas
+pub mod InnerLemmas

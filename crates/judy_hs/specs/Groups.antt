@@ -124,3 +124,9 @@ one_group part key = if nat_le (length key) 8 then short (one_word part 0) else 
 
 abbrev pub one_inside : ℕ → List ℕ → Inside
 one_inside part key = if nat_le (length key) 8 then Word part else Chained 0 0
+
+-- The array by which a group finds its keys.
+abbrev pub words_of : Group → Option (ArrayOf word_order)
+words_of none = None
+words_of (short words) = Some words
+words_of (long group) = Some group.hashes

@@ -5,7 +5,7 @@ use Rattle.std.specs.FinMap.{get, insert, remove}
 use Rattle.judy_model.specs.Keys.{word_order}
 use Rattle.judy_model.specs.Arrays.{ArrayOf, array_code, with_map, empty_array}
 use Rattle.judy_hs.specs.LongGroups.{put_at}
-use Rattle.judy_hs.specs.Groups.{Group, none, group_code, in_group, IsInside, IsNewInside, group_with, group_with_key, group_without, one_group, one_inside}
+use Rattle.judy_hs.specs.Groups.{Group, none, group_code, in_group, IsInside, IsNewInside, group_with, group_with_key, group_without, one_group, one_inside, words_of}
 use Rattle.judy_hs.specs.declared.group.Inside.{Inside}
 
 -- The array from lengths to the places of groups, and the groups.
@@ -70,3 +70,8 @@ keyed_without keyed place part inside = record keyed { groups = slice_set keyed.
 -- Without a group, the only one of keys of a length.
 abbrev pub without_group : Keyed → ℕ → ℕ → Keyed
 without_group keyed key_length place = record { lengths = with_map keyed.lengths (remove keyed.lengths.map key_length); groups = slice_set keyed.groups place none }
+
+-- The array by which the group that a length leads to finds its keys.
+abbrev pub words_at : Keyed → Option ℕ → Option (ArrayOf word_order)
+words_at keyed None = None
+words_at keyed (Some place) = words_of (group_at keyed place)

@@ -14,3 +14,4 @@ pub mod Parts
 pub mod Kept
 pub mod Refusals
 pub mod Slots
+pub mod InnerForm

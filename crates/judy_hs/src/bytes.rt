@@ -1,6 +1,6 @@
 //! The array that maps byte strings to words.
 
-ghost use Rattle.std.specs.Prelude.{◌≡◌, ◌≤◌, ◌↔◌, Some, IfOk, OnOk, IfErr, IsTrue, IsFalse, length};
+ghost use Rattle.std.specs.Prelude.{◌≡◌, ◌≤◌, ◌↔◌, ◌<◌, Some, IsSome, IfSome, IfOk, OnOk, IfErr, IsTrue, IsFalse, length};
 ghost use Rattle.std.specs.Borrow.{sem};
 ghost use Rattle.std.specs.FinMap as map;
 ghost use Rattle.std.specs.Option.{option_copied_mut};
@@ -10,6 +10,7 @@ use crate::error::HsError;
 use crate::groups::Groups;
 use crate::hash::ByteHash;
 use crate::part::part_of;
+use judy_word::JudyL;
 use std::alloc::Global;
 use std::marker::Model;
 
@@ -45,6 +46,7 @@ impl<H: ByteHash + Drop> Model for JudyHs<H> {
 impl<H: ByteHash + Drop> JudyHs<H> {
     ghost use Rattle.judy_hs.specs.Slots.{LendsSlot, LendsIns};
     ghost use Rattle.judy_hs.specs.Refusals.{IsRefusal};
+    ghost use Rattle.judy_hs.specs.InnerForm.{HasLength, IsLengths, IsShortGroup, IsLongGroup};
 
     /// The empty array that holds at most `limit` keys, from 1 to 4,294,967,295 (limit: this project's own), under a hash.
     /// It asks for no memory before the first insert.
@@ -179,5 +181,24 @@ impl<H: ByteHash + Drop> JudyHs<H> {
         ensures { IsTrue result ↔ (self.now.map ≡ map.empty) }
     {
         self.count == 0
+    }
+
+    /// The array whose keys are the lengths of the keys, of use to see how they are kept. Its values are of no meaning to
+    /// callers. (This project's own.)
+    pub fn lengths(&self) -> &JudyL
+        ensures { IsLengths self.now.map result.now.map }
+    {
+        self.groups.lengths()
+    }
+
+    /// The array by which the keys of `n` bytes are found, and `None` where there is no such key. For `n` up to 8 it maps
+    /// these keys, as the words that they spell, to their values; above 8 its keys are exactly their hashes, and its values
+    /// are of no meaning to callers. (This project's own.)
+    pub fn group(&self, n: usize) -> Option<&JudyL>
+        ensures there { IsSome result ↔ HasLength self.now.map n }
+        ensures short { n ≤ 8 → IfSome result (λ group. IsShortGroup self.now.map n group.now.map) }
+        ensures long { 8 < n → IfSome result (λ group. IsLongGroup H.hash_of self.now.map n group.now.map) }
+    {
+        self.groups.group(n as u64)
     }
 }

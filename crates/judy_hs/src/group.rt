@@ -1,6 +1,6 @@
 //! The keys of one length.
 
-ghost use Rattle.std.specs.Prelude.{◌≡◌, ◌≢◌, ◌↔◌, IsTrue, IsSome, IfOk, OnOk, OnErr, IfSome, None, Some, MatchOption};
+ghost use Rattle.std.specs.Prelude.{◌≡◌, ◌≢◌, ◌↔◌, IsTrue, option_copied, IfOk, OnOk, OnErr, IfSome, None, Some, MatchOption};
 ghost use Rattle.std.specs.Borrow.{sem};
 ghost use Rattle.std.specs.FinMap.{get};
 ghost use Rattle.std.specs.Option.{option_copied_mut};
@@ -26,7 +26,7 @@ pub enum GroupPlace {
 }
 
 impl GroupPlace {
-    ghost use Rattle.judy_hs.specs.Groups.{in_group, IsInside, IsNewInside, IsUsable, value_inside, group_with_key, group_without, CanTakeKey, IsRemovable, IsEmptyGroup};
+    ghost use Rattle.judy_hs.specs.Groups.{in_group, words_of, IsInside, IsNewInside, IsUsable, value_inside, group_with_key, group_without, CanTakeKey, IsRemovable, IsEmptyGroup};
     ghost use Rattle.judy_hs.specs.GroupPlaces.{group_of};
     ghost use Rattle.judy_hs.specs.GroupLends.{LendsInside};
 
@@ -118,6 +118,17 @@ impl GroupPlace {
                 group.is_empty()
             }
             GroupPlace::Free(_) => true,
+        }
+    }
+
+    // The array by which the group finds its keys.
+    pub fn words(&self) -> Option<&JudyL>
+        ensures { option_copied result ≡ words_of (group_of self.now) }
+    {
+        match self {
+            GroupPlace::Short(words) => Some(words),
+            GroupPlace::Long(group) => Some(group.hashes()),
+            GroupPlace::Free(_) => None,
         }
     }
 }

@@ -1,6 +1,6 @@
 //! All groups of an array, by the length of their keys.
 
-ghost use Rattle.std.specs.Prelude.{◌≡◌, ◌≢◌, ◌<◌, ◌≤◌, [], IfOk, IsOk, OnErr, IsSome, IfSome, None, Some, MatchOption, length, vec_len, vec_capacity};
+ghost use Rattle.std.specs.Prelude.{◌≡◌, ◌≢◌, ◌<◌, ◌≤◌, [], option_copied, IfOk, IsOk, OnErr, IsSome, IfSome, None, Some, MatchOption, length, vec_len, vec_capacity};
 ghost use Rattle.std.specs.Borrow.{sem};
 ghost use Rattle.std.specs.FinMap.{get};
 ghost use Rattle.std.specs.Option.{option_copied_mut};
@@ -63,7 +63,7 @@ fn group_of_one(alloc: Global, part: u64, key: &[u8]) -> Result<(GroupPlace, Ins
 
 impl Groups {
     ghost use Rattle.judy_hs.specs.Groups.{IsUsable, CanTakeKey, IsRemovable, IsEmptyGroup, value_inside, group_without};
-    ghost use Rattle.judy_hs.specs.Keyed.{no_keys, in_keyed, group_at, IsSpot, IsNewSpot, added_keyed, with_group, keyed_without, without_group};
+    ghost use Rattle.judy_hs.specs.Keyed.{no_keys, in_keyed, words_at, group_at, IsSpot, IsNewSpot, added_keyed, with_group, keyed_without, without_group};
     ghost use Rattle.judy_hs.specs.KeyedLends.{LendsSpot, LendsSpotOk};
 
     // No groups.
@@ -193,6 +193,17 @@ impl Groups {
         ensures { result.now ≡ self.now.lengths }
     {
         &self.lengths
+    }
+
+    // The array by which the group of keys of a length finds them.
+    pub fn group(&self, key_length: u64) -> Option<&JudyL>
+        ensures { option_copied result ≡ words_at self.now (get self.now.lengths.map key_length) }
+    {
+        let place = self.lengths.get(key_length)?;
+        match self.groups.get(place as usize) {
+            Some(group) => group.words(),
+            None => None,
+        }
     }
 }
 
