@@ -14,8 +14,8 @@ use judy_word::JudyL;
 use std::alloc::Global;
 use std::marker::Model;
 
-/// The most bytes of a key. (This project's own.)
-pub const MAX_KEY: usize = 1024;
+// The most bytes of a key. (This project's own.)
+const MAX_KEY: usize = 1024;
 
 /// An array that maps keys, byte strings of at most 1,024 bytes, to words. It holds at most as many keys as its limit
 /// (limit: this project's own).

@@ -17,7 +17,7 @@ impl ByteHash for Same {
     }
 }
 
-// Inserts a key and compares the value that it had before.
+// Inserts a key, compares the value that it had before, and writes another.
 fn check_ins<R: Abort, H: ByteHash + Drop>(
     rt: &R,
     array: &mut JudyHs<H>,
@@ -34,7 +34,7 @@ fn check_ins<R: Abort, H: ByteHash + Drop>(
     }
 }
 
-// The row on an array under some hash: its keys are the given ones.
+// The row over three keys, for whatever hash the array has.
 fn check_byte_keys<R: Abort, H: ByteHash + Drop>(
     rt: &R,
     array: &mut JudyHs<H>,
@@ -47,7 +47,6 @@ fn check_byte_keys<R: Abort, H: ByteHash + Drop>(
     check_ins(rt, array, third, 0, 3);
     assert_eq!(rt; array.get(second), Some(2));
     assert_eq!(rt; array.get(first), Some(1));
-    check_ins(rt, array, second, 2, 2);
     assert!(rt; array.del(first));
     assert!(rt; !array.del(first));
     assert_eq!(rt; array.get(first), None);
@@ -67,44 +66,66 @@ fn byte_keys(rt: HostRuntime) {
         Some(group) => assert_eq!(rt; group.get(0), Some(3)),
         None => assert!(rt; false),
     }
-}
-
-// Long keys of one length and one hash, and of several lengths.
-#[test]
-fn long_keys_and_one_hash(rt: HostRuntime) {
-    let mut array = JudyHs::new(rt.alloc(), 10, Same);
+    let mut array = JudyHs::new(rt.alloc(), 4294967295, Same);
+    check_byte_keys(&rt, &mut array, b"abcdefghi", b"abcdefghj", b"abcdefghk");
+    let mut array = JudyHs::new(rt.alloc(), 4294967295, Same);
     check_byte_keys(
         &rt,
         &mut array,
-        b"abcdefghi",
-        b"abcdefghj",
-        b"abcdefghk",
-    );
-    check_byte_keys(
-        &rt,
-        &mut array_of_twelve(&rt),
         b"abcdefghij",
         b"abcdefghijk",
         b"abcdefghijkl",
     );
-    assert_eq!(rt; array.lengths().first(0), Some(9));
-    assert_eq!(rt; array.lengths().next(9), None);
-    match array.group(9) {
-        Some(group) => assert_eq!(rt; group.first(0), Some(7)),
-        None => assert!(rt; false),
+}
+
+// With memory for each growth.
+#[test]
+fn refused_chain_insert(rt: HostRuntime) {
+    let mut array = JudyHs::new(rt.alloc(), 4294967295, Same);
+    check_ins(&rt, &mut array, b"aaaaaaaaa", 0, 1);
+    check_ins(&rt, &mut array, b"aaaaaaaab", 0, 2);
+    check_ins(&rt, &mut array, b"aaaaaaaaaa", 0, 3);
+    assert_eq!(rt; array.get(b"aaaaaaaaa"), Some(1));
+    assert_eq!(rt; array.len(), 3);
+}
+
+// Nine decimal digits.
+fn digits(number: u32) -> [u8; 9] {
+    let mut text = [b'0'; 9];
+    let mut rest = number;
+    for digit in text.iter_mut().rev() {
+        *digit = b'0' + (rest % 10) as u8;
+        rest /= 10;
     }
-    assert_eq!(rt; array.free_array(), 2);
+    text
+}
+
+#[test]
+fn long_keys_and_one_hash(rt: HostRuntime) {
+    let mut array = JudyHs::new(rt.alloc(), 1000, Same);
+    for number in 0..1000u32 {
+        check_ins(&rt, &mut array, &digits(number), 0, u64::from(number));
+    }
+    for number in 0..1000u32 {
+        assert_eq!(rt; array.get(&digits(number)), Some(u64::from(number)));
+    }
+    for number in 0..1000u32 {
+        if number % 2 == 1 {
+            assert!(rt; array.del(&digits(number)));
+        }
+    }
+    for number in 0..1000u32 {
+        let left = if number % 2 == 1 { None } else { Some(u64::from(number)) };
+        assert_eq!(rt; array.get(&digits(number)), left);
+    }
+    assert_eq!(rt; array.free_array(), 500);
     assert!(rt; array.is_empty());
     assert!(rt; array.group(9).is_none());
 }
 
-fn array_of_twelve(rt: &HostRuntime) -> JudyHs<Same> {
-    JudyHs::new(rt.alloc(), 12, Same)
-}
-
-// A key of each length at an edge, refusals, and a slot.
+// Keys of each length at an edge, the refusals, and a slot.
 #[test]
-fn refused_chain_insert(rt: HostRuntime) {
+fn keys_at_the_edges_of_their_lengths(rt: HostRuntime) {
     let mut array = JudyHs::new(rt.alloc(), 4, Fnv1a);
     let longest = [b'x'; 1024];
     let too_long = [b'x'; 1025];
@@ -112,18 +133,17 @@ fn refused_chain_insert(rt: HostRuntime) {
     check_ins(&rt, &mut array, b"abcdefgh", 0, 18);
     check_ins(&rt, &mut array, b"abcdefghi", 0, 19);
     check_ins(&rt, &mut array, &longest, 0, 20);
+    check_ins(&rt, &mut array, b"abcdefgh", 18, 18);
     assert!(rt; matches!(array.ins(&too_long), Err(HsError::TooLong)));
     assert!(rt; matches!(array.ins(b"abcdefghj"), Err(HsError::Full)));
     assert_eq!(rt; array.get(&too_long), None);
     assert!(rt; !array.del(&too_long));
-    assert_eq!(rt; array.len(), 4);
     assert_eq!(rt; array.limit(), 4);
     if let Some(slot) = array.slot(&longest) {
         *slot = 21;
     }
     assert_eq!(rt; array.get(&longest), Some(21));
     assert_eq!(rt; array.get(b"abcdefghi"), Some(19));
-    assert_eq!(rt; array.get(b"abcdefgh"), Some(18));
     assert_eq!(rt; array.get(b""), Some(10));
     assert!(rt; array.slot(b"abcdefghj").is_none());
     assert!(rt; array.del(b"abcdefghi"));
