@@ -1,12 +1,12 @@
 //! The keys of one length.
 
-ghost use Rattle.std.specs.Prelude.{◌≡◌, ◌≢◌, ◌↔◌, IsTrue, option_copied, IfOk, OnOk, OnErr, IfSome, None, Some, MatchOption};
+ghost use Rattle.std.specs.Prelude.{◌≡◌, ◌≢◌, ◌<◌, ◌↔◌, IsTrue, option_copied, IfOk, OnOk, OnErr, IfSome, None, Some, MatchOption};
 ghost use Rattle.std.specs.Borrow.{sem};
-ghost use Rattle.std.specs.FinMap.{get};
+ghost use Rattle.std.specs.FinMap.{get, len as map_len};
 ghost use Rattle.std.specs.Option.{option_copied_mut};
 
 use crate::long_group::LongGroup;
-use judy_word::JudyL;
+use judy_word::{InsertError, JudyL};
 use std::alloc::{AllocError, Global};
 
 // Where a key stands in its group: a short key's word, or the places of a long key's chain and of the key in it.
@@ -79,7 +79,8 @@ impl GroupPlace {
 
     // Puts a key in that isn't there, with the value 0, and answers where it stands.
     pub fn add(&mut self, alloc: Global, part: u64, key: &[u8]) -> Result<Inside, AllocError>
-        requires { CanTakeKey (group_of self.old) part }
+        requires room { IfSome (words_of (group_of self.old)) (λ words. map_len words.map < words.limit) }
+        requires takes { CanTakeKey (group_of self.old) part }
         ensures place { IfOk result (IsNewInside (group_of self.old) part) }
         ensures added { IfOk result (λ inside. group_of self.new ≡ group_with_key (group_of self.old) part key.now inside) }
         ensures unchanged { OnErr result (group_of self.new ≡ group_of self.old) }
@@ -90,7 +91,8 @@ impl GroupPlace {
                     *slot = 0;
                     Ok(Inside::Word(part))
                 }
-                Err(_) => Err(AllocError),
+                Err(InsertError::Full) => unreachable!(),
+                Err(InsertError::NoMemory) => Err(AllocError),
             },
             GroupPlace::Long(group) => match group.add(alloc, part, key) {
                 Ok((place, at)) => Ok(Inside::Chained(place, at)),

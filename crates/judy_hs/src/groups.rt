@@ -2,7 +2,7 @@
 
 ghost use Rattle.std.specs.Prelude.{◌≡◌, ◌≢◌, ◌<◌, ◌≤◌, [], option_copied, IfOk, IsOk, OnErr, IsSome, IfSome, None, Some, MatchOption, length, vec_len, vec_capacity};
 ghost use Rattle.std.specs.Borrow.{sem};
-ghost use Rattle.std.specs.FinMap.{get};
+ghost use Rattle.std.specs.FinMap.{get, len as map_len};
 ghost use Rattle.std.specs.Option.{option_copied_mut};
 ghost use Rattle.judy_hs.specs.Groups.{one_group, one_inside};
 ghost use Rattle.judy_hs.specs.GroupPlaces.{group_of, groups_of};
@@ -11,7 +11,7 @@ ghost use Rattle.judy_hs.specs.Keyed.{IsFreeGroup};
 use crate::error::HsError;
 use crate::group::{GroupPlace, Inside};
 use crate::long_group::{LongGroup, put};
-use judy_word::JudyL;
+use judy_word::{InsertError, JudyL};
 use std::alloc::{AllocError, Global};
 use std::marker::Model;
 
@@ -52,7 +52,8 @@ fn group_of_one(alloc: Global, part: u64, key: &[u8]) -> Result<(GroupPlace, Ins
         let mut words = JudyL::unbounded(alloc);
         match words.ins(part) {
             Ok(slot) => *slot = 0,
-            Err(_) => return Err(AllocError),
+            Err(InsertError::Full) => unreachable!(),
+            Err(InsertError::NoMemory) => return Err(AllocError),
         }
         Ok((GroupPlace::Short(words), Inside::Word(part)))
     } else {
@@ -136,7 +137,9 @@ impl Groups {
 
     // Puts a key in that isn't there, with the value 0, and answers where it stands.
     pub fn add(&mut self, alloc: Global, part: u64, key: &[u8]) -> Result<Spot, AllocError>
-        requires { IfSome (get self.old.lengths.map (length key.now)) (λ place. CanTakeKey (group_at self.old place) part) }
+        requires lengths { map_len self.old.lengths.map < self.old.lengths.limit }
+        requires group { IfSome (words_at self.old (get self.old.lengths.map (length key.now))) (λ words. map_len words.map < words.limit) }
+        requires takes { IfSome (get self.old.lengths.map (length key.now)) (λ place. CanTakeKey (group_at self.old place) part) }
         ensures place { IfOk result (λ spot. IsNewSpot self.old part key.now (get self.old.lengths.map (length key.now)) spot.group spot.inside) }
         ensures added { IfOk result (λ spot. self.new ≡ added_keyed self.old part key.now (get self.old.lengths.map (length key.now)) spot.group spot.inside) }
         ensures unchanged { OnErr result (self.new ≡ self.old) }
@@ -154,7 +157,8 @@ impl Groups {
     // Puts a group of one key in, of a length that has none. The insert into `lengths` is the last step that can be
     // refused.
     fn add_group(&mut self, alloc: Global, part: u64, key: &[u8]) -> Result<Spot, AllocError>
-        requires { get self.old.lengths.map (length key.now) ≡ None }
+        requires room { map_len self.old.lengths.map < self.old.lengths.limit }
+        requires absent { get self.old.lengths.map (length key.now) ≡ None }
         ensures place { IfOk result (λ spot. IsFreeGroup self.old.groups spot.group) }
         ensures inside { IfOk result (λ spot. spot.inside ≡ one_inside part key.now) }
         ensures added { IfOk result (λ spot. self.new ≡ with_group self.old part key.now spot.group) }
@@ -164,7 +168,8 @@ impl Groups {
         let (group, next) = free_place(&mut self.groups, self.free)?;
         match self.lengths.ins(key.len() as u64) {
             Ok(slot) => *slot = group as u64,
-            Err(_) => return Err(AllocError),
+            Err(InsertError::Full) => unreachable!(),
+            Err(InsertError::NoMemory) => return Err(AllocError),
         }
         self.free = next;
         put(&mut self.groups, group, made);

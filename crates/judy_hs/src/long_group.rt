@@ -1,7 +1,7 @@
 //! The keys of one length above 8 bytes, by their hashes.
 
 ghost use Rattle.std.specs.Prelude.{◌≡◌, ◌≢◌, ◌∷◌, [], ◌<◌, ◌≤◌, IfOk, OnOk, OnErr, None, Some, MatchOption, ◌++◌, ◌↔◌, IsTrue, IfSome, length, vec_len, vec_capacity};
-ghost use Rattle.std.specs.FinMap.{get, empty};
+ghost use Rattle.std.specs.FinMap.{get, empty, len as map_len};
 ghost use Rattle.std.specs.Borrow.{sem};
 ghost use Rattle.std.specs.Option.{option_copied_mut};
 ghost use Rattle.std.specs.List.{remove};
@@ -9,7 +9,7 @@ ghost use Rattle.judy_hs.specs.LongGroups.{put_at, IsFreePlace};
 ghost use Rattle.judy_hs.specs.ChainPlaces.{chains_of};
 
 use crate::chain::Chain;
-use judy_word::JudyL;
+use judy_word::{InsertError, JudyL};
 use std::alloc::{AllocError, Global};
 use std::marker::Model;
 
@@ -127,7 +127,8 @@ impl LongGroup {
         let mut hashes = JudyL::unbounded(alloc);
         match hashes.ins(hash) {
             Ok(slot) => *slot = 0,
-            Err(_) => return Err(AllocError),
+            Err(InsertError::Full) => unreachable!(),
+            Err(InsertError::NoMemory) => return Err(AllocError),
         }
         Ok(LongGroup {
             hashes,
@@ -183,6 +184,7 @@ impl LongGroup {
         hash: u64,
         key: &[u8],
     ) -> Result<(usize, usize), AllocError>
+        requires room { map_len self.old.hashes.map < self.old.hashes.limit }
         requires used { IfSome (get self.old.hashes.map hash) (λ place. chain_at self.old place ≢ []) }
         ensures added { IfOk result (λ found. IsAdded self.old self.new hash key.now found.0 found.1) }
         ensures unchanged { OnErr result (self.new ≡ self.old) }
@@ -203,7 +205,8 @@ impl LongGroup {
     // Puts a chain of one key in, under a hash that leads nowhere, and answers its place. The insert into `hashes` is
     // the last step that can be refused.
     fn add_chain(&mut self, alloc: Global, hash: u64, key: &[u8]) -> Result<usize, AllocError>
-        requires { get self.old.hashes.map hash ≡ None }
+        requires room { map_len self.old.hashes.map < self.old.hashes.limit }
+        requires absent { get self.old.hashes.map hash ≡ None }
         ensures place { IfOk result (IsFreePlace self.old.chains) }
         ensures added { IfOk result (λ place. self.new ≡ with_chain self.old hash key.now place) }
         ensures unchanged { OnErr result (self.new ≡ self.old) }
@@ -212,7 +215,8 @@ impl LongGroup {
         let (place, next) = free_place(&mut self.chains, self.free)?;
         match self.hashes.ins(hash) {
             Ok(slot) => *slot = place as u64,
-            Err(_) => return Err(AllocError),
+            Err(InsertError::Full) => unreachable!(),
+            Err(InsertError::NoMemory) => return Err(AllocError),
         }
         self.free = next;
         put(&mut self.chains, place, ChainPlace::Taken(chain));

@@ -1,8 +1,9 @@
-use Rattle.std.proofs.Common.{◌+◌, refl, ◌∙◌, MutBor, arith}
+use Rattle.std.proofs.Common.{length, ◌+◌, refl, ◌∙◌, MutBor, arith}
 use Rattle.std.specs.Borrow.{name_if_ok}
 use borrow.Follows.Closed.{read_of}
 use Rattle.judy_hs.specs.Kept.{array_of}
 use Rattle.judy_hs.proofs.HsLemmas.{is_key_of, get_is, spot-usable, array-written, IsHs-written, ok_only, on_ok, if_ok, if_err, full-absent, room-absent, present-some, present-room, present-value, after-spot, after-hs, after-some, after-value, after-written}
+use Rattle.judy_hs.proofs.InnerLemmas.{fewer-lengths, room-words}
 use Rattle.judy_hs.proofs.bytes.JudyHs.ins.Goals as goal
 
 pub slot_of-requires-clause-present : goal.slot_of-requires-clause-present
@@ -85,3 +86,11 @@ returns-in-Err g c =
     let is_key = is_key_of c.args.key.now (λ i. omega (arith, c.type_inv.key i)) c.if-key-gt-MAX_KEY.false in
     let absent = rw c.part_of-part.ensures at c.in-None.ensures in
     rw (← c.self.view_is, c.in-Err.ensures.unchanged) (refl, record { writes_back = tt; value = tt; fits = tt; accepted = tt; refused = (c.if-key-gt-MAX_KEY.false, get_is g.H.ByteHash.hash_of c.self.inside.groups c.args.key.now is_key ∙ absent, room-absent g.H.ByteHash.hash_of c.self.inside.limit c.self.inside.count c.self.inside.groups c.self.invariant c.args.key.now is_key absent c.if-is_full.false) })
+
+pub add-requires-clause-lengths : goal.add-requires-clause-lengths
+add-requires-clause-lengths g c =
+    omega (arith, fewer-lengths g.H.ByteHash.hash_of c.self.inside.groups c.self.invariant.is_keyed, c.self.invariant.counted, c.self.invariant.within_limit, c.self.invariant.limit_fits, c.self.invariant.is_keyed.limit)
+
+pub add-requires-clause-group : goal.add-requires-clause-group
+add-requires-clause-group g c =
+    room-words g.H.ByteHash.hash_of c.self.inside.groups c.self.invariant.is_keyed (length c.args.key.now) (omega (arith, c.self.invariant.counted, c.self.invariant.within_limit, c.self.invariant.limit_fits))
