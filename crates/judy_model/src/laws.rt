@@ -17,4 +17,5 @@ pub mod steps;
 pub mod stores;
 pub mod strings;
 pub mod whole_lines;
+pub mod tables;
 pub mod words;

@@ -1,0 +1,42 @@
+-- No array inside holds more keys than the array that it is a part of.
+use Rattle.std.proofs.Common.{◌≡◌, ◌≢◌, ℕ, ◌<◌, ◌≤◌, ◌==◌, Bool, true, false, not, ◌&&◌, List, [], ◌∷◌, map, length, Option, Some, None, IfSome, is_some, IsTrue, sym, refl, ap, ◌∙◌, subst, ◌⊎◌, inl, inr, ⊎_elim, arith}
+use Rattle.std.specs.FinMap.{FinMap, get, contains_key, contains_key-keys, keys, empty, len, len-empty, nat_cmp-IsAntisymmetric}
+use Rattle.std.specs.Cmp.{nat_cmp_total, eq_by_cmp_equiv}
+use Rattle.std.specs.Ordering.{eq_by_cmp}
+use Rattle.std.specs.Set.{is_member}
+use Rattle.std.proofs.lemmas.Bool.Decides.{Decides-eqb}
+use Rattle.std.proofs.lemmas.Bool.{false≢true}
+use Rattle.std.proofs.lemmas.List.{length-map}
+use Rattle.std.proofs.lemmas.Map.Keys.{IsDistinct-from_sorted}
+use Rattle.std.proofs.lemmas.Map.Made.{length-le_from_is_member}
+use Rattle.judy_model.specs.Keys.{word_order, byte_order}
+use Rattle.judy_model.specs.Arrays.{ArrayOf, is_full, empty_array}
+use Rattle.judy_model.proofs.Ascending.{Among, list_any-from_among}
+use Rattle.judy_model.proofs.KeysLemmas.{keys_ascending, length-keys, among_keys}
+use Rattle.judy_model.proofs.TableLemmas.{byte_order_total, byte_order_same}
+
+among_map : (tell : List ℕ → ℕ) (all : List (List ℕ)) (key : List ℕ) → Among all key → Among (map tell all) (tell key)
+among_map tell [] key here = absurd here
+among_map tell (first ∷ rest) key here = ⊎_elim (λ same. inl (ap tell same)) (λ later. inr (among_map tell rest key later)) here
+
+-- Where each word of an array is told by a key of a map, the array has at most as many words.
+pub fewer : (words : FinMap word_order ℕ) (all : FinMap byte_order ℕ) (tell : List ℕ → ℕ)
+    → ((word : ℕ) → IsTrue (contains_key words word) → (key : List ℕ) × (tell key ≡ word) × IsTrue (contains_key all key))
+    → len words ≤ len all
+fewer words all tell told =
+    let most = length-le_from_is_member (eq_by_cmp_equiv nat_cmp_total) (keys words) (map tell (keys all)) (IsDistinct-from_sorted word_order (keys words) (keys_ascending words)) (λ word held.
+        let found = told word (contains_key-keys words word ∙ held) in
+        list_any-from_among nat_cmp_total nat_cmp-IsAntisymmetric (map tell (keys all)) word (subst (Among (map tell (keys all))) found.1 (among_map tell (keys all) found.0 (among_keys byte_order_total byte_order_same all found.0 found.2)))) in
+    omega (arith, most, length-keys words, length-keys all, length-map (keys all) tell)
+
+full_is : (held : Bool) (count limit : ℕ) → IsTrue (not held && (count == limit)) → count ≡ limit
+full_is true count limit e = absurd (false≢true e)
+full_is false count limit e = (Decides-eqb count limit).0 e
+
+-- An array with fewer keys than its limit isn't full.
+pub never_full : (array : ArrayOf word_order) (word : ℕ) → len array.map < array.limit → IsTrue (is_full array word) → ⊥
+never_full array word room full = let e = full_is (contains_key array.map word) (len array.map) array.limit full in omega arith
+
+-- A new array isn't full.
+pub never_fresh : (array : ArrayOf word_order) (word : ℕ) → array ≡ empty_array 18446744073709551615 → IsTrue (is_full array word) → ⊥
+never_fresh array word fresh full = never_full (empty_array 18446744073709551615) word (let none = len-empty word_order ℕ in omega arith) (subst (λ (a : ArrayOf word_order). IsTrue (is_full a word)) fresh full)
