@@ -3,6 +3,7 @@ pub mod WordBytes
 pub mod Arrays
 pub mod Neighbours
 pub mod Empties
+pub mod Tables
 pub mod Nearest
 pub mod Counts
 pub mod Laws

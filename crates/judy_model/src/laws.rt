@@ -12,4 +12,5 @@ pub mod neighbours;
 pub mod runs;
 pub mod steps;
 pub mod stores;
+pub mod tables;
 pub mod words;

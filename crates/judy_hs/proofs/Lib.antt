@@ -1,0 +1,11 @@
+pub mod ListLemmas
+pub mod ChainLemmas
+pub mod LongLemmas
+pub mod GroupLemmas
+pub mod TwoLevels
+pub mod PartLemmas
+pub mod GroupSteps
+pub mod GroupChanges
+pub mod KeyedSteps
+pub mod HsLemmas
+pub mod InnerLemmas

@@ -1,0 +1,87 @@
+use Rattle.std.proofs.Common.{◌+◌, refl, ◌∙◌, MutBor, arith}
+use Rattle.std.specs.Borrow.{name_if_ok}
+use borrow.Follows.Closed.{read_of}
+use Rattle.judy_hs.specs.Kept.{array_of}
+use Rattle.judy_hs.proofs.HsLemmas.{is_key_of, get_is, spot-usable, array-written, IsHs-written, ok_only, on_ok, if_ok, if_err, full-absent, room-absent, present-some, present-room, present-value, after-spot, after-hs, after-some, after-value, after-written}
+use Rattle.judy_hs.proofs.bytes.JudyHs.ins.Goals as goal
+
+pub slot_of-requires-clause-present : goal.slot_of-requires-clause-present
+slot_of-requires-clause-present g c =
+    let is_key = is_key_of c.args.key.now (λ i. omega (arith, c.type_inv.key i)) c.if-key-gt-MAX_KEY.false in
+    let spot = rw c.part_of-part.ensures at c.in-Some.ensures in
+    present-some g.H.ByteHash.hash_of c.self.inside.limit c.self.inside.count c.self.inside.groups c.self.invariant c.args.key.now is_key c.in-Some.spot.group c.in-Some.spot.inside spot
+
+pub invariant_of-self-lent : goal.invariant_of-self-lent
+invariant_of-self-lent g c =
+    let is_key = is_key_of c.args.key.now (λ i. omega (arith, c.type_inv.key i)) c.if-key-gt-MAX_KEY.false in
+    let spot = rw c.part_of-part.ensures at c.in-Some.ensures in
+    λ lent. (λ w. IsHs-written g.H.ByteHash.hash_of c.self.inside.limit c.self.inside.count c.self.inside.groups c.self.invariant c.args.key.now is_key c.in-Some.spot.group c.in-Some.spot.inside spot w, c.self.invariant)
+
+pub returns-then-is_full : goal.returns-then-is_full
+returns-then-is_full g c =
+    let is_key = is_key_of c.args.key.now (λ i. omega (arith, c.type_inv.key i)) c.if-key-gt-MAX_KEY.false in
+    let absent = rw c.part_of-part.ensures at c.in-None.ensures in
+    rw (← c.self.view_is) (refl, record { writes_back = tt; value = tt; fits = tt; accepted = tt; refused = (c.if-key-gt-MAX_KEY.false, full-absent g.H.ByteHash.hash_of c.self.inside.limit c.self.inside.count c.self.inside.groups c.self.invariant c.args.key.now is_key absent c.if-is_full.true) })
+
+pub slot_of-requires-in-Ok-clause-usable : goal.slot_of-requires-in-Ok-clause-usable
+slot_of-requires-in-Ok-clause-usable g c =
+    let is_key = is_key_of c.args.key.now (λ i. omega (arith, c.type_inv.key i)) c.if-key-gt-MAX_KEY.false in
+    let absent = rw c.part_of-part.ensures at c.in-None.ensures in
+    let new = rw c.part_of-part.ensures at c.in-Ok.ensures.place in
+    let made = rw c.part_of-part.ensures at c.in-Ok.ensures.added in
+    spot-usable g.H.ByteHash.hash_of c.add.new.self c.args.key.now is_key c.in-Ok.spot.group c.in-Ok.spot.inside (after-spot g.H.ByteHash.hash_of c.self.inside.limit c.self.inside.count c.self.inside.groups c.self.invariant c.args.key.now is_key c.in-Ok.spot.group c.in-Ok.spot.inside absent new c.add.new.self made)
+
+pub slot_of-requires-in-Ok-clause-present : goal.slot_of-requires-in-Ok-clause-present
+slot_of-requires-in-Ok-clause-present g c =
+    let is_key = is_key_of c.args.key.now (λ i. omega (arith, c.type_inv.key i)) c.if-key-gt-MAX_KEY.false in
+    let absent = rw c.part_of-part.ensures at c.in-None.ensures in
+    let new = rw c.part_of-part.ensures at c.in-Ok.ensures.place in
+    let made = rw c.part_of-part.ensures at c.in-Ok.ensures.added in
+    after-some g.H.ByteHash.hash_of c.self.inside.limit c.self.inside.count c.self.inside.groups c.self.invariant c.args.key.now is_key c.in-Ok.spot.group c.in-Ok.spot.inside absent new c.add.new.self made
+
+pub invariant_of-self-lent-in-Ok : goal.invariant_of-self-lent-in-Ok
+invariant_of-self-lent-in-Ok g c =
+    let is_key = is_key_of c.args.key.now (λ i. omega (arith, c.type_inv.key i)) c.if-key-gt-MAX_KEY.false in
+    let absent = rw c.part_of-part.ensures at c.in-None.ensures in
+    let new = rw c.part_of-part.ensures at c.in-Ok.ensures.place in
+    let made = rw c.part_of-part.ensures at c.in-Ok.ensures.added in
+    let after = after-hs g.H.ByteHash.hash_of c.self.inside.limit c.self.inside.count c.self.inside.groups c.self.invariant c.args.key.now is_key c.in-Ok.spot.group c.in-Ok.spot.inside absent new c.add.new.self made c.if-is_full.false in
+    λ lent. (λ w. IsHs-written g.H.ByteHash.hash_of c.self.inside.limit (c.self.inside.count + 1) c.add.new.self after c.args.key.now is_key c.in-Ok.spot.group c.in-Ok.spot.inside (after-spot g.H.ByteHash.hash_of c.self.inside.limit c.self.inside.count c.self.inside.groups c.self.invariant c.args.key.now is_key c.in-Ok.spot.group c.in-Ok.spot.inside absent new c.add.new.self made) w, after)
+
+pub returns-in-Some : goal.returns-in-Some
+returns-in-Some g c =
+    let is_key = is_key_of c.args.key.now (λ i. omega (arith, c.type_inv.key i)) c.if-key-gt-MAX_KEY.false in
+    let spot = rw c.part_of-part.ensures at c.in-Some.ensures in
+    rw (← c.self.view_is) (
+      λ t. read_of (name_if_ok (λ (b : MutBor _). b.ghost_name) c.slot_of.result) (λ w. array-written g.H.ByteHash.hash_of c.self.inside.limit c.self.inside.count c.self.inside.groups c.self.invariant c.args.key.now is_key c.in-Some.spot.group c.in-Some.spot.inside spot w t) (array_of g.H.ByteHash.hash_of c.self.inside.limit c.self.inside.groups),
+      record {
+        writes_back = tt;
+        value = if_ok c.slot_of.result _ _ (λ slot. present-value g.H.ByteHash.hash_of c.self.inside.limit c.self.inside.count c.self.inside.groups c.self.invariant c.args.key.now is_key c.in-Some.spot.group c.in-Some.spot.inside spot slot.now) c.slot_of.ensures.value;
+        fits = on_ok c.slot_of.result _ c.if-key-gt-MAX_KEY.false;
+        accepted = on_ok c.slot_of.result _ (present-room g.H.ByteHash.hash_of c.self.inside.limit c.self.inside.count c.self.inside.groups c.self.invariant c.args.key.now is_key c.in-Some.spot.group c.in-Some.spot.inside spot);
+        refused = if_err c.slot_of.result _ c.slot_of.ensures.present;
+      },
+    )
+
+pub returns-in-Ok : goal.returns-in-Ok
+returns-in-Ok g c =
+    let is_key = is_key_of c.args.key.now (λ i. omega (arith, c.type_inv.key i)) c.if-key-gt-MAX_KEY.false in
+    let absent = rw c.part_of-part.ensures at c.in-None.ensures in
+    let new = rw c.part_of-part.ensures at c.in-Ok.ensures.place in
+    let made = rw c.part_of-part.ensures at c.in-Ok.ensures.added in
+    rw (← c.self.view_is) (
+      ok_only c.slot_of-in-Ok.result c.slot_of-in-Ok.ensures.present _ _ _ _ (after-written g.H.ByteHash.hash_of c.self.inside.limit c.self.inside.count c.self.inside.groups c.self.invariant c.args.key.now is_key c.in-Ok.spot.group c.in-Ok.spot.inside absent new c.add.new.self made c.if-is_full.false),
+      record {
+        writes_back = tt;
+        value = if_ok c.slot_of-in-Ok.result _ _ (λ slot. after-value g.H.ByteHash.hash_of c.self.inside.limit c.self.inside.count c.self.inside.groups c.self.invariant c.args.key.now is_key c.in-Ok.spot.group c.in-Ok.spot.inside absent new c.add.new.self made slot.now) c.slot_of-in-Ok.ensures.value;
+        fits = on_ok c.slot_of-in-Ok.result _ c.if-key-gt-MAX_KEY.false;
+        accepted = on_ok c.slot_of-in-Ok.result _ (room-absent g.H.ByteHash.hash_of c.self.inside.limit c.self.inside.count c.self.inside.groups c.self.invariant c.args.key.now is_key absent c.if-is_full.false);
+        refused = if_err c.slot_of-in-Ok.result _ c.slot_of-in-Ok.ensures.present;
+      },
+    )
+
+pub returns-in-Err : goal.returns-in-Err
+returns-in-Err g c =
+    let is_key = is_key_of c.args.key.now (λ i. omega (arith, c.type_inv.key i)) c.if-key-gt-MAX_KEY.false in
+    let absent = rw c.part_of-part.ensures at c.in-None.ensures in
+    rw (← c.self.view_is, c.in-Err.ensures.unchanged) (refl, record { writes_back = tt; value = tt; fits = tt; accepted = tt; refused = (c.if-key-gt-MAX_KEY.false, get_is g.H.ByteHash.hash_of c.self.inside.groups c.args.key.now is_key ∙ absent, room-absent g.H.ByteHash.hash_of c.self.inside.limit c.self.inside.count c.self.inside.groups c.self.invariant c.args.key.now is_key absent c.if-is_full.false) })

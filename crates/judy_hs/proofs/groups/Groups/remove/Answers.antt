@@ -1,0 +1,27 @@
+use Rattle.std.proofs.Common.{refl, sym, ap, ◌∙◌, subst}
+use Rattle.std.proofs.lemmas.Bool.{false≢true}
+use Rattle.judy_hs.specs.Groups.{Group, group_without, IsEmptyGroup}
+use Rattle.judy_hs.proofs.GroupLemmas.{within-places, held-is, keyed-set, keyed-free}
+use Rattle.judy_hs.proofs.groups.Groups.remove.Goals as goal
+
+pub returns-then-emptied-clause-emptied : goal.returns-then-emptied-clause-emptied
+returns-then-emptied-clause-emptied c = λ empty.
+    rw (← c.self.view_is, c.del.ensures.deleted) (keyed-free _ c.self.inside.groups.items c.args.spot.group c.self.inside.free c.remove-emptied.new.self)
+
+pub returns-then-emptied-clause-kept : goal.returns-then-emptied-clause-kept
+returns-then-emptied-clause-kept c =
+    let within = within-places c.self.inside.lengths c.self.inside.groups.items c.args.self.now c.args.spot.group c.self.view_is c.requires.within in
+    let is = c.remove-emptied.ensures.removed ∙ ap (λ (group : Group). group_without group c.args.part c.args.spot.inside) (held-is c.self.inside.lengths c.self.inside.groups.items c.args.spot.group c.index_mut.result.now within c.index_mut.ensures.value) in
+    rw (← c.self.view_is) (λ kept. absurd (kept (subst IsEmptyGroup is (c.if-emptied.ensures.answer.0 refl))))
+
+pub returns-else-emptied-clause-emptied : goal.returns-else-emptied-clause-emptied
+returns-else-emptied-clause-emptied c =
+    let within = within-places c.self.inside.lengths c.self.inside.groups.items c.args.self.now c.args.spot.group c.self.view_is c.requires.within in
+    let is = c.remove-emptied.ensures.removed ∙ ap (λ (group : Group). group_without group c.args.part c.args.spot.inside) (held-is c.self.inside.lengths c.self.inside.groups.items c.args.spot.group c.index_mut.result.now within c.index_mut.ensures.value) in
+    rw (← c.self.view_is) (λ empty. absurd (false≢true (c.if-emptied.ensures.answer.1 (subst IsEmptyGroup (sym is) empty))))
+
+pub returns-else-emptied-clause-kept : goal.returns-else-emptied-clause-kept
+returns-else-emptied-clause-kept c = λ kept.
+    let within = within-places c.self.inside.lengths c.self.inside.groups.items c.args.self.now c.args.spot.group c.self.view_is c.requires.within in
+    let is = c.remove-emptied.ensures.removed ∙ ap (λ (group : Group). group_without group c.args.part c.args.spot.inside) (held-is c.self.inside.lengths c.self.inside.groups.items c.args.spot.group c.index_mut.result.now within c.index_mut.ensures.value) in
+    rw (← c.self.view_is) (keyed-set c.self.inside.lengths c.self.inside.groups.items c.args.spot.group c.remove-emptied.new.self _ is)

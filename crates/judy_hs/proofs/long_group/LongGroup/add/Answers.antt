@@ -1,0 +1,17 @@
+use Rattle.std.proofs.Common.{◌∷◌, [], ◌++◌, length, sym, ap, ◌∙◌}
+use Rattle.judy_hs.specs.Chains.{Pairs}
+use Rattle.judy_hs.proofs.LongLemmas.{used-within, held-is, added-held}
+use Rattle.judy_hs.proofs.long_group.LongGroup.add.Goals as goal
+
+pub returns-in_ok-at-in-Some-clause-added : goal.returns-in_ok-at-in-Some-clause-added
+returns-in_ok-at-in-Some-clause-added c =
+    let leads = sym c.get.ensures ∙ c.in-Some.is in
+    let used = rw (← c.self.view_is) at c.requires.used in
+    let within = used-within c.self.inside.chains.items c.in-Some.held (rw leads at used) in
+    let held = held-is c.self.inside.hashes c.self.inside.chains.items c.in-Some.held 0 c.index_mut.result.now within c.index_mut.ensures.value in
+    rw (← c.self.view_is) (
+    added-held c.self.inside.hashes c.self.inside.chains.items c.args.hash c.in-Some.held c.in_ok-at-in-Some.at c.args.key.now c.add.new.self
+    leads
+    (c.in_ok-at-in-Some.ensures.place ∙ ap (λ (pairs : Pairs). length pairs) held)
+    (c.in_ok-at-in-Some.ensures.added ∙ ap (λ (pairs : Pairs). pairs ++ (c.args.key.now, 0) ∷ []) held)
+    )

@@ -1,0 +1,20 @@
+use Rattle.std.proofs.Common.{refl, ap, ◌∙◌}
+use Rattle.std.specs.List as list
+use Rattle.std.proofs.lemmas.Bool.{false≢true}
+use Rattle.judy_hs.specs.Chains.{Pairs}
+use Rattle.judy_hs.proofs.LongLemmas.{within-places, held-is, key-without, chain-without}
+use Rattle.judy_hs.proofs.long_group.LongGroup.remove.Goals as goal
+
+pub returns-then-emptied : goal.returns-then-emptied
+returns-then-emptied c =
+    let within = within-places c.self.inside.hashes c.self.inside.chains.items c.args.self.now c.args.place c.self.view_is c.requires.within in
+    let is = c.remove-emptied.ensures.removed ∙ ap (λ (pairs : Pairs). list.remove pairs c.args.at) (held-is c.self.inside.hashes c.self.inside.chains.items c.args.place c.args.at c.index_mut.result.now within c.index_mut.ensures.value) in
+    rw (← c.self.view_is, c.del.ensures.deleted) (
+    chain-without c.self.inside.hashes c.self.inside.chains.items c.args.hash c.args.place c.args.at c.remove-emptied.new.self is c.self.inside.free (c.if-emptied.ensures.answer.0 refl)
+    )
+
+pub returns-else-emptied : goal.returns-else-emptied
+returns-else-emptied c =
+    let within = within-places c.self.inside.hashes c.self.inside.chains.items c.args.self.now c.args.place c.self.view_is c.requires.within in
+    let is = c.remove-emptied.ensures.removed ∙ ap (λ (pairs : Pairs). list.remove pairs c.args.at) (held-is c.self.inside.hashes c.self.inside.chains.items c.args.place c.args.at c.index_mut.result.now within c.index_mut.ensures.value) in
+    rw (← c.self.view_is) (key-without c.self.inside.hashes c.self.inside.chains.items c.args.hash c.args.place c.args.at c.remove-emptied.new.self is (λ gone. false≢true (c.if-emptied.ensures.answer.1 gone)))

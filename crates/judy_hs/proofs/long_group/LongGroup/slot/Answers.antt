@@ -1,0 +1,19 @@
+use Rattle.std.proofs.Common.{ap, ◌∙◌}
+use Rattle.std.specs.Option.{ghost_name_of}
+use borrow.Follows.Closed.{read_of}
+use Rattle.judy_hs.specs.Chains.{Pairs, value_at}
+use Rattle.judy_hs.proofs.LongLemmas.{within-places, held-is, long-written, long-back}
+use Rattle.judy_hs.proofs.long_group.LongGroup.slot.Goals as goal
+
+pub returns : goal.returns
+returns c =
+    let within = within-places c.self.inside.hashes c.self.inside.chains.items c.args.self.now c.args.place c.self.view_is c.requires in
+    let written = long-written c.self.inside.hashes c.self.inside.chains.items c.args.place c.args.at c.index_mut-chain.result.now within c.index_mut-chain.ensures.value in
+    let back = long-back c.self.inside.hashes c.self.inside.chains.items c.args.place c.args.at c.index_mut-chain.result.now within c.index_mut-chain.ensures.value in
+    rw (← c.self.view_is) (
+      λ t. read_of (ghost_name_of c.slot.result) (λ w. written w t) (back t),
+      record {
+        writes_back = tt;
+        value = c.slot.ensures.value ∙ ap (λ (pairs : Pairs). value_at pairs c.args.at) (held-is c.self.inside.hashes c.self.inside.chains.items c.args.place c.args.at c.index_mut-chain.result.now within c.index_mut-chain.ensures.value);
+      },
+    )

@@ -1,0 +1,132 @@
+-- A group: the keys of one length. A key is found in it by a word, its part: the number that a key of at most 8 bytes
+-- spells, or the hash of a longer one.
+use Rattle.std.specs.Prelude.{◌≡◌, ◌≢◌, ◌<◌, ℕ, List, [], length, Option, Some, None, ◌⊎◌, refl, IfSome, nat_le, if◌then◌else◌}
+use Rattle.std.specs.Coded.{Coded, code_by, coded⊎, coded_option}
+use Rattle.std.specs.FinMap.{get, insert, empty, remove}
+use Rattle.std.proofs.Common.{inl, inr}
+use Rattle.judy_model.specs.Keys.{word_order}
+use Rattle.judy_model.specs.Arrays.{ArrayOf, array_code, with_map}
+use Rattle.judy_word.specs.Writes.{with_value}
+use Rattle.std.specs.Coded.{coded_ℕ}
+use Rattle.judy_hs.specs.LongGroups.{Long, long_code, one_word, one_long, chain_at, in_long, IsLongPlace, value_of_place, long_with, IsFound, added_long, without_key}
+use Rattle.judy_hs.specs.declared.group.Inside.{Inside}
+use Rattle.judy_hs.specs.declared.group.Inside.TheVariants.{Word, Chained}
+
+-- No group; one of short keys, the array from them as words to their values; or one of long keys.
+pub data Group : Type 0 where
+  none : Group
+  short : ArrayOf word_order → Group
+  long : Long → Group
+
+-- How a group is stored.
+abbrev pub stored : Group → Option (ArrayOf word_order ⊎ Long)
+stored none = None
+stored (short words) = Some (inl words)
+stored (long group) = Some (inr group)
+
+abbrev pub restored_one : ArrayOf word_order ⊎ Long → Group
+restored_one (inl words) = short words
+restored_one (inr group) = long group
+
+abbrev pub restored : Option (ArrayOf word_order ⊎ Long) → Group
+restored None = none
+restored (Some one) = restored_one one
+
+pub restored-stored : (group : Group) → restored (stored group) ≡ group
+restored-stored none = refl
+restored-stored (short words) = refl
+restored-stored (long group) = refl
+
+abbrev pub group_code : Coded Group
+group_code = code_by (Option (ArrayOf word_order ⊎ Long)) (coded_option (coded⊎ (array_code coded_ℕ) long_code)) stored restored restored-stored
+
+-- The value of a key under its part.
+abbrev pub in_group : Group → ℕ → List ℕ → Option ℕ
+in_group none part key = None
+in_group (short words) part key = get words.map part
+in_group (long group) part key = in_long group part key
+
+-- The key stands there.
+abbrev pub IsInside : Group → ℕ → List ℕ → Inside → Type 0
+IsInside none part key inside = ⊥
+IsInside (short words) part key (Word word) = (word ≡ part) × ((value : ℕ) × (get words.map part ≡ Some value))
+IsInside (short words) part key (Chained place at) = ⊥
+IsInside (long group) part key (Word word) = ⊥
+IsInside (long group) part key (Chained place at) = IsLongPlace group part key place at
+
+-- The place of the chain, where there is one, is a place of the list.
+abbrev pub IsUsable : Group → Inside → Type 0
+IsUsable none inside = Unit {0}
+IsUsable (short words) inside = Unit {0}
+IsUsable (long group) (Word word) = Unit {0}
+IsUsable (long group) (Chained place at) = place < length group.chains
+
+-- The value of what stands there.
+abbrev pub value_inside : Group → Inside → Option ℕ
+value_inside none inside = None
+value_inside (short words) (Word word) = get words.map word
+value_inside (short words) (Chained place at) = None
+value_inside (long group) (Word word) = None
+value_inside (long group) (Chained place at) = value_of_place group place at
+
+-- The group with a value there.
+abbrev pub group_with : Group → Inside → ℕ → Group
+group_with none inside value = none
+group_with (short words) (Word word) value = short (with_value words word value)
+group_with (short words) (Chained place at) value = short words
+group_with (long group) (Word word) value = long group
+group_with (long group) (Chained place at) value = long (long_with group place at value)
+
+-- A new key can be put in: there is a group, and the chain of its hash, if there is one, has a key.
+abbrev pub CanTakeKey : Group → ℕ → Type 0
+CanTakeKey none part = ⊥
+CanTakeKey (short words) part = get words.map part ≡ None
+CanTakeKey (long group) part = IfSome (get group.hashes.map part) (λ place. chain_at group place ≢ [])
+
+-- Where a new key stands.
+abbrev pub IsNewInside : Group → ℕ → Inside → Type 0
+IsNewInside none part inside = ⊥
+IsNewInside (short words) part (Word word) = word ≡ part
+IsNewInside (short words) part (Chained place at) = ⊥
+IsNewInside (long group) part (Word word) = ⊥
+IsNewInside (long group) part (Chained place at) = IsFound group (get group.hashes.map part) place at
+
+-- The group with a new key there, its value 0.
+abbrev pub group_with_key : Group → ℕ → List ℕ → Inside → Group
+group_with_key none part key inside = none
+group_with_key (short words) part key inside = short (with_map words (insert words.map part 0))
+group_with_key (long group) part key (Word word) = long group
+group_with_key (long group) part key (Chained place at) = long (added_long group part key (get group.hashes.map part) place)
+
+-- What stands there can be taken out.
+abbrev pub IsRemovable : Group → Inside → Type 0
+IsRemovable none inside = ⊥
+IsRemovable (short words) inside = Unit {0}
+IsRemovable (long group) (Word word) = ⊥
+IsRemovable (long group) (Chained place at) = (place < length group.chains) × (at < length (chain_at group place))
+
+-- The group without it.
+abbrev pub group_without : Group → ℕ → Inside → Group
+group_without none part inside = none
+group_without (short words) part inside = short (with_map words (remove words.map part))
+group_without (long group) part (Word word) = long group
+group_without (long group) part (Chained place at) = long (without_key group part place at)
+
+-- The group has no key.
+abbrev pub IsEmptyGroup : Group → Type 0
+IsEmptyGroup none = Unit {0}
+IsEmptyGroup (short words) = words.map ≡ empty
+IsEmptyGroup (long group) = group.hashes.map ≡ empty
+
+-- The group of one key, with the value 0, and where the key stands in it.
+abbrev pub one_group : ℕ → List ℕ → Group
+one_group part key = if nat_le (length key) 8 then short (one_word part 0) else long (one_long part key)
+
+abbrev pub one_inside : ℕ → List ℕ → Inside
+one_inside part key = if nat_le (length key) 8 then Word part else Chained 0 0
+
+-- The array by which a group finds its keys.
+abbrev pub words_of : Group → Option (ArrayOf word_order)
+words_of none = None
+words_of (short words) = Some words
+words_of (long group) = Some group.hashes

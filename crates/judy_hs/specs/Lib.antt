@@ -1,0 +1,17 @@
+pub mod Chains
+pub mod Entries
+pub mod ChainLends
+pub mod LongGroups
+pub mod ChainPlaces
+pub mod LongLends
+pub mod Groups
+pub mod GroupPlaces
+pub mod GroupLends
+pub mod Keyed
+pub mod KeyedLends
+pub mod Fnv
+pub mod Parts
+pub mod Kept
+pub mod Refusals
+pub mod Slots
+pub mod InnerForm

@@ -1,0 +1,95 @@
+-- The keys of one length above 8 bytes: chains of keys with one hash.
+use Rattle.std.specs.Prelude.{◌≡◌, ◌<◌, ℕ, List, [], ◌∷◌, get_or, length, Option, refl, ◌++◌, ◌≤◌, cond, nat_lt, slice_set, Some, None}
+use Rattle.std.specs.Coded.{Coded, code_by, coded×, coded_list, coded_ℕ}
+use Rattle.std.specs.FinMap.{get, insert, empty, remove}
+use Rattle.judy_model.specs.Keys.{word_order}
+use Rattle.judy_model.specs.Arrays.{ArrayOf, array_code, with_map}
+use Rattle.judy_hs.specs.Chains.{Pairs, value_in, value_at, with_value_at, IsPlace}
+use Rattle.std.specs.List as list
+
+-- The array from hashes to the places of chains, and the chains.
+pub record Long : Type 0 where
+  pub hashes : ArrayOf word_order
+  pub chains : List Pairs
+
+-- A group is stored as the pair of these.
+abbrev pub pairs_code : Coded Pairs
+pairs_code = coded_list (coded× (coded_list coded_ℕ) coded_ℕ)
+
+abbrev pub long_code : Coded Long
+long_code = code_by (ArrayOf word_order × List Pairs) (coded× (array_code coded_ℕ) (coded_list pairs_code)) (λ long. (long.hashes, long.chains)) (λ pair. record { hashes = pair.0; chains = pair.1 }) (λ _. refl)
+
+-- The chain at a place: of no key where the place is free or there is none.
+abbrev pub chain_at : Long → ℕ → Pairs
+chain_at long place = get_or long.chains place []
+
+-- The value of a key, by what its hash leads to.
+abbrev pub in_chain : Long → Option ℕ → List ℕ → Option ℕ
+in_chain long None key = None
+in_chain long (Some place) key = value_in (chain_at long place) key
+
+-- The value of a key with that hash.
+abbrev pub in_long : Long → ℕ → List ℕ → Option ℕ
+in_long long hash key = in_chain long (get long.hashes.map hash) key
+
+-- The key with that hash stands in the chain at the place, there at a place of its own.
+pub record IsLongPlace (long : Long) (hash : ℕ) (key : List ℕ) (place at : ℕ) : Type 0 where
+  pub leads : get long.hashes.map hash ≡ Some place
+  pub within : place < length long.chains
+  pub is_place : IsPlace (chain_at long place) key at
+
+-- The value at a place of a chain.
+abbrev pub value_of_place : Long → ℕ → ℕ → Option ℕ
+value_of_place long place at = value_at (chain_at long place) at
+
+-- The array that holds one word with its value and is never full.
+abbrev pub one_word : ℕ → ℕ → ArrayOf word_order
+one_word word value = record { limit = 18446744073709551615; map = insert empty word value }
+
+-- The group of one key.
+abbrev pub one_long : ℕ → List ℕ → Long
+one_long hash key = record { hashes = one_word hash 0; chains = ((key, 0) ∷ []) ∷ [] }
+
+-- A list with an element put at a place within it, or at its end.
+abbrev pub put_at : {X : Type 0} → List X → ℕ → X → List X
+put_at xs at x = cond (nat_lt at (length xs)) (slice_set xs at x) (xs ++ x ∷ [])
+
+-- A place without a chain: one of the list, or its end.
+pub record IsFreePlace (chains : List Pairs) (place : ℕ) : Type 0 where
+  pub within : place ≤ length chains
+  pub no_key : get_or chains place [] ≡ []
+
+-- The group with a chain of one key, at a place under a hash that led nowhere.
+abbrev pub with_chain : Long → ℕ → List ℕ → ℕ → Long
+with_chain long hash key place = record { hashes = with_map long.hashes (insert long.hashes.map hash place); chains = put_at long.chains place ((key, 0) ∷ []) }
+
+-- The group with one key more in the chain at a place.
+abbrev pub with_key : Long → List ℕ → ℕ → Long
+with_key long key place = record long { chains = slice_set long.chains place (chain_at long place ++ (key, 0) ∷ []) }
+
+-- What a new key made of the group: a key more in the chain of its hash, or a chain of its own at a free place.
+abbrev pub added_long : Long → ℕ → List ℕ → Option ℕ → ℕ → Long
+added_long long hash key None place = with_chain long hash key place
+added_long long hash key (Some held) place = with_key long key held
+
+-- Where a new key stands: last in the chain of its hash, or first in a chain of its own.
+abbrev pub IsFound : Long → Option ℕ → ℕ → ℕ → Type 0
+IsFound long None place at = IsFreePlace long.chains place × (at ≡ 0)
+IsFound long (Some held) place at = (place ≡ held) × (at ≡ length (chain_at long held))
+
+abbrev pub IsAdded : Long → Long → ℕ → List ℕ → ℕ → ℕ → Type 0
+IsAdded before after hash key place at = IsFound before (get before.hashes.map hash) place at × (after ≡ added_long before hash key (get before.hashes.map hash) place)
+
+-- The group without the key at a place of a chain: a chain that becomes empty goes, with its hash.
+abbrev pub hashes_without : Long → ℕ → Pairs → ArrayOf word_order
+hashes_without long hash [] = with_map long.hashes (remove long.hashes.map hash)
+hashes_without long hash (pair ∷ rest) = long.hashes
+
+abbrev pub without_key : Long → ℕ → ℕ → ℕ → Long
+without_key long hash place at =
+    let left = list.remove (chain_at long place) at in
+    record { hashes = hashes_without long hash left; chains = slice_set long.chains place left }
+
+-- The group with a value in one of its chains.
+abbrev pub long_with : Long → ℕ → ℕ → ℕ → Long
+long_with long place at value = record long { chains = slice_set long.chains place (with_value_at (chain_at long place) at value) }

@@ -1,0 +1,204 @@
+//! The array that maps byte strings to words.
+
+ghost use Rattle.std.specs.Prelude.{◌≡◌, ◌≤◌, ◌↔◌, ◌<◌, Some, IsSome, IfSome, IfOk, OnOk, IfErr, IsTrue, IsFalse, length};
+ghost use Rattle.std.specs.Borrow.{sem};
+ghost use Rattle.std.specs.FinMap as map;
+ghost use Rattle.std.specs.Option.{option_copied_mut};
+ghost use Rattle.judy_model.specs.Arrays as array;
+
+use crate::error::HsError;
+use crate::groups::Groups;
+use crate::hash::ByteHash;
+use crate::part::part_of;
+use judy_word::JudyL;
+use std::alloc::Global;
+use std::marker::Model;
+
+/// The most bytes of a key. (This project's own.)
+pub const MAX_KEY: usize = 1024;
+
+/// An array that maps keys, byte strings of at most 1,024 bytes, to words. It holds at most as many keys as its limit
+/// (limit: this project's own).
+#[derive(Drop)]
+pub struct JudyHs<H: ByteHash + Drop> {
+    hasher: H,
+    limit: u64,
+    count: u64,
+    groups: Groups,
+}
+
+impl<H: ByteHash + Drop> Model for JudyHs<H> {
+    ghost use Rattle.std.specs.Coded.{coded_list, coded_ℕ};
+    ghost use Rattle.judy_model.specs.Keys.{byte_order};
+    ghost use Rattle.judy_model.specs.Arrays.{ArrayOf, array_code};
+
+    ghost Value = { ArrayOf byte_order };
+
+    ghost coded = { array_code (coded_list coded_ℕ) };
+
+    ghost use Rattle.judy_hs.specs.Kept.{array_of, IsHs};
+
+    ghost view = { λ a. array_of H.hash_of a.limit a.groups };
+
+    ghost invariant = { λ a. IsHs H.hash_of a.limit a.count a.groups };
+}
+
+impl<H: ByteHash + Drop> JudyHs<H> {
+    ghost use Rattle.judy_hs.specs.Slots.{LendsSlot, LendsIns};
+    ghost use Rattle.judy_hs.specs.Refusals.{IsRefusal};
+    ghost use Rattle.judy_hs.specs.InnerForm.{HasLength, IsLengths, IsShortGroup, IsLongGroup};
+
+    /// The empty array that holds at most `limit` keys, from 1 to 4,294,967,295 (limit: this project's own), under a hash.
+    /// It asks for no memory before the first insert.
+    pub fn new(alloc: Global, limit: u64, hasher: H) -> JudyHs<H>
+        requires some { 1 ≤ limit }
+        requires most { limit ≤ 4294967295 }
+        ensures { result ≡ array.empty_array limit }
+    {
+        JudyHs {
+            hasher,
+            limit,
+            count: 0,
+            groups: Groups::new(alloc),
+        }
+    }
+
+    /// The slot of a key, which is put in with the value 0 where it is absent; a key that is there keeps its value, and
+    /// is never refused. What the caller leaves in the slot is then the key's value. (Manual: JHSI, JudyHSIns.)
+    ///
+    /// The first that applies: `TooLong` where the key has more than 1,024 bytes; `Full` where it is absent and the array
+    /// holds as many keys as its limit (both limits are this project's own); `NoMemory`, only where it is absent and the
+    /// array isn't full. Each leaves the array as it was.
+    pub fn ins(&mut self, key: &[u8]) -> Result<&mut u64, HsError>
+        ensures* writes_back { sem 𝓛 (LendsIns H.row H.ByteHash self.entry key.now result) }
+        ensures value { IfOk result (λ slot. Some slot.now ≡ map.get (array.ins self.old.map key.now) key.now) }
+        ensures fits { OnOk result (length key.now ≤ 1024) }
+        ensures accepted { OnOk result (IsFalse (array.is_full self.old key.now)) }
+        ensures refused { IfErr result (IsRefusal self.old key.now) }
+    {
+        let is_full = self.count == self.limit;
+        if key.len() > MAX_KEY {
+            return Err(HsError::TooLong);
+        }
+        let part = part_of(&self.hasher, key);
+        match self.groups.find(part, key) {
+            Some(spot) => self.groups.slot_of(spot),
+            None => {
+                if is_full {
+                    return Err(HsError::Full);
+                }
+                let alloc = self.groups.allocator();
+                match self.groups.add(alloc, part, key) {
+                    Ok(spot) => {
+                        self.count += 1;
+                        self.groups.slot_of(spot)
+                    }
+                    Err(_) => Err(HsError::NoMemory),
+                }
+            }
+        }
+    }
+
+    /// The slot of a key, and `None` where it is absent, as every key of more than 1,024 bytes is. What the caller leaves
+    /// in the slot is then the key's value. (Manual: JHSG, JudyHSGet, whose answer is this slot.)
+    pub fn slot(&mut self, key: &[u8]) -> Option<&mut u64>
+        ensures* writes_back { sem 𝓛 (LendsSlot H.row H.ByteHash self.entry key.now result) }
+        ensures value { option_copied_mut result ≡ map.get self.old.map key.now }
+    {
+        let _groups = &self.groups;
+        if key.len() > MAX_KEY {
+            return None;
+        }
+        match self.groups.find(part_of(&self.hasher, key), key) {
+            Some(spot) => self.groups.slot(spot),
+            None => None,
+        }
+    }
+
+    /// Takes a key out, and answers whether it was there; a key of more than 1,024 bytes never is. It asks for no memory.
+    /// (Manual: JHSD, JudyHSDel.)
+    pub fn del(&mut self, key: &[u8]) -> bool
+        ensures answer { result ≡ map.contains_key self.old.map key.now }
+        ensures deleted { self.new ≡ array.with_map self.old (array.del self.old.map key.now) }
+    {
+        let _groups = &self.groups;
+        if key.len() > MAX_KEY {
+            return false;
+        }
+        let part = part_of(&self.hasher, key);
+        match self.groups.find(part, key) {
+            Some(spot) => {
+                self.groups.remove(key.len() as u64, part, spot);
+                self.count -= 1;
+                true
+            }
+            None => false,
+        }
+    }
+
+    /// Takes every key out, gives their memory back, and answers how many they were. The array keeps its limit and may be
+    /// used again. (Manual: JHSFA, JudyHSFreeArray, which answers the bytes freed.)
+    pub fn free_array(&mut self) -> u64
+        ensures freed { result ≡ map.len self.old.map }
+        ensures emptied { self.new ≡ array.empty_array self.old.limit }
+    {
+        let freed = self.count;
+        self.groups = Groups::new(self.groups.allocator());
+        self.count = 0;
+        freed
+    }
+
+    /// The value of a key, and `None` where it is absent, as every key of more than 1,024 bytes is. (Manual: JHSG,
+    /// JudyHSGet.)
+    pub fn get(&self, key: &[u8]) -> Option<u64>
+        ensures { result ≡ map.get self.now.map key.now }
+    {
+        let groups = &self.groups;
+        if key.len() > MAX_KEY {
+            return None;
+        }
+        groups.get(part_of(&self.hasher, key), key)
+    }
+
+    /// How many keys the array may hold: at least 1 (limit: this project's own).
+    pub fn limit(&self) -> u64
+        ensures value { result ≡ self.now.limit }
+        ensures some { 1 ≤ result }
+    {
+        self.limit
+    }
+
+    /// How many keys the array holds: at most its limit.
+    pub fn len(&self) -> u64
+        ensures count { result ≡ map.len self.now.map }
+        ensures within { result ≤ self.now.limit }
+    {
+        self.count
+    }
+
+    /// Whether the array holds no key.
+    pub fn is_empty(&self) -> bool
+        ensures { IsTrue result ↔ (self.now.map ≡ map.empty) }
+    {
+        self.count == 0
+    }
+
+    /// The array whose keys are the lengths of the keys, of use to see how they are kept. Its values are of no meaning to
+    /// callers. (This project's own.)
+    pub fn lengths(&self) -> &JudyL
+        ensures { IsLengths self.now.map result.now.map }
+    {
+        self.groups.lengths()
+    }
+
+    /// The array by which the keys of `n` bytes are found, and `None` where there is no such key. For `n` up to 8 it maps
+    /// these keys, as the words that they spell, to their values; above 8 its keys are exactly their hashes, and its values
+    /// are of no meaning to callers. (This project's own.)
+    pub fn group(&self, n: usize) -> Option<&JudyL>
+        ensures there { IsSome result ↔ HasLength self.now.map n }
+        ensures short { n ≤ 8 → IfSome result (λ group. IsShortGroup self.now.map n group.now.map) }
+        ensures long { 8 < n → IfSome result (λ group. IsLongGroup H.hash_of self.now.map n group.now.map) }
+    {
+        self.groups.group(n as u64)
+    }
+}

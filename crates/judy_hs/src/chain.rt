@@ -1,0 +1,115 @@
+//! The long keys of one length and one hash, with their values.
+
+ghost use Rattle.std.specs.Prelude.{◌≡◌, ◌++◌, ◌∷◌, [], ◌<◌, ◌↔◌, IsTrue, IfOk, OnOk, OnErr, None, MatchOption, length};
+ghost use Rattle.std.specs.Borrow.{sem};
+ghost use Rattle.std.specs.List.{position, remove};
+ghost use Rattle.std.specs.Option.{option_copied_mut};
+ghost use Rattle.judy_hs.specs.Chains.{value_in, IsPlace, value_at};
+ghost use Rattle.judy_hs.specs.Entries.{holds};
+
+use std::alloc::{AllocError, Global};
+use std::marker::Model;
+
+// A key of more than 8 bytes and its value.
+#[derive(Drop)]
+pub struct LongEntry {
+    pub key: Vec<u8>,
+    pub value: u64,
+}
+
+// The place of the first entry with the key.
+fn place_of(entries: &[LongEntry], key: &[u8]) -> Option<usize>
+    ensures { result ≡ position (holds key.now) entries.now }
+{
+    entries.iter().position(|entry| entry.key.as_slice() == key)
+}
+
+// Keys that differ, each with its value, in the order in which they came. In contracts it is the list of these pairs.
+#[derive(Drop)]
+pub struct Chain {
+    entries: Vec<LongEntry>,
+}
+
+impl Model for Chain {
+    ghost use Rattle.std.specs.Prelude.{List, ℕ};
+
+    ghost Value = { List (List ℕ × ℕ) };
+
+    ghost use Rattle.judy_hs.specs.Entries.{pairs_of};
+
+    ghost view = { λ chain. pairs_of chain.entries.items };
+}
+
+impl Chain {
+    ghost use Rattle.judy_hs.specs.ChainLends.{LendsValue};
+
+    // The chain of one key, with the value 0.
+    pub fn of(alloc: Global, key: &[u8]) -> Result<Chain, AllocError>
+        ensures { IfOk result (λ chain. chain ≡ (key.now, 0) ∷ []) }
+    {
+        let mut entries = Vec::with_capacity(alloc, 1)?;
+        entries.push_reserved(LongEntry {
+            key: key.to_vec(alloc)?,
+            value: 0,
+        });
+        Ok(Chain { entries })
+    }
+
+    // Puts a key last, with the value 0, and answers its place.
+    pub fn add(&mut self, alloc: Global, key: &[u8]) -> Result<usize, AllocError>
+        ensures place { IfOk result (λ at. at ≡ length self.old) }
+        ensures added { OnOk result (self.new ≡ self.old ++ (key.now, 0) ∷ []) }
+        ensures unchanged { OnErr result (self.new ≡ self.old) }
+    {
+        let at = self.entries.len();
+        self.entries.reserve(1)?;
+        self.entries.push_reserved(LongEntry {
+            key: key.to_vec(alloc)?,
+            value: 0,
+        });
+        Ok(at)
+    }
+
+    // The place of the key.
+    pub fn find(&self, key: &[u8]) -> Option<usize>
+        ensures { MatchOption result (value_in self.now key.now ≡ None) (IsPlace self.now key.now) }
+    {
+        place_of(&self.entries, key)
+    }
+
+    // The value at a place.
+    pub fn get(&self, at: usize) -> Option<u64>
+        ensures { result ≡ value_at self.now at }
+    {
+        match self.entries.get(at) {
+            Some(entry) => Some(entry.value),
+            None => None,
+        }
+    }
+
+    // The slot of the value at a place.
+    pub fn slot(&mut self, at: usize) -> Option<&mut u64>
+        ensures* writes_back { sem 𝓛 (LendsValue self.entry at result) }
+        ensures value { option_copied_mut result ≡ value_at self.old at }
+    {
+        match self.entries.get_mut(at) {
+            Some(entry) => Some(&mut entry.value),
+            None => None,
+        }
+    }
+
+    // Takes the key at a place out.
+    pub fn remove(&mut self, at: usize)
+        requires { at < length self.old }
+        ensures { self.new ≡ remove self.old at }
+    {
+        self.entries.remove(at);
+    }
+
+    // Whether no key is left.
+    pub fn is_empty(&self) -> bool
+        ensures { IsTrue result ↔ (self.now ≡ []) }
+    {
+        self.entries.is_empty()
+    }
+}

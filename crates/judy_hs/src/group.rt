@@ -1,0 +1,134 @@
+//! The keys of one length.
+
+ghost use Rattle.std.specs.Prelude.{◌≡◌, ◌≢◌, ◌↔◌, IsTrue, option_copied, IfOk, OnOk, OnErr, IfSome, None, Some, MatchOption};
+ghost use Rattle.std.specs.Borrow.{sem};
+ghost use Rattle.std.specs.FinMap.{get};
+ghost use Rattle.std.specs.Option.{option_copied_mut};
+
+use crate::long_group::LongGroup;
+use judy_word::JudyL;
+use std::alloc::{AllocError, Global};
+
+// Where a key stands in its group: a short key's word, or the places of a long key's chain and of the key in it.
+#[derive(Clone, Copy)]
+pub enum Inside {
+    Word(u64),
+    Chained(usize, usize),
+}
+
+// A place for a group: free, with the place that was free before it; or a group of keys of at most 8 bytes, as words
+// with their values; or one of longer keys. The word by which a group finds a key is the key itself, or its hash.
+#[derive(Drop)]
+pub enum GroupPlace {
+    Free(usize),
+    Short(JudyL),
+    Long(LongGroup),
+}
+
+impl GroupPlace {
+    ghost use Rattle.judy_hs.specs.Groups.{in_group, words_of, IsInside, IsNewInside, IsUsable, value_inside, group_with_key, group_without, CanTakeKey, IsRemovable, IsEmptyGroup};
+    ghost use Rattle.judy_hs.specs.GroupPlaces.{group_of};
+    ghost use Rattle.judy_hs.specs.GroupLends.{LendsInside};
+
+    // The value of a key, by its word or hash.
+    pub fn get(&self, part: u64, key: &[u8]) -> Option<u64>
+        ensures { result ≡ in_group (group_of self.now) part key.now }
+    {
+        match self {
+            GroupPlace::Short(words) => words.get(part),
+            GroupPlace::Long(group) => group.get(part, key),
+            GroupPlace::Free(_) => None,
+        }
+    }
+
+    // Where a key stands.
+    pub fn find(&self, part: u64, key: &[u8]) -> Option<Inside>
+        ensures { MatchOption result (in_group (group_of self.now) part key.now ≡ None) (IsInside (group_of self.now) part key.now) }
+    {
+        match self {
+            GroupPlace::Short(words) => match words.get(part) {
+                Some(_) => Some(Inside::Word(part)),
+                None => None,
+            },
+            GroupPlace::Long(group) => match group.find(part, key) {
+                Some((place, at)) => Some(Inside::Chained(place, at)),
+                None => None,
+            },
+            GroupPlace::Free(_) => None,
+        }
+    }
+
+    // The slot of what stands there.
+    pub fn slot(&mut self, inside: Inside) -> Option<&mut u64>
+        requires { IsUsable (group_of self.old) inside }
+        ensures* writes_back { sem 𝓛 (LendsInside self.entry inside result) }
+        ensures value { option_copied_mut result ≡ value_inside (group_of self.old) inside }
+    {
+        match self {
+            GroupPlace::Short(words) => match inside {
+                Inside::Word(word) => words.slot(word),
+                Inside::Chained(_, _) => None,
+            },
+            GroupPlace::Long(group) => match inside {
+                Inside::Chained(place, at) => group.slot(place, at),
+                Inside::Word(_) => None,
+            },
+            GroupPlace::Free(_) => None,
+        }
+    }
+
+    // Puts a key in that isn't there, with the value 0, and answers where it stands.
+    pub fn add(&mut self, alloc: Global, part: u64, key: &[u8]) -> Result<Inside, AllocError>
+        requires { CanTakeKey (group_of self.old) part }
+        ensures place { IfOk result (IsNewInside (group_of self.old) part) }
+        ensures added { IfOk result (λ inside. group_of self.new ≡ group_with_key (group_of self.old) part key.now inside) }
+        ensures unchanged { OnErr result (group_of self.new ≡ group_of self.old) }
+    {
+        match self {
+            GroupPlace::Short(words) => match words.ins(part) {
+                Ok(slot) => {
+                    *slot = 0;
+                    Ok(Inside::Word(part))
+                }
+                Err(_) => Err(AllocError),
+            },
+            GroupPlace::Long(group) => match group.add(alloc, part, key) {
+                Ok((place, at)) => Ok(Inside::Chained(place, at)),
+                Err(error) => Err(error),
+            },
+            GroupPlace::Free(_) => unreachable!(),
+        }
+    }
+
+    // Takes out what stands there, and says whether no key is left.
+    pub fn remove(&mut self, part: u64, inside: Inside) -> bool
+        requires { IsRemovable (group_of self.old) inside }
+        ensures removed { group_of self.new ≡ group_without (group_of self.old) part inside }
+        ensures answer { IsTrue result ↔ IsEmptyGroup (group_of self.new) }
+    {
+        match self {
+            GroupPlace::Short(words) => {
+                words.del(part);
+                words.is_empty()
+            }
+            GroupPlace::Long(group) => {
+                if let Inside::Chained(place, at) = inside {
+                    group.remove(part, place, at);
+                }
+                group.is_empty()
+            }
+            GroupPlace::Free(_) => true,
+        }
+    }
+
+    // The array by which the group finds its keys.
+    pub fn words(&self) -> Option<&JudyL>
+        ensures { option_copied result ≡ words_of (group_of self.now) }
+    {
+        match self {
+            GroupPlace::Short(words) => Some(words),
+            GroupPlace::Long(group) => Some(group.hashes()),
+            GroupPlace::Free(_) => None,
+        }
+    }
+}

@@ -1,0 +1,221 @@
+//! All groups of an array, by the length of their keys.
+
+ghost use Rattle.std.specs.Prelude.{◌≡◌, ◌≢◌, ◌<◌, ◌≤◌, [], option_copied, IfOk, IsOk, OnErr, IsSome, IfSome, None, Some, MatchOption, length, vec_len, vec_capacity};
+ghost use Rattle.std.specs.Borrow.{sem};
+ghost use Rattle.std.specs.FinMap.{get};
+ghost use Rattle.std.specs.Option.{option_copied_mut};
+ghost use Rattle.judy_hs.specs.Groups.{one_group, one_inside};
+ghost use Rattle.judy_hs.specs.GroupPlaces.{group_of, groups_of};
+ghost use Rattle.judy_hs.specs.Keyed.{IsFreeGroup};
+
+use crate::error::HsError;
+use crate::group::{GroupPlace, Inside};
+use crate::long_group::{LongGroup, put};
+use judy_word::JudyL;
+use std::alloc::{AllocError, Global};
+use std::marker::Model;
+
+// Where a key stands: the place of its group, and where it stands in the group.
+#[derive(Clone, Copy)]
+pub struct Spot {
+    pub group: usize,
+    pub inside: Inside,
+}
+
+// A `JudyL` from the lengths of keys to the places of their groups, and the groups. In contracts: that array and the
+// list of the groups, a free place being none.
+#[derive(Drop)]
+pub struct Groups {
+    lengths: JudyL,
+    groups: Vec<GroupPlace>,
+    free: usize,
+}
+
+impl Model for Groups {
+    ghost use Rattle.judy_hs.specs.Keyed.{Keyed, keyed_code};
+
+    ghost Value = { Keyed };
+
+    ghost coded = { keyed_code };
+
+    ghost use Rattle.judy_hs.specs.GroupPlaces.{groups_of};
+
+    ghost view = { λ all. record { lengths = all.lengths; groups = groups_of all.groups.items } };
+}
+
+// The group of one key, with the value 0, and where the key stands in it.
+fn group_of_one(alloc: Global, part: u64, key: &[u8]) -> Result<(GroupPlace, Inside), AllocError>
+    ensures group { IfOk result (λ made. group_of made.0 ≡ one_group part key.now) }
+    ensures inside { IfOk result (λ made. made.1 ≡ one_inside part key.now) }
+{
+    if key.len() <= 8 {
+        let mut words = JudyL::unbounded(alloc);
+        match words.ins(part) {
+            Ok(slot) => *slot = 0,
+            Err(_) => return Err(AllocError),
+        }
+        Ok((GroupPlace::Short(words), Inside::Word(part)))
+    } else {
+        let group = LongGroup::of(alloc, part, key)?;
+        Ok((GroupPlace::Long(group), Inside::Chained(0, 0)))
+    }
+}
+
+impl Groups {
+    ghost use Rattle.judy_hs.specs.Groups.{IsUsable, CanTakeKey, IsRemovable, IsEmptyGroup, value_inside, group_without};
+    ghost use Rattle.judy_hs.specs.Keyed.{no_keys, in_keyed, words_at, group_at, IsSpot, IsNewSpot, added_keyed, with_group, keyed_without, without_group};
+    ghost use Rattle.judy_hs.specs.KeyedLends.{LendsSpot, LendsSpotOk};
+
+    // No groups.
+    pub fn new(alloc: Global) -> Groups
+        ensures { result ≡ no_keys }
+    {
+        Groups {
+            lengths: JudyL::unbounded(alloc),
+            groups: Vec::new(alloc),
+            free: 0,
+        }
+    }
+
+    // The allocator.
+    pub fn allocator(&self) -> Global {
+        *self.groups.allocator()
+    }
+
+    // The value of a key, under the word by which its group finds it.
+    pub fn get(&self, part: u64, key: &[u8]) -> Option<u64>
+        ensures { result ≡ in_keyed self.now part key.now }
+    {
+        let place = self.lengths.get(key.len() as u64)?;
+        match self.groups.get(place as usize) {
+            Some(group) => group.get(part, key),
+            None => None,
+        }
+    }
+
+    // Where a key stands.
+    pub fn find(&self, part: u64, key: &[u8]) -> Option<Spot>
+        ensures { MatchOption result (in_keyed self.now part key.now ≡ None) (λ spot. IsSpot self.now part key.now spot.group spot.inside) }
+    {
+        let place = self.lengths.get(key.len() as u64)?;
+        let group = place as usize;
+        match self.groups.get(group) {
+            Some(held) => match held.find(part, key) {
+                Some(inside) => Some(Spot { group, inside }),
+                None => None,
+            },
+            None => None,
+        }
+    }
+
+    // The slot of what stands there.
+    pub fn slot(&mut self, spot: Spot) -> Option<&mut u64>
+        requires within { spot.group < length self.old.groups }
+        requires usable { IsUsable (group_at self.old spot.group) spot.inside }
+        ensures* writes_back { sem 𝓛 (LendsSpot self.entry spot.group spot.inside result) }
+        ensures value { option_copied_mut result ≡ value_inside (group_at self.old spot.group) spot.inside }
+    {
+        let group = &mut self.groups[spot.group];
+        group.slot(spot.inside)
+    }
+
+    // The same where something stands there.
+    pub fn slot_of(&mut self, spot: Spot) -> Result<&mut u64, HsError>
+        requires within { spot.group < length self.old.groups }
+        requires usable { IsUsable (group_at self.old spot.group) spot.inside }
+        requires present { IsSome (value_inside (group_at self.old spot.group) spot.inside) }
+        ensures* writes_back { sem 𝓛 (LendsSpotOk self.entry spot.group spot.inside result) }
+        ensures value { IfOk result (λ slot. Some slot.now ≡ value_inside (group_at self.old spot.group) spot.inside) }
+        ensures present { IsOk result }
+    {
+        match self.slot(spot) {
+            Some(slot) => Ok(slot),
+            None => unreachable!(),
+        }
+    }
+
+    // Puts a key in that isn't there, with the value 0, and answers where it stands.
+    pub fn add(&mut self, alloc: Global, part: u64, key: &[u8]) -> Result<Spot, AllocError>
+        requires { IfSome (get self.old.lengths.map (length key.now)) (λ place. CanTakeKey (group_at self.old place) part) }
+        ensures place { IfOk result (λ spot. IsNewSpot self.old part key.now (get self.old.lengths.map (length key.now)) spot.group spot.inside) }
+        ensures added { IfOk result (λ spot. self.new ≡ added_keyed self.old part key.now (get self.old.lengths.map (length key.now)) spot.group spot.inside) }
+        ensures unchanged { OnErr result (self.new ≡ self.old) }
+    {
+        match self.lengths.get(key.len() as u64) {
+            Some(held) => {
+                let group = held as usize;
+                let inside = self.groups[group].add(alloc, part, key)?;
+                Ok(Spot { group, inside })
+            }
+            None => self.add_group(alloc, part, key),
+        }
+    }
+
+    // Puts a group of one key in, of a length that has none. The insert into `lengths` is the last step that can be
+    // refused.
+    fn add_group(&mut self, alloc: Global, part: u64, key: &[u8]) -> Result<Spot, AllocError>
+        requires { get self.old.lengths.map (length key.now) ≡ None }
+        ensures place { IfOk result (λ spot. IsFreeGroup self.old.groups spot.group) }
+        ensures inside { IfOk result (λ spot. spot.inside ≡ one_inside part key.now) }
+        ensures added { IfOk result (λ spot. self.new ≡ with_group self.old part key.now spot.group) }
+        ensures unchanged { OnErr result (self.new ≡ self.old) }
+    {
+        let (made, inside) = group_of_one(alloc, part, key)?;
+        let (group, next) = free_place(&mut self.groups, self.free)?;
+        match self.lengths.ins(key.len() as u64) {
+            Ok(slot) => *slot = group as u64,
+            Err(_) => return Err(AllocError),
+        }
+        self.free = next;
+        put(&mut self.groups, group, made);
+        Ok(Spot { group, inside })
+    }
+
+    // Takes out what stands there. A group that becomes empty goes, with the length of its keys.
+    pub fn remove(&mut self, key_length: u64, part: u64, spot: Spot)
+        requires within { spot.group < length self.old.groups }
+        requires removable { IsRemovable (group_at self.old spot.group) spot.inside }
+        ensures kept { (IsEmptyGroup (group_without (group_at self.old spot.group) part spot.inside) → ⊥)
+            → self.new ≡ keyed_without self.old spot.group part spot.inside }
+        ensures emptied { IsEmptyGroup (group_without (group_at self.old spot.group) part spot.inside)
+            → self.new ≡ without_group self.old key_length spot.group }
+    {
+        let emptied = self.groups[spot.group].remove(part, spot.inside);
+        if emptied {
+            self.lengths.del(key_length);
+            self.groups[spot.group] = GroupPlace::Free(self.free);
+            self.free = spot.group;
+        }
+    }
+
+    // The array of the lengths.
+    pub fn lengths(&self) -> &JudyL
+        ensures { result.now ≡ self.now.lengths }
+    {
+        &self.lengths
+    }
+
+    // The array by which the group of keys of a length finds them.
+    pub fn group(&self, key_length: u64) -> Option<&JudyL>
+        ensures { option_copied result ≡ words_at self.now (get self.now.lengths.map key_length) }
+    {
+        let place = self.lengths.get(key_length)?;
+        match self.groups.get(place as usize) {
+            Some(group) => group.words(),
+            None => None,
+        }
+    }
+}
+
+// A free place for a group and the place that was free before it, or the end of the list, where room is reserved.
+fn free_place(groups: &mut Vec<GroupPlace>, free: usize) -> Result<(usize, usize), AllocError>
+    ensures found { IfOk result (λ found. IsFreeGroup (groups_of groups.old.items) found.0) }
+    ensures room { IfOk result (λ found. found.0 ≡ length groups.new.items → vec_len groups.new < vec_capacity groups.new) }
+    ensures same { groups.new.items ≡ groups.old.items }
+{
+    if let Some(GroupPlace::Free(next)) = groups.get(free) {
+        return Ok((free, *next));
+    }
+    groups.reserve(1)?;
+    Ok((groups.len(), free))
+}

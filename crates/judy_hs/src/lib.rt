@@ -1,0 +1,24 @@
+//! Arrays over byte strings in no order: keys of at most 1,024 bytes of any value, with a limit on how many an
+//! array holds.
+//!
+//! `JudyHs` maps such keys to words. Its model is the array of judy_model over byte strings, a limit and a finite
+//! map, and its contracts cite judy_model's definitions. They hold for every hash, one that is the same for all
+//! keys included. The crate stands on the word arrays of judy_word.
+//!
+//! Inside, keys are grouped by their length (groups.rt). A key of at most 8 bytes is a word, and its group a
+//! `JudyL` from these words to the values; longer keys are found by their hash, in a chain of the keys that share
+//! it (long_group.rt, chain.rt), where their bytes decide.
+#![tactic(auto)]
+
+mod bytes;
+mod chain;
+mod error;
+mod group;
+mod groups;
+mod hash;
+mod long_group;
+mod part;
+
+pub use bytes::JudyHs;
+pub use error::HsError;
+pub use hash::{ByteHash, Fnv1a};

@@ -1,0 +1,249 @@
+//! The keys of one length above 8 bytes, by their hashes.
+
+ghost use Rattle.std.specs.Prelude.{◌≡◌, ◌≢◌, ◌∷◌, [], ◌<◌, ◌≤◌, IfOk, OnOk, OnErr, None, Some, MatchOption, ◌++◌, ◌↔◌, IsTrue, IfSome, length, vec_len, vec_capacity};
+ghost use Rattle.std.specs.FinMap.{get, empty};
+ghost use Rattle.std.specs.Borrow.{sem};
+ghost use Rattle.std.specs.Option.{option_copied_mut};
+ghost use Rattle.std.specs.List.{remove};
+ghost use Rattle.judy_hs.specs.LongGroups.{put_at, IsFreePlace};
+ghost use Rattle.judy_hs.specs.ChainPlaces.{chains_of};
+
+use crate::chain::Chain;
+use judy_word::JudyL;
+use std::alloc::{AllocError, Global};
+use std::marker::Model;
+
+// A place for a chain: free, with the place that was free before it, or taken.
+#[derive(Drop)]
+pub enum ChainPlace {
+    Free(usize),
+    Taken(Chain),
+}
+
+// A `JudyL` from the hashes of keys to the places of their chains, and the chains. In contracts: that array and the
+// list of the chains, a free place being one of no key.
+#[derive(Drop)]
+pub struct LongGroup {
+    hashes: JudyL,
+    chains: Vec<ChainPlace>,
+    free: usize,
+}
+
+impl Model for LongGroup {
+    ghost use Rattle.judy_hs.specs.LongGroups.{Long};
+
+    ghost Value = { Long };
+
+    ghost use Rattle.judy_hs.specs.LongGroups.{long_code};
+
+    ghost coded = { long_code };
+
+    ghost use Rattle.judy_hs.specs.ChainPlaces.{chains_of};
+
+    ghost view = { λ group. record { hashes = group.hashes; chains = chains_of group.chains.items } };
+}
+
+// Puts a value at a place of a list, or at its end, where room is reserved.
+pub fn put<T: Drop>(list: &mut Vec<T>, place: usize, value: T)
+    requires within { place ≤ length list.old.items }
+    requires room { place ≡ length list.old.items → vec_len list.old < vec_capacity list.old }
+    ensures { list.new.items ≡ put_at list.old.items place value }
+{
+    if place < list.len() {
+        list[place] = value;
+    } else {
+        list.push_reserved(value);
+    }
+}
+
+// A free place for a chain and the place that was free before it, or the end of the list, where room is reserved.
+fn free_place(chains: &mut Vec<ChainPlace>, free: usize) -> Result<(usize, usize), AllocError>
+    ensures found { IfOk result (λ found. IsFreePlace (chains_of chains.old.items) found.0) }
+    ensures room { IfOk result (λ found. found.0 ≡ length chains.new.items → vec_len chains.new < vec_capacity chains.new) }
+    ensures same { chains.new.items ≡ chains.old.items }
+{
+    if let Some(ChainPlace::Free(next)) = chains.get(free) {
+        return Ok((free, *next));
+    }
+    chains.reserve(1)?;
+    Ok((chains.len(), free))
+}
+
+impl ChainPlace {
+    ghost use Rattle.judy_hs.specs.ChainPlaces.{pairs_at};
+    ghost use Rattle.judy_hs.specs.Chains.{value_at};
+    ghost use Rattle.judy_hs.specs.LongLends.{LendsPlace};
+
+    // The slot of the value at a place of the chain.
+    fn slot(&mut self, at: usize) -> Option<&mut u64>
+        ensures* writes_back { sem 𝓛 (LendsPlace self.entry at result) }
+        ensures value { option_copied_mut result ≡ value_at (pairs_at self.old) at }
+    {
+        match self {
+            ChainPlace::Taken(chain) => chain.slot(at),
+            ChainPlace::Free(_) => None,
+        }
+    }
+
+    // Puts a key last in the chain, with the value 0, and answers its place there.
+    fn add(&mut self, alloc: Global, key: &[u8]) -> Result<usize, AllocError>
+        requires { pairs_at self.old ≢ [] }
+        ensures place { IfOk result (λ at. at ≡ length (pairs_at self.old)) }
+        ensures added { OnOk result (pairs_at self.new ≡ pairs_at self.old ++ (key.now, 0) ∷ []) }
+        ensures unchanged { OnErr result (self.new ≡ self.old) }
+    {
+        match self {
+            ChainPlace::Taken(chain) => chain.add(alloc, key),
+            ChainPlace::Free(_) => unreachable!(),
+        }
+    }
+
+    // Takes the key at a place of the chain out, and says whether no key is left.
+    fn remove(&mut self, at: usize) -> bool
+        requires { at < length (pairs_at self.old) }
+        ensures removed { pairs_at self.new ≡ remove (pairs_at self.old) at }
+        ensures answer { IsTrue result ↔ (pairs_at self.new ≡ []) }
+    {
+        match self {
+            ChainPlace::Taken(chain) => {
+                chain.remove(at);
+                chain.is_empty()
+            }
+            ChainPlace::Free(_) => unreachable!(),
+        }
+    }
+}
+
+impl LongGroup {
+    ghost use Rattle.judy_hs.specs.LongGroups.{one_long, in_long, chain_at, IsLongPlace, IsAdded, value_of_place, with_chain, without_key};
+    ghost use Rattle.judy_hs.specs.LongLends.{LendsLong};
+
+    // The group of one key, with the value 0.
+    pub fn of(alloc: Global, hash: u64, key: &[u8]) -> Result<LongGroup, AllocError>
+        ensures { IfOk result (λ group. group ≡ one_long hash key.now) }
+    {
+        let mut chains = Vec::with_capacity(alloc, 1)?;
+        chains.push_reserved(ChainPlace::Taken(Chain::of(alloc, key)?));
+        let mut hashes = JudyL::unbounded(alloc);
+        match hashes.ins(hash) {
+            Ok(slot) => *slot = 0,
+            Err(_) => return Err(AllocError),
+        }
+        Ok(LongGroup {
+            hashes,
+            chains,
+            free: 1,
+        })
+    }
+
+    // The value of a key with that hash.
+    pub fn get(&self, hash: u64, key: &[u8]) -> Option<u64>
+        ensures { result ≡ in_long self.now hash key.now }
+    {
+        let place = self.hashes.get(hash)?;
+        match self.chains.get(place as usize) {
+            Some(ChainPlace::Taken(chain)) => match chain.find(key) {
+                Some(at) => chain.get(at),
+                None => None,
+            },
+            Some(ChainPlace::Free(_)) => None,
+            None => None,
+        }
+    }
+
+    // The place of a key's chain, and the key's place in the chain.
+    pub fn find(&self, hash: u64, key: &[u8]) -> Option<(usize, usize)>
+        ensures { MatchOption result (in_long self.now hash key.now ≡ None) (λ found. IsLongPlace self.now hash key.now found.0 found.1) }
+    {
+        let place = self.hashes.get(hash)?;
+        match self.chains.get(place as usize) {
+            Some(ChainPlace::Taken(chain)) => match chain.find(key) {
+                Some(at) => Some((place as usize, at)),
+                None => None,
+            },
+            Some(ChainPlace::Free(_)) => None,
+            None => None,
+        }
+    }
+
+    // The slot of the value at a place of a chain.
+    pub fn slot(&mut self, place: usize, at: usize) -> Option<&mut u64>
+        requires { place < length self.old.chains }
+        ensures* writes_back { sem 𝓛 (LendsLong self.entry place at result) }
+        ensures value { option_copied_mut result ≡ value_of_place self.old place at }
+    {
+        let chain = &mut self.chains[place];
+        chain.slot(at)
+    }
+    // Puts a key in that isn't there, with the value 0: last in the chain of its hash, or in a chain of its own. It
+    // answers the place of the chain and the key's place in it.
+    pub fn add(
+        &mut self,
+        alloc: Global,
+        hash: u64,
+        key: &[u8],
+    ) -> Result<(usize, usize), AllocError>
+        requires used { IfSome (get self.old.hashes.map hash) (λ place. chain_at self.old place ≢ []) }
+        ensures added { IfOk result (λ found. IsAdded self.old self.new hash key.now found.0 found.1) }
+        ensures unchanged { OnErr result (self.new ≡ self.old) }
+    {
+        match self.hashes.get(hash) {
+            Some(held) => {
+                let place = held as usize;
+                let at = self.chains[place].add(alloc, key)?;
+                Ok((place, at))
+            }
+            None => {
+                let place = self.add_chain(alloc, hash, key)?;
+                Ok((place, 0))
+            }
+        }
+    }
+
+    // Puts a chain of one key in, under a hash that leads nowhere, and answers its place. The insert into `hashes` is
+    // the last step that can be refused.
+    fn add_chain(&mut self, alloc: Global, hash: u64, key: &[u8]) -> Result<usize, AllocError>
+        requires { get self.old.hashes.map hash ≡ None }
+        ensures place { IfOk result (IsFreePlace self.old.chains) }
+        ensures added { IfOk result (λ place. self.new ≡ with_chain self.old hash key.now place) }
+        ensures unchanged { OnErr result (self.new ≡ self.old) }
+    {
+        let chain = Chain::of(alloc, key)?;
+        let (place, next) = free_place(&mut self.chains, self.free)?;
+        match self.hashes.ins(hash) {
+            Ok(slot) => *slot = place as u64,
+            Err(_) => return Err(AllocError),
+        }
+        self.free = next;
+        put(&mut self.chains, place, ChainPlace::Taken(chain));
+        Ok(place)
+    }
+
+    // Takes the key at a place of the chain of its hash out. A chain that becomes empty goes, with its hash.
+    pub fn remove(&mut self, hash: u64, place: usize, at: usize)
+        requires within { place < length self.old.chains }
+        requires is_there { at < length (chain_at self.old place) }
+        ensures { self.new ≡ without_key self.old hash place at }
+    {
+        let emptied = self.chains[place].remove(at);
+        if emptied {
+            self.hashes.del(hash);
+            self.chains[place] = ChainPlace::Free(self.free);
+            self.free = place;
+        }
+    }
+
+    // Whether no key is left.
+    pub fn is_empty(&self) -> bool
+        ensures { IsTrue result ↔ (self.now.hashes.map ≡ empty) }
+    {
+        self.hashes.is_empty()
+    }
+
+    // The array of the hashes.
+    pub fn hashes(&self) -> &JudyL
+        ensures { result.now ≡ self.now.hashes }
+    {
+        &self.hashes
+    }
+}

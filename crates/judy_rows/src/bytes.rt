@@ -1,0 +1,139 @@
+//! Rows of arrays over byte strings, and the hash of the program.
+
+use judy_hs::{ByteHash, Fnv1a, HsError, JudyHs};
+use std::process::Abort;
+
+// A hash that is the same for all keys.
+#[derive(Clone, Copy)]
+struct Same;
+
+impl ByteHash for Same {
+    ghost use Rattle.std.specs.Prelude.{List, ℕ};
+
+    ghost hash_of = { λ _. 7 };
+
+    fn hash(&self, _bytes: &[u8]) -> u32 {
+        7
+    }
+}
+
+// Inserts a key and compares the value that it had before.
+fn check_ins<R: Abort, H: ByteHash + Drop>(
+    rt: &R,
+    array: &mut JudyHs<H>,
+    key: &[u8],
+    before: u64,
+    value: u64,
+) {
+    match array.ins(key) {
+        Ok(slot) => {
+            assert_eq!(rt; *slot, before);
+            *slot = value;
+        }
+        Err(_) => assert!(rt; false),
+    }
+}
+
+// The row on an array under some hash: its keys are the given ones.
+fn check_byte_keys<R: Abort, H: ByteHash + Drop>(
+    rt: &R,
+    array: &mut JudyHs<H>,
+    first: &[u8],
+    second: &[u8],
+    third: &[u8],
+) {
+    check_ins(rt, array, first, 0, 1);
+    check_ins(rt, array, second, 0, 2);
+    check_ins(rt, array, third, 0, 3);
+    assert_eq!(rt; array.get(second), Some(2));
+    assert_eq!(rt; array.get(first), Some(1));
+    check_ins(rt, array, second, 2, 2);
+    assert!(rt; array.del(first));
+    assert!(rt; !array.del(first));
+    assert_eq!(rt; array.get(first), None);
+    assert_eq!(rt; array.get(third), Some(3));
+    assert_eq!(rt; array.len(), 2);
+}
+
+#[test]
+fn byte_keys(rt: HostRuntime) {
+    let mut array = JudyHs::new(rt.alloc(), 4294967295, Same);
+    check_byte_keys(&rt, &mut array, b"", &[0], &[0, 0]);
+    assert_eq!(rt; array.lengths().first(0), Some(1));
+    assert_eq!(rt; array.lengths().next(1), Some(2));
+    assert_eq!(rt; array.lengths().next(2), None);
+    assert!(rt; array.group(0).is_none());
+    match array.group(2) {
+        Some(group) => assert_eq!(rt; group.get(0), Some(3)),
+        None => assert!(rt; false),
+    }
+}
+
+// Long keys of one length and one hash, and of several lengths.
+#[test]
+fn long_keys_and_one_hash(rt: HostRuntime) {
+    let mut array = JudyHs::new(rt.alloc(), 10, Same);
+    check_byte_keys(
+        &rt,
+        &mut array,
+        b"abcdefghi",
+        b"abcdefghj",
+        b"abcdefghk",
+    );
+    check_byte_keys(
+        &rt,
+        &mut array_of_twelve(&rt),
+        b"abcdefghij",
+        b"abcdefghijk",
+        b"abcdefghijkl",
+    );
+    assert_eq!(rt; array.lengths().first(0), Some(9));
+    assert_eq!(rt; array.lengths().next(9), None);
+    match array.group(9) {
+        Some(group) => assert_eq!(rt; group.first(0), Some(7)),
+        None => assert!(rt; false),
+    }
+    assert_eq!(rt; array.free_array(), 2);
+    assert!(rt; array.is_empty());
+    assert!(rt; array.group(9).is_none());
+}
+
+fn array_of_twelve(rt: &HostRuntime) -> JudyHs<Same> {
+    JudyHs::new(rt.alloc(), 12, Same)
+}
+
+// A key of each length at an edge, refusals, and a slot.
+#[test]
+fn refused_chain_insert(rt: HostRuntime) {
+    let mut array = JudyHs::new(rt.alloc(), 4, Fnv1a);
+    let longest = [b'x'; 1024];
+    let too_long = [b'x'; 1025];
+    check_ins(&rt, &mut array, b"", 0, 10);
+    check_ins(&rt, &mut array, b"abcdefgh", 0, 18);
+    check_ins(&rt, &mut array, b"abcdefghi", 0, 19);
+    check_ins(&rt, &mut array, &longest, 0, 20);
+    assert!(rt; matches!(array.ins(&too_long), Err(HsError::TooLong)));
+    assert!(rt; matches!(array.ins(b"abcdefghj"), Err(HsError::Full)));
+    assert_eq!(rt; array.get(&too_long), None);
+    assert!(rt; !array.del(&too_long));
+    assert_eq!(rt; array.len(), 4);
+    assert_eq!(rt; array.limit(), 4);
+    if let Some(slot) = array.slot(&longest) {
+        *slot = 21;
+    }
+    assert_eq!(rt; array.get(&longest), Some(21));
+    assert_eq!(rt; array.get(b"abcdefghi"), Some(19));
+    assert_eq!(rt; array.get(b"abcdefgh"), Some(18));
+    assert_eq!(rt; array.get(b""), Some(10));
+    assert!(rt; array.slot(b"abcdefghj").is_none());
+    assert!(rt; array.del(b"abcdefghi"));
+    assert!(rt; array.group(9).is_none());
+    check_ins(&rt, &mut array, b"abcdefghj", 0, 5);
+}
+
+#[test]
+fn fnv1a_values(rt: HostRuntime) {
+    assert_eq!(rt; Fnv1a.hash(b""), 0x811c9dc5);
+    assert_eq!(rt; Fnv1a.hash(b"a"), 0xe40c292c);
+    assert_eq!(rt; Fnv1a.hash(b"foobar"), 0xbf9cf968);
+}
