@@ -1,9 +1,7 @@
 -- No array inside holds more keys than the array that it is a part of.
-use Rattle.std.proofs.Common.{◌≡◌, ◌≢◌, ℕ, ◌<◌, ◌≤◌, ◌==◌, Bool, true, false, not, ◌&&◌, List, [], ◌∷◌, map, length, Option, Some, None, IfSome, is_some, IsTrue, sym, refl, ap, ◌∙◌, subst, ◌⊎◌, inl, inr, ⊎_elim, arith}
-use Rattle.std.specs.FinMap.{FinMap, get, contains_key, contains_key-keys, keys, empty, len, len-empty, nat_cmp-IsAntisymmetric}
+use Rattle.std.proofs.Common.{◌≡◌, ℕ, ◌<◌, ◌≤◌, ◌==◌, Bool, true, false, not, ◌&&◌, List, [], ◌∷◌, map, IsTrue, ap, ◌∙◌, subst, inl, inr, ⊎_elim, arith}
+use Rattle.std.specs.FinMap.{FinMap, contains_key, contains_key-keys, keys, len, len-empty, nat_cmp-IsAntisymmetric}
 use Rattle.std.specs.Cmp.{nat_cmp_total, eq_by_cmp_equiv}
-use Rattle.std.specs.Ordering.{eq_by_cmp}
-use Rattle.std.specs.Set.{is_member}
 use Rattle.std.proofs.lemmas.Bool.Decides.{Decides-eqb}
 use Rattle.std.proofs.lemmas.Bool.{false≢true}
 use Rattle.std.proofs.lemmas.List.{length-map}
@@ -25,8 +23,8 @@ pub fewer : (words : FinMap word_order ℕ) (all : FinMap byte_order ℕ) (tell 
     → len words ≤ len all
 fewer words all tell told =
     let most = length-le_from_is_member (eq_by_cmp_equiv nat_cmp_total) (keys words) (map tell (keys all)) (IsDistinct-from_sorted word_order (keys words) (keys_ascending words)) (λ word held.
-        let found = told word (contains_key-keys words word ∙ held) in
-        list_any-from_among nat_cmp_total nat_cmp-IsAntisymmetric (map tell (keys all)) word (subst (Among (map tell (keys all))) found.1 (among_map tell (keys all) found.0 (among_keys byte_order_total byte_order_same all found.0 found.2)))) in
+    let found = told word (contains_key-keys words word ∙ held) in
+    list_any-from_among nat_cmp_total nat_cmp-IsAntisymmetric (map tell (keys all)) word (subst (Among (map tell (keys all))) found.1 (among_map tell (keys all) found.0 (among_keys byte_order_total byte_order_same all found.0 found.2)))) in
     omega (arith, most, length-keys words, length-keys all, length-map (keys all) tell)
 
 full_is : (held : Bool) (count limit : ℕ) → IsTrue (not held && (count == limit)) → count ≡ limit

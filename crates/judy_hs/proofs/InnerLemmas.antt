@@ -1,22 +1,20 @@
 -- The inner form of an array: each length that leads somewhere is that of a key, and the other way round.
-use Rattle.std.proofs.Common.{◌≡◌, ◌↔◌, ℕ, zero, suc, ◌+◌, ◌/◌, ◌%◌, ◌^◌, ◌<◌, ◌≤◌, List, [], ◌∷◌, length, Option, Some, None, is_some, IsSome, IfSome, option_copied, Bor, IsTrue, refl, sym, ap, ◌∙◌, subst, ⊎_elim, inl, inr, arith}
+use Rattle.std.proofs.Common.{◌≡◌, ◌↔◌, ℕ, zero, suc, ◌/◌, ◌%◌, ◌^◌, ◌<◌, ◌≤◌, List, length, Option, Some, None, is_some, IsSome, IfSome, option_copied, Bor, IsTrue, refl, sym, ap, ◌∙◌, subst, ⊎_elim, inl, inr, arith}
 use Rattle.std.specs.FinMap.{FinMap, get, contains_key, len}
 use Rattle.std.proofs.lemmas.Bool.{false≢true, cases_order}
 use Rattle.std.proofs.lemmas.List.Elements.{All-nil, All-cons}
 use Rattle.std.proofs.lemmas.Nat.{mod_below}
 use Rattle.std.proofs.Math.Nat.{mod-eq_of_lt}
-use Rattle.judy_model.specs.Keys.{word_order, byte_order, IsByteString, IsBytesKey}
+use Rattle.judy_model.specs.Keys.{word_order, IsByteString, IsBytesKey}
 use Rattle.judy_model.specs.Arrays.{ArrayOf}
 use Rattle.judy_model.specs.WordBytes.{number_of, low_bytes}
-use Rattle.judy_model.specs.Tables.{table, bytes_keys}
 use Rattle.judy_model.proofs.ByteLemmas.{length-low_bytes, number_of-low_bytes}
 use Rattle.judy_model.proofs.TableLemmas.{bytes_keys-all, get-table, table_some}
-use Rattle.judy_hs.specs.Chains.{Pairs, value_in}
 use Rattle.judy_hs.specs.LongGroups.{Long, chain_at, in_chain}
 use Rattle.judy_hs.specs.Groups.{Group, none, short, long, in_group, words_of}
 use Rattle.judy_hs.specs.Keyed.{Keyed, group_at, in_place, words_at}
 use Rattle.judy_hs.specs.Parts.{part_of}
-use Rattle.judy_hs.specs.Kept.{IsShort, IsChain, IsLong, IsGroup, IsKeyed, value_of, map_of}
+use Rattle.judy_hs.specs.Kept.{IsShort, IsLong, IsGroup, IsKeyed, value_of, map_of}
 use Rattle.judy_hs.specs.InnerForm.{HasLength, IsLengths, IsShortGroup, IsLongGroup}
 use Rattle.judy_hs.proofs.ChainLemmas.{some_pair}
 use Rattle.judy_hs.proofs.PartLemmas.{part_short, part_long}
@@ -29,9 +27,9 @@ IsByteString-low_bytes (suc width) word = All-cons (λ byte. byte < 256) (word /
 
 held_is : (map : FinMap word_order ℕ) (word : ℕ) → IsTrue (contains_key map word) → (value : ℕ) × (get map word ≡ Some value)
 held_is map word held = elim (get map word) as (λ found. IsTrue (is_some found) → (value : ℕ) × (found ≡ Some value)) [
-    | None ↦ λ no. absurd (false≢true no)
-    | Some value ↦ λ yes. (value, refl)
-  ] held
+  | None ↦ λ no. absurd (false≢true no)
+  | Some value ↦ λ yes. (value, refl)
+] held
 
 holds : (map : FinMap word_order ℕ) (word value : ℕ) → get map word ≡ Some value → IsTrue (contains_key map word)
 holds map word value held = ap (λ (found : Option ℕ). is_some found) held
@@ -59,9 +57,13 @@ module _ (hash_of : List ℕ → ℕ) (keyed : Keyed) (is : IsKeyed hash_of keye
         let has : length key ≡ n = length-low_bytes n word in
         let few = kept.few in
         let spells : number_of key ≡ word = number_of-low_bytes n word ∙ mod-eq_of_lt (kept.fits word value held) in
-        let short_key : length key ≤ 8 = omega arith in
-        (key, has, spells, led_key n place leads key value (record { is_byte_string = IsByteString-low_bytes n word; within_limit = omega arith }) has
-          (ap (λ group. in_group group (part_of hash_of key) key) at ∙ ap (get words.map) (part_short hash_of key short_key ∙ spells) ∙ held))
+        let short_key : length key ≤ 8 = omega arith in (
+          key,
+          has,
+          spells,
+          led_key n place leads key value (record { is_byte_string = IsByteString-low_bytes n word; within_limit = omega arith }) has
+              (ap (λ group. in_group group (part_of hash_of key) key) at ∙ ap (get words.map) (part_short hash_of key short_key ∙ spells) ∙ held),
+        )
 
     key_word : (word value : ℕ) → ((key : List ℕ) × (length key ≡ n) × (number_of key ≡ word) × (get (map_of hash_of keyed) key ≡ Some value)) → get words.map word ≡ Some value
     key_word word value found =
@@ -85,9 +87,14 @@ module _ (hash_of : List ℕ → ℕ) (keyed : Keyed) (is : IsKeyed hash_of keye
         let many = kept.many in
         let has : length key ≡ n = of.1 in
         let long_key : 8 < length key = omega arith in
-        let within = kept.within in
-        (key, pair.1, has, of.2, led_key n place leads key pair.1 (record { is_byte_string = of.0; within_limit = omega arith }) has
-          (ap (λ group. in_group group (part_of hash_of key) key) at ∙ ap (λ found. in_chain group found key) (ap (get group.hashes.map) (part_long hash_of key long_key ∙ of.2) ∙ e) ∙ pair.2))
+        let within = kept.within in (
+          key,
+          pair.1,
+          has,
+          of.2,
+          led_key n place leads key pair.1 (record { is_byte_string = of.0; within_limit = omega arith }) has
+              (ap (λ group. in_group group (part_of hash_of key) key) at ∙ ap (λ found. in_chain group found key) (ap (get group.hashes.map) (part_long hash_of key long_key ∙ of.2) ∙ e) ∙ pair.2),
+        )
 
     key_hash : (word : ℕ) → ((key : List ℕ) × (value : ℕ) × (length key ≡ n) × (hash_of key ≡ word) × (get (map_of hash_of keyed) key ≡ Some value)) → IsTrue (contains_key group.hashes.map word)
     key_hash word found =
@@ -120,9 +127,9 @@ module _ (hash_of : List ℕ → ℕ) (keyed : Keyed) (is : IsKeyed hash_of keye
 
   pub lengths-are : IsLengths (map_of hash_of keyed) keyed.lengths.map
   lengths-are = λ n. (
-      λ held. let lead = held_is keyed.lengths.map n held in led_length n lead.0 lead.1,
-      λ found. let lead = has_led n found in holds keyed.lengths.map n lead.0 lead.1,
-    )
+    λ held. let lead = held_is keyed.lengths.map n held in led_length n lead.0 lead.1,
+    λ found. let lead = has_led n found in holds keyed.lengths.map n lead.0 lead.1,
+  )
 
   words_some : (n : ℕ) (group : Group) → IsGroup hash_of n group → IsSome (words_of group)
   words_some n none kept = absurd kept
@@ -131,12 +138,12 @@ module _ (hash_of : List ℕ → ℕ) (keyed : Keyed) (is : IsKeyed hash_of keye
 
   pub group-there : (n : ℕ) → IsSome (words_at keyed (get keyed.lengths.map n)) ↔ HasLength (map_of hash_of keyed) n
   group-there n = (
-      elim (get keyed.lengths.map n) as (λ lead. get keyed.lengths.map n ≡ lead → IsSome (words_at keyed lead) → HasLength (map_of hash_of keyed) n) [
-        | None ↦ λ e no. absurd (false≢true no)
-        | Some place ↦ λ e yes. led_length n place e
-      ] refl,
-      λ found. let lead = has_led n found in subst (λ l. IsSome (words_at keyed l)) (sym lead.1) (words_some n (group_at keyed lead.0) (is.groups n lead.0 lead.1)),
-    )
+    elim (get keyed.lengths.map n) as (λ lead. get keyed.lengths.map n ≡ lead → IsSome (words_at keyed lead) → HasLength (map_of hash_of keyed) n) [
+      | None ↦ λ e no. absurd (false≢true no)
+      | Some place ↦ λ e yes. led_length n place e
+    ] refl,
+    λ found. let lead = has_led n found in subst (λ l. IsSome (words_at keyed l)) (sym lead.1) (words_some n (group_at keyed lead.0) (is.groups n lead.0 lead.1)),
+  )
 
   short_form : (n place : ℕ) → get keyed.lengths.map n ≡ Some place → n ≤ 8 → (group : Group) → group_at keyed place ≡ group → IsGroup hash_of n group → IfSome (words_of group) (λ words. IsShortGroup (map_of hash_of keyed) n words.map)
   short_form n place leads few none at kept = tt
@@ -150,15 +157,15 @@ module _ (hash_of : List ℕ → ℕ) (keyed : Keyed) (is : IsKeyed hash_of keye
 
   pub group-short : (n : ℕ) → n ≤ 8 → IfSome (words_at keyed (get keyed.lengths.map n)) (λ words. IsShortGroup (map_of hash_of keyed) n words.map)
   group-short n few = elim (get keyed.lengths.map n) as (λ lead. get keyed.lengths.map n ≡ lead → IfSome (words_at keyed lead) (λ words. IsShortGroup (map_of hash_of keyed) n words.map)) [
-      | None ↦ λ e. tt
-      | Some place ↦ λ e. short_form n place e few (group_at keyed place) refl (is.groups n place e)
-    ] refl
+    | None ↦ λ e. tt
+    | Some place ↦ λ e. short_form n place e few (group_at keyed place) refl (is.groups n place e)
+  ] refl
 
   pub group-long : (n : ℕ) → 8 < n → IfSome (words_at keyed (get keyed.lengths.map n)) (λ words. IsLongGroup hash_of (map_of hash_of keyed) n words.map)
   group-long n many = elim (get keyed.lengths.map n) as (λ lead. get keyed.lengths.map n ≡ lead → IfSome (words_at keyed lead) (λ words. IsLongGroup hash_of (map_of hash_of keyed) n words.map)) [
-      | None ↦ λ e. tt
-      | Some place ↦ λ e. long_form n place e many (group_at keyed place) refl (is.groups n place e)
-    ] refl
+    | None ↦ λ e. tt
+    | Some place ↦ λ e. long_form n place e many (group_at keyed place) refl (is.groups n place e)
+  ] refl
 
 module _ (hash_of : List ℕ → ℕ) (keyed : Keyed) (is : IsKeyed hash_of keyed) where
   told_by : (tell : List ℕ → ℕ) (n : ℕ) → ((key : List ℕ) × (value : ℕ) × (tell key ≡ n) × (get (map_of hash_of keyed) key ≡ Some value)) → (key : List ℕ) × (tell key ≡ n) × IsTrue (contains_key (map_of hash_of keyed) key)
@@ -195,9 +202,9 @@ module _ (hash_of : List ℕ → ℕ) (keyed : Keyed) (is : IsKeyed hash_of keye
 
   limit_words : (n : ℕ) → IfSome (words_at keyed (get keyed.lengths.map n)) (λ words. words.limit ≡ 18446744073709551615)
   limit_words n = elim (get keyed.lengths.map n) as (λ lead. get keyed.lengths.map n ≡ lead → IfSome (words_at keyed lead) (λ words. words.limit ≡ 18446744073709551615)) [
-      | None ↦ λ e. tt
-      | Some place ↦ λ e. group_limit n (group_at keyed place) (is.groups n place e)
-    ] refl
+    | None ↦ λ e. tt
+    | Some place ↦ λ e. group_limit n (group_at keyed place) (is.groups n place e)
+  ] refl
 
   both : (found : Option (ArrayOf word_order)) → IfSome found (λ words. len words.map ≤ len (map_of hash_of keyed)) → IfSome found (λ words. words.limit ≡ 18446744073709551615) → len (map_of hash_of keyed) < 18446744073709551615 → IfSome found (λ words. len words.map < words.limit)
   both None few limit below = tt

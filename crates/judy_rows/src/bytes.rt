@@ -115,7 +115,11 @@ fn long_keys_and_one_hash(rt: HostRuntime) {
         }
     }
     for number in 0..1000u32 {
-        let left = if number % 2 == 1 { None } else { Some(u64::from(number)) };
+        let left = if number % 2 == 1 {
+            None
+        } else {
+            Some(u64::from(number))
+        };
         assert_eq!(rt; array.get(&digits(number)), left);
     }
     assert_eq!(rt; array.free_array(), 500);
