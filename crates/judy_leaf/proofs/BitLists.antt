@@ -1,5 +1,5 @@
 -- The list that a bitmap leaf is.
-use Rattle.std.proofs.Common.{◌≡◌, ℕ, zero, suc, ◌+◌, ◌-◌, ◌*◌, ◌/◌, ◌%◌, ◌<◌, ◌≤◌, Option, Some, None, true, false, cond, List, [], ◌∷◌, length, take, drop, get_or, slice_get, slice_index, filter, is_lt, refl, ap, sym, ◌∙◌, subst, arith, ⊎_elim, get_or-take}
+use Rattle.std.proofs.Common.{◌≡◌, ℕ, ◌+◌, ◌*◌, ◌/◌, ◌<◌, ◌≤◌, Some, None, true, false, cond, List, [], ◌∷◌, length, take, drop, get_or, is_lt, refl, ap, sym, ◌∙◌, subst, arith, get_or-take}
 use Rattle.std.proofs.lemmas.Bool.{false_from_ne_true}
 use Rattle.std.proofs.lemmas.List.{length-take-le, length-drop, get_or-drop}
 use Rattle.std.proofs.lemmas.List.Elements.{All-head, All-tail}
@@ -7,10 +7,9 @@ use Rattle.std.specs.List.{All, AllByRecursion}
 use Rattle.std.proofs.lemmas.Option.{same_Some, slice_get-get_or}
 use Rattle.judy_block.specs.Contents.{Contents}
 use Rattle.judy_model.specs.Keys.{word_order}
-use Rattle.judy_model.proofs.Ascending.{Among, all_among}
+use Rattle.judy_model.proofs.Ascending.{all_among}
 use Rattle.judy_bits.specs.ByteSets as set
 use Rattle.judy_bits.specs.ByteSets.{IsByteSet}
-use Rattle.judy_bits.specs.BitWords.{members_of}
 use Rattle.judy_bits.proofs.SetLemmas.{is_below, filter_all, Among-has}
 use Rattle.judy_bits.proofs.MemberLemmas.{length-members_of-le, members_of-IsByteSet}
 use Rattle.judy_leaf.specs.KeyLists.{KeyList, keys_of, values_of, pairs_of}

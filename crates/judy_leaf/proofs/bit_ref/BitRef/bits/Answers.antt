@@ -1,4 +1,4 @@
-use Rattle.std.proofs.Common.{◌+◌, ◌*◌, ◌≤◌, [], ◌∷◌, length, ap, ◌∙◌, arith}
+use Rattle.std.proofs.Common.{[], ◌∷◌, ap, ◌∙◌, arith}
 use Rattle.judy_bits.specs.BitWords.{members_of}
 use Rattle.judy_leaf.proofs.BitLists.{four_words, bit_keys_are, bit_set}
 use Rattle.judy_leaf.proofs.bit_ref.BitRef.bits.Goals as goal

@@ -1,4 +1,4 @@
-use Rattle.std.proofs.Common.{◌≡◌, ◌≤◌, ◌<◌, ap, sym, subst, ◌∙◌, arith}
+use Rattle.std.proofs.Common.{sym, ◌∙◌, arith}
 use Rattle.judy_leaf.proofs.BitLists.{bit_most, bit_value, bit_no_value, bit_value_inside}
 use Rattle.judy_leaf.proofs.bit_ref.BitRef.value_at.Goals as goal
 
