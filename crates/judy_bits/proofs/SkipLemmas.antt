@@ -1,12 +1,12 @@
 -- The number that skipped bytes spell, from the array that they are kept in.
-use Rattle.std.proofs.Common.{◌≡◌, ℕ, zero, suc, ◌+◌, ◌-◌, ◌*◌, ◌/◌, ◌^◌, ◌<◌, ◌≤◌, List, [], ◌∷◌, ◌++◌, length, take, replicate, get_or, refl, ap, sym, ◌∙◌, arith, subst}
+use Rattle.std.proofs.Common.{◌≡◌, ℕ, zero, suc, ◌+◌, ◌-◌, ◌*◌, ◌/◌, ◌^◌, List, [], ◌∷◌, ◌++◌, length, take, replicate, get_or, refl, ap, sym, ◌∙◌, arith}
 use Rattle.std.specs.Int.{w64, from_be_bytes}
-use Rattle.std.proofs.Math.Nat.{mul_assoc, add-mul-div_right, pow-suc, mul-div_cancel}
+use Rattle.std.proofs.Math.Nat.{mul_assoc, mul-div_cancel}
 use Rattle.std.proofs.lemmas.Nat.{pow-add}
 use Rattle.std.proofs.lemmas.List.{length-append, length-replicate}
 use Rattle.judy_model.specs.WordBytes.{number_of}
 use Rattle.judy_model.proofs.ByteLemmas.{unit_pos}
-use Rattle.judy_bits.specs.Paddings.{IsPadded, padded, padded-take, length-meant}
+use Rattle.judy_bits.specs.Paddings.{IsPadded, padded-take, length-meant}
 use Rattle.judy_bits.proofs.ShiftLemmas.{byte_digits}
 
 -- Eight bytes, the first of them 0, read as a number.

@@ -42,6 +42,20 @@ impl Bits256 {
         Bits256 { words: [0; 4] }
     }
 
+    /// The set of the bytes whose bit is 1 in four words: byte `b` has bit `b mod 64` of word `b / 64`.
+    pub fn of_words(words: [u64; 4]) -> Bits256
+        ensures { result ≡ members_of words }
+    {
+        Bits256 { words }
+    }
+
+    /// The four words whose bits are 1 for the members.
+    pub fn words(&self) -> [u64; 4]
+        ensures { members_of result ≡ self.now }
+    {
+        self.words
+    }
+
     /// Whether the byte is a member.
     pub fn has(&self, byte: u8) -> bool
         ensures { result ≡ set.has self.now byte }

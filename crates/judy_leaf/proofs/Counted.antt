@@ -1,9 +1,9 @@
 -- A rank by counting over all places.
-use Rattle.std.proofs.Common.{◌≡◌, ◌≢◌, ℕ, zero, suc, ◌+◌, ◌-◌, ◌*◌, ◌/◌, ◌%◌, ◌^◌, ◌<◌, ◌≤◌, Bool, true, false, cond, nat_lt, lt-ltb, List, [], ◌∷◌, ◌++◌, length, filter, count_by, take, drop, replicate, get_or, slice_get, Option, Some, None, refl, ap, sym, ◌∙◌, subst, arith}
+use Rattle.std.proofs.Common.{◌≡◌, ◌≢◌, ℕ, zero, suc, ◌+◌, ◌-◌, ◌*◌, ◌<◌, ◌≤◌, Bool, true, false, cond, nat_lt, lt-ltb, List, [], ◌∷◌, ◌++◌, length, filter, count_by, take, drop, replicate, get_or, slice_get, Some, None, refl, ap, sym, ◌∙◌, arith}
 use mir.Val.{bool_byte}
 use Rattle.std.specs.List.Sorted.{IsStrictlySortedBy}
 use Rattle.std.proofs.lemmas.Bool.{false_from_ne_true}
-use Rattle.std.proofs.lemmas.List.{take_more, take_all}
+use Rattle.std.proofs.lemmas.List.{take_more}
 use Rattle.std.proofs.lemmas.List.Sums.{length-filter, sum_by-cons, sum_by-append, sum_by_more, sum_by-take-drop}
 use Rattle.std.proofs.lemmas.List.Folds.{sum_by-replicate}
 use Rattle.std.proofs.lemmas.Option.{slice_get-get_or, slice_get_within, same_Some}
@@ -11,8 +11,8 @@ use Rattle.judy_model.specs.Keys.{word_order}
 use Rattle.judy_model.proofs.WordOrder.{is_lt_word}
 use Rattle.judy_bits.specs.ByteSets.{has, rank, place}
 use Rattle.judy_bits.proofs.SetLemmas.{not_less, has_at, slice_get-rank}
-use Rattle.judy_leaf.specs.Packing.{places, places_of, keys_in, IsPacked, IsWidth}
-use Rattle.judy_leaf.proofs.Placed.{length-places_of, places_of-append}
+use Rattle.judy_leaf.specs.Packing.{places, places_of, IsWidth}
+use Rattle.judy_leaf.proofs.Placed.{places_of-append}
 
 pub byte_of_test : (b : Bool) → bool_byte b ≡ cond b 1 0
 byte_of_test true = refl

@@ -1,9 +1,9 @@
 -- How keys that move from word to word change all places together.
-use Rattle.std.proofs.Common.{◌≡◌, ℕ, zero, suc, ◌+◌, ◌-◌, ◌*◌, ◌/◌, ◌%◌, ◌^◌, ◌<◌, ◌≤◌, List, [], ◌∷◌, ◌++◌, length, take, drop, get_or, refl, ap, sym, ◌∙◌, subst, arith, drop-cons, get_or-take}
+use Rattle.std.proofs.Common.{◌≡◌, ℕ, zero, suc, ◌+◌, ◌-◌, ◌*◌, ◌/◌, ◌%◌, ◌<◌, ◌≤◌, List, [], ◌∷◌, ◌++◌, length, take, drop, get_or, refl, ap, sym, ◌∙◌, subst, arith, drop-cons, get_or-take}
 use Rattle.std.specs.List.{AllByRecursion}
 use Rattle.std.proofs.Math.ListN.{set, length-set}
 use Rattle.std.proofs.lemmas.List.{append_assoc, append-nil, drop-set, take-set, take-take, drop-drop, take-append-drop, length-take-le, length-drop, drop_all, drop-take, get_or_append_left}
-use Rattle.std.proofs.lemmas.Nat.{mod_below, div-add-mod'}
+use Rattle.std.proofs.lemmas.Nat.{div-add-mod'}
 use Rattle.judy_block.specs.Contents.{Contents}
 use Rattle.judy_leaf.specs.Packing.{places, places_of, pushed, pulled, IsTight, IsWidth}
 use Rattle.judy_leaf.specs.Edits.{IsEdit, IsFirstPlace}

@@ -1,12 +1,11 @@
 -- Pairs put in one after another.
-use Rattle.std.proofs.Common.{◌≡◌, ℕ, zero, suc, ◌+◌, ◌-◌, ◌*◌, ◌/◌, ◌<◌, ◌≤◌, List, [], ◌∷◌, ◌++◌, length, take, drop, replicate, get_or, refl, ap, sym, ◌∙◌, subst, arith}
+use Rattle.std.proofs.Common.{◌≡◌, ℕ, zero, suc, ◌+◌, ◌-◌, ◌*◌, ◌/◌, ◌<◌, List, [], ◌∷◌, length, take, replicate, get_or, refl, ap, sym, ◌∙◌, subst, arith}
 use Rattle.std.specs.List.{insert, AllByRecursion}
 use Rattle.std.proofs.Math.Nat.{div-eq_of_lt}
-use Rattle.std.proofs.lemmas.List.{drop_all}
 use Rattle.judy_block.specs.Contents.{Contents}
 use Rattle.judy_leaf.specs.Packing.{IsPacked, IsWidth}
-use Rattle.judy_leaf.specs.KeyLists.{KeyList, keys_of, IsKeyList}
-use Rattle.judy_leaf.specs.Leaves.{words_for, leaf_list, AreKeysFrom}
+use Rattle.judy_leaf.specs.KeyLists.{keys_of}
+use Rattle.judy_leaf.specs.Leaves.{words_for, AreKeysFrom}
 use Rattle.judy_leaf.proofs.Placed.{per_pos}
 
 -- One put after the first ones.

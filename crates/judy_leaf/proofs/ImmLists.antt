@@ -1,10 +1,8 @@
 -- The list that an immediate is, and what a key more or less makes of it.
-use Rattle.std.proofs.Common.{◌≡◌, ℕ, zero, suc, ◌+◌, ◌-◌, ◌*◌, ◌/◌, ◌^◌, ◌<◌, ◌≤◌, ◌==◌, Bool, true, false, cond, List, [], ◌∷◌, length, take, drop, replicate, get_or, refl, ap, sym, ◌∙◌, subst, arith, ⊎_elim}
+use Rattle.std.proofs.Common.{◌≡◌, ℕ, zero, suc, ◌+◌, ◌-◌, ◌*◌, ◌/◌, ◌<◌, ◌≤◌, ◌==◌, false, List, [], ◌∷◌, length, take, replicate, get_or, refl, ap, sym, ◌∙◌, subst, arith}
 use Rattle.std.specs.List.{insert, remove}
 use Rattle.std.specs.List.Sorted.{IsStrictlySortedBy}
-use Rattle.std.proofs.lemmas.Bool.{cases_lt}
 use Rattle.std.proofs.lemmas.List.{length-take-le}
-use Rattle.std.proofs.lemmas.List.Edits.{length-insert}
 use Rattle.judy_model.specs.Keys.{word_order}
 use Rattle.judy_bits.specs.ByteSets as set
 use Rattle.judy_leaf.specs.Packing.{places_of, keys_in, IsPacked, IsWidth}
@@ -13,7 +11,7 @@ use Rattle.judy_leaf.specs.Immediates.{imm_list, imm_room, count_in, keys_part, 
 use Rattle.judy_leaf.proofs.Placed.{per_pos, length-places_of}
 use Rattle.judy_leaf.proofs.KeyEdits.{packed_more}
 use Rattle.judy_leaf.proofs.LeafLists.{keys_of-pairs_of, length-pairs_of, length-keys_of, no_value, value_of, rank_within}
-use Rattle.judy_leaf.proofs.PairLists.{pairs-insert, pairs-insert_none, pairs-remove, pairs-remove_none, ascending-insert, ascending-remove}
+use Rattle.judy_leaf.proofs.PairLists.{pairs-insert_none, pairs-remove, pairs-remove_none, ascending-insert, ascending-remove}
 
 zero_of : (words : ℕ) → words ≤ 1 → (words ≡ 1 → ⊥) → words ≡ 0
 zero_of zero most apart = refl

@@ -2,17 +2,17 @@
 use Rattle.std.proofs.Common.{◌≡◌, ℕ, zero, suc, ◌+◌, ◌-◌, ◌*◌, ◌/◌, ◌%◌, ◌^◌, ◌<◌, ◌≤◌, List, [], ◌∷◌, ◌++◌, length, take, drop, replicate, refl, ap, sym, ◌∙◌, subst, arith}
 use Rattle.std.specs.List.{AllByRecursion, insert, remove}
 use Rattle.std.proofs.Math.Nat.{div-eq_of_lt, mod-eq_of_lt}
-use Rattle.std.proofs.lemmas.List.{append_assoc, append-nil, take-append-le, drop-append-le, length-append, length-drop, length-take, length-take-le, length-replicate, drop_all, take-append-drop, drop-take, take-take}
+use Rattle.std.proofs.lemmas.List.{append-nil, take-append-le, drop-append-le, length-append, length-drop, length-take-le, drop_all, take-append-drop, drop-take, take-take}
 use Rattle.judy_block.specs.Contents.{Contents, with_gap, without_gap}
 use Rattle.judy_leaf.specs.Packing.{digits, places, places_of, keys_in, pushed, pulled, IsPacked, IsTight, IsWidth}
 use Rattle.judy_leaf.specs.Edits.{IsEdit}
 use Rattle.judy_leaf.specs.Leaves.{words_for, keys_from, AreKeysFrom}
-use Rattle.judy_leaf.specs.KeyChanges.{IsKeyChange, HasPlace, HasPlaceFor}
+use Rattle.judy_leaf.specs.KeyChanges.{IsKeyChange, HasPlace}
 use Rattle.judy_leaf.proofs.Digits.{power_pos}
 use Rattle.judy_leaf.proofs.WordSteps.{base_pos}
-use Rattle.judy_leaf.proofs.Placed.{per_pos, length-places, length-places_of, places_of-append}
+use Rattle.judy_leaf.proofs.Placed.{length-places_of, places_of-append}
 use Rattle.judy_leaf.proofs.ListEdits.{take-pushed, drop-pushed, take-pulled, drop-pulled, front_of_zeros}
-use Rattle.judy_leaf.proofs.WordsFor.{enough, no_more, words_grow, words_by_one}
+use Rattle.judy_leaf.proofs.WordsFor.{enough, words_grow, words_by_one}
 
 replicate-add : (first second x : ℕ) → replicate first x ++ replicate second x ≡ replicate (first + second) x
 replicate-add zero second x = ap (λ n. replicate n x) (let e : second ≡ 0 + second = omega arith in e)

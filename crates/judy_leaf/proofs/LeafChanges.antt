@@ -1,5 +1,5 @@
 -- What a pair more or less in its block makes of a leaf.
-use Rattle.std.proofs.Common.{◌≡◌, ℕ, zero, suc, ◌+◌, ◌-◌, ◌*◌, ◌<◌, ◌≤◌, false, List, length, take, drop, refl, ap, sym, ◌∙◌, subst, arith}
+use Rattle.std.proofs.Common.{◌≡◌, ℕ, ◌+◌, ◌*◌, ◌≤◌, false, take, drop, ap, sym, ◌∙◌, subst, arith}
 use Rattle.std.specs.List.{insert, remove}
 use Rattle.std.specs.List.Sorted.{IsStrictlySortedBy}
 use Rattle.judy_block.specs.Contents.{Contents}
@@ -7,7 +7,7 @@ use Rattle.judy_model.specs.Keys.{word_order}
 use Rattle.judy_bits.specs.ByteSets as set
 use Rattle.judy_leaf.specs.Packing.{keys_in}
 use Rattle.judy_leaf.specs.KeyLists.{KeyList, keys_of, pairs_of, with_pair}
-use Rattle.judy_leaf.specs.Leaves.{words_for, keys_from, leaf_list, AreKeysFrom, IsLeafParts}
+use Rattle.judy_leaf.specs.Leaves.{keys_from, leaf_list, AreKeysFrom, IsLeafParts}
 use Rattle.judy_leaf.specs.PairChanges.{IsPairPut, IsPairTaken, HasRoom}
 use Rattle.judy_leaf.proofs.LeafLists.{leaf_keys, length-keys_from}
 use Rattle.judy_leaf.proofs.PairLists.{ascending-insert, ascending-remove}

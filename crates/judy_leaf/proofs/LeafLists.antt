@@ -1,12 +1,12 @@
 -- The list that a leaf is, from its keys and values.
-use Rattle.std.proofs.Common.{◌≡◌, ℕ, zero, suc, ◌+◌, ◌-◌, ◌*◌, ◌/◌, ◌<◌, ◌≤◌, List, [], ◌∷◌, ◌++◌, length, take, drop, get_or, slice_index, replicate, refl, ap, sym, ◌∙◌, subst, arith, get_or-take}
+use Rattle.std.proofs.Common.{◌≡◌, ℕ, zero, suc, ◌*◌, ◌<◌, ◌≤◌, List, [], ◌∷◌, length, take, drop, get_or, refl, ap, sym, ◌∙◌, subst, arith, get_or-take}
 use Rattle.std.proofs.lemmas.List.{length-take-le}
 use Rattle.judy_model.proofs.Places.{length-filter-le}
 use Rattle.judy_block.specs.Contents.{Contents}
 use Rattle.judy_bits.specs.ByteSets as set
-use Rattle.judy_leaf.specs.Packing.{places_of, keys_in, IsPacked}
+use Rattle.judy_leaf.specs.Packing.{places_of}
 use Rattle.judy_leaf.specs.KeyLists.{KeyList, keys_of, values_of, pairs_of}
-use Rattle.judy_leaf.specs.Leaves.{words_for, keys_from, AreKeysFrom, IsLeafParts, leaf_list}
+use Rattle.judy_leaf.specs.Leaves.{keys_from, AreKeysFrom, IsLeafParts, leaf_list}
 use Rattle.judy_leaf.proofs.Placed.{length-places_of}
 
 pub keys_of-pairs_of : (keys values : List ℕ) → keys_of (pairs_of keys values) ≡ keys

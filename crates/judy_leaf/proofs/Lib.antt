@@ -14,3 +14,4 @@ pub mod LeafChanges
 pub mod Filled
 pub mod ImmLists
 pub mod SlotSteps
+pub mod BitLists

@@ -1,13 +1,13 @@
 -- Pairs of keys and values with one more or less.
-use Rattle.std.proofs.Common.{◌≡◌, ◌≢◌, ℕ, zero, suc, ◌+◌, ◌-◌, ◌<◌, ◌≤◌, ◌==◌, Bool, false, not, List, [], ◌∷◌, ◌++◌, length, take, drop, get_or, set, slice_get, Some, refl, ap, sym, ◌∙◌, subst, arith}
+use Rattle.std.proofs.Common.{◌≡◌, ℕ, zero, suc, ◌<◌, ◌≤◌, ◌==◌, false, not, List, [], ◌∷◌, length, get_or, refl, ap, subst, arith}
 use Rattle.std.specs.List.{insert, remove}
 use Rattle.std.specs.List.Sorted.{IsStrictlySortedBy}
 use Rattle.std.proofs.lemmas.Option.{slice_get-get_or}
 use Rattle.judy_model.specs.Keys.{word_order}
 use Rattle.judy_model.proofs.Ascending.{ascending-filter}
-use Rattle.judy_bits.specs.ByteSets.{has, rank, without_byte}
+use Rattle.judy_bits.specs.ByteSets.{has, rank}
 use Rattle.judy_bits.proofs.SetLemmas.{with_other, with_byte-ascending, without_at}
-use Rattle.judy_leaf.specs.KeyLists.{keys_of, pairs_of}
+use Rattle.judy_leaf.specs.KeyLists.{pairs_of}
 
 pub pairs-insert : (keys values : List ℕ) (at key value : ℕ) → length values ≡ length keys → at ≤ length keys → pairs_of (insert keys at key) (insert values at value) ≡ insert (pairs_of keys values) at (key, value)
 pairs-insert keys values zero key value same place = refl

@@ -1,10 +1,10 @@
 -- A pair more in the block of a leaf, or one less, from what happens to its values and to its keys.
-use Rattle.std.proofs.Common.{◌≡◌, ℕ, zero, suc, ◌+◌, ◌-◌, ◌*◌, ◌<◌, ◌≤◌, List, [], length, take, drop, refl, ap, sym, ◌∙◌, subst, arith}
+use Rattle.std.proofs.Common.{◌≡◌, ℕ, ◌+◌, ◌*◌, ◌≤◌, [], length, take, ap, sym, ◌∙◌, subst, arith}
 use Rattle.std.specs.List.{insert, remove}
 use Rattle.std.proofs.lemmas.List.{length-take-le}
 use Rattle.judy_block.specs.Contents.{Contents}
 use Rattle.judy_leaf.specs.KeyLists.{pairs_of}
-use Rattle.judy_leaf.specs.Leaves.{words_for, keys_from, leaf_list, AreKeysFrom}
+use Rattle.judy_leaf.specs.Leaves.{keys_from, AreKeysFrom}
 use Rattle.judy_leaf.specs.KeyChanges.{IsKeyChange}
 use Rattle.judy_leaf.specs.ValueChanges.{IsValueChange}
 use Rattle.judy_leaf.specs.PairChanges.{IsPairPut, IsPairTaken}

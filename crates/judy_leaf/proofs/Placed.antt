@@ -1,9 +1,9 @@
 -- The places of words in a row: how many there are, and what stands in one.
-use Rattle.std.proofs.Common.{◌≡◌, ℕ, zero, suc, ◌+◌, ◌-◌, ◌*◌, ◌/◌, ◌%◌, ◌^◌, ◌<◌, ◌≤◌, List, [], ◌∷◌, ◌++◌, length, take, drop, get_or, refl, ap, sym, ◌∙◌, subst, arith}
-use Rattle.std.proofs.Math.Nat.{lt-div-mul-add, mul-div-le, mul_comm}
+use Rattle.std.proofs.Common.{◌≡◌, ℕ, zero, suc, ◌+◌, ◌-◌, ◌*◌, ◌/◌, ◌%◌, ◌^◌, ◌<◌, ◌≤◌, List, [], ◌∷◌, ◌++◌, length, get_or, refl, ap, sym, ◌∙◌, arith}
+use Rattle.std.proofs.Math.Nat.{lt-div-mul-add}
 use Rattle.std.proofs.lemmas.Nat.{mod_below, div_below, div-add-mod'}
-use Rattle.std.proofs.lemmas.List.{append_assoc, length-append, take_more, get_or_append_left, get_or-append_right}
-use Rattle.judy_leaf.specs.Packing.{digits, places, places_of, IsWidth}
+use Rattle.std.proofs.lemmas.List.{append_assoc, length-append, get_or_append_left, get_or-append_right}
+use Rattle.judy_leaf.specs.Packing.{places, places_of, IsWidth}
 use Rattle.judy_leaf.proofs.Digits.{length-digits}
 use Rattle.judy_leaf.proofs.WordSteps.{base_pos}
 

@@ -1,13 +1,13 @@
 -- Another value at a place.
-use Rattle.std.proofs.Common.{◌≡◌, ℕ, zero, suc, ◌+◌, ◌-◌, ◌*◌, ◌<◌, ◌≤◌, List, [], ◌∷◌, length, take, drop, get_or, set, refl, ap, sym, ◌∙◌, subst, arith}
+use Rattle.std.proofs.Common.{◌≡◌, ℕ, zero, suc, ◌*◌, ◌<◌, List, [], ◌∷◌, length, take, drop, set, refl, ap, sym, ◌∙◌, subst, arith}
 use Rattle.std.specs.List.Sorted.{IsStrictlySortedBy}
 use Rattle.std.proofs.lemmas.List.{drop-set-lt, length-set, length-take-le}
 use Rattle.std.proofs.Math.Seq.{take-set-lt}
 use Rattle.judy_model.specs.Keys.{word_order}
 use Rattle.judy_block.specs.Contents.{Contents}
 use Rattle.judy_leaf.specs.Packing.{keys_in, IsPacked}
-use Rattle.judy_leaf.specs.KeyLists.{KeyList, keys_of, pairs_of, valued, with_value_at}
-use Rattle.judy_leaf.specs.Leaves.{words_for, keys_from, leaf_list, AreKeysFrom, IsLeafParts}
+use Rattle.judy_leaf.specs.KeyLists.{KeyList, pairs_of, valued, with_value_at}
+use Rattle.judy_leaf.specs.Leaves.{keys_from, leaf_list, IsLeafParts}
 use Rattle.judy_leaf.specs.Immediates.{imm_list, IsImm}
 use Rattle.judy_leaf.proofs.LeafLists.{length-keys_from}
 use Rattle.judy_leaf.proofs.ImmLists.{imm_length, length-keys_in}

@@ -1,10 +1,9 @@
 -- Values that come or go before the keys.
-use Rattle.std.proofs.Common.{◌≡◌, ℕ, zero, suc, ◌+◌, ◌-◌, ◌<◌, ◌≤◌, List, [], ◌∷◌, ◌++◌, length, take, drop, replicate, get_or, set, refl, ap, sym, ◌∙◌, subst, arith}
+use Rattle.std.proofs.Common.{◌≡◌, ℕ, zero, suc, ◌+◌, ◌<◌, ◌≤◌, List, [], ◌∷◌, ◌++◌, length, take, drop, set, refl, ap, sym, ◌∙◌, subst, arith}
 use Rattle.std.specs.List.{insert, remove}
-use Rattle.std.proofs.Math.ListN.{length-set}
 use Rattle.judy_block.specs.Contents.{Contents, with_gap, without_gap}
 use Rattle.judy_leaf.specs.Packing.{keys_in, IsPacked}
-use Rattle.judy_leaf.specs.Leaves.{words_for, keys_from, AreKeysFrom}
+use Rattle.judy_leaf.specs.Leaves.{words_for, AreKeysFrom}
 use Rattle.judy_leaf.specs.ValueChanges.{IsValueChange}
 
 -- A word put in.

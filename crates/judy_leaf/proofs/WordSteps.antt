@@ -1,7 +1,7 @@
 -- The steps on one word of packed keys, and what they make of its places.
-use Rattle.std.proofs.Common.{◌≡◌, ℕ, zero, suc, ◌+◌, ◌-◌, ◌*◌, ◌/◌, ◌%◌, ◌^◌, ◌<◌, ◌≤◌, List, length, get_or, slice_index, refl, ap, sym, ◌∙◌, subst, arith}
-use Rattle.std.proofs.Math.Nat.{pow-le-pow_right, mul-div-le, mul-le-mul_left, mul_comm, pow-zero, pow-suc, le-mul_of_pos_right}
-use Rattle.std.proofs.lemmas.Nat.{pow-add, mod_below}
+use Rattle.std.proofs.Common.{◌≡◌, ℕ, zero, suc, ◌+◌, ◌-◌, ◌*◌, ◌/◌, ◌%◌, ◌^◌, ◌<◌, ◌≤◌, List, length, get_or, ap, sym, ◌∙◌, subst, arith}
+use Rattle.std.proofs.Math.Nat.{pow-le-pow_right, mul-div-le, mul-le-mul_left, pow-zero, pow-suc, le-mul_of_pos_right}
+use Rattle.std.proofs.lemmas.Nat.{pow-add}
 use Rattle.judy_leaf.specs.Packing.{digits, places, IsTight, IsWidth, pushed, pulled}
 use Rattle.judy_leaf.proofs.Digits.{power_pos, number, AreDigits, length-digits, digits-AreDigits, number-digits, digits-number, number-lt, digit_at, length-pushed, pushed-AreDigits, number-pushed, length-pulled, pulled-AreDigits, number-pulled}
 

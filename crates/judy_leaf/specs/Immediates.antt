@@ -1,8 +1,8 @@
 -- How an immediate lies in the node: keys packed into one word, and a value.
-use Rattle.std.specs.Prelude.{◌≡◌, ℕ, ◌+◌, ◌*◌, ◌/◌, ◌≤◌, ◌==◌, if◌then◌else◌, List, [], ◌∷◌, take}
+use Rattle.std.specs.Prelude.{◌≡◌, ℕ, ◌*◌, ◌/◌, ◌≤◌, ◌==◌, if◌then◌else◌, List, [], ◌∷◌, take}
 use Rattle.std.specs.List.Sorted.{IsStrictlySortedBy}
 use Rattle.judy_model.specs.Keys.{word_order}
-use Rattle.judy_leaf.specs.Packing.{keys_in, IsPacked, IsWidth}
+use Rattle.judy_leaf.specs.Packing.{keys_in, IsPacked}
 use Rattle.judy_leaf.specs.KeyLists.{KeyList, pairs_of}
 
 -- How many keys an immediate holds: one where keys have a value, else as many as fit into a word.

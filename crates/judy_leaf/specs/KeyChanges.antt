@@ -1,7 +1,7 @@
 -- A change of the keys of a leaf in its block.
 use Rattle.std.specs.Prelude.{◌≡◌, ℕ, ◌+◌, ◌-◌, List, length, take, drop}
 use Rattle.judy_block.specs.Contents.{Contents}
-use Rattle.judy_leaf.specs.Packing.{keys_in, IsPacked}
+use Rattle.judy_leaf.specs.Packing.{IsPacked}
 use Rattle.judy_leaf.specs.Leaves.{words_for, keys_from, AreKeysFrom}
 
 -- The keys from a word on are changed, as is their number, and what stands before them stays.

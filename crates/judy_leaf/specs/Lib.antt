@@ -6,3 +6,4 @@ pub mod KeyChanges
 pub mod ValueChanges
 pub mod PairChanges
 pub mod Immediates
+pub mod BitLeaves

@@ -1,5 +1,5 @@
 -- A pair more in the block of a leaf, or one less.
-use Rattle.std.specs.Prelude.{◌≡◌, ℕ, ◌+◌, ◌-◌, ◌*◌, ◌≤◌}
+use Rattle.std.specs.Prelude.{◌≡◌, ℕ, ◌+◌, ◌*◌, ◌≤◌}
 use Rattle.std.specs.List.{insert, remove}
 use Rattle.judy_block.specs.Contents.{Contents}
 use Rattle.judy_leaf.specs.Leaves.{keys_from, leaf_list, AreKeysFrom}

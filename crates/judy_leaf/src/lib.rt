@@ -5,13 +5,16 @@
 //! into its eight bytes. An [`Imm`] holds as many keys as fit into one word, or one key with its value, and asks for no memory. In a node
 //! they stand as their parts: a leaf as its number of keys and its block, whose tag is the width; an immediate as two words. So both
 //! are made of their parts and taken apart again where they change, and [`LeafRef`] reads a leaf where its parts stand. An immediate is read as
-//! itself.
+//! itself. A [`BitLeaf`] has up to 256 one-byte keys as bits in one block, before their values; so far it is made of its block, taken apart
+//! and read by [`BitRef`].
 //!
 //! place.rt has the places of one word, for a width that is known when a program is compiled; packed.rt searches words, and edit.rt
 //! changes those of a block, place by place. keys.rt and one_word.rt know the width at run time and hand on to these. values.rt and pairs.rt put
 //! values beside the keys. The crate stands on judy_model, judy_bits and judy_block; the nodes of the tree stand on it.
 #![tactic(auto)]
 
+mod bit_leaf;
+mod bit_ref;
 mod edit;
 mod imm;
 mod keys;
@@ -24,6 +27,8 @@ mod place;
 mod values;
 mod words;
 
+pub use bit_leaf::{BitLeaf, BitLeafOf};
+pub use bit_ref::BitRef;
 pub use imm::{Imm, ImmOf};
 pub use leaf::{Leaf, LeafOf};
 pub use leaf_ref::LeafRef;

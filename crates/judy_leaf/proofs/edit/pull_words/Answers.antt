@@ -1,4 +1,4 @@
-use Rattle.std.proofs.Common.{◌≡◌, ℕ, zero, ◌+◌, ◌-◌, ◌/◌, ◌^◌, ◌<◌, drop, slice_index, ap, sym, subst, ◌∙◌, arith, refl}
+use Rattle.std.proofs.Common.{◌≡◌, zero, ◌+◌, ◌-◌, drop, slice_index, ap, sym, subst, ◌∙◌, arith, refl}
 use Rattle.judy_leaf.specs.Packing.{places, pulled, IsTight}
 use Rattle.judy_leaf.specs.Edits.{IsEdit, IsFirstPlace}
 use Rattle.judy_leaf.proofs.Placed.{per_pos}

@@ -2,7 +2,7 @@ use Rattle.std.proofs.Common.{◌≡◌, ℕ, zero, ◌+◌, ◌-◌, ◌/◌, s
 use Rattle.judy_leaf.specs.Packing.{places, pushed, IsTight}
 use Rattle.judy_leaf.specs.Edits.{IsEdit}
 use Rattle.judy_leaf.proofs.Placed.{per_pos}
-use Rattle.judy_leaf.proofs.EditSteps.{push_one, tight_at, not_yet, no_word}
+use Rattle.judy_leaf.proofs.EditSteps.{push_one, tight_at, not_yet}
 use Rattle.judy_leaf.proofs.edit.push_words.Goals as goal
 
 pub with_key-here-requires-clause-tight : goal.with_key-here-requires-clause-tight

@@ -1,4 +1,4 @@
-use Rattle.std.proofs.Common.{◌≡◌, ◌+◌, ◌<◌, ap, sym, subst, ◌∙◌, arith}
+use Rattle.std.proofs.Common.{◌+◌, ◌<◌, ap, sym, subst, arith}
 use Rattle.judy_block.specs.Contents.{with_gap}
 use Rattle.judy_leaf.specs.Leaves.{words_for}
 use Rattle.judy_leaf.specs.KeyChanges.{HasPlace}

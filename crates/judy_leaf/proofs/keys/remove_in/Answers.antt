@@ -1,4 +1,4 @@
-use Rattle.std.proofs.Common.{◌≡◌, ℕ, ◌+◌, ◌-◌, ◌<◌, ◌≤◌, ap, sym, subst, ◌∙◌, arith}
+use Rattle.std.proofs.Common.{◌≡◌, ◌+◌, ◌-◌, ap, sym, subst, ◌∙◌, arith}
 use Rattle.std.specs.List.{remove}
 use Rattle.judy_leaf.specs.Leaves.{AreKeysFrom, keys_from}
 use Rattle.judy_leaf.proofs.KeyEdits.{key_taken}

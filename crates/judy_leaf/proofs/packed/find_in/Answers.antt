@@ -1,4 +1,4 @@
-use Rattle.std.proofs.Common.{◌≡◌, ◌<◌, length, get_or, get_or-take, sym, ◌∙◌, arith}
+use Rattle.std.proofs.Common.{get_or-take, sym, ◌∙◌, arith}
 use Rattle.std.proofs.lemmas.List.{length-take}
 use Rattle.judy_leaf.specs.Packing.{places_of, keys_in}
 use Rattle.judy_leaf.proofs.Counted.{place-there, place-none}

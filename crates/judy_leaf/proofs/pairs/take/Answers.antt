@@ -1,6 +1,5 @@
-use Rattle.std.proofs.Common.{◌≡◌, ℕ, ◌+◌, ◌-◌, ◌*◌, ◌≤◌, sym, subst, ◌∙◌, arith}
+use Rattle.std.proofs.Common.{◌≡◌, ◌+◌, ◌-◌, ◌*◌, sym, subst, ◌∙◌, arith}
 use Rattle.std.specs.List.{remove}
-use Rattle.judy_block.specs.Contents.{Contents}
 use Rattle.judy_leaf.specs.Leaves.{AreKeysFrom}
 use Rattle.judy_leaf.specs.KeyChanges.{IsKeyChange}
 use Rattle.judy_leaf.specs.ValueChanges.{IsValueChange}

@@ -1,4 +1,4 @@
-use Rattle.std.proofs.Common.{◌+◌, ◌*◌, ◌^◌, ◌<◌, ap, sym, subst, arith}
+use Rattle.std.proofs.Common.{◌+◌, ◌*◌, ◌^◌, ◌<◌, sym, subst, arith}
 use Rattle.judy_leaf.proofs.WordSteps.{put_fits, put_all, put_word, put_places, put_tight}
 use Rattle.judy_leaf.proofs.place.with_key.Goals as goal
 

@@ -1,4 +1,4 @@
-use Rattle.std.proofs.Common.{◌+◌, ◌*◌, ◌^◌, ◌<◌, ap, sym, subst, arith}
+use Rattle.std.proofs.Common.{◌+◌, ◌*◌, ◌^◌, ◌<◌, sym, subst, arith}
 use Rattle.judy_leaf.proofs.WordSteps.{left_fits, left_all, left_word, left_places, left_tight}
 use Rattle.judy_leaf.proofs.place.without_key.Goals as goal
 

@@ -1,4 +1,4 @@
-use Rattle.std.proofs.Common.{◌≡◌, ◌+◌, ℕ, List, sym, subst, ap, set, ◌∙◌, refl}
+use Rattle.std.proofs.Common.{◌+◌, sym, subst, ap, set, ◌∙◌, refl}
 use Rattle.std.specs.List.{insert}
 use Rattle.judy_block.specs.Contents.{Contents, with_gap}
 use Rattle.judy_leaf.specs.ValueChanges.{IsValueChange}

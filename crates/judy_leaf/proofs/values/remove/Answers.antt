@@ -1,4 +1,4 @@
-use Rattle.std.proofs.Common.{◌≡◌, ◌+◌, ◌-◌, ◌≤◌, ℕ, List, sym, subst, ap, ◌∙◌, refl, arith}
+use Rattle.std.proofs.Common.{◌≡◌, ◌+◌, ◌-◌, sym, subst, refl, arith}
 use Rattle.std.specs.List.{remove}
 use Rattle.judy_block.specs.Contents.{without_gap}
 use Rattle.judy_leaf.specs.Leaves.{AreKeysFrom}

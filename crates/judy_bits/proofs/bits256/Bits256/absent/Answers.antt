@@ -1,4 +1,4 @@
-use Rattle.std.proofs.Common.{◌≡◌, ℕ, zero, suc, ◌^◌, ◌<◌, slice_index, ap, ◌∙◌, arith}
+use Rattle.std.proofs.Common.{ℕ, zero, suc, ◌^◌, ◌<◌, slice_index, ap, ◌∙◌, arith}
 use Rattle.judy_bits.specs.ByteSets.{absent}
 use Rattle.judy_bits.proofs.AbsentLemmas.{members_of-absent}
 use Rattle.judy_bits.proofs.bits256.Bits256.absent.Goals as goal

@@ -1,4 +1,4 @@
-use Rattle.std.proofs.Common.{◌≡◌, ℕ, ◌+◌, ◌<◌, ◌≤◌, ap, sym, subst, ◌∙◌, arith}
+use Rattle.std.proofs.Common.{◌+◌, ◌≤◌, sym, subst, ◌∙◌}
 use Rattle.std.specs.List.{insert}
 use Rattle.judy_leaf.specs.Immediates.{IsWordChange}
 use Rattle.judy_leaf.proofs.ImmLists.{imm_length, imm_put, room_within}

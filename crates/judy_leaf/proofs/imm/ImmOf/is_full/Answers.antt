@@ -1,4 +1,4 @@
-use Rattle.std.proofs.Common.{◌≡◌, ◌≤◌, arith}
+use Rattle.std.proofs.Common.{arith}
 use Rattle.judy_leaf.proofs.ImmLists.{full_without}
 use Rattle.judy_leaf.proofs.imm.ImmOf.is_full.Goals as goal
 

@@ -1,4 +1,4 @@
-use Rattle.std.proofs.Common.{◌≡◌, ℕ, ◌<◌, ◌≤◌, slice_index, ap, sym, subst, ◌∙◌, arith}
+use Rattle.std.proofs.Common.{◌<◌, slice_index, ap, sym, subst, ◌∙◌}
 use Rattle.judy_leaf.proofs.ImmLists.{imm_keys, imm_length}
 use Rattle.judy_leaf.proofs.imm.ImmOf.key_at.Goals as goal
 

@@ -1,4 +1,4 @@
-use Rattle.std.proofs.Common.{◌≡◌, ℕ, ◌<◌, ◌≤◌, slice_index, ap, sym, subst, ◌∙◌, arith}
+use Rattle.std.proofs.Common.{sym, ◌∙◌}
 use Rattle.judy_leaf.proofs.ImmLists.{imm_length}
 use Rattle.judy_leaf.proofs.imm.ImmOf.len.Goals as goal
 

@@ -1,4 +1,3 @@
-use Rattle.std.proofs.Common.{◌≡◌, ℕ, ◌<◌, ◌≤◌, slice_index, ap, sym, subst, ◌∙◌, arith}
 use Rattle.judy_leaf.proofs.ImmLists.{imm_empty}
 use Rattle.judy_leaf.proofs.imm.ImmOf.new.Goals as goal
 

@@ -1,4 +1,4 @@
-use Rattle.std.proofs.Common.{◌≡◌, ℕ, ◌<◌, ◌≤◌, slice_index, ap, sym, subst, ◌∙◌, arith}
+use Rattle.std.proofs.Common.{ap, ◌∙◌}
 use Rattle.judy_bits.specs.ByteSets as set
 use Rattle.judy_leaf.proofs.ImmLists.{imm_keys, imm_rank}
 use Rattle.judy_leaf.proofs.imm.ImmOf.rank.Goals as goal

@@ -1,4 +1,4 @@
-use Rattle.std.proofs.Common.{◌≡◌, ℕ, ◌<◌, ◌≤◌, slice_index, ap, sym, subst, ◌∙◌, arith}
+use Rattle.std.proofs.Common.{sym, ◌∙◌, arith}
 use Rattle.judy_leaf.proofs.ImmLists.{imm_value, imm_no_value}
 use Rattle.judy_leaf.proofs.imm.ImmOf.value_at.Goals as goal
 

@@ -1,9 +1,8 @@
-use Rattle.std.proofs.Common.{◌≡◌, ℕ, ◌*◌, length, ap, sym, subst, ◌∙◌}
-use Rattle.std.proofs.lemmas.List.{take_all}
+use Rattle.std.proofs.Common.{◌*◌, length, ap, sym, subst, ◌∙◌}
 use Rattle.std.specs.List.Sorted.{IsStrictlySortedBy}
 use Rattle.judy_model.specs.Keys.{word_order}
 use Rattle.judy_leaf.specs.KeyLists.{keys_of}
-use Rattle.judy_leaf.specs.Leaves.{AreKeysFrom, keys_from, leaf_list}
+use Rattle.judy_leaf.specs.Leaves.{AreKeysFrom, keys_from}
 use Rattle.judy_leaf.proofs.LeafLists.{keys_of-pairs_of}
 use Rattle.judy_leaf.proofs.leaf.LeafOf.from_sorted.Goals as goal
 

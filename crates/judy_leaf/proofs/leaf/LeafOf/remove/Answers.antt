@@ -1,4 +1,4 @@
-use Rattle.std.proofs.Common.{◌≡◌, ℕ, ◌+◌, ◌-◌, ◌<◌, ◌≤◌, length, ap, sym, subst, ◌∙◌, arith}
+use Rattle.std.proofs.Common.{◌≡◌, ◌+◌, ◌-◌, ◌<◌, ap, sym, subst, ◌∙◌, arith}
 use Rattle.judy_leaf.specs.Leaves.{IsLeafParts, leaf_list}
 use Rattle.judy_leaf.specs.PairChanges.{IsPairTaken}
 use Rattle.judy_leaf.proofs.LeafLists.{read_length}

@@ -1,4 +1,4 @@
-use Rattle.std.proofs.Common.{◌≡◌, ℕ, ◌<◌, slice_index, subst, refl, ap, ◌∙◌}
+use Rattle.std.proofs.Common.{◌<◌, subst, refl}
 use Rattle.judy_leaf.proofs.LeafLists.{read_length, read_value, value_inside}
 use Rattle.judy_leaf.proofs.SlotSteps.{leaf_valued, leaf_written}
 use Rattle.judy_leaf.proofs.leaf.LeafOf.slot_at.Goals as goal

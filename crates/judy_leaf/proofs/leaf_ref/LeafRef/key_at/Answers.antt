@@ -1,4 +1,4 @@
-use Rattle.std.proofs.Common.{◌<◌, slice_index, ap, sym, subst, ◌∙◌, arith}
+use Rattle.std.proofs.Common.{◌<◌, slice_index, ap, sym, subst, ◌∙◌}
 use Rattle.judy_leaf.proofs.LeafLists.{read_keys, read_length}
 use Rattle.judy_leaf.proofs.leaf_ref.LeafRef.key_at.Goals as goal
 

@@ -1,4 +1,4 @@
-use Rattle.std.proofs.Common.{◌≡◌, ℕ, zero, suc, ◌≤◌, ◌≢◌, sym, ◌∙◌, arith}
+use Rattle.std.proofs.Common.{sym, ◌∙◌, arith}
 use Rattle.judy_leaf.proofs.LeafLists.{read_value, read_no_value, value_inside}
 use Rattle.judy_leaf.proofs.leaf_ref.LeafRef.value_at.Goals as goal
 

@@ -1,0 +1,148 @@
+//! The reading of a bitmap leaf whose block stands in a node.
+
+ghost use Rattle.std.specs.Prelude.{◌≡◌, ◌<◌, ◌≤◌, ◌==◌, length, slice_index};
+ghost use Rattle.judy_bits.specs.ByteSets as set;
+ghost use Rattle.judy_bits.specs.ByteSets.{IsByteSet};
+ghost use Rattle.judy_leaf.specs.KeyLists.{keys_of, values_of};
+ghost use Rattle.judy_leaf.specs.BitLeaves.{IsBitParts, bit_list};
+
+use crate::words::Words;
+use judy_bits::Bits256;
+use judy_block::Block;
+use std::marker::{Model, PhantomData};
+
+/// A bitmap leaf as it is read.
+#[derive(Drop)]
+pub struct BitRef<'a, V: Words + Drop> {
+    block: &'a Block,
+    words: PhantomData<V>,
+}
+
+impl<'a, V: Words + Drop> Model for BitRef<'a, V> {
+    ghost use Rattle.judy_leaf.specs.KeyLists.{KeyList};
+
+    ghost Value = { KeyList };
+
+    ghost use Rattle.judy_leaf.specs.BitLeaves.{bit_list, IsBitParts};
+
+    ghost view = { λ l. bit_list V.WORDS l.block.now };
+
+    ghost invariant = { λ l. IsBitParts V.WORDS l.block.now };
+}
+
+impl<'a, V: Words + Drop> BitRef<'a, V> {
+    /// The bitmap leaf of a block.
+    pub fn new(block: &'a Block) -> BitRef<'a, V>
+        requires { IsBitParts V.WORDS block.now }
+        ensures { result ≡ bit_list V.WORDS block.now }
+    {
+        BitRef {
+            block,
+            words: PhantomData,
+        }
+    }
+
+    // The keys.
+    fn bits(&self) -> Bits256
+        ensures value { result ≡ keys_of self.now.pairs }
+        ensures is_set { IsByteSet (keys_of self.now.pairs) }
+    {
+        let first = self.block.get(0);
+        let second = self.block.get(1);
+        let third = self.block.get(2);
+        let fourth = self.block.get(3);
+        Bits256::of_words([first, second, third, fourth])
+    }
+
+    /// How many keys there are, at most 256.
+    pub fn len(&self) -> usize
+        ensures count { result ≡ length self.now.pairs }
+        ensures within { result ≤ 256 }
+    {
+        (self.block.tag() % 65_536) as usize
+    }
+
+    /// How many bytes the keys of the node have, 1 to 8, of which all but the last are left out here.
+    pub fn width(&self) -> u8
+        ensures value { result ≡ self.now.width }
+        ensures within { (1 ≤ result) × (result ≤ 8) }
+    {
+        (self.block.tag() / 65_536) as u8
+    }
+
+    /// How many keys are below a word.
+    pub fn rank(&self, key: u64) -> usize
+        ensures value { result ≡ set.rank (keys_of self.now.pairs) key }
+        ensures within { result ≤ length self.now.pairs }
+    {
+        let bits = self.bits();
+        if key < 256 {
+            bits.rank(key as u8)
+        } else {
+            self.len()
+        }
+    }
+
+    /// The place of a key; none where the word isn't one of the keys.
+    pub fn find(&self, key: u64) -> Option<usize>
+        ensures { result ≡ set.place (keys_of self.now.pairs) key }
+    {
+        let bits = self.bits();
+        if key < 256 {
+            bits.place(key as u8)
+        } else {
+            None
+        }
+    }
+
+    /// The key at a place, counted from 0.
+    pub fn key_at(&self, at: usize) -> u64
+        requires { at < length self.now.pairs }
+        ensures { result ≡ slice_index (keys_of self.now.pairs) at }
+    {
+        match self.bits().nth(at) {
+            Some(byte) => u64::from(byte),
+            None => unreachable!(),
+        }
+    }
+
+    /// The value at a place, 0 where keys have no value.
+    pub fn value_at(&self, at: usize) -> u64
+        requires { at < length self.now.pairs }
+        ensures { result ≡ slice_index (values_of self.now.pairs) at }
+    {
+        if V::WORDS == 1 {
+            self.block.get(4 + at)
+        } else {
+            0
+        }
+    }
+
+    /// The nearest key at or above a byte.
+    pub fn next_from(&self, byte: u8) -> Option<u8>
+        ensures { result ≡ set.next_from (keys_of self.now.pairs) byte }
+    {
+        self.bits().next_from(byte)
+    }
+
+    /// The nearest key at or below a byte.
+    pub fn prev_from(&self, byte: u8) -> Option<u8>
+        ensures { result ≡ set.prev_from (keys_of self.now.pairs) byte }
+    {
+        self.bits().prev_from(byte)
+    }
+
+    /// The nearest byte at or above the given one that is no key.
+    pub fn next_absent(&self, byte: u8) -> Option<u8>
+        ensures { result ≡ set.next_absent (keys_of self.now.pairs) byte }
+    {
+        self.bits().next_absent(byte)
+    }
+
+    /// The nearest byte at or below the given one that is no key.
+    pub fn prev_absent(&self, byte: u8) -> Option<u8>
+        ensures { result ≡ set.prev_absent (keys_of self.now.pairs) byte }
+    {
+        self.bits().prev_absent(byte)
+    }
+}
