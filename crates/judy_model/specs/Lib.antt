@@ -1,6 +1,7 @@
 pub mod Keys
 pub mod WordBytes
 pub mod Arrays
+pub mod Tables
 pub mod Neighbours
 pub mod Empties
 pub mod Tables

@@ -1,0 +1,4 @@
+pub mod Pieces
+pub mod World
+pub mod Worlds
+pub mod Arenas
