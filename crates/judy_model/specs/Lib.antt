@@ -1,7 +1,6 @@
 pub mod Keys
 pub mod WordBytes
 pub mod Arrays
-pub mod Tables
 pub mod Neighbours
 pub mod Empties
 pub mod Tables
