@@ -1,1 +1,4 @@
 pub mod Spelling
+pub mod VecBack
+pub mod Loans
+pub mod Ways
