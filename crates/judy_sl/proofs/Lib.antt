@@ -1,1 +1,5 @@
 pub mod PieceLemmas
+pub mod Spelling
+pub mod VecBack
+pub mod Loans
+pub mod Ways

@@ -12,6 +12,8 @@ use Rattle.std.proofs.lemmas.List.{length-drop, get_or_past, drop_all}
 use Rattle.std.proofs.lemmas.List.Elements.{All-head, All-tail, All-get_or}
 use Rattle.judy_model.specs.Keys.{IsStringKey, word_order, byte_order}
 use Rattle.judy_model.proofs.ByteLemmas.{unit_pos}
+use Rattle.judy_sl.proofs.Spelling.{spelled-more}
+use Rattle.judy_sl.proofs.Ways.{pieces_short, pieces_long}
 use Rattle.judy_sl.specs.Pieces.{spelled, piece_of, pieces_in, pieces, IsFinal, IsInner, AreInner, ArePieces, IsText}
 
 -- ---- texts
@@ -32,16 +34,6 @@ text-drop (suc count) (byte ∷ bytes) text = text-drop count bytes (All-tail (�
 
 -- ---- the number that bytes spell
 
--- One byte more stands below what the bytes before it spell.
-spelled-one_more : (width : ℕ) (bytes : List ℕ) → spelled (suc width) bytes ≡ spelled width bytes * 256 + get_or bytes width 0
-spelled-one_more zero [] = refl
-spelled-one_more zero (byte ∷ bytes) = omega arith
-spelled-one_more (suc width) [] = refl
-spelled-one_more (suc width) (byte ∷ bytes) =
-    let rest = spelled-one_more width bytes in
-    let unit : byte * 256 ^ suc width ≡ (byte * 256 ^ width) * 256 = ap (λ n. byte * n) (pow-suc 256 width) ∙ sym (mul_assoc byte (256 ^ width) 256) in
-    omega arith
-
 -- So many bytes spell a number below so many bytes' bound.
 spelled-lt : (width : ℕ) (bytes : List ℕ) → IsText bytes → spelled width bytes < 256 ^ width
 spelled-lt zero bytes text = omega arith
@@ -58,7 +50,7 @@ piece_of-lt bytes text = spelled-lt 8 bytes text
 
 lowest_byte : (bytes : List ℕ) → IsText bytes → piece_of bytes % 256 ≡ get_or bytes 7 0
 unfolding piece_of
-lowest_byte bytes text = let e = spelled-one_more 7 bytes in ⊎_elim
+lowest_byte bytes text = let e = spelled-more 7 bytes in ⊎_elim
     (λ inside. let here = (All-get_or (λ b. (b < 256) × (b ≢ 0)) bytes 7 0 inside text).0 in omega arith)
     (λ past. let none : get_or bytes 7 0 ≡ 0 = get_or_past bytes 7 0 past in omega arith)
     (cases_lt 7 (length bytes))
@@ -70,21 +62,6 @@ piece-IsFinal bytes text short = lowest_byte bytes text ∙ get_or_past bytes 7 
 -- That of eight or more isn't.
 pub piece-IsInner : (bytes : List ℕ) → IsText bytes → 8 ≤ length bytes → IsInner (piece_of bytes)
 piece-IsInner bytes text long = λ e. (All-get_or (λ b. (b < 256) × (b ≢ 0)) bytes 7 0 (omega arith) text).1 (sym (lowest_byte bytes text) ∙ e)
-
--- ---- pieces one by one
-
--- Fewer than eight bytes are one piece.
-pub pieces-short : (bytes : List ℕ) → length bytes < 8 → pieces bytes ≡ piece_of bytes ∷ []
-unfolding pieces
-pieces-short bytes short = ap (λ count. pieces_in count bytes) (let none : length bytes / 8 ≡ 0 = omega arith in none)
-
--- Of eight or more the first eight are a piece, and the rest has the others.
-pub pieces-long : (bytes : List ℕ) → 8 ≤ length bytes → pieces bytes ≡ piece_of bytes ∷ pieces (drop 8 bytes)
-unfolding pieces
-pieces-long bytes long =
-    let left = length-drop 8 bytes in
-    let count : length bytes / 8 ≡ suc (length (drop 8 bytes) / 8) = omega arith in
-    ap (λ n. pieces_in n bytes) count
 
 -- ---- the pieces of a text are pieces
 
@@ -176,19 +153,19 @@ final-not_inner one two final inner same = inner (ap (λ piece. piece % 256) (sy
 
 both_short : (one two : List ℕ) → length one < 8 → length two < 8 → IsText one → IsText two → byte_order (pieces one) (pieces two) ≡ byte_order one two
 both_short one two short also p q =
-    (λ t. byte_order (pieces-short one short t) (pieces-short two also t))
+    (λ t. byte_order (pieces_short one short t) (pieces_short two also t))
     ∙ (λ t. ordering_then (nat_cmp (piece_of one) (piece_of two)) (byte_order (sym (drop_all 8 one (omega arith)) t) (sym (drop_all 8 two (omega arith)) t)))
     ∙ sym (order-piece one two p q)
 
 short_long : (one two : List ℕ) → length one < 8 → 8 ≤ length two → IsText one → IsText two → byte_order (pieces one) (pieces two) ≡ byte_order one two
 short_long one two short long p q =
-    (λ t. byte_order (pieces-short one short t) (pieces-long two long t))
+    (λ t. byte_order (pieces_short one short t) (pieces_long two long t))
     ∙ first_decides (piece_of one) (piece_of two) (byte_order [] (pieces (drop 8 two))) (byte_order (drop 8 one) (drop 8 two)) (final-not_inner (piece_of one) (piece_of two) (piece-IsFinal one p short) (piece-IsInner two q long))
     ∙ sym (order-piece one two p q)
 
 long_short : (one two : List ℕ) → 8 ≤ length one → length two < 8 → IsText one → IsText two → byte_order (pieces one) (pieces two) ≡ byte_order one two
 long_short one two long short p q =
-    (λ t. byte_order (pieces-long one long t) (pieces-short two short t))
+    (λ t. byte_order (pieces_long one long t) (pieces_short two short t))
     ∙ first_decides (piece_of one) (piece_of two) (byte_order (pieces (drop 8 one)) []) (byte_order (drop 8 one) (drop 8 two)) (λ e. final-not_inner (piece_of two) (piece_of one) (piece-IsFinal two q short) (piece-IsInner one p long) (sym e))
     ∙ sym (order-piece one two p q)
 
@@ -200,7 +177,7 @@ order-pieces_within (suc most) one two within p q = ⊎_elim
     (λ short. long_short one two long short p q)
     (λ also.
     let left = length-drop 8 one in
-    (λ t. byte_order (pieces-long one long t) (pieces-long two also t))
+    (λ t. byte_order (pieces_long one long t) (pieces_long two also t))
     ∙ ap (λ answer. ordering_then (nat_cmp (piece_of one) (piece_of two)) answer) (order-pieces_within most (drop 8 one) (drop 8 two) (omega arith) (text-drop 8 one p) (text-drop 8 two q))
     ∙ sym (order-piece one two p q))
     (cases_lt (length two) 8))

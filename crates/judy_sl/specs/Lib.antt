@@ -1,4 +1,6 @@
 pub mod Pieces
 pub mod World
 pub mod Worlds
+pub mod Children
 pub mod Arenas
+pub mod Places

@@ -1,12 +1,75 @@
 //! All levels and tails of an array: the first level, and the others in one list.
 
+ghost use Rattle.std.specs.Prelude.{◌≡◌, ◌<◌, length};
+ghost use Rattle.std.specs.Borrow.{sem};
+ghost use Rattle.std.specs.Option.{option_copied_mut};
+ghost use Rattle.judy_sl.specs.Pieces.{pieces, IsText};
+ghost use Rattle.judy_sl.specs.World.{lookup};
+ghost use Rattle.judy_sl.specs.Arenas.{world_of, child_at, IsArena};
+ghost use Rattle.judy_sl.specs.Places.{place_value, IsInside, LendsItem, LendsPlace};
+
 use crate::child::Child;
+use crate::pieces::first_piece;
 use judy_word::JudyL;
 
-// The value of a piece that isn't final is the place of its child in the list.
+// The value of a piece that isn't final is the place of its child in the list. Free places are linked from `free`.
 #[derive(Drop)]
 pub struct Arena {
     pub root: JudyL,
     pub children: Vec<Child>,
     pub free: usize,
+}
+
+// Where a value stands: under a piece of the first level, or under a piece of the child at a place; a tail has one
+// value, for any piece.
+#[derive(Clone, Copy)]
+pub enum Place {
+    Root(u64),
+    Below(usize, u64),
+}
+
+impl Arena {
+    // The value of the key.
+    pub fn get(&self, key: &[u8]) -> Option<u64>
+        requires is_arena { IsArena self.now }
+        requires is_text { IsText key.now }
+        ensures { result ≡ lookup (world_of self.now) 0 (pieces key.now) }
+    {
+        let mut level = &self.root;
+        let mut rest = key;
+        while rest.len() >= 8 {
+            let at = level.get(first_piece(rest))?;
+            rest = &rest[8..];
+            match self.children.get(at as usize) {
+                Some(Child::Level(next)) => level = next,
+                Some(Child::Tail(tail)) => {
+                    return if tail.bytes.as_slice() == rest { Some(tail.value) } else { None };
+                }
+                Some(Child::Free(_)) => return None,
+                None => return None,
+            }
+        }
+        level.get(first_piece(rest))
+    }
+
+    // The child at a place.
+    fn child_at(&mut self, at: usize) -> &mut Child
+        requires { at < length self.old.children.items }
+        ensures* writes_back { sem 𝓛 (LendsItem self.entry at result) }
+        ensures value { result.now ≡ child_at self.old at }
+    {
+        &mut self.children[at]
+    }
+
+    // The slot of a value that is there.
+    pub fn slot(&mut self, place: Place) -> Option<&mut u64>
+        requires { IsInside self.old place }
+        ensures* writes_back { sem 𝓛 (LendsPlace self.entry place result) }
+        ensures value { option_copied_mut result ≡ place_value self.old place }
+    {
+        match place {
+            Place::Root(piece) => self.root.slot(piece),
+            Place::Below(at, piece) => self.child_at(at).slot(piece),
+        }
+    }
 }
