@@ -3,3 +3,4 @@ pub mod Spelling
 pub mod VecBack
 pub mod Loans
 pub mod Ways
+pub mod ScanLevels

@@ -13,6 +13,7 @@ mod child;
 mod error;
 mod keys;
 mod pieces;
+mod scans;
 mod strings;
 
 pub use error::SlError;
