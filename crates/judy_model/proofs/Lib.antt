@@ -5,6 +5,7 @@ pub mod NearestLemmas
 pub mod WordOrder
 pub mod ByteLemmas
 pub mod EmptiesLemmas
+pub mod TableLemmas
 pub mod Places
 pub mod RankLemmas
 pub mod CountsLemmas

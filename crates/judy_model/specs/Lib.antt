@@ -1,9 +1,9 @@
 pub mod Keys
 pub mod WordBytes
 pub mod Arrays
-pub mod Tables
 pub mod Neighbours
 pub mod Empties
+pub mod Tables
 pub mod Nearest
 pub mod Counts
 pub mod Laws

@@ -9,4 +9,5 @@ pub mod lines;
 pub mod neighbours;
 pub mod steps;
 pub mod stores;
+pub mod tables;
 pub mod words;

@@ -1,4 +1,5 @@
 pub mod Spelling
 pub mod VecBack
 pub mod Loans
+pub mod PieceLemmas
 pub mod Ways
