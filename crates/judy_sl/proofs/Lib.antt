@@ -3,3 +3,4 @@ pub mod VecBack
 pub mod Loans
 pub mod PieceLemmas
 pub mod Ways
+pub mod Frames
