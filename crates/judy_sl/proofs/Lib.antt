@@ -4,3 +4,4 @@ pub mod Loans
 pub mod PieceLemmas
 pub mod Ways
 pub mod Frames
+pub mod Changes

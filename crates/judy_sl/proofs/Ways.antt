@@ -99,7 +99,7 @@ entry-parts : (map : FinMap word_order ℕ) (piece : ℕ) (on : ℕ → Option �
 entry-parts map piece on end None e way = absurd (none-some end way)
 entry-parts map piece on end (Some found) e way = record { map = map; is = refl; found = found; entry = e; goes = way }
 
-step-parts : (node : Node) (piece : ℕ) (on : ℕ → Option ℕ) (end : ℕ) → step_node node piece on ≡ Some end → IsStep node piece on end
+pub step-parts : (node : Node) (piece : ℕ) (on : ℕ → Option ℕ) (end : ℕ) → step_node node piece on ≡ Some end → IsStep node piece on end
 step-parts gone piece on end way = absurd (none-some end way)
 step-parts (tail held value) piece on end way = absurd (none-some end way)
 step-parts (level map) piece on end way = entry-parts map piece on end (get map piece) refl way
