@@ -5,3 +5,5 @@ pub mod PieceLemmas
 pub mod Ways
 pub mod Frames
 pub mod Changes
+pub mod Seats
+pub mod Entries
