@@ -1,6 +1,10 @@
-pub mod PieceLemmas
 pub mod Spelling
 pub mod VecBack
 pub mod Loans
+pub mod PieceLemmas
 pub mod Ways
+pub mod Frames
+pub mod Changes
+pub mod Seats
+pub mod Entries
 pub mod ScanLevels
