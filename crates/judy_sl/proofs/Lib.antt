@@ -8,3 +8,6 @@ pub mod Changes
 pub mod Seats
 pub mod Entries
 pub mod ScanLevels
+pub mod PieceBytes
+pub mod ScanWays
+pub mod ScanEnds

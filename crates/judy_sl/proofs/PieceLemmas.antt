@@ -35,7 +35,7 @@ text-drop (suc count) (byte ∷ bytes) text = text-drop count bytes (All-tail (�
 -- ---- the number that bytes spell
 
 -- So many bytes spell a number below so many bytes' bound.
-spelled-lt : (width : ℕ) (bytes : List ℕ) → IsText bytes → spelled width bytes < 256 ^ width
+pub spelled-lt : (width : ℕ) (bytes : List ℕ) → IsText bytes → spelled width bytes < 256 ^ width
 spelled-lt zero bytes text = omega arith
 spelled-lt (suc width) [] text = unit_pos (suc width)
 spelled-lt (suc width) (byte ∷ bytes) text =

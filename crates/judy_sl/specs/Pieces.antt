@@ -1,5 +1,6 @@
 -- Keys as pieces of eight bytes. (This project's own.)
 use Rattle.std.specs.Prelude.{◌≡◌, ◌≢◌, ℕ, zero, suc, ◌+◌, ◌*◌, ◌/◌, ◌%◌, ◌^◌, ◌<◌, ◌≤◌, nat_lt, List, [], ◌∷◌, length, drop, filter, All}
+use Rattle.std.specs.List.{flat_map}
 use Rattle.judy_model.specs.Keys.{IsStringKey}
 use Rattle.judy_model.specs.WordBytes.{low_bytes}
 
@@ -55,3 +56,7 @@ pub record SpellKey (ps : List ℕ) : Type 0 where
 -- The bytes that a piece spells: those of the word that aren't zero.
 abbrev pub piece_bytes : ℕ → List ℕ
 piece_bytes piece = filter (λ byte. nat_lt 0 byte) (low_bytes 8 piece)
+
+-- The bytes that pieces spell.
+abbrev pub spelling : List ℕ → List ℕ
+spelling = flat_map piece_bytes

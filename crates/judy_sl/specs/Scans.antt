@@ -1,18 +1,18 @@
 -- The neighbours of a key, found level by level.
-use Rattle.std.specs.Prelude.{◌≡◌, ◌+◌, ◌*◌, ℕ, Bool, ◌&&◌, if◌then◌else◌, IsTrue, IsFalse, List, [], ◌∷◌, ◌++◌, length, Option, None, Some}
+use Rattle.std.specs.Prelude.{◌≡◌, ℕ, Bool, ◌&&◌, if◌then◌else◌, IsTrue, IsFalse, List, [], ◌∷◌, ◌++◌, take, Option, None, Some}
 use Rattle.std.specs.declared.cmp.Ordering.{Ordering}
 use Rattle.std.specs.Ordering.{is_lt, is_le}
 use Rattle.std.specs.Cmp.Lexicographic.{slice_cmp}
 use Rattle.std.specs.FinMap.{FinMap, contains_key}
 use Rattle.std.specs.Borrow.{Bor}
-use Rattle.judy_model.specs.Keys.{word_order, byte_order}
+use Rattle.judy_model.specs.Keys.{IsStringKey, word_order, byte_order}
 use Rattle.judy_model.specs.Arrays.{ArrayOf}
 use Rattle.judy_model.specs.Nearest.{IsLeast}
 use Rattle.judy_sl.specs.declared.scans.Side.{Side}
 use Rattle.judy_sl.specs.declared.scans.Side.TheVariants.{Above, Below}
 use Rattle.judy_sl.specs.declared.scans.Look.{Look}
 use Rattle.judy_sl.specs.declared.scans.Turn.{Turn}
-use Rattle.judy_sl.specs.Pieces.{AreInner, ArePieces}
+use Rattle.judy_sl.specs.Pieces.{AreInner, ArePieces, pieces, spelling}
 use Rattle.judy_sl.specs.World.{World, level, lookup, walk}
 
 -- The order of pieces from one side: what is met first comes first.
@@ -66,20 +66,24 @@ module _ (look : Look) (world : World) where
     pub found : lookup world seat (piece ∷ rest) ≡ Some value
     pub first : (ps : List ℕ) (value : ℕ) → ArePieces (piece ∷ ps) → lookup world seat (piece ∷ ps) ≡ Some value → IsTrue (is_le (slice_cmp (along look.side) rest ps))
 
-  -- The turn is at an entry of a level on the way of the pieces, and the first key behind it is met first of all.
-  pub record IsTurnAt (from : List ℕ) (turn : Turn) : Type 0 where
+  -- The turn is at an entry of a level, behind the front of a key, and the first of the keys behind that entry is
+  -- met first of all.
+  pub record IsTurnAt (key : List ℕ) (turn : Turn) : Type 0 where
     pub front : List ℕ
-    pub later : List ℕ
     pub seat : ℕ
     pub way : walk world 0 front ≡ Some seat
     pub inner : AreInner front
-    pub begins : from ≡ front ++ later
-    pub deep : turn.depth ≡ 8 * length front
+    pub deep : take turn.depth key ≡ spelling front
     pub is_level : world seat ≡ level turn.level.now.map
     pub held : IsTrue (contains_key turn.level.now.map turn.piece)
-    pub near : (rest : List ℕ) → IsEnd seat turn.piece rest → IsNear 0 from (front ++ turn.piece ∷ rest)
+    pub near : (rest : List ℕ) → IsEnd seat turn.piece rest → IsNear 0 (pieces key) (front ++ turn.piece ∷ rest)
 
-  -- There is a turn, or nothing is met.
+  -- There is a turn, or no key is met.
   abbrev pub IsTurn : List ℕ → Option Turn → Type 0
-  IsTurn from None = IsNone 0 from
-  IsTurn from (Some turn) = IsTurnAt from turn
+  IsTurn key None = IsNone 0 (pieces key)
+  IsTurn key (Some turn) = IsTurnAt key turn
+
+  -- A scan leaves the key that is met first, and answers its value; or none is met, and the key stays.
+  abbrev pub IsNeighbour : List ℕ → List ℕ → Option ℕ → Type 0
+  IsNeighbour key after None = IsNone 0 (pieces key) × (after ≡ key)
+  IsNeighbour key after (Some value) = IsNear 0 (pieces key) (pieces after) × IsStringKey after × (lookup world 0 (pieces after) ≡ Some value)

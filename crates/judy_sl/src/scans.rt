@@ -1,12 +1,12 @@
 //! The neighbours of a key: one way down its pieces that keeps the nearest entry beside it, and one way down from
 //! that entry to the first key behind it.
 
-ghost use Rattle.std.specs.Prelude.{◌≡◌, true, false};
-ghost use Rattle.judy_model.specs.Keys.{IsStringKey};
-ghost use Rattle.judy_sl.specs.Pieces.{pieces, IsText};
-ghost use Rattle.judy_sl.specs.World.{lookup};
+ghost use Rattle.std.specs.Prelude.{◌≡◌, ℕ, true, false, IsTrue, IsSome};
+ghost use Rattle.std.specs.FinMap.{contains_key};
+ghost use Rattle.judy_model.specs.Keys.{IsWord};
+ghost use Rattle.judy_sl.specs.Pieces.{IsText};
 ghost use Rattle.judy_sl.specs.Arenas.{world_of, IsArena};
-ghost use Rattle.judy_sl.specs.Scans.{is_beyond, along, along_bytes, IsNearestEntry, IsFirstEntry, turn_or, IsNone, IsNear, IsTurn, IsTurnAt};
+ghost use Rattle.judy_sl.specs.Scans.{is_beyond, along_bytes, IsNearestEntry, IsFirstEntry, turn_or, IsTurn, IsTurnAt, IsNeighbour};
 
 use crate::arena::Arena;
 use crate::child::Child;
@@ -60,6 +60,7 @@ impl Side {
 
     // The entry of a level that is met first.
     fn end(self, level: &JudyL) -> Option<u64>
+        requires { (piece : ℕ) → IsTrue (contains_key level.now.map piece) → IsWord piece }
         ensures { IsFirstEntry self level.now.map result }
     {
         match self {
@@ -100,6 +101,7 @@ impl Arena {
     pub fn neighbour(&self, look: Look, key: &mut KeyBuf) -> Option<u64>
         requires is_arena { IsArena self.now }
         requires is_text { IsText key.old.items }
+        ensures { IsNeighbour look (world_of self.now) key.old.items key.new.items result }
     {
         let turn = self.turn(look, key.as_slice())?;
         self.follow(look, turn, key)
@@ -109,7 +111,7 @@ impl Arena {
     fn turn<'a>(&'a self, look: Look, key: &[u8]) -> Option<Turn<'a>>
         requires is_arena { IsArena self.now }
         requires is_text { IsText key.now }
-        ensures { IsTurn look (world_of self.now) (pieces key.now) result }
+        ensures { IsTurn look (world_of self.now) key.now result }
     {
         let mut level = &self.root;
         let mut rest = key;
@@ -140,10 +142,9 @@ impl Arena {
     fn follow<'a>(&'a self, look: Look, turn: Turn<'a>, key: &mut KeyBuf) -> Option<u64>
         requires is_arena { IsArena self.now }
         requires is_text { IsText key.old.items }
-        requires is_turn { IsTurnAt look (world_of self.now) (pieces key.old.items) turn }
-        ensures near { IsNear look (world_of self.now) 0 (pieces key.old.items) (pieces key.new.items) }
-        ensures is_key { IsStringKey key.new.items }
-        ensures value { result ≡ lookup (world_of self.now) 0 (pieces key.new.items) }
+        requires is_turn { IsTurnAt look (world_of self.now) key.old.items turn }
+        ensures found { IsSome result }
+        ensures neighbour { IsNeighbour look (world_of self.now) key.old.items key.new.items result }
     {
         key.truncate(turn.depth);
         let mut level = turn.level;
