@@ -7,3 +7,4 @@ pub mod Frames
 pub mod Changes
 pub mod Seats
 pub mod Entries
+pub mod OnWay

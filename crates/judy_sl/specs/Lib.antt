@@ -4,3 +4,4 @@ pub mod Worlds
 pub mod Children
 pub mod Arenas
 pub mod Places
+pub mod Ways
