@@ -11,3 +11,4 @@ pub mod ScanLevels
 pub mod PieceBytes
 pub mod ScanWays
 pub mod ScanEnds
+pub mod OnWay

@@ -5,3 +5,4 @@ pub mod Children
 pub mod Arenas
 pub mod Places
 pub mod Scans
+pub mod Ways

@@ -7,6 +7,7 @@ ghost use Rattle.judy_sl.specs.Pieces.{pieces, IsText};
 ghost use Rattle.judy_sl.specs.World.{lookup};
 ghost use Rattle.judy_sl.specs.Arenas.{world_of, child_at, IsArena};
 ghost use Rattle.judy_sl.specs.Places.{place_value, IsInside, LendsItem, LendsPlace};
+ghost use Rattle.judy_sl.specs.Ways.{place_in, IsWay};
 
 use crate::child::Child;
 use crate::pieces::first_piece;
@@ -28,7 +29,64 @@ pub enum Place {
     Below(usize, u64),
 }
 
+// How the way of a key ends: where its value stands; at a place of a level that has no entry for the next piece; or at
+// a tail of another key. The number is how many bytes of the key are left there.
+#[derive(Clone, Copy)]
+pub enum Way {
+    At(Place),
+    Gap(Place, usize),
+    Clash(usize, usize),
+}
+
+// The place of a piece of the first level, or of the level of a child.
+fn place_in(child: Option<usize>, piece: u64) -> Place
+    ensures { result ≡ place_in child piece }
+{
+    match child {
+        None => Place::Root(piece),
+        Some(at) => Place::Below(at, piece),
+    }
+}
+
 impl Arena {
+    // The way of the key.
+    pub fn walk(&self, key: &[u8]) -> Way
+        requires is_arena { IsArena self.now }
+        requires is_text { IsText key.now }
+        ensures { IsWay self.now key.now result }
+    {
+        let mut level = &self.root;
+        let mut child = None;
+        let mut rest = key;
+        while rest.len() >= 8 {
+            let piece = first_piece(rest);
+            let Some(at) = level.get(piece) else {
+                return Way::Gap(place_in(child, piece), rest.len());
+            };
+            rest = &rest[8..];
+            match self.children.get(at as usize) {
+                Some(Child::Level(next)) => {
+                    level = next;
+                    child = Some(at as usize);
+                }
+                Some(Child::Tail(tail)) => {
+                    return if tail.bytes.as_slice() == rest {
+                        Way::At(Place::Below(at as usize, 0))
+                    } else {
+                        Way::Clash(at as usize, rest.len())
+                    };
+                }
+                Some(Child::Free(_)) => unreachable!(),
+                None => unreachable!(),
+            }
+        }
+        let piece = first_piece(rest);
+        match level.get(piece) {
+            Some(_) => Way::At(place_in(child, piece)),
+            None => Way::Gap(place_in(child, piece), rest.len()),
+        }
+    }
+
     // The value of the key.
     pub fn get(&self, key: &[u8]) -> Option<u64>
         requires is_arena { IsArena self.now }
