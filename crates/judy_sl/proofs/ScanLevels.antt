@@ -120,7 +120,7 @@ tail_only world seat held value is (p ∷ ps) other found =
     ] refl (sym (ap (λ node. at_node node p ps (λ at. lookup world (suc at) ps)) is) ∙ found)
 
 -- And they are found there.
-at_tail : (world : World) (seat : ℕ) (held : List ℕ) (value : ℕ) → world seat ≡ tail held value → ArePieces held → lookup world seat held ≡ Some value
+pub at_tail : (world : World) (seat : ℕ) (held : List ℕ) (value : ℕ) → world seat ≡ tail held value → ArePieces held → lookup world seat held ≡ Some value
 at_tail world seat [] value is are = absurd are
 at_tail world seat (p ∷ ps) value is are =
     ap (λ node. at_node node p ps (λ at. lookup world (suc at) ps)) is ∙ ap (λ b. cond b (Some value) None) (ap is_eq (tied_itself byte_order_total (p ∷ ps)))
@@ -154,7 +154,7 @@ module _ (look : Look) (world : World) where
     -- Behind an inner piece none is where none is at the seat that it leads to.
     pub none_child : (p found : ℕ) (from : List ℕ) → get map p ≡ Some found → IsInner p → IsNone look world (suc found) from → NoneBehind seat p from
     none_child p found from is inner none = λ ps value are here. let rest = pieces_rest p ps inner are in
-      none ps value rest (sym (lookup_inner world seat map is_level p found ps is rest) ∙ here)
+        none ps value rest (sym (lookup_inner world seat map is_level p found ps is rest) ∙ here)
 
     -- The first key behind an inner piece is behind the seat that it leads to.
     pub tail_end : (p found value : ℕ) (held from rest : List ℕ) → get map p ≡ Some found → IsInner p → world (suc found) ≡ tail held value → IsTrue (meets look world from held) → IsEnd look world seat p rest → IsNear look world (suc found) from rest
@@ -185,9 +185,9 @@ module _ (look : Look) (world : World) where
         least (q ∷ qs) value are here met = ⊎_elim
             (λ less. le_later (along_total look.side) (along_same look.side) p q near qs less)
             (λ one.
-              let also : get map q ≡ Some found = ap (get map) (sym one.0) ∙ is in
-              let rest = pieces_rest q qs (subst IsInner one.0 inner) are in
-              le_one (along_total look.side) (along_same look.side) p q near qs one.0 (h.first qs value rest (sym (lookup_inner world seat map is_level q found qs also rest) ∙ here) one.1))
+            let also : get map q ≡ Some found = ap (get map) (sym one.0) ∙ is in
+            let rest = pieces_rest q qs (subst IsInner one.0 inner) are in
+            le_one (along_total look.side) (along_same look.side) p q near qs one.0 (h.first qs value rest (sym (lookup_inner world seat map is_level q found qs also rest) ∙ here) one.1))
             (met_parts (along_total look.side) (along_same look.side) look.itself p q from qs met)
 
     -- Where nothing behind the piece is met, what is met first is behind the entry that is met first beyond it.
@@ -204,8 +204,8 @@ module _ (look : Look) (world : World) where
         least [] value are here met = absurd are
         least (q ∷ qs) value are here met = ⊎_elim
             (λ less. le_parts (along_total look.side) (along_same look.side) entry q rest qs
-              (nearest.1 q (and_from (contains_key map q) (is_lt (along look.side p q)) (held_from_lookup world seat map is_level q value qs here) (ap is_lt less)))
-              (λ one. end.first qs value (subst (λ r. ArePieces (r ∷ qs)) (sym one) are) (subst (λ r. lookup world seat (r ∷ qs) ≡ Some value) (sym one) here)))
+            (nearest.1 q (and_from (contains_key map q) (is_lt (along look.side p q)) (held_from_lookup world seat map is_level q value qs here) (ap is_lt less)))
+            (λ one. end.first qs value (subst (λ r. ArePieces (r ∷ qs)) (sym one) are) (subst (λ r. lookup world seat (r ∷ qs) ≡ Some value) (sym one) here)))
             (λ one. not_both (meets look world from qs) one.1 (none qs value (subst (λ r. ArePieces (r ∷ qs)) (sym one.0) are) (subst (λ r. lookup world seat (r ∷ qs) ≡ Some value) (sym one.0) here)))
             (met_parts (along_total look.side) (along_same look.side) look.itself p q from qs met)
 

@@ -4,7 +4,7 @@ use Rattle.std.specs.Borrow.{Bor}
 use Rattle.std.specs.FinMap.{FinMap, get, contains_key}
 use Rattle.std.proofs.lemmas.Bool.{and_parts, cases_eq}
 use Rattle.std.proofs.lemmas.Option.{none-some}
-use Rattle.std.proofs.lemmas.List.{append_assoc, take-append-drop, length-drop, append-nil}
+use Rattle.std.proofs.lemmas.List.{append_assoc, take-append-drop, take_at, length-append, append-nil}
 use Rattle.judy_model.specs.Keys.{IsWord, IsStringKey, word_order}
 use Rattle.judy_model.specs.Arrays.{ArrayOf}
 use Rattle.judy_sl.specs.declared.scans.Look.{Look}
@@ -18,7 +18,7 @@ use Rattle.judy_sl.proofs.PieceLemmas.{text-drop, piece-IsFinal, piece-IsInner}
 use Rattle.judy_sl.proofs.PieceBytes.{bytes-piece, spelling-append}
 use Rattle.judy_sl.proofs.ScanLevels.{NoneBehind, none_child, moved_near, turned_near, turned_none, last_near, last_none, tail_end}
 
-AreInner-more : (front : List ℕ) (piece : ℕ) → AreInner front → IsInner piece → AreInner (front ++ piece ∷ [])
+pub AreInner-more : (front : List ℕ) (piece : ℕ) → AreInner front → IsInner piece → AreInner (front ++ piece ∷ [])
 AreInner-more [] piece inner also = (also, tt)
 AreInner-more (first ∷ front) piece inner also = (inner.0, AreInner-more front piece inner.1 also)
 
@@ -53,7 +53,7 @@ module _ (look : Look) (world : World) (key : List ℕ) where
   module _ (words : Bor (ArrayOf word_order)) (rest : List ℕ) (turn : Option Turn) (on : OnTurn look world key words.now.map rest turn) where
     -- The front of the key is what has been passed.
     passed : take (length key - length rest) key ≡ spelling on.front
-    passed = ?
+    passed = ap (take (length key - length rest)) on.cut ∙ take_at (spelling on.front) rest (length key - length rest) (let long = ap length on.cut ∙ length-append (spelling on.front) rest in omega arith)
 
     -- Where nothing is met but behind the entry that is met first, the turn is there; and else where it was.
     turns : (entry : Option ℕ) → (itself : Bool) → (p : ℕ) → IsNearestEntry look.side itself words.now.map p entry
@@ -103,11 +103,11 @@ module _ (look : Look) (world : World) (key : List ℕ) where
             inner = AreInner-more on.front (piece_of rest) on.inner inner;
             is_level = leads;
             cut = on.cut ∙ ap (λ bytes. spelling on.front ++ bytes) (sym (take-append-drop 8 rest) ∙ ap (λ bytes. bytes ++ drop 8 rest) (sym (bytes-piece rest on.text) ∙ sym (append-nil (piece_bytes (piece_of rest)))))
-              ∙ sym (append_assoc (spelling on.front) (spelling (piece_of rest ∷ [])) (drop 8 rest))
-              ∙ ap (λ bytes. bytes ++ drop 8 rest) (sym (spelling-append on.front (piece_of rest ∷ [])));
+                ∙ sym (append_assoc (spelling on.front) (spelling (piece_of rest ∷ [])) (drop 8 rest))
+                ∙ ap (λ bytes. bytes ++ drop 8 rest) (sym (spelling-append on.front (piece_of rest ∷ [])));
             text = text-drop 8 rest on.text;
             near = λ near h. subst (IsNear look world 0 (pieces key)) (sym (append_assoc on.front (piece_of rest ∷ []) near))
-              (on.near (piece_of rest ∷ near) (subst (λ from. IsNear look world on.seat from (piece_of rest ∷ near)) (sym one) (moved_near look world on.seat words.now.map on.is_level (piece_of rest) found (pieces (drop 8 rest)) near is inner h)));
+                (on.near (piece_of rest ∷ near) (subst (λ from. IsNear look world on.seat from (piece_of rest ∷ near)) (sym one) (moved_near look world on.seat words.now.map on.is_level (piece_of rest) found (pieces (drop 8 rest)) near is inner h)));
             none = λ none. on_left entry nearest (none_child look world on.seat words.now.map on.is_level (piece_of rest) found (pieces (drop 8 rest)) is inner none);
           }
 
@@ -126,6 +126,6 @@ module _ (look : Look) (world : World) (key : List ℕ) where
             is_level = on.is_level;
             held = ap (λ (entry : Option ℕ). is_some entry) is;
             near = λ others end. on.near (piece_of rest ∷ others) (subst (λ from. IsNear look world on.seat from (piece_of rest ∷ others)) (sym one)
-              (moved_near look world on.seat words.now.map on.is_level (piece_of rest) found (pieces (drop 8 rest)) others is inner
+                (moved_near look world on.seat words.now.map on.is_level (piece_of rest) found (pieces (drop 8 rest)) others is inner
                 (tail_end look world on.seat words.now.map on.is_level (piece_of rest) found value held (pieces (drop 8 rest)) others is inner tailed met end)));
           }

@@ -128,13 +128,26 @@ impl Arena {
                 Some(Child::Level(next)) => level = next,
                 Some(Child::Tail(tail)) => {
                     let met = look.meets(rest, tail.bytes.as_slice());
-                    return if met { Some(Turn { level, piece, depth }) } else { turn };
+                    return if met {
+                        Some(Turn {
+                            level,
+                            piece,
+                            depth,
+                        })
+                    } else {
+                        turn
+                    };
                 }
                 Some(Child::Free(_)) => return turn,
                 None => return turn,
             }
         }
-        nearer(level, look.last_entry(level, first_piece(rest)), key.len() - rest.len(), turn)
+        nearer(
+            level,
+            look.last_entry(level, first_piece(rest)),
+            key.len() - rest.len(),
+            turn,
+        )
     }
 
     // Puts the first of the keys behind the entry into the buffer that holds the key, and answers its value. There is
@@ -171,11 +184,20 @@ impl Arena {
 }
 
 // The turn at the entry where there is one, and else the turn before.
-fn nearer<'a>(level: &'a JudyL, entry: Option<u64>, depth: usize, turn: Option<Turn<'a>>) -> Option<Turn<'a>>
+fn nearer<'a>(
+    level: &'a JudyL,
+    entry: Option<u64>,
+    depth: usize,
+    turn: Option<Turn<'a>>,
+) -> Option<Turn<'a>>
     ensures { result ≡ turn_or level.entry entry depth turn.entry }
 {
     match entry {
-        Some(piece) => Some(Turn { level, piece, depth }),
+        Some(piece) => Some(Turn {
+            level,
+            piece,
+            depth,
+        }),
         None => turn,
     }
 }
