@@ -12,3 +12,4 @@ pub mod PieceBytes
 pub mod ScanWays
 pub mod ScanEnds
 pub mod OnWay
+pub mod ScanEntries

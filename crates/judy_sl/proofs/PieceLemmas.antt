@@ -139,7 +139,7 @@ unfolding piece_of
 order-piece one two p q = order-spelled 8 one two p q
 
 -- Where the first pieces differ, what follows decides nothing.
-first_decides : (one two : ℕ) (later other : Ordering) → one ≢ two → ordering_then (nat_cmp one two) later ≡ ordering_then (nat_cmp one two) other
+pub first_decides : (one two : ℕ) (later other : Ordering) → one ≢ two → ordering_then (nat_cmp one two) later ≡ ordering_then (nat_cmp one two) other
 first_decides one two later other differ =
     elim (nat_cmp one two) as (λ answer. nat_cmp one two ≡ answer → ordering_then answer later ≡ ordering_then answer other) [
       | Less ↦ λ is. refl

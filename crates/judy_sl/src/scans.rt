@@ -38,6 +38,16 @@ pub struct Turn<'a> {
 }
 
 impl Side {
+    // Which of two rests of keys is met first.
+    fn order(self, one: &[u8], other: &[u8]) -> Ordering
+        ensures { result ≡ along_bytes self one.now other.now }
+    {
+        match self {
+            Side::Above => one.cmp(other),
+            Side::Below => other.cmp(one),
+        }
+    }
+
     // The entry of a level that is met first beyond a piece.
     fn beyond(self, level: &JudyL, piece: u64) -> Option<u64>
         ensures { IsNearestEntry self false level.now.map piece result }
@@ -86,11 +96,10 @@ impl Look {
     fn meets(self, rest: &[u8], other: &[u8]) -> bool
         ensures { result ≡ is_beyond self.itself (along_bytes self.side rest.now other.now) }
     {
-        match (rest.cmp(other), self.side) {
-            (Ordering::Equal, _) => self.itself,
-            (Ordering::Less, Side::Above) => true,
-            (Ordering::Greater, Side::Below) => true,
-            _ => false,
+        match self.side.order(rest, other) {
+            Ordering::Less => true,
+            Ordering::Equal => self.itself,
+            Ordering::Greater => false,
         }
     }
 }
