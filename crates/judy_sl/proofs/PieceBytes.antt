@@ -1,13 +1,15 @@
 -- The bytes of pieces: the pieces of a text spell it.
 use Rattle.std.proofs.Common.{◌≡◌, ◌≢◌, ℕ, zero, suc, ◌+◌, ◌*◌, ◌/◌, ◌%◌, ◌^◌, ◌<◌, ◌≤◌, Bool, true, cond, nat_lt, inl, inr, ⊎_elim, List, [], ◌∷◌, ◌++◌, length, take, drop, filter, sym, refl, ap, ◌∙◌, arith, lt-ltb}
 use Rattle.std.specs.List.{flat_map}
+use Rattle.std.specs.Int.{to_be_bytes, w64}
 use Rattle.std.proofs.Math.Nat.{mod-eq_of_lt}
 use Rattle.std.proofs.lemmas.Nat.{div-mul-add}
 use Rattle.std.proofs.lemmas.List.{length-drop, take_all, take-append-drop, append-nil, append_assoc}
 use Rattle.std.proofs.lemmas.List.Elements.{All-head, All-tail}
 use Rattle.judy_model.specs.WordBytes.{low_bytes}
+use Rattle.judy_model.proofs.Ascending.{Among, Among-filter}
 use Rattle.judy_model.proofs.ByteLemmas.{low_bytes-above, unit_pos}
-use Rattle.judy_sl.specs.Pieces.{spelled, piece_of, pieces_in, pieces, piece_bytes, spelling, IsText}
+use Rattle.judy_sl.specs.Pieces.{spelled, piece_of, pieces_in, pieces, piece_bytes, spelling, IsInner, IsText}
 use Rattle.judy_sl.proofs.PieceLemmas.{spelled-lt, text-drop}
 
 -- No bytes spell 0, whose bytes are zeros.
@@ -32,7 +34,7 @@ bytes-spelled (suc width) (byte ∷ bytes) text =
 
 -- The bytes of the piece with which a text begins are its first eight.
 pub bytes-piece : (bytes : List ℕ) → IsText bytes → piece_bytes (piece_of bytes) ≡ take 8 bytes
-unfolding piece_of
+unfolding piece_of piece_bytes
 bytes-piece bytes text = bytes-spelled 8 bytes text
 
 spelling-in : (count : ℕ) (bytes : List ℕ) → IsText bytes → length bytes / 8 ≡ count → spelling (pieces_in count bytes) ≡ bytes
@@ -50,3 +52,22 @@ spelling-pieces bytes text = spelling-in (length bytes / 8) bytes text refl
 pub spelling-append : (front later : List ℕ) → spelling (front ++ later) ≡ spelling front ++ spelling later
 spelling-append [] later = refl
 spelling-append (piece ∷ front) later = ap (λ bytes. piece_bytes piece ++ bytes) (spelling-append front later) ∙ sym (append_assoc (piece_bytes piece) (spelling front) (spelling later))
+
+-- The lowest byte of a piece stands among its bytes.
+lowest_among : (width word : ℕ) → Among (low_bytes (suc width) word) (word % 256)
+lowest_among zero word = inl (let e : word % 256 ≡ word / 256 ^ 0 % 256 = omega arith in e)
+lowest_among (suc width) word = inr (lowest_among width word)
+
+some_length : (bytes : List ℕ) (byte : ℕ) → Among bytes byte → 0 < length bytes
+some_length [] byte here = absurd here
+some_length (first ∷ rest) byte here = omega arith
+
+-- So an inner piece has a byte.
+pub inner_bytes : (piece : ℕ) → IsInner piece → 0 < length (piece_bytes piece)
+unfolding piece_bytes
+inner_bytes piece inner = some_length (filter (λ byte. nat_lt 0 byte) (low_bytes 8 piece)) (piece % 256) (Among-filter (λ byte. nat_lt 0 byte) (low_bytes 8 piece) (piece % 256) (lowest_among 7 piece) (lt-ltb 0 (piece % 256) (omega (arith, inner))))
+
+-- The bytes of a piece as it stands in memory, the highest first.
+pub piece_bytes-be : (piece : ℕ) → piece_bytes piece ≡ filter (λ byte. nat_lt 0 byte) (to_be_bytes w64 piece)
+unfolding piece_bytes
+piece_bytes-be piece = let lowest : piece / 1 ≡ piece = omega arith in ap (λ low. filter (λ byte. nat_lt 0 byte) (piece / 72057594037927936 % 256 ∷ piece / 281474976710656 % 256 ∷ piece / 1099511627776 % 256 ∷ piece / 4294967296 % 256 ∷ piece / 16777216 % 256 ∷ piece / 65536 % 256 ∷ piece / 256 % 256 ∷ low % 256 ∷ [])) lowest

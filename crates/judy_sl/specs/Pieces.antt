@@ -54,7 +54,7 @@ pub record SpellKey (ps : List ℕ) : Type 0 where
   pub spells : pieces key ≡ ps
 
 -- The bytes that a piece spells: those of the word that aren't zero.
-abbrev pub piece_bytes : ℕ → List ℕ
+unfoldable pub piece_bytes : ℕ → List ℕ
 piece_bytes piece = filter (λ byte. nat_lt 0 byte) (low_bytes 8 piece)
 
 -- The bytes that pieces spell.
