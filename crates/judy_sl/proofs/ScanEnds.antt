@@ -153,6 +153,14 @@ module _ {look : Look} {world : World} {behind : ℕ → List ℕ} (is_world : I
       (lookup_final world on.seat map on.is_level piece value is)
       (sym (append-nil (bytes ++ piece_bytes piece)))
 
+  -- It has a value there.
+  pub follow_end : (result : Option ℕ) → IsFinal piece → result ≡ get map piece → IsNeighbour look world key (bytes ++ piece_bytes piece) result
+  follow_end None final is = absurd (true≢false (sym (ap (λ (found : Option ℕ). is_some found) is ∙ on.held)))
+  follow_end (Some value) final is = follow_last value final (sym is)
+
+  pub follow_entry : get map piece ≡ None → ⊥
+  follow_entry none = true≢false (sym on.held ∙ ap (λ (found : Option ℕ). is_some found) none)
+
   module _ (at : ℕ) (is : get map piece ≡ Some at) (inner : IsInner piece) where
     leads : (behind (suc at) ≡ on.front ++ piece ∷ []) × (world (suc at) ≢ gone)
     leads = let there = (is_world.levels on.seat map on.is_level).leads piece at is inner in (there.0 ∙ ap (λ place. place ++ piece ∷ []) place_is, there.1)

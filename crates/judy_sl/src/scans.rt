@@ -1,7 +1,7 @@
 //! The neighbours of a key: one way down its pieces that keeps the nearest entry beside it, and one way down from
 //! that entry to the first key behind it.
 
-ghost use Rattle.std.specs.Prelude.{◌≡◌, ℕ, true, false, IsTrue, IsSome};
+ghost use Rattle.std.specs.Prelude.{◌≡◌, ℕ, true, false, IsTrue};
 ghost use Rattle.std.specs.FinMap.{contains_key};
 ghost use Rattle.judy_model.specs.Keys.{IsWord};
 ghost use Rattle.judy_sl.specs.Pieces.{IsText};
@@ -165,8 +165,7 @@ impl Arena {
         requires is_arena { IsArena self.now }
         requires is_text { IsText key.old.items }
         requires is_turn { IsTurnAt look (world_of self.now) key.old.items turn }
-        ensures found { IsSome result }
-        ensures neighbour { IsNeighbour look (world_of self.now) key.old.items key.new.items result }
+        ensures { IsNeighbour look (world_of self.now) key.old.items key.new.items result }
     {
         key.truncate(turn.depth);
         let mut level = turn.level;
