@@ -8,3 +8,5 @@ pub mod Changes
 pub mod Seats
 pub mod Entries
 pub mod OnWay
+pub mod Linked
+pub mod Written
