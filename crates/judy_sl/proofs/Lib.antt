@@ -10,3 +10,5 @@ pub mod Entries
 pub mod OnWay
 pub mod Linked
 pub mod Written
+pub mod Maps
+pub mod Keeping

@@ -24,7 +24,7 @@ use Rattle.judy_sl.specs.Places.{IsInside, with_child, place_with, place_value}
 use Rattle.judy_sl.specs.Ways.{seat_of, piece_at, HasValue, IsFound, LeadsTo}
 use Rattle.judy_sl.proofs.Ways.{equal_lists, walk-behind}
 use Rattle.judy_sl.proofs.Seats.{set_node, cond-same, cond-other, NodeFits, IsUsed, keeps}
-use Rattle.judy_sl.proofs.Changes.{IsChange}
+use Rattle.judy_sl.specs.Grown.{IsChange}
 use Rattle.judy_sl.proofs.Entries.{changes_tail, changes_value}
 
 -- ---- entries of a map of words

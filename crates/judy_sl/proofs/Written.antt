@@ -16,7 +16,7 @@ use Rattle.judy_sl.specs.Places.{IsInside, place_with, place_value}
 use Rattle.judy_sl.specs.Ways.{seat_of, piece_at, HasValue, IsFound, LeadsTo}
 use Rattle.judy_sl.proofs.Ways.{look_in, lookup-in, lookup-walk, walk-behind, tail-same}
 use Rattle.judy_sl.proofs.Seats.{set_node, cond-same, cond-other, NodeFits, IsUsed}
-use Rattle.judy_sl.proofs.Changes.{IsChange}
+use Rattle.judy_sl.specs.Grown.{IsChange}
 use Rattle.judy_sl.proofs.Entries.{changes_tail, changes_value}
 use Rattle.judy_sl.proofs.Linked.{node_with, inside_of, world-with_place, place-with_arena, fits-insert, insert-some, get-insert_here, get-insert_off}
 

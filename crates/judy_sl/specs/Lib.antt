@@ -5,3 +5,5 @@ pub mod Children
 pub mod Arenas
 pub mod Places
 pub mod Ways
+pub mod Grown
+pub mod Lends
