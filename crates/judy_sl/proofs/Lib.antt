@@ -12,3 +12,4 @@ pub mod Linked
 pub mod Written
 pub mod Maps
 pub mod Keeping
+pub mod Filled

@@ -110,12 +110,12 @@ node_of-with (Free next) piece value = refl
 node_of-with (Tail rest) piece value = refl
 node_of-with (Level words) piece value = refl
 
-text-with : (child : Child) (piece value : ℕ) → HasText child → HasText (child_with child piece value)
+pub text-with : (child : Child) (piece value : ℕ) → HasText child → HasText (child_with child piece value)
 text-with (Free next) piece value has = has
 text-with (Tail rest) piece value has = has
 text-with (Level words) piece value has = has
 
-limit-with : (child : Child) (piece value : ℕ) → HasLimit child → HasLimit (child_with child piece value)
+pub limit-with : (child : Child) (piece value : ℕ) → HasLimit child → HasLimit (child_with child piece value)
 limit-with (Free next) piece value has = has
 limit-with (Tail rest) piece value has = has
 limit-with (Level words) piece value has = has
