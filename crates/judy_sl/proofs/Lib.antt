@@ -13,3 +13,4 @@ pub mod Written
 pub mod Maps
 pub mod Keeping
 pub mod Filled
+pub mod Tailed

@@ -149,3 +149,23 @@ pub place-with_arena : (arena : Arena) (is : IsArena arena) (place : Place) (val
 place-with_arena arena is (Root piece) value inside fits used = arena-with_root arena (with_value arena.root piece value) is is.root_limit fits
 place-with_arena arena is (Below at piece) value inside fits used =
     arena-with_child arena at (child_with (child_at arena at) piece value) inside is (text-with (child_at arena at) piece value (is.texts at)) (limit-with (child_at arena at) piece value (is.limits at)) (subst (NodeFits (world_of arena) is.behind (is.behind (suc at))) (sym (node_of-with (child_at arena at) piece value)) fits) (subst (IsUsed (suc at)) (sym (node_of-with (child_at arena at) piece value)) used)
+
+-- The bytes of tails and the limits stay.
+module _ (arena : Arena) (value : ℕ) where
+  pub texts-place : (place : Place) → IsInside arena place → ((k : ℕ) → HasText (child_at arena k)) → (k : ℕ) → HasText (child_at (place_with arena place value) k)
+  texts-place (Root piece) inside texts k = texts k
+  texts-place (Below at piece) inside texts k = elim (cases_eq k at) [
+    | inl e ↦ subst HasText (sym (child_at-same arena at (child_with (child_at arena at) piece value) inside k e)) (text-with (child_at arena at) piece value (texts at))
+    | inr apart ↦ subst HasText (sym (child_at-other arena at (child_with (child_at arena at) piece value) inside k apart)) (texts k)
+  ]
+
+  pub limits-place : (place : Place) → IsInside arena place → ((k : ℕ) → HasLimit (child_at arena k)) → (k : ℕ) → HasLimit (child_at (place_with arena place value) k)
+  limits-place (Root piece) inside limits k = limits k
+  limits-place (Below at piece) inside limits k = elim (cases_eq k at) [
+    | inl e ↦ subst HasLimit (sym (child_at-same arena at (child_with (child_at arena at) piece value) inside k e)) (limit-with (child_at arena at) piece value (limits at))
+    | inr apart ↦ subst HasLimit (sym (child_at-other arena at (child_with (child_at arena at) piece value) inside k apart)) (limits k)
+  ]
+
+  pub root-place : (place : Place) → (place_with arena place value).root.limit ≡ arena.root.limit
+  root-place (Root piece) = refl
+  root-place (Below at piece) = refl
