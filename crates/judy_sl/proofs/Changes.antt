@@ -7,13 +7,9 @@ use Rattle.judy_model.specs.Keys.{word_order}
 use Rattle.judy_sl.specs.Pieces.{ArePieces, AreInner, IsInner, IsFinal}
 use Rattle.judy_sl.specs.World.{World, Node, gone, tail, level, at_node, at_entry, lookup, step_node, step_entry, walk}
 use Rattle.judy_sl.specs.Worlds.{IsWorld, FitsBehind}
+use Rattle.judy_sl.specs.Grown.{IsChange}
 use Rattle.judy_sl.proofs.Ways.{look_in, lookup-walk, step-parts, tail-same, tail-other}
 use Rattle.judy_sl.proofs.Frames.{frame, frame-below}
-
--- Another thing is found under one key, and nothing else changes.
-pub record IsChange (world other : World) (key : List ℕ) (new : Option ℕ) : Type 0 where
-  pub at_key : lookup other 0 key ≡ new
-  pub elsewhere : (ps : List ℕ) → ArePieces ps → ps ≢ key → lookup other 0 ps ≡ lookup world 0 ps
 
 -- Pieces begin with others, or they don't.
 split-front : (front ps : List ℕ) → ((rest : List ℕ) × (ps ≡ front ++ rest)) ⊎ ((rest : List ℕ) → ps ≢ front ++ rest)

@@ -9,7 +9,8 @@ use Rattle.judy_sl.specs.World.{World, Node, gone, tail, level, at_node, at_entr
 use Rattle.judy_sl.specs.Worlds.{IsWorld, FitsBehind}
 use Rattle.judy_sl.proofs.Ways.{look_in, tail-same, tail-other}
 use Rattle.judy_sl.proofs.Frames.{frame-below}
-use Rattle.judy_sl.proofs.Changes.{IsChange, changes, longer}
+use Rattle.judy_sl.proofs.Changes.{changes, longer}
+use Rattle.judy_sl.specs.Grown.{IsChange}
 
 module _ (world other : World) (behind : ℕ → List ℕ) (is : IsWorld world behind) (root : FinMap word_order ℕ) (root_is : world 0 ≡ level root) (front : List ℕ) (inner : AreInner front) (seat : ℕ) (way : walk world 0 front ≡ Some seat) (apart : (at : ℕ) → world at ≢ gone → behind at ≢ front → other at ≡ world at) where
   -- A tail with another value.

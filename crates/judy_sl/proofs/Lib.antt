@@ -13,3 +13,9 @@ pub mod ScanWays
 pub mod ScanEnds
 pub mod OnWay
 pub mod ScanEntries
+pub mod Linked
+pub mod Written
+pub mod Maps
+pub mod Keeping
+pub mod Filled
+pub mod Tailed

@@ -43,7 +43,7 @@ pub pieces-head : (bytes : List ℕ) → (rest : List ℕ) × (pieces bytes ≡ 
 unfolding pieces
 pieces-head bytes = pieces_in-head (length bytes / 8) bytes
 
-inner-more : (front : List ℕ) (piece : ℕ) → AreInner front → IsInner piece → AreInner (front ++ piece ∷ [])
+pub inner-more : (front : List ℕ) (piece : ℕ) → AreInner front → IsInner piece → AreInner (front ++ piece ∷ [])
 inner-more [] piece inner last = (last, tt)
 inner-more (first ∷ front) piece inner last = (inner.0, inner-more front piece inner.1 last)
 

@@ -38,7 +38,7 @@ lookup-in world seat [] = refl
 lookup-in world seat (piece ∷ rest) = refl
 
 -- Lists that compare as equal are equal, and others don't compare as equal.
-equal_lists : (r : Ordering) → is_eq r ≡ true → r ≡ Equal
+pub equal_lists : (r : Ordering) → is_eq r ≡ true → r ≡ Equal
 equal_lists Less e = cc
 equal_lists Equal e = refl
 equal_lists Greater e = cc

@@ -6,3 +6,5 @@ pub mod Arenas
 pub mod Places
 pub mod Scans
 pub mod Ways
+pub mod Grown
+pub mod Lends

@@ -1,16 +1,18 @@
 -- What an arena becomes, for whatever is left in a slot of it.
-use Rattle.std.specs.Prelude.{ℕ, ◌<◌, Option, Some, None, length}
+use Rattle.std.specs.Prelude.{ℕ, ◌<◌, Option, Some, None, Result, length}
 use Rattle.std.specs.Borrow.{Lends, LendsIf, LendsIfOk, MutBor, Fml, u64}
 use Rattle.std.specs.Vec.{with_item}
 use Rattle.std.specs.FinMap.{get}
+use Rattle.judy_model.specs.Arrays.{ins}
 use Rattle.judy_word.specs.Writes.{with_value}
 use Rattle.judy_sl.specs.declared.child.Child.{Child}
 use Rattle.judy_sl.specs.declared.arena.Arena.{Arena}
 use Rattle.judy_sl.specs.declared.arena.Place.{Place}
 use Rattle.judy_sl.specs.declared.arena.Place.TheVariants.{Root, Below}
+use Rattle.judy_sl.specs.declared.error.SlError.{SlError}
 use Rattle.judy_sl.specs.contracts.child.Child as child
 use Rattle.judy_sl.specs.contracts.arena.Arena.{the_row}
-use Rattle.judy_sl.specs.Children.{child_with, value_at}
+use Rattle.judy_sl.specs.Children.{child_with, value_at, value_in, IsTaken}
 use Rattle.judy_sl.specs.Arenas.{child_at}
 
 -- The child of the place is one of the list.
@@ -39,3 +41,17 @@ LendsItem arena at lent = Lends the_row child.the_row arena lent (with_child are
 -- The arena ends with the value that is left behind the slot written at the place, where there is a slot.
 abbrev pub LendsPlace : MutBor Arena → Place → Option (MutBor ℕ) → Fml
 LendsPlace arena place slot = LendsIf the_row u64 arena slot (place_with arena.now place) arena.now
+
+-- The same where the insert succeeds.
+abbrev pub LendsPlaceOk : MutBor Arena → Place → Result (MutBor ℕ) SlError → Fml
+LendsPlaceOk arena place slot = LendsIfOk the_row u64 arena slot (place_with arena.now place) arena.now
+
+-- The value at a place once its piece is put in.
+abbrev pub place_in_value : Arena → Place → Option ℕ
+place_in_value arena (Root piece) = get (ins arena.root.map piece) piece
+place_in_value arena (Below at piece) = value_in (child_at arena at) piece
+
+-- Something stands at the place.
+abbrev pub IsPlace : Arena → Place → Type 0
+IsPlace arena (Root piece) = Unit {0}
+IsPlace arena (Below at piece) = (at < length arena.children.items) × IsTaken (child_at arena at)

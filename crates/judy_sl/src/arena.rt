@@ -1,17 +1,21 @@
 //! All levels and tails of an array: the first level, and the others in one list.
 
-ghost use Rattle.std.specs.Prelude.{◌≡◌, ◌<◌, length};
+ghost use Rattle.std.specs.Prelude.{◌≡◌, ◌<◌, [], length, Some, None, IfOk, OnOk, IfErr, OnErr};
 ghost use Rattle.std.specs.Borrow.{sem};
 ghost use Rattle.std.specs.Option.{option_copied_mut};
+ghost use Rattle.judy_model.specs.Arrays.{empty_array};
 ghost use Rattle.judy_sl.specs.Pieces.{pieces, IsText};
 ghost use Rattle.judy_sl.specs.World.{lookup};
 ghost use Rattle.judy_sl.specs.Arenas.{world_of, child_at, IsArena};
-ghost use Rattle.judy_sl.specs.Places.{place_value, IsInside, LendsItem, LendsPlace};
+ghost use Rattle.judy_sl.specs.Places.{place_value, place_in_value, place_with, IsInside, IsPlace, LendsItem, LendsPlace, LendsPlaceOk};
+ghost use Rattle.judy_sl.specs.declared.error.SlError.TheVariants.{NoMemory};
 ghost use Rattle.judy_sl.specs.Ways.{place_in, IsWay};
 
 use crate::child::Child;
+use crate::error::SlError;
 use crate::pieces::first_piece;
 use judy_word::JudyL;
+use std::alloc::Global;
 
 // The value of a piece that isn't final is the place of its child in the list. Free places are linked from `free`.
 #[derive(Drop)]
@@ -49,6 +53,18 @@ fn place_in(child: Option<usize>, piece: u64) -> Place
 }
 
 impl Arena {
+    // The arena without an entry.
+    pub fn new(alloc: Global) -> Arena
+        ensures items { result.children.items ≡ [] }
+        ensures root { result.root ≡ empty_array 18446744073709551615 }
+    {
+        Arena {
+            root: JudyL::unbounded(alloc),
+            children: Vec::new(alloc),
+            free: usize::MAX,
+        }
+    }
+
     // The way of the key.
     pub fn walk(&self, key: &[u8]) -> Way
         requires is_arena { IsArena self.now }
@@ -132,6 +148,38 @@ impl Arena {
         match place {
             Place::Root(piece) => self.root.slot(piece),
             Place::Below(at, piece) => self.child_at(at).slot(piece),
+        }
+    }
+
+    // The slot of a value, which is put in with the value 0 where it is absent.
+    pub fn ins(&mut self, place: Place) -> Result<&mut u64, SlError>
+        requires { IsPlace self.old place }
+        ensures* writes_back { sem 𝓛 (LendsPlaceOk self.entry place result) }
+        ensures value { IfOk result (λ slot. Some slot.now ≡ place_in_value self.old place) }
+        ensures refused { IfErr result (λ error. (place_value self.old place ≡ None) × (error ≡ NoMemory)) }
+    {
+        match place {
+            Place::Root(piece) => match self.root.ins(piece) {
+                Ok(slot) => Ok(slot),
+                Err(_) => Err(SlError::NoMemory),
+            },
+            Place::Below(at, piece) => self.child_at(at).ins(piece),
+        }
+    }
+
+    // Puts a value in at a place, or writes it there.
+    pub fn enter(&mut self, place: Place, value: u64) -> Result<(), SlError>
+        requires { IsPlace self.old place }
+        ensures entered { OnOk result (self.new ≡ place_with self.old place value) }
+        ensures unchanged { OnErr result (self.new ≡ self.old) }
+        ensures refused { IfErr result (λ error. error ≡ NoMemory) }
+    {
+        match self.ins(place) {
+            Ok(slot) => {
+                *slot = value;
+                Ok(())
+            }
+            Err(error) => Err(error),
         }
     }
 }

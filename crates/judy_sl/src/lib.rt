@@ -11,6 +11,7 @@
 mod arena;
 mod child;
 mod error;
+mod grow;
 mod keys;
 mod pieces;
 mod scans;

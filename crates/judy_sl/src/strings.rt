@@ -1,8 +1,15 @@
 //! The array that maps keys without zero bytes to words.
 
-ghost use Rattle.std.specs.Prelude.{◌≡◌};
+ghost use Rattle.std.specs.Prelude.{◌≡◌, ◌≤◌, ◌↔◌, IsTrue};
+ghost use Rattle.std.specs.Borrow.{sem};
+ghost use Rattle.std.specs.FinMap as map;
+ghost use Rattle.std.specs.Option.{option_copied_mut};
+ghost use Rattle.judy_model.specs.Arrays as array;
+ghost use Rattle.judy_sl.specs.Lends.{LendsSlot};
 
-use crate::arena::Arena;
+use crate::arena::{Arena, Way};
+use crate::keys::is_key;
+use std::alloc::Global;
 use std::marker::Model;
 
 /// An array that maps keys, strings of at most 1,024 bytes without zeros, to words. It holds at most as many keys
@@ -31,9 +38,68 @@ impl Model for JudySl {
 }
 
 impl JudySl {
+    /// The empty array that holds at most `limit` keys, from 1 to 4,294,967,295 (limit: this project's own).
+    /// It asks for no memory before the first insert.
+    pub fn new(alloc: Global, limit: u64) -> JudySl
+        requires some { 1 ≤ limit }
+        requires most { limit ≤ 4294967295 }
+        ensures { result ≡ array.empty_array limit }
+    {
+        JudySl {
+            limit,
+            count: 0,
+            arena: Arena::new(alloc),
+        }
+    }
+
+    /// The value of the key, and `None` where it is absent; bytes that are no key answer as an absent one.
+    /// (Manual: JSLG, JudySLGet.)
+    pub fn get(&self, key: &[u8]) -> Option<u64>
+        ensures { result ≡ map.get self.now.map key.now }
+    {
+        let arena = &self.arena;
+        if !is_key(key) {
+            return None;
+        }
+        arena.get(key)
+    }
+
+    /// The slot of the key, and `None` where it is absent; bytes that are no key answer as an absent one. What the
+    /// caller leaves in the slot is then the key's value. (Manual: JSLG, JudySLGet, whose answer is this slot.)
+    pub fn slot(&mut self, key: &[u8]) -> Option<&mut u64>
+        ensures* writes_back { sem 𝓛 (LendsSlot self.entry key.now result) }
+        ensures value { option_copied_mut result ≡ map.get self.old.map key.now }
+    {
+        let arena = &self.arena;
+        if !is_key(key) {
+            return None;
+        }
+        match arena.walk(key) {
+            Way::At(place) => self.arena.slot(place),
+            Way::Gap(_, _) => None,
+            Way::Clash(_, _) => None,
+        }
+    }
+
+    /// How many keys the array holds: at most its limit. (This project's own.)
+    pub fn len(&self) -> u64
+        ensures count { result ≡ map.len self.now.map }
+        ensures within { result ≤ self.now.limit }
+    {
+        self.count
+    }
+
+    /// Whether the array holds no key.
+    pub fn is_empty(&self) -> bool
+        ensures { IsTrue result ↔ (self.now.map ≡ map.empty) }
+    {
+        self.count == 0
+    }
+
     /// How many keys the array may hold: at least 1 (limit: this project's own).
     pub fn limit(&self) -> u64
         ensures value { result ≡ self.now.limit }
+        ensures some { 1 ≤ result }
     {
         self.limit
     }
