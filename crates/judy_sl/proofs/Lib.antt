@@ -19,3 +19,4 @@ pub mod Maps
 pub mod Keeping
 pub mod Filled
 pub mod Tailed
+pub mod ScanMaps

@@ -1,6 +1,6 @@
 -- The pieces of strings without zeros: exactly the last is final, they are of one string alone, and the order of
 -- strings is the order of their pieces.
-use Rattle.std.proofs.Common.{◌≡◌, ◌≢◌, ℕ, zero, suc, ◌+◌, ◌-◌, ◌*◌, ◌/◌, ◌%◌, ◌^◌, ◌<◌, ◌≤◌, inl, inr, ⊎_elim, List, [], ◌∷◌, ◌++◌, length, take, drop, get_or, All, sym, refl, ap, ◌∙◌, subst, arith, Ordering, Less, Equal, Greater, nat_cmp}
+use Rattle.std.proofs.Common.{Fits, w8, ◌≡◌, ◌≢◌, ℕ, zero, suc, ◌+◌, ◌-◌, ◌*◌, ◌/◌, ◌%◌, ◌^◌, ◌<◌, ◌≤◌, inl, inr, ⊎_elim, List, [], ◌∷◌, ◌++◌, length, take, drop, get_or, All, sym, refl, ap, ◌∙◌, subst, arith, Ordering, Less, Equal, Greater, nat_cmp}
 use Rattle.std.specs.Cmp.{nat_cmp_is, nat_cmp_total, tied_itself}
 use Rattle.std.specs.Cmp.Lexicographic.{nat_list_cmp_total}
 use Rattle.std.specs.Ordering.{ordering_then}
@@ -8,7 +8,7 @@ use Rattle.std.specs.FinMap.{nat_cmp-IsAntisymmetric, slice_cmp-IsAntisymmetric}
 use Rattle.std.proofs.Math.Nat.{mul_assoc, mul_comm, mul-pos, pow-suc}
 use Rattle.std.proofs.lemmas.Nat.{mul-add-lt}
 use Rattle.std.proofs.lemmas.Bool.{cases_order, cases_lt}
-use Rattle.std.proofs.lemmas.List.{length-drop, get_or_past, drop_all}
+use Rattle.std.proofs.lemmas.List.{get_or_default, length-drop, get_or_past, drop_all}
 use Rattle.std.proofs.lemmas.List.Elements.{All-head, All-tail, All-get_or}
 use Rattle.judy_model.specs.Keys.{IsStringKey, word_order, byte_order}
 use Rattle.judy_model.proofs.ByteLemmas.{unit_pos}
@@ -21,6 +21,10 @@ use Rattle.judy_sl.specs.Pieces.{spelled, piece_of, pieces_in, pieces, IsFinal, 
 -- The bytes of a key are a text.
 pub text_of_key : (key : List ℕ) → IsStringKey key → IsText key
 text_of_key key is = λ k d within. (is.is_bytes_key.is_byte_string k d within, is.without_zero k d within)
+
+-- Bytes of which none is zero are one.
+pub text_from_bytes : (bytes : List ℕ) → ((k : ℕ) → Fits w8 (get_or bytes k 0)) → All (λ byte. byte ≢ 0) bytes → IsText bytes
+text_from_bytes bytes small some = λ k d within. (let here : get_or bytes k d ≡ get_or bytes k 0 = get_or_default bytes k d 0 within in let fits = small k in omega arith, some k d within)
 
 -- And a text of at most 1,024 bytes is a key.
 pub key_of_text : (key : List ℕ) → IsText key → length key ≤ 1024 → IsStringKey key

@@ -1,13 +1,14 @@
 -- The neighbours of a key, found level by level.
-use Rattle.std.specs.Prelude.{◌≡◌, ℕ, Bool, ◌&&◌, if◌then◌else◌, IsTrue, IsFalse, List, [], ◌∷◌, ◌++◌, take, Option, None, Some}
+use Rattle.std.specs.Prelude.{◌≡◌, ℕ, Bool, true, false, ◌&&◌, if◌then◌else◌, IsTrue, IsFalse, List, [], ◌∷◌, ◌++◌, take, Option, None, Some}
 use Rattle.std.specs.declared.cmp.Ordering.{Ordering}
 use Rattle.std.specs.Ordering.{is_lt, is_le}
 use Rattle.std.specs.Cmp.Lexicographic.{slice_cmp}
-use Rattle.std.specs.FinMap.{FinMap, contains_key}
+use Rattle.std.specs.FinMap.{FinMap, get, contains_key}
 use Rattle.std.specs.Borrow.{Bor}
 use Rattle.judy_model.specs.Keys.{IsStringKey, word_order, byte_order}
 use Rattle.judy_model.specs.Arrays.{ArrayOf}
 use Rattle.judy_model.specs.Nearest.{IsLeast}
+use Rattle.judy_model.specs.Neighbours.{first, next, last, prev}
 use Rattle.judy_sl.specs.declared.scans.Side.{Side}
 use Rattle.judy_sl.specs.declared.scans.Side.TheVariants.{Above, Below}
 use Rattle.judy_sl.specs.declared.scans.Look.{Look}
@@ -36,6 +37,18 @@ IsNearestEntry side itself map from = IsLeast (along side) (λ piece. contains_k
 -- The entry of a level that is met first of all.
 abbrev pub IsFirstEntry : Side → FinMap word_order ℕ → Option ℕ → Type 0
 IsFirstEntry side map = IsLeast (along side) (contains_key map)
+
+-- The neighbour of a key on a side.
+abbrev pub neighbour_along : Side → Bool → FinMap byte_order ℕ → List ℕ → Option (List ℕ)
+neighbour_along Above true = first
+neighbour_along Above false = next
+neighbour_along Below true = last
+neighbour_along Below false = prev
+
+-- The value of the key that was found.
+abbrev pub value_found : FinMap byte_order ℕ → Option (List ℕ) → Option ℕ
+value_found map None = None
+value_found map (Some key) = get map key
 
 -- The turn at an entry where there is one, and else the turn before.
 abbrev pub turn_or : Bor (ArrayOf word_order) → Option ℕ → ℕ → Option Turn → Option Turn

@@ -1,17 +1,19 @@
 //! The neighbours of a key: one way down its pieces that keeps the nearest entry beside it, and one way down from
 //! that entry to the first key behind it.
 
-ghost use Rattle.std.specs.Prelude.{◌≡◌, ℕ, true, false, IsTrue};
+ghost use Rattle.std.specs.Prelude.{◌≡◌, ◌≢◌, ℕ, true, false, IsTrue, All, unwrap_or};
 ghost use Rattle.std.specs.FinMap.{contains_key};
 ghost use Rattle.judy_model.specs.Keys.{IsWord};
+ghost use Rattle.judy_model.specs.Neighbours as neighbours;
 ghost use Rattle.judy_sl.specs.Pieces.{IsText};
-ghost use Rattle.judy_sl.specs.Arenas.{world_of, IsArena};
-ghost use Rattle.judy_sl.specs.Scans.{is_beyond, along_bytes, IsNearestEntry, IsFirstEntry, turn_or, IsTurn, IsTurnAt, IsNeighbour};
+ghost use Rattle.judy_sl.specs.Arenas.{world_of, map_of, IsArena};
+ghost use Rattle.judy_sl.specs.Scans.{is_beyond, along_bytes, IsNearestEntry, IsFirstEntry, turn_or, neighbour_along, value_found, IsTurn, IsTurnAt, IsNeighbour};
 
 use crate::arena::Arena;
 use crate::child::Child;
 use crate::keys::KeyBuf;
 use crate::pieces::{first_piece, push_piece};
+use crate::strings::JudySl;
 use judy_word::JudyL;
 use std::cmp::Ordering;
 
@@ -109,8 +111,9 @@ impl Arena {
     // there is none the buffer stays.
     pub fn neighbour(&self, look: Look, key: &mut KeyBuf) -> Option<u64>
         requires is_arena { IsArena self.now }
-        requires is_text { IsText key.old.items }
-        ensures { IsNeighbour look (world_of self.now) key.old.items key.new.items result }
+        requires without_zero { All (λ byte. byte ≢ 0) key.old.items }
+        ensures key { key.new.items ≡ unwrap_or (neighbour_along look.side look.itself (map_of self.now) key.old.items) key.old.items }
+        ensures value { result ≡ value_found (map_of self.now) (neighbour_along look.side look.itself (map_of self.now) key.old.items) }
     {
         let turn = self.turn(look, key.as_slice())?;
         self.follow(look, turn, key)
@@ -119,8 +122,9 @@ impl Arena {
     // The entry behind which the neighbour of the key stands.
     fn turn<'a>(&'a self, look: Look, key: &[u8]) -> Option<Turn<'a>>
         requires is_arena { IsArena self.now }
-        requires is_text { IsText key.now }
-        ensures { IsTurn look (world_of self.now) key.now result }
+        requires without_zero { All (λ byte. byte ≢ 0) key.now }
+        ensures is_text { IsText key.now }
+        ensures is_turn { IsTurn look (world_of self.now) key.now result }
     {
         let mut level = &self.root;
         let mut rest = key;
@@ -188,6 +192,68 @@ impl Arena {
         }
         push_piece(key, piece);
         level.get(piece)
+    }
+}
+
+impl JudySl {
+    /// The value of the least key from the one in the buffer on, that key itself where it is there; the key found is
+    /// then in the buffer. `None` where no key is left, and the buffer stays. The buffer holds no zero byte; what it
+    /// holds needn't be a key of the array. It asks for no memory. (Manual: JSLF, JudySLFirst.)
+    pub fn first(&self, key: &mut KeyBuf) -> Option<u64>
+        requires { All (λ byte. byte ≢ 0) key.old.items }
+        ensures key { key.new.items ≡ unwrap_or (neighbours.first self.now.map key.old.items) key.old.items }
+        ensures value { result ≡ value_found self.now.map (neighbours.first self.now.map key.old.items) }
+    {
+        let look = Look {
+            side: Side::Above,
+            itself: true,
+        };
+        self.arena.neighbour(look, key)
+    }
+
+    /// The value of the least key above the one in the buffer; the key found is then in the buffer. `None` where no
+    /// key is above it, and the buffer stays. The buffer holds no zero byte; what it holds needn't be a key of the
+    /// array. It asks for no memory. (Manual: JSLN, JudySLNext.)
+    pub fn next(&self, key: &mut KeyBuf) -> Option<u64>
+        requires { All (λ byte. byte ≢ 0) key.old.items }
+        ensures key { key.new.items ≡ unwrap_or (neighbours.next self.now.map key.old.items) key.old.items }
+        ensures value { result ≡ value_found self.now.map (neighbours.next self.now.map key.old.items) }
+    {
+        let look = Look {
+            side: Side::Above,
+            itself: false,
+        };
+        self.arena.neighbour(look, key)
+    }
+
+    /// The value of the greatest key up to the one in the buffer, that key itself where it is there; the key found
+    /// is then in the buffer. `None` where each key is above it, and the buffer stays. The buffer holds no zero byte;
+    /// what it holds needn't be a key of the array. It asks for no memory. (Manual: JSLL, JudySLLast.)
+    pub fn last(&self, key: &mut KeyBuf) -> Option<u64>
+        requires { All (λ byte. byte ≢ 0) key.old.items }
+        ensures key { key.new.items ≡ unwrap_or (neighbours.last self.now.map key.old.items) key.old.items }
+        ensures value { result ≡ value_found self.now.map (neighbours.last self.now.map key.old.items) }
+    {
+        let look = Look {
+            side: Side::Below,
+            itself: true,
+        };
+        self.arena.neighbour(look, key)
+    }
+
+    /// The value of the greatest key below the one in the buffer; the key found is then in the buffer. `None` where
+    /// no key is below it, and the buffer stays. The buffer holds no zero byte; what it holds needn't be a key of the
+    /// array. It asks for no memory. (Manual: JSLP, JudySLPrev.)
+    pub fn prev(&self, key: &mut KeyBuf) -> Option<u64>
+        requires { All (λ byte. byte ≢ 0) key.old.items }
+        ensures key { key.new.items ≡ unwrap_or (neighbours.prev self.now.map key.old.items) key.old.items }
+        ensures value { result ≡ value_found self.now.map (neighbours.prev self.now.map key.old.items) }
+    {
+        let look = Look {
+            side: Side::Below,
+            itself: false,
+        };
+        self.arena.neighbour(look, key)
     }
 }
 

@@ -18,7 +18,7 @@ use std::marker::Model;
 pub struct JudySl {
     limit: u64,
     count: u64,
-    arena: Arena,
+    pub(crate) arena: Arena,
 }
 
 impl Model for JudySl {

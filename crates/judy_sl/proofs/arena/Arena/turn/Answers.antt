@@ -5,7 +5,7 @@ use Rattle.judy_sl.specs.declared.child.Child.TheVariants.{Free, Tail, Level}
 use Rattle.judy_sl.specs.Pieces.{piece_of, pieces}
 use Rattle.judy_sl.specs.Arenas.{world_of, node_of, HasText}
 use Rattle.judy_sl.specs.Scans.{is_beyond, along_bytes, meets, IsNearestEntry, IsTurn}
-use Rattle.judy_sl.proofs.PieceLemmas.{piece-IsInner, text-drop}
+use Rattle.judy_sl.proofs.PieceLemmas.{text_from_bytes, piece-IsInner, text-drop}
 use Rattle.judy_sl.proofs.OnWay.{child_from}
 use Rattle.judy_sl.proofs.ScanLevels.{none_absent, none_child, none_gone, none_tail}
 use Rattle.judy_sl.proofs.ScanEntries.{bytes_along}
@@ -13,10 +13,10 @@ use Rattle.judy_sl.proofs.ScanWays.{on_start, on_moved, on_left, on_tail, on_las
 use Rattle.judy_sl.proofs.arena.Arena.turn.Goals as goal
 
 pub loop-rest-init : goal.loop-rest-init
-loop-rest-init c = on_start c.args.look (world_of c.args.self.now) c.args.key.now c.args.self.now.root.map refl c.requires.is_text
+loop-rest-init c = on_start c.args.look (world_of c.args.self.now) c.args.key.now c.args.self.now.root.map refl (text_from_bytes c.args.key.now c.type_inv.key c.requires.without_zero)
 
-pub returns-in_default : goal.returns-in_default
-returns-in_default c =
+pub returns-in_default-clause-is_turn : goal.returns-in_default-clause-is_turn
+returns-in_default-clause-is_turn c =
     let words = c.loop-rest.level in
     let on = c.loop-rest.invariant in
     let nearest = subst (λ p. IsNearestEntry c.args.look.side false words.now.map p c.beyond.result) c.first_piece-piece.ensures c.beyond.ensures in
@@ -33,8 +33,8 @@ loop-rest-preserved c =
     let child = child_from c.args.self.now _ c.deref.ensures.value c.in-Some.at _ (Level c.in-Some-Level.next) (c.in-Some-Level.ensures.lookup.4 (omega arith) (Free 0)) c.in-Some-Level.field-0-is in
     rw (take_rest, c.nearer-turn.ensures) (on_moved c.args.look (world_of c.args.self.now) c.args.key.now words c.loop-rest.rest.now c.loop-rest.turn c.loop-rest.invariant c.loop-rest-test.true c.beyond.result c.in-Some.at c.in-Some-Level.next.map nearest entry (ap node_of child))
 
-pub returns-then-met : goal.returns-then-met
-returns-then-met c =
+pub returns-then-met-clause-is_turn : goal.returns-then-met-clause-is_turn
+returns-then-met-clause-is_turn c =
     let words = c.loop-rest.level in
     let on = c.loop-rest.invariant in
     let entry = sym (ap (λ p. get words.now.map p) c.first_piece-piece.ensures) ∙ sym c.get.ensures ∙ c.in-Some.is in
@@ -47,8 +47,8 @@ returns-then-met c =
     ∙ sym c.meets-met.ensures in
     rw c.first_piece-piece.ensures (on_tail c.args.look (world_of c.args.self.now) c.args.key.now words c.loop-rest.rest.now c.loop-rest.turn on c.loop-rest-test.true c.in-Some.at c.in-Some-Tail.tail.value (pieces held) entry (ap node_of child) (met ∙ c.if-met.true))
 
-pub returns-else-met : goal.returns-else-met
-returns-else-met c =
+pub returns-else-met-clause-is_turn : goal.returns-else-met-clause-is_turn
+returns-else-met-clause-is_turn c =
     let words = c.loop-rest.level in
     let on = c.loop-rest.invariant in
     let entry = sym (ap (λ p. get words.now.map p) c.first_piece-piece.ensures) ∙ sym c.get.ensures ∙ c.in-Some.is in
@@ -64,8 +64,8 @@ returns-else-met c =
     subst (IsTurn c.args.look (world_of c.args.self.now) c.args.key.now) (sym c.nearer-turn.ensures)
     (on_left c.args.look (world_of c.args.self.now) c.args.key.now words c.loop-rest.rest.now c.loop-rest.turn on c.loop-rest-test.true c.beyond.result nearest none)
 
-pub returns-in-Some-Free : goal.returns-in-Some-Free
-returns-in-Some-Free c =
+pub returns-in-Some-Free-clause-is_turn : goal.returns-in-Some-Free-clause-is_turn
+returns-in-Some-Free-clause-is_turn c =
     let words = c.loop-rest.level in
     let on = c.loop-rest.invariant in
     let nearest = subst (λ p. IsNearestEntry c.args.look.side false words.now.map p c.beyond.result) c.first_piece-piece.ensures c.beyond.ensures in
@@ -75,8 +75,8 @@ returns-in-Some-Free c =
     subst (IsTurn c.args.look (world_of c.args.self.now) c.args.key.now) (sym c.nearer-turn.ensures)
     (on_left c.args.look (world_of c.args.self.now) c.args.key.now words c.loop-rest.rest.now c.loop-rest.turn on c.loop-rest-test.true c.beyond.result nearest none)
 
-pub returns-in-None : goal.returns-in-None
-returns-in-None c =
+pub returns-in-None-clause-is_turn : goal.returns-in-None-clause-is_turn
+returns-in-None-clause-is_turn c =
     let words = c.loop-rest.level in
     let on = c.loop-rest.invariant in
     let nearest = subst (λ p. IsNearestEntry c.args.look.side false words.now.map p c.beyond.result) c.first_piece-piece.ensures c.beyond.ensures in
@@ -86,9 +86,27 @@ returns-in-None c =
     subst (IsTurn c.args.look (world_of c.args.self.now) c.args.key.now) (sym c.nearer-turn.ensures)
     (on_left c.args.look (world_of c.args.self.now) c.args.key.now words c.loop-rest.rest.now c.loop-rest.turn on c.loop-rest-test.true c.beyond.result nearest none)
 
-pub returns : goal.returns
-returns c =
+pub returns-clause-is_turn : goal.returns-clause-is_turn
+returns-clause-is_turn c =
     let words = c.loop-rest.level in
     let nearest = subst (λ p. IsNearestEntry c.args.look.side c.args.look.itself words.now.map p c.last_entry.result) c.first_piece.ensures c.last_entry.ensures in
     subst (IsTurn c.args.look (world_of c.args.self.now) c.args.key.now) (sym c.nearer.ensures)
     (on_last c.args.look (world_of c.args.self.now) c.args.key.now words c.loop-rest.rest.now c.loop-rest.turn c.loop-rest.invariant c.last_entry.result (omega arith) nearest)
+
+pub returns-in_default-clause-is_text : goal.returns-in_default-clause-is_text
+returns-in_default-clause-is_text c = text_from_bytes c.args.key.now c.type_inv.key c.requires.without_zero
+
+pub returns-then-met-clause-is_text : goal.returns-then-met-clause-is_text
+returns-then-met-clause-is_text c = text_from_bytes c.args.key.now c.type_inv.key c.requires.without_zero
+
+pub returns-else-met-clause-is_text : goal.returns-else-met-clause-is_text
+returns-else-met-clause-is_text c = text_from_bytes c.args.key.now c.type_inv.key c.requires.without_zero
+
+pub returns-in-Some-Free-clause-is_text : goal.returns-in-Some-Free-clause-is_text
+returns-in-Some-Free-clause-is_text c = text_from_bytes c.args.key.now c.type_inv.key c.requires.without_zero
+
+pub returns-in-None-clause-is_text : goal.returns-in-None-clause-is_text
+returns-in-None-clause-is_text c = text_from_bytes c.args.key.now c.type_inv.key c.requires.without_zero
+
+pub returns-clause-is_text : goal.returns-clause-is_text
+returns-clause-is_text c = text_from_bytes c.args.key.now c.type_inv.key c.requires.without_zero
