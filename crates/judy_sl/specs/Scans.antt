@@ -38,6 +38,10 @@ IsNearestEntry side itself map from = IsLeast (along side) (λ piece. contains_k
 abbrev pub IsFirstEntry : Side → FinMap word_order ℕ → Option ℕ → Type 0
 IsFirstEntry side map = IsLeast (along side) (contains_key map)
 
+-- A look to a side, where the key itself counts or doesn't.
+abbrev pub look_to : Side → Bool → Look
+look_to side itself = record { side = side; itself = itself }
+
 -- The neighbour of a key on a side.
 abbrev pub neighbour_along : Side → Bool → FinMap byte_order ℕ → List ℕ → Option (List ℕ)
 neighbour_along Above true = first

@@ -7,7 +7,7 @@ ghost use Rattle.judy_model.specs.Keys.{IsWord};
 ghost use Rattle.judy_model.specs.Neighbours as neighbours;
 ghost use Rattle.judy_sl.specs.Pieces.{IsText};
 ghost use Rattle.judy_sl.specs.Arenas.{world_of, map_of, IsArena};
-ghost use Rattle.judy_sl.specs.Scans.{is_beyond, along_bytes, IsNearestEntry, IsFirstEntry, turn_or, neighbour_along, value_found, IsTurn, IsTurnAt, IsNeighbour};
+ghost use Rattle.judy_sl.specs.Scans.{look_to, is_beyond, along_bytes, IsNearestEntry, IsFirstEntry, turn_or, neighbour_along, value_found, IsTurn, IsTurnAt, IsNeighbour};
 
 use crate::arena::Arena;
 use crate::child::Child;
@@ -83,6 +83,23 @@ impl Side {
 }
 
 impl Look {
+    // To a side, where the key itself counts.
+    fn inclusive(side: Side) -> Look
+        ensures { result ≡ look_to side true }
+    {
+        Look { side, itself: true }
+    }
+
+    // To a side, where it doesn't.
+    fn exclusive(side: Side) -> Look
+        ensures { result ≡ look_to side false }
+    {
+        Look {
+            side,
+            itself: false,
+        }
+    }
+
     // The entry of a key's last level that is met first.
     fn last_entry(self, level: &JudyL, piece: u64) -> Option<u64>
         ensures { IsNearestEntry self.side self.itself level.now.map piece result }
@@ -204,11 +221,7 @@ impl JudySl {
         ensures key { key.new.items ≡ unwrap_or (neighbours.first self.now.map key.old.items) key.old.items }
         ensures value { result ≡ value_found self.now.map (neighbours.first self.now.map key.old.items) }
     {
-        let look = Look {
-            side: Side::Above,
-            itself: true,
-        };
-        self.arena.neighbour(look, key)
+        self.arena.neighbour(Look::inclusive(Side::Above), key)
     }
 
     /// The value of the least key above the one in the buffer; the key found is then in the buffer. `None` where no
@@ -219,11 +232,7 @@ impl JudySl {
         ensures key { key.new.items ≡ unwrap_or (neighbours.next self.now.map key.old.items) key.old.items }
         ensures value { result ≡ value_found self.now.map (neighbours.next self.now.map key.old.items) }
     {
-        let look = Look {
-            side: Side::Above,
-            itself: false,
-        };
-        self.arena.neighbour(look, key)
+        self.arena.neighbour(Look::exclusive(Side::Above), key)
     }
 
     /// The value of the greatest key up to the one in the buffer, that key itself where it is there; the key found
@@ -234,11 +243,7 @@ impl JudySl {
         ensures key { key.new.items ≡ unwrap_or (neighbours.last self.now.map key.old.items) key.old.items }
         ensures value { result ≡ value_found self.now.map (neighbours.last self.now.map key.old.items) }
     {
-        let look = Look {
-            side: Side::Below,
-            itself: true,
-        };
-        self.arena.neighbour(look, key)
+        self.arena.neighbour(Look::inclusive(Side::Below), key)
     }
 
     /// The value of the greatest key below the one in the buffer; the key found is then in the buffer. `None` where
@@ -249,11 +254,7 @@ impl JudySl {
         ensures key { key.new.items ≡ unwrap_or (neighbours.prev self.now.map key.old.items) key.old.items }
         ensures value { result ≡ value_found self.now.map (neighbours.prev self.now.map key.old.items) }
     {
-        let look = Look {
-            side: Side::Below,
-            itself: false,
-        };
-        self.arena.neighbour(look, key)
+        self.arena.neighbour(Look::exclusive(Side::Below), key)
     }
 }
 
