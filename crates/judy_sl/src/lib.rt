@@ -13,6 +13,7 @@ mod child;
 mod error;
 mod grow;
 mod keys;
+pub mod laws;
 mod pieces;
 mod scans;
 mod strings;
