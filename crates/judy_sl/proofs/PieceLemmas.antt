@@ -1,11 +1,11 @@
 -- The pieces of strings without zeros: exactly the last is final, they are of one string alone, and the order of
 -- strings is the order of their pieces.
-use Rattle.std.proofs.Common.{Fits, w8, ◌≡◌, ◌≢◌, ℕ, zero, suc, ◌+◌, ◌-◌, ◌*◌, ◌/◌, ◌%◌, ◌^◌, ◌<◌, ◌≤◌, inl, inr, ⊎_elim, List, [], ◌∷◌, ◌++◌, length, take, drop, get_or, All, sym, refl, ap, ◌∙◌, subst, arith, Ordering, Less, Equal, Greater, nat_cmp}
-use Rattle.std.specs.Cmp.{nat_cmp_is, nat_cmp_total, tied_itself}
+use Rattle.std.proofs.Common.{Fits, w8, ◌≡◌, ◌≢◌, ℕ, zero, suc, ◌+◌, ◌*◌, ◌/◌, ◌%◌, ◌^◌, ◌<◌, ◌≤◌, ⊎_elim, List, [], ◌∷◌, length, drop, get_or, All, sym, refl, ap, ◌∙◌, subst, arith, Ordering, Less, Equal, Greater, nat_cmp}
+use Rattle.std.specs.Cmp.{nat_cmp_is, tied_itself}
 use Rattle.std.specs.Cmp.Lexicographic.{nat_list_cmp_total}
 use Rattle.std.specs.Ordering.{ordering_then}
 use Rattle.std.specs.FinMap.{nat_cmp-IsAntisymmetric, slice_cmp-IsAntisymmetric}
-use Rattle.std.proofs.Math.Nat.{mul_assoc, mul_comm, mul-pos, pow-suc}
+use Rattle.std.proofs.Math.Nat.{mul_comm, mul-pos, pow-suc}
 use Rattle.std.proofs.lemmas.Nat.{mul-add-lt}
 use Rattle.std.proofs.lemmas.Bool.{cases_order, cases_lt}
 use Rattle.std.proofs.lemmas.List.{get_or_default, length-drop, get_or_past, drop_all}
@@ -14,7 +14,7 @@ use Rattle.judy_model.specs.Keys.{IsStringKey, word_order, byte_order}
 use Rattle.judy_model.proofs.ByteLemmas.{unit_pos}
 use Rattle.judy_sl.proofs.Spelling.{spelled-more}
 use Rattle.judy_sl.proofs.Ways.{pieces_short, pieces_long}
-use Rattle.judy_sl.specs.Pieces.{spelled, piece_of, pieces_in, pieces, IsFinal, IsInner, AreInner, ArePieces, IsText}
+use Rattle.judy_sl.specs.Pieces.{spelled, piece_of, pieces_in, pieces, IsFinal, IsInner, ArePieces, IsText}
 
 -- ---- texts
 

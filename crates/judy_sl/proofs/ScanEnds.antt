@@ -1,18 +1,17 @@
 -- The way down from an entry to the first of the keys behind it.
-use Rattle.std.proofs.Common.{◌≡◌, ◌≢◌, ℕ, zero, suc, ◌+◌, ◌-◌, ◌*◌, ◌%◌, ◌<◌, ◌≤◌, ◌^◌, Bool, true, false, IsTrue, IsFalse, inl, inr, ⊎_elim, ◌⊎◌, List, [], ◌∷◌, ◌++◌, length, take, drop, Option, Some, None, is_some, All, sym, refl, ap, ◌∙◌, subst, arith, true≢false}
+use Rattle.std.proofs.Common.{◌≡◌, ◌≢◌, ℕ, zero, suc, ◌+◌, ◌*◌, ◌%◌, ◌≤◌, IsTrue, IsFalse, inl, ⊎_elim, List, [], ◌∷◌, ◌++◌, length, take, drop, Option, Some, None, is_some, sym, refl, ap, ◌∙◌, subst, arith, true≢false}
 use Rattle.std.specs.FinMap.{FinMap, nat_cmp-IsAntisymmetric, keys, get, contains_key, empty, empty_of_len, same_map, get-empty}
 use Rattle.std.specs.Cmp.{nat_cmp_total}
 use Rattle.std.proofs.lemmas.Bool.{cases_eq, cases_lt}
-use Rattle.std.proofs.lemmas.Option.{none-some}
 use Rattle.std.proofs.lemmas.List.{append_assoc, append-nil, length-append}
 use Rattle.judy_model.specs.Keys.{IsWord, IsStringKey, word_order}
 use Rattle.judy_model.proofs.Ascending.{Among}
 use Rattle.judy_model.proofs.KeysLemmas.{length-keys, contains_key-from_among}
 use Rattle.judy_sl.specs.declared.scans.Look.{Look}
 use Rattle.judy_sl.specs.declared.scans.Turn.{Turn}
-use Rattle.judy_sl.specs.Pieces.{piece_of, pieces, pieces_in, piece_bytes, spelling, IsFinal, IsInner, AreInner, ArePieces, IsText, SpellKey}
+use Rattle.judy_sl.specs.Pieces.{piece_of, pieces, piece_bytes, spelling, IsFinal, IsInner, AreInner, IsText, SpellKey}
 use Rattle.judy_sl.specs.World.{World, Node, gone, tail, level, lookup, walk}
-use Rattle.judy_sl.specs.Worlds.{IsWorld, FitsBehind}
+use Rattle.judy_sl.specs.Worlds.{IsWorld}
 use Rattle.judy_sl.specs.Scans.{IsFirstEntry, IsNear, IsEnd, IsTurnAt, IsNeighbour}
 use Rattle.judy_sl.proofs.Ways.{pieces_short, pieces_long, lookup-walk, walk-more, walk-behind}
 use Rattle.judy_sl.proofs.PieceLemmas.{text_of_key, pieces_are, piece_of-lt, text-drop}

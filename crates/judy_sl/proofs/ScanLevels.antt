@@ -1,5 +1,5 @@
 -- What is met first at one level, by what is met first behind its entries.
-use Rattle.std.proofs.Common.{◌≡◌, ◌≢◌, ℕ, zero, suc, Bool, true, false, cond, ◌&&◌, IsTrue, IsFalse, inl, inr, ⊎_elim, ◌⊎◌, List, [], ◌∷◌, Option, Some, None, is_some, sym, refl, ap, ◌∙◌, subst, true≢false, Ordering, Less, Equal, Greater, is_lt, is_le}
+use Rattle.std.proofs.Common.{◌≡◌, ℕ, suc, Bool, true, false, cond, ◌&&◌, IsTrue, IsFalse, inl, inr, ⊎_elim, ◌⊎◌, List, [], ◌∷◌, Some, None, is_some, sym, refl, ap, ◌∙◌, subst, Ordering, Less, Equal, Greater, is_lt, is_le}
 use Rattle.std.specs.Ordering.{ordering_then, is_eq, eq_by_cmp}
 use Rattle.std.specs.Cmp.{IsTotalOrder, nat_cmp_total, tied_itself, back_total}
 use Rattle.std.specs.Cmp.Lexicographic.{slice_cmp}
@@ -13,7 +13,7 @@ use Rattle.judy_sl.specs.declared.scans.Side.{Side}
 use Rattle.judy_sl.specs.declared.scans.Side.TheVariants.{Above, Below}
 use Rattle.judy_sl.specs.declared.scans.Look.{Look}
 use Rattle.judy_sl.specs.Pieces.{IsFinal, IsInner, ArePieces}
-use Rattle.judy_sl.specs.World.{World, Node, gone, tail, level, at_node, at_entry, lookup}
+use Rattle.judy_sl.specs.World.{World, gone, tail, level, at_node, at_entry, lookup}
 use Rattle.judy_sl.specs.Scans.{along, is_beyond, IsNearestEntry, IsFirstEntry, meets, IsNone, IsNear, IsEnd}
 
 -- ---- the order from a side

@@ -1,8 +1,7 @@
 -- What a scan of the levels finds is the neighbour in the map.
-use Rattle.std.proofs.Common.{◌≡◌, ℕ, Bool, true, false, not, IsTrue, IsFalse, List, Option, Some, None, is_some, unwrap_or, sym, refl, ap, ◌∙◌, subst, true≢false, is_lt, is_le}
+use Rattle.std.proofs.Common.{◌≡◌, ℕ, Bool, true, false, not, IsTrue, IsFalse, List, Option, Some, None, is_some, unwrap_or, sym, refl, ap, ◌∙◌, true≢false, is_le}
 use Rattle.std.specs.FinMap.{FinMap, get, contains_key}
 use Rattle.judy_model.specs.Keys.{IsStringKey, byte_order}
-use Rattle.judy_model.specs.Tables.{string_keys}
 use Rattle.judy_model.proofs.Orders.{le_from_not_lt, lt_from_not_le}
 use Rattle.judy_model.proofs.NearestLemmas.{first_found, first_missing, next_found, next_missing, last_found, last_missing, prev_found, prev_missing}
 use Rattle.judy_model.proofs.TableLemmas.{string_keys-all, get-table, table_some, byte_order_total, byte_order_same}

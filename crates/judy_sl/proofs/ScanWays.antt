@@ -1,19 +1,17 @@
 -- The two ways of a scan: down the pieces of a key, and down from the entry where it turns.
-use Rattle.std.proofs.Common.{◌≡◌, ◌≢◌, ℕ, zero, suc, ◌+◌, ◌-◌, ◌*◌, ◌<◌, ◌≤◌, Bool, true, false, ◌&&◌, IsTrue, IsFalse, inl, inr, ⊎_elim, List, [], ◌∷◌, ◌++◌, length, take, drop, Option, Some, None, is_some, sym, refl, ap, ◌∙◌, subst, arith, is_lt}
+use Rattle.std.proofs.Common.{◌≡◌, ℕ, suc, ◌-◌, ◌<◌, ◌≤◌, Bool, false, IsTrue, List, [], ◌∷◌, ◌++◌, length, take, drop, Option, Some, None, is_some, sym, refl, ap, ◌∙◌, subst, arith}
 use Rattle.std.specs.Borrow.{Bor}
 use Rattle.std.specs.FinMap.{FinMap, get, contains_key}
-use Rattle.std.proofs.lemmas.Bool.{and_parts, cases_eq}
-use Rattle.std.proofs.lemmas.Option.{none-some}
+use Rattle.std.proofs.lemmas.Bool.{and_parts}
 use Rattle.std.proofs.lemmas.List.{append_assoc, take-append-drop, take_at, length-append, append-nil}
-use Rattle.judy_model.specs.Keys.{IsWord, IsStringKey, word_order}
+use Rattle.judy_model.specs.Keys.{word_order}
 use Rattle.judy_model.specs.Arrays.{ArrayOf}
 use Rattle.judy_sl.specs.declared.scans.Look.{Look}
 use Rattle.judy_sl.specs.declared.scans.Turn.{Turn}
-use Rattle.judy_sl.specs.Pieces.{piece_of, pieces, piece_bytes, spelling, IsFinal, IsInner, AreInner, ArePieces, IsText, SpellKey}
-use Rattle.judy_sl.specs.World.{World, gone, tail, level, lookup, walk}
-use Rattle.judy_sl.specs.Worlds.{IsWorld, FitsBehind}
-use Rattle.judy_sl.specs.Scans.{along, is_beyond, IsNearestEntry, IsFirstEntry, turn_or, meets, IsNone, IsNear, IsEnd, IsTurn, IsTurnAt}
-use Rattle.judy_sl.proofs.Ways.{pieces_short, pieces_long, walk-more, walk-behind}
+use Rattle.judy_sl.specs.Pieces.{piece_of, pieces, piece_bytes, spelling, IsInner, AreInner, IsText}
+use Rattle.judy_sl.specs.World.{World, tail, level, walk}
+use Rattle.judy_sl.specs.Scans.{along, is_beyond, IsNearestEntry, turn_or, meets, IsNone, IsNear, IsEnd, IsTurn}
+use Rattle.judy_sl.proofs.Ways.{pieces_short, pieces_long, walk-more}
 use Rattle.judy_sl.proofs.PieceLemmas.{text-drop, piece-IsFinal, piece-IsInner}
 use Rattle.judy_sl.proofs.PieceBytes.{bytes-piece, spelling-append}
 use Rattle.judy_sl.proofs.ScanLevels.{NoneBehind, none_child, moved_near, turned_near, turned_none, last_near, last_none, tail_end}

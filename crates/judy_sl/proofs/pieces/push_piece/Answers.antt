@@ -1,7 +1,6 @@
-use Rattle.std.proofs.Common.{◌≡◌, ◌≢◌, ℕ, ◌+◌, ◌<◌, ◌≤◌, List, ◌++◌, length, ◌∷◌, [], Bool, true, false, cond, take, drop, filter, nat_lt, get_or, refl, ap, sym, ◌∙◌, arith, lt-ltb}
+use Rattle.std.proofs.Common.{◌≡◌, ◌≢◌, ℕ, ◌+◌, ◌<◌, ◌≤◌, List, ◌++◌, length, ◌∷◌, [], Bool, true, false, cond, take, drop, filter, nat_lt, get_or, ap, sym, ◌∙◌, arith, lt-ltb}
 use Rattle.std.proofs.lemmas.List.{append-nil, append_assoc, take_all, take-append-drop, length-append}
 use Rattle.std.proofs.lemmas.List.Elements.{filter_more, filter-append}
-use Rattle.std.proofs.lemmas.Bool.{false_from_ne_true}
 use Rattle.judy_sl.proofs.PieceBytes.{piece_bytes-be}
 use Rattle.judy_sl.proofs.pieces.push_piece.Goals as goal
 use Rattle.judy_sl.proofs.pieces.push_piece.Goals.{then-byte-ne0, else-byte-ne0}

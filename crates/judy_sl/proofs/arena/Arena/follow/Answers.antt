@@ -1,13 +1,12 @@
-use Rattle.std.proofs.Common.{◌≡◌, ◌∙◌, ◌++◌, ◌+◌, ◌≤◌, true, false, sym, ap, arith, length, take, drop, subst, refl, suc, is_some, is_ok, Some, None, Ok, Err, Result, OnOk, true≢false}
+use Rattle.std.proofs.Common.{◌≡◌, ◌∙◌, ◌++◌, ◌+◌, ◌≤◌, true, sym, ap, arith, length, subst, refl, suc, is_some, is_ok, Some, Ok, Err, Result, OnOk, true≢false}
 use Rattle.std.proofs.lemmas.List.{length-append}
-use Rattle.std.specs.FinMap.{get}
 use Rattle.judy_sl.specs.declared.child.Child.TheVariants.{Free, Tail, Level}
 use Rattle.judy_sl.specs.Pieces.{piece_bytes}
 use Rattle.judy_sl.specs.Arenas.{world_of, node_of, HasText}
 use Rattle.judy_sl.specs.Scans.{IsFirstEntry, IsNeighbour}
 use Rattle.judy_sl.proofs.OnWay.{child_from}
 use Rattle.judy_sl.proofs.PieceBytes.{inner_bytes}
-use Rattle.judy_sl.proofs.ScanEnds.{level_words, OnFollow, follow_start, follow_room, follow_entry, follow_end, follow_on, follow_tail_room, follow_tail, follow_some, follow_level}
+use Rattle.judy_sl.proofs.ScanEnds.{level_words, follow_start, follow_room, follow_entry, follow_end, follow_on, follow_tail_room, follow_tail, follow_some, follow_level}
 use Rattle.judy_sl.proofs.arena.Arena.follow.Goals as goal
 
 pub loop-piece-init : goal.loop-piece-init

@@ -1,7 +1,7 @@
-use Rattle.std.proofs.Common.{◌∙◌, ap, refl, subst, None}
+use Rattle.std.proofs.Common.{◌∙◌, refl, subst, None}
 use Rattle.judy_sl.specs.Pieces.{IsText}
 use Rattle.judy_sl.specs.Arenas.{world_of}
-use Rattle.judy_sl.specs.Scans.{IsTurn, IsNone, IsTurnAt, IsNeighbour}
+use Rattle.judy_sl.specs.Scans.{IsTurn, IsTurnAt}
 use Rattle.judy_sl.proofs.ScanMaps.{scanned}
 use Rattle.judy_sl.proofs.arena.Arena.neighbour.Goals as goal
 
