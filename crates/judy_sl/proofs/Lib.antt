@@ -14,3 +14,4 @@ pub mod Maps
 pub mod Keeping
 pub mod Filled
 pub mod Tailed
+pub mod Inserted
