@@ -20,3 +20,4 @@ pub mod Keeping
 pub mod Filled
 pub mod Tailed
 pub mod ScanMaps
+pub mod Inserted

@@ -18,7 +18,7 @@ use Rattle.judy_sl.specs.Worlds.{IsWorld, FitsBehind}
 use Rattle.judy_sl.specs.Arenas.{world_of, node_of, child_at, IsArena, HasText, HasLimit}
 use Rattle.judy_sl.specs.Places.{IsPlace, place_with}
 use Rattle.judy_sl.specs.Ways.{seat_of, piece_at, LeadsTo, IsFound, IsGap, HasValue, left_of}
-use Rattle.judy_sl.specs.Grown.{IsChange, IsPut, IsAdded}
+use Rattle.judy_sl.specs.Grown.{IsChange, IsPut, IsAdded, IsSame, next_place}
 use Rattle.judy_sl.proofs.PieceLemmas.{piece-IsInner, text-drop}
 use Rattle.judy_sl.proofs.Ways.{look_in, lookup-in, walk-more, tail-same, tail-other, pieces_long}
 use Rattle.judy_sl.proofs.Changes.{way-stays}
@@ -27,7 +27,7 @@ use Rattle.judy_sl.proofs.Entries.{changes_behind}
 use Rattle.judy_sl.proofs.OnWay.{pieces-some, inner-more}
 use Rattle.judy_sl.proofs.Written.{behind-leads, apart-leads}
 use Rattle.judy_sl.proofs.Linked.{node_with, texts-place, limits-place, root-place, world-with_place, insert-some, get-insert_here, get-insert_off}
-use Rattle.judy_sl.proofs.Filled.{level-place, place-inside}
+use Rattle.judy_sl.proofs.Filled.{level-place, place-inside, world-same, arena-same, next-stays}
 
 -- A child that was put is at its seat.
 pub world-put : (before after : Arena) (child : Child) (at : ℕ) → IsPut before after child at → world_of after ≡ set_node (world_of before) (suc at) (node_of child)
@@ -216,3 +216,20 @@ module _ (arena : Arena) (is : IsArena arena) (key : List ℕ) (is_key : IsStrin
         change = subst (λ w. IsChange world w (pieces key) (Some 0)) (sym after-is) (subst (λ ps. IsChange world (tailed_after world is.behind is.is_world arena.root.map refl key is_key (seat_of place) (piece_at place) held (pieces-some (drop 8 rest_of)) inner-is leads-is gap.map gap.is_level gap.absent at free-is) ps (Some 0)) (sym leads-is.parts) (tail-change world is.behind is.is_world arena.root.map refl key is_key (seat_of place) (piece_at place) held (pieces-some (drop 8 rest_of)) inner-is leads-is gap.map gap.is_level gap.absent at free-is));
         found = subst (λ w. IsFound w key (Below at 0)) (sym after-is) (tail-found world is.behind is.is_world arena.root.map refl key is_key (seat_of place) (piece_at place) held (pieces-some (drop 8 rest_of)) inner-is leads-is gap.map gap.is_level gap.absent at free-is);
       }
+
+-- A key that is added to an arena in which nothing had changed is added to the arena before.
+pub added-same : (before same after : Arena) (key : List ℕ) (place : Place) → IsSame before same → IsAdded same after key place → IsAdded before after key place
+added-same before same after key at is added = record {
+  is_arena = added.is_arena;
+  change = subst (λ w. IsChange w (world_of after) (pieces key) (Some 0)) (world-same before same is) added.change;
+  found = added.found;
+}
+
+-- The whole of it, as the steps of the code come.
+pub filled-tail : (before reserved entered after : Arena) (key : List ℕ) (place : Place) (left at put_at : ℕ) (rest : Rest) → IsArena before → IsStringKey key → IsGap (world_of before) key place left → 8 ≤ left → IsSame before reserved → at ≡ next_place reserved → entered ≡ place_with reserved place at → put_at ≡ next_place entered → IsPut entered after (Tail rest) put_at → rest.bytes.items ≡ drop 8 (left_of key left) → rest.value ≡ 0 → IsAdded before after key (Below at 0)
+filled-tail before reserved entered after key place left at put_at rest is is_key gap long same at_is entered_is put_at_is put_is bytes value =
+    let gap_there : IsGap (world_of reserved) key place left = subst (λ w. IsGap w key place left) (sym (world-same before reserved same)) gap in
+    let here : put_at ≡ at = put_at_is ∙ ap next_place entered_is ∙ next-stays reserved place at (level-place reserved place gap_there.map gap_there.is_level) ∙ sym at_is in
+    added-same before reserved after key (Below at 0) same (
+      fills-tail reserved (arena-same before reserved same is) key is_key place left gap_there long entered after at entered_is rest (subst (IsPut entered after (Tail rest)) here put_is) bytes value (subst IsText (sym bytes) (text-drop 8 (left_of key left) gap_there.text))
+    )

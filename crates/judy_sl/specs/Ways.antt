@@ -80,3 +80,9 @@ abbrev pub IsWay : Arena → List ℕ → Way → Type 0
 IsWay arena key (At place) = IsFound (world_of arena) key place
 IsWay arena key (Gap place left) = IsGap (world_of arena) key place left
 IsWay arena key (Clash at left) = IsClash (world_of arena) key at left
+
+-- The way ends without the key's value.
+abbrev pub IsNew : Way → Type 0
+IsNew (At place) = ⊥
+IsNew (Gap place left) = Unit {0}
+IsNew (Clash at left) = Unit {0}

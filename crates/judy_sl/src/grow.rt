@@ -4,11 +4,11 @@
 ghost use Rattle.std.specs.Prelude.{◌≡◌, ◌+◌, ◌<◌, ◌≤◌, None, IfOk, OnOk, IfErr, OnErr, length, vec_len, vec_capacity};
 ghost use Rattle.judy_model.specs.Keys.{IsStringKey};
 ghost use Rattle.judy_sl.specs.declared.error.SlError.TheVariants.{NoMemory};
-ghost use Rattle.judy_sl.specs.Arenas.{IsArena};
-ghost use Rattle.judy_sl.specs.Ways.{IsGap, left_of};
+ghost use Rattle.judy_sl.specs.Arenas.{world_of, IsArena};
+ghost use Rattle.judy_sl.specs.Ways.{IsGap, IsClash, IsWay, IsNew};
 ghost use Rattle.judy_sl.specs.Grown.{IsPut, IsAdded, IsSame, next_place};
 
-use crate::arena::{Arena, Place};
+use crate::arena::{Arena, Place, Way};
 use crate::child::{Child, Rest};
 use crate::error::SlError;
 
@@ -45,6 +45,64 @@ impl Arena {
                 self.children.push_reserved(child);
                 at
             }
+        }
+    }
+
+    // Adds a key whose way ends at a place without an entry.
+    fn fill(&mut self, key: &[u8], place: Place, left: usize) -> Result<Place, SlError>
+        requires is_arena { IsArena self.old }
+        requires is_key { IsStringKey key.now }
+        requires gap { IsGap (world_of self.old) key.now place left }
+        ensures added { IfOk result (λ made. IsAdded self.old self.new key.now made) }
+        ensures refused { IfErr result (λ error. IsSame self.old self.new × (error ≡ NoMemory)) }
+    {
+        if left < 8 {
+            return match self.enter(place, 0) {
+                Ok(()) => Ok(place),
+                Err(error) => Err(error),
+            };
+        }
+        let alloc = *self.children.allocator();
+        let Ok(bytes) = key[key.len() - left + 8..].to_vec(alloc) else {
+            return Err(SlError::NoMemory);
+        };
+        if self.children.reserve(1).is_err() {
+            return Err(SlError::NoMemory);
+        }
+        let at = self.next_place();
+        match self.enter(place, at as u64) {
+            Ok(()) => {
+                self.put(Child::Tail(Rest { bytes, value: 0 }));
+                Ok(Place::Below(at, 0))
+            }
+            Err(error) => Err(error),
+        }
+    }
+
+    // Adds a key whose way comes to another's tail.
+    fn split(&mut self, key: &[u8], at: usize, left: usize) -> Result<Place, SlError>
+        requires is_arena { IsArena self.old }
+        requires is_key { IsStringKey key.now }
+        requires clash { IsClash (world_of self.old) key.now at left }
+        ensures added { IfOk result (λ made. IsAdded self.old self.new key.now made) }
+        ensures refused { IfErr result (λ error. IsSame self.old self.new × (error ≡ NoMemory)) }
+    {
+        Err(SlError::NoMemory)
+    }
+
+    // Adds a key that isn't there, with the value 0.
+    pub fn add(&mut self, key: &[u8], way: Way) -> Result<Place, SlError>
+        requires is_arena { IsArena self.old }
+        requires is_key { IsStringKey key.now }
+        requires way { IsWay self.old key.now way }
+        requires new { IsNew way }
+        ensures added { IfOk result (λ made. IsAdded self.old self.new key.now made) }
+        ensures refused { IfErr result (λ error. IsSame self.old self.new × (error ≡ NoMemory)) }
+    {
+        match way {
+            Way::At(_) => unreachable!(),
+            Way::Gap(place, left) => self.fill(key, place, left),
+            Way::Clash(at, left) => self.split(key, at, left),
         }
     }
 }

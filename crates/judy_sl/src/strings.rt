@@ -1,13 +1,15 @@
 //! The array that maps keys without zero bytes to words.
 
-ghost use Rattle.std.specs.Prelude.{◌≡◌, ◌≤◌, ◌↔◌, IsTrue};
+ghost use Rattle.std.specs.Prelude.{◌≡◌, ◌≤◌, ◌↔◌, Some, IfOk, OnOk, IfErr, IsTrue, IsFalse};
 ghost use Rattle.std.specs.Borrow.{sem};
 ghost use Rattle.std.specs.FinMap as map;
 ghost use Rattle.std.specs.Option.{option_copied_mut};
 ghost use Rattle.judy_model.specs.Arrays as array;
-ghost use Rattle.judy_sl.specs.Lends.{LendsSlot};
+ghost use Rattle.judy_model.specs.Keys.{IsStringKey};
+ghost use Rattle.judy_sl.specs.Lends.{LendsSlot, LendsIns, IsRefusal};
 
 use crate::arena::{Arena, Way};
+use crate::error::SlError;
 use crate::keys::is_key;
 use std::alloc::Global;
 use std::marker::Model;
@@ -49,6 +51,38 @@ impl JudySl {
             limit,
             count: 0,
             arena: Arena::new(alloc),
+        }
+    }
+
+    /// The slot of the key, which is put in with the value 0 where it is absent; a key that is there keeps its value,
+    /// and is never refused. What the caller leaves in the slot is then the key's value. (Manual: JSLI, JudySLIns.)
+    ///
+    /// `BadKey` where the bytes are no key. `Full` where they are an absent one and the array holds as many keys as its
+    /// limit (limit: this project's own). `NoMemory` only where they are an absent one and the array isn't full. Each
+    /// leaves the array as it was.
+    pub fn ins(&mut self, key: &[u8]) -> Result<&mut u64, SlError>
+        ensures* writes_back { sem 𝓛 (LendsIns self.entry key.now result) }
+        ensures value { IfOk result (λ slot. Some slot.now ≡ map.get (array.ins self.old.map key.now) key.now) }
+        ensures accepted { OnOk result (IsStringKey key.now × IsFalse (array.is_full self.old key.now)) }
+        ensures refused { IfErr result (IsRefusal self.old key.now) }
+    {
+        let arena = &self.arena;
+        if !is_key(key) {
+            return Err(SlError::BadKey);
+        }
+        match arena.walk(key) {
+            Way::At(place) => self.arena.ins(place),
+            way => {
+                if self.count == self.limit {
+                    return Err(SlError::Full);
+                }
+                let made = match self.arena.add(key, way) {
+                    Ok(made) => made,
+                    Err(error) => return Err(error),
+                };
+                self.count += 1;
+                self.arena.ins(made)
+            }
         }
     }
 
