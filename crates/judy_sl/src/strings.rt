@@ -137,4 +137,16 @@ impl JudySl {
     {
         self.limit
     }
+
+    /// Takes every key out, gives their memory back, and answers how many they were. The array keeps its limit and
+    /// may be used again. (Manual: JSLFA, JudySLFreeArray, which answers the bytes freed.)
+    pub fn free_array(&mut self) -> u64
+        ensures freed { result ≡ map.len self.old.map }
+        ensures emptied { self.new ≡ array.empty_array self.old.limit }
+    {
+        let freed = self.count;
+        self.arena = Arena::new(*self.arena.children.allocator());
+        self.count = 0;
+        freed
+    }
 }
