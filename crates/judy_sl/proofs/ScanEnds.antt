@@ -16,7 +16,7 @@ use Rattle.judy_sl.specs.Scans.{IsFirstEntry, IsNear, IsEnd, IsTurnAt, IsNeighbo
 use Rattle.judy_sl.proofs.Ways.{pieces_short, pieces_long, lookup-walk, walk-more, walk-behind}
 use Rattle.judy_sl.proofs.PieceLemmas.{text_of_key, pieces_are, piece_of-lt, text-drop}
 use Rattle.judy_sl.proofs.PieceBytes.{spelling-pieces, spelling-append}
-use Rattle.judy_sl.proofs.ScanLevels.{at_tail, lookup_final, lookup_inner, end_final, end_tail, end_level}
+use Rattle.judy_sl.proofs.ScanLevels.{pieces_rest, at_tail, lookup_final, lookup_inner, end_final, end_tail, end_level}
 use Rattle.judy_sl.proofs.ScanWays.{AreInner-more}
 
 -- ---- each entry begins a key
@@ -64,41 +64,62 @@ some_entry map used = by (keys map) refl
 length-more : (place : List ℕ) (piece : ℕ) → length (place ++ piece ∷ []) ≡ length place + 1
 length-more place piece = length-append place (piece ∷ [])
 
-module _ {world : World} {behind : ℕ → List ℕ} (is_world : IsWorld world behind) where
-  -- A key begins with a place and an inner piece, where one does so with each entry of the level that it leads to.
-  begins_behind : (seat at : ℕ) (place : List ℕ) (piece : ℕ) → seat ≡ suc at → behind seat ≡ place ++ piece ∷ []
-      → ((map : FinMap word_order ℕ) (next found : ℕ) → world seat ≡ level map → get map next ≡ Some found → (rest : List ℕ) × SpellKey (behind seat ++ next ∷ rest))
-      → (node : Node) → world seat ≡ node → node ≢ gone → (rest : List ℕ) × SpellKey (place ++ piece ∷ rest)
-  begins_behind seat at place piece one leads each gone is some = absurd (some refl)
-  begins_behind seat at place piece one leads each (tail held value) is some =
-      (held, subst SpellKey (ap (λ ps. ps ++ held) leads ∙ append_assoc place (piece ∷ []) held) (is_world.tails seat held value is))
-  begins_behind seat at place piece one leads each (level map) is some =
-      let entry = some_entry map (is_world.used at map (ap world (sym one) ∙ is)) in
-      let rest = each map entry.0 entry.1 is entry.2 in
-      (entry.0 ∷ rest.0, subst SpellKey (ap (λ ps. ps ++ entry.0 ∷ rest.0) leads ∙ append_assoc place (piece ∷ []) (entry.0 ∷ rest.0)) rest.1)
+-- What stands behind others in the pieces of a key are pieces.
+are_behind : (front : List ℕ) (piece : ℕ) (rest : List ℕ) → ArePieces (front ++ piece ∷ rest) → ArePieces (piece ∷ rest)
+are_behind [] piece rest are = are
+are_behind (first ∷ []) piece rest are = are.1
+are_behind (first ∷ second ∷ front) piece rest are = are_behind (second ∷ front) piece rest are.1
 
-  begins_entry : (seat : ℕ) (map : FinMap word_order ℕ) (piece found : ℕ) → world seat ≡ level map → get map piece ≡ Some found
-      → ((below : FinMap word_order ℕ) (next at : ℕ) → length (behind (suc found)) ≡ length (behind seat) + 1 → 8 * length (behind (suc found)) ≤ 1024 → world (suc found) ≡ level below → get below next ≡ Some at → (rest : List ℕ) × SpellKey (behind (suc found) ++ next ∷ rest))
-      → (rest : List ℕ) × SpellKey (behind seat ++ piece ∷ rest)
-  begins_entry seat map piece found is held each = ⊎_elim
-      (λ final. ([], (is_world.levels seat map is).ends piece found held final))
+-- So pieces of a key do.
+key_behind : (front : List ℕ) (piece : ℕ) (rest : List ℕ) → SpellKey (front ++ piece ∷ rest) → ArePieces (piece ∷ rest)
+key_behind front piece rest key = are_behind front piece rest (subst ArePieces key.spells (pieces_are key.key (text_of_key key.key key.is_key)))
+
+-- A key of the array begins with a place and a piece there.
+pub record Begins (world : World) (place : List ℕ) (seat piece : ℕ) : Type 0 where
+  pub rest : List ℕ
+  pub spelled : SpellKey (place ++ piece ∷ rest)
+  pub value : ℕ
+  pub found : lookup world seat (piece ∷ rest) ≡ Some value
+
+module _ {world : World} {behind : ℕ → List ℕ} (is_world : IsWorld world behind) where
+  -- One begins with a place and an inner piece, where one does so with each entry of the level that it leads to.
+  begins_behind : (seat : ℕ) (map : FinMap word_order ℕ) (piece at : ℕ) (is_level : world seat ≡ level map) (entry : get map piece ≡ Some at) (inner : IsInner piece)
+      → ((below : FinMap word_order ℕ) (next found : ℕ) → world (suc at) ≡ level below → get below next ≡ Some found → Begins world (behind (suc at)) (suc at) next)
+      → (node : Node) → world (suc at) ≡ node → node ≢ gone → behind (suc at) ≡ behind seat ++ piece ∷ [] → Begins world (behind seat) seat piece
+  begins_behind seat map piece at is_level entry inner each gone is some leads = absurd (some refl)
+  begins_behind seat map piece at is_level entry inner each (tail held value) is some leads =
+      let key = subst SpellKey (ap (λ ps. ps ++ held) leads ∙ append_assoc (behind seat) (piece ∷ []) held) (is_world.tails (suc at) held value is) in
+      let are = pieces_rest piece held inner (key_behind (behind seat) piece held key) in
+      record { rest = held; spelled = key; value = value; found = lookup_inner world seat map is_level piece at held entry are ∙ at_tail world (suc at) held value is are }
+  begins_behind seat map piece at is_level entry inner each (level below) is some leads =
+      let first = some_entry below (is_world.used at below is) in
+      let begun = each below first.0 first.1 is first.2 in
+      let key = subst SpellKey (ap (λ ps. ps ++ first.0 ∷ begun.rest) leads ∙ append_assoc (behind seat) (piece ∷ []) (first.0 ∷ begun.rest)) begun.spelled in
+      let are = pieces_rest piece (first.0 ∷ begun.rest) inner (key_behind (behind seat) piece (first.0 ∷ begun.rest) key) in
+      record { rest = first.0 ∷ begun.rest; spelled = key; value = begun.value; found = lookup_inner world seat map is_level piece at (first.0 ∷ begun.rest) entry are ∙ begun.found }
+
+  begins_entry : (seat : ℕ) (map : FinMap word_order ℕ) (piece at : ℕ) → world seat ≡ level map → get map piece ≡ Some at
+      → ((below : FinMap word_order ℕ) (next found : ℕ) → length (behind (suc at)) ≡ length (behind seat) + 1 → 8 * length (behind (suc at)) ≤ 1024 → world (suc at) ≡ level below → get below next ≡ Some found → Begins world (behind (suc at)) (suc at) next)
+      → Begins world (behind seat) seat piece
+  begins_entry seat map piece at is entry each = ⊎_elim
+      (λ final. record { rest = []; spelled = (is_world.levels seat map is).ends piece at entry final; value = at; found = lookup_final world seat map is piece at entry })
       (λ inner.
-      let leads = (is_world.levels seat map is).leads piece found held inner in
-      begins_behind (suc found) found (behind seat) piece refl leads.0 (λ below next at also entry. each below next at (ap length leads.0 ∙ length-more (behind seat) piece) (is_world.levels (suc found) below also).short also entry) (world (suc found)) refl leads.1)
+      let leads = (is_world.levels seat map is).leads piece at entry inner in
+      begins_behind seat map piece at is entry inner (λ below next found also there. each below next found (ap length leads.0 ∙ length-more (behind seat) piece) (is_world.levels (suc at) below also).short also there) (world (suc at)) refl leads.1 leads.0)
       (cases_eq (piece % 256) 0)
 
-  begins_within : (fuel seat : ℕ) (map : FinMap word_order ℕ) (piece found : ℕ) → 128 ≤ length (behind seat) + fuel → world seat ≡ level map → get map piece ≡ Some found → (rest : List ℕ) × SpellKey (behind seat ++ piece ∷ rest)
-  begins_within zero seat map piece found deep is held = begins_entry seat map piece found is held (λ below next at longer short also entry. let never : ⊥ = omega arith in absurd never)
-  begins_within (suc fuel) seat map piece found deep is held = begins_entry seat map piece found is held (λ below next at longer short also entry. begins_within fuel (suc found) below next at (omega arith) also entry)
+  begins_within : (fuel seat : ℕ) (map : FinMap word_order ℕ) (piece at : ℕ) → 128 ≤ length (behind seat) + fuel → world seat ≡ level map → get map piece ≡ Some at → Begins world (behind seat) seat piece
+  begins_within zero seat map piece at deep is entry = begins_entry seat map piece at is entry (λ below next found longer short also there. let never : ⊥ = omega arith in absurd never)
+  begins_within (suc fuel) seat map piece at deep is entry = begins_entry seat map piece at is entry (λ below next found longer short also there. begins_within fuel (suc at) below next found (omega arith) also there)
 
   -- A key begins with a place and each entry there.
-  pub begins : (seat : ℕ) (map : FinMap word_order ℕ) (piece : ℕ) → world seat ≡ level map → IsTrue (contains_key map piece) → (rest : List ℕ) × SpellKey (behind seat ++ piece ∷ rest)
+  pub begins : (seat : ℕ) (map : FinMap word_order ℕ) (piece : ℕ) → world seat ≡ level map → IsTrue (contains_key map piece) → Begins world (behind seat) seat piece
   begins seat map piece is held = let value = value_held map piece held in begins_within 128 seat map piece value.0 (omega arith) is value.1
 
   -- The entries of a level are words.
   pub level_words : (seat : ℕ) (map : FinMap word_order ℕ) → world seat ≡ level map → (piece : ℕ) → IsTrue (contains_key map piece) → IsWord piece
   level_words seat map is piece held = let key = begins seat map piece is held in
-      piece_in (behind seat) piece key.0 key.1.key (text_of_key key.1.key key.1.is_key) key.1.spells
+      piece_in (behind seat) piece key.rest key.spelled.key (text_of_key key.spelled.key key.spelled.is_key) key.spelled.spells
 
 -- ---- the way down
 
@@ -131,8 +152,8 @@ module _ {look : Look} {world : World} {behind : ℕ → List ℕ} (is_world : I
   pub follow_room : length bytes + length (piece_bytes piece) ≤ 1024
   follow_room =
       let begun = begins is_world on.seat map piece on.is_level on.held in
-      let spelled = subst (λ place. SpellKey (place ++ piece ∷ begun.0)) place_is begun.1 in
-      let long = ap length (key_spelled begun.0 spelled) ∙ length-append (bytes ++ piece_bytes piece) (spelling begun.0) in
+      let spelled = subst (λ place. SpellKey (place ++ piece ∷ begun.rest)) place_is begun.spelled in
+      let long = ap length (key_spelled begun.rest spelled) ∙ length-append (bytes ++ piece_bytes piece) (spelling begun.rest) in
       let parts = length-append bytes (piece_bytes piece) in
       let within = spelled.is_key.is_bytes_key.within_limit in
       omega arith

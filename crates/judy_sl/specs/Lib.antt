@@ -8,3 +8,4 @@ pub mod Scans
 pub mod Ways
 pub mod Grown
 pub mod Lends
+pub mod Levels

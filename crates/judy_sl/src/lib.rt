@@ -14,6 +14,7 @@ mod error;
 mod grow;
 mod keys;
 pub mod laws;
+mod level;
 mod pieces;
 mod scans;
 mod strings;
