@@ -15,3 +15,4 @@ pub mod Keeping
 pub mod Filled
 pub mod Tailed
 pub mod Inserted
+pub mod Branching

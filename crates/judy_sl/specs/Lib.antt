@@ -6,4 +6,5 @@ pub mod Arenas
 pub mod Places
 pub mod Ways
 pub mod Grown
+pub mod Branches
 pub mod Lends
