@@ -16,3 +16,4 @@ pub mod Filled
 pub mod Tailed
 pub mod Inserted
 pub mod Branching
+pub mod Grafts
