@@ -70,7 +70,7 @@ module _ (now after : Arena) (is : IsArena now) (child : Child) (to : ℕ) (put_
     put-look front map has piece rest are =
         frame-below (world_of now) (world_of after) is.behind is.is_world (λ p. ⊥) (λ seat some off. (put-same seat some).0) front map has piece rest are (λ some more e hit. hit)
 
-    pub put-grafts : (before : Arena) (was : IsArena before) → ((seat : ℕ) → world_of before seat ≢ gone → (world_of now seat ≡ world_of before seat) × (is.behind seat ≡ was.behind seat)) → Grafts before after
+    abbrev pub put-grafts : (before : Arena) (was : IsArena before) → ((seat : ℕ) → world_of before seat ≢ gone → (world_of now seat ≡ world_of before seat) × (is.behind seat ≡ was.behind seat)) → Grafts before after
     put-grafts before was same = record {
       was = was;
       is = put-arena;
@@ -179,7 +179,7 @@ module _ (now after : Arena) (is : IsArena now) (words : ArrayOf word_order) (to
   abbrev front : List ℕ
   front = place ++ piece ∷ []
 
-  up-fits : FitsBehind (world_of now) (behind_put now after is (Level words) to put_is front tt limit) front words.map
+  pub up-fits : FitsBehind (world_of now) (behind_put now after is (Level words) to put_is front tt limit) front words.map
   up-fits = record {
     leads = λ p found entry p_inner.
         let leads = branch.fits.leads p found entry p_inner in
@@ -188,7 +188,7 @@ module _ (now after : Arena) (is : IsArena now) (words : ArrayOf word_order) (to
     short = branch.fits.short;
   }
 
-  pub up-grafts : (before : Arena) (grafts : Grafts before now) → grafts.is ≡ is → Grafts before after
+  abbrev pub up-grafts : (before : Arena) (grafts : Grafts before now) → grafts.is ≡ is → Grafts before after
   up-grafts before grafts e = put-grafts now after is (Level words) to put_is front tt limit up-fits branch.used before grafts.was (subst (λ (a : IsArena now). (seat : ℕ) → world_of before seat ≢ gone → (world_of now seat ≡ world_of before seat) × (a.behind seat ≡ grafts.was.behind seat)) e grafts.same)
 
   module _ (map : FinMap word_order ℕ) (here : get map piece ≡ Some to) (off : (p : ℕ) → p ≢ piece → get map p ≡ None) where

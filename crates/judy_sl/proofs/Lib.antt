@@ -17,3 +17,4 @@ pub mod Tailed
 pub mod Inserted
 pub mod Branching
 pub mod Grafts
+pub mod Grafted

@@ -13,7 +13,7 @@ use Rattle.judy_model.specs.Arrays.{ArrayOf}
 use Rattle.judy_word.specs.Writes.{with_value}
 use Rattle.judy_sl.specs.declared.branches.Twig.{Twig}
 use Rattle.judy_sl.specs.declared.branches.Branch.{Branch}
-use Rattle.judy_sl.specs.Branches.{IsBuilt}
+use Rattle.judy_sl.specs.Branches.{IsBuilt, AreSingle}
 use Rattle.judy_sl.specs.Ways.{IsFound, IsClash, left_of}
 
 -- Another thing is found under one key, and nothing else changes.
@@ -65,3 +65,14 @@ pub record IsGraft (arena : Arena) (key : List ℕ) (at left : ℕ) (branch : Br
   pub bytes : List ℕ
   pub held_is : clash.held ≡ pieces bytes
   pub built : IsBuilt bytes clash.value (left_of key left) branch
+
+-- A key was added with the value 0.
+pub record IsGrafted (before after : Arena) (key : List ℕ) : Type 0 where
+  pub is_arena : IsArena after
+  pub change : IsChange (world_of before) (world_of after) (pieces key) (Some 0)
+
+-- A branch of some key, in whose levels each entry is there.
+pub record IsSound (branch : Branch) : Type 0 where
+  pub singles : AreSingle branch.upper.items
+  pub old : HasTwig branch.fork branch.old
+  pub new : HasTwig branch.fork branch.new
