@@ -5,7 +5,7 @@ use Rattle.std.proofs.lemmas.Option.{none-some, same_Some}
 use Rattle.std.proofs.lemmas.List.{append_assoc, append-nil, length-append}
 use Rattle.std.specs.Ordering.{eq_by_cmp}
 use Rattle.std.specs.Map.{keys_of}
-use Rattle.std.specs.FinMap.{FinMap, get, insert, empty, get-empty}
+use Rattle.std.specs.FinMap.{FinMap, get, insert, empty, contains_key, get-empty}
 use Rattle.judy_model.specs.Keys.{word_order, byte_order, IsStringKey}
 use Rattle.judy_model.specs.Arrays.{ArrayOf, empty_array}
 use Rattle.judy_word.specs.Writes.{with_value}
@@ -20,7 +20,7 @@ use Rattle.judy_sl.specs.Worlds.{IsWorld, FitsBehind}
 use Rattle.judy_sl.specs.Arenas.{world_of, node_of, child_at, IsArena, HasText, HasLimit}
 use Rattle.judy_sl.specs.Places.{with_child}
 use Rattle.judy_sl.specs.Ways.{LeadsTo, IsClash, left_of}
-use Rattle.judy_sl.specs.Grown.{IsChange, IsPut, IsHung, IsGraft, IsGrafted}
+use Rattle.judy_sl.specs.Grown.{IsChange, IsPut, IsHung, HasTwig, IsSound, IsGraft, IsGrafted}
 use Rattle.judy_sl.specs.Branches.{IsTwig, IsSprout, IsBuilt, AreSingle, single, entry_of}
 use Rattle.judy_sl.proofs.PieceLemmas.{piece-IsFinal, piece-IsInner, text-drop, pieces_are}
 use Rattle.judy_sl.proofs.Ways.{look_in, lookup-in, tail-same, tail-other, same-eq_by_cmp, eq_by_cmp-same, pieces_short, pieces_long}
@@ -267,3 +267,41 @@ grafted before now key at left branch graft upper words is nothing inside =
       is_arena = done-arena before now is.grafts key at (piece_of (left_of key left)) h.0 leads clash.held some clash.value clash.is_tail words is.limit there inside;
       change = done-change before now is.grafts key at (piece_of (left_of key left)) h.0 leads clash.held some clash.value clash.is_tail words is.limit there inside (subst ArePieces h.1 (pieces_are (left_of key left) clash.text));
     }
+
+-- ---- entries that are there
+
+contains-here : (map : FinMap word_order ℕ) (key value : ℕ) → get map key ≡ Some value → IsTrue (contains_key map key)
+contains-here map key value e = ap (λ (o : Option ℕ). is_some o) e
+
+contains-insert : (map : FinMap word_order ℕ) (key value other : ℕ) → IsTrue (contains_key map other) → IsTrue (contains_key (insert map key value) other)
+contains-insert map key value other there = elim (cases_eq other key) [
+  | inl e ↦ contains-here (insert map key value) other value (ap (get (insert map key value)) e ∙ get-insert_here map key value)
+  | inr apart ↦ ap (λ (o : Option ℕ). is_some o) (get-insert_off map key value other apart) ∙ there
+]
+
+pub single-contains : (piece : ℕ) (words : ArrayOf word_order) → words ≡ single piece → IsTrue (contains_key words.map piece)
+single-contains piece words is = contains-here words.map piece 0 (ap (λ (l : ArrayOf word_order). get l.map piece) is ∙ get-insert_here empty piece 0)
+
+twig-with : (words : ArrayOf word_order) (key value : ℕ) (twig : Option Twig) → HasTwig words twig → HasTwig (with_value words key value) twig
+twig-with words key value None has = tt
+twig-with words key value (Some twig) has = contains-insert words.map key value twig.piece has
+
+pub twig-stays : (before linked_to : Arena) (words linked : ArrayOf word_order) (hung_up twig : Option Twig) → IsHung before linked_to words linked hung_up → HasTwig words twig → HasTwig linked twig
+twig-stays before linked_to words linked None twig is has = subst (λ (l : ArrayOf word_order). HasTwig l twig) (sym is.1) has
+twig-stays before linked_to words linked (Some up) twig is has = subst (λ (l : ArrayOf word_order). HasTwig l twig) (sym is.2) (twig-with words up.piece is.0 twig has)
+
+sprout-twig : (before linked_to : ArrayOf word_order) (rest : List ℕ) (value : ℕ) (twig : Option Twig) → IsSprout before linked_to rest value twig → HasTwig linked_to twig
+sprout-twig before linked_to rest value None is = tt
+sprout-twig before linked_to rest value (Some twig) is =
+    ap (λ p. contains_key linked_to.map p) is.behind.1 ∙ contains-here linked_to.map (piece_of rest) 0 (ap (λ (l : ArrayOf word_order). get l.map (piece_of rest)) is.level ∙ get-insert_here before.map (piece_of rest) 0)
+
+pub sound-built : (bytes : List ℕ) (value : ℕ) (key : List ℕ) (branch : Branch) → IsBuilt bytes value key branch → IsSound branch
+sound-built bytes value key branch built = record {
+  singles = built.singles;
+  old = subst (λ (l : ArrayOf word_order). HasTwig l branch.old) (sym built.new.level) (twig-with built.middle (piece_of built.rest) (entry_of branch.new 0) branch.old (sprout-twig (empty_array 18446744073709551615) built.middle built.held value branch.old built.old));
+  new = sprout-twig built.middle branch.fork built.rest 0 branch.new built.new;
+}
+
+pub no-items : {A : Type 0} (xs : List A) → length xs ≡ 0 → xs ≡ []
+no-items [] e = refl
+no-items (x ∷ xs) e = absurd (omega arith)

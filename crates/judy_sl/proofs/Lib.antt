@@ -18,3 +18,4 @@ pub mod Inserted
 pub mod Branching
 pub mod Grafts
 pub mod Grafted
+pub mod Splits
