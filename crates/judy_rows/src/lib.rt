@@ -16,3 +16,5 @@ mod lines;
 mod refusals;
 #[cfg(test)]
 mod scripts;
+#[cfg(test)]
+mod strings;

@@ -17,9 +17,9 @@ module _ (world other : World) (behind : ℕ → List ℕ) (is : IsWorld world b
   pub changes_tail : (piece : ℕ) (held : List ℕ) (was value : ℕ) → world seat ≡ tail (piece ∷ held) was → other seat ≡ tail (piece ∷ held) value → IsChange world other (front ++ piece ∷ held) (Some value)
   changes_tail piece held was value before after =
       changes world other behind is root root_is front inner seat way apart piece held (Some value) (ap (λ node. look_in other node (piece ∷ held)) after ∙ tail-same other (piece ∷ held) value (λ e. cc)) (λ p rest are ne.
-        ap (λ node. look_in other node (p ∷ rest)) after
-        ∙ tail-other other (piece ∷ held) (p ∷ rest) value (λ e. ne (sym e))
-        ∙ sym (ap (λ node. look_in world node (p ∷ rest)) before ∙ tail-other world (piece ∷ held) (p ∷ rest) was (λ e. ne (sym e))))
+      ap (λ node. look_in other node (p ∷ rest)) after
+      ∙ tail-other other (piece ∷ held) (p ∷ rest) value (λ e. ne (sym e))
+      ∙ sym (ap (λ node. look_in world node (p ∷ rest)) before ∙ tail-other world (piece ∷ held) (p ∷ rest) was (λ e. ne (sym e))))
 
   -- A level whose entries differ under one piece.
   module _ (behind_is : behind seat ≡ front) (map changed : FinMap word_order ℕ) (before : world seat ≡ level map) (after : other seat ≡ level changed) (piece : ℕ) (same : (p : ℕ) → p ≢ piece → get changed p ≡ get map p) where

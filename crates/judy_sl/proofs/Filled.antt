@@ -148,8 +148,8 @@ module _ (arena : Arena) (is : IsArena arena) (key : List ℕ) (is_key : IsStrin
         (subst (NodeFits (world_of arena) is.behind (is.behind (seat_of place))) (sym node-is) (fits-insert (world_of arena) is.behind (is.behind (seat_of place)) gap.map (is.is_world.levels (seat_of place) gap.map gap.is_level) (piece_at place) 0 final spells))
         (subst (IsUsed (seat_of place)) (sym node-is) (is-used (seat_of place)));
     change = subst (λ ps. IsChange (world_of arena) (world_of (place_with arena place 0)) ps (Some 0)) (sym parts) (
-      changes_value (world_of arena) (world_of (place_with arena place 0)) is.behind is.is_world arena.root.map refl gap.leads.front gap.leads.inner (seat_of place) gap.leads.way apart-after (behind-leads (world_of arena) is.behind is.is_world key (seat_of place) (pieces rest_of) gap.leads) gap.map (insert gap.map (piece_at place) 0) gap.is_level after-seat (piece_at place) (λ p off. get-insert_off gap.map (piece_at place) 0 p off) (Some 0) final (get-insert_here gap.map (piece_at place) 0)
-    );
+        changes_value (world_of arena) (world_of (place_with arena place 0)) is.behind is.is_world arena.root.map refl gap.leads.front gap.leads.inner (seat_of place) gap.leads.way apart-after (behind-leads (world_of arena) is.behind is.is_world key (seat_of place) (pieces rest_of) gap.leads) gap.map (insert gap.map (piece_at place) 0) gap.is_level after-seat (piece_at place) (λ p off. get-insert_off gap.map (piece_at place) 0 p off) (Some 0) final (get-insert_here gap.map (piece_at place) 0)
+        );
     found = record {
       rest = piece_at place ∷ [];
       leads = record {

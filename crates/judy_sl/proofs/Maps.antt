@@ -79,8 +79,8 @@ module _ (arena : Arena) (nothing : arena.children.items ≡ []) (no_root : aren
 
   pub empty-map : map_of arena ≡ empty
   empty-map = table_none string_keys-all (λ k. lookup (world_of arena) 0 (pieces k)) (λ key is.
-    let h = pieces-head key in
-    ap (lookup (world_of arena) 0) h.1 ∙ ap (λ o. at_entry o h.0 (λ at. lookup (world_of arena) (suc at) h.0)) (root-none (piece_of key)))
+      let h = pieces-head key in
+      ap (lookup (world_of arena) 0) h.1 ∙ ap (λ o. at_entry o h.0 (λ at. lookup (world_of arena) (suc at) h.0)) (root-none (piece_of key)))
 
 -- A value written at a key that is there leaves the number of keys.
 pub len-written : (map : FinMap byte_order ℕ) (key : List ℕ) (was value : ℕ) → get map key ≡ Some was → len (insert map key value) ≡ len map

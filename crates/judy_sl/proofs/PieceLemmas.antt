@@ -1,26 +1,30 @@
 -- The pieces of strings without zeros: exactly the last is final, they are of one string alone, and the order of
 -- strings is the order of their pieces.
-use Rattle.std.proofs.Common.{◌≡◌, ◌≢◌, ℕ, zero, suc, ◌+◌, ◌-◌, ◌*◌, ◌/◌, ◌%◌, ◌^◌, ◌<◌, ◌≤◌, inl, inr, ⊎_elim, List, [], ◌∷◌, ◌++◌, length, take, drop, get_or, All, sym, refl, ap, ◌∙◌, subst, arith, Ordering, Less, Equal, Greater, nat_cmp}
-use Rattle.std.specs.Cmp.{nat_cmp_is, nat_cmp_total, tied_itself}
+use Rattle.std.proofs.Common.{Fits, w8, ◌≡◌, ◌≢◌, ℕ, zero, suc, ◌+◌, ◌*◌, ◌/◌, ◌%◌, ◌^◌, ◌<◌, ◌≤◌, ⊎_elim, List, [], ◌∷◌, length, drop, get_or, All, sym, refl, ap, ◌∙◌, subst, arith, Ordering, Less, Equal, Greater, nat_cmp}
+use Rattle.std.specs.Cmp.{nat_cmp_is, tied_itself}
 use Rattle.std.specs.Cmp.Lexicographic.{nat_list_cmp_total}
 use Rattle.std.specs.Ordering.{ordering_then}
 use Rattle.std.specs.FinMap.{nat_cmp-IsAntisymmetric, slice_cmp-IsAntisymmetric}
-use Rattle.std.proofs.Math.Nat.{mul_assoc, mul_comm, mul-pos, pow-suc}
+use Rattle.std.proofs.Math.Nat.{mul_comm, mul-pos, pow-suc}
 use Rattle.std.proofs.lemmas.Nat.{mul-add-lt}
 use Rattle.std.proofs.lemmas.Bool.{cases_order, cases_lt}
-use Rattle.std.proofs.lemmas.List.{length-drop, get_or_past, drop_all}
+use Rattle.std.proofs.lemmas.List.{get_or_default, length-drop, get_or_past, drop_all}
 use Rattle.std.proofs.lemmas.List.Elements.{All-head, All-tail, All-get_or}
 use Rattle.judy_model.specs.Keys.{IsStringKey, word_order, byte_order}
 use Rattle.judy_model.proofs.ByteLemmas.{unit_pos}
 use Rattle.judy_sl.proofs.Spelling.{spelled-more}
 use Rattle.judy_sl.proofs.Ways.{pieces_short, pieces_long}
-use Rattle.judy_sl.specs.Pieces.{spelled, piece_of, pieces_in, pieces, IsFinal, IsInner, AreInner, ArePieces, IsText}
+use Rattle.judy_sl.specs.Pieces.{spelled, piece_of, pieces_in, pieces, IsFinal, IsInner, ArePieces, IsText}
 
 -- ---- texts
 
 -- The bytes of a key are a text.
 pub text_of_key : (key : List ℕ) → IsStringKey key → IsText key
 text_of_key key is = λ k d within. (is.is_bytes_key.is_byte_string k d within, is.without_zero k d within)
+
+-- Bytes of which none is zero are one.
+pub text_from_bytes : (bytes : List ℕ) → ((k : ℕ) → Fits w8 (get_or bytes k 0)) → All (λ byte. byte ≢ 0) bytes → IsText bytes
+text_from_bytes bytes small some = λ k d within. (let here : get_or bytes k d ≡ get_or bytes k 0 = get_or_default bytes k d 0 within in let fits = small k in omega arith, some k d within)
 
 -- And a text of at most 1,024 bytes is a key.
 pub key_of_text : (key : List ℕ) → IsText key → length key ≤ 1024 → IsStringKey key
@@ -35,7 +39,7 @@ text-drop (suc count) (byte ∷ bytes) text = text-drop count bytes (All-tail (�
 -- ---- the number that bytes spell
 
 -- So many bytes spell a number below so many bytes' bound.
-spelled-lt : (width : ℕ) (bytes : List ℕ) → IsText bytes → spelled width bytes < 256 ^ width
+pub spelled-lt : (width : ℕ) (bytes : List ℕ) → IsText bytes → spelled width bytes < 256 ^ width
 spelled-lt zero bytes text = omega arith
 spelled-lt (suc width) [] text = unit_pos (suc width)
 spelled-lt (suc width) (byte ∷ bytes) text =
@@ -139,7 +143,7 @@ unfolding piece_of
 order-piece one two p q = order-spelled 8 one two p q
 
 -- Where the first pieces differ, what follows decides nothing.
-first_decides : (one two : ℕ) (later other : Ordering) → one ≢ two → ordering_then (nat_cmp one two) later ≡ ordering_then (nat_cmp one two) other
+pub first_decides : (one two : ℕ) (later other : Ordering) → one ≢ two → ordering_then (nat_cmp one two) later ≡ ordering_then (nat_cmp one two) other
 first_decides one two later other differ =
     elim (nat_cmp one two) as (λ answer. nat_cmp one two ≡ answer → ordering_then answer later ≡ ordering_then answer other) [
       | Less ↦ λ is. refl

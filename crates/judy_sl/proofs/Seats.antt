@@ -58,11 +58,13 @@ fits-some world behind place (level map) fits e = cc
 module _ (world : World) (behind : ℕ → List ℕ) (is : IsWorld world behind) (at : ℕ) (node : Node) (fits : NodeFits world behind (behind at) node) (used : IsUsed at node) where
   pub fits-set : (place : List ℕ) (map : FinMap word_order ℕ) → FitsBehind world behind place map → FitsBehind (set_node world at node) behind place map
   fits-set place map has = record {
-    leads = λ piece found entry inner. let leads = has.leads piece found entry inner in
-        (leads.0, elim (cases_eq (suc found) at) [
-          | inl e ↦ λ none. fits-some world behind (behind at) node fits (sym (cond-same world at node (suc found) e) ∙ none)
-          | inr ne ↦ λ none. leads.1 (sym (cond-other world at node (suc found) ne) ∙ none)
-        ]);
+    leads = λ piece found entry inner. let leads = has.leads piece found entry inner in (
+      leads.0,
+      elim (cases_eq (suc found) at) [
+        | inl e ↦ λ none. fits-some world behind (behind at) node fits (sym (cond-same world at node (suc found) e) ∙ none)
+        | inr ne ↦ λ none. leads.1 (sym (cond-other world at node (suc found) ne) ∙ none)
+      ],
+    );
     ends = has.ends;
     short = has.short;
   }

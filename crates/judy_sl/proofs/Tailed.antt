@@ -174,9 +174,9 @@ module _ (arena : Arena) (is : IsArena arena) (key : List ℕ) (is_key : IsStrin
   seat-off : seat_of place ≢ suc at
   seat-off e =
       let g : level (insert gap.map (piece_at place) at) ≡ gone =
-          sym (cond-same (world_of arena) (seat_of place) (level (insert gap.map (piece_at place) at)) (suc at) (sym e))
-          ∙ sym (ap (λ (w : World). w (suc at)) entered-world)
-          ∙ put_is.was_free in
+      sym (cond-same (world_of arena) (seat_of place) (level (insert gap.map (piece_at place) at)) (suc at) (sym e))
+      ∙ sym (ap (λ (w : World). w (suc at)) entered-world)
+      ∙ put_is.was_free in
       cc
 
   free-is : world_of arena (suc at) ≡ gone
@@ -191,7 +191,6 @@ module _ (arena : Arena) (is : IsArena arena) (key : List ℕ) (is_key : IsStrin
       ∙ ap (λ (w : World). set_node w (suc at) (node_of (Tail rest))) entered-world
       ∙ ap (set_node (set_node (world_of arena) (seat_of place) (level (insert gap.map (piece_at place) at))) (suc at)) node-is
       ∙ set_node-comm (world_of arena) (seat_of place) (suc at) (level (insert gap.map (piece_at place) at)) (tail (pieces (drop 8 rest_of)) 0) seat-off
-
 
   pub fills-tail : IsText rest.bytes.items → IsAdded arena after key (Below at 0)
   fills-tail text =
@@ -232,5 +231,5 @@ filled-tail before reserved entered after key place left at put_at rest is is_ke
     let gap_there : IsGap (world_of reserved) key place left = subst (λ w. IsGap w key place left) (sym (world-same before reserved same)) gap in
     let here : put_at ≡ at = put_at_is ∙ ap next_place entered_is ∙ next-stays reserved place at (level-place reserved place gap_there.map gap_there.is_level) ∙ sym at_is in
     added-same before reserved after key (Below at 0) same (
-      fills-tail reserved (arena-same before reserved same is) key is_key place left gap_there long entered after at entered_is rest (subst (IsPut entered after (Tail rest)) here put_is) bytes value (subst IsText (sym bytes) (text-drop 8 (left_of key left) gap_there.text))
+    fills-tail reserved (arena-same before reserved same is) key is_key place left gap_there long entered after at entered_is rest (subst (IsPut entered after (Tail rest)) here put_is) bytes value (subst IsText (sym bytes) (text-drop 8 (left_of key left) gap_there.text))
     )

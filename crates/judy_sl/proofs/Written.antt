@@ -98,12 +98,12 @@ module _ (arena : Arena) (is : IsArena arena) (key : List ℕ) (place : Place) (
     change-node (tail (first ∷ held) v) e has =
         let node = tail (first ∷ held) value in
         subst (λ l. IsChange (world_of arena) (set_node (world_of arena) (seat_of place) node) (found.leads.front ++ l) (Some value)) has.0 (
-          changes_tail (world_of arena) (set_node (world_of arena) (seat_of place) node) is.behind is.is_world arena.root.map refl found.leads.front found.leads.inner (seat_of place) found.leads.way (apart-leads (world_of arena) is.behind is.is_world key (seat_of place) found.rest found.leads node) first held v value e (cond-same (world_of arena) (seat_of place) node (seat_of place) refl)
+        changes_tail (world_of arena) (set_node (world_of arena) (seat_of place) node) is.behind is.is_world arena.root.map refl found.leads.front found.leads.inner (seat_of place) found.leads.way (apart-leads (world_of arena) is.behind is.is_world key (seat_of place) found.rest found.leads node) first held v value e (cond-same (world_of arena) (seat_of place) node (seat_of place) refl)
         )
     change-node (level map) e has =
         let node = level (insert map (piece_at place) value) in
         subst (λ l. IsChange (world_of arena) (set_node (world_of arena) (seat_of place) node) (found.leads.front ++ l) (Some value)) (sym has.0) (
-          changes_value (world_of arena) (set_node (world_of arena) (seat_of place) node) is.behind is.is_world arena.root.map refl found.leads.front found.leads.inner (seat_of place) found.leads.way (apart-leads (world_of arena) is.behind is.is_world key (seat_of place) found.rest found.leads node) (behind-leads (world_of arena) is.behind is.is_world key (seat_of place) found.rest found.leads) map (insert map (piece_at place) value) e (cond-same (world_of arena) (seat_of place) node (seat_of place) refl) (piece_at place) (λ p off. get-insert_off map (piece_at place) value p off) (Some value) has.1 (get-insert_here map (piece_at place) value)
+        changes_value (world_of arena) (set_node (world_of arena) (seat_of place) node) is.behind is.is_world arena.root.map refl found.leads.front found.leads.inner (seat_of place) found.leads.way (apart-leads (world_of arena) is.behind is.is_world key (seat_of place) found.rest found.leads node) (behind-leads (world_of arena) is.behind is.is_world key (seat_of place) found.rest found.leads) map (insert map (piece_at place) value) e (cond-same (world_of arena) (seat_of place) node (seat_of place) refl) (piece_at place) (λ p off. get-insert_off map (piece_at place) value p off) (Some value) has.1 (get-insert_here map (piece_at place) value)
         )
 
     -- And the key has the value.

@@ -4,6 +4,7 @@ pub mod Worlds
 pub mod Children
 pub mod Arenas
 pub mod Places
+pub mod Scans
 pub mod Ways
 pub mod Grown
 pub mod Branches

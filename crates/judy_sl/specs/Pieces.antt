@@ -1,6 +1,8 @@
 -- Keys as pieces of eight bytes. (This project's own.)
-use Rattle.std.specs.Prelude.{◌≡◌, ◌≢◌, ℕ, zero, suc, ◌+◌, ◌*◌, ◌/◌, ◌%◌, ◌^◌, ◌<◌, ◌≤◌, List, [], ◌∷◌, length, drop, All}
+use Rattle.std.specs.Prelude.{◌≡◌, ◌≢◌, ℕ, zero, suc, ◌+◌, ◌*◌, ◌/◌, ◌%◌, ◌^◌, ◌<◌, ◌≤◌, nat_lt, List, [], ◌∷◌, length, drop, filter, All}
+use Rattle.std.specs.List.{flat_map}
 use Rattle.judy_model.specs.Keys.{IsStringKey}
+use Rattle.judy_model.specs.WordBytes.{low_bytes}
 
 -- The number that the first so many bytes spell, the first byte the highest; where bytes are missing, zeros
 -- stand in their place.
@@ -50,3 +52,11 @@ pub record SpellKey (ps : List ℕ) : Type 0 where
   pub key : List ℕ
   pub is_key : IsStringKey key
   pub spells : pieces key ≡ ps
+
+-- The bytes that a piece spells: those of the word that aren't zero.
+unfoldable pub piece_bytes : ℕ → List ℕ
+piece_bytes piece = filter (λ byte. nat_lt 0 byte) (low_bytes 8 piece)
+
+-- The bytes that pieces spell.
+abbrev pub spelling : List ℕ → List ℕ
+spelling = flat_map piece_bytes

@@ -117,7 +117,11 @@ impl Arena {
             match self.children.get(at as usize) {
                 Some(Child::Level(next)) => level = next,
                 Some(Child::Tail(tail)) => {
-                    return if tail.bytes.as_slice() == rest { Some(tail.value) } else { None };
+                    return if tail.bytes.as_slice() == rest {
+                        Some(tail.value)
+                    } else {
+                        None
+                    };
                 }
                 Some(Child::Free(_)) => return None,
                 None => return None,

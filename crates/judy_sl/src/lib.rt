@@ -14,7 +14,9 @@ mod child;
 mod error;
 mod grow;
 mod keys;
+pub mod laws;
 mod pieces;
+mod scans;
 mod strings;
 
 pub use error::SlError;

@@ -1,7 +1,9 @@
 //! Keys piece by piece.
 
-ghost use Rattle.std.specs.Prelude.{◌≡◌, ◌<◌, ℕ, slice_index, length};
-ghost use Rattle.judy_sl.specs.Pieces.{piece_of};
+ghost use Rattle.std.specs.Prelude.{◌≡◌, ◌+◌, ◌<◌, ◌≤◌, ℕ, ◌++◌, slice_index, length};
+ghost use Rattle.judy_sl.specs.Pieces.{piece_of, piece_bytes};
+
+use crate::keys::KeyBuf;
 
 // The piece with which the bytes begin: the first eight, the first of them the highest, zeros where bytes are missing.
 pub fn first_piece(bytes: &[u8]) -> u64
@@ -32,5 +34,17 @@ fn byte_or_zero(bytes: &[u8], place: usize) -> u8
     match bytes.get(place) {
         Some(byte) => *byte,
         None => 0,
+    }
+}
+
+// Puts the bytes of a piece behind those of the buffer: the ones that aren't zero.
+pub fn push_piece(key: &mut KeyBuf, piece: u64)
+    requires { length key.old.items + length (piece_bytes piece) ≤ 1024 }
+    ensures { key.new.items ≡ key.old.items ++ piece_bytes piece }
+{
+    for byte in piece.to_be_bytes() {
+        if byte != 0 {
+            key.push(byte);
+        }
     }
 }

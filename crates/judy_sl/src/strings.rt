@@ -20,7 +20,7 @@ use std::marker::Model;
 pub struct JudySl {
     limit: u64,
     count: u64,
-    arena: Arena,
+    pub(crate) arena: Arena,
 }
 
 impl Model for JudySl {
@@ -136,5 +136,17 @@ impl JudySl {
         ensures some { 1 ≤ result }
     {
         self.limit
+    }
+
+    /// Takes every key out, gives their memory back, and answers how many they were. The array keeps its limit and
+    /// may be used again. (Manual: JSLFA, JudySLFreeArray, which answers the bytes freed.)
+    pub fn free_array(&mut self) -> u64
+        ensures freed { result ≡ map.len self.old.map }
+        ensures emptied { self.new ≡ array.empty_array self.old.limit }
+    {
+        let freed = self.count;
+        self.arena = Arena::new(*self.arena.children.allocator());
+        self.count = 0;
+        freed
     }
 }

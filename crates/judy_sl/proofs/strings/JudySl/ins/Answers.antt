@@ -18,8 +18,7 @@ invariant_of-self-lent c _ =
 
 pub returns-in-At : goal.returns-in-At
 returns-in-At c =
-    let key = c.is_key.ensures.0 c.if-not-is_key.false in
-    (
+    let key = c.is_key.ensures.0 c.if-not-is_key.false in (
       λ t. read_of (name_if_ok (λ (x : MutBor ℕ). x.ghost_name) c.ins.result) (λ w. (array-written _ _ _ c.self.invariant c.args.key.now key c.in-At.place c.in-At.ensures w ∙ ap (λ (s : ArrayOf byte_order). with_value s c.args.key.now w) c.self.view_is) t) (c.self.view_is t),
       rw (← c.self.view_is) (record {
         writes_back = tt;
@@ -42,8 +41,7 @@ invariant_of-self-in-Err-1 c =
 pub returns-in-Err : goal.returns-in-Err
 returns-in-Err c =
     let key = c.is_key.ensures.0 c.if-not-is_key.false in
-    let none = get-map c.self.inside.arena c.args.key.now key ∙ way-none c.self.inside.arena c.args.key.now c.walk.result c.walk.ensures (is-new c.walk.result c.in_default.not-At) in
-    (
+    let none = get-map c.self.inside.arena c.args.key.now key ∙ way-none c.self.inside.arena c.args.key.now c.walk.result c.walk.ensures (is-new c.walk.result c.in_default.not-At) in (
       ap (λ a. inr a) (array-same _ _ _ c.self.invariant c.args.key.now key c.add.new.self c.in-Err.ensures.refused.0 ∙ c.self.view_is),
       record { writes_back = tt; value = tt; accepted = tt; refused = rw (← c.self.view_is) (subst (IsRefusal _ c.args.key.now) (sym c.in-Err.ensures.refused.1) (key, none, absent-room _ _ _ c.self.invariant c.args.key.now key none c.if-self.false)) },
     )
@@ -58,8 +56,7 @@ invariant_of-self-lent-in_default c _ =
 pub returns-in-Ok : goal.returns-in-Ok
 returns-in-Ok c =
     let key = c.is_key.ensures.0 c.if-not-is_key.false in
-    let none = get-map c.self.inside.arena c.args.key.now key ∙ way-none c.self.inside.arena c.args.key.now c.walk.result c.walk.ensures (is-new c.walk.result c.in_default.not-At) in
-    (
+    let none = get-map c.self.inside.arena c.args.key.now key ∙ way-none c.self.inside.arena c.args.key.now c.walk.result c.walk.ensures (is-new c.walk.result c.in_default.not-At) in (
       lent_ok c.ins-in_default.result c.ins-in_default.ensures.refused (λ e p. added-some _ _ _ c.self.invariant c.args.key.now key none c.add.new.self c.in-Ok.made c.in-Ok.ensures.added c.if-self.false p.0) _ _ _ _ (λ w. array-added _ _ _ c.self.invariant c.args.key.now key none c.add.new.self c.in-Ok.made c.in-Ok.ensures.added c.if-self.false w ∙ ap (λ (s : ArrayOf byte_order). with_value s c.args.key.now w) c.self.view_is),
       rw (← c.self.view_is) (record {
         writes_back = tt;

@@ -22,8 +22,7 @@ invariant_of-self-lent c _ =
 
 pub returns-in-At : goal.returns-in-At
 returns-in-At c =
-    let key = c.is_key.ensures.0 c.if-not-is_key.false in
-    (
+    let key = c.is_key.ensures.0 c.if-not-is_key.false in (
       λ t. read_of (ghost_name_of c.slot.result) (λ w. (array-written _ _ _ c.self.invariant c.args.key.now key c.in-At.place c.in-At.ensures w ∙ ap (λ (s : ArrayOf byte_order). with_value s c.args.key.now w) c.self.view_is) t) (c.self.view_is t),
       record { writes_back = tt; value = rw (← c.self.view_is) (c.slot.ensures.value ∙ value-place _ _ _ c.self.invariant c.args.key.now key c.in-At.place c.in-At.ensures) },
     )
