@@ -21,3 +21,7 @@ pub mod Filled
 pub mod Tailed
 pub mod ScanMaps
 pub mod Inserted
+pub mod Branching
+pub mod Grafts
+pub mod Grafted
+pub mod Splits

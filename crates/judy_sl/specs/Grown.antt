@@ -1,5 +1,5 @@
 -- What an arena becomes where it takes something new.
-use Rattle.std.specs.Prelude.{◌≡◌, ◌≢◌, ℕ, ◌<◌, List, Option, None, Some, length, slice_get}
+use Rattle.std.specs.Prelude.{◌≡◌, ◌≢◌, ℕ, ◌<◌, List, Option, None, Some, length, slice_get, IsTrue}
 use Rattle.judy_sl.specs.declared.child.Child.{Child}
 use Rattle.judy_sl.specs.declared.child.Child.TheVariants.{Free, Tail, Level}
 use Rattle.judy_sl.specs.declared.arena.Arena.{Arena}
@@ -7,7 +7,14 @@ use Rattle.judy_sl.specs.declared.arena.Place.{Place}
 use Rattle.judy_sl.specs.Pieces.{pieces, ArePieces}
 use Rattle.judy_sl.specs.World.{World, gone, lookup}
 use Rattle.judy_sl.specs.Arenas.{world_of, node_of, child_at, IsArena}
-use Rattle.judy_sl.specs.Ways.{IsFound}
+use Rattle.std.specs.FinMap.{contains_key}
+use Rattle.judy_model.specs.Keys.{word_order}
+use Rattle.judy_model.specs.Arrays.{ArrayOf}
+use Rattle.judy_word.specs.Writes.{with_value}
+use Rattle.judy_sl.specs.declared.branches.Twig.{Twig}
+use Rattle.judy_sl.specs.declared.branches.Branch.{Branch}
+use Rattle.judy_sl.specs.Branches.{IsBuilt, AreSingle}
+use Rattle.judy_sl.specs.Ways.{IsFound, IsClash, left_of}
 
 -- Another thing is found under one key, and nothing else changes.
 pub record IsChange (world other : World) (key : List ℕ) (new : Option ℕ) : Type 0 where
@@ -41,3 +48,31 @@ pub record IsAdded (before after : Arena) (key : List ℕ) (place : Place) : Typ
 pub record IsSame (before after : Arena) : Type 0 where
   pub root : after.root ≡ before.root
   pub items : after.children.items ≡ before.children.items
+
+-- A level's entry leads to a new tail, where one is to be.
+abbrev pub IsHung : Arena → Arena → ArrayOf word_order → ArrayOf word_order → Option Twig → Type 0
+IsHung before after level linked None = (after ≡ before) × (linked ≡ level)
+IsHung before after level linked (Some twig) = (at : ℕ) × IsPut before after (Tail twig.rest) at × (linked ≡ with_value level twig.piece at)
+
+-- The level has the entry that is to lead there.
+abbrev pub HasTwig : ArrayOf word_order → Option Twig → Type 0
+HasTwig level None = Unit {0}
+HasTwig level (Some twig) = IsTrue (contains_key level.map twig.piece)
+
+-- A branch is to take the place of a tail that the key's way comes to.
+pub record IsGraft (arena : Arena) (key : List ℕ) (at left : ℕ) (branch : Branch) : Type 0 where
+  pub clash : IsClash (world_of arena) key at left
+  pub bytes : List ℕ
+  pub held_is : clash.held ≡ pieces bytes
+  pub built : IsBuilt bytes clash.value (left_of key left) branch
+
+-- A key was added with the value 0.
+pub record IsGrafted (before after : Arena) (key : List ℕ) : Type 0 where
+  pub is_arena : IsArena after
+  pub change : IsChange (world_of before) (world_of after) (pieces key) (Some 0)
+
+-- A branch of some key, in whose levels each entry is there.
+pub record IsSound (branch : Branch) : Type 0 where
+  pub singles : AreSingle branch.upper.items
+  pub old : HasTwig branch.fork branch.old
+  pub new : HasTwig branch.fork branch.new

@@ -7,5 +7,6 @@ pub mod Places
 pub mod Scans
 pub mod Ways
 pub mod Grown
+pub mod Branches
 pub mod Lends
 pub mod Levels

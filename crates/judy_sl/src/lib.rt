@@ -9,6 +9,7 @@
 #![tactic(auto)]
 
 mod arena;
+mod branches;
 mod child;
 mod error;
 mod grow;
