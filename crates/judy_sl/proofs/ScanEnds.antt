@@ -9,7 +9,7 @@ use Rattle.judy_model.proofs.Ascending.{Among}
 use Rattle.judy_model.proofs.KeysLemmas.{length-keys, contains_key-from_among}
 use Rattle.judy_sl.specs.declared.scans.Look.{Look}
 use Rattle.judy_sl.specs.declared.scans.Turn.{Turn}
-use Rattle.judy_sl.specs.Pieces.{piece_of, pieces, piece_bytes, spelling, IsFinal, IsInner, AreInner, IsText, SpellKey}
+use Rattle.judy_sl.specs.Pieces.{piece_of, pieces, piece_bytes, spelling, IsFinal, IsInner, AreInner, ArePieces, IsText, SpellKey}
 use Rattle.judy_sl.specs.World.{World, Node, gone, tail, level, lookup, walk}
 use Rattle.judy_sl.specs.Worlds.{IsWorld}
 use Rattle.judy_sl.specs.Scans.{IsFirstEntry, IsNear, IsEnd, IsTurnAt, IsNeighbour}
