@@ -151,9 +151,9 @@ module _ (before now : Arena) (grafts : Grafts before now) (key : List ℕ) (at 
   pub done-change : ArePieces (piece ∷ new) → IsChange (world_of before) (world_of after) (pieces key) (Some 0)
   done-change new_are =
       subst (λ ps. IsChange (world_of before) (world_of after) ps (Some 0)) (sym leads.parts) (
-        changes (world_of before) (world_of after) grafts.was.behind grafts.was.is_world before.root.map refl leads.front leads.inner (suc at) leads.way (λ seat gone_not off. after-other seat (λ e. off (ap grafts.was.behind e ∙ was-behind)) ∙ (grafts.same seat gone_not).0) piece new (Some 0)
-          (ap (λ n. look_in (world_of after) n (piece ∷ new)) after-seat ∙ looks piece new new_are ∙ branch.at_new)
-          (λ p rest are ne. ap (λ n. look_in (world_of after) n (p ∷ rest)) after-seat ∙ looks p rest are ∙ same-there p rest are ne ∙ sym (old-finds p rest))
+      changes (world_of before) (world_of after) grafts.was.behind grafts.was.is_world before.root.map refl leads.front leads.inner (suc at) leads.way (λ seat gone_not off. after-other seat (λ e. off (ap grafts.was.behind e ∙ was-behind)) ∙ (grafts.same seat gone_not).0) piece new (Some 0)
+      (ap (λ n. look_in (world_of after) n (piece ∷ new)) after-seat ∙ looks piece new new_are ∙ branch.at_new)
+      (λ p rest are ne. ap (λ n. look_in (world_of after) n (p ∷ rest)) after-seat ∙ looks p rest are ∙ same-there p rest are ne ∙ sym (old-finds p rest))
       )
 
 -- ---- on the way up
@@ -215,7 +215,7 @@ module _ (before : Arena) (is : IsArena before) (key : List ℕ) (is_key : IsStr
       let place = clash.leads.front ++ keys in
       let behind = behind-leads (world_of before) is.behind is.is_world key (suc at) (pieces (left_of key left)) clash.leads in
       let held_spells : SpellKey (place ++ pieces built.held) =
-          subst SpellKey (ap (λ f. f ++ clash.held) behind ∙ ap (λ ps. clash.leads.front ++ ps) (graft.held_is ∙ built.held_parts) ∙ sym (append_assoc clash.leads.front keys (pieces built.held))) (is.is_world.tails (suc at) clash.held value clash.is_tail) in
+      subst SpellKey (ap (λ f. f ++ clash.held) behind ∙ ap (λ ps. clash.leads.front ++ ps) (graft.held_is ∙ built.held_parts) ∙ sym (append_assoc clash.leads.front keys (pieces built.held))) (is.is_world.tails (suc at) clash.held value clash.is_tail) in
       let new_spells : SpellKey (place ++ pieces built.rest) = record { key = key; is_key = is_key; spells = clash.leads.parts ∙ ap (λ ps. clash.leads.front ++ ps) built.rest_parts ∙ sym (append_assoc clash.leads.front keys (pieces built.rest)) } in
       let a = piece_of built.held in
       let b = piece_of built.rest in
@@ -238,14 +238,14 @@ module _ (before : Arena) (is : IsArena before) (key : List ℕ) (is_key : IsStr
         held_are = pieces_are built.held built.held_text;
         new_are = pieces_are built.rest built.rest_text;
         branch = subst (λ ps. IsBranch (world_of two) new.grafts.is.behind place level_two.map ps (pieces built.rest) value) (sym hs.1) (subst (λ ps. IsBranch (world_of two) new.grafts.is.behind place level_two.map (a ∷ hs.0) ps value) (sym ns.1) (
-          fork-branch (world_of two) new.grafts.is.behind place level_two.map a b hs.0 ns.0 value old.entry new.entry built.differ
+            fork-branch (world_of two) new.grafts.is.behind place level_two.map a b hs.0 ns.0 value old.entry new.entry built.differ
             (subst (λ ps. IsSide (world_of two) new.grafts.is.behind place ps value old.entry) hs.1 old_side)
             (subst (λ ps. IsSide (world_of two) new.grafts.is.behind place ps 0 new.entry) ns.1 new.side)
             (new.get_off a built.differ ∙ old.get_here)
             new.get_here
             (λ p not_a not_b. new.get_off p not_b ∙ old.get_off p not_a ∙ fork_off p not_b ∙ middle_off p not_a)
             (short-place place a hs.0 (subst (λ ps. SpellKey (place ++ ps)) hs.1 held_spells))
-        ));
+            ));
         limit = new.limit ∙ old.limit ∙ ap (λ (l : ArrayOf word_order). l.limit) built.new.level ∙ ap (λ (l : ArrayOf word_order). l.limit) built.old.level;
       }
 
@@ -262,7 +262,7 @@ grafted before now key at left branch graft upper words is nothing inside =
     let some : clash.held ≢ [] = (λ nil. pieces-some graft.bytes (sym graft.held_is ∙ nil)) in
     let place : clash.leads.front ++ keys_of upper ≡ clash.leads.front = ap (λ ks. clash.leads.front ++ ks) keys ∙ append-nil clash.leads.front in
     let there : IsBranch (world_of now) is.grafts.is.behind clash.leads.front words.map clash.held (piece_of (left_of key left) ∷ h.0) clash.value =
-        subst (λ ps. IsBranch (world_of now) is.grafts.is.behind clash.leads.front words.map clash.held ps clash.value) new_now (subst (λ ps. IsBranch (world_of now) is.grafts.is.behind clash.leads.front words.map ps is.new_now clash.value) held_now (subst (λ p. IsBranch (world_of now) is.grafts.is.behind p words.map is.held_now is.new_now clash.value) place is.branch)) in
+    subst (λ ps. IsBranch (world_of now) is.grafts.is.behind clash.leads.front words.map clash.held ps clash.value) new_now (subst (λ ps. IsBranch (world_of now) is.grafts.is.behind clash.leads.front words.map ps is.new_now clash.value) held_now (subst (λ p. IsBranch (world_of now) is.grafts.is.behind p words.map is.held_now is.new_now clash.value) place is.branch)) in
     record {
       is_arena = done-arena before now is.grafts key at (piece_of (left_of key left)) h.0 leads clash.held some clash.value clash.is_tail words is.limit there inside;
       change = done-change before now is.grafts key at (piece_of (left_of key left)) h.0 leads clash.held some clash.value clash.is_tail words is.limit there inside (subst ArePieces h.1 (pieces_are (left_of key left) clash.text));

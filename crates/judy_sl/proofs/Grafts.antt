@@ -43,8 +43,8 @@ module _ (now after : Arena) (is : IsArena now) (child : Child) (to : ℕ) (put_
     put-arena = record {
       behind = behind_put;
       is_world = subst (λ w. IsWorld w behind_put) (sym (world-put now after child to put_is)) (
-        keeps (world_of now) behind_put (put (world_of now) is.behind is.is_world to put_is.was_free place) (suc to) (node_of child) (subst (λ p. NodeFits (world_of now) behind_put p (node_of child)) (sym (cond-same is.behind (suc to) place (suc to) refl)) fits) used
-      );
+          keeps (world_of now) behind_put (put (world_of now) is.behind is.is_world to put_is.was_free place) (suc to) (node_of child) (subst (λ p. NodeFits (world_of now) behind_put p (node_of child)) (sym (cond-same is.behind (suc to) place (suc to) refl)) fits) used
+          );
       texts = λ k. elim (cases_eq k to) [
         | inl e ↦ subst HasText (sym (ap (child_at after) e ∙ put_is.here)) text
         | inr apart ↦ subst HasText (sym (put_is.elsewhere k apart)) (is.texts k)

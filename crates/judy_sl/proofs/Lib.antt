@@ -25,3 +25,4 @@ pub mod Branching
 pub mod Grafts
 pub mod Grafted
 pub mod Splits
+pub mod LevelLemmas

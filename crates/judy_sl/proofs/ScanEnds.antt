@@ -65,7 +65,7 @@ length-more : (place : List ℕ) (piece : ℕ) → length (place ++ piece ∷ []
 length-more place piece = length-append place (piece ∷ [])
 
 -- What stands behind others in the pieces of a key are pieces.
-are_behind : (front : List ℕ) (piece : ℕ) (rest : List ℕ) → ArePieces (front ++ piece ∷ rest) → ArePieces (piece ∷ rest)
+pub are_behind : (front : List ℕ) (piece : ℕ) (rest : List ℕ) → ArePieces (front ++ piece ∷ rest) → ArePieces (piece ∷ rest)
 are_behind [] piece rest are = are
 are_behind (first ∷ []) piece rest are = are.1
 are_behind (first ∷ second ∷ front) piece rest are = are_behind (second ∷ front) piece rest are.1

@@ -99,7 +99,7 @@ module _ (world : World) (seat : ℕ) (map : FinMap word_order ℕ) (is_level : 
   lookup_inner p found [] is are = absurd are
   lookup_inner p found (q ∷ qs) is are = lookup_level p (q ∷ qs) ∙ ap (λ entry. at_entry entry (q ∷ qs) (λ at. lookup world (suc at) (q ∷ qs))) is
 
-  lookup_absent : (p : ℕ) (ps : List ℕ) → get map p ≡ None → lookup world seat (p ∷ ps) ≡ None
+  pub lookup_absent : (p : ℕ) (ps : List ℕ) → get map p ≡ None → lookup world seat (p ∷ ps) ≡ None
   lookup_absent p ps none = lookup_level p ps ∙ ap (λ entry. at_entry entry ps (λ at. lookup world (suc at) ps)) none
 
   -- What is found begins with an entry.

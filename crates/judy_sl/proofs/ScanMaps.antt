@@ -31,15 +31,15 @@ missing_along Above false map from none = next_missing byte_order_total byte_ord
 missing_along Below true map from none = last_missing byte_order_total byte_order_same map from (λ other held. lt_from_not_le byte_order_total from other ∙ ap not (none other held))
 missing_along Below false map from none = prev_missing byte_order_total byte_order_same map from (λ other held. le_from_not_lt byte_order_total from other ∙ ap not (none other held))
 
-module _ (look : Look) (arena : Arena) (key : List ℕ) (text : IsText key) where
-  -- What the map holds is found under its pieces.
-  held_found : (other : List ℕ) → IsTrue (contains_key (map_of arena) other) → (value : ℕ) × IsStringKey other × (lookup (world_of arena) 0 (pieces other) ≡ Some value)
-  held_found other held = by (get (map_of arena) other) refl held
-    where
-      by : (found : Option ℕ) → get (map_of arena) other ≡ found → IsTrue (is_some found) → (value : ℕ) × IsStringKey other × (lookup (world_of arena) 0 (pieces other) ≡ Some value)
-      by None is so = absurd (true≢false (sym so))
-      by (Some value) is so = let there = table_some string_keys-all (λ k. lookup (world_of arena) 0 (pieces k)) other value is in (value, there.0, there.1)
+-- What the map holds is found under its pieces.
+pub held_found : (arena : Arena) (other : List ℕ) → IsTrue (contains_key (map_of arena) other) → (value : ℕ) × IsStringKey other × (lookup (world_of arena) 0 (pieces other) ≡ Some value)
+held_found arena other held = by (get (map_of arena) other) refl held
+  where
+    by : (found : Option ℕ) → get (map_of arena) other ≡ found → IsTrue (is_some found) → (value : ℕ) × IsStringKey other × (lookup (world_of arena) 0 (pieces other) ≡ Some value)
+    by None is so = absurd (true≢false (sym so))
+    by (Some value) is so = let there = table_some string_keys-all (λ k. lookup (world_of arena) 0 (pieces k)) other value is in (value, there.0, there.1)
 
+module _ (look : Look) (arena : Arena) (key : List ℕ) (text : IsText key) where
   meets_bytes : (other : List ℕ) → IsText other → meets look (world_of arena) (pieces key) (pieces other) ≡ is_beyond look.itself (along_bytes look.side key other)
   meets_bytes other also = ap (is_beyond look.itself) (bytes_along look.side key other text also)
 
@@ -48,7 +48,7 @@ module _ (look : Look) (arena : Arena) (key : List ℕ) (text : IsText key) wher
       → (after ≡ unwrap_or (neighbour_along look.side look.itself (map_of arena) key) key) × (result ≡ value_found (map_of arena) (neighbour_along look.side look.itself (map_of arena) key))
   scanned after None none =
       let missing = missing_along look.side look.itself (map_of arena) key (λ other held.
-      let there = held_found other held in
+      let there = held_found arena other held in
       let also = text_of_key other there.1 in
       sym (meets_bytes other also) ∙ none.0 (pieces other) there.0 (pieces_are other also) there.2) in
       (none.1 ∙ ap (λ found. unwrap_or found key) (sym missing), ap (value_found (map_of arena)) (sym missing))
@@ -56,7 +56,7 @@ module _ (look : Look) (arena : Arena) (key : List ℕ) (text : IsText key) wher
       let mine = text_of_key after some.1 in
       let has = get-table string_keys-all (λ k. lookup (world_of arena) 0 (pieces k)) after some.1 ∙ some.2 in
       let found = found_along look.side look.itself (map_of arena) key after (ap (λ (entry : Option ℕ). is_some entry) has) (sym (meets_bytes after mine) ∙ some.0.met) (λ other held met.
-      let there = held_found other held in
+      let there = held_found arena other held in
       let also = text_of_key other there.1 in
       ap is_le (sym (bytes_along look.side after other mine also)) ∙ some.0.first (pieces other) there.0 (pieces_are other also) there.2 (meets_bytes other also ∙ met)) in
       (ap (λ one. unwrap_or one key) (sym found), sym has ∙ ap (value_found (map_of arena)) (sym found))

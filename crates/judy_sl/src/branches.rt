@@ -43,7 +43,12 @@ fn one_entry(alloc: Global, piece: u64) -> Result<JudyL, SlError>
 
 // Puts the first piece of the rest of a key into a level: with the key's value where it is the last one, and else to
 // lead to a tail.
-fn sprout(alloc: Global, level: &mut JudyL, rest: &[u8], value: u64) -> Result<Option<Twig>, SlError>
+fn sprout(
+    alloc: Global,
+    level: &mut JudyL,
+    rest: &[u8],
+    value: u64,
+) -> Result<Option<Twig>, SlError>
     ensures sprouted { IfOk result (λ twig. IsSprout level.old level.new rest.now value twig) }
     ensures refused { IfErr result (λ error. error ≡ NoMemory) }
 {
@@ -101,7 +106,12 @@ pub fn branch_of(alloc: Global, tail: &Rest, key: &[u8]) -> Result<Branch, SlErr
         Err(error) => return Err(error),
     };
     match sprout(alloc, &mut fork, rest, 0) {
-        Ok(new) => Ok(Branch { upper, fork, old, new }),
+        Ok(new) => Ok(Branch {
+            upper,
+            fork,
+            old,
+            new,
+        }),
         Err(error) => Err(error),
     }
 }

@@ -11,8 +11,8 @@ ghost use Rattle.judy_sl.specs.Ways.{IsGap, IsClash, IsWay, IsNew};
 ghost use Rattle.judy_sl.specs.Grown.{IsPut, IsHung, HasTwig, IsSound, IsGraft, IsGrafted, IsAdded, IsSame, next_place};
 
 use crate::arena::{Arena, Place, Way};
-use crate::child::{Child, Rest};
 use crate::branches::{Branch, Twig, branch_of};
+use crate::child::{Child, Rest};
 use crate::error::SlError;
 use judy_word::JudyL;
 
@@ -121,7 +121,12 @@ impl Arena {
         requires is_arena { IsArena self.old }
         ensures grafted { (key : List ℕ) (left : ℕ) → IsStringKey key → IsGraft self.old key at left branch → IsGrafted self.old self.new key }
     {
-        let Branch { mut upper, fork, old, new } = branch;
+        let Branch {
+            mut upper,
+            fork,
+            old,
+            new,
+        } = branch;
         let mut level = fork;
         self.hang(&mut level, old);
         self.hang(&mut level, new);

@@ -34,7 +34,7 @@ pub loop-piece-preserved : goal.loop-piece-preserved
 loop-piece-preserved c =
     let same = sym c.first_piece.ensures ∙ c.loop-piece-test.true ∙ c.first_piece-in-loop-piece.ensures in
     rw (take_rest c.loop-piece.held.now 8, take_rest c.loop-piece.rest.now 8) (
-      common-more _ _ _ _ _ c.loop-piece.invariant same c.push.new.self.items c.first_piece-piece.result c.in-Ok.level c.first_piece-piece.ensures c.in-Ok.ensures.made (pushed _ _ _ _ c.push.ensures.items c.if-is_err.ensures.negation)
+    common-more _ _ _ _ _ c.loop-piece.invariant same c.push.new.self.items c.first_piece-piece.result c.in-Ok.level c.first_piece-piece.ensures c.in-Ok.ensures.made (pushed _ _ _ _ c.push.ensures.items c.if-is_err.ensures.negation)
     )
 
 pub returns-in-Ok-sprout-2-clause-built : goal.returns-in-Ok-sprout-2-clause-built

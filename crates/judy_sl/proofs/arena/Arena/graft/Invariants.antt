@@ -12,7 +12,7 @@ invariant-loop-piece l = record {
   room : vec_len l.self.children + length l.upper.items ≤ vec_capacity l.self.children;
   inside : l.at < vec_len l.self.children;
   singles : AreSingle l.upper.items;
-  grafting : (key : List ℕ) (left : ℕ) → IsStringKey key → (graft : IsGraft l.fn.self key l.at left l.fn.branch) → IsGrafting l.fn.self l.self graft.clash.leads.front graft.clash.held (pieces (left_of key left)) graft.clash.value l.upper.items l.level
+  grafting : (key : List ℕ) (left : ℕ) → IsStringKey key → (graft : IsGraft l.fn.self key l.at left l.fn.branch) → IsGrafting l.fn.self l.self graft.clash.leads.front graft.clash.held (pieces (left_of key left)) graft.clash.value l.upper.items l.level;
 }
 
 abbrev pub decreases-loop-piece : goal.decreases-loop-piece
