@@ -69,6 +69,16 @@ fn string_order(rt: HostRuntime) {
     for (scan, from, found) in table {
         check_scan(&rt, &strings, scan, from, found);
     }
+    let at = b"abcdefgh";
+    assert!(rt; is_key(at));
+    match strings.level(at) {
+        Some(level) => {
+            assert_eq!(rt; level.len(), 2);
+            assert_eq!(rt; level.get(0), Some(3));
+            assert_eq!(rt; level.get(0x6900_0000_0000_0000), Some(4));
+        }
+        None => assert!(rt; false),
+    }
 }
 
 #[test]
