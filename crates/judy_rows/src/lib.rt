@@ -18,3 +18,5 @@ mod lines;
 mod refusals;
 #[cfg(test)]
 mod scripts;
+#[cfg(test)]
+mod strings;

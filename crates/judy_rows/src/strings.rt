@@ -1,0 +1,183 @@
+//! Rows of arrays over strings, by the calls of the array.
+
+use judy_sl::{JudySl, KeyBuf, SlError, is_key};
+use std::process::Abort;
+
+// The four scans.
+#[derive(Clone, Copy)]
+enum Scan {
+    First,
+    Next,
+    Last,
+    Prev,
+}
+
+// Puts an absent key in, and gives it a value.
+fn insert<R: Abort>(rt: &R, strings: &mut JudySl, key: &[u8], value: u64) {
+    match strings.ins(key) {
+        Ok(slot) => {
+            assert_eq!(rt; *slot, 0);
+            *slot = value;
+        }
+        Err(_) => assert!(rt; false),
+    }
+}
+
+// Compares what a scan from some bytes leaves in the buffer, and what it answers.
+fn check_scan<R: Abort>(rt: &R, strings: &JudySl, scan: Scan, from: &[u8], found: Option<(&[u8], u64)>) {
+    let mut key = KeyBuf::new();
+    assert!(rt; key.try_extend_from_slice(from).is_ok());
+    assert!(rt; is_key(key.as_slice()));
+    let value = match scan {
+        Scan::First => strings.first(&mut key),
+        Scan::Next => strings.next(&mut key),
+        Scan::Last => strings.last(&mut key),
+        Scan::Prev => strings.prev(&mut key),
+    };
+    match found {
+        Some((neighbour, held)) => {
+            assert_eq!(rt; value, Some(held));
+            assert_eq!(rt; key.as_slice(), neighbour);
+        }
+        None => {
+            assert_eq!(rt; value, None);
+            assert_eq!(rt; key.as_slice(), from);
+        }
+    }
+}
+
+#[test]
+fn string_order(rt: HostRuntime) {
+    let mut strings = JudySl::new(rt.alloc(), 4_294_967_295);
+    insert(&rt, &mut strings, b"\xff", 6);
+    insert(&rt, &mut strings, b"abcdefgh", 3);
+    insert(&rt, &mut strings, b"", 1);
+    insert(&rt, &mut strings, b"zz", 5);
+    insert(&rt, &mut strings, b"abcdefghi", 4);
+    insert(&rt, &mut strings, b"abcdefg", 2);
+    let table = [
+        (Scan::First, b"".as_slice(), Some((b"".as_slice(), 1))),
+        (Scan::Next, b"", Some((b"abcdefg", 2))),
+        (Scan::Next, b"abcdefg", Some((b"abcdefgh", 3))),
+        (Scan::Next, b"abcdefgh", Some((b"abcdefghi", 4))),
+        (Scan::Next, b"abcdefghi", Some((b"zz", 5))),
+        (Scan::Next, b"zz", Some((b"\xff", 6))),
+        (Scan::Next, b"\xff", None),
+        (Scan::Prev, b"", None),
+        (Scan::Last, b"\xff\xff", Some((b"\xff", 6))),
+    ];
+    for (scan, from, found) in table {
+        check_scan(&rt, &strings, scan, from, found);
+    }
+    let at = b"abcdefgh";
+    assert!(rt; is_key(at));
+    match strings.level(at) {
+        Some(level) => {
+            assert_eq!(rt; level.len(), 2);
+            assert_eq!(rt; level.get(0), Some(3));
+            assert_eq!(rt; level.get(0x6900_0000_0000_0000), Some(4));
+        }
+        None => assert!(rt; false),
+    }
+}
+
+#[test]
+fn bad_keys(rt: HostRuntime) {
+    let mut strings = JudySl::new(rt.alloc(), 1);
+    insert(&rt, &mut strings, b"abcdefghij", 7);
+    let long = [b'a'; 1025];
+    assert!(rt; matches!(strings.ins(b"\0"), Err(SlError::BadKey)));
+    assert!(rt; matches!(strings.ins(&long), Err(SlError::BadKey)));
+    assert!(rt; matches!(strings.ins(&long[..1024]), Err(SlError::Full)));
+    assert_eq!(rt; strings.get(b"\0"), None);
+    assert_eq!(rt; strings.get(&long), None);
+    assert_eq!(rt; strings.get(b"abcdefghij"), Some(7));
+    assert_eq!(rt; strings.len(), 1);
+    assert_eq!(rt; strings.free_array(), 1);
+    assert_eq!(rt; strings.get(b"abcdefghij"), None);
+}
+
+// The part of the row on JudySL: keys of the greatest length that share all bytes but the last.
+#[test]
+fn long_keys_and_one_hash(rt: HostRuntime) {
+    let mut strings = JudySl::new(rt.alloc(), 4_294_967_295);
+    let mut key = [b'k'; 1024];
+    insert(&rt, &mut strings, &key, 1);
+    key[1023] = b'l';
+    insert(&rt, &mut strings, &key, 2);
+    insert(&rt, &mut strings, &key[..1023], 3);
+    assert_eq!(rt; strings.get(&key), Some(2));
+    assert_eq!(rt; strings.get(&key[..1023]), Some(3));
+    assert_eq!(rt; strings.get(&key[..1022]), None);
+    key[1023] = b'k';
+    assert_eq!(rt; strings.get(&key), Some(1));
+    check_scan(&rt, &strings, Scan::Next, &key[..1023], Some((&key, 1)));
+    assert_eq!(rt; strings.len(), 3);
+}
+
+// The part of the row with ample memory: a tail is split in the first level and behind shared pieces.
+#[test]
+fn refused_string_insert(rt: HostRuntime) {
+    let mut strings = JudySl::new(rt.alloc(), 4_294_967_295);
+    insert(&rt, &mut strings, b"abcdefghijklmnopqrstuvwxyz", 1);
+    insert(&rt, &mut strings, b"abcdefghijklmnopqrstuvwxy", 2);
+    insert(&rt, &mut strings, b"abcdefghijklmnop", 3);
+    insert(&rt, &mut strings, b"abcdefgh........", 4);
+    let held = [
+        (b"abcdefghijklmnopqrstuvwxyz".as_slice(), 1),
+        (b"abcdefghijklmnopqrstuvwxy", 2),
+        (b"abcdefghijklmnop", 3),
+        (b"abcdefgh........", 4),
+    ];
+    for (key, value) in held {
+        assert_eq!(rt; strings.get(key), Some(value));
+        assert!(rt; matches!(strings.ins(key), Ok(slot) if *slot == value));
+    }
+    assert_eq!(rt; strings.get(b"abcdefgh"), None);
+}
+
+// Random keys of two letters against a table of all keys that were put in.
+#[test]
+fn random_keys(rt: HostRuntime) {
+    let mut strings = JudySl::new(rt.alloc(), 4_294_967_295);
+    let mut table = [0u64; 4096];
+    let mut state: u64 = 12345;
+    for value in 1..600 {
+        state = state.wrapping_mul(1_103_515_245).wrapping_add(12_345) % 2_147_483_648;
+        let bits = (state / 65_536 % 4096) as usize;
+        let key = letters(bits);
+        match strings.ins(&key) {
+            Ok(slot) => {
+                assert_eq!(rt; *slot, table[bits]);
+                *slot = value;
+            }
+            Err(_) => assert!(rt; false),
+        }
+        table[bits] = value;
+    }
+    assert_eq!(rt; strings.len(), table.iter().filter(|value| **value != 0).count() as u64);
+    let mut at = KeyBuf::new();
+    let mut found = strings.first(&mut at);
+    for (bits, held) in table.iter().enumerate() {
+        let value = *held;
+        let key = letters(bits);
+        assert_eq!(rt; strings.get(&key).unwrap_or(0), value);
+        if value != 0 {
+            assert_eq!(rt; found, Some(value));
+            assert_eq!(rt; at.as_slice(), key.as_slice());
+            found = strings.next(&mut at);
+        }
+    }
+    assert_eq!(rt; found, None);
+}
+
+// Twelve bits as letters behind a stem of eight, the highest first.
+fn letters(bits: usize) -> [u8; 20] {
+    let mut key = [b's'; 20];
+    let mut rest = bits;
+    for place in 0..12 {
+        key[19 - place] = b'a' + (rest % 2) as u8;
+        rest /= 2;
+    }
+    key
+}

@@ -1,0 +1,164 @@
+-- A key that is added where a level has no entry for it.
+use Rattle.std.proofs.Common.{◌≡◌, ◌≢◌, ℕ, zero, suc, ◌<◌, ◌≤◌, ◌-◌, List, [], ◌∷◌, ◌++◌, length, drop, get_or, set, Option, None, Some, inl, inr, refl, sym, ap, subst, ◌∙◌, arith}
+use Rattle.std.proofs.lemmas.Bool.{cases_eq, cases_lt}
+use Rattle.std.proofs.lemmas.Option.{none-some, slice_get-get_or, slice_get_past}
+use Rattle.std.proofs.lemmas.List.{append_assoc, length-drop, length-set, get_or-set_same, get_or-set_other}
+use Rattle.std.specs.Prelude.{slice_get}
+use Rattle.std.specs.FinMap.{FinMap, get, insert}
+use Rattle.judy_model.specs.Keys.{word_order, IsStringKey}
+use Rattle.judy_model.specs.Arrays.{ArrayOf}
+use Rattle.judy_word.specs.Writes.{with_value}
+use Rattle.judy_sl.specs.declared.child.Child.{Child}
+use Rattle.judy_sl.specs.declared.child.Rest.{Rest}
+use Rattle.judy_sl.specs.declared.child.Child.TheVariants.{Free, Tail, Level}
+use Rattle.judy_sl.specs.declared.arena.Arena.{Arena}
+use Rattle.judy_sl.specs.declared.arena.Place.{Place}
+use Rattle.judy_sl.specs.declared.arena.Place.TheVariants.{Root, Below}
+use Rattle.judy_sl.specs.Pieces.{pieces, piece_of, IsText, IsInner, IsFinal, SpellKey, ArePieces, AreInner}
+use Rattle.judy_sl.specs.World.{World, Node, gone, tail, level, lookup, at_entry, walk}
+use Rattle.judy_sl.specs.Worlds.{IsWorld, FitsBehind}
+use Rattle.judy_sl.specs.Arenas.{world_of, node_of, child_at, IsArena, HasText, HasLimit}
+use Rattle.judy_sl.specs.Children.{child_with, IsTaken}
+use Rattle.judy_sl.specs.Places.{IsPlace, IsInside, with_child, place_with}
+use Rattle.judy_sl.specs.Ways.{seat_of, piece_at, LeadsTo, IsFound, IsGap, HasValue, left_of}
+use Rattle.judy_sl.specs.Grown.{IsChange, IsPut, IsAdded, IsSame, next_place, free_or}
+use Rattle.judy_sl.proofs.PieceLemmas.{piece-IsFinal, piece-IsInner, text-drop}
+use Rattle.judy_sl.proofs.Ways.{look_in, lookup-in, walk-more, tail-same, tail-other, pieces_short, pieces_long}
+use Rattle.judy_sl.proofs.Changes.{way-stays}
+use Rattle.judy_sl.proofs.Seats.{set_node, set_behind, set_node-comm, cond-same, cond-other, NodeFits, IsUsed, keeps, fits-put, put}
+use Rattle.judy_sl.proofs.Entries.{changes_value, changes_behind}
+use Rattle.judy_sl.proofs.OnWay.{pieces-some, inner-more}
+use Rattle.judy_sl.proofs.Written.{behind-leads, apart-leads}
+use Rattle.judy_sl.proofs.Linked.{node_with, inside_of, world-with_place, place-with_arena, fits-insert, insert-some, get-insert_here, get-insert_off, text-with, limit-with}
+
+-- ---- nothing has changed
+
+module _ (before after : Arena) (same : IsSame before after) where
+  child-same : (at : ℕ) → child_at after at ≡ child_at before at
+  child-same at = ap (λ items. get_or items at (Free 0)) same.items
+
+  world-same-at : (seat : ℕ) → world_of after seat ≡ world_of before seat
+  world-same-at zero = ap (λ (words : ArrayOf word_order). level words.map) same.root
+  world-same-at (suc at) = ap node_of (child-same at)
+
+  pub world-same : world_of after ≡ world_of before
+  world-same = λ i seat. world-same-at seat i
+
+  pub arena-same : IsArena before → IsArena after
+  arena-same is = record {
+    behind = is.behind;
+    is_world = subst (λ w. IsWorld w is.behind) (sym world-same) is.is_world;
+    texts = λ at. subst HasText (sym (child-same at)) (is.texts at);
+    root_limit = ap (λ (words : ArrayOf word_order). words.limit) same.root ∙ is.root_limit;
+    limits = λ at. subst HasLimit (sym (child-same at)) (is.limits at);
+  }
+
+-- ---- a place of a level
+
+taken-level : (child : Child) (map : FinMap word_order ℕ) → node_of child ≡ level map → IsTaken child
+taken-level (Free next) map e = absurd (cc)
+taken-level (Tail rest) map e = tt
+taken-level (Level words) map e = tt
+
+pub level-place : (arena : Arena) (place : Place) (map : FinMap word_order ℕ) → world_of arena (seat_of place) ≡ level map → IsPlace arena place
+level-place arena (Root piece) map e = tt
+level-place arena (Below at piece) map e = (inside_of arena at (λ none. let g : gone ≡ level map = sym none ∙ e in cc), taken-level (child_at arena at) map e)
+
+pub place-inside : (arena : Arena) (place : Place) → IsPlace arena place → IsInside arena place
+place-inside arena (Root piece) is = tt
+place-inside arena (Below at piece) is = is.0
+
+-- A value that is put in leaves the next place.
+free_or-taken : (child : Child) (free end : ℕ) → IsTaken child → free_or (Some child) free end ≡ end
+free_or-taken (Free next) free end is = absurd is
+free_or-taken (Tail rest) free end is = refl
+free_or-taken (Level words) free end is = refl
+
+taken-with : (child : Child) (piece value : ℕ) → IsTaken child → IsTaken (child_with child piece value)
+taken-with (Free next) piece value is = is
+taken-with (Tail rest) piece value is = is
+taken-with (Level words) piece value is = is
+
+pub next-stays : (arena : Arena) (place : Place) (value : ℕ) → IsPlace arena place → next_place (place_with arena place value) ≡ next_place arena
+next-stays arena (Root piece) value is = refl
+next-stays arena (Below at piece) value is =
+    let items = arena.children.items in
+    let child = child_with (child_at arena at) piece value in
+    let len : length (set items at child) ≡ length items = length-set items at child in
+    elim (cases_lt arena.free (length items)) [
+      | inl inside ↦
+          let inside_after : arena.free < length (set items at child) = omega (arith, len) in
+          ap (λ o. free_or o arena.free (length (set items at child))) (slice_get-get_or (set items at child) arena.free (Free 0) inside_after)
+          ∙ ap (free_or (Some (get_or (set items at child) arena.free (Free 0))) arena.free) len
+          ∙ elim (cases_eq arena.free at) [
+            | inl e ↦
+                ap (λ c. free_or (Some c) arena.free (length items)) (ap (λ n. get_or (set items at child) n (Free 0)) e ∙ get_or-set_same items at child (Free 0) is.0)
+                ∙ free_or-taken child arena.free (length items) (taken-with (child_at arena at) piece value is.1)
+                ∙ sym (ap (λ n. free_or (Some (get_or items n (Free 0))) arena.free (length items)) e ∙ free_or-taken (child_at arena at) arena.free (length items) is.1)
+            | inr apart ↦ ap (λ c. free_or (Some c) arena.free (length items)) (get_or-set_other items at arena.free child (Free 0) apart)
+          ]
+          ∙ sym (ap (λ o. free_or o arena.free (length items)) (slice_get-get_or items arena.free (Free 0) inside))
+      | inr past ↦
+          let past_after : length (set items at child) ≤ arena.free = omega (arith, len) in
+          ap (λ o. free_or o arena.free (length (set items at child))) (slice_get_past (set items at child) arena.free past_after)
+          ∙ len
+          ∙ sym (ap (λ o. free_or o arena.free (length items)) (slice_get_past items arena.free past))
+    ]
+
+-- ---- the last piece
+
+module _ (arena : Arena) (is : IsArena arena) (key : List ℕ) (is_key : IsStringKey key) (place : Place) (left : ℕ) (gap : IsGap (world_of arena) key place left) (short : left < 8) where
+  abbrev rest_of : List ℕ
+  rest_of = left_of key left
+
+  short-rest : length rest_of < 8
+  short-rest = let k = length-drop (length key - left) key in omega (arith, k, gap.within)
+
+  parts : pieces key ≡ gap.leads.front ++ piece_at place ∷ []
+  parts = gap.leads.parts ∙ ap (λ ps. gap.leads.front ++ ps) (pieces_short rest_of short-rest ∙ ap (λ p. p ∷ []) (sym gap.next))
+
+  final : IsFinal (piece_at place)
+  final = subst IsFinal (sym gap.next) (piece-IsFinal rest_of gap.text short-rest)
+
+  spells : SpellKey (is.behind (seat_of place) ++ piece_at place ∷ [])
+  spells = record { key = key; is_key = is_key; spells = parts ∙ ap (λ f. f ++ piece_at place ∷ []) (sym (behind-leads (world_of arena) is.behind is.is_world key (seat_of place) (pieces rest_of) gap.leads)) }
+
+  abbrev node_in : Node
+  node_in = node_with (world_of arena (seat_of place)) (piece_at place) 0
+
+  node-is : node_in ≡ level (insert gap.map (piece_at place) 0)
+  node-is = ap (λ n. node_with n (piece_at place) 0) gap.is_level
+
+  is-used : (seat : ℕ) → IsUsed seat (level (insert gap.map (piece_at place) 0))
+  is-used zero = tt
+  is-used (suc at) = insert-some gap.map (piece_at place) 0
+
+  world-is : world_of (place_with arena place 0) ≡ set_node (world_of arena) (seat_of place) node_in
+  world-is = world-with_place arena place 0 (place-inside arena place (level-place arena place gap.map gap.is_level))
+
+  after-seat : world_of (place_with arena place 0) (seat_of place) ≡ level (insert gap.map (piece_at place) 0)
+  after-seat = ap (λ (w : World). w (seat_of place)) world-is ∙ cond-same (world_of arena) (seat_of place) node_in (seat_of place) refl ∙ node-is
+
+  apart-after : (at : ℕ) → world_of arena at ≢ gone → is.behind at ≢ gap.leads.front → world_of (place_with arena place 0) at ≡ world_of arena at
+  apart-after at some off = ap (λ (w : World). w at) world-is ∙ apart-leads (world_of arena) is.behind is.is_world key (seat_of place) (pieces rest_of) gap.leads node_in at some off
+
+  pub fills-last : IsAdded arena (place_with arena place 0) key place
+  fills-last = record {
+    is_arena = place-with_arena arena is place 0 (place-inside arena place (level-place arena place gap.map gap.is_level))
+        (subst (NodeFits (world_of arena) is.behind (is.behind (seat_of place))) (sym node-is) (fits-insert (world_of arena) is.behind (is.behind (seat_of place)) gap.map (is.is_world.levels (seat_of place) gap.map gap.is_level) (piece_at place) 0 final spells))
+        (subst (IsUsed (seat_of place)) (sym node-is) (is-used (seat_of place)));
+    change = subst (λ ps. IsChange (world_of arena) (world_of (place_with arena place 0)) ps (Some 0)) (sym parts) (
+        changes_value (world_of arena) (world_of (place_with arena place 0)) is.behind is.is_world arena.root.map refl gap.leads.front gap.leads.inner (seat_of place) gap.leads.way apart-after (behind-leads (world_of arena) is.behind is.is_world key (seat_of place) (pieces rest_of) gap.leads) gap.map (insert gap.map (piece_at place) 0) gap.is_level after-seat (piece_at place) (λ p off. get-insert_off gap.map (piece_at place) 0 p off) (Some 0) final (get-insert_here gap.map (piece_at place) 0)
+        );
+    found = record {
+      rest = piece_at place ∷ [];
+      leads = record {
+        front = gap.leads.front;
+        inner = gap.leads.inner;
+        way = way-stays (world_of arena) (world_of (place_with arena place 0)) is.behind is.is_world arena.root.map refl gap.leads.front gap.leads.inner (seat_of place) gap.leads.way apart-after;
+        parts = parts;
+      };
+      value = 0;
+      has = subst (λ n. HasValue n (piece_at place) (piece_at place ∷ []) 0) (sym after-seat) (refl, final, get-insert_here gap.map (piece_at place) 0);
+    };
+  }

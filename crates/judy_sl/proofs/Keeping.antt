@@ -1,0 +1,70 @@
+-- An array of strings, and what its changes make of it.
+use Rattle.std.proofs.Common.{◌≡◌, ◌≢◌, ℕ, zero, suc, ◌+◌, ◌≤◌, ◌<◌, List, [], ◌∷◌, ◌++◌, length, Option, None, Some, refl, sym, ap, subst, ◌∙◌, arith}
+use Rattle.std.specs.FinMap.{FinMap, get, empty, insert, len, len-empty, empty_of_len}
+use Rattle.judy_model.specs.Keys.{word_order, byte_order, IsStringKey}
+use Rattle.judy_model.specs.Arrays.{ArrayOf, empty_array}
+use Rattle.judy_sl.specs.declared.arena.Arena.{Arena}
+use Rattle.judy_sl.specs.declared.arena.Place.{Place}
+use Rattle.judy_sl.specs.Pieces.{pieces, piece_of}
+use Rattle.judy_sl.specs.World.{World, Node, gone, tail, level, lookup, at_entry}
+use Rattle.judy_sl.specs.Arenas.{world_of, map_of, array_of, IsArena, IsStrings}
+use Rattle.judy_sl.specs.Places.{place_with, place_value}
+use Rattle.judy_sl.specs.Ways.{IsFound, IsGap, IsClash, seat_of, left_of}
+use Rattle.judy_sl.specs.Lends.{with_value}
+use Rattle.judy_sl.proofs.Ways.{look_in, lookup-in, lookup-walk, lookup-level, tail-other}
+use Rattle.judy_sl.proofs.OnWay.{pieces-head}
+use Rattle.judy_sl.proofs.Written.{written-arena, written-change, found-there, value-there}
+use Rattle.judy_sl.proofs.Maps.{get-map, map_written, empty-arena, empty-map, len-written}
+
+module _ (world : World) (key : List ℕ) where
+  -- Nothing is found where a level has no entry,
+  pub gap-none : (place : Place) (left : ℕ) → IsGap world key place left → lookup world 0 (pieces key) ≡ None
+  gap-none place left gap =
+      let h = pieces-head (left_of key left) in
+      ap (lookup world 0) (gap.leads.parts ∙ ap (λ ps. gap.leads.front ++ ps) h.1)
+      ∙ lookup-walk world 0 gap.leads.front (seat_of place) (piece_of (left_of key left)) h.0 gap.leads.way
+      ∙ lookup-level world (seat_of place) gap.map (piece_of (left_of key left) ∷ h.0) gap.is_level
+      ∙ ap (λ o. at_entry o h.0 (λ at. lookup world (suc at) h.0)) (ap (get gap.map) (sym gap.next) ∙ gap.absent)
+
+  -- nor where another's tail stands.
+  pub clash-none : (at left : ℕ) → IsClash world key at left → lookup world 0 (pieces key) ≡ None
+  clash-none at left clash =
+      let h = pieces-head (left_of key left) in
+      ap (lookup world 0) (clash.leads.parts ∙ ap (λ ps. clash.leads.front ++ ps) h.1)
+      ∙ lookup-walk world 0 clash.leads.front (suc at) (piece_of (left_of key left)) h.0 clash.leads.way
+      ∙ lookup-in world (suc at) (piece_of (left_of key left) ∷ h.0)
+      ∙ ap (look_in world (world (suc at))) (sym h.1)
+      ∙ ap (λ node. look_in world node (pieces (left_of key left))) clash.is_tail
+      ∙ tail-other world clash.held (pieces (left_of key left)) clash.value clash.other
+
+-- A new array.
+pub strings-new : (limit : ℕ) (arena : Arena) → arena.children.items ≡ [] → arena.root ≡ empty_array 18446744073709551615 → 1 ≤ limit → limit ≤ 4294967295 → IsStrings limit 0 arena
+strings-new limit arena nothing no_root some most = record {
+  is_arena = empty-arena arena nothing no_root;
+  counted = sym (ap (λ (map : FinMap byte_order ℕ). len map) (empty-map arena nothing no_root) ∙ len-empty byte_order ℕ);
+  within_limit = omega arith;
+  holds_some = some;
+  limit_fits = most;
+}
+
+module _ (limit count : ℕ) (arena : Arena) (is : IsStrings limit count arena) (key : List ℕ) (is_key : IsStringKey key) (place : Place) (found : IsFound (world_of arena) key place) where
+  pub get-there : get (map_of arena) key ≡ Some found.value
+  get-there = get-map arena key is_key ∙ found-there arena is.is_arena key place found
+
+  pub value-place : place_value arena place ≡ get (map_of arena) key
+  value-place = value-there arena is.is_arena key place found ∙ sym get-there
+
+  pub map-written : (value : ℕ) → map_of (place_with arena place value) ≡ insert (map_of arena) key value
+  map-written value = map_written arena (place_with arena place value) key is_key value (written-change arena is.is_arena key place found value)
+
+  pub strings-written : (value : ℕ) → IsStrings limit count (place_with arena place value)
+  strings-written value = record {
+    is_arena = written-arena arena is.is_arena key place found value;
+    counted = is.counted ∙ sym (ap (λ (map : FinMap byte_order ℕ). len map) (map-written value) ∙ len-written (map_of arena) key found.value value get-there);
+    within_limit = is.within_limit;
+    holds_some = is.holds_some;
+    limit_fits = is.limit_fits;
+  }
+
+  pub array-written : (value : ℕ) → array_of limit (place_with arena place value) ≡ with_value (array_of limit arena) key value
+  array-written value = ap (λ (map : FinMap byte_order ℕ). record { limit = limit; map = map }) (map-written value)

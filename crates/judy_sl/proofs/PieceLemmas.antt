@@ -1,0 +1,197 @@
+-- The pieces of strings without zeros: exactly the last is final, they are of one string alone, and the order of
+-- strings is the order of their pieces.
+use Rattle.std.proofs.Common.{Fits, w8, ◌≡◌, ◌≢◌, ℕ, zero, suc, ◌+◌, ◌*◌, ◌/◌, ◌%◌, ◌^◌, ◌<◌, ◌≤◌, ⊎_elim, List, [], ◌∷◌, length, drop, get_or, All, sym, refl, ap, ◌∙◌, subst, arith, Ordering, Less, Equal, Greater, nat_cmp}
+use Rattle.std.specs.Cmp.{nat_cmp_is, tied_itself}
+use Rattle.std.specs.Cmp.Lexicographic.{nat_list_cmp_total}
+use Rattle.std.specs.Ordering.{ordering_then}
+use Rattle.std.specs.FinMap.{nat_cmp-IsAntisymmetric, slice_cmp-IsAntisymmetric}
+use Rattle.std.proofs.Math.Nat.{mul_comm, mul-pos, pow-suc}
+use Rattle.std.proofs.lemmas.Nat.{mul-add-lt}
+use Rattle.std.proofs.lemmas.Bool.{cases_order, cases_lt}
+use Rattle.std.proofs.lemmas.List.{get_or_default, length-drop, get_or_past, drop_all}
+use Rattle.std.proofs.lemmas.List.Elements.{All-head, All-tail, All-get_or}
+use Rattle.judy_model.specs.Keys.{IsStringKey, word_order, byte_order}
+use Rattle.judy_model.proofs.ByteLemmas.{unit_pos}
+use Rattle.judy_sl.proofs.Spelling.{spelled-more}
+use Rattle.judy_sl.proofs.Ways.{pieces_short, pieces_long}
+use Rattle.judy_sl.specs.Pieces.{spelled, piece_of, pieces_in, pieces, IsFinal, IsInner, ArePieces, IsText}
+
+-- ---- texts
+
+-- The bytes of a key are a text.
+pub text_of_key : (key : List ℕ) → IsStringKey key → IsText key
+text_of_key key is = λ k d within. (is.is_bytes_key.is_byte_string k d within, is.without_zero k d within)
+
+-- Bytes of which none is zero are one.
+pub text_from_bytes : (bytes : List ℕ) → ((k : ℕ) → Fits w8 (get_or bytes k 0)) → All (λ byte. byte ≢ 0) bytes → IsText bytes
+text_from_bytes bytes small some = λ k d within. (let here : get_or bytes k d ≡ get_or bytes k 0 = get_or_default bytes k d 0 within in let fits = small k in omega arith, some k d within)
+
+-- And a text of at most 1,024 bytes is a key.
+pub key_of_text : (key : List ℕ) → IsText key → length key ≤ 1024 → IsStringKey key
+key_of_text key text within = record { is_bytes_key = record { is_byte_string = λ k d inside. (text k d inside).0; within_limit = within }; without_zero = λ k d inside. (text k d inside).1 }
+
+-- What is left of a text after its first bytes is one.
+pub text-drop : (count : ℕ) (bytes : List ℕ) → IsText bytes → IsText (drop count bytes)
+text-drop zero bytes text = text
+text-drop (suc count) [] text = text
+text-drop (suc count) (byte ∷ bytes) text = text-drop count bytes (All-tail (λ b. (b < 256) × (b ≢ 0)) byte bytes text)
+
+-- ---- the number that bytes spell
+
+-- So many bytes spell a number below so many bytes' bound.
+pub spelled-lt : (width : ℕ) (bytes : List ℕ) → IsText bytes → spelled width bytes < 256 ^ width
+spelled-lt zero bytes text = omega arith
+spelled-lt (suc width) [] text = unit_pos (suc width)
+spelled-lt (suc width) (byte ∷ bytes) text =
+    let here = All-head (λ b. (b < 256) × (b ≢ 0)) byte bytes text in
+    let rest = spelled-lt width bytes (All-tail (λ b. (b < 256) × (b ≢ 0)) byte bytes text) in
+    subst (λ bound. byte * 256 ^ width + spelled width bytes < bound) (sym (pow-suc 256 width)) (mul-add-lt byte (256 ^ width) (spelled width bytes) 256 here.0 rest)
+
+-- A piece is a word.
+pub piece_of-lt : (bytes : List ℕ) → IsText bytes → piece_of bytes < 2 ^ 64
+unfolding piece_of
+piece_of-lt bytes text = spelled-lt 8 bytes text
+
+lowest_byte : (bytes : List ℕ) → IsText bytes → piece_of bytes % 256 ≡ get_or bytes 7 0
+unfolding piece_of
+lowest_byte bytes text = let e = spelled-more 7 bytes in ⊎_elim
+    (λ inside. let here = (All-get_or (λ b. (b < 256) × (b ≢ 0)) bytes 7 0 inside text).0 in omega arith)
+    (λ past. let none : get_or bytes 7 0 ≡ 0 = get_or_past bytes 7 0 past in omega arith)
+    (cases_lt 7 (length bytes))
+
+-- The piece of fewer than eight bytes is final.
+pub piece-IsFinal : (bytes : List ℕ) → IsText bytes → length bytes < 8 → IsFinal (piece_of bytes)
+piece-IsFinal bytes text short = lowest_byte bytes text ∙ get_or_past bytes 7 0 (omega arith)
+
+-- That of eight or more isn't.
+pub piece-IsInner : (bytes : List ℕ) → IsText bytes → 8 ≤ length bytes → IsInner (piece_of bytes)
+piece-IsInner bytes text long = λ e. (All-get_or (λ b. (b < 256) × (b ≢ 0)) bytes 7 0 (omega arith) text).1 (sym (lowest_byte bytes text) ∙ e)
+
+-- ---- the pieces of a text are pieces
+
+pieces_in-are : (count : ℕ) (bytes : List ℕ) → IsText bytes → length bytes / 8 ≡ count → ArePieces (pieces_in count bytes)
+pieces_in-are zero bytes text e = piece-IsFinal bytes text (omega arith)
+pieces_in-are (suc zero) bytes text e =
+    let left = length-drop 8 bytes in
+    (piece-IsInner bytes text (omega arith), pieces_in-are zero (drop 8 bytes) (text-drop 8 bytes text) (omega arith))
+pieces_in-are (suc (suc count)) bytes text e =
+    let left = length-drop 8 bytes in
+    (piece-IsInner bytes text (omega arith), pieces_in-are (suc count) (drop 8 bytes) (text-drop 8 bytes text) (omega arith))
+
+-- Of the pieces of a text exactly the last is final.
+pub pieces_are : (bytes : List ℕ) → IsText bytes → ArePieces (pieces bytes)
+unfolding pieces
+pieces_are bytes text = pieces_in-are (length bytes / 8) bytes text refl
+
+-- ---- order
+
+then_assoc : (one two three : Ordering) → ordering_then (ordering_then one two) three ≡ ordering_then one (ordering_then two three)
+then_assoc Less two three = refl
+then_assoc Equal two three = refl
+then_assoc Greater two three = refl
+
+-- Where what stands above is one, what stands below decides.
+order-low : (high low other : ℕ) → nat_cmp (high + low) (high + other) ≡ nat_cmp low other
+order-low high low other = ⊎_elim
+    (λ same. sym (nat_cmp_is (high + low) (high + other) Equal (omega arith)) ∙ nat_cmp_is low other Equal same)
+    (λ apart. ⊎_elim
+    (λ less. sym (nat_cmp_is (high + low) (high + other) Less (omega arith)) ∙ nat_cmp_is low other Less less)
+    (λ more. sym (nat_cmp_is (high + low) (high + other) Greater (omega arith)) ∙ nat_cmp_is low other Greater more)
+    apart)
+    (cases_order low other)
+
+below_high : (unit left right low other : ℕ) → low < unit → left < right → left * unit + low < right * unit + other
+below_high unit left right low other p less =
+    let bound = mul-add-lt left unit low right less p in
+    let turned = mul_comm unit right in
+    omega arith
+
+-- And else what stands above.
+order-high : (unit left right low other : ℕ) → low < unit → other < unit → nat_cmp (left * unit + low) (right * unit + other) ≡ ordering_then (nat_cmp left right) (nat_cmp low other)
+order-high unit left right low other p q = ⊎_elim
+    (λ same. ap (λ n. nat_cmp (left * unit + low) (n * unit + other)) (sym same) ∙ order-low (left * unit) low other ∙ ap (λ answer. ordering_then answer (nat_cmp low other)) (nat_cmp_is left right Equal same))
+    (λ apart. ⊎_elim
+    (λ less. sym (nat_cmp_is (left * unit + low) (right * unit + other) Less (below_high unit left right low other p less)) ∙ ap (λ answer. ordering_then answer (nat_cmp low other)) (nat_cmp_is left right Less less))
+    (λ more. sym (nat_cmp_is (left * unit + low) (right * unit + other) Greater (below_high unit right left other low q more)) ∙ ap (λ answer. ordering_then answer (nat_cmp low other)) (nat_cmp_is left right Greater more))
+    apart)
+    (cases_order left right)
+
+-- Where a byte that isn't zero stands, the number isn't zero.
+spelled-some : (width byte : ℕ) (bytes : List ℕ) → byte ≢ 0 → 0 < spelled (suc width) (byte ∷ bytes)
+spelled-some width byte bytes some =
+    let here : 0 < byte * 256 ^ width = mul-pos (omega (arith, some)) (unit_pos width) in
+    omega arith
+
+-- Two texts compare as the numbers that their first bytes spell, and where these are one, as their rests do.
+order-spelled : (width : ℕ) (one two : List ℕ) → IsText one → IsText two → byte_order one two ≡ ordering_then (nat_cmp (spelled width one) (spelled width two)) (byte_order (drop width one) (drop width two))
+order-spelled zero one two p q = refl
+order-spelled (suc width) [] [] p q = refl
+order-spelled (suc width) [] (y ∷ ys) p q =
+    ap (λ answer. ordering_then answer (byte_order [] (drop width ys))) (nat_cmp_is 0 (spelled (suc width) (y ∷ ys)) Less (spelled-some width y ys (All-head (λ b. (b < 256) × (b ≢ 0)) y ys q).1))
+order-spelled (suc width) (x ∷ xs) [] p q =
+    ap (λ answer. ordering_then answer (byte_order (drop width xs) [])) (nat_cmp_is (spelled (suc width) (x ∷ xs)) 0 Greater (spelled-some width x xs (All-head (λ b. (b < 256) × (b ≢ 0)) x xs p).1))
+order-spelled (suc width) (x ∷ xs) (y ∷ ys) p q =
+    let ps = All-tail (λ b. (b < 256) × (b ≢ 0)) x xs p in
+    let qs = All-tail (λ b. (b < 256) × (b ≢ 0)) y ys q in
+    ap (λ answer. ordering_then (nat_cmp x y) answer) (order-spelled width xs ys ps qs)
+    ∙ sym (then_assoc (nat_cmp x y) (nat_cmp (spelled width xs) (spelled width ys)) (byte_order (drop width xs) (drop width ys)))
+    ∙ ap (λ answer. ordering_then answer (byte_order (drop width xs) (drop width ys))) (sym (order-high (256 ^ width) x y (spelled width xs) (spelled width ys) (spelled-lt width xs ps) (spelled-lt width ys qs)))
+
+-- Two texts compare as their first pieces, and where these are one, as what stands behind them.
+pub order-piece : (one two : List ℕ) → IsText one → IsText two → byte_order one two ≡ ordering_then (word_order (piece_of one) (piece_of two)) (byte_order (drop 8 one) (drop 8 two))
+unfolding piece_of
+order-piece one two p q = order-spelled 8 one two p q
+
+-- Where the first pieces differ, what follows decides nothing.
+pub first_decides : (one two : ℕ) (later other : Ordering) → one ≢ two → ordering_then (nat_cmp one two) later ≡ ordering_then (nat_cmp one two) other
+first_decides one two later other differ =
+    elim (nat_cmp one two) as (λ answer. nat_cmp one two ≡ answer → ordering_then answer later ≡ ordering_then answer other) [
+      | Less ↦ λ is. refl
+      | Equal ↦ λ is. absurd (differ (nat_cmp-IsAntisymmetric one two is))
+      | Greater ↦ λ is. refl
+    ] refl
+
+-- A final piece isn't an inner one.
+pub final-not_inner : (one two : ℕ) → IsFinal one → IsInner two → one ≢ two
+final-not_inner one two final inner same = inner (ap (λ piece. piece % 256) (sym same) ∙ final)
+
+both_short : (one two : List ℕ) → length one < 8 → length two < 8 → IsText one → IsText two → byte_order (pieces one) (pieces two) ≡ byte_order one two
+both_short one two short also p q =
+    (λ t. byte_order (pieces_short one short t) (pieces_short two also t))
+    ∙ (λ t. ordering_then (nat_cmp (piece_of one) (piece_of two)) (byte_order (sym (drop_all 8 one (omega arith)) t) (sym (drop_all 8 two (omega arith)) t)))
+    ∙ sym (order-piece one two p q)
+
+short_long : (one two : List ℕ) → length one < 8 → 8 ≤ length two → IsText one → IsText two → byte_order (pieces one) (pieces two) ≡ byte_order one two
+short_long one two short long p q =
+    (λ t. byte_order (pieces_short one short t) (pieces_long two long t))
+    ∙ first_decides (piece_of one) (piece_of two) (byte_order [] (pieces (drop 8 two))) (byte_order (drop 8 one) (drop 8 two)) (final-not_inner (piece_of one) (piece_of two) (piece-IsFinal one p short) (piece-IsInner two q long))
+    ∙ sym (order-piece one two p q)
+
+long_short : (one two : List ℕ) → 8 ≤ length one → length two < 8 → IsText one → IsText two → byte_order (pieces one) (pieces two) ≡ byte_order one two
+long_short one two long short p q =
+    (λ t. byte_order (pieces_long one long t) (pieces_short two short t))
+    ∙ first_decides (piece_of one) (piece_of two) (byte_order (pieces (drop 8 one)) []) (byte_order (drop 8 one) (drop 8 two)) (λ e. final-not_inner (piece_of two) (piece_of one) (piece-IsFinal two q short) (piece-IsInner one p long) (sym e))
+    ∙ sym (order-piece one two p q)
+
+order-pieces_within : (most : ℕ) (one two : List ℕ) → length one ≤ most → IsText one → IsText two → byte_order (pieces one) (pieces two) ≡ byte_order one two
+order-pieces_within zero one two within p q = ⊎_elim (λ short. both_short one two (omega arith) short p q) (λ long. short_long one two (omega arith) long p q) (cases_lt (length two) 8)
+order-pieces_within (suc most) one two within p q = ⊎_elim
+    (λ short. ⊎_elim (λ also. both_short one two short also p q) (λ long. short_long one two short long p q) (cases_lt (length two) 8))
+    (λ long. ⊎_elim
+    (λ short. long_short one two long short p q)
+    (λ also.
+    let left = length-drop 8 one in
+    (λ t. byte_order (pieces_long one long t) (pieces_long two also t))
+    ∙ ap (λ answer. ordering_then (nat_cmp (piece_of one) (piece_of two)) answer) (order-pieces_within most (drop 8 one) (drop 8 two) (omega arith) (text-drop 8 one p) (text-drop 8 two q))
+    ∙ sym (order-piece one two p q))
+    (cases_lt (length two) 8))
+    (cases_lt (length one) 8)
+
+-- Texts compare as their pieces do.
+pub order-pieces : (one two : List ℕ) → IsText one → IsText two → byte_order (pieces one) (pieces two) ≡ byte_order one two
+order-pieces one two p q = order-pieces_within (length one) one two (omega arith) p q
+
+-- Only one text has its pieces.
+pub pieces_same : (one two : List ℕ) → IsText one → IsText two → pieces one ≡ pieces two → one ≡ two
+pieces_same one two p q same =
+    slice_cmp-IsAntisymmetric nat_cmp-IsAntisymmetric one two (sym (order-pieces one two p q) ∙ ap (λ others. byte_order others (pieces two)) same ∙ tied_itself nat_list_cmp_total (pieces two))

@@ -1,0 +1,61 @@
+-- What the neighbours of a word array are, seen from a side.
+use Rattle.std.proofs.Common.{◌≡◌, ℕ, List, [], ◌∷◌, Bool, true, false, ◌&&◌, IsTrue, Option, Some, None, sym, refl, ap, ◌∙◌, arith, le-leb, Ordering, is_le, is_ge}
+use Rattle.std.specs.Ordering.{ordering_then}
+use Rattle.std.specs.Cmp.{nat_cmp_total}
+use Rattle.std.specs.Cmp.Lexicographic.{slice_cmp}
+use Rattle.std.specs.FinMap.{FinMap, nat_cmp-IsAntisymmetric, contains_key}
+use Rattle.judy_model.specs.Keys.{IsWord, word_order}
+use Rattle.judy_model.specs.Nearest.{IsLeast}
+use Rattle.judy_model.specs.Neighbours.{first, next, last, prev}
+use Rattle.judy_model.proofs.Orders.{ge_is_le, gt_is_lt}
+use Rattle.judy_model.proofs.WordOrder.{is_le_word, is_ge_word}
+use Rattle.judy_model.proofs.NearestLemmas.{first-IsFirst, next-IsNext, last-IsLast, prev-IsPrev}
+use Rattle.judy_sl.specs.declared.scans.Side.{Side}
+use Rattle.judy_sl.specs.declared.scans.Side.TheVariants.{Above, Below}
+use Rattle.judy_sl.specs.Pieces.{pieces, ArePieces, IsText}
+use Rattle.judy_sl.specs.Scans.{along, along_bytes, IsNearestEntry, IsFirstEntry}
+use Rattle.judy_sl.proofs.PieceLemmas.{first_decides, final-not_inner, order-pieces, pieces_are}
+
+-- The least of what passes one of two tests that agree on keys is that of the other.
+least_agree : (order : ℕ → ℕ → Ordering) (one other : ℕ → Bool) → ((key : ℕ) → one key ≡ other key) → (answer : Option ℕ) → IsLeast order one answer → IsLeast order other answer
+least_agree order one other agree None none = λ key. sym (agree key) ∙ none key
+least_agree order one other agree (Some least) some = (sym (agree least) ∙ some.0, λ key passes. some.1 key (agree key ∙ passes))
+
+module _ (map : FinMap word_order ℕ) (from : ℕ) where
+  pub above-next : IsNearestEntry Above false map from (next map from)
+  above-next = least_agree word_order _ _ (λ key. ap (λ b. contains_key map key && b) (gt_is_lt nat_cmp_total key from)) (next map from) (next-IsNext nat_cmp_total nat_cmp-IsAntisymmetric map from)
+
+  pub above-first : IsNearestEntry Above true map from (first map from)
+  above-first = least_agree word_order _ _ (λ key. ap (λ b. contains_key map key && b) (ge_is_le nat_cmp_total key from)) (first map from) (first-IsFirst nat_cmp_total nat_cmp-IsAntisymmetric map from)
+
+  pub below-prev : IsNearestEntry Below false map from (prev map from)
+  below-prev = prev-IsPrev nat_cmp_total nat_cmp-IsAntisymmetric map from
+
+  pub below-last : IsNearestEntry Below true map from (last map from)
+  below-last = last-IsLast nat_cmp_total nat_cmp-IsAntisymmetric map from
+
+both_true : (held side : Bool) → (IsTrue held → IsTrue side) → (held && side) ≡ held
+both_true true side each = each refl
+both_true false side each = refl
+
+module _ (map : FinMap word_order ℕ) where
+  pub above-end : IsFirstEntry Above map (first map 0)
+  above-end = least_agree word_order _ (contains_key map) (λ key. both_true (contains_key map key) (is_ge (word_order key 0)) (λ held. is_ge_word key 0 ∙ le-leb 0 key (omega arith))) (first map 0) (first-IsFirst nat_cmp_total nat_cmp-IsAntisymmetric map 0)
+
+  pub below-end : ((piece : ℕ) → IsTrue (contains_key map piece) → IsWord piece) → IsFirstEntry Below map (last map 18446744073709551615)
+  below-end words = least_agree (λ left right. word_order right left) _ (contains_key map) (λ key. both_true (contains_key map key) (is_le (word_order key 18446744073709551615)) (λ held. is_le_word key 18446744073709551615 ∙ le-leb key 18446744073709551615 (let small = words key held in omega arith))) (last map 18446744073709551615) (last-IsLast nat_cmp_total nat_cmp-IsAntisymmetric map 18446744073709551615)
+
+-- ---- rests of keys
+
+turned_pieces : (one two : List ℕ) → ArePieces one → ArePieces two → slice_cmp (λ left right. word_order right left) one two ≡ slice_cmp word_order two one
+turned_pieces [] two are also = absurd are
+turned_pieces (p ∷ ps) [] are also = absurd also
+turned_pieces (p ∷ []) (q ∷ []) are also = refl
+turned_pieces (p ∷ []) (q ∷ next ∷ qs) are also = first_decides q p (slice_cmp (λ left right. word_order right left) [] (next ∷ qs)) (slice_cmp word_order (next ∷ qs) []) (λ e. final-not_inner p q are also.0 (sym e))
+turned_pieces (p ∷ next ∷ ps) (q ∷ []) are also = first_decides q p (slice_cmp (λ left right. word_order right left) (next ∷ ps) []) (slice_cmp word_order [] (next ∷ ps)) (final-not_inner q p also are.0)
+turned_pieces (p ∷ next ∷ ps) (q ∷ other ∷ qs) are also = ap (ordering_then (word_order q p)) (turned_pieces (next ∷ ps) (other ∷ qs) are.1 also.1)
+
+-- From either side the pieces of texts compare as the texts.
+pub bytes_along : (side : Side) (one two : List ℕ) → IsText one → IsText two → slice_cmp (along side) (pieces one) (pieces two) ≡ along_bytes side one two
+bytes_along Above one two p q = order-pieces one two p q
+bytes_along Below one two p q = turned_pieces (pieces one) (pieces two) (pieces_are one p) (pieces_are two q) ∙ order-pieces two one q p

@@ -1,0 +1,15 @@
+use Rattle.std.proofs.Common.{◌≡◌, ◌∙◌, sym, ap, subst, refl, arith, ◌-◌, ◌+◌, length, drop}
+use Rattle.std.proofs.lemmas.List.{drop-drop, take_rest}
+use Rattle.judy_sl.specs.declared.arena.Arena.{Arena}
+use Rattle.judy_sl.specs.Grown.{IsAdded}
+use Rattle.judy_sl.proofs.Filled.{fills-last}
+use Rattle.judy_sl.proofs.Tailed.{filled-tail}
+use Rattle.judy_sl.proofs.arena.Arena.fill.Goals as goal
+
+pub returns-in-Ok-clause-added : goal.returns-in-Ok-clause-added
+returns-in-Ok-clause-added c =
+    subst (λ (a : Arena). IsAdded c.args.self.now a c.args.key.now c.args.place) (sym c.in-Ok.ensures.entered) (fills-last c.args.self.now c.requires.is_arena c.args.key.now c.requires.is_key c.args.place c.args.left c.requires.gap c.if-left-lt8.true)
+
+pub returns-in-Ok-enter-clause-added : goal.returns-in-Ok-enter-clause-added
+returns-in-Ok-enter-clause-added c =
+    filled-tail c.args.self.now _ c.enter-2.new.self c.put.new.self c.args.key.now c.args.place c.args.left c.next_place-at.result c.put.result _ c.requires.is_arena c.requires.is_key c.requires.gap c.if-left-lt8.false (record { root = refl; items = c.reserve.ensures.items }) c.next_place-at.ensures c.in-Ok-enter.ensures.entered c.put.ensures.place c.put.ensures.put (c.in-Ok-to_vec.ensures.items_if_clones_equal (λ x y e. e) ∙ take_rest c.args.key.now (length c.args.key.now - c.args.left + 8) ∙ sym (drop-drop 8 (length c.args.key.now - c.args.left) c.args.key.now)) refl

@@ -1,0 +1,51 @@
+use Rattle.std.proofs.Common.{◌≡◌, ◌≢◌, ◌∙◌, sym, ap, arith, length, take, drop, ◌-◌, true, false, subst, refl}
+use Rattle.std.proofs.lemmas.List.{take_rest}
+use Rattle.std.proofs.lemmas.Bool.Decides.{Decides-eqb}
+use Rattle.std.proofs.lemmas.Slice.Eq.{slice_eq-Decides}
+use Rattle.judy_sl.specs.declared.child.Child.TheVariants.{Free, Tail, Level}
+use Rattle.std.specs.FinMap.{get}
+use Rattle.judy_sl.specs.Arenas.{child_at, node_of, HasText}
+use Rattle.judy_sl.proofs.OnWay.{on-gap, on-last, on-moved, on-tail, on-clash, not-gone, child_from}
+use Rattle.judy_sl.proofs.arena.Arena.walk.Goals as goal
+
+pub returns-in_default : goal.returns-in_default
+returns-in_default c =
+    on-gap _ _ _ _ c.loop-rest.child _ _ c.loop-rest.invariant.on c.place_in.ensures c.first_piece-piece.ensures (sym c.get.ensures ∙ c.in_default.is)
+
+pub loop-rest-preserved : goal.loop-rest-preserved
+loop-rest-preserved c =
+    let child = child_from c.args.self.now _ c.deref.ensures.value c.in-Some.at _ (Level c.in-Some-Level.next) (c.in-Some-Level.ensures.lookup.4 (omega arith) (Free 0)) c.in-Some-Level.field-0-is in
+    rw take_rest (record {
+      on = on-moved _ _ _ _ _ c.loop-rest.invariant.on c.in-Some.at c.in-Some-Level.next.map c.loop-rest-test.true (sym (ap (λ p. get c.loop-rest.level.now.map p) c.first_piece-piece.ensures) ∙ sym c.get.ensures ∙ c.in-Some.is) (ap node_of child);
+      is_arena = c.requires.is_arena;
+    })
+
+pub returns-then-eq : goal.returns-then-eq
+returns-then-eq c =
+    let child = child_from c.args.self.now _ c.deref.ensures.value c.in-Some.at _ (Tail c.in-Some-Tail.tail) (c.in-Some-Tail.ensures.lookup.4 (omega arith) (Free 0)) c.in-Some-Tail.field-0-is in
+    let same = (slice_eq-Decides Decides-eqb _ _ _ c.eq.ensures).0 c.if-eq.true in
+    on-tail _ _ _ _ _ c.loop-rest.invariant.on c.loop-rest-test.true c.in-Some.at (sym (ap (λ p. get c.loop-rest.level.now.map p) c.first_piece-piece.ensures) ∙ sym c.get.ensures ∙ c.in-Some.is) c.in-Some-Tail.tail.bytes.items c.in-Some-Tail.tail.value (ap node_of child) (sym c.as_slice.ensures.value ∙ same ∙ take_rest c.loop-rest.rest.now 8)
+
+pub returns-else-eq : goal.returns-else-eq
+returns-else-eq c =
+    let child = child_from c.args.self.now _ c.deref.ensures.value c.in-Some.at _ (Tail c.in-Some-Tail.tail) (c.in-Some-Tail.ensures.lookup.4 (omega arith) (Free 0)) c.in-Some-Tail.field-0-is in
+    let other : c.as_slice.result.now ≢ take (length c.loop-rest.rest.now - 8) (drop 8 c.loop-rest.rest.now) = (λ e. let t = (slice_eq-Decides Decides-eqb _ _ _ c.eq.ensures).1 e in (let b : true ≡ false = sym t ∙ c.if-eq.false in cc)) in
+    rw take_rest (on-clash _ _ _ _ _ c.loop-rest.invariant.on c.loop-rest-test.true c.in-Some.at (sym (ap (λ p. get c.loop-rest.level.now.map p) c.first_piece-piece.ensures) ∙ sym c.get.ensures ∙ c.in-Some.is) c.in-Some-Tail.tail.bytes.items c.in-Some-Tail.tail.value (ap node_of child) (subst HasText child (c.requires.is_arena.texts c.in-Some.at)) (λ e. other (c.as_slice.ensures.value ∙ e ∙ sym (take_rest c.loop-rest.rest.now 8))))
+
+pub unreachable-requires : goal.unreachable-requires
+unreachable-requires c =
+    let child = child_from c.args.self.now _ c.deref.ensures.value c.in-Some.at _ (Free c.in-Some-Free.field-0-0) (c.in-Some-Free.ensures.lookup.4 (omega arith) (Free 0)) c.in-Some-Free.field-0-is in
+    not-gone c.args.self.now c.requires.is_arena _ _ _ _ c.loop-rest.invariant.on c.loop-rest-test.true c.in-Some.at (sym (ap (λ p. get c.loop-rest.level.now.map p) c.first_piece-piece.ensures) ∙ sym c.get.ensures ∙ c.in-Some.is) (ap node_of child)
+
+pub unreachable-requires-in-None : goal.unreachable-requires-in-None
+unreachable-requires-in-None c =
+    let child = child_from c.args.self.now _ c.deref.ensures.value c.in-Some.at _ (Free 0) (c.in-None.ensures.lookup.4 (omega arith) (Free 0)) refl in
+    not-gone c.args.self.now c.requires.is_arena _ _ _ _ c.loop-rest.invariant.on c.loop-rest-test.true c.in-Some.at (sym (ap (λ p. get c.loop-rest.level.now.map p) c.first_piece-piece.ensures) ∙ sym c.get.ensures ∙ c.in-Some.is) (ap node_of child)
+
+pub returns-in-Some-get : goal.returns-in-Some-get
+returns-in-Some-get c =
+    on-last _ _ _ _ c.loop-rest.child _ _ c.loop-rest.invariant.on c.place_in-in-Some-get.ensures c.first_piece-piece-2.ensures (omega arith) _ (sym c.get-2.ensures ∙ c.in-Some-get.is)
+
+pub returns-in-None-get : goal.returns-in-None-get
+returns-in-None-get c =
+    on-gap _ _ _ _ c.loop-rest.child _ _ c.loop-rest.invariant.on c.place_in-in-None-get.ensures c.first_piece-piece-2.ensures (sym c.get-2.ensures ∙ c.in-None-get.is)

@@ -1,0 +1,54 @@
+use Rattle.std.proofs.Common.{◌≡◌, ◌≤◌, ◌-◌, ◌∙◌, sym, ap, arith, length, drop, cond, Bool, true, subst}
+use Rattle.std.proofs.lemmas.List.{take_rest, length-drop}
+use Rattle.judy_model.specs.Keys.{word_order}
+use Rattle.judy_model.specs.Arrays.{ArrayOf}
+use Rattle.judy_sl.specs.Branches.{IsSprout}
+use Rattle.judy_sl.proofs.Branching.{IsCommon, common-long, common-more}
+use Rattle.judy_sl.proofs.branches.branch_of.Goals as goal
+
+pushed : {A : Type 0} (b : Bool) (xs ys zs : A) → zs ≡ cond b xs ys → b ≡ true → zs ≡ xs
+pushed b xs ys zs e ok = e ∙ ap (λ t. cond t xs ys) ok
+
+pub slice_bounds-held-count : goal.slice_bounds-held-count
+slice_bounds-held-count c = (common-long _ _ _ _ _ c.loop-piece.invariant (sym c.first_piece.ensures ∙ c.loop-piece-test.true ∙ c.first_piece-in-loop-piece.ensures)).0
+
+pub slice_bounds-held-start : goal.slice_bounds-held-start
+slice_bounds-held-start c =
+    let h : 8 ≤ length c.loop-piece.held.now = (common-long _ _ _ _ _ c.loop-piece.invariant (sym c.first_piece.ensures ∙ c.loop-piece-test.true ∙ c.first_piece-in-loop-piece.ensures)).0 in
+    omega arith
+
+pub slice_bounds-rest-count : goal.slice_bounds-rest-count
+slice_bounds-rest-count c = (common-long _ _ _ _ _ c.loop-piece.invariant (sym c.first_piece.ensures ∙ c.loop-piece-test.true ∙ c.first_piece-in-loop-piece.ensures)).1
+
+pub slice_bounds-rest-start : goal.slice_bounds-rest-start
+slice_bounds-rest-start c =
+    let h : 8 ≤ length c.loop-piece.rest.now = (common-long _ _ _ _ _ c.loop-piece.invariant (sym c.first_piece.ensures ∙ c.loop-piece-test.true ∙ c.first_piece-in-loop-piece.ensures)).1 in
+    omega arith
+
+pub loop-piece-smaller : goal.loop-piece-smaller
+loop-piece-smaller c =
+    let h : 8 ≤ length c.loop-piece.rest.now = (common-long _ _ _ _ _ c.loop-piece.invariant (sym c.first_piece.ensures ∙ c.loop-piece-test.true ∙ c.first_piece-in-loop-piece.ensures)).1 in
+    rw take_rest (let l = length-drop 8 c.loop-piece.rest.now in omega (arith, l))
+
+pub loop-piece-preserved : goal.loop-piece-preserved
+loop-piece-preserved c =
+    let same = sym c.first_piece.ensures ∙ c.loop-piece-test.true ∙ c.first_piece-in-loop-piece.ensures in
+    rw (take_rest c.loop-piece.held.now 8, take_rest c.loop-piece.rest.now 8) (
+    common-more _ _ _ _ _ c.loop-piece.invariant same c.push.new.self.items c.first_piece-piece.result c.in-Ok.level c.first_piece-piece.ensures c.in-Ok.ensures.made (pushed _ _ _ _ c.push.ensures.items c.if-is_err.ensures.negation)
+    )
+
+pub returns-in-Ok-sprout-2-clause-built : goal.returns-in-Ok-sprout-2-clause-built
+returns-in-Ok-sprout-2-clause-built c = record {
+  held = c.loop-piece.held.now;
+  rest = c.loop-piece.rest.now;
+  singles = c.loop-piece.invariant.singles;
+  inner = c.loop-piece.invariant.inner;
+  held_parts = c.loop-piece.invariant.held_parts;
+  rest_parts = c.loop-piece.invariant.rest_parts;
+  held_text = c.loop-piece.invariant.held_text;
+  rest_text = c.loop-piece.invariant.rest_text;
+  differ = λ e. c.loop-piece-test.false (c.first_piece.ensures ∙ e ∙ sym c.first_piece-in-loop-piece.ensures);
+  middle = c.sprout.new.level;
+  old = subst (λ (l : ArrayOf word_order). IsSprout l c.sprout.new.level c.loop-piece.held.now c.args.tail.now.value c.in-Ok-sprout.old) c.unbounded-fork.ensures c.in-Ok-sprout.ensures.sprouted;
+  new = c.in-Ok-sprout-2.ensures.sprouted;
+}

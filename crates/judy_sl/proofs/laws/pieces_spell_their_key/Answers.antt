@@ -1,0 +1,6 @@
+use Rattle.judy_sl.proofs.PieceLemmas.{text_of_key}
+use Rattle.judy_sl.proofs.PieceBytes.{spelling-pieces}
+use Rattle.judy_sl.proofs.laws.pieces_spell_their_key.Goals as goal
+
+pub returns : goal.returns
+returns c = λ key is. spelling-pieces key (text_of_key key is)

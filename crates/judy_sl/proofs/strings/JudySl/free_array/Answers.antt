@@ -1,0 +1,15 @@
+use Rattle.std.proofs.Common.{◌≡◌, ◌∙◌, ap, ℕ}
+use Rattle.std.specs.FinMap.{FinMap}
+use Rattle.judy_model.specs.Keys.{byte_order}
+use Rattle.judy_model.specs.Arrays.{ArrayOf, empty_array}
+use Rattle.judy_sl.proofs.Keeping.{strings-new}
+use Rattle.judy_sl.proofs.Maps.{empty-map}
+use Rattle.judy_sl.proofs.strings.JudySl.free_array.Goals as goal
+
+pub invariant_of-self : goal.invariant_of-self
+invariant_of-self c = strings-new c.self.inside.limit c.new.result c.new.ensures.items c.new.ensures.root c.self.invariant.holds_some c.self.invariant.limit_fits
+
+pub returns-clause-emptied : goal.returns-clause-emptied
+returns-clause-emptied c =
+    ap (λ (map : FinMap byte_order ℕ). record { limit = c.self.inside.limit; map = map }) (empty-map c.new.result c.new.ensures.items c.new.ensures.root)
+    ∙ ap (λ (strings : ArrayOf byte_order). empty_array strings.limit) c.self.view_is

@@ -1,0 +1,13 @@
+use Rattle.std.proofs.Common.{◌≡◌, ap, ℕ}
+use Rattle.std.specs.FinMap.{FinMap}
+use Rattle.judy_model.specs.Keys.{byte_order}
+use Rattle.judy_model.specs.Arrays.{ArrayOf}
+use Rattle.judy_sl.proofs.Keeping.{strings-new}
+use Rattle.judy_sl.proofs.Maps.{empty-map}
+use Rattle.judy_sl.proofs.strings.JudySl.new.Goals as goal
+
+pub invariant_of-result : goal.invariant_of-result
+invariant_of-result c = strings-new c.args.limit c.new.result c.new.ensures.items c.new.ensures.root c.requires.some c.requires.most
+
+pub returns : goal.returns
+returns c = ap (λ (map : FinMap byte_order ℕ). record { limit = c.args.limit; map = map }) (empty-map c.new.result c.new.ensures.items c.new.ensures.root)

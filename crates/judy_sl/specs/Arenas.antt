@@ -1,0 +1,63 @@
+-- The levels and tails of an array in one list.
+use Rattle.std.specs.Prelude.{◌≡◌, ◌≤◌, ℕ, zero, suc, List, get_or}
+use Rattle.std.specs.FinMap.{FinMap, len}
+use Rattle.judy_model.specs.Keys.{byte_order}
+use Rattle.judy_model.specs.Arrays.{ArrayOf}
+use Rattle.judy_model.specs.Tables.{table, string_keys}
+use Rattle.judy_sl.specs.declared.child.Child.{Child}
+use Rattle.judy_sl.specs.declared.child.Child.TheVariants.{Free, Tail, Level}
+use Rattle.judy_sl.specs.declared.arena.Arena.{Arena}
+use Rattle.judy_sl.specs.Pieces.{pieces, IsText}
+use Rattle.judy_sl.specs.World.{World, Node, gone, tail, level, lookup}
+use Rattle.judy_sl.specs.Worlds.{IsWorld}
+
+-- The child at a place; past the end nothing, as at a free place.
+abbrev pub child_at : Arena → ℕ → Child
+child_at arena at = get_or arena.children.items at (Free 0)
+
+-- What a child is.
+abbrev pub node_of : Child → Node
+node_of (Free next) = gone
+node_of (Tail rest) = tail (pieces rest.bytes.items) rest.value
+node_of (Level words) = level words.map
+
+-- What each seat has: the first level, and then the children in turn.
+abbrev pub world_of : Arena → World
+world_of arena zero = level arena.root.map
+world_of arena (suc at) = node_of (child_at arena at)
+
+-- The bytes of a tail hold no zero.
+abbrev pub HasText : Child → Type 0
+HasText (Free next) = Unit {0}
+HasText (Tail rest) = IsText rest.bytes.items
+HasText (Level words) = Unit {0}
+
+-- A level has the limit of a word, which it never comes to.
+abbrev pub HasLimit : Child → Type 0
+HasLimit (Free next) = Unit {0}
+HasLimit (Tail rest) = Unit {0}
+HasLimit (Level words) = words.limit ≡ 18446744073709551615
+
+-- What always holds of them.
+pub record IsArena (arena : Arena) : Type 0 where
+  pub behind : ℕ → List ℕ
+  pub is_world : IsWorld (world_of arena) behind
+  pub texts : (at : ℕ) → HasText (child_at arena at)
+  pub root_limit : arena.root.limit ≡ 18446744073709551615
+  pub limits : (at : ℕ) → HasLimit (child_at arena at)
+
+-- The map that they are.
+abbrev pub map_of : Arena → FinMap byte_order ℕ
+map_of arena = table string_keys (λ key. lookup (world_of arena) 0 (pieces key))
+
+-- The array that they are, under a limit.
+abbrev pub array_of : ℕ → Arena → ArrayOf byte_order
+array_of limit arena = record { limit = limit; map = map_of arena }
+
+-- What always holds of an array: it counts its keys.
+pub record IsStrings (limit count : ℕ) (arena : Arena) : Type 0 where
+  pub is_arena : IsArena arena
+  pub counted : count ≡ len (map_of arena)
+  pub within_limit : count ≤ limit
+  pub holds_some : 1 ≤ limit
+  pub limit_fits : limit ≤ 4294967295

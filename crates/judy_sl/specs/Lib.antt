@@ -1,0 +1,12 @@
+pub mod Pieces
+pub mod World
+pub mod Worlds
+pub mod Children
+pub mod Arenas
+pub mod Places
+pub mod Scans
+pub mod Ways
+pub mod Grown
+pub mod Branches
+pub mod Lends
+pub mod Levels

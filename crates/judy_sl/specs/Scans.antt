@@ -1,0 +1,106 @@
+-- The neighbours of a key, found level by level.
+use Rattle.std.specs.Prelude.{◌≡◌, ℕ, Bool, true, false, ◌&&◌, if◌then◌else◌, IsTrue, IsFalse, List, ◌∷◌, ◌++◌, take, Option, None, Some}
+use Rattle.std.specs.declared.cmp.Ordering.{Ordering}
+use Rattle.std.specs.Ordering.{is_lt, is_le}
+use Rattle.std.specs.Cmp.Lexicographic.{slice_cmp}
+use Rattle.std.specs.FinMap.{FinMap, get, contains_key}
+use Rattle.std.specs.Borrow.{Bor}
+use Rattle.judy_model.specs.Keys.{IsStringKey, word_order, byte_order}
+use Rattle.judy_model.specs.Arrays.{ArrayOf}
+use Rattle.judy_model.specs.Nearest.{IsLeast}
+use Rattle.judy_model.specs.Neighbours.{first, next, last, prev}
+use Rattle.judy_sl.specs.declared.scans.Side.{Side}
+use Rattle.judy_sl.specs.declared.scans.Side.TheVariants.{Above, Below}
+use Rattle.judy_sl.specs.declared.scans.Look.{Look}
+use Rattle.judy_sl.specs.declared.scans.Turn.{Turn}
+use Rattle.judy_sl.specs.Pieces.{AreInner, ArePieces, pieces, spelling}
+use Rattle.judy_sl.specs.World.{World, level, lookup, walk}
+
+-- The order of pieces from one side: what is met first comes first.
+abbrev pub along : Side → ℕ → ℕ → Ordering
+along Above = word_order
+along Below = λ left right. word_order right left
+
+-- That of bytes.
+abbrev pub along_bytes : Side → List ℕ → List ℕ → Ordering
+along_bytes Above = byte_order
+along_bytes Below = λ left right. byte_order right left
+
+-- Whether what compares so is met: what comes later, and what is the same where that counts.
+abbrev pub is_beyond : Bool → Ordering → Bool
+is_beyond itself answer = if itself then is_le answer else is_lt answer
+
+-- The entry of a level that is met first from a piece.
+abbrev pub IsNearestEntry : Side → Bool → FinMap word_order ℕ → ℕ → Option ℕ → Type 0
+IsNearestEntry side itself map from = IsLeast (along side) (λ piece. contains_key map piece && is_beyond itself (along side from piece))
+
+-- The entry of a level that is met first of all.
+abbrev pub IsFirstEntry : Side → FinMap word_order ℕ → Option ℕ → Type 0
+IsFirstEntry side map = IsLeast (along side) (contains_key map)
+
+-- A look to a side, where the key itself counts or doesn't.
+abbrev pub look_to : Side → Bool → Look
+look_to side itself = record { side = side; itself = itself }
+
+-- The neighbour of a key on a side.
+abbrev pub neighbour_along : Side → Bool → FinMap byte_order ℕ → List ℕ → Option (List ℕ)
+neighbour_along Above true = first
+neighbour_along Above false = next
+neighbour_along Below true = last
+neighbour_along Below false = prev
+
+-- The value of the key that was found.
+abbrev pub value_found : FinMap byte_order ℕ → Option (List ℕ) → Option ℕ
+value_found map None = None
+value_found map (Some key) = get map key
+
+-- The turn at an entry where there is one, and else the turn before.
+abbrev pub turn_or : Bor (ArrayOf word_order) → Option ℕ → ℕ → Option Turn → Option Turn
+turn_or words None depth turn = turn
+turn_or words (Some piece) depth turn = Some (record { level = words; piece = piece; depth = depth })
+
+module _ (look : Look) (world : World) where
+  -- Whether pieces are met from others.
+  abbrev pub meets : List ℕ → List ℕ → Bool
+  meets from ps = is_beyond look.itself (slice_cmp (along look.side) from ps)
+
+  -- No key behind a seat is met from the pieces.
+  abbrev pub IsNone : ℕ → List ℕ → Type 0
+  IsNone seat from = (ps : List ℕ) (value : ℕ) → ArePieces ps → lookup world seat ps ≡ Some value → IsFalse (meets from ps)
+
+  -- Of the keys behind a seat these pieces are met first from the others.
+  pub record IsNear (seat : ℕ) (from near : List ℕ) : Type 0 where
+    pub are : ArePieces near
+    pub met : IsTrue (meets from near)
+    pub value : ℕ
+    pub found : lookup world seat near ≡ Some value
+    pub first : (ps : List ℕ) (value : ℕ) → ArePieces ps → lookup world seat ps ≡ Some value → IsTrue (meets from ps) → IsTrue (is_le (slice_cmp (along look.side) near ps))
+
+  -- Of the keys behind an entry of a seat these pieces are met first.
+  pub record IsEnd (seat piece : ℕ) (rest : List ℕ) : Type 0 where
+    pub are : ArePieces (piece ∷ rest)
+    pub value : ℕ
+    pub found : lookup world seat (piece ∷ rest) ≡ Some value
+    pub first : (ps : List ℕ) (value : ℕ) → ArePieces (piece ∷ ps) → lookup world seat (piece ∷ ps) ≡ Some value → IsTrue (is_le (slice_cmp (along look.side) rest ps))
+
+  -- The turn is at an entry of a level, behind the front of a key, and the first of the keys behind that entry is
+  -- met first of all.
+  pub record IsTurnAt (key : List ℕ) (turn : Turn) : Type 0 where
+    pub front : List ℕ
+    pub seat : ℕ
+    pub way : walk world 0 front ≡ Some seat
+    pub inner : AreInner front
+    pub deep : take turn.depth key ≡ spelling front
+    pub is_level : world seat ≡ level turn.level.now.map
+    pub held : IsTrue (contains_key turn.level.now.map turn.piece)
+    pub near : (rest : List ℕ) → IsEnd seat turn.piece rest → IsNear 0 (pieces key) (front ++ turn.piece ∷ rest)
+
+  -- There is a turn, or no key is met.
+  abbrev pub IsTurn : List ℕ → Option Turn → Type 0
+  IsTurn key None = IsNone 0 (pieces key)
+  IsTurn key (Some turn) = IsTurnAt key turn
+
+  -- A scan leaves the key that is met first, and answers its value; or none is met, and the key stays.
+  abbrev pub IsNeighbour : List ℕ → List ℕ → Option ℕ → Type 0
+  IsNeighbour key after None = IsNone 0 (pieces key) × (after ≡ key)
+  IsNeighbour key after (Some value) = IsNear 0 (pieces key) (pieces after) × IsStringKey after × (lookup world 0 (pieces after) ≡ Some value)

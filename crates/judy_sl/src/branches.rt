@@ -1,0 +1,117 @@
+//! What takes the place of a tail that a second key meets, built beside the array.
+
+ghost use Rattle.std.specs.Prelude.{◌≡◌, ◌≢◌, IfOk, IfErr};
+ghost use Rattle.judy_sl.specs.declared.error.SlError.TheVariants.{NoMemory};
+ghost use Rattle.judy_sl.specs.Pieces.{IsText};
+ghost use Rattle.judy_sl.specs.Branches.{IsSprout, IsBuilt, single};
+
+use crate::child::Rest;
+use crate::error::SlError;
+use crate::pieces::first_piece;
+use judy_word::JudyL;
+use std::alloc::Global;
+
+// A tail to be, and the piece that is to lead to it.
+#[derive(Drop)]
+pub struct Twig {
+    pub piece: u64,
+    pub rest: Rest,
+}
+
+// For each whole piece that both keys have a level with that entry alone, the first on top; the level of the first
+// piece at which they differ; and what goes on behind it.
+#[derive(Drop)]
+pub struct Branch {
+    pub upper: Vec<(u64, JudyL)>,
+    pub fork: JudyL,
+    pub old: Option<Twig>,
+    pub new: Option<Twig>,
+}
+
+// A level with one entry.
+fn one_entry(alloc: Global, piece: u64) -> Result<JudyL, SlError>
+    ensures made { IfOk result (λ level. level ≡ single piece) }
+    ensures refused { IfErr result (λ error. error ≡ NoMemory) }
+{
+    let mut level = JudyL::unbounded(alloc);
+    match level.ins(piece) {
+        Ok(slot) => *slot = 0,
+        Err(_) => return Err(SlError::NoMemory),
+    }
+    Ok(level)
+}
+
+// Puts the first piece of the rest of a key into a level: with the key's value where it is the last one, and else to
+// lead to a tail.
+fn sprout(
+    alloc: Global,
+    level: &mut JudyL,
+    rest: &[u8],
+    value: u64,
+) -> Result<Option<Twig>, SlError>
+    ensures sprouted { IfOk result (λ twig. IsSprout level.old level.new rest.now value twig) }
+    ensures refused { IfErr result (λ error. error ≡ NoMemory) }
+{
+    let piece = first_piece(rest);
+    if rest.len() < 8 {
+        return match level.ins(piece) {
+            Ok(slot) => {
+                *slot = value;
+                Ok(None)
+            }
+            Err(_) => Err(SlError::NoMemory),
+        };
+    }
+    let Ok(bytes) = rest[8..].to_vec(alloc) else {
+        return Err(SlError::NoMemory);
+    };
+    match level.ins(piece) {
+        Ok(slot) => {
+            *slot = 0;
+            Ok(Some(Twig {
+                piece,
+                rest: Rest { bytes, value },
+            }))
+        }
+        Err(_) => Err(SlError::NoMemory),
+    }
+}
+
+// The branch of a tail and the rest of another key.
+pub fn branch_of(alloc: Global, tail: &Rest, key: &[u8]) -> Result<Branch, SlError>
+    requires tail_text { IsText tail.now.bytes.items }
+    requires key_text { IsText key.now }
+    requires differ { tail.now.bytes.items ≢ key.now }
+    ensures built { IfOk result (λ made. IsBuilt tail.now.bytes.items tail.now.value key.now made) }
+    ensures refused { IfErr result (λ error. error ≡ NoMemory) }
+{
+    let mut upper = Vec::new(alloc);
+    let mut held = tail.bytes.as_slice();
+    let mut rest = key;
+    while first_piece(held) == first_piece(rest) {
+        let piece = first_piece(rest);
+        let level = match one_entry(alloc, piece) {
+            Ok(level) => level,
+            Err(error) => return Err(error),
+        };
+        if upper.push((piece, level)).is_err() {
+            return Err(SlError::NoMemory);
+        }
+        held = &held[8..];
+        rest = &rest[8..];
+    }
+    let mut fork = JudyL::unbounded(alloc);
+    let old = match sprout(alloc, &mut fork, held, tail.value) {
+        Ok(old) => old,
+        Err(error) => return Err(error),
+    };
+    match sprout(alloc, &mut fork, rest, 0) {
+        Ok(new) => Ok(Branch {
+            upper,
+            fork,
+            old,
+            new,
+        }),
+        Err(error) => Err(error),
+    }
+}

@@ -1,0 +1,186 @@
+//! How an arena takes a new key. What is new is built beside the array, and its places are reserved; only then does the
+//! array change, and nothing of that can be refused.
+
+ghost use Rattle.std.specs.Prelude.{ℕ, List, ◌≡◌, ◌+◌, ◌<◌, ◌≤◌, None, IfOk, OnOk, IfErr, OnErr, IsTrue, length, vec_len, vec_capacity};
+ghost use Rattle.std.specs.FinMap as map;
+ghost use Rattle.judy_word.specs.Writes.{with_value};
+ghost use Rattle.judy_model.specs.Keys.{IsStringKey};
+ghost use Rattle.judy_sl.specs.declared.error.SlError.TheVariants.{NoMemory};
+ghost use Rattle.judy_sl.specs.Arenas.{world_of, IsArena};
+ghost use Rattle.judy_sl.specs.Ways.{IsGap, IsClash, IsWay, IsNew};
+ghost use Rattle.judy_sl.specs.Grown.{IsPut, IsHung, HasTwig, IsSound, IsGraft, IsGrafted, IsAdded, IsSame, next_place};
+
+use crate::arena::{Arena, Place, Way};
+use crate::branches::{Branch, Twig, branch_of};
+use crate::child::{Child, Rest};
+use crate::error::SlError;
+use judy_word::JudyL;
+
+// Lets an entry of a level lead to the child at a place.
+fn link(level: &mut JudyL, piece: u64, place: usize)
+    requires { IsTrue (map.contains_key level.old.map piece) }
+    ensures { level.new ≡ with_value level.old piece place }
+{
+    match level.slot(piece) {
+        Some(slot) => *slot = place as u64,
+        None => unreachable!(),
+    }
+}
+
+impl Arena {
+    // The place that the next new child takes: one that is free, or the end of the list.
+    fn next_place(&self) -> usize
+        ensures { result ≡ next_place self.now }
+    {
+        match self.children.get(self.free) {
+            Some(Child::Free(_)) => self.free,
+            Some(Child::Tail(_)) => self.children.len(),
+            Some(Child::Level(_)) => self.children.len(),
+            None => self.children.len(),
+        }
+    }
+
+    // Puts a child at the next place, for which there is room.
+    fn put(&mut self, child: Child) -> usize
+        requires { vec_len self.old.children < vec_capacity self.old.children }
+        ensures place { result ≡ next_place self.old }
+        ensures put { IsPut self.old self.new child result }
+        ensures room { vec_capacity self.new.children ≡ vec_capacity self.old.children }
+        ensures len { vec_len self.new.children ≤ vec_len self.old.children + 1 }
+        ensures grows { vec_len self.old.children ≤ vec_len self.new.children }
+    {
+        match self.children.get(self.free) {
+            Some(Child::Free(next)) => {
+                let at = self.free;
+                self.free = *next;
+                self.children[at] = child;
+                at
+            }
+            _ => {
+                let at = self.children.len();
+                self.children.push_reserved(child);
+                at
+            }
+        }
+    }
+
+    // Adds a key whose way ends at a place without an entry.
+    fn fill(&mut self, key: &[u8], place: Place, left: usize) -> Result<Place, SlError>
+        requires is_arena { IsArena self.old }
+        requires is_key { IsStringKey key.now }
+        requires gap { IsGap (world_of self.old) key.now place left }
+        ensures added { IfOk result (λ made. IsAdded self.old self.new key.now made) }
+        ensures refused { IfErr result (λ error. IsSame self.old self.new × (error ≡ NoMemory)) }
+    {
+        if left < 8 {
+            return match self.enter(place, 0) {
+                Ok(()) => Ok(place),
+                Err(error) => Err(error),
+            };
+        }
+        let alloc = *self.children.allocator();
+        let Ok(bytes) = key[key.len() - left + 8..].to_vec(alloc) else {
+            return Err(SlError::NoMemory);
+        };
+        if self.children.reserve(1).is_err() {
+            return Err(SlError::NoMemory);
+        }
+        let at = self.next_place();
+        match self.enter(place, at as u64) {
+            Ok(()) => {
+                self.put(Child::Tail(Rest { bytes, value: 0 }));
+                Ok(Place::Below(at, 0))
+            }
+            Err(error) => Err(error),
+        }
+    }
+
+    // Lets an entry of a level that stands beside the array lead to a new tail, where one is to be.
+    fn hang(&mut self, level: &mut JudyL, twig: Option<Twig>)
+        requires room { vec_len self.old.children < vec_capacity self.old.children }
+        requires there { HasTwig level.old twig }
+        ensures hung { IsHung self.old self.new level.old level.new twig }
+        ensures room { vec_capacity self.new.children ≡ vec_capacity self.old.children }
+        ensures len { vec_len self.new.children ≤ vec_len self.old.children + 1 }
+        ensures grows { vec_len self.old.children ≤ vec_len self.new.children }
+    {
+        match twig {
+            Some(Twig { piece, rest }) => {
+                let place = self.put(Child::Tail(rest));
+                link(level, piece, place);
+            }
+            None => {}
+        }
+    }
+
+    // Puts a branch in the place of a tail.
+    fn graft(&mut self, at: usize, branch: Branch)
+        requires room { vec_len self.old.children + length branch.upper.items + 2 ≤ vec_capacity self.old.children }
+        requires inside { at < vec_len self.old.children }
+        requires sound { IsSound branch }
+        requires is_arena { IsArena self.old }
+        ensures grafted { (key : List ℕ) (left : ℕ) → IsStringKey key → IsGraft self.old key at left branch → IsGrafted self.old self.new key }
+    {
+        let Branch {
+            mut upper,
+            fork,
+            old,
+            new,
+        } = branch;
+        let mut level = fork;
+        self.hang(&mut level, old);
+        self.hang(&mut level, new);
+        while let Some((piece, above)) = upper.pop() {
+            let place = self.put(Child::Level(level));
+            level = above;
+            link(&mut level, piece, place);
+        }
+        self.children[at] = Child::Level(level);
+    }
+
+    // Adds a key whose way comes to another's tail.
+    fn split(&mut self, key: &[u8], at: usize, left: usize) -> Result<Place, SlError>
+        requires is_arena { IsArena self.old }
+        requires is_key { IsStringKey key.now }
+        requires clash { IsClash (world_of self.old) key.now at left }
+        ensures added { IfOk result (λ made. IsAdded self.old self.new key.now made) }
+        ensures refused { IfErr result (λ error. IsSame self.old self.new × (error ≡ NoMemory)) }
+    {
+        let alloc = *self.children.allocator();
+        let rest = &key[key.len() - left..];
+        let built = match &self.children[at] {
+            Child::Tail(tail) => branch_of(alloc, tail, rest),
+            Child::Level(_) => unreachable!(),
+            Child::Free(_) => unreachable!(),
+        };
+        let made = match built {
+            Ok(made) => made,
+            Err(error) => return Err(error),
+        };
+        if self.children.reserve(made.upper.len() + 2).is_err() {
+            return Err(SlError::NoMemory);
+        }
+        self.graft(at, made);
+        match self.walk(key) {
+            Way::At(place) => Ok(place),
+            Way::Gap(_, _) => unreachable!(),
+            Way::Clash(_, _) => unreachable!(),
+        }
+    }
+
+    // Adds a key that isn't there, with the value 0.
+    pub fn add(&mut self, key: &[u8], way: Way) -> Result<Place, SlError>
+        requires is_arena { IsArena self.old }
+        requires is_key { IsStringKey key.now }
+        requires way { IsWay self.old key.now way }
+        requires new { IsNew way }
+        ensures added { IfOk result (λ made. IsAdded self.old self.new key.now made) }
+        ensures refused { IfErr result (λ error. IsSame self.old self.new × (error ≡ NoMemory)) }
+    {
+        match way {
+            Way::At(_) => unreachable!(),
+            Way::Gap(place, left) => self.fill(key, place, left),
+            Way::Clash(at, left) => self.split(key, at, left),
+        }
+    }
+}

@@ -1,0 +1,52 @@
+//! The levels of an array, as seen from outside.
+
+ghost use Rattle.std.specs.Prelude.{◌≡◌, ◌%◌, IfSome, IsSome, length};
+ghost use Rattle.judy_model.specs.Keys.{IsStringKey};
+ghost use Rattle.judy_sl.specs.Arenas.{map_of, IsArena};
+ghost use Rattle.judy_sl.specs.Levels.{IsLevelOf, HasBranch};
+
+use crate::arena::Arena;
+use crate::child::Child;
+use crate::pieces::first_piece;
+use crate::strings::JudySl;
+use judy_word::JudyL;
+
+impl Arena {
+    // The level behind the pieces of bytes, eight each.
+    fn level(&self, at: &[u8]) -> Option<&JudyL>
+        requires is_arena { IsArena self.now }
+        requires is_key { IsStringKey at.now }
+        requires whole { length at.now % 8 ≡ 0 }
+        ensures there { HasBranch (map_of self.now) at.now → IsSome result }
+        ensures keys { IfSome result (λ level. IsLevelOf (map_of self.now) at.now level.now.map) }
+    {
+        let mut level = &self.root;
+        let mut rest = at;
+        while rest.len() >= 8 {
+            let place = level.get(first_piece(rest))?;
+            rest = &rest[8..];
+            match self.children.get(place as usize) {
+                Some(Child::Level(next)) => level = next,
+                Some(Child::Tail(_)) => return None,
+                Some(Child::Free(_)) => return None,
+                None => return None,
+            }
+        }
+        Some(level)
+    }
+}
+
+impl JudySl {
+    /// The level behind the bytes `at`, a key of a multiple of eight bytes: its keys are the next pieces of the keys
+    /// that begin with `at`, and under the piece in which a key ends stands that key's value; under another piece stands
+    /// what only the array itself can follow. `None` where no level stands there, as where no key, or only one, begins
+    /// with `at`; the empty `at` has a level always, and so has one with which two keys begin. (This project's own.)
+    pub fn level(&self, at: &[u8]) -> Option<&JudyL>
+        requires is_key { IsStringKey at.now }
+        requires whole { length at.now % 8 ≡ 0 }
+        ensures there { HasBranch self.now.map at.now → IsSome result }
+        ensures keys { IfSome result (λ level. IsLevelOf self.now.map at.now level.now.map) }
+    {
+        self.arena.level(at)
+    }
+}

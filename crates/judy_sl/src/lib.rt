@@ -1,0 +1,25 @@
+//! Arrays over strings of bytes without zeros: keys of at most 1,024 bytes in ascending order, with a limit on
+//! how many an array holds.
+//!
+//! `JudySl` maps such keys to words. Its model is the array of judy_model over byte strings, a limit and a finite
+//! map, and its contracts cite judy_model's definitions. It stands on the word arrays of judy_word.
+//!
+//! Inside, a key is cut into pieces of eight bytes (specs/Pieces.antt), and a tree of `JudyL`s finds them piece by
+//! piece (specs/World.antt); `Arena` keeps all levels and tails of an array in one list (specs/Arenas.antt).
+#![tactic(auto)]
+
+mod arena;
+mod branches;
+mod child;
+mod error;
+mod grow;
+mod keys;
+pub mod laws;
+mod level;
+mod pieces;
+mod scans;
+mod strings;
+
+pub use error::SlError;
+pub use keys::{KeyBuf, is_key};
+pub use strings::JudySl;

@@ -1,0 +1,278 @@
+//! The neighbours of a key: one way down its pieces that keeps the nearest entry beside it, and one way down from
+//! that entry to the first key behind it.
+
+ghost use Rattle.std.specs.Prelude.{◌≡◌, ◌≢◌, ℕ, true, false, IsTrue, All, unwrap_or};
+ghost use Rattle.std.specs.FinMap.{contains_key};
+ghost use Rattle.judy_model.specs.Keys.{IsWord};
+ghost use Rattle.judy_model.specs.Neighbours as neighbours;
+ghost use Rattle.judy_sl.specs.Pieces.{IsText};
+ghost use Rattle.judy_sl.specs.Arenas.{world_of, map_of, IsArena};
+ghost use Rattle.judy_sl.specs.Scans.{look_to, is_beyond, along_bytes, IsNearestEntry, IsFirstEntry, turn_or, neighbour_along, value_found, IsTurn, IsTurnAt, IsNeighbour};
+
+use crate::arena::Arena;
+use crate::child::Child;
+use crate::keys::KeyBuf;
+use crate::pieces::{first_piece, push_piece};
+use crate::strings::JudySl;
+use judy_word::JudyL;
+use std::cmp::Ordering;
+
+// On which side of a key its neighbour is sought.
+#[derive(Clone, Copy)]
+pub enum Side {
+    Above,
+    Below,
+}
+
+// Where a scan looks: on one side of the key, and whether the key itself counts.
+#[derive(Clone, Copy)]
+pub struct Look {
+    pub side: Side,
+    pub itself: bool,
+}
+
+// An entry of a level, behind so many bytes of a key: a scan's answer is the first of the keys behind it.
+#[derive(Clone, Copy)]
+pub struct Turn<'a> {
+    pub level: &'a JudyL,
+    pub piece: u64,
+    pub depth: usize,
+}
+
+impl Side {
+    // Which of two rests of keys is met first.
+    fn order(self, one: &[u8], other: &[u8]) -> Ordering
+        ensures { result ≡ along_bytes self one.now other.now }
+    {
+        match self {
+            Side::Above => one.cmp(other),
+            Side::Below => other.cmp(one),
+        }
+    }
+
+    // The entry of a level that is met first beyond a piece.
+    fn beyond(self, level: &JudyL, piece: u64) -> Option<u64>
+        ensures { IsNearestEntry self false level.now.map piece result }
+    {
+        match self {
+            Side::Above => level.next(piece),
+            Side::Below => level.prev(piece),
+        }
+    }
+
+    // The entry of a level that is met first from a piece on.
+    fn from(self, level: &JudyL, piece: u64) -> Option<u64>
+        ensures { IsNearestEntry self true level.now.map piece result }
+    {
+        match self {
+            Side::Above => level.first(piece),
+            Side::Below => level.last(piece),
+        }
+    }
+
+    // The entry of a level that is met first.
+    fn end(self, level: &JudyL) -> Option<u64>
+        requires { (piece : ℕ) → IsTrue (contains_key level.now.map piece) → IsWord piece }
+        ensures { IsFirstEntry self level.now.map result }
+    {
+        match self {
+            Side::Above => level.first(0),
+            Side::Below => level.last(u64::MAX),
+        }
+    }
+}
+
+impl Look {
+    // To a side, where the key itself counts.
+    fn inclusive(side: Side) -> Look
+        ensures { result ≡ look_to side true }
+    {
+        Look { side, itself: true }
+    }
+
+    // To a side, where it doesn't.
+    fn exclusive(side: Side) -> Look
+        ensures { result ≡ look_to side false }
+    {
+        Look {
+            side,
+            itself: false,
+        }
+    }
+
+    // The entry of a key's last level that is met first.
+    fn last_entry(self, level: &JudyL, piece: u64) -> Option<u64>
+        ensures { IsNearestEntry self.side self.itself level.now.map piece result }
+    {
+        if self.itself {
+            self.side.from(level, piece)
+        } else {
+            self.side.beyond(level, piece)
+        }
+    }
+
+    // Whether the rest of one key is met from that of another.
+    fn meets(self, rest: &[u8], other: &[u8]) -> bool
+        ensures { result ≡ is_beyond self.itself (along_bytes self.side rest.now other.now) }
+    {
+        match self.side.order(rest, other) {
+            Ordering::Less => true,
+            Ordering::Equal => self.itself,
+            Ordering::Greater => false,
+        }
+    }
+}
+
+impl Arena {
+    // Puts the neighbour of the key into the buffer that holds the key, and answers the neighbour's value; where
+    // there is none the buffer stays.
+    pub fn neighbour(&self, look: Look, key: &mut KeyBuf) -> Option<u64>
+        requires is_arena { IsArena self.now }
+        requires without_zero { All (λ byte. byte ≢ 0) key.old.items }
+        ensures key { key.new.items ≡ unwrap_or (neighbour_along look.side look.itself (map_of self.now) key.old.items) key.old.items }
+        ensures value { result ≡ value_found (map_of self.now) (neighbour_along look.side look.itself (map_of self.now) key.old.items) }
+    {
+        let turn = self.turn(look, key.as_slice())?;
+        self.follow(look, turn, key)
+    }
+
+    // The entry behind which the neighbour of the key stands.
+    fn turn<'a>(&'a self, look: Look, key: &[u8]) -> Option<Turn<'a>>
+        requires is_arena { IsArena self.now }
+        requires without_zero { All (λ byte. byte ≢ 0) key.now }
+        ensures is_text { IsText key.now }
+        ensures is_turn { IsTurn look (world_of self.now) key.now result }
+    {
+        let mut level = &self.root;
+        let mut rest = key;
+        let mut turn = None;
+        while rest.len() >= 8 {
+            let piece = first_piece(rest);
+            let depth = key.len() - rest.len();
+            turn = nearer(level, look.side.beyond(level, piece), depth, turn);
+            rest = &rest[8..];
+            let Some(at) = level.get(piece) else {
+                return turn;
+            };
+            match self.children.get(at as usize) {
+                Some(Child::Level(next)) => level = next,
+                Some(Child::Tail(tail)) => {
+                    let met = look.meets(rest, tail.bytes.as_slice());
+                    return if met {
+                        Some(Turn {
+                            level,
+                            piece,
+                            depth,
+                        })
+                    } else {
+                        turn
+                    };
+                }
+                Some(Child::Free(_)) => return turn,
+                None => return turn,
+            }
+        }
+        nearer(
+            level,
+            look.last_entry(level, first_piece(rest)),
+            key.len() - rest.len(),
+            turn,
+        )
+    }
+
+    // Puts the first of the keys behind the entry into the buffer that holds the key, and answers its value. There is
+    // one: an entry leads to a tail, or to a level with entries.
+    fn follow<'a>(&'a self, look: Look, turn: Turn<'a>, key: &mut KeyBuf) -> Option<u64>
+        requires is_arena { IsArena self.now }
+        requires is_text { IsText key.old.items }
+        requires is_turn { IsTurnAt look (world_of self.now) key.old.items turn }
+        ensures { IsNeighbour look (world_of self.now) key.old.items key.new.items result }
+    {
+        key.truncate(turn.depth);
+        let mut level = turn.level;
+        let mut piece = turn.piece;
+        while piece % 256 != 0 {
+            push_piece(key, piece);
+            let at = level.get(piece)?;
+            match self.children.get(at as usize) {
+                Some(Child::Level(next)) => {
+                    level = next;
+                    piece = look.side.end(next)?;
+                }
+                Some(Child::Tail(tail)) => {
+                    key.try_extend_from_slice(tail.bytes.as_slice()).ok()?;
+                    return Some(tail.value);
+                }
+                Some(Child::Free(_)) => return None,
+                None => return None,
+            }
+        }
+        push_piece(key, piece);
+        level.get(piece)
+    }
+}
+
+impl JudySl {
+    /// The value of the least key from the one in the buffer on, that key itself where it is there; the key found is
+    /// then in the buffer. `None` where no key is left, and the buffer stays. The buffer holds no zero byte; what it
+    /// holds needn't be a key of the array. It asks for no memory. (Manual: JSLF, JudySLFirst.)
+    pub fn first(&self, key: &mut KeyBuf) -> Option<u64>
+        requires { All (λ byte. byte ≢ 0) key.old.items }
+        ensures key { key.new.items ≡ unwrap_or (neighbours.first self.now.map key.old.items) key.old.items }
+        ensures value { result ≡ value_found self.now.map (neighbours.first self.now.map key.old.items) }
+    {
+        self.arena.neighbour(Look::inclusive(Side::Above), key)
+    }
+
+    /// The value of the least key above the one in the buffer; the key found is then in the buffer. `None` where no
+    /// key is above it, and the buffer stays. The buffer holds no zero byte; what it holds needn't be a key of the
+    /// array. It asks for no memory. (Manual: JSLN, JudySLNext.)
+    pub fn next(&self, key: &mut KeyBuf) -> Option<u64>
+        requires { All (λ byte. byte ≢ 0) key.old.items }
+        ensures key { key.new.items ≡ unwrap_or (neighbours.next self.now.map key.old.items) key.old.items }
+        ensures value { result ≡ value_found self.now.map (neighbours.next self.now.map key.old.items) }
+    {
+        self.arena.neighbour(Look::exclusive(Side::Above), key)
+    }
+
+    /// The value of the greatest key up to the one in the buffer, that key itself where it is there; the key found
+    /// is then in the buffer. `None` where each key is above it, and the buffer stays. The buffer holds no zero byte;
+    /// what it holds needn't be a key of the array. It asks for no memory. (Manual: JSLL, JudySLLast.)
+    pub fn last(&self, key: &mut KeyBuf) -> Option<u64>
+        requires { All (λ byte. byte ≢ 0) key.old.items }
+        ensures key { key.new.items ≡ unwrap_or (neighbours.last self.now.map key.old.items) key.old.items }
+        ensures value { result ≡ value_found self.now.map (neighbours.last self.now.map key.old.items) }
+    {
+        self.arena.neighbour(Look::inclusive(Side::Below), key)
+    }
+
+    /// The value of the greatest key below the one in the buffer; the key found is then in the buffer. `None` where
+    /// no key is below it, and the buffer stays. The buffer holds no zero byte; what it holds needn't be a key of the
+    /// array. It asks for no memory. (Manual: JSLP, JudySLPrev.)
+    pub fn prev(&self, key: &mut KeyBuf) -> Option<u64>
+        requires { All (λ byte. byte ≢ 0) key.old.items }
+        ensures key { key.new.items ≡ unwrap_or (neighbours.prev self.now.map key.old.items) key.old.items }
+        ensures value { result ≡ value_found self.now.map (neighbours.prev self.now.map key.old.items) }
+    {
+        self.arena.neighbour(Look::exclusive(Side::Below), key)
+    }
+}
+
+// The turn at the entry where there is one, and else the turn before.
+fn nearer<'a>(
+    level: &'a JudyL,
+    entry: Option<u64>,
+    depth: usize,
+    turn: Option<Turn<'a>>,
+) -> Option<Turn<'a>>
+    ensures { result ≡ turn_or level.entry entry depth turn.entry }
+{
+    match entry {
+        Some(piece) => Some(Turn {
+            level,
+            piece,
+            depth,
+        }),
+        None => turn,
+    }
+}

@@ -1,0 +1,152 @@
+//! The array that maps keys without zero bytes to words.
+
+ghost use Rattle.std.specs.Prelude.{◌≡◌, ◌≤◌, ◌↔◌, Some, IfOk, OnOk, IfErr, IsTrue, IsFalse};
+ghost use Rattle.std.specs.Borrow.{sem};
+ghost use Rattle.std.specs.FinMap as map;
+ghost use Rattle.std.specs.Option.{option_copied_mut};
+ghost use Rattle.judy_model.specs.Arrays as array;
+ghost use Rattle.judy_model.specs.Keys.{IsStringKey};
+ghost use Rattle.judy_sl.specs.Lends.{LendsSlot, LendsIns, IsRefusal};
+
+use crate::arena::{Arena, Way};
+use crate::error::SlError;
+use crate::keys::is_key;
+use std::alloc::Global;
+use std::marker::Model;
+
+/// An array that maps keys, strings of at most 1,024 bytes without zeros, to words. It holds at most as many keys
+/// as its limit (limit: this project's own).
+#[derive(Drop)]
+pub struct JudySl {
+    limit: u64,
+    count: u64,
+    pub(crate) arena: Arena,
+}
+
+impl Model for JudySl {
+    ghost use Rattle.std.specs.Coded.{coded_list, coded_ℕ};
+    ghost use Rattle.judy_model.specs.Keys.{byte_order};
+    ghost use Rattle.judy_model.specs.Arrays.{ArrayOf, array_code};
+
+    ghost Value = { ArrayOf byte_order };
+
+    ghost coded = { array_code (coded_list coded_ℕ) };
+
+    ghost use Rattle.judy_sl.specs.Arenas.{array_of, IsStrings};
+
+    ghost view = { λ a. array_of a.limit a.arena };
+
+    ghost invariant = { λ a. IsStrings a.limit a.count a.arena };
+}
+
+impl JudySl {
+    /// The empty array that holds at most `limit` keys, from 1 to 4,294,967,295 (limit: this project's own).
+    /// It asks for no memory before the first insert.
+    pub fn new(alloc: Global, limit: u64) -> JudySl
+        requires some { 1 ≤ limit }
+        requires most { limit ≤ 4294967295 }
+        ensures { result ≡ array.empty_array limit }
+    {
+        JudySl {
+            limit,
+            count: 0,
+            arena: Arena::new(alloc),
+        }
+    }
+
+    /// The slot of the key, which is put in with the value 0 where it is absent; a key that is there keeps its value,
+    /// and is never refused. What the caller leaves in the slot is then the key's value. (Manual: JSLI, JudySLIns.)
+    ///
+    /// `BadKey` where the bytes are no key. `Full` where they are an absent one and the array holds as many keys as its
+    /// limit (limit: this project's own). `NoMemory` only where they are an absent one and the array isn't full. Each
+    /// leaves the array as it was.
+    pub fn ins(&mut self, key: &[u8]) -> Result<&mut u64, SlError>
+        ensures* writes_back { sem 𝓛 (LendsIns self.entry key.now result) }
+        ensures value { IfOk result (λ slot. Some slot.now ≡ map.get (array.ins self.old.map key.now) key.now) }
+        ensures accepted { OnOk result (IsStringKey key.now × IsFalse (array.is_full self.old key.now)) }
+        ensures refused { IfErr result (IsRefusal self.old key.now) }
+    {
+        let arena = &self.arena;
+        if !is_key(key) {
+            return Err(SlError::BadKey);
+        }
+        match arena.walk(key) {
+            Way::At(place) => self.arena.ins(place),
+            way => {
+                if self.count == self.limit {
+                    return Err(SlError::Full);
+                }
+                let made = match self.arena.add(key, way) {
+                    Ok(made) => made,
+                    Err(error) => return Err(error),
+                };
+                self.count += 1;
+                self.arena.ins(made)
+            }
+        }
+    }
+
+    /// The value of the key, and `None` where it is absent; bytes that are no key answer as an absent one.
+    /// (Manual: JSLG, JudySLGet.)
+    pub fn get(&self, key: &[u8]) -> Option<u64>
+        ensures { result ≡ map.get self.now.map key.now }
+    {
+        let arena = &self.arena;
+        if !is_key(key) {
+            return None;
+        }
+        arena.get(key)
+    }
+
+    /// The slot of the key, and `None` where it is absent; bytes that are no key answer as an absent one. What the
+    /// caller leaves in the slot is then the key's value. (Manual: JSLG, JudySLGet, whose answer is this slot.)
+    pub fn slot(&mut self, key: &[u8]) -> Option<&mut u64>
+        ensures* writes_back { sem 𝓛 (LendsSlot self.entry key.now result) }
+        ensures value { option_copied_mut result ≡ map.get self.old.map key.now }
+    {
+        let arena = &self.arena;
+        if !is_key(key) {
+            return None;
+        }
+        match arena.walk(key) {
+            Way::At(place) => self.arena.slot(place),
+            Way::Gap(_, _) => None,
+            Way::Clash(_, _) => None,
+        }
+    }
+
+    /// How many keys the array holds: at most its limit. (This project's own.)
+    pub fn len(&self) -> u64
+        ensures count { result ≡ map.len self.now.map }
+        ensures within { result ≤ self.now.limit }
+    {
+        self.count
+    }
+
+    /// Whether the array holds no key.
+    pub fn is_empty(&self) -> bool
+        ensures { IsTrue result ↔ (self.now.map ≡ map.empty) }
+    {
+        self.count == 0
+    }
+
+    /// How many keys the array may hold: at least 1 (limit: this project's own).
+    pub fn limit(&self) -> u64
+        ensures value { result ≡ self.now.limit }
+        ensures some { 1 ≤ result }
+    {
+        self.limit
+    }
+
+    /// Takes every key out, gives their memory back, and answers how many they were. The array keeps its limit and
+    /// may be used again. (Manual: JSLFA, JudySLFreeArray, which answers the bytes freed.)
+    pub fn free_array(&mut self) -> u64
+        ensures freed { result ≡ map.len self.old.map }
+        ensures emptied { self.new ≡ array.empty_array self.old.limit }
+    {
+        let freed = self.count;
+        self.arena = Arena::new(*self.arena.children.allocator());
+        self.count = 0;
+        freed
+    }
+}
