@@ -25,3 +25,4 @@ pub mod Outcomes
 pub mod ArraysKept
 pub mod StoresKept
 pub mod ReadingLemmas
+pub mod FormLemmas

@@ -3,6 +3,7 @@ use Rattle.std.specs.Prelude.{ℕ, true, List, [], ◌∷◌, codes}
 use Rattle.judy_model.specs.Arrays.{judy1, judyl, empty_array}
 use Rattle.judy_model.specs.Lines.{Line}
 use Rattle.judy_model.specs.Stores.{Store}
+use Rattle.judy_model.specs.Forms.{Shape}
 
 -- A line that an LF ends.
 abbrev pub line : List ℕ → Line
@@ -15,3 +16,8 @@ one_array limit = (codes "a", judyl (empty_array limit)) ∷ []
 -- The store with a judyl array `a` and a judy1 array `s` behind it, both without keys.
 abbrev pub two_arrays : Store
 two_arrays = (codes "a", judyl (empty_array 1)) ∷ (codes "s", judy1 (empty_array 2)) ∷ []
+
+-- A shape by its six numbers.
+abbrev pub shape : ℕ → ℕ → ℕ → ℕ → ℕ → ℕ → Shape
+shape immediates leaves bitmap_leaves linear bitmap full =
+    record { immediates = immediates; leaves = leaves; bitmap_leaves = bitmap_leaves; linear = linear; bitmap = bitmap; full = full }

@@ -16,4 +16,6 @@ pub mod CommandWords
 pub mod Commands
 pub mod Steps
 pub mod Runs
+pub mod Forms
+pub mod Shapes
 pub mod Examples

@@ -6,9 +6,12 @@ ghost use Rattle.judy_model.specs.Lines.{lines_of, text_of, is_too_long};
 ghost use Rattle.judy_model.specs.Tokens.{tokens_of, word_of, name_of};
 ghost use Rattle.judy_model.specs.Replies.{silent, done, was, flag, number, entry, freed, listed, nothing, output_of, unknown_command, argument_count, bad_name, no_such_array, wrong_kind, bad_word, bad_limit, exists};
 ghost use Rattle.judy_model.specs.Steps.{step};
+ghost use Rattle.judy_model.specs.Forms.{immediate, leaf, bitmap_leaf, branch};
+ghost use Rattle.judy_model.specs.Shapes.{form_of, shape_of};
+ghost use Rattle.std.specs.List.{range_with_len};
 ghost use Rattle.judy_model.specs.CommandWords as command;
 ghost use Rattle.judy_model.specs.CommandWords.{command_named};
-ghost use Rattle.judy_model.specs.Examples.{line, one_array, two_arrays};
+ghost use Rattle.judy_model.specs.Examples.{line, one_array, two_arrays, shape};
 
 /// An LF ends a line; what stands after the last LF is a line if it isn't empty.
 pub fn scripts_are_cut_at_each_line_feed()
@@ -123,4 +126,17 @@ pub fn answers_are_lines()
     ensures number { output_of (Ok (number (2 ^ 64 - 1))) ≡ codes "18446744073709551615" ++ 10 ∷ [] }
     ensures nothing { output_of (Ok nothing) ≡ codes "none" ++ 10 ∷ [] }
     ensures refusal { output_of (Err no_such_array) ≡ codes "error no-such-array" ++ 10 ∷ [] }
+{}
+
+/// The shapes of the table [shape-table]: nodes by kind, without values (0 value words a key) and with them (1).
+pub fn shape_table()
+    ensures nothing { shape_of 0 [] ≡ shape 0 0 0 0 0 0 }
+    ensures no_pair { shape_of 1 [] ≡ shape 0 0 0 0 0 0 }
+    ensures one_word { shape_of 0 (5 ∷ []) ≡ shape 1 0 0 0 0 0 }
+    ensures one_pair { shape_of 1 (5 ∷ []) ≡ shape 1 0 0 0 0 0 }
+    ensures two_words { shape_of 0 (5 ∷ 6 ∷ []) ≡ shape 0 1 0 0 0 0 }
+    ensures two_pairs { shape_of 1 (5 ∷ 6 ∷ []) ≡ shape 0 1 0 0 0 0 }
+    ensures words_of_a_byte { shape_of 0 (range_with_len 0 256) ≡ shape 0 0 1 0 0 0 }
+    ensures pairs_of_a_byte { shape_of 1 (range_with_len 0 256) ≡ shape 0 0 1 0 0 0 }
+    ensures one_more { shape_of 0 (range_with_len 0 257) ≡ shape 1 0 1 1 0 0 }
 {}

@@ -7,6 +7,7 @@ pub mod counts;
 pub mod empties;
 pub mod lines;
 pub mod neighbours;
+pub mod shapes;
 pub mod steps;
 pub mod stores;
 pub mod words;
