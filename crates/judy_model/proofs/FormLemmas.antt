@@ -1,15 +1,12 @@
 -- Forms: what a form by the rule holds, that nothing in it is loose, and which form keys have that share bytes.
-use Rattle.std.proofs.Common.{◌≡◌, ℕ, zero, suc, ◌+◌, ◌-◌, ◌*◌, ◌/◌, ◌%◌, ◌^◌, ◌<◌, ◌≤◌, ◌⊎◌, inl, inr, ⊎_elim, Bool, true, false, cond, eqb, leb, List, [], ◌∷◌, ◌++◌, length, sym, refl, ap, ◌∙◌, subst, arith, append_assoc, length-append}
-use Rattle.std.proofs.Math.Nat.{div-le_self, add_comm, mul_assoc, add-mul, pow-suc, pow-succ'}
-use Rattle.std.proofs.lemmas.Nat.{div-mul-add, mod-mul-add, div-add-mod', pow-add}
-use Rattle.std.proofs.lemmas.Bool.{eqb-true, eqb-false, leb-true, leb-false, le-leb, lt-leb}
+use Rattle.std.proofs.Common.{◌≡◌, ℕ, zero, suc, ◌+◌, ◌-◌, ◌*◌, ◌/◌, ◌%◌, ◌^◌, ◌<◌, ◌≤◌, ◌⊎◌, inl, inr, ⊎_elim, true, false, cond, eqb, leb, List, [], ◌∷◌, ◌++◌, length, sym, refl, ap, ◌∙◌, arith, append_assoc, length-append}
+use Rattle.std.proofs.Math.Nat.{div-le_self, mul_assoc, add-mul, pow-suc, pow-succ'}
+use Rattle.std.proofs.lemmas.Nat.{div-add-mod'}
+use Rattle.std.proofs.lemmas.Bool.{eqb-true, eqb-false, leb-true, leb-false, lt-leb}
 use Rattle.std.proofs.lemmas.List.{append-nil}
-use Rattle.std.proofs.lemmas.List.Elements.{All-head, All-tail}
 use Rattle.judy_model.specs.WordBytes.{number_of}
-use Rattle.judy_model.specs.Keys.{IsByteString}
 use Rattle.judy_model.specs.Forms.{Node, immediate, leaf, bitmap_leaf, branch, Form, Place, raise, places_of, keys_at, keys_in, is_loose, loose_in}
 use Rattle.judy_model.specs.Shapes.{immediate_limit, Group, with_key, groups_of, bytes_of, forms_of, split_by, by_number, form_behind, form_of}
-use Rattle.judy_model.proofs.ByteLemmas.{unit_pos, number_of-lt}
 
 -- ---- by the number of keys
 

@@ -26,3 +26,4 @@ pub mod ArraysKept
 pub mod StoresKept
 pub mod ReadingLemmas
 pub mod FormLemmas
+pub mod GroupLemmas

@@ -1,7 +1,7 @@
 -- The rule by which a set of keys has its nodes: a function of the ascending list of the keys. (This project's own; the
 -- tree changes its nodes one call at a time.)
-use Rattle.std.specs.Prelude.{ℕ, zero, suc, ◌*◌, ◌/◌, ◌%◌, ◌^◌, ◌==◌, nat_le, if◌then◌else◌, List, [], ◌∷◌, ◌++◌, length}
-use Rattle.judy_model.specs.Forms.{immediate, leaf, bitmap_leaf, branch, Form, Shape, shape_in}
+use Rattle.std.specs.Prelude.{ℕ, zero, suc, ◌*◌, ◌/◌, ◌%◌, ◌+◌, ◌^◌, ◌<◌, ◌≤◌, ◌==◌, nat_le, if◌then◌else◌, List, [], ◌∷◌, ◌++◌, length}
+use Rattle.judy_model.specs.Forms.{immediate, leaf, bitmap_leaf, branch, Form, raise, Shape, shape_in}
 
 -- How many keys of a width fit in an immediate: with value words one, without as many as eight bytes hold.
 abbrev pub immediate_limit : ℕ → ℕ → ℕ
@@ -62,3 +62,20 @@ form_of words width keys = form_behind words width [] keys
 -- The shape of a set of words: how many nodes of each kind its tree has.
 abbrev pub shape_of : ℕ → List ℕ → Shape
 shape_of words keys = shape_in (form_of words 8 keys)
+
+-- ---- keys that come in groups
+
+-- Each key is below a bound.
+abbrev pub AllBelow : ℕ → List ℕ → Type 0
+AllBelow top [] = Unit {0}
+AllBelow top (key ∷ keys) = (key < top) × AllBelow top keys
+
+-- Groups by ascending byte from one on, each with some keys, whose rests are below the unit of the byte.
+abbrev pub AreGroups : ℕ → ℕ → List Group → Type 0
+AreGroups unit low [] = Unit {0}
+AreGroups unit low (group ∷ groups) = (low ≤ group.0) × (group.0 < 256) × (0 < length group.1) × AllBelow unit group.1 × AreGroups unit (group.0 + 1) groups
+
+-- The keys of groups, whose bytes stand behind bytes that spell a number of blocks of 256 units.
+abbrev pub keys_of_groups : ℕ → ℕ → List Group → List ℕ
+keys_of_groups unit block [] = []
+keys_of_groups unit block (group ∷ groups) = raise ((block + group.0) * unit) group.1 ++ keys_of_groups unit block groups
