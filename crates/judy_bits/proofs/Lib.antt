@@ -6,3 +6,6 @@ pub mod SetLemmas
 pub mod PaddingLemmas
 pub mod FewLemmas
 pub mod SetLaws
+pub mod AbsentLemmas
+pub mod ShiftLemmas
+pub mod SkipLemmas

@@ -1,6 +1,6 @@
 -- A set of bytes as the list of its members in ascending order, each once.
 use Rattle.std.specs.Prelude.{ℕ, ◌==◌, not, Bool, if◌then◌else◌, List, ◌∷◌, ◌++◌, length, filter, Option, Some, None, slice_get}
-use Rattle.std.specs.List.{list_any}
+use Rattle.std.specs.List.{list_any, range_with_len}
 use Rattle.std.specs.List.Sorted.{IsStrictlySortedBy}
 use Rattle.std.specs.Ordering.{is_lt, is_le, is_gt}
 use Rattle.judy_model.specs.Keys.{IsByteString, word_order}
@@ -38,6 +38,18 @@ next_from members byte = first_of word_order members byte
 -- The nearest member at or below the byte.
 abbrev pub prev_from : List ℕ → ℕ → Option ℕ
 prev_from members byte = last_of word_order members byte
+
+-- The bytes that are no members, in ascending order.
+unfoldable pub absent : List ℕ → List ℕ
+absent members = filter (λ byte. not (has members byte)) (range_with_len 0 256)
+
+-- The nearest byte at or above the given one that is no member.
+abbrev pub next_absent : List ℕ → ℕ → Option ℕ
+next_absent members byte = next_from (absent members) byte
+
+-- The nearest byte at or below it that is no member.
+abbrev pub prev_absent : List ℕ → ℕ → Option ℕ
+prev_absent members byte = prev_from (absent members) byte
 
 -- The members with the byte: those below it, the byte, those above it.
 abbrev pub with_byte : List ℕ → ℕ → List ℕ

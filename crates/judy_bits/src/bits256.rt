@@ -9,7 +9,7 @@ use crate::bits::{highest_below, low_ones, lowest_from, select};
 use std::marker::Model;
 
 /// A set of bytes: byte `b` is a member where bit `b mod 64` of word `b / 64` is 1.
-#[derive(Drop)]
+#[derive(Clone, Debug, Drop)]
 pub struct Bits256 {
     words: [u64; 4],
 }
@@ -110,6 +110,30 @@ impl Bits256 {
             left -= count;
         }
         None
+    }
+
+    // The bytes that are no members.
+    fn absent(&self) -> Bits256
+        ensures { result ≡ set.absent self.now }
+    {
+        let [first, second, third, fourth] = self.words;
+        Bits256 {
+            words: [!first, !second, !third, !fourth],
+        }
+    }
+
+    /// The nearest byte at or above the given one that is no member.
+    pub fn next_absent(&self, byte: u8) -> Option<u8>
+        ensures { result ≡ set.next_absent self.now byte }
+    {
+        self.absent().next_from(byte)
+    }
+
+    /// The nearest byte at or below the given one that is no member.
+    pub fn prev_absent(&self, byte: u8) -> Option<u8>
+        ensures { result ≡ set.prev_absent self.now byte }
+    {
+        self.absent().prev_from(byte)
     }
 
     /// The nearest member at or above the byte.

@@ -13,7 +13,7 @@ use std::marker::Model;
 use std::mem;
 
 /// The members, in one of the three forms.
-#[derive(Drop)]
+#[derive(Clone, Debug, Drop)]
 enum Members {
     Linear(FewBytes),
     Bitmap(Bits256),
@@ -22,7 +22,7 @@ enum Members {
 
 /// A set of bytes. Its form follows from the number of its members alone, so a set that grew and shrank is the
 /// set that never grew.
-#[derive(Drop)]
+#[derive(Clone, Debug, Drop)]
 pub struct ByteSet {
     members: Members,
 }
@@ -83,6 +83,39 @@ impl ByteSet {
             Members::Linear(few) => few.place(byte),
             Members::Bitmap(bits) => bits.place(byte),
             Members::Full(bits) => bits.place(byte),
+        }
+    }
+
+    /// How many members are below the byte.
+    pub fn rank(&self, byte: u8) -> usize
+        ensures { result ≡ set.rank self.now byte }
+    {
+        match &self.members {
+            Members::Linear(few) => few.rank(byte),
+            Members::Bitmap(bits) => bits.rank(byte),
+            Members::Full(bits) => bits.rank(byte),
+        }
+    }
+
+    /// The nearest byte at or above the given one that is no member.
+    pub fn next_absent(&self, byte: u8) -> Option<u8>
+        ensures { result ≡ set.next_absent self.now byte }
+    {
+        match &self.members {
+            Members::Linear(few) => bits_of(few).next_absent(byte),
+            Members::Bitmap(bits) => bits.next_absent(byte),
+            Members::Full(bits) => bits.next_absent(byte),
+        }
+    }
+
+    /// The nearest byte at or below the given one that is no member.
+    pub fn prev_absent(&self, byte: u8) -> Option<u8>
+        ensures { result ≡ set.prev_absent self.now byte }
+    {
+        match &self.members {
+            Members::Linear(few) => bits_of(few).prev_absent(byte),
+            Members::Bitmap(bits) => bits.prev_absent(byte),
+            Members::Full(bits) => bits.prev_absent(byte),
         }
     }
 

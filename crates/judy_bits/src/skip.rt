@@ -1,6 +1,7 @@
 //! The leading bytes that all keys of a node share.
 
-ghost use Rattle.std.specs.Prelude.{◌≡◌, ◌≤◌, length};
+ghost use Rattle.std.specs.Prelude.{◌≡◌, ◌+◌, ◌≤◌, ◌^◌, ◌<◌, ◌∷◌, ◌++◌, length, take};
+ghost use Rattle.judy_model.specs.WordBytes as bytes;
 
 use std::marker::Model;
 
@@ -50,4 +51,42 @@ impl Skip {
     {
         &self.bytes[..self.len as usize]
     }
+
+    /// How many bytes, at most 7.
+    pub fn len(&self) -> usize
+        ensures count { result ≡ length self.now }
+        ensures within { result ≤ 7 }
+    {
+        self.len as usize
+    }
+
+    /// The number that the bytes spell, the first of them the highest; 0 for none.
+    pub fn number(&self) -> u64
+        ensures { result ≡ bytes.number_of self.now }
+    {
+        let [first, second, third, fourth, fifth, sixth, seventh] = self.bytes;
+        let all = u64::from_be_bytes([0, first, second, third, fourth, fifth, sixth, seventh]);
+        all >> (8 * (7 - self.len))
+    }
+
+    /// The bytes of `front`, one byte, and the bytes of `back`; at most 7 together.
+    pub fn joined(front: &Skip, byte: u8, back: &Skip) -> Skip
+        requires { length front.now + 1 + length back.now ≤ 7 }
+        ensures { result ≡ front.now ++ byte ∷ back.now }
+    {
+        let at = front.len();
+        let mut bytes = [0; 7];
+        put_bytes(&mut bytes, 0, front.bytes());
+        put_bytes(&mut bytes, at, &[byte]);
+        put_bytes(&mut bytes, at + 1, back.bytes());
+        Skip::new(&bytes[..at + 1 + back.len()])
+    }
+}
+
+// Writes the bytes from a place on; what stands before it stays.
+fn put_bytes(bytes: &mut [u8; 7], at: usize, more: &[u8])
+    requires { at + length more.now ≤ 7 }
+    ensures { take (at + length more.now) bytes.new ≡ take at bytes.old ++ more.now }
+{
+    bytes[at..at + more.len()].copy_from_slice(more);
 }

@@ -1,7 +1,9 @@
 //! The bytes of a word.
 
-ghost use Rattle.std.specs.Prelude.{◌≡◌, ◌<◌};
+ghost use Rattle.std.specs.Prelude.{◌≡◌, ◌<◌, ◌≤◌, ◌/◌, ◌%◌, ◌^◌};
 ghost use Rattle.judy_model.specs.WordBytes as bytes;
+
+use crate::bits::low_ones;
 
 /// Byte `i` of the eight bytes of a word, 0 the highest. `i` is below 8.
 pub fn byte_of(word: u64, i: usize) -> u8
@@ -9,4 +11,20 @@ pub fn byte_of(word: u64, i: usize) -> u8
     ensures { result ≡ bytes.byte_of word i }
 {
     ((word >> (8 * (7 - i))) & 0xff) as u8
+}
+
+/// A word without its lowest bytes, so many, at most 8: `word / 256^width` by two shifts.
+pub fn without_low(word: u64, width: usize) -> u64
+    requires { width ≤ 8 }
+    ensures { result ≡ word / 256 ^ width }
+{
+    (word >> (4 * width)) >> (4 * width)
+}
+
+/// The lowest bytes of a word, so many, at most 8: `word % 256^width` by a mask.
+pub fn low_part(word: u64, width: usize) -> u64
+    requires { width ≤ 8 }
+    ensures { result ≡ word % 256 ^ width }
+{
+    word & low_ones(8 * width)
 }
