@@ -39,3 +39,5 @@ pub mod ContentsLemmas
 pub mod KindLemmas
 pub mod DumpLemmas
 pub mod EndLemmas
+pub mod FormLemmas
+pub mod GroupLemmas

@@ -1,8 +1,10 @@
 -- What the examples speak of.
-use Rattle.std.specs.Prelude.{ℕ, true, List, [], ◌∷◌, ◌++◌, codes}
+use Rattle.std.specs.Prelude.{ℕ, zero, suc, ◌*◌, true, List, [], ◌∷◌, ◌++◌, codes}
+use Rattle.std.specs.List.{range_with_len}
 use Rattle.judy_model.specs.Arrays.{judy1, judyl, judysl, judyhs, empty_array}
 use Rattle.judy_model.specs.Lines.{Line}
 use Rattle.judy_model.specs.Stores.{Store}
+use Rattle.judy_model.specs.Forms.{Shape}
 
 -- A line that an LF ends.
 abbrev pub line : List ℕ → Line
@@ -23,3 +25,13 @@ string_arrays = (codes "t", judysl (empty_array 1)) ∷ (codes "h", judyhs (empt
 -- The script of two lines that makes them. An LF ends the first.
 abbrev pub two_lines : List ℕ
 two_lines = codes "make a judyl 1" ++ 10 ∷ codes "make s judy1 2"
+
+-- A shape by its six numbers.
+abbrev pub shape : ℕ → ℕ → ℕ → ℕ → ℕ → ℕ → Shape
+shape immediates leaves bitmap_leaves linear bitmap full =
+    record { immediates = immediates; leaves = leaves; bitmap_leaves = bitmap_leaves; linear = linear; bitmap = bitmap; full = full }
+
+-- So many runs of `size` words each, one at each multiple of a unit from 0 on.
+abbrev pub runs : ℕ → ℕ → ℕ → List ℕ
+runs unit size zero = []
+runs unit size (suc count) = runs unit size count ++ range_with_len (count * unit) size

@@ -22,6 +22,8 @@ pub mod Fields
 pub mod DumpText
 pub mod DumpGrammar
 pub mod DumpExamples
+pub mod Forms
+pub mod Shapes
 pub mod Examples
 pub mod Sizes
 pub mod AmpleRuns

@@ -13,6 +13,7 @@ pub mod lines;
 pub mod neighbours;
 pub mod run_ends;
 pub mod runs;
+pub mod shapes;
 pub mod steps;
 pub mod stores;
 pub mod strings;
