@@ -1,1 +1,3 @@
 pub mod ShelfLemmas
+pub mod WriteLemmas
+pub mod WalkLemmas

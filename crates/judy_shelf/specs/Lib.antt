@@ -3,3 +3,4 @@ pub mod Arrays
 pub mod Makes
 pub mod Shelves
 pub mod Lends
+pub mod Writes

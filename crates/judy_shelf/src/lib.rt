@@ -6,13 +6,18 @@
 #![tactic(auto)]
 
 mod array;
+mod dumps;
 mod error;
+mod fault;
 mod kind;
 mod name;
 mod shelf;
+mod write;
 
 pub use array::Array;
+pub use dumps::dump;
 pub use error::MakeError;
+pub use fault::DumpFault;
 pub use kind::Kind;
 pub use name::Name;
 pub use shelf::{MAX_ARRAYS, MAX_LIMIT, Shelf};
