@@ -1,3 +1,4 @@
 pub mod ShelfLemmas
 pub mod WriteLemmas
 pub mod WalkLemmas
+pub mod DumpParts

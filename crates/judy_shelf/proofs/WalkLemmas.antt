@@ -1,23 +1,23 @@
 -- The entries of a map, one after another by `first` and `next`, and lists whose items are written in turn.
-use Rattle.std.proofs.Common.{◌≡◌, ℕ, zero, suc, ◌+◌, ◌-◌, ◌^◌, ◌<◌, ◌≤◌, Bool, true, false, cond, List, [], ◌∷◌, ◌++◌, map, length, take, drop, filter, slice_get, get_or, Option, Some, None, Result, Ok, Err, option_map, unwrap_or, IsTrue, refl, sym, ap, subst, ◌∙◌, append_assoc, append-nil, arith, ◌==◌, ltb, Less, Equal, Greater}
+use Rattle.std.proofs.Common.{◌≡◌, ℕ, zero, suc, ◌-◌, ◌^◌, ◌<◌, Bool, true, false, cond, List, [], ◌∷◌, ◌++◌, length, take, drop, filter, slice_get, Option, Some, None, option_map, unwrap_or, refl, sym, ap, subst, ◌∙◌, append_assoc, append-nil, arith, ◌==◌, ltb, Less, Equal, Greater}
 use Rattle.std.specs.List.{flat_map}
 use Rattle.std.specs.Cmp.{nat_cmp_total, tied_itself}
 use Rattle.std.specs.Ordering.{nat_cmp, is_lt, is_gt}
-use Rattle.std.specs.FinMap.{FinMap, keys, entries, entries_sorted, get, get-entries, nat_cmp-IsAntisymmetric}
-use Rattle.std.specs.FinMap as map
-use Rattle.std.proofs.lemmas.Bool.{le-ltb, and_parts}
+use Rattle.std.specs.FinMap.{FinMap, keys, entries, entries_sorted, contains_key, get, get-entries, nat_cmp-IsAntisymmetric}
+use Rattle.std.proofs.lemmas.Bool.{le-ltb, ltb-false, eqb-false, and_parts}
 use Rattle.std.proofs.lemmas.List.{take-append-drop}
 use Rattle.std.proofs.lemmas.Grind.{flat_map-append}
-use Rattle.std.proofs.lemmas.Option.{slice_get-map, slice_get_within, slice_get_past, get_or_from_slice_get}
+use Rattle.std.proofs.lemmas.Option.{slice_get-map, slice_get_within, get_or_from_slice_get}
 use Rattle.judy_model.specs.Keys.{word_order}
 use Rattle.judy_model.specs.Neighbours.{first, next}
 use Rattle.judy_model.specs.Counts.{rank}
+use Rattle.judy_model.specs.Nearest.{IsNext}
 use Rattle.judy_model.proofs.RankLemmas.{first-slice_get, next-slice_get, count_up_to_at}
 use Rattle.judy_model.proofs.NearestLemmas.{next-IsNext}
 use Rattle.judy_model.proofs.Pairs.{find-at}
-use Rattle.judy_pipe.specs.Pipe.{grown, GrewByFront}
-use Rattle.judy_shelf.specs.Writes.{Sunk, Wrote}
-use Rattle.judy_shelf.proofs.WriteLemmas.{wrote_then, wrote_stop, grown_nothing}
+use Rattle.judy_pipe.specs.Pipe.{grown}
+use Rattle.judy_shelf.specs.Writes.{Sunk, WroteAll, WroteFront}
+use Rattle.judy_shelf.proofs.WriteLemmas.{wrote_both, wrote_second, wrote_first, grown_nothing}
 
 -- ---- the entries of a map in turn
 
@@ -88,20 +88,20 @@ module _ {A : Type 0} (text : A → List ℕ) where
     pub written_none : Written 0 before
     written_none = (sym (grown_nothing before.taken), refl)
 
-    pub written_more : {X E : Type 0} (place : ℕ) (item : A) (mid after : Sunk) (done : X) → Written place mid → slice_get items place ≡ Some item → Wrote (text item) mid (Ok {E = E} done) after → Written (suc place) after
-    written_more {X} {E} place item mid after done written at wrote =
-        let both = wrote_then {X} {X} {E} {E} (flat_map text (take place items)) (text item) before mid done after (Ok done) written wrote in
+    pub written_more : (place : ℕ) (item : A) (mid after : Sunk) → Written place mid → slice_get items place ≡ Some item → WroteAll (text item) mid after → Written (suc place) after
+    written_more place item mid after written at wrote =
+        let both = wrote_both (flat_map text (take place items)) (text item) before mid after written wrote in
         (both.0 ∙ ap (grown before.taken) (sym (take_one items place item at)), both.1)
 
-    pub written_stop : {X Y E F : Type 0} (place : ℕ) (item : A) (mid after : Sunk) (fault : E) (told : F) → Written place mid → slice_get items place ≡ Some item → Wrote (text item) mid (Err {T = X} fault) after → Wrote (flat_map text items) before (Err {T = Y} told) after
-    written_stop {X} {Y} {E} {F} place item mid after fault told written at wrote =
-        let both = wrote_then {Unit {0}} {X} {E} {E} (flat_map text (take place items)) (text item) before mid tt after (Err fault) written wrote in
-        let here : Wrote (flat_map text (take (suc place) items)) before (Err {T = X} fault) after = subst (λ t. Wrote t before (Err {T = X} fault) after) (sym (take_one items place item at)) both in
-        subst (λ t. Wrote t before (Err {T = Y} told) after) (sym (flat_map-append text (take (suc place) items) (drop (suc place) items)) ∙ ap (flat_map text) (take-append-drop (suc place) items))
-        (wrote_stop {X} {Y} {E} {F} (flat_map text (take (suc place) items)) (flat_map text (drop (suc place) items)) before after fault told here)
+    pub written_stop : (place : ℕ) (item : A) (mid after : Sunk) → Written place mid → slice_get items place ≡ Some item → WroteFront (text item) mid after → WroteFront (flat_map text items) before after
+    written_stop place item mid after written at wrote =
+        let both = wrote_second (flat_map text (take place items)) (text item) before mid after written wrote in
+        let here : WroteFront (flat_map text (take (suc place) items)) before after = subst (λ t. WroteFront t before after) (sym (take_one items place item at)) both in
+        subst (λ t. WroteFront t before after) (sym (flat_map-append text (take (suc place) items) (drop (suc place) items)) ∙ ap (flat_map text) (take-append-drop (suc place) items))
+        (wrote_first (flat_map text (take (suc place) items)) (flat_map text (drop (suc place) items)) before after here)
 
-    pub written_all : {X E : Type 0} (place : ℕ) (now : Sunk) (done : X) → Written place now → slice_get items place ≡ None → Wrote (flat_map text items) before (Ok {E = E} done) now
-    written_all place now done written at = (written.0 ∙ ap (λ xs. grown before.taken (flat_map text xs)) (take_none items place at), written.1)
+    pub written_all : (place : ℕ) (now : Sunk) → Written place now → slice_get items place ≡ None → WroteAll (flat_map text items) before now
+    written_all place now written at = (written.0 ∙ ap (λ xs. grown before.taken (flat_map text xs)) (take_none items place at), written.1)
 
 -- ---- how far a walk has to go
 
@@ -109,3 +109,27 @@ module _ {A : Type 0} (text : A → List ℕ) where
 abbrev pub above : Option ℕ → ℕ
 above None = 0
 above (Some key) = 2 ^ 64 - key
+
+greater_by : (below same : Bool) → is_gt (cond below Less (cond same Equal Greater)) ≡ true → (below ≡ false) × (same ≡ false)
+greater_by true same is = absurd cc
+greater_by false true is = absurd cc
+greater_by false false is = (refl, refl)
+
+greater : (key other : ℕ) → is_gt (nat_cmp other key) ≡ true → key < other
+greater key other is =
+    let by = greater_by (ltb other key) (other == key) is in
+    let low = ltb-false other key by.0 in
+    let apart = eqb-false other key by.1 in
+    omega arith
+
+module _ (m : FinMap word_order ℕ) (key : ℕ) (word : key < 2 ^ 64) where
+  falls_to : (found : Option ℕ) → IsNext word_order (contains_key m) key found → above found < above (Some key)
+  falls_to None is = omega arith
+  falls_to (Some other) is =
+      let later = greater key other (and_parts (contains_key m other) (is_gt (nat_cmp other key)) is.0).1 in
+      omega arith
+
+  -- Each step of the walk leaves fewer words above.
+  pub above_falls : (before after : Option ℕ) → before ≡ Some key → after ≡ next m key → above after < above before
+  above_falls before after at is =
+      subst (λ b. above after < above b) (sym at) (subst (λ a. above a < above (Some key)) (sym is) (falls_to (next m key) (next-IsNext nat_cmp_total nat_cmp-IsAntisymmetric m key)))

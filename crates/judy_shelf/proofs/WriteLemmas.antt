@@ -1,9 +1,10 @@
 -- Texts that are written one after another.
-use Rattle.std.proofs.Common.{◌≡◌, ℕ, ◌+◌, ◌≤◌, List, ◌++◌, length, take, drop, Option, Some, None, Result, Ok, Err, [], refl, sym, ap, subst, ◌∙◌, append_assoc, append-nil, arith}
-use Rattle.std.proofs.lemmas.List.{take_at, take-append-drop, length-append, length-take}
+use Rattle.std.proofs.Common.{◌≡◌, ℕ, ◌+◌, List, ◌++◌, length, take, drop, Option, Some, None, Result, Ok, Err, [], refl, sym, ap, subst, ◌∙◌, append_assoc, append-nil, arith}
+use Rattle.std.specs.Result.{IsErrAnd}
+use Rattle.std.proofs.lemmas.List.{take_at, take-append-drop, length-append}
 use Rattle.judy_pipe.specs.Pipe.{grown, GrewByFront}
 use Rattle.judy_pipe.proofs.Moves.{grown-grown}
-use Rattle.judy_shelf.specs.Writes.{Sunk, Wrote}
+use Rattle.judy_shelf.specs.Writes.{Sunk, WroteAll, WroteFront, Wrote}
 
 pub grown_nothing : (known : Option (List ℕ)) → grown known [] ≡ known
 grown_nothing None = refl
@@ -28,14 +29,27 @@ wrote_short : (one other : List ℕ) (before after : Option (List ℕ)) → Grew
 wrote_short one other before after front =
     front_later before [] one other after (subst (λ known. GrewByFront known one after) (sym (grown_nothing before)) front)
 
-module _ {X Y E F : Type 0} where
-  -- A text behind another.
-  pub wrote_then : (one other : List ℕ) (before mid : Sunk) (done : X) (after : Sunk) (result : Result Y E) → Wrote one before (Ok {E = F} done) mid → Wrote other mid result after → Wrote (one ++ other) before result after
-  wrote_then one other before mid done after (Ok end) first second =
+module _ (one other : List ℕ) (before : Sunk) where
+  -- A text behind another, written whole.
+  pub wrote_both : (mid after : Sunk) → WroteAll one before mid → WroteAll other mid after → WroteAll (one ++ other) before after
+  wrote_both mid after first second =
       (second.0 ∙ ap (λ known. grown known other) first.0 ∙ grown-grown before.taken one other, second.1 ∙ first.1)
-  wrote_then one other before mid done after (Err fault) first second =
+
+  -- A front of a text behind another.
+  pub wrote_second : (mid after : Sunk) → WroteAll one before mid → WroteFront other mid after → WroteFront (one ++ other) before after
+  wrote_second mid after first second =
       (wrote_front one other before mid after first.0 second.0, second.1 ∙ ap (λ failures. failures + 1) first.1)
 
   -- A text of which a front was written, whatever was to come behind it.
-  pub wrote_stop : (one other : List ℕ) (before after : Sunk) (fault : E) (told : F) → Wrote one before (Err {T = X} fault) after → Wrote (one ++ other) before (Err {T = Y} told) after
-  wrote_stop one other before after fault told first = (wrote_short one other before.taken after.taken first.0, first.1)
+  pub wrote_first : (after : Sunk) → WroteFront one before after → WroteFront (one ++ other) before after
+  wrote_first after first = (wrote_short one other before.taken after.taken first.0, first.1)
+
+  -- The last of two texts decides.
+  pub wrote_then : {Y E : Type 0} (mid after : Sunk) (result : Result Y E) → WroteAll one before mid → Wrote other mid result after → Wrote (one ++ other) before result after
+  wrote_then mid after (Ok done) first second = wrote_both mid after first second
+  wrote_then mid after (Err fault) first second = wrote_second mid after first second
+
+-- What is answered where a write failed.
+pub wrote_err : {Y E : Type 0} (text : List ℕ) (before after : Sunk) (P : E → Type 0) (result : Result Y E) → IsErrAnd result P → WroteFront text before after → Wrote text before result after
+wrote_err text before after P (Ok done) is front = absurd is
+wrote_err text before after P (Err fault) is front = front

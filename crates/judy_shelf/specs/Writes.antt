@@ -14,15 +14,23 @@ pub record Sunk : Type 0 where
 abbrev pub sunk : Option (List ℕ) → ℕ → Sunk
 sunk taken failures = record { taken = taken; failures = failures }
 
--- A text was written whole; or a front of it, and the sink failed once.
-abbrev pub Wrote : {X E : Type 0} → List ℕ → Sunk → Result X E → Sunk → Type 0
-Wrote text before (Ok done) after = (after.taken ≡ grown before.taken text) × (after.failures ≡ before.failures)
-Wrote text before (Err fault) after = GrewByFront before.taken text after.taken × (after.failures ≡ before.failures + 1)
+-- A text was written whole.
+abbrev pub WroteAll : List ℕ → Sunk → Sunk → Type 0
+WroteAll text before after = (after.taken ≡ grown before.taken text) × (after.failures ≡ before.failures)
 
--- A dump was written whole; or a front of it, and the sink failed once; or nothing.
+-- A front of a text was written, and then the sink failed.
+abbrev pub WroteFront : List ℕ → Sunk → Sunk → Type 0
+WroteFront text before after = GrewByFront before.taken text after.taken × (after.failures ≡ before.failures + 1)
+
+-- One or the other, by what was answered.
+abbrev pub Wrote : {X E : Type 0} → List ℕ → Sunk → Result X E → Sunk → Type 0
+Wrote text before (Ok done) after = WroteAll text before after
+Wrote text before (Err fault) after = WroteFront text before after
+
+-- A dump was written whole, or a front of it; no memory is wanted for it.
 abbrev pub Dumped : List ℕ → Sunk → Result (Unit {0}) DumpFault → Sunk → Type 0
-Dumped text before (Ok done) after = (after.taken ≡ grown before.taken text) × (after.failures ≡ before.failures)
-Dumped text before (Err Write) after = GrewByFront before.taken text after.taken × (after.failures ≡ before.failures + 1)
+Dumped text before (Ok done) after = WroteAll text before after
+Dumped text before (Err Write) after = WroteFront text before after
 Dumped text before (Err NoMemory) after = ⊥
 
 -- The number of a kind in dumps.
