@@ -2,3 +2,4 @@ pub mod ShelfLemmas
 pub mod WriteLemmas
 pub mod WalkLemmas
 pub mod DumpParts
+pub mod ReadLemmas

@@ -4,3 +4,4 @@ pub mod Makes
 pub mod Shelves
 pub mod Lends
 pub mod Writes
+pub mod Reads

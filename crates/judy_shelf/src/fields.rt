@@ -1,0 +1,25 @@
+//! The fields of a dump, read from a source: whole, and one after another.
+
+ghost use Rattle.std.specs.Prelude.{◌≡◌, ◌<◌, ◌-◌, ◌^◌, length};
+ghost use Rattle.judy_model.specs.Fields as fields;
+ghost use Rattle.judy_shelf.specs.Reads.{drawn, Reads};
+
+use crate::fault::LoadFault;
+use judy_pipe::{Source, read_some};
+
+// Reads as many bytes as fit into `room`, and none beyond.
+pub(crate) fn read_bytes<R: Source>(source: &mut R, room: &mut [u8]) -> Result<(), LoadFault>
+    requires { (R.tally source.old).failures < 2 ^ 64 - 1 }
+    ensures len { length room.new ≡ length room.old }
+    ensures read { Reads (λ _. room.new) (fields.bytes (length room.old)) (drawn (R.given source.old) (R.ended source.old) (R.tally source.old).failures) result (drawn (R.given source.new) (R.ended source.new) (R.tally source.new).failures) }
+{
+    let mut filled = 0;
+    while filled < room.len() {
+        match read_some(source, &mut room[filled..]) {
+            Ok(0) => return Err(LoadFault::Truncated),
+            Ok(count) => filled += count,
+            Err(_) => return Err(LoadFault::Read),
+        }
+    }
+    Ok(())
+}
