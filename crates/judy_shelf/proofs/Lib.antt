@@ -3,3 +3,4 @@ pub mod WriteLemmas
 pub mod WalkLemmas
 pub mod DumpParts
 pub mod ReadLemmas
+pub mod Rooms
