@@ -4,3 +4,4 @@ pub mod WalkLemmas
 pub mod DumpParts
 pub mod ReadLemmas
 pub mod Rooms
+pub mod NumberLemmas

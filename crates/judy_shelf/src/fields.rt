@@ -23,3 +23,33 @@ pub(crate) fn read_bytes<R: Source>(source: &mut R, room: &mut [u8]) -> Result<(
     }
     Ok(())
 }
+
+// Reads a number of one byte.
+pub(crate) fn read_u8<R: Source>(source: &mut R) -> Result<u8, LoadFault>
+    requires { (R.tally source.old).failures < 2 ^ 64 - 1 }
+    ensures { Reads (λ number. number) (fields.number 1) (drawn (R.given source.old) (R.ended source.old) (R.tally source.old).failures) result (drawn (R.given source.new) (R.ended source.new) (R.tally source.new).failures) }
+{
+    let mut bytes = [0; 1];
+    read_bytes(source, &mut bytes)?;
+    Ok(bytes[0])
+}
+
+// Reads a number of four bytes, the highest first.
+pub(crate) fn read_u32<R: Source>(source: &mut R) -> Result<u32, LoadFault>
+    requires { (R.tally source.old).failures < 2 ^ 64 - 1 }
+    ensures { Reads (λ number. number) (fields.number 4) (drawn (R.given source.old) (R.ended source.old) (R.tally source.old).failures) result (drawn (R.given source.new) (R.ended source.new) (R.tally source.new).failures) }
+{
+    let mut bytes = [0; 4];
+    read_bytes(source, &mut bytes)?;
+    Ok(u32::from_be_bytes(bytes))
+}
+
+// Reads a number of eight bytes, the highest first.
+pub(crate) fn read_u64<R: Source>(source: &mut R) -> Result<u64, LoadFault>
+    requires { (R.tally source.old).failures < 2 ^ 64 - 1 }
+    ensures { Reads (λ number. number) (fields.number 8) (drawn (R.given source.old) (R.ended source.old) (R.tally source.old).failures) result (drawn (R.given source.new) (R.ended source.new) (R.tally source.new).failures) }
+{
+    let mut bytes = [0; 8];
+    read_bytes(source, &mut bytes)?;
+    Ok(u64::from_be_bytes(bytes))
+}
