@@ -27,11 +27,14 @@ is_kind kind = nat_lt 0 kind && nat_le kind 4
 abbrev pub is_limit : ℕ → Bool
 is_limit limit = nat_lt 0 limit && nat_le limit 4294967295
 
--- A name isn't that of an array before it.
+-- What a name must be: it isn't that of an array before it.
+abbrev pub name_checks : Store → List ((List ℕ → Bool) × Fault)
+name_checks earlier = (list_all is_name_byte, bad_name) ∷ (is_new earlier, same_name) ∷ []
+
 abbrev pub name : Store → Part (List ℕ)
 name earlier = do
   length ← field (number 1) ((is_name_length, bad_name) ∷ [])
-  field (bytes length) ((list_all is_name_byte, bad_name) ∷ (is_new earlier, same_name) ∷ [])
+  field (bytes length) (name_checks earlier)
 
 abbrev pub kind : Part ℕ
 kind = field (number 1) ((is_kind, bad_kind) ∷ [])

@@ -5,3 +5,4 @@ pub mod DumpParts
 pub mod ReadLemmas
 pub mod Rooms
 pub mod NumberLemmas
+pub mod HeadLemmas

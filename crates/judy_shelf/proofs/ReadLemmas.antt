@@ -106,3 +106,92 @@ module _ {A : Type 0} (part : Part A) (value : A) (before after : Drawn) (read :
     bytes = read.bytes;
     stops = (read.failures, λ more. ap (λ r. followed_by r (checked ((test, fault) ∷ checks))) (read.gives more) ∙ ap (λ b. cond b (checked checks value more) (Err fault)) fails)
   }
+
+-- ---- a whole of which a part is read
+
+-- So far these bytes were read of a whole, and the rest is to come.
+pub record Reading {A : Type 0} (whole rest : Part A) (before now : Drawn) : Type 0 where
+  pub input : List ℕ
+  pub given : now.given ≡ grown before.given input
+  pub bytes : IsByteString input
+  pub failures : now.failures ≡ before.failures
+  pub goes : (more : List ℕ) → whole (input ++ more) ≡ rest more
+
+-- At first all is to come.
+pub reading_none : {A : Type 0} (whole : Part A) (now : Drawn) → Reading whole whole now now
+reading_none whole now = record { input = []; given = sym (grown_nothing now.given); bytes = All-nil (λ byte. byte < 256); failures = refl; goes = λ more. refl }
+
+module _ {A B : Type 0} (whole : Part B) (before mid after : Drawn) where
+  -- The next part is read.
+  pub reading_value : (part : Part A) (rest : A → Part B) (value : A) → Reading whole (part >>= rest) before mid → ReadsValue part value mid after → Reading whole (rest value) before after
+  reading_value part rest value far next = record {
+    input = far.input ++ next.input;
+    given = next.given ∙ ap (λ known. grown known next.input) far.given ∙ grown-grown before.given far.input next.input;
+    bytes = All-append (λ byte. byte < 256) far.input next.input far.bytes next.bytes;
+    failures = next.failures ∙ far.failures;
+    goes = λ more. ap whole (append_assoc far.input next.input more) ∙ far.goes (next.input ++ more) ∙ ap (λ r. followed_by r rest) (next.gives more)
+  }
+
+module _ {B : Type 0} (whole : Part B) where
+  -- What is to come, told in another way.
+  pub reading_told : (rest other : Part B) (before now : Drawn) → ((more : List ℕ) → rest more ≡ other more) → Reading whole rest before now → Reading whole other before now
+  reading_told rest other before now same far = record { input = far.input; given = far.given; bytes = far.bytes; failures = far.failures; goes = λ more. far.goes more ∙ same more }
+
+  -- Nothing is to come.
+  pub reading_end : (value : B) (before now : Drawn) → Reading whole (done value) before now → ReadsValue whole value before now
+  reading_end value before now far = record { input = far.input; given = far.given; bytes = far.bytes; failures = far.failures; gives = far.goes }
+
+  module _ (rest : Part B) (before mid after : Drawn) (far : Reading whole rest before mid) where
+    far_more : (input more : List ℕ) → whole ((far.input ++ input) ++ more) ≡ rest (input ++ more)
+    far_more input more = ap whole (append_assoc far.input input more) ∙ far.goes (input ++ more)
+
+    far_stops : (input : List ℕ) (cause : Cause) → Stops rest input mid after cause → Stops whole (far.input ++ input) before after cause
+    far_stops input reader stops = stops ∙ ap (λ n. n + 1) far.failures
+    far_stops input memory stops = stops ∙ far.failures
+    far_stops input cut stops = (stops.0 ∙ far.failures, stops.1, far.goes input ∙ stops.2)
+    far_stops input kind stops =
+        (stops.0 ∙ far.failures, elim stops.1 [
+          | inl faulty ↦ inl (λ more. far_more input more ∙ faulty more)
+          | inr ends ↦ inr (far.input ++ ends.0, elim ends.1 [
+            | inl three ↦ inl (ap (λ t. far.input ++ t) three ∙ sym (append_assoc far.input ends.0 (3 ∷ [])))
+            | inr four ↦ inr (ap (λ t. far.input ++ t) four ∙ sym (append_assoc far.input ends.0 (4 ∷ [])))
+          ])
+        ])
+    far_stops input (told fault) stops = (stops.0 ∙ far.failures, λ more. far_more input more ∙ stops.1 more)
+
+    -- What stops the rest stops the whole.
+    pub reading_fault : (cause : Cause) → ReadsFault rest cause mid after → ReadsFault whole cause before after
+    reading_fault cause next = record {
+      input = far.input ++ next.input;
+      given = next.given ∙ ap (λ known. grown known next.input) far.given ∙ grown-grown before.given far.input next.input;
+      bytes = All-append (λ byte. byte < 256) far.input next.input far.bytes next.bytes;
+      stops = far_stops next.input cause next.stops
+    }
+
+    pub reading_result : {X : Type 0} (view : X → B) (result : Result X LoadFault) → Reads view rest mid result after → Reads view whole before result after
+    reading_result view (Ok value) next = record {
+      input = far.input ++ next.input;
+      given = next.given ∙ ap (λ known. grown known next.input) far.given ∙ grown-grown before.given far.input next.input;
+      bytes = All-append (λ byte. byte < 256) far.input next.input far.bytes next.bytes;
+      failures = next.failures ∙ far.failures;
+      gives = λ more. far_more next.input more ∙ next.gives more
+    }
+    reading_result view (Err fault) next = reading_fault (cause_of fault) next
+
+-- Want of memory behind what was read.
+pub reading_memory : {A : Type 0} (whole rest : Part A) (before now : Drawn) → Reading whole rest before now → ReadsFault whole memory before now
+reading_memory whole rest before now far = record { input = far.input; given = far.given; bytes = far.bytes; stops = far.failures }
+
+-- ---- two checks
+
+module _ {A : Type 0} (part : Part A) (value : A) (before after : Drawn) (read : ReadsValue part value before after) (one two : A → Bool) (fault other : Fault) (first : one value ≡ true) where
+  twice : (more : List ℕ) → field part ((one, fault) ∷ (two, other) ∷ []) (read.input ++ more) ≡ cond (two value) (Ok (value, more)) (Err other)
+  twice more = ap (λ r. followed_by r (checked ((one, fault) ∷ (two, other) ∷ []))) (read.gives more) ∙ ap (λ b. cond b (cond (two value) (Ok (value, more)) (Err other)) (Err fault)) first
+
+  -- A value that passes both.
+  pub value_passes_both : two value ≡ true → ReadsValue (field part ((one, fault) ∷ (two, other) ∷ [])) value before after
+  value_passes_both second = record { input = read.input; given = read.given; bytes = read.bytes; failures = read.failures; gives = λ more. twice more ∙ ap (λ b. cond b (Ok (value, more)) (Err other)) second }
+
+  -- A value that doesn't pass the second.
+  pub value_fails_second : two value ≡ false → ReadsFault (field part ((one, fault) ∷ (two, other) ∷ [])) (told other) before after
+  value_fails_second second = record { input = read.input; given = read.given; bytes = read.bytes; stops = (read.failures, λ more. twice more ∙ ap (λ b. cond b (Ok (value, more)) (Err other)) second) }

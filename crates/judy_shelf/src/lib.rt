@@ -10,6 +10,7 @@ mod dumps;
 mod error;
 mod fault;
 mod fields;
+mod head;
 mod kind;
 mod name;
 mod shelf;
