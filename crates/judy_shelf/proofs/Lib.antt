@@ -6,3 +6,4 @@ pub mod ReadLemmas
 pub mod Rooms
 pub mod NumberLemmas
 pub mod HeadLemmas
+pub mod EntryReads

@@ -1,6 +1,6 @@
 //! What stands before an array's keys in a dump, read field by field, each checked as soon as it is read.
 
-ghost use Rattle.std.specs.Prelude.{◌≡◌, ◌<◌, ◌≤◌, ◌-◌, ◌^◌, ◌∷◌, [], ◌≢◌, IfOk, MatchOption, length};
+ghost use Rattle.std.specs.Prelude.{◌≡◌, ◌<◌, ◌≤◌, ◌-◌, ◌^◌, ◌∷◌, [], ◌≢◌, IfOk, IsTrue, MatchOption, length};
 ghost use Rattle.judy_model.specs.Fields.{field, number, bytes, bad_name, bad_limit, bad_count, bad_order};
 ghost use Rattle.judy_model.specs.Keys.{word_order};
 ghost use Rattle.judy_model.specs.DumpGrammar as grammar;
@@ -109,7 +109,8 @@ pub(crate) fn read_key_count<R: Source>(source: &mut R, limit: u64) -> Result<u6
 // Reads a word that is greater than the one before, if there is one.
 pub(crate) fn read_word_after<R: Source>(source: &mut R, before: Option<u64>) -> Result<u64, LoadFault>
     requires { (R.tally source.old).failures < 2 ^ 64 - 1 }
-    ensures { Reads (λ word. word) (field grammar.word ((is_above word_order before, bad_order) ∷ [])) (drawn (R.given source.old) (R.ended source.old) (R.tally source.old).failures) result (drawn (R.given source.new) (R.ended source.new) (R.tally source.new).failures) }
+    ensures above { IfOk result (λ word. IsTrue (is_above word_order before word)) }
+    ensures read { Reads (λ word. word) (field grammar.word ((is_above word_order before, bad_order) ∷ [])) (drawn (R.given source.old) (R.ended source.old) (R.tally source.old).failures) result (drawn (R.given source.new) (R.ended source.new) (R.tally source.new).failures) }
 {
     let word = read_u64(source)?;
     match before {

@@ -12,6 +12,7 @@ mod fault;
 mod fields;
 mod head;
 mod kind;
+mod loads;
 mod name;
 mod shelf;
 mod write;
