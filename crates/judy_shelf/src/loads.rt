@@ -4,11 +4,15 @@ ghost use Rattle.std.specs.Prelude.{◌<◌, ◌≤◌, ◌-◌, ◌^◌, None};
 ghost use Rattle.judy_model.specs.Arrays.{judy1, judyl};
 ghost use Rattle.judy_model.specs.Keys.{word_order};
 ghost use Rattle.judy_model.specs.DumpGrammar as grammar;
+ghost use Rattle.judy_shelf.specs.Arrays.{value_of};
 ghost use Rattle.judy_shelf.specs.Reads.{drawn, Reads};
+ghost use Rattle.judy_shelf.specs.Writes.{kind_number};
 
+use crate::array::Array;
 use crate::fault::LoadFault;
 use crate::fields::read_u64;
-use crate::head::read_word_after;
+use crate::head::{read_key_count, read_kind, read_limit, read_word_after};
+use crate::kind::Kind;
 use judy_pipe::Source;
 use judy_word::{Judy1, JudyL};
 use std::alloc::Global;
@@ -51,4 +55,28 @@ fn read_words<R: Source>(alloc: Global, source: &mut R, limit: u64, count: u64) 
         before = Some(key);
     }
     Ok(words)
+}
+
+// Reads what stands behind an array's name.
+fn read_body<R: Source>(alloc: Global, source: &mut R) -> Result<Array, LoadFault>
+    requires { (R.tally source.old).failures < 2 ^ 64 - 1 }
+    ensures { Reads value_of grammar.body (drawn (R.given source.old) (R.ended source.old) (R.tally source.old).failures) result (drawn (R.given source.new) (R.ended source.new) (R.tally source.new).failures) }
+{
+    let kind = read_kind(source)?;
+    let limit = read_limit(source)?;
+    let count = read_key_count(source, limit)?;
+    read_contents(alloc, source, kind, limit, count)
+}
+
+// Reads the keys of an array of a kind, so many.
+fn read_contents<R: Source>(alloc: Global, source: &mut R, kind: Kind, limit: u64, count: u64) -> Result<Array, LoadFault>
+    requires below { (R.tally source.old).failures < 2 ^ 64 - 1 }
+    requires some { 1 ≤ limit }
+    requires most { limit ≤ 4294967295 }
+    ensures { Reads value_of (grammar.contents (kind_number kind) limit count) (drawn (R.given source.old) (R.ended source.old) (R.tally source.old).failures) result (drawn (R.given source.new) (R.ended source.new) (R.tally source.new).failures) }
+{
+    match kind {
+        Kind::Judy1 => Ok(Array::Judy1(read_set(alloc, source, limit, count)?)),
+        Kind::JudyL => Ok(Array::JudyL(read_words(alloc, source, limit, count)?)),
+    }
 }
