@@ -1,10 +1,11 @@
 //! What stands before an array's keys in a dump, read field by field, each checked as soon as it is read.
 
-ghost use Rattle.std.specs.Prelude.{◌≡◌, ◌<◌, ◌≤◌, ◌-◌, ◌^◌, ◌∷◌, [], ◌≢◌, IfOk, IsTrue, MatchOption, length};
+ghost use Rattle.std.specs.Prelude.{◌≡◌, ◌<◌, ◌≤◌, ◌-◌, ◌^◌, ◌∷◌, [], ◌≢◌, IfOk, IsTrue, MatchOption, None, length};
 ghost use Rattle.judy_model.specs.Fields.{field, number, bytes, bad_name, bad_limit, bad_count, bad_order};
 ghost use Rattle.judy_model.specs.Keys.{word_order};
 ghost use Rattle.judy_model.specs.DumpGrammar as grammar;
 ghost use Rattle.judy_model.specs.DumpGrammar.{is_name_length, is_limit, is_above, name_checks};
+ghost use Rattle.judy_model.specs.Stores.{array_named};
 ghost use Rattle.judy_shelf.specs.Shelves.{store_of};
 ghost use Rattle.judy_shelf.specs.Writes.{kind_number};
 ghost use Rattle.judy_shelf.specs.Reads.{drawn, Reads};
@@ -36,7 +37,8 @@ fn read_name_len<R: Source>(source: &mut R) -> Result<u8, LoadFault>
 // Reads a name that no array on the shelf has.
 pub(crate) fn read_name<R: Source>(source: &mut R, shelf: &Shelf) -> Result<Name, LoadFault>
     requires { (R.tally source.old).failures < 2 ^ 64 - 1 }
-    ensures { Reads (λ name. name) (grammar.name (store_of shelf.now)) (drawn (R.given source.old) (R.ended source.old) (R.tally source.old).failures) result (drawn (R.given source.new) (R.ended source.new) (R.tally source.new).failures) }
+    ensures new { IfOk result (λ name. array_named shelf.now name ≡ None) }
+    ensures read { Reads (λ name. name) (grammar.name (store_of shelf.now)) (drawn (R.given source.old) (R.ended source.old) (R.tally source.old).failures) result (drawn (R.given source.new) (R.ended source.new) (R.tally source.new).failures) }
 {
     let len = read_name_len(source)? as usize;
     let mut buffer = [0; MAX_NAME_LEN];
@@ -48,7 +50,8 @@ fn read_name_text<R: Source>(source: &mut R, shelf: &Shelf, text: &mut [u8]) -> 
     requires below { (R.tally source.old).failures < 2 ^ 64 - 1 }
     requires some { 1 ≤ length text.old }
     requires most { length text.old ≤ 32 }
-    ensures { Reads (λ name. name) (field (bytes (length text.old)) (name_checks (store_of shelf.now))) (drawn (R.given source.old) (R.ended source.old) (R.tally source.old).failures) result (drawn (R.given source.new) (R.ended source.new) (R.tally source.new).failures) }
+    ensures new { IfOk result (λ name. array_named shelf.now name ≡ None) }
+    ensures read { Reads (λ name. name) (field (bytes (length text.old)) (name_checks (store_of shelf.now))) (drawn (R.given source.old) (R.ended source.old) (R.tally source.old).failures) result (drawn (R.given source.new) (R.ended source.new) (R.tally source.new).failures) }
 {
     read_bytes(source, text)?;
     let name = Name::new(text).ok_or(LoadFault::BadName)?;

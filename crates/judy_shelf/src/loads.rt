@@ -1,18 +1,22 @@
 //! A shelf from bytes.
 
-ghost use Rattle.std.specs.Prelude.{◌<◌, ◌≤◌, ◌-◌, ◌^◌, None};
+ghost use Rattle.std.specs.Prelude.{◌<◌, ◌≤◌, ◌-◌, ◌^◌, ◌≡◌, [], None, IfOk};
 ghost use Rattle.judy_model.specs.Arrays.{judy1, judyl};
 ghost use Rattle.judy_model.specs.Keys.{word_order};
 ghost use Rattle.judy_model.specs.DumpGrammar as grammar;
+ghost use Rattle.judy_model.specs.Stores.{array_named};
 ghost use Rattle.judy_shelf.specs.Arrays.{value_of};
+ghost use Rattle.judy_shelf.specs.Shelves.{store_of};
 ghost use Rattle.judy_shelf.specs.Reads.{drawn, Reads};
 ghost use Rattle.judy_shelf.specs.Writes.{kind_number};
 
 use crate::array::Array;
 use crate::fault::LoadFault;
 use crate::fields::read_u64;
-use crate::head::{read_key_count, read_kind, read_limit, read_word_after};
+use crate::head::{read_key_count, read_kind, read_limit, read_name, read_word_after};
 use crate::kind::Kind;
+use crate::name::Name;
+use crate::shelf::Shelf;
 use judy_pipe::Source;
 use judy_word::{Judy1, JudyL};
 use std::alloc::Global;
@@ -79,4 +83,32 @@ fn read_contents<R: Source>(alloc: Global, source: &mut R, kind: Kind, limit: u6
         Kind::Judy1 => Ok(Array::Judy1(read_set(alloc, source, limit, count)?)),
         Kind::JudyL => Ok(Array::JudyL(read_words(alloc, source, limit, count)?)),
     }
+}
+
+// Reads an array whose name no array on the shelf has.
+fn read_array<R: Source>(alloc: Global, source: &mut R, shelf: &Shelf) -> Result<(Name, Array), LoadFault>
+    requires { (R.tally source.old).failures < 2 ^ 64 - 1 }
+    ensures new { IfOk result (λ made. array_named shelf.now made.0 ≡ None) }
+    ensures read { Reads (λ made. (made.0, value_of made.1)) (grammar.array (store_of shelf.now)) (drawn (R.given source.old) (R.ended source.old) (R.tally source.old).failures) result (drawn (R.given source.new) (R.ended source.new) (R.tally source.new).failures) }
+{
+    let name = read_name(source, shelf)?;
+    let array = read_body(alloc, source)?;
+    Ok((name, array))
+}
+
+// Reads so many arrays.
+fn read_arrays<R: Source>(alloc: Global, source: &mut R, count: u32) -> Result<Shelf, LoadFault>
+    requires below { (R.tally source.old).failures < 2 ^ 64 - 1 }
+    requires few { count ≤ 64 }
+    ensures { Reads store_of (grammar.arrays [] count) (drawn (R.given source.old) (R.ended source.old) (R.tally source.old).failures) result (drawn (R.given source.new) (R.ended source.new) (R.tally source.new).failures) }
+{
+    let mut shelf = Shelf::new(alloc);
+    'arrays: for _ in 0..count {
+        let (name, array) = read_array(alloc, source, &shelf)?;
+        match shelf.add(name, array) {
+            Ok(()) => {}
+            Err(_) => return Err(LoadFault::NoMemory),
+        }
+    }
+    Ok(shelf)
 }

@@ -4,8 +4,8 @@ use Rattle.judy_shelf.specs.Reads.{drawn}
 use Rattle.judy_shelf.proofs.HeadLemmas.{named, new_is, name_is_new, name_is_taken}
 use Rattle.judy_shelf.proofs.head.read_name_text.Goals as goal
 
-pub returns-then-is_some : goal.returns-then-is_some
-returns-then-is_some g c =
+pub returns-then-is_some-clause-read : goal.returns-then-is_some-clause-read
+returns-then-is_some-clause-read g c =
     let before = drawn (g.R.Source.given c.args.source.now) (g.R.Source.ended c.args.source.now) (g.R.Source.tally c.args.source.now).failures in
     let after = drawn (g.R.Source.given c.read_bytes.new.source) (g.R.Source.ended c.read_bytes.new.source) (g.R.Source.tally c.read_bytes.new.source).failures in
     let text = c.read_bytes.new.room in
@@ -14,8 +14,8 @@ returns-then-is_some g c =
     name_is_taken c.args.shelf.now (length c.args.text.now) text name before after c.in_ok-read_bytes.ensures.read is.0 is.1
     (new_is c.args.shelf.now name c.get.result c.get.ensures ∙ ap not (sym c.if-is_some.ensures))
 
-pub returns : goal.returns
-returns g c =
+pub returns-clause-read : goal.returns-clause-read
+returns-clause-read g c =
     let before = drawn (g.R.Source.given c.args.source.now) (g.R.Source.ended c.args.source.now) (g.R.Source.tally c.args.source.now).failures in
     let after = drawn (g.R.Source.given c.read_bytes.new.source) (g.R.Source.ended c.read_bytes.new.source) (g.R.Source.tally c.read_bytes.new.source).failures in
     let text = c.read_bytes.new.room in
