@@ -123,11 +123,19 @@ arrays earlier (suc count) = do
   next ← array earlier
   arrays (with_new_array earlier next.0 next.1) count
 
+-- The first bytes, which name the format.
+abbrev pub begins : Part (List ℕ)
+begins = field (bytes 4) ((bytes_eq magic, bad_magic) ∷ [])
+
+-- How many arrays follow.
+abbrev pub array_count : Part ℕ
+array_count = field (number 4) (((λ count. nat_le count 64), too_many) ∷ [])
+
 -- All of the bytes.
 abbrev pub store : Part Store
 store = do
-  _ ← field (bytes 4) ((bytes_eq magic, bad_magic) ∷ [])
-  count ← field (number 4) (((λ count. nat_le count 64), too_many) ∷ [])
+  _ ← begins
+  count ← array_count
   made ← arrays [] count
   _ ← end
   done made

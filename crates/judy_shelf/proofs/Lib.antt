@@ -7,3 +7,4 @@ pub mod Rooms
 pub mod NumberLemmas
 pub mod HeadLemmas
 pub mod EntryReads
+pub mod ArrayReads

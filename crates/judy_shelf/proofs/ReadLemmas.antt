@@ -14,7 +14,7 @@ use Rattle.judy_shelf.proofs.WriteLemmas.{grown_nothing}
 
 module _ {A B : Type 0} (part : Part A) (other : Part B) (input : List ℕ) (before after : Drawn) (same : (read : List ℕ) (fault : Fault) → part read ≡ Err fault → other read ≡ Err fault) where
   -- What stops a part stops all that begins with it.
-  stops_too : (cause : Cause) → Stops part input before after cause → Stops other input before after cause
+  pub stops_too : (cause : Cause) → Stops part input before after cause → Stops other input before after cause
   stops_too reader stops = stops
   stops_too memory stops = stops
   stops_too cut stops = (stops.0, stops.1, same input truncated stops.2)

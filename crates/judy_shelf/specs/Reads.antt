@@ -1,11 +1,15 @@
 -- What a source gave where a part of a dump was read from it, and what is known of the part.
 use Rattle.std.specs.Prelude.{◌≡◌, ℕ, ◌+◌, ◌⊎◌, Bool, true, List, [], ◌∷◌, ◌++◌, Option, IfSome, Result, Ok, Err}
 use Rattle.judy_model.specs.Keys.{IsByteString}
+use Rattle.judy_model.specs.Stores.{Store, IsStore, IsRegular}
 use Rattle.judy_model.specs.Fields as fields
-use Rattle.judy_model.specs.Fields.{Fault, Part}
+use Rattle.judy_model.specs.Fields.{Fault, Part, ◌>>=◌}
+use Rattle.judy_model.specs.DumpGrammar as grammar
+use Rattle.judy_model.specs.DumpGrammar.{IsDump}
 use Rattle.judy_pipe.specs.Pipe.{grown}
 use Rattle.judy_shelf.specs.declared.fault.LoadFault.{LoadFault}
 use Rattle.judy_shelf.specs.declared.fault.LoadFault.TheVariants as load
+use Rattle.judy_shelf.specs.Shelves.{Entries, store_of}
 
 -- What a source tells: the bytes that it gave and whether it ended, where it tells them, and how often it failed.
 pub record Drawn : Type 0 where
@@ -79,3 +83,33 @@ pub record ReadsFault {A : Type 0} (part : Part A) (cause : Cause) (before after
 abbrev pub Reads : {X A : Type 0} → (X → A) → Part A → Drawn → Result X LoadFault → Drawn → Type 0
 Reads view part before (Ok value) after = ReadsValue part (view value) before after
 Reads view part before (Err fault) after = ReadsFault part (cause_of fault) before after
+
+-- The end was met where one more byte was asked for; or one came, or the source failed.
+abbrev pub Ends : Drawn → Result (Unit {0}) LoadFault → Drawn → Type 0
+Ends before (Ok done) after = (after.given ≡ before.given) × (after.failures ≡ before.failures) × IfSome after.ended (λ ended. ended ≡ true)
+Ends before (Err fault) after = ReadsFault fields.end (cause_of fault) before after
+
+-- ---- a whole dump
+
+-- All of a dump but its end.
+abbrev pub up_to_end : Part Store
+up_to_end = do
+  _ ← grammar.begins
+  count ← grammar.array_count
+  grammar.arrays [] count
+
+-- What a source gave to its end is the dump of a store, which is one, and regular.
+pub record LoadsWhole (store : Store) (before after : Drawn) : Type 0 where
+  pub input : List ℕ
+  pub given : after.given ≡ grown before.given input
+  pub bytes : IsByteString input
+  pub failures : after.failures ≡ before.failures
+  pub ended : IfSome after.ended (λ ended. ended ≡ true)
+  pub is_dump : IsDump input store
+  pub is_store : IsStore store
+  pub is_regular : IsRegular store
+
+-- The store of a dump was loaded, or the load was stopped by the first fault of what was read.
+abbrev pub Loaded : Drawn → Result Entries LoadFault → Drawn → Type 0
+Loaded before (Ok entries) after = LoadsWhole (store_of entries) before after
+Loaded before (Err fault) after = ReadsFault grammar.store (cause_of fault) before after

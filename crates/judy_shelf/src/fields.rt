@@ -2,7 +2,7 @@
 
 ghost use Rattle.std.specs.Prelude.{◌≡◌, ◌<◌, ◌-◌, ◌^◌, length};
 ghost use Rattle.judy_model.specs.Fields as fields;
-ghost use Rattle.judy_shelf.specs.Reads.{drawn, Reads};
+ghost use Rattle.judy_shelf.specs.Reads.{drawn, Reads, Ends};
 
 use crate::fault::LoadFault;
 use judy_pipe::{Source, read_some};
@@ -52,4 +52,17 @@ pub(crate) fn read_u64<R: Source>(source: &mut R) -> Result<u64, LoadFault>
     let mut bytes = [0; 8];
     read_bytes(source, &mut bytes)?;
     Ok(u64::from_be_bytes(bytes))
+}
+
+// Asks for one more byte, where none may come.
+pub(crate) fn read_end<R: Source>(source: &mut R) -> Result<(), LoadFault>
+    requires { (R.tally source.old).failures < 2 ^ 64 - 1 }
+    ensures { Ends (drawn (R.given source.old) (R.ended source.old) (R.tally source.old).failures) result (drawn (R.given source.new) (R.ended source.new) (R.tally source.new).failures) }
+{
+    let mut room = [0; 1];
+    match read_some(source, &mut room) {
+        Ok(0) => Ok(()),
+        Ok(_) => Err(LoadFault::Trailing),
+        Err(_) => Err(LoadFault::Read),
+    }
 }

@@ -3,6 +3,7 @@
 ghost use Rattle.std.specs.Prelude.{◌≡◌, ◌<◌, ◌≤◌, ◌-◌, ◌^◌, ◌∷◌, [], ◌≢◌, IfOk, IsTrue, MatchOption, None, length};
 ghost use Rattle.judy_model.specs.Fields.{field, number, bytes, bad_name, bad_limit, bad_count, bad_order};
 ghost use Rattle.judy_model.specs.Keys.{word_order};
+ghost use Rattle.judy_model.specs.DumpText.{magic};
 ghost use Rattle.judy_model.specs.DumpGrammar as grammar;
 ghost use Rattle.judy_model.specs.DumpGrammar.{is_name_length, is_limit, is_above, name_checks};
 ghost use Rattle.judy_model.specs.Stores.{array_named};
@@ -11,7 +12,7 @@ ghost use Rattle.judy_shelf.specs.Writes.{kind_number};
 ghost use Rattle.judy_shelf.specs.Reads.{drawn, Reads};
 
 use crate::fault::LoadFault;
-use crate::fields::{read_bytes, read_u8, read_u64};
+use crate::fields::{read_bytes, read_u8, read_u32, read_u64};
 use crate::kind::Kind;
 use crate::name::Name;
 use crate::shelf::{MAX_LIMIT, Shelf};
@@ -19,6 +20,32 @@ use judy_pipe::Source;
 
 // The most bytes of a name. (This project's own.)
 const MAX_NAME_LEN: usize = 32;
+
+// Reads the first bytes of every dump.
+pub(crate) fn read_magic<R: Source>(source: &mut R) -> Result<(), LoadFault>
+    requires { (R.tally source.old).failures < 2 ^ 64 - 1 }
+    ensures { Reads (λ _. magic) grammar.begins (drawn (R.given source.old) (R.ended source.old) (R.tally source.old).failures) result (drawn (R.given source.new) (R.ended source.new) (R.tally source.new).failures) }
+{
+    let mut bytes = [0; 4];
+    read_bytes(source, &mut bytes)?;
+    if bytes != *b"JDY1" {
+        return Err(LoadFault::BadMagic);
+    }
+    Ok(())
+}
+
+// Reads how many arrays follow.
+pub(crate) fn read_array_count<R: Source>(source: &mut R) -> Result<u32, LoadFault>
+    requires { (R.tally source.old).failures < 2 ^ 64 - 1 }
+    ensures few { IfOk result (λ count. count ≤ 64) }
+    ensures read { Reads (λ count. count) grammar.array_count (drawn (R.given source.old) (R.ended source.old) (R.tally source.old).failures) result (drawn (R.given source.new) (R.ended source.new) (R.tally source.new).failures) }
+{
+    let count = read_u32(source)?;
+    if count > 64 {
+        return Err(LoadFault::TooMany);
+    }
+    Ok(count)
+}
 
 // Reads how long a name is.
 fn read_name_len<R: Source>(source: &mut R) -> Result<u8, LoadFault>

@@ -22,5 +22,6 @@ pub use dumps::dump;
 pub use error::MakeError;
 pub use fault::{DumpFault, LoadFault};
 pub use kind::Kind;
+pub use loads::load;
 pub use name::Name;
 pub use shelf::{MAX_ARRAYS, MAX_LIMIT, Shelf};

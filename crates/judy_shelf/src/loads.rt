@@ -7,19 +7,49 @@ ghost use Rattle.judy_model.specs.DumpGrammar as grammar;
 ghost use Rattle.judy_model.specs.Stores.{array_named};
 ghost use Rattle.judy_shelf.specs.Arrays.{value_of};
 ghost use Rattle.judy_shelf.specs.Shelves.{store_of};
-ghost use Rattle.judy_shelf.specs.Reads.{drawn, Reads};
+ghost use Rattle.judy_shelf.specs.Reads.{drawn, up_to_end, Reads, Loaded};
 ghost use Rattle.judy_shelf.specs.Writes.{kind_number};
 
 use crate::array::Array;
 use crate::fault::LoadFault;
-use crate::fields::read_u64;
-use crate::head::{read_key_count, read_kind, read_limit, read_name, read_word_after};
+use crate::fields::{read_end, read_u64};
+use crate::head::{read_array_count, read_key_count, read_kind, read_limit, read_magic, read_name, read_word_after};
 use crate::kind::Kind;
 use crate::name::Name;
 use crate::shelf::Shelf;
 use judy_pipe::Source;
 use judy_word::{Judy1, JudyL};
 use std::alloc::Global;
+
+/// Reads a dump in the format JDY1 (this project's own) from its first byte to the end of the source, and gives
+/// the shelf that it is a dump of.
+///
+/// At Ok what the source gave in the call is the dump of the shelf's store, which is regular, and its last read
+/// gave the end. Every other answer is the first fault in the order of the fields: what the source gave has that
+/// fault, whatever came after it, and `Truncated` comes only where its last read gave the end. `Read` comes only
+/// where the source failed, which it then did once; `NoMemory` where there is none for an array or a key. A kind
+/// that shelves don't have yet, that of judysl or judyhs, is `BadKind`. No byte is asked for beyond the fields,
+/// but for the one that is `Trailing`, so that a source that never ends is left.
+///
+/// Memory is asked for by the keys that were read, one after another, and never by a number that the bytes say.
+pub fn load<R: Source>(alloc: Global, source: &mut R) -> Result<Shelf, LoadFault>
+    requires { (R.tally source.old).failures < 2 ^ 64 - 1 }
+    ensures { Loaded (drawn (R.given source.old) (R.ended source.old) (R.tally source.old).failures) result (drawn (R.given source.new) (R.ended source.new) (R.tally source.new).failures) }
+{
+    let shelf = read_store(alloc, source)?;
+    read_end(source)?;
+    Ok(shelf)
+}
+
+// Reads all of a dump but its end.
+fn read_store<R: Source>(alloc: Global, source: &mut R) -> Result<Shelf, LoadFault>
+    requires { (R.tally source.old).failures < 2 ^ 64 - 1 }
+    ensures { Reads store_of up_to_end (drawn (R.given source.old) (R.ended source.old) (R.tally source.old).failures) result (drawn (R.given source.new) (R.ended source.new) (R.tally source.new).failures) }
+{
+    read_magic(source)?;
+    let count = read_array_count(source)?;
+    read_arrays(alloc, source, count)
+}
 
 // Reads the keys of a set, so many.
 fn read_set<R: Source>(alloc: Global, source: &mut R, limit: u64, count: u64) -> Result<Judy1, LoadFault>
