@@ -1,16 +1,16 @@
 -- Arrays that are read one after another, and the whole of a dump.
-use Rattle.std.proofs.Common.{◌≡◌, ℕ, suc, List, [], ◌∷◌, ◌++◌, Bool, true, IfSome, Result, Ok, Err, refl, sym, ap, subst, ◌∙◌, append-nil, All}
-use Rattle.std.specs.Prelude.{bytes_eq}
+use Rattle.std.proofs.Common.{◌≡◌, ℕ, suc, List, [], true, IfSome, Result, Ok, Err, refl, sym, ap, subst, ◌∙◌, append-nil}
 use Rattle.judy_model.specs.Arrays.{ArrayValue}
-use Rattle.judy_model.specs.Stores.{Store, IsStore, IsRegular, with_new_array}
-use Rattle.judy_model.specs.Fields.{Fault, trailing, Part, followed_by, ◌>>=◌, done, end, value_of}
+use Rattle.judy_model.specs.Stores.{Store, with_new_array}
+use Rattle.judy_model.specs.Fields.{Fault, Part, followed_by, ◌>>=◌, done, end, value_of}
 use Rattle.judy_model.specs.DumpGrammar as grammar
 use Rattle.judy_model.specs.DumpGrammar.{IsDump}
 use Rattle.judy_model.proofs.DumpLemmas.{dump_back}
-use Rattle.judy_pipe.specs.Pipe.{grown}
-use Rattle.judy_pipe.proofs.Moves.{grown-grown}
-use Rattle.judy_shelf.specs.Reads.{Drawn, Cause, reader, told, ReadsValue, ReadsFault, up_to_end, LoadsWhole}
-use Rattle.judy_shelf.proofs.ReadLemmas.{stops_too, fault_first, fault_then, Reading, reading_value, reading_fault, reading_told}
+use Rattle.judy_shelf.specs.Reads.{Drawn, Cause, ReadsValue, ReadsFault, up_to_end, LoadsWhole, Loaded, cause_of}
+use Rattle.std.specs.Result.{IsErrAnd}
+use Rattle.judy_shelf.specs.declared.fault.LoadFault.{LoadFault}
+use Rattle.judy_shelf.specs.Shelves.{Entries}
+use Rattle.judy_shelf.proofs.ReadLemmas.{stops_too, fault_first, fault_then, Reading, reading_value, reading_fault}
 
 module _ (all : Part Store) (made : Store) (left n : ℕ) (is : left ≡ suc n) (before mid after : Drawn) (far : Reading all (grammar.arrays made left) before mid) where
   arrays_far : Reading all (grammar.arrays made (suc n)) before mid
@@ -58,3 +58,8 @@ module _ (store : Store) (before mid after : Drawn) (first : ReadsValue up_to_en
   -- What stops the reading behind the arrays stops the whole.
   pub loads_fault : (cause : Cause) → ReadsFault end cause mid after → ReadsFault grammar.store cause before after
   loads_fault cause read = told_whole before after cause (fault_then up_to_end at_last store before mid first cause after (fault_first end (λ _. done store) cause mid after read))
+
+-- What is answered where the load was stopped.
+pub loaded_err : (before after : Drawn) (fault : LoadFault) (result : Result Entries LoadFault) → IsErrAnd result (λ told. told ≡ fault) → ReadsFault grammar.store (cause_of fault) before after → Loaded before result after
+loaded_err before after fault (Ok entries) is read = absurd is
+loaded_err before after fault (Err other) is read = subst (λ f. ReadsFault grammar.store (cause_of f) before after) (sym is) read

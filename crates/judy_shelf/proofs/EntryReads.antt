@@ -1,16 +1,16 @@
 -- Entries that are read one after another into a map.
-use Rattle.std.proofs.Common.{◌≡◌, ℕ, suc, ◌-◌, Bool, true, false, cond, IsTrue, List, [], ◌∷◌, ◌++◌, Option, Some, None, Result, Ok, Err, is_some, refl, sym, ap, subst, ◌∙◌, append_assoc, append-nil, Less, Equal, Greater}
+use Rattle.std.proofs.Common.{◌≡◌, ℕ, suc, true, false, cond, IsTrue, List, [], ◌∷◌, ◌++◌, Option, Some, None, Result, Ok, Err, refl, sym, ap, subst, ◌∙◌, append_assoc, append-nil, Less, Equal, Greater}
 use Rattle.std.specs.declared.cmp.Ordering.{Ordering}
 use Rattle.std.specs.Ordering.{is_lt, is_eq, eq_by_cmp, ordering_reverse}
 use Rattle.std.specs.Cmp.{IsTotalOrder}
-use Rattle.std.specs.FinMap.{FinMap, IsAntisymmetric, find, from_entries, from_entries_push, get, insert, get-from_entries}
+use Rattle.std.specs.FinMap.{IsAntisymmetric, find, from_entries, from_entries_push, get, insert, get-from_entries}
 use Rattle.std.specs.FinMap.Entries.{find-append}
-use Rattle.judy_model.specs.Arrays.{ArrayOf, ArrayValue, with_map, ins}
+use Rattle.judy_model.specs.Arrays.{ArrayOf, ArrayValue, ins}
 use Rattle.judy_model.specs.Fields.{Fault, bad_order, Part, field, followed_by, ◌>>=◌, done}
 use Rattle.judy_model.specs.DumpGrammar.{is_above, entry, entries, filled}
 use Rattle.judy_model.proofs.Inserts.{ins_absent}
-use Rattle.judy_shelf.specs.Reads.{Drawn, Cause, memory, ReadsValue, ReadsFault}
-use Rattle.judy_shelf.proofs.ReadLemmas.{fault_first, fault_then, value_then, value_done, Reading, reading_none, reading_value, reading_told, reading_end, reading_fault, reading_memory}
+use Rattle.judy_shelf.specs.Reads.{Drawn, Cause, ReadsValue, ReadsFault}
+use Rattle.judy_shelf.proofs.ReadLemmas.{fault_first, fault_then, value_then, value_done, Reading, reading_none, reading_value, reading_told, reading_end, reading_fault}
 
 nothing_more : {A : Type 0} (read : Result (A × List ℕ) Fault) → read ≡ followed_by read (λ value. done value)
 nothing_more (Ok given) = refl

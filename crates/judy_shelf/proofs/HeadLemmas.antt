@@ -1,5 +1,5 @@
 -- Names and kinds as they are read.
-use Rattle.std.proofs.Common.{◌≡◌, ◌≢◌, ℕ, ◌+◌, ◌<◌, ◌≤◌, ◌⊎◌, inl, inr, Bool, true, false, cond, not, ◌&&◌, leb, ltb, ◌==◌, ◌/◌, ◌%◌, List, [], ◌∷◌, ◌++◌, length, Option, Some, None, Result, Ok, Err, is_some, is_none, ok_or, MatchOption, refl, sym, ap, subst, ◌∙◌, append-nil, arith, All}
+use Rattle.std.proofs.Common.{◌≡◌, ◌≢◌, ℕ, ◌<◌, ◌≤◌, ◌⊎◌, inl, inr, Bool, true, false, cond, not, leb, ltb, ◌==◌, ◌/◌, ◌%◌, List, [], ◌∷◌, ◌++◌, length, Option, Some, None, Ok, Err, is_some, is_none, ok_or, MatchOption, refl, sym, ap, subst, ◌∙◌, append-nil, arith}
 use Rattle.std.specs.Borrow.{Bor}
 use Rattle.std.specs.Option.{option_copied, option_map}
 use Rattle.std.specs.List.{list_all}
@@ -19,7 +19,7 @@ use Rattle.judy_shelf.specs.declared.kind.Kind.TheVariants.{Judy1, JudyL}
 use Rattle.judy_shelf.specs.Arrays.{value_of}
 use Rattle.judy_shelf.specs.Shelves.{Entries, store_of}
 use Rattle.judy_shelf.specs.Writes.{kind_number}
-use Rattle.judy_shelf.specs.Reads.{Drawn, Cause, kind, told, EndsWithString, ReadsValue, ReadsFault, Reads}
+use Rattle.judy_shelf.specs.Reads.{Drawn, kind, told, ReadsValue, ReadsFault, Reads}
 use Rattle.judy_shelf.proofs.ShelfLemmas.{array_named-store_of}
 use Rattle.judy_shelf.proofs.ReadLemmas.{value_passes, value_passes_both, value_fails_second}
 

@@ -1,5 +1,5 @@
 -- Numbers as std reads them from bytes, and as the definitions do.
-use Rattle.std.proofs.Common.{◌≡◌, ℕ, ◌+◌, ◌*◌, ◌^◌, List, [], ◌∷◌, length, get_or, refl, sym, ap, subst, ◌∙◌, arith}
+use Rattle.std.proofs.Common.{◌≡◌, ℕ, List, [], ◌∷◌, length, get_or, subst, arith}
 use Rattle.std.specs.Int.{w32, w64, from_be_bytes}
 use Rattle.judy_model.specs.WordBytes.{number_of}
 use Rattle.judy_model.specs.Fields.{done, bytes, number}

@@ -1,5 +1,5 @@
 -- Parts that are read one after another.
-use Rattle.std.proofs.Common.{◌≡◌, ℕ, ◌+◌, ◌<◌, ◌⊎◌, inl, inr, Bool, true, false, cond, IsTrue, List, [], ◌∷◌, ◌++◌, Option, Some, None, Result, Ok, Err, refl, sym, ap, subst, ◌∙◌, append_assoc, append-nil, All}
+use Rattle.std.proofs.Common.{◌≡◌, ℕ, ◌+◌, ◌<◌, inl, inr, Bool, true, false, cond, List, [], ◌∷◌, ◌++◌, Result, Ok, Err, refl, sym, ap, subst, ◌∙◌, append_assoc}
 use Rattle.std.specs.Result.{IsErrAnd}
 use Rattle.std.proofs.lemmas.List.Elements.{All-nil, All-append}
 use Rattle.judy_model.specs.Keys.{IsByteString}
@@ -7,7 +7,7 @@ use Rattle.judy_model.specs.Fields.{Fault, truncated, bad_kind, Part, followed_b
 use Rattle.judy_pipe.specs.Pipe.{grown}
 use Rattle.judy_pipe.proofs.Moves.{grown-grown}
 use Rattle.judy_shelf.specs.declared.fault.LoadFault.{LoadFault}
-use Rattle.judy_shelf.specs.Reads.{Drawn, Cause, reader, memory, cut, kind, told, cause_of, IsFaulty, EndsWithString, Stops, ReadsValue, ReadsFault, Reads}
+use Rattle.judy_shelf.specs.Reads.{Drawn, Cause, reader, memory, cut, kind, told, cause_of, Stops, ReadsValue, ReadsFault, Reads}
 use Rattle.judy_shelf.proofs.WriteLemmas.{grown_nothing}
 
 -- ---- one part behind another

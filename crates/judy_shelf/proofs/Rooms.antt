@@ -1,15 +1,15 @@
 -- A room that is filled from the front.
-use Rattle.std.proofs.Common.{◌≡◌, ℕ, ◌+◌, ◌-◌, ◌<◌, ◌≤◌, Bool, true, cond, ltb, List, ◌++◌, length, get_or, take, drop, Option, Some, None, Result, Ok, Err, IfSome, refl, sym, ap, subst, ◌∙◌, arith, All}
+use Rattle.std.proofs.Common.{◌≡◌, ◌≢◌, ℕ, zero, suc, [], ◌∷◌, ◌+◌, ◌-◌, ◌<◌, ◌≤◌, Bool, true, cond, List, ◌++◌, length, get_or, take, drop, Option, Some, None, Ok, Err, IfSome, refl, sym, ap, subst, ◌∙◌, arith}
 use Rattle.std.proofs.Math.Seq.{take-add}
 use Rattle.std.proofs.lemmas.Bool.{lt-ltb, le-ltb}
-use Rattle.std.proofs.lemmas.List.{take_at, drop_at, take_all, drop_all, take-append-le, length-append, length-take, length-take-le, length-drop}
-use Rattle.std.proofs.lemmas.List.Elements.{All-from_get_or}
+use Rattle.std.proofs.lemmas.List.{take_at, drop_at, take-append-le, length-append, length-take-le, length-drop}
+use Rattle.std.proofs.lemmas.List.Elements.{All-from_get_or, All-cons, All-nil}
 use borrow.Rule.Slice.PartMut.{put_mid, same_len_mid}
 use Rattle.judy_model.specs.Keys.{IsByteString}
-use Rattle.judy_model.specs.Fields.{truncated, bytes}
-use Rattle.judy_pipe.specs.Pipe.{grown, told}
-use Rattle.judy_pipe.proofs.Moves.{grown-grown}
-use Rattle.judy_shelf.specs.Reads.{Drawn, reader, cut, Stops, ReadsValue, ReadsFault}
+use Rattle.judy_model.specs.Fields.{truncated, trailing, bytes, end}
+use Rattle.judy_pipe.specs.Pipe.{grown}
+use Rattle.judy_pipe.specs.Pipe as pipe
+use Rattle.judy_shelf.specs.Reads.{Drawn, reader, cut, told, ReadsValue, ReadsFault}
 
 pub bytes_from_each : (read : List ℕ) → ((i : ℕ) → get_or read i 0 < 256) → IsByteString read
 bytes_from_each read each = All-from_get_or (λ byte. byte < 256) read 0 (λ i _. each i)
@@ -32,12 +32,12 @@ module _ (filled count : ℕ) (room piece : List ℕ) (within : filled ≤ lengt
   pub within_room : count ≤ length piece → filled + count ≤ length (put_mid filled (length room - filled) room piece)
   within_room few = let all = filled_long in omega arith
 
-ended_told : (known : Option Bool) → IfSome (told known true) (λ ended. ended ≡ true)
+ended_told : (known : Option Bool) → IfSome (pipe.told known true) (λ ended. ended ≡ true)
 ended_told None = tt
 ended_told (Some known) = refl
 
 module _ (room : List ℕ) (filled : ℕ) (before after : Drawn) (given : after.given ≡ grown before.given (take filled room)) (are : IsByteString (take filled room)) where
-  pub room_cut : (known : Option Bool) (wanted : ℕ) → filled < wanted → filled ≤ length room → after.ended ≡ told known true → after.failures ≡ before.failures → ReadsFault (bytes wanted) cut before after
+  pub room_cut : (known : Option Bool) (wanted : ℕ) → filled < wanted → filled ≤ length room → after.ended ≡ pipe.told known true → after.failures ≡ before.failures → ReadsFault (bytes wanted) cut before after
   room_cut known wanted short within ended same = record {
     input = take filled room;
     given = given;
@@ -61,3 +61,20 @@ room_full room wanted before after given are long same = record {
       ap (λ b. cond b (Err truncated) (Ok (take wanted (room ++ more), drop wanted (room ++ more)))) (le-ltb (length (room ++ more)) wanted enough)
       ∙ (λ t. Ok (take_at room more wanted long t, drop_at room more wanted long t))
 }
+
+-- A byte that came where none may.
+pub byte_trailing : (byte : ℕ) (before after : Drawn) → after.given ≡ grown before.given (byte ∷ []) → after.failures ≡ before.failures → byte < 256 → ReadsFault end (told trailing) before after
+byte_trailing byte before after given same is = record {
+  input = byte ∷ [];
+  given = given;
+  bytes = All-cons (λ byte. byte < 256) byte [] is (All-nil (λ byte. byte < 256));
+  stops = (same, λ more. refl)
+}
+
+-- Of a room of one byte at least one byte is all.
+pub room_of_one : (count : ℕ) (room : List ℕ) → length room ≡ 1 → count ≢ 0 → take count room ≡ get_or room 0 0 ∷ []
+room_of_one zero room long some = absurd (some refl)
+room_of_one (suc count) [] long some = absurd (omega arith)
+room_of_one (suc zero) (byte ∷ []) long some = refl
+room_of_one (suc (suc count)) (byte ∷ []) long some = refl
+room_of_one (suc count) (byte ∷ other ∷ room) long some = absurd (omega arith)

@@ -1,5 +1,5 @@
 -- What a source gave where a part of a dump was read from it, and what is known of the part.
-use Rattle.std.specs.Prelude.{◌≡◌, ℕ, ◌+◌, ◌⊎◌, Bool, true, List, [], ◌∷◌, ◌++◌, Option, IfSome, Result, Ok, Err}
+use Rattle.std.specs.Prelude.{◌≡◌, ℕ, ◌+◌, ◌<◌, ◌⊎◌, Bool, true, false, List, [], ◌∷◌, ◌++◌, Option, IfSome, Result, Ok, Err}
 use Rattle.judy_model.specs.Keys.{IsByteString}
 use Rattle.judy_model.specs.Stores.{Store, IsStore, IsRegular}
 use Rattle.judy_model.specs.Fields as fields
@@ -83,6 +83,12 @@ pub record ReadsFault {A : Type 0} (part : Part A) (cause : Cause) (before after
 abbrev pub Reads : {X A : Type 0} → (X → A) → Part A → Drawn → Result X LoadFault → Drawn → Type 0
 Reads view part before (Ok value) after = ReadsValue part (view value) before after
 Reads view part before (Err fault) after = ReadsFault part (cause_of fault) before after
+
+-- One more byte came, or the end; or the source failed.
+abbrev pub ReadsOne : Drawn → Result Bool LoadFault → Drawn → Type 0
+ReadsOne before (Ok false) after = (after.given ≡ before.given) × (after.failures ≡ before.failures) × IfSome after.ended (λ ended. ended ≡ true)
+ReadsOne before (Ok true) after = (byte : ℕ) × (after.given ≡ grown before.given (byte ∷ [])) × (after.failures ≡ before.failures) × (byte < 256)
+ReadsOne before (Err fault) after = ReadsFault fields.end (cause_of fault) before after
 
 -- The end was met where one more byte was asked for; or one came, or the source failed.
 abbrev pub Ends : Drawn → Result (Unit {0}) LoadFault → Drawn → Type 0

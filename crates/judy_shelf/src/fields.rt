@@ -2,7 +2,7 @@
 
 ghost use Rattle.std.specs.Prelude.{◌≡◌, ◌<◌, ◌-◌, ◌^◌, length};
 ghost use Rattle.judy_model.specs.Fields as fields;
-ghost use Rattle.judy_shelf.specs.Reads.{drawn, Reads, Ends};
+ghost use Rattle.judy_shelf.specs.Reads.{drawn, Reads, ReadsOne, Ends};
 
 use crate::fault::LoadFault;
 use judy_pipe::{Source, read_some};
@@ -60,9 +60,21 @@ pub(crate) fn read_end<R: Source>(source: &mut R) -> Result<(), LoadFault>
     ensures { Ends (drawn (R.given source.old) (R.ended source.old) (R.tally source.old).failures) result (drawn (R.given source.new) (R.ended source.new) (R.tally source.new).failures) }
 {
     let mut room = [0; 1];
-    match read_some(source, &mut room) {
-        Ok(0) => Ok(()),
-        Ok(_) => Err(LoadFault::Trailing),
+    if read_one(source, &mut room)? {
+        return Err(LoadFault::Trailing);
+    }
+    Ok(())
+}
+
+// Asks for one byte, and answers whether one came.
+fn read_one<R: Source>(source: &mut R, room: &mut [u8]) -> Result<bool, LoadFault>
+    requires below { (R.tally source.old).failures < 2 ^ 64 - 1 }
+    requires one { length room.old ≡ 1 }
+    ensures { ReadsOne (drawn (R.given source.old) (R.ended source.old) (R.tally source.old).failures) result (drawn (R.given source.new) (R.ended source.new) (R.tally source.new).failures) }
+{
+    match read_some(source, room) {
+        Ok(0) => Ok(false),
+        Ok(_) => Ok(true),
         Err(_) => Err(LoadFault::Read),
     }
 }

@@ -1,5 +1,5 @@
-use Rattle.std.proofs.Common.{◌≡◌, ◌-◌, ◌+◌, ◌≤◌, ◌<◌, length, take, drop, ap, subst, sym, ◌∙◌, arith, ◌++◌, length-drop, length-take, get_or, List, ℕ, refl, All, [], Ok, true, ◌==◌, ◌&&◌, nat_lt}
-use Rattle.std.proofs.lemmas.List.{take_rest, take_all, length-take-le}
+use Rattle.std.proofs.Common.{◌≡◌, ◌-◌, ◌+◌, ◌≤◌, ◌<◌, length, take, drop, ap, subst, sym, ◌∙◌, arith, length-drop, List, ℕ, refl, All, [], Ok, true, ◌==◌, ◌&&◌, nat_lt}
+use Rattle.std.proofs.lemmas.List.{take_rest, take_all}
 use Rattle.std.proofs.lemmas.List.Elements.{All-take, All-nil}
 use Rattle.std.proofs.lemmas.Bool.{lt-ltb}
 use Rattle.judy_pipe.specs.declared.stop.BrokenPipe.{BrokenPipe}

@@ -1,8 +1,7 @@
-use Rattle.std.proofs.Common.{◌∙◌, sym}
 use Rattle.judy_model.specs.Fields.{number}
 use Rattle.judy_shelf.specs.Reads.{drawn, cause_of}
 use Rattle.judy_shelf.proofs.ReadLemmas.{reads_err}
-use Rattle.judy_shelf.proofs.NumberLemmas.{from_1, from_be_4, from_be_8, number_read, number_stopped}
+use Rattle.judy_shelf.proofs.NumberLemmas.{from_1, number_read, number_stopped}
 use Rattle.judy_shelf.proofs.fields.read_u8.Goals as goal
 
 pub returns-in_err-read_bytes : goal.returns-in_err-read_bytes

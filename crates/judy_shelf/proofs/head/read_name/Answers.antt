@@ -1,4 +1,4 @@
-use Rattle.std.proofs.Common.{ℕ, List, [], ◌∷◌, length, take, replicate, subst, arith}
+use Rattle.std.proofs.Common.{ℕ, List, [], ◌∷◌, replicate, subst}
 use Rattle.std.proofs.lemmas.List.{length-take-le}
 use Rattle.judy_model.specs.Fields.{bad_name, number, bytes, field}
 use Rattle.judy_model.specs.DumpGrammar.{is_name_length, name_checks}

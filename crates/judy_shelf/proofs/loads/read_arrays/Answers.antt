@@ -1,8 +1,8 @@
-use Rattle.std.proofs.Common.{◌≡◌, ◌-◌, ◌+◌, ◌≤◌, ◌<◌, ℕ, [], ◌∷◌, suc, length, sym, ap, subst, ◌∙◌, arith, length-append}
+use Rattle.std.proofs.Common.{◌≡◌, ◌-◌, ◌+◌, [], ◌∷◌, suc, length, sym, ap, subst, ◌∙◌, arith, length-append}
 use Rattle.judy_model.specs.DumpGrammar as grammar
 use Rattle.judy_shelf.specs.Arrays.{value_of}
 use Rattle.judy_shelf.specs.Shelves.{store_of}
-use Rattle.judy_shelf.specs.Reads.{drawn, cause_of, memory}
+use Rattle.judy_shelf.specs.Reads.{drawn, cause_of}
 use Rattle.judy_shelf.proofs.ShelfLemmas.{with_new_array-store_of}
 use Rattle.judy_shelf.proofs.ReadLemmas.{Reading, reads_err, reading_none, reading_memory}
 use Rattle.judy_shelf.proofs.ArrayReads.{arrays_next, arrays_fault}

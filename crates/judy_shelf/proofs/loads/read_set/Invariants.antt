@@ -1,7 +1,6 @@
 use Rattle.std.proofs.Common.{◌≡◌, ◌-◌, ℕ, List}
 use Rattle.std.specs.Cmp.{nat_cmp_total}
 use Rattle.std.specs.FinMap.{from_entries, nat_cmp-IsAntisymmetric}
-use Rattle.judy_model.specs.Arrays.{ArrayOf}
 use Rattle.judy_model.specs.Keys.{word_order}
 use Rattle.judy_model.specs.DumpGrammar as grammar
 use Rattle.judy_shelf.specs.Reads.{drawn}

@@ -1,12 +1,12 @@
-use Rattle.std.proofs.Common.{◌≡◌, ◌-◌, ◌+◌, ◌∷◌, [], ◌++◌, ℕ, List, suc, None, Some, refl, sym, ap, subst, ◌∙◌, arith}
+use Rattle.std.proofs.Common.{◌≡◌, ◌-◌, ◌+◌, ◌∷◌, [], ◌++◌, suc, None, sym, ap, subst, ◌∙◌, arith}
 use Rattle.std.specs.Cmp.{nat_cmp_total}
-use Rattle.std.specs.FinMap.{from_entries, nat_cmp-IsAntisymmetric, insert}
-use Rattle.judy_model.specs.Arrays.{ArrayOf, judyl, ins}
+use Rattle.std.specs.FinMap.{nat_cmp-IsAntisymmetric, insert}
+use Rattle.judy_model.specs.Arrays.{judyl}
 use Rattle.judy_model.specs.Keys.{word_order}
 use Rattle.judy_model.specs.DumpGrammar as grammar
-use Rattle.judy_shelf.specs.Reads.{drawn, memory, cause_of, ReadsFault}
-use Rattle.judy_shelf.proofs.ReadLemmas.{Reading, reads_err, value_done, reading_memory}
-use Rattle.judy_shelf.proofs.EntryReads.{whole, to_come, entries_start, entries_next, entries_fault, entry_read, entry_key_stopped, entry_value_stopped, filled_fault, AreNew, new_none, new_more, made_more, set_more}
+use Rattle.judy_shelf.specs.Reads.{drawn, memory, cause_of}
+use Rattle.judy_shelf.proofs.ReadLemmas.{Reading, reads_err, reading_memory}
+use Rattle.judy_shelf.proofs.EntryReads.{whole, to_come, entries_start, entries_next, entries_fault, entry_read, entry_key_stopped, entry_value_stopped, filled_fault, new_none, new_more, made_more}
 use Rattle.judy_shelf.proofs.loads.read_words.Goals as goal
 
 pub keys-init : goal.keys-init
