@@ -9,6 +9,8 @@ mod arrays;
 #[cfg(test)]
 mod check;
 #[cfg(test)]
+mod dumps;
+#[cfg(test)]
 mod faults;
 #[cfg(test)]
 mod lines;
