@@ -27,11 +27,14 @@ is_kind kind = nat_lt 0 kind && nat_le kind 4
 abbrev pub is_limit : ℕ → Bool
 is_limit limit = nat_lt 0 limit && nat_le limit 4294967295
 
--- A name isn't that of an array before it.
+-- What a name must be: it isn't that of an array before it.
+abbrev pub name_checks : Store → List ((List ℕ → Bool) × Fault)
+name_checks earlier = (list_all is_name_byte, bad_name) ∷ (is_new earlier, same_name) ∷ []
+
 abbrev pub name : Store → Part (List ℕ)
 name earlier = do
   length ← field (number 1) ((is_name_length, bad_name) ∷ [])
-  field (bytes length) ((list_all is_name_byte, bad_name) ∷ (is_new earlier, same_name) ∷ [])
+  field (bytes length) (name_checks earlier)
 
 abbrev pub kind : Part ℕ
 kind = field (number 1) ((is_kind, bad_kind) ∷ [])
@@ -120,11 +123,19 @@ arrays earlier (suc count) = do
   next ← array earlier
   arrays (with_new_array earlier next.0 next.1) count
 
+-- The first bytes, which name the format.
+abbrev pub begins : Part (List ℕ)
+begins = field (bytes 4) ((bytes_eq magic, bad_magic) ∷ [])
+
+-- How many arrays follow.
+abbrev pub array_count : Part ℕ
+array_count = field (number 4) (((λ count. nat_le count 64), too_many) ∷ [])
+
 -- All of the bytes.
 abbrev pub store : Part Store
 store = do
-  _ ← field (bytes 4) ((bytes_eq magic, bad_magic) ∷ [])
-  count ← field (number 4) (((λ count. nat_le count 64), too_many) ∷ [])
+  _ ← begins
+  count ← array_count
   made ← arrays [] count
   _ ← end
   done made

@@ -11,6 +11,8 @@ mod bytes;
 #[cfg(test)]
 mod check;
 #[cfg(test)]
+mod dumps;
+#[cfg(test)]
 mod faults;
 #[cfg(test)]
 mod lines;

@@ -1,2 +1,11 @@
 pub mod ShelfLemmas
 pub mod StoreLemmas
+pub mod WriteLemmas
+pub mod WalkLemmas
+pub mod DumpParts
+pub mod ReadLemmas
+pub mod Rooms
+pub mod NumberLemmas
+pub mod HeadLemmas
+pub mod EntryReads
+pub mod ArrayReads

@@ -3,3 +3,5 @@ pub mod Arrays
 pub mod Makes
 pub mod Shelves
 pub mod Lends
+pub mod Writes
+pub mod Reads

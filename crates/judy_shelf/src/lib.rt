@@ -6,13 +6,22 @@
 #![tactic(auto)]
 
 mod array;
+mod dumps;
 mod error;
+mod fault;
+mod fields;
+mod head;
 mod kind;
+mod loads;
 mod name;
 mod shelf;
+mod write;
 
 pub use array::Array;
+pub use dumps::dump;
 pub use error::MakeError;
+pub use fault::{DumpFault, LoadFault};
 pub use kind::Kind;
+pub use loads::load;
 pub use name::Name;
 pub use shelf::{MAX_ARRAYS, MAX_LIMIT, Shelf};

@@ -1,6 +1,6 @@
 //! The named arrays, in order of making.
 
-ghost use Rattle.std.specs.Prelude.{◌≡◌, ◌≤◌, OnOk, OnErr, IfErr, None, Some, length, option_map, option_copied, slice_get};
+ghost use Rattle.std.specs.Prelude.{◌≡◌, ◌<◌, ◌≤◌, OnOk, OnErr, IfErr, None, Some, length, option_map, option_copied, slice_get};
 ghost use Rattle.std.specs.Borrow.{sem};
 ghost use Rattle.std.specs.Option.{option_copied_mut};
 ghost use Rattle.std.specs.Map.Iter.{deref_pair};
@@ -85,6 +85,19 @@ impl Shelf {
             return Err(MakeError::TooMany);
         }
         match self.arrays.insert(name, new_array(self.alloc, kind, limit)) {
+            Ok(_) => Ok(()),
+            Err(_) => Err(MakeError::NoMemory),
+        }
+    }
+
+    // Puts an array that was made elsewhere last. Where there is no memory, the shelf is as it was.
+    pub(crate) fn add(&mut self, name: Name, array: Array) -> Result<(), MakeError>
+        requires room { length self.old < 64 }
+        requires new { array_named self.old name ≡ None }
+        ensures added { OnOk result (self.new ≡ with_new_array self.old name array) }
+        ensures unchanged { OnErr result (self.new ≡ self.old) }
+    {
+        match self.arrays.insert(name, array) {
             Ok(_) => Ok(()),
             Err(_) => Err(MakeError::NoMemory),
         }

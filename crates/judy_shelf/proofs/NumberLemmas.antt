@@ -1,0 +1,41 @@
+-- Numbers as std reads them from bytes, and as the definitions do.
+use Rattle.std.proofs.Common.{◌≡◌, ℕ, List, [], ◌∷◌, length, get_or, subst, arith}
+use Rattle.std.specs.Int.{w32, w64, from_be_bytes}
+use Rattle.judy_model.specs.WordBytes.{number_of}
+use Rattle.judy_model.specs.Fields.{done, bytes, number}
+use Rattle.judy_shelf.specs.Reads.{Drawn, Cause, ReadsValue, ReadsFault}
+use Rattle.judy_shelf.proofs.ReadLemmas.{fault_first, value_then, value_done}
+
+pub from_1 : (read : List ℕ) → length read ≡ 1 → number_of read ≡ get_or read 0 0
+from_1 [] long = absurd (omega arith)
+from_1 (a ∷ []) long = omega arith
+from_1 (a ∷ b ∷ rest) long = absurd (omega arith)
+
+pub from_be_4 : (read : List ℕ) → length read ≡ 4 → number_of read ≡ from_be_bytes w32 read
+from_be_4 [] long = absurd (omega arith)
+from_be_4 (a ∷ []) long = absurd (omega arith)
+from_be_4 (a ∷ b ∷ []) long = absurd (omega arith)
+from_be_4 (a ∷ b ∷ c ∷ []) long = absurd (omega arith)
+from_be_4 (a ∷ b ∷ c ∷ d ∷ []) long = omega arith
+from_be_4 (a ∷ b ∷ c ∷ d ∷ e ∷ rest) long = absurd (omega arith)
+
+pub from_be_8 : (read : List ℕ) → length read ≡ 8 → number_of read ≡ from_be_bytes w64 read
+from_be_8 [] long = absurd (omega arith)
+from_be_8 (a ∷ []) long = absurd (omega arith)
+from_be_8 (a ∷ b ∷ []) long = absurd (omega arith)
+from_be_8 (a ∷ b ∷ c ∷ []) long = absurd (omega arith)
+from_be_8 (a ∷ b ∷ c ∷ d ∷ []) long = absurd (omega arith)
+from_be_8 (a ∷ b ∷ c ∷ d ∷ e ∷ []) long = absurd (omega arith)
+from_be_8 (a ∷ b ∷ c ∷ d ∷ e ∷ f ∷ []) long = absurd (omega arith)
+from_be_8 (a ∷ b ∷ c ∷ d ∷ e ∷ f ∷ g ∷ []) long = absurd (omega arith)
+from_be_8 (a ∷ b ∷ c ∷ d ∷ e ∷ f ∷ g ∷ h ∷ []) long = omega arith
+from_be_8 (a ∷ b ∷ c ∷ d ∷ e ∷ f ∷ g ∷ h ∷ i ∷ rest) long = absurd (omega arith)
+
+-- A number whose bytes were read.
+pub number_read : (width : ℕ) (read : List ℕ) (value : ℕ) (before after : Drawn) → ReadsValue (bytes width) read before after → number_of read ≡ value → ReadsValue (number width) value before after
+number_read width read value before after first is =
+    value_then (bytes width) (λ spelled. done (number_of spelled)) read before after first value after (subst (λ n. ReadsValue (done (number_of read)) n after after) is (value_done (number_of read) after))
+
+-- A number whose bytes couldn't be read.
+pub number_stopped : (width : ℕ) (cause : Cause) (before after : Drawn) → ReadsFault (bytes width) cause before after → ReadsFault (number width) cause before after
+number_stopped width cause before after first = fault_first (bytes width) (λ spelled. done (number_of spelled)) cause before after first

@@ -1,0 +1,197 @@
+-- Parts that are read one after another.
+use Rattle.std.proofs.Common.{◌≡◌, ℕ, ◌+◌, ◌<◌, inl, inr, Bool, true, false, cond, List, [], ◌∷◌, ◌++◌, Result, Ok, Err, refl, sym, ap, subst, ◌∙◌, append_assoc}
+use Rattle.std.specs.Result.{IsErrAnd}
+use Rattle.std.proofs.lemmas.List.Elements.{All-nil, All-append}
+use Rattle.judy_model.specs.Keys.{IsByteString}
+use Rattle.judy_model.specs.Fields.{Fault, truncated, bad_kind, Part, followed_by, ◌>>=◌, done, checked, field}
+use Rattle.judy_pipe.specs.Pipe.{grown}
+use Rattle.judy_pipe.proofs.Moves.{grown-grown}
+use Rattle.judy_shelf.specs.declared.fault.LoadFault.{LoadFault}
+use Rattle.judy_shelf.specs.Reads.{Drawn, Cause, reader, memory, cut, kind, told, cause_of, Stops, ReadsValue, ReadsFault, Reads}
+use Rattle.judy_shelf.proofs.WriteLemmas.{grown_nothing}
+
+-- ---- one part behind another
+
+module _ {A B : Type 0} (part : Part A) (other : Part B) (input : List ℕ) (before after : Drawn) (same : (read : List ℕ) (fault : Fault) → part read ≡ Err fault → other read ≡ Err fault) where
+  -- What stops a part stops all that begins with it.
+  pub stops_too : (cause : Cause) → Stops part input before after cause → Stops other input before after cause
+  stops_too reader stops = stops
+  stops_too memory stops = stops
+  stops_too cut stops = (stops.0, stops.1, same input truncated stops.2)
+  stops_too kind stops = (stops.0, elim stops.1 [ inl faulty ↦ inl (λ more. same (input ++ more) bad_kind (faulty more)) | inr ends ↦ inr ends ])
+  stops_too (told fault) stops = (stops.0, λ more. same (input ++ more) fault (stops.1 more))
+
+module _ {A B : Type 0} (part : Part A) (rest : A → Part B) where
+  pub fault_first : (cause : Cause) (before after : Drawn) → ReadsFault part cause before after → ReadsFault (part >>= rest) cause before after
+  fault_first cause before after read = record {
+    input = read.input;
+    given = read.given;
+    bytes = read.bytes;
+    stops = stops_too part (part >>= rest) read.input before after (λ input fault is. ap (λ r. followed_by r rest) is) cause read.stops
+  }
+
+  module _ (value : A) (before mid : Drawn) (first : ReadsValue part value before mid) where
+    both_given : (after : Drawn) (input : List ℕ) → after.given ≡ grown mid.given input → after.given ≡ grown before.given (first.input ++ input)
+    both_given after input given = given ∙ ap (λ known. grown known input) first.given ∙ grown-grown before.given first.input input
+
+    -- Behind the first part the rest is read from what comes after it.
+    goes_on : (input : List ℕ) → (part >>= rest) (first.input ++ input) ≡ rest value input
+    goes_on input = ap (λ r. followed_by r rest) (first.gives input)
+
+    goes_on_more : (input more : List ℕ) → (part >>= rest) ((first.input ++ input) ++ more) ≡ rest value (input ++ more)
+    goes_on_more input more = ap (part >>= rest) (append_assoc first.input input more) ∙ goes_on (input ++ more)
+
+    later_stops : (after : Drawn) (input : List ℕ) (cause : Cause) → Stops (rest value) input mid after cause → Stops (part >>= rest) (first.input ++ input) before after cause
+    later_stops after input reader stops = stops ∙ ap (λ n. n + 1) first.failures
+    later_stops after input memory stops = stops ∙ first.failures
+    later_stops after input cut stops = (stops.0 ∙ first.failures, stops.1, goes_on input ∙ stops.2)
+    later_stops after input kind stops =
+        (stops.0 ∙ first.failures, elim stops.1 [
+          | inl faulty ↦ inl (λ more. goes_on_more input more ∙ faulty more)
+          | inr ends ↦ inr (first.input ++ ends.0, elim ends.1 [
+            | inl three ↦ inl (ap (λ t. first.input ++ t) three ∙ sym (append_assoc first.input ends.0 (3 ∷ [])))
+            | inr four ↦ inr (ap (λ t. first.input ++ t) four ∙ sym (append_assoc first.input ends.0 (4 ∷ [])))
+          ])
+        ])
+    later_stops after input (told fault) stops = (stops.0 ∙ first.failures, λ more. goes_on_more input more ∙ stops.1 more)
+
+    pub fault_then : (cause : Cause) (after : Drawn) → ReadsFault (rest value) cause mid after → ReadsFault (part >>= rest) cause before after
+    fault_then cause after read = record {
+      input = first.input ++ read.input;
+      given = both_given after read.input read.given;
+      bytes = All-append (λ byte. byte < 256) first.input read.input first.bytes read.bytes;
+      stops = later_stops after read.input cause read.stops
+    }
+
+    pub value_then : (given : B) (after : Drawn) → ReadsValue (rest value) given mid after → ReadsValue (part >>= rest) given before after
+    value_then given after read = record {
+      input = first.input ++ read.input;
+      given = both_given after read.input read.given;
+      bytes = All-append (λ byte. byte < 256) first.input read.input first.bytes read.bytes;
+      failures = read.failures ∙ first.failures;
+      gives = λ more. goes_on_more read.input more ∙ read.gives more
+    }
+
+    pub reads_then : {X : Type 0} (view : X → B) (after : Drawn) (result : Result X LoadFault) → Reads view (rest value) mid result after → Reads view (part >>= rest) before result after
+    reads_then view after (Ok given) read = value_then (view given) after read
+    reads_then view after (Err fault) read = fault_then (cause_of fault) after read
+
+-- A value for which nothing is read.
+pub value_done : {A : Type 0} (value : A) (now : Drawn) → ReadsValue (done value) value now now
+value_done value now = record { input = []; given = sym (grown_nothing now.given); bytes = All-nil (λ byte. byte < 256); failures = refl; gives = λ more. refl }
+
+-- What is answered where the reading was stopped.
+pub reads_err : {X A : Type 0} (view : X → A) (part : Part A) (before after : Drawn) (fault : LoadFault) (result : Result X LoadFault) → IsErrAnd result (λ told. told ≡ fault) → ReadsFault part (cause_of fault) before after → Reads view part before result after
+reads_err view part before after fault (Ok value) is read = absurd is
+reads_err view part before after fault (Err other) is read = subst (λ f. ReadsFault part (cause_of f) before after) (sym is) read
+
+-- ---- checks
+
+module _ {A : Type 0} (part : Part A) (value : A) (before after : Drawn) (read : ReadsValue part value before after) where
+  -- A value that passes the check.
+  pub value_passes : (test : A → Bool) (fault : Fault) → test value ≡ true → ReadsValue (field part ((test, fault) ∷ [])) value before after
+  value_passes test fault passes = record {
+    input = read.input;
+    given = read.given;
+    bytes = read.bytes;
+    failures = read.failures;
+    gives = λ more. ap (λ r. followed_by r (checked ((test, fault) ∷ []))) (read.gives more) ∙ ap (λ b. cond b (Ok (value, more)) (Err fault)) passes
+  }
+
+  -- A value that doesn't pass the first of some checks.
+  pub value_fails : (test : A → Bool) (fault : Fault) (checks : List ((A → Bool) × Fault)) → test value ≡ false → ReadsFault (field part ((test, fault) ∷ checks)) (told fault) before after
+  value_fails test fault checks fails = record {
+    input = read.input;
+    given = read.given;
+    bytes = read.bytes;
+    stops = (read.failures, λ more. ap (λ r. followed_by r (checked ((test, fault) ∷ checks))) (read.gives more) ∙ ap (λ b. cond b (checked checks value more) (Err fault)) fails)
+  }
+
+-- ---- a whole of which a part is read
+
+-- So far these bytes were read of a whole, and the rest is to come.
+pub record Reading {A : Type 0} (whole rest : Part A) (before now : Drawn) : Type 0 where
+  pub input : List ℕ
+  pub given : now.given ≡ grown before.given input
+  pub bytes : IsByteString input
+  pub failures : now.failures ≡ before.failures
+  pub goes : (more : List ℕ) → whole (input ++ more) ≡ rest more
+
+-- At first all is to come.
+pub reading_none : {A : Type 0} (whole : Part A) (now : Drawn) → Reading whole whole now now
+reading_none whole now = record { input = []; given = sym (grown_nothing now.given); bytes = All-nil (λ byte. byte < 256); failures = refl; goes = λ more. refl }
+
+module _ {A B : Type 0} (whole : Part B) (before mid after : Drawn) where
+  -- The next part is read.
+  pub reading_value : (part : Part A) (rest : A → Part B) (value : A) → Reading whole (part >>= rest) before mid → ReadsValue part value mid after → Reading whole (rest value) before after
+  reading_value part rest value far next = record {
+    input = far.input ++ next.input;
+    given = next.given ∙ ap (λ known. grown known next.input) far.given ∙ grown-grown before.given far.input next.input;
+    bytes = All-append (λ byte. byte < 256) far.input next.input far.bytes next.bytes;
+    failures = next.failures ∙ far.failures;
+    goes = λ more. ap whole (append_assoc far.input next.input more) ∙ far.goes (next.input ++ more) ∙ ap (λ r. followed_by r rest) (next.gives more)
+  }
+
+module _ {B : Type 0} (whole : Part B) where
+  -- What is to come, told in another way.
+  pub reading_told : (rest other : Part B) (before now : Drawn) → ((more : List ℕ) → rest more ≡ other more) → Reading whole rest before now → Reading whole other before now
+  reading_told rest other before now same far = record { input = far.input; given = far.given; bytes = far.bytes; failures = far.failures; goes = λ more. far.goes more ∙ same more }
+
+  -- Nothing is to come.
+  pub reading_end : (value : B) (before now : Drawn) → Reading whole (done value) before now → ReadsValue whole value before now
+  reading_end value before now far = record { input = far.input; given = far.given; bytes = far.bytes; failures = far.failures; gives = far.goes }
+
+  module _ (rest : Part B) (before mid after : Drawn) (far : Reading whole rest before mid) where
+    far_more : (input more : List ℕ) → whole ((far.input ++ input) ++ more) ≡ rest (input ++ more)
+    far_more input more = ap whole (append_assoc far.input input more) ∙ far.goes (input ++ more)
+
+    far_stops : (input : List ℕ) (cause : Cause) → Stops rest input mid after cause → Stops whole (far.input ++ input) before after cause
+    far_stops input reader stops = stops ∙ ap (λ n. n + 1) far.failures
+    far_stops input memory stops = stops ∙ far.failures
+    far_stops input cut stops = (stops.0 ∙ far.failures, stops.1, far.goes input ∙ stops.2)
+    far_stops input kind stops =
+        (stops.0 ∙ far.failures, elim stops.1 [
+          | inl faulty ↦ inl (λ more. far_more input more ∙ faulty more)
+          | inr ends ↦ inr (far.input ++ ends.0, elim ends.1 [
+            | inl three ↦ inl (ap (λ t. far.input ++ t) three ∙ sym (append_assoc far.input ends.0 (3 ∷ [])))
+            | inr four ↦ inr (ap (λ t. far.input ++ t) four ∙ sym (append_assoc far.input ends.0 (4 ∷ [])))
+          ])
+        ])
+    far_stops input (told fault) stops = (stops.0 ∙ far.failures, λ more. far_more input more ∙ stops.1 more)
+
+    -- What stops the rest stops the whole.
+    pub reading_fault : (cause : Cause) → ReadsFault rest cause mid after → ReadsFault whole cause before after
+    reading_fault cause next = record {
+      input = far.input ++ next.input;
+      given = next.given ∙ ap (λ known. grown known next.input) far.given ∙ grown-grown before.given far.input next.input;
+      bytes = All-append (λ byte. byte < 256) far.input next.input far.bytes next.bytes;
+      stops = far_stops next.input cause next.stops
+    }
+
+    pub reading_result : {X : Type 0} (view : X → B) (result : Result X LoadFault) → Reads view rest mid result after → Reads view whole before result after
+    reading_result view (Ok value) next = record {
+      input = far.input ++ next.input;
+      given = next.given ∙ ap (λ known. grown known next.input) far.given ∙ grown-grown before.given far.input next.input;
+      bytes = All-append (λ byte. byte < 256) far.input next.input far.bytes next.bytes;
+      failures = next.failures ∙ far.failures;
+      gives = λ more. far_more next.input more ∙ next.gives more
+    }
+    reading_result view (Err fault) next = reading_fault (cause_of fault) next
+
+-- Want of memory behind what was read.
+pub reading_memory : {A : Type 0} (whole rest : Part A) (before now : Drawn) → Reading whole rest before now → ReadsFault whole memory before now
+reading_memory whole rest before now far = record { input = far.input; given = far.given; bytes = far.bytes; stops = far.failures }
+
+-- ---- two checks
+
+module _ {A : Type 0} (part : Part A) (value : A) (before after : Drawn) (read : ReadsValue part value before after) (one two : A → Bool) (fault other : Fault) (first : one value ≡ true) where
+  twice : (more : List ℕ) → field part ((one, fault) ∷ (two, other) ∷ []) (read.input ++ more) ≡ cond (two value) (Ok (value, more)) (Err other)
+  twice more = ap (λ r. followed_by r (checked ((one, fault) ∷ (two, other) ∷ []))) (read.gives more) ∙ ap (λ b. cond b (cond (two value) (Ok (value, more)) (Err other)) (Err fault)) first
+
+  -- A value that passes both.
+  pub value_passes_both : two value ≡ true → ReadsValue (field part ((one, fault) ∷ (two, other) ∷ [])) value before after
+  value_passes_both second = record { input = read.input; given = read.given; bytes = read.bytes; failures = read.failures; gives = λ more. twice more ∙ ap (λ b. cond b (Ok (value, more)) (Err other)) second }
+
+  -- A value that doesn't pass the second.
+  pub value_fails_second : two value ≡ false → ReadsFault (field part ((one, fault) ∷ (two, other) ∷ [])) (told other) before after
+  value_fails_second second = record { input = read.input; given = read.given; bytes = read.bytes; stops = (read.failures, λ more. twice more ∙ ap (λ b. cond b (Ok (value, more)) (Err other)) second) }

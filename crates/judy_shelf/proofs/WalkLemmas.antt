@@ -1,0 +1,135 @@
+-- The entries of a map, one after another by `first` and `next`, and lists whose items are written in turn.
+use Rattle.std.proofs.Common.{◌≡◌, ℕ, zero, suc, ◌-◌, ◌^◌, ◌<◌, Bool, true, false, cond, List, [], ◌∷◌, ◌++◌, length, take, drop, filter, slice_get, Option, Some, None, option_map, unwrap_or, refl, sym, ap, subst, ◌∙◌, append_assoc, append-nil, arith, ◌==◌, ltb, Less, Equal, Greater}
+use Rattle.std.specs.List.{flat_map}
+use Rattle.std.specs.Cmp.{nat_cmp_total, tied_itself}
+use Rattle.std.specs.Ordering.{nat_cmp, is_lt, is_gt}
+use Rattle.std.specs.FinMap.{FinMap, keys, entries, entries_sorted, contains_key, get, get-entries, nat_cmp-IsAntisymmetric}
+use Rattle.std.proofs.lemmas.Bool.{le-ltb, ltb-false, eqb-false, and_parts}
+use Rattle.std.proofs.lemmas.List.{take-append-drop}
+use Rattle.std.proofs.lemmas.Grind.{flat_map-append}
+use Rattle.std.proofs.lemmas.Option.{slice_get-map, slice_get_within, get_or_from_slice_get}
+use Rattle.judy_model.specs.Keys.{word_order}
+use Rattle.judy_model.specs.Neighbours.{first, next}
+use Rattle.judy_model.specs.Counts.{rank}
+use Rattle.judy_model.specs.Nearest.{IsNext}
+use Rattle.judy_model.proofs.RankLemmas.{first-slice_get, next-slice_get, count_up_to_at}
+use Rattle.judy_model.proofs.NearestLemmas.{next-IsNext}
+use Rattle.judy_model.proofs.Pairs.{find-at}
+use Rattle.judy_pipe.specs.Pipe.{grown}
+use Rattle.judy_shelf.specs.Writes.{Sunk, WroteAll, WroteFront}
+use Rattle.judy_shelf.proofs.WriteLemmas.{wrote_both, wrote_second, wrote_first, grown_nothing}
+
+-- ---- the entries of a map in turn
+
+test_zero : (below same : Bool) → below ≡ false → is_lt (cond below Less (cond same Equal Greater)) ≡ true → ⊥
+test_zero true same none is = absurd cc
+test_zero false true none is = absurd cc
+test_zero false false none is = absurd cc
+
+below_zero : (key : ℕ) → is_lt (nat_cmp key 0) ≡ true → ⊥
+below_zero key e = let none : ltb key 0 ≡ false = le-ltb key 0 (omega arith) in let below : is_lt (cond (ltb key 0) Less (cond (key == 0) Equal Greater)) ≡ true = e in absurd (test_zero (ltb key 0) (key == 0) none below)
+
+none_below_zero : (ks : List ℕ) → length (filter (λ key. is_lt (nat_cmp key 0)) ks) ≡ 0
+none_below_zero [] = refl
+none_below_zero (key ∷ ks) = elim (is_lt (nat_cmp key 0)) as (λ b. is_lt (nat_cmp key 0) ≡ b → length (cond b (key ∷ filter (λ k. is_lt (nat_cmp k 0)) ks) (filter (λ k. is_lt (nat_cmp k 0)) ks)) ≡ 0) [
+  | true ↦ λ e. absurd (below_zero key e)
+  | false ↦ λ e. none_below_zero ks
+] refl
+
+module _ (m : FinMap word_order ℕ) where
+  -- The walk begins at the first entry.
+  pub walk_first : first m 0 ≡ slice_get (keys m) 0
+  unfolding rank
+  walk_first = first-slice_get nat_cmp_total m 0 ∙ ap (slice_get (keys m)) (none_below_zero (keys m))
+
+  -- And goes on from each to the one behind it.
+  pub walk_next : (place key : ℕ) → slice_get (keys m) place ≡ Some key → next m key ≡ slice_get (keys m) (suc place)
+  walk_next place key at = next-slice_get nat_cmp_total m key ∙ ap (slice_get (keys m)) (count_up_to_at nat_cmp_total m place key at)
+
+  entry_of_key : (place key : ℕ) (found : Option (ℕ × ℕ)) → slice_get (entries m) place ≡ found → option_map (λ e. e.0) found ≡ Some key → slice_get (entries m) place ≡ Some (key, unwrap_or (get m key) 0)
+  entry_of_key place key None at is = absurd cc
+  entry_of_key place key (Some pair) at is =
+      let same : pair.0 ≡ key = cc in
+      let within = slice_get_within (entries m) place pair at in
+      let there = get_or_from_slice_get (entries m) place pair pair at in
+      let held : get m key ≡ Some pair.1 = get-entries m key ∙ find-at word_order nat_cmp_total (entries m) key place pair (entries_sorted m) within (ap (λ e. nat_cmp e.0 key) there ∙ ap (λ k. nat_cmp k key) same ∙ tied_itself nat_cmp_total key) ∙ ap (λ e. Some e.1) there in
+      at ∙ ap Some (λ t. (same t, ap (λ o. unwrap_or o 0) (sym held) t))
+
+  -- The entry at a place is the key there with its value.
+  pub entry_at : (place key : ℕ) → slice_get (keys m) place ≡ Some key → slice_get (entries m) place ≡ Some (key, unwrap_or (get m key) 0)
+  entry_at place key at = entry_of_key place key (slice_get (entries m) place) refl (sym (slice_get-map (λ e. e.0) (entries m) place) ∙ at)
+
+  no_entry_of : (place : ℕ) (found : Option (ℕ × ℕ)) → option_map (λ e. e.0) found ≡ None → found ≡ None
+  no_entry_of place None is = refl
+  no_entry_of place (Some pair) is = absurd cc
+
+  pub no_entry_at : (place : ℕ) → slice_get (keys m) place ≡ None → slice_get (entries m) place ≡ None
+  no_entry_at place at = no_entry_of place (slice_get (entries m) place) (sym (slice_get-map (λ e. e.0) (entries m) place) ∙ at)
+
+-- ---- items in turn
+
+module _ {A : Type 0} (text : A → List ℕ) where
+  take_one : (items : List A) (place : ℕ) (item : A) → slice_get items place ≡ Some item → flat_map text (take (suc place) items) ≡ flat_map text (take place items) ++ text item
+  take_one [] place item at = absurd cc
+  take_one (x ∷ items) zero item at = let same : x ≡ item = cc in append-nil (text x) ∙ ap text same
+  take_one (x ∷ items) (suc place) item at = ap (λ t. text x ++ t) (take_one items place item at) ∙ sym (append_assoc (text x) (flat_map text (take place items)) (text item))
+
+  take_none : (items : List A) (place : ℕ) → slice_get items place ≡ None → take place items ≡ items
+  take_none [] zero at = refl
+  take_none [] (suc place) at = refl
+  take_none (x ∷ items) zero at = absurd cc
+  take_none (x ∷ items) (suc place) at = ap (λ xs. x ∷ xs) (take_none items place at)
+
+  module _ (items : List A) (before : Sunk) where
+    -- The items before a place are written.
+    abbrev pub Written : ℕ → Sunk → Type 0
+    Written place now = (now.taken ≡ grown before.taken (flat_map text (take place items))) × (now.failures ≡ before.failures)
+
+    pub written_none : Written 0 before
+    written_none = (sym (grown_nothing before.taken), refl)
+
+    pub written_more : (place : ℕ) (item : A) (mid after : Sunk) → Written place mid → slice_get items place ≡ Some item → WroteAll (text item) mid after → Written (suc place) after
+    written_more place item mid after written at wrote =
+        let both = wrote_both (flat_map text (take place items)) (text item) before mid after written wrote in
+        (both.0 ∙ ap (grown before.taken) (sym (take_one items place item at)), both.1)
+
+    pub written_stop : (place : ℕ) (item : A) (mid after : Sunk) → Written place mid → slice_get items place ≡ Some item → WroteFront (text item) mid after → WroteFront (flat_map text items) before after
+    written_stop place item mid after written at wrote =
+        let both = wrote_second (flat_map text (take place items)) (text item) before mid after written wrote in
+        let here : WroteFront (flat_map text (take (suc place) items)) before after = subst (λ t. WroteFront t before after) (sym (take_one items place item at)) both in
+        subst (λ t. WroteFront t before after) (sym (flat_map-append text (take (suc place) items) (drop (suc place) items)) ∙ ap (flat_map text) (take-append-drop (suc place) items))
+        (wrote_first (flat_map text (take (suc place) items)) (flat_map text (drop (suc place) items)) before after here)
+
+    pub written_all : (place : ℕ) (now : Sunk) → Written place now → slice_get items place ≡ None → WroteAll (flat_map text items) before now
+    written_all place now written at = (written.0 ∙ ap (λ xs. grown before.taken (flat_map text xs)) (take_none items place at), written.1)
+
+-- ---- how far a walk has to go
+
+-- The words above a key.
+abbrev pub above : Option ℕ → ℕ
+above None = 0
+above (Some key) = 2 ^ 64 - key
+
+greater_by : (below same : Bool) → is_gt (cond below Less (cond same Equal Greater)) ≡ true → (below ≡ false) × (same ≡ false)
+greater_by true same is = absurd cc
+greater_by false true is = absurd cc
+greater_by false false is = (refl, refl)
+
+greater : (key other : ℕ) → is_gt (nat_cmp other key) ≡ true → key < other
+greater key other is =
+    let by = greater_by (ltb other key) (other == key) is in
+    let low = ltb-false other key by.0 in
+    let apart = eqb-false other key by.1 in
+    omega arith
+
+module _ (m : FinMap word_order ℕ) (key : ℕ) (word : key < 2 ^ 64) where
+  falls_to : (found : Option ℕ) → IsNext word_order (contains_key m) key found → above found < above (Some key)
+  falls_to None is = omega arith
+  falls_to (Some other) is =
+      let later = greater key other (and_parts (contains_key m other) (is_gt (nat_cmp other key)) is.0).1 in
+      omega arith
+
+  -- Each step of the walk leaves fewer words above.
+  pub above_falls : (before after : Option ℕ) → before ≡ Some key → after ≡ next m key → above after < above before
+  above_falls before after at is =
+      subst (λ b. above after < above b) (sym at) (subst (λ a. above a < above (Some key)) (sym is) (falls_to (next m key) (next-IsNext nat_cmp_total nat_cmp-IsAntisymmetric m key)))

@@ -1,0 +1,17 @@
+use Rattle.judy_model.specs.DumpText as text
+use Rattle.judy_shelf.specs.Writes.{sunk}
+use Rattle.judy_shelf.proofs.WriteLemmas.{wrote_err, wrote_first, wrote_then}
+use Rattle.judy_shelf.proofs.dumps.put_entry.Goals as goal
+
+pub returns-in_err-put_word : goal.returns-in_err-put_word
+returns-in_err-put_word g c =
+    let before = sunk (g.W.Sink.taken c.args.sink.now) (g.W.Sink.tally c.args.sink.now).failures in
+    let after = sunk (g.W.Sink.taken c.put_word.new.sink) (g.W.Sink.tally c.put_word.new.sink).failures in
+    wrote_err _ before after _ c.from_residual.result c.from_residual.ensures.1 (wrote_first (text.word c.args.key) (text.word c.args.value) before after c.in_err-put_word.ensures)
+
+pub returns : goal.returns
+returns g c =
+    let before = sunk (g.W.Sink.taken c.args.sink.now) (g.W.Sink.tally c.args.sink.now).failures in
+    let mid = sunk (g.W.Sink.taken c.put_word.new.sink) (g.W.Sink.tally c.put_word.new.sink).failures in
+    let after = sunk (g.W.Sink.taken c.put_word-2.new.sink) (g.W.Sink.tally c.put_word-2.new.sink).failures in
+    wrote_then (text.word c.args.key) (text.word c.args.value) before mid after c.put_word-2.result c.in_ok-put_word.ensures c.put_word-2.ensures

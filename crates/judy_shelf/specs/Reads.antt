@@ -1,0 +1,121 @@
+-- What a source gave where a part of a dump was read from it, and what is known of the part.
+use Rattle.std.specs.Prelude.{◌≡◌, ℕ, ◌+◌, ◌<◌, ◌⊎◌, Bool, true, false, List, [], ◌∷◌, ◌++◌, Option, IfSome, Result, Ok, Err}
+use Rattle.judy_model.specs.Keys.{IsByteString}
+use Rattle.judy_model.specs.Stores.{Store, IsStore, IsRegular}
+use Rattle.judy_model.specs.Fields as fields
+use Rattle.judy_model.specs.Fields.{Fault, Part, ◌>>=◌}
+use Rattle.judy_model.specs.DumpGrammar as grammar
+use Rattle.judy_model.specs.DumpGrammar.{IsDump}
+use Rattle.judy_pipe.specs.Pipe.{grown}
+use Rattle.judy_shelf.specs.declared.fault.LoadFault.{LoadFault}
+use Rattle.judy_shelf.specs.declared.fault.LoadFault.TheVariants as load
+use Rattle.judy_shelf.specs.Shelves.{Entries, store_of}
+
+-- What a source tells: the bytes that it gave and whether it ended, where it tells them, and how often it failed.
+pub record Drawn : Type 0 where
+  pub given : Option (List ℕ)
+  pub ended : Option Bool
+  pub failures : ℕ
+
+abbrev pub drawn : Option (List ℕ) → Option Bool → ℕ → Drawn
+drawn given ended failures = record { given = given; ended = ended; failures = failures }
+
+-- Where a load fault comes from.
+pub data Cause : Type 0 where
+  -- the reader failed
+  reader : Cause
+  -- there is no memory
+  memory : Cause
+  -- the bytes ended
+  cut : Cause
+  -- a kind that shelves don't have
+  kind : Cause
+  -- a fault of the grammar
+  told : Fault → Cause
+
+abbrev pub cause_of : LoadFault → Cause
+cause_of load.Read = reader
+cause_of load.Truncated = cut
+cause_of load.BadMagic = told fields.bad_magic
+cause_of load.TooMany = told fields.too_many
+cause_of load.BadName = told fields.bad_name
+cause_of load.SameName = told fields.same_name
+cause_of load.BadKind = kind
+cause_of load.BadLimit = told fields.bad_limit
+cause_of load.BadCount = told fields.bad_count
+cause_of load.BadKey = told fields.bad_key
+cause_of load.BadOrder = told fields.bad_order
+cause_of load.Trailing = told fields.trailing
+cause_of load.NoMemory = memory
+
+-- A part has a fault, whatever comes after the bytes.
+abbrev pub IsFaulty : {A : Type 0} → Part A → List ℕ → Fault → Type 0
+IsFaulty part input fault = (more : List ℕ) → part (input ++ more) ≡ Err fault
+
+-- The last byte read is the number of judysl or of judyhs.
+abbrev pub EndsWithString : List ℕ → Type 0
+EndsWithString input = (front : List ℕ) × ((input ≡ front ++ 3 ∷ []) ⊎ (input ≡ front ++ 4 ∷ []))
+
+-- What stopped the reading of a part behind these bytes.
+abbrev pub Stops : {A : Type 0} → Part A → List ℕ → Drawn → Drawn → Cause → Type 0
+Stops part input before after reader = after.failures ≡ before.failures + 1
+Stops part input before after memory = after.failures ≡ before.failures
+Stops part input before after cut = (after.failures ≡ before.failures) × IfSome after.ended (λ ended. ended ≡ true) × (part input ≡ Err fields.truncated)
+Stops part input before after kind = (after.failures ≡ before.failures) × (IsFaulty part input fields.bad_kind ⊎ EndsWithString input)
+Stops part input before after (told fault) = (after.failures ≡ before.failures) × IsFaulty part input fault
+
+-- A part was read whole, and gives a value, whatever comes after it.
+pub record ReadsValue {A : Type 0} (part : Part A) (value : A) (before after : Drawn) : Type 0 where
+  pub input : List ℕ
+  pub given : after.given ≡ grown before.given input
+  pub bytes : IsByteString input
+  pub failures : after.failures ≡ before.failures
+  pub gives : (more : List ℕ) → part (input ++ more) ≡ Ok (value, more)
+
+-- The reading of a part was stopped.
+pub record ReadsFault {A : Type 0} (part : Part A) (cause : Cause) (before after : Drawn) : Type 0 where
+  pub input : List ℕ
+  pub given : after.given ≡ grown before.given input
+  pub bytes : IsByteString input
+  pub stops : Stops part input before after cause
+
+-- One or the other, by what was answered.
+abbrev pub Reads : {X A : Type 0} → (X → A) → Part A → Drawn → Result X LoadFault → Drawn → Type 0
+Reads view part before (Ok value) after = ReadsValue part (view value) before after
+Reads view part before (Err fault) after = ReadsFault part (cause_of fault) before after
+
+-- One more byte came, or the end; or the source failed.
+abbrev pub ReadsOne : Drawn → Result Bool LoadFault → Drawn → Type 0
+ReadsOne before (Ok false) after = (after.given ≡ before.given) × (after.failures ≡ before.failures) × IfSome after.ended (λ ended. ended ≡ true)
+ReadsOne before (Ok true) after = (byte : ℕ) × (after.given ≡ grown before.given (byte ∷ [])) × (after.failures ≡ before.failures) × (byte < 256)
+ReadsOne before (Err fault) after = ReadsFault fields.end (cause_of fault) before after
+
+-- The end was met where one more byte was asked for; or one came, or the source failed.
+abbrev pub Ends : Drawn → Result (Unit {0}) LoadFault → Drawn → Type 0
+Ends before (Ok done) after = (after.given ≡ before.given) × (after.failures ≡ before.failures) × IfSome after.ended (λ ended. ended ≡ true)
+Ends before (Err fault) after = ReadsFault fields.end (cause_of fault) before after
+
+-- ---- a whole dump
+
+-- All of a dump but its end.
+abbrev pub up_to_end : Part Store
+up_to_end = do
+  _ ← grammar.begins
+  count ← grammar.array_count
+  grammar.arrays [] count
+
+-- What a source gave to its end is the dump of a store, which is one, and regular.
+pub record LoadsWhole (store : Store) (before after : Drawn) : Type 0 where
+  pub input : List ℕ
+  pub given : after.given ≡ grown before.given input
+  pub bytes : IsByteString input
+  pub failures : after.failures ≡ before.failures
+  pub ended : IfSome after.ended (λ ended. ended ≡ true)
+  pub is_dump : IsDump input store
+  pub is_store : IsStore store
+  pub is_regular : IsRegular store
+
+-- The store of a dump was loaded, or the load was stopped by the first fault of what was read.
+abbrev pub Loaded : Drawn → Result Entries LoadFault → Drawn → Type 0
+Loaded before (Ok entries) after = LoadsWhole (store_of entries) before after
+Loaded before (Err fault) after = ReadsFault grammar.store (cause_of fault) before after

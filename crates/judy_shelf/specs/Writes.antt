@@ -1,0 +1,39 @@
+-- What a sink has taken where a text was written to it, whole or in part.
+use Rattle.std.specs.Prelude.{◌≡◌, ℕ, ◌+◌, List, Option, Result, Ok, Err}
+use Rattle.judy_pipe.specs.Pipe.{grown, GrewByFront}
+use Rattle.judy_shelf.specs.declared.fault.DumpFault.{DumpFault}
+use Rattle.judy_shelf.specs.declared.fault.DumpFault.TheVariants.{NoMemory, Write}
+use Rattle.judy_shelf.specs.declared.kind.Kind.{Kind}
+use Rattle.judy_shelf.specs.declared.kind.Kind.TheVariants.{Judy1, JudyL}
+
+-- What a sink tells: the bytes that it took, where it tells them, and how often it failed.
+pub record Sunk : Type 0 where
+  pub taken : Option (List ℕ)
+  pub failures : ℕ
+
+abbrev pub sunk : Option (List ℕ) → ℕ → Sunk
+sunk taken failures = record { taken = taken; failures = failures }
+
+-- A text was written whole.
+abbrev pub WroteAll : List ℕ → Sunk → Sunk → Type 0
+WroteAll text before after = (after.taken ≡ grown before.taken text) × (after.failures ≡ before.failures)
+
+-- A front of a text was written, and then the sink failed.
+abbrev pub WroteFront : List ℕ → Sunk → Sunk → Type 0
+WroteFront text before after = GrewByFront before.taken text after.taken × (after.failures ≡ before.failures + 1)
+
+-- One or the other, by what was answered.
+abbrev pub Wrote : {X E : Type 0} → List ℕ → Sunk → Result X E → Sunk → Type 0
+Wrote text before (Ok done) after = WroteAll text before after
+Wrote text before (Err fault) after = WroteFront text before after
+
+-- A dump was written whole, or a front of it; no memory is wanted for it.
+abbrev pub Dumped : List ℕ → Sunk → Result (Unit {0}) DumpFault → Sunk → Type 0
+Dumped text before (Ok done) after = WroteAll text before after
+Dumped text before (Err Write) after = WroteFront text before after
+Dumped text before (Err NoMemory) after = ⊥
+
+-- The number of a kind in dumps.
+abbrev pub kind_number : Kind → ℕ
+kind_number Judy1 = 1
+kind_number JudyL = 2

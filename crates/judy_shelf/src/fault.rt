@@ -1,0 +1,59 @@
+//! Why a shelf isn't dumped, or isn't loaded.
+
+use thiserror::Error;
+
+/// Why `dump` ended early.
+#[derive(Clone, Copy, Debug, PartialEq, Eq, Error)]
+pub enum DumpFault {
+    /// There is no memory to sort the keys of a judyhs array. No byte was written.
+    #[error("out of memory")]
+    NoMemory,
+    /// The writer failed. A front of the dump was written.
+    #[error("the dump can't be written")]
+    Write,
+}
+
+/// Why `load` gives no shelf: the first fault of the bytes, in the order of the fields; or the reader failed, or
+/// there is no memory.
+#[derive(Clone, Copy, Debug, PartialEq, Eq, Error)]
+pub enum LoadFault {
+    /// The reader failed.
+    #[error("the dump can't be read")]
+    Read,
+    /// The bytes end before the dump does.
+    #[error("the dump is cut off")]
+    Truncated,
+    /// The bytes don't begin with `JDY1`.
+    #[error("no dump of this format")]
+    BadMagic,
+    /// More than 64 arrays are said.
+    #[error("too many arrays")]
+    TooMany,
+    /// A name is empty or longer than 32 bytes, or has a byte that names don't have.
+    #[error("bad name")]
+    BadName,
+    /// An earlier array has the name.
+    #[error("the name stands twice")]
+    SameName,
+    /// A number that no kind has.
+    #[error("bad kind")]
+    BadKind,
+    /// A limit that isn't 1 to 4,294,967,295.
+    #[error("bad limit")]
+    BadLimit,
+    /// More keys are said than the limit.
+    #[error("more keys than the limit")]
+    BadCount,
+    /// A key that is longer than 1,024 bytes, or one of a judysl array with a zero byte.
+    #[error("bad key")]
+    BadKey,
+    /// A key that isn't greater than the one before.
+    #[error("keys out of order")]
+    BadOrder,
+    /// Bytes stand after the last array.
+    #[error("bytes after the end")]
+    Trailing,
+    /// There is no memory for an array or a key.
+    #[error("out of memory")]
+    NoMemory,
+}

@@ -1,0 +1,144 @@
+//! A shelf from bytes.
+
+ghost use Rattle.std.specs.Prelude.{◌<◌, ◌≤◌, ◌-◌, ◌^◌, ◌≡◌, [], None, IfOk};
+ghost use Rattle.judy_model.specs.Arrays.{judy1, judyl};
+ghost use Rattle.judy_model.specs.Keys.{word_order};
+ghost use Rattle.judy_model.specs.DumpGrammar as grammar;
+ghost use Rattle.judy_model.specs.Stores.{array_named};
+ghost use Rattle.judy_shelf.specs.Arrays.{value_of};
+ghost use Rattle.judy_shelf.specs.Shelves.{store_of};
+ghost use Rattle.judy_shelf.specs.Reads.{drawn, up_to_end, Reads, Loaded};
+ghost use Rattle.judy_shelf.specs.Writes.{kind_number};
+
+use crate::array::Array;
+use crate::fault::LoadFault;
+use crate::fields::{read_end, read_u64};
+use crate::head::{read_array_count, read_key_count, read_kind, read_limit, read_magic, read_name, read_word_after};
+use crate::kind::Kind;
+use crate::name::Name;
+use crate::shelf::Shelf;
+use judy_pipe::Source;
+use judy_word::{Judy1, JudyL};
+use std::alloc::Global;
+
+/// Reads a dump in the format JDY1 (this project's own) from its first byte to the end of the source, and gives
+/// the shelf that it is a dump of.
+///
+/// At Ok what the source gave in the call is the dump of the shelf's store, which is regular, and its last read
+/// gave the end. Every other answer is the first fault in the order of the fields: what the source gave has that
+/// fault, whatever came after it, and `Truncated` comes only where its last read gave the end. `Read` comes only
+/// where the source failed, which it then did once; `NoMemory` where there is none for an array or a key. A kind
+/// that shelves don't have yet, that of judysl or judyhs, is `BadKind`. No byte is asked for beyond the fields,
+/// but for the one that is `Trailing`, so that a source that never ends is left.
+///
+/// Memory is asked for by the keys that were read, one after another, and never by a number that the bytes say.
+pub fn load<R: Source>(alloc: Global, source: &mut R) -> Result<Shelf, LoadFault>
+    requires { (R.tally source.old).failures < 2 ^ 64 - 1 }
+    ensures { Loaded (drawn (R.given source.old) (R.ended source.old) (R.tally source.old).failures) result (drawn (R.given source.new) (R.ended source.new) (R.tally source.new).failures) }
+{
+    let shelf = read_store(alloc, source)?;
+    read_end(source)?;
+    Ok(shelf)
+}
+
+// Reads all of a dump but its end.
+fn read_store<R: Source>(alloc: Global, source: &mut R) -> Result<Shelf, LoadFault>
+    requires { (R.tally source.old).failures < 2 ^ 64 - 1 }
+    ensures { Reads store_of up_to_end (drawn (R.given source.old) (R.ended source.old) (R.tally source.old).failures) result (drawn (R.given source.new) (R.ended source.new) (R.tally source.new).failures) }
+{
+    read_magic(source)?;
+    let count = read_array_count(source)?;
+    read_arrays(alloc, source, count)
+}
+
+// Reads the keys of a set, so many.
+fn read_set<R: Source>(alloc: Global, source: &mut R, limit: u64, count: u64) -> Result<Judy1, LoadFault>
+    requires below { (R.tally source.old).failures < 2 ^ 64 - 1 }
+    requires some { 1 ≤ limit }
+    requires most { limit ≤ 4294967295 }
+    ensures { Reads judy1 (grammar.filled judy1 limit (grammar.entries word_order grammar.word grammar.no_value None count)) (drawn (R.given source.old) (R.ended source.old) (R.tally source.old).failures) result (drawn (R.given source.new) (R.ended source.new) (R.tally source.new).failures) }
+{
+    let mut set = Judy1::new(alloc, limit);
+    let mut before = None;
+    'keys: for _ in 0..count {
+        let key = read_word_after(source, before)?;
+        match set.set(key) {
+            Ok(_) => before = Some(key),
+            Err(_) => return Err(LoadFault::NoMemory),
+        }
+    }
+    Ok(set)
+}
+
+// Reads the keys of a map, so many, and the value of each behind it.
+fn read_words<R: Source>(alloc: Global, source: &mut R, limit: u64, count: u64) -> Result<JudyL, LoadFault>
+    requires below { (R.tally source.old).failures < 2 ^ 64 - 1 }
+    requires some { 1 ≤ limit }
+    requires most { limit ≤ 4294967295 }
+    ensures { Reads judyl (grammar.filled judyl limit (grammar.entries word_order grammar.word grammar.word None count)) (drawn (R.given source.old) (R.ended source.old) (R.tally source.old).failures) result (drawn (R.given source.new) (R.ended source.new) (R.tally source.new).failures) }
+{
+    let mut words = JudyL::new(alloc, limit);
+    let mut before = None;
+    'keys: for _ in 0..count {
+        let key = read_word_after(source, before)?;
+        let value = read_u64(source)?;
+        match words.ins(key) {
+            Ok(slot) => *slot = value,
+            Err(_) => return Err(LoadFault::NoMemory),
+        }
+        before = Some(key);
+    }
+    Ok(words)
+}
+
+// Reads what stands behind an array's name.
+fn read_body<R: Source>(alloc: Global, source: &mut R) -> Result<Array, LoadFault>
+    requires { (R.tally source.old).failures < 2 ^ 64 - 1 }
+    ensures { Reads value_of grammar.body (drawn (R.given source.old) (R.ended source.old) (R.tally source.old).failures) result (drawn (R.given source.new) (R.ended source.new) (R.tally source.new).failures) }
+{
+    let kind = read_kind(source)?;
+    let limit = read_limit(source)?;
+    let count = read_key_count(source, limit)?;
+    read_contents(alloc, source, kind, limit, count)
+}
+
+// Reads the keys of an array of a kind, so many.
+fn read_contents<R: Source>(alloc: Global, source: &mut R, kind: Kind, limit: u64, count: u64) -> Result<Array, LoadFault>
+    requires below { (R.tally source.old).failures < 2 ^ 64 - 1 }
+    requires some { 1 ≤ limit }
+    requires most { limit ≤ 4294967295 }
+    ensures { Reads value_of (grammar.contents (kind_number kind) limit count) (drawn (R.given source.old) (R.ended source.old) (R.tally source.old).failures) result (drawn (R.given source.new) (R.ended source.new) (R.tally source.new).failures) }
+{
+    match kind {
+        Kind::Judy1 => Ok(Array::Judy1(read_set(alloc, source, limit, count)?)),
+        Kind::JudyL => Ok(Array::JudyL(read_words(alloc, source, limit, count)?)),
+    }
+}
+
+// Reads an array whose name no array on the shelf has.
+fn read_array<R: Source>(alloc: Global, source: &mut R, shelf: &Shelf) -> Result<(Name, Array), LoadFault>
+    requires { (R.tally source.old).failures < 2 ^ 64 - 1 }
+    ensures new { IfOk result (λ made. array_named shelf.now made.0 ≡ None) }
+    ensures read { Reads (λ made. (made.0, value_of made.1)) (grammar.array (store_of shelf.now)) (drawn (R.given source.old) (R.ended source.old) (R.tally source.old).failures) result (drawn (R.given source.new) (R.ended source.new) (R.tally source.new).failures) }
+{
+    let name = read_name(source, shelf)?;
+    let array = read_body(alloc, source)?;
+    Ok((name, array))
+}
+
+// Reads so many arrays.
+fn read_arrays<R: Source>(alloc: Global, source: &mut R, count: u32) -> Result<Shelf, LoadFault>
+    requires below { (R.tally source.old).failures < 2 ^ 64 - 1 }
+    requires few { count ≤ 64 }
+    ensures { Reads store_of (grammar.arrays [] count) (drawn (R.given source.old) (R.ended source.old) (R.tally source.old).failures) result (drawn (R.given source.new) (R.ended source.new) (R.tally source.new).failures) }
+{
+    let mut shelf = Shelf::new(alloc);
+    'arrays: for _ in 0..count {
+        let (name, array) = read_array(alloc, source, &shelf)?;
+        match shelf.add(name, array) {
+            Ok(()) => {}
+            Err(_) => return Err(LoadFault::NoMemory),
+        }
+    }
+    Ok(shelf)
+}

@@ -1,0 +1,88 @@
+//! The pieces of a dump, written to a sink.
+
+ghost use Rattle.std.specs.Prelude.{◌≡◌, ◌<◌, ◌≤◌, ◌+◌, ◌-◌, ◌^◌, ◌++◌, ◌∷◌, [], length};
+ghost use Rattle.judy_model.specs.Arrays.{limit_of, len_of};
+ghost use Rattle.judy_model.specs.WordBytes.{low_bytes};
+ghost use Rattle.judy_model.specs.DumpText as text;
+ghost use Rattle.judy_shelf.specs.Arrays.{value_of};
+ghost use Rattle.judy_shelf.specs.Writes.{sunk, Wrote, kind_number};
+ghost use Rattle.arrayvec.specs.ArrayVec.{array_vec_len};
+
+use crate::array::Array;
+use crate::kind::Kind;
+use crate::name::Name;
+use crate::shelf::Shelf;
+use arrayvec::ArrayVec;
+use byteorder::{BigEndian, ByteOrder};
+use judy_pipe::{BrokenPipe, Sink, write_all};
+
+// What stands before an array's keys: a name behind its length, the kind, the limit, the number of keys.
+const MAX_HEAD_LEN: usize = 50;
+
+// Writes bytes.
+pub(crate) fn put<W: Sink>(sink: &mut W, bytes: &[u8]) -> Result<(), BrokenPipe>
+    requires { (W.tally sink.old).failures < 2 ^ 64 - 1 }
+    ensures { Wrote bytes.now (sunk (W.taken sink.old) (W.tally sink.old).failures) result (sunk (W.taken sink.new) (W.tally sink.new).failures) }
+{
+    write_all(sink, bytes)
+}
+
+// Writes a word, the highest byte first.
+pub(crate) fn put_word<W: Sink>(sink: &mut W, word: u64) -> Result<(), BrokenPipe>
+    requires { (W.tally sink.old).failures < 2 ^ 64 - 1 }
+    ensures { Wrote (text.word word) (sunk (W.taken sink.old) (W.tally sink.old).failures) result (sunk (W.taken sink.new) (W.tally sink.new).failures) }
+{
+    put(sink, &word_bytes(word))
+}
+
+// The bytes of a word.
+fn word_bytes(word: u64) -> [u8; 8]
+    ensures { result ≡ text.word word }
+{
+    let mut bytes = [0; 8];
+    BigEndian::write_u64(&mut bytes, word);
+    bytes
+}
+
+// The first bytes of every dump, and the number of arrays.
+pub(crate) fn heading(shelf: &Shelf) -> [u8; 8]
+    ensures { result ≡ text.magic ++ low_bytes 4 (length shelf.now) }
+{
+    let mut bytes = [0; 8];
+    bytes[..4].copy_from_slice(b"JDY1");
+    BigEndian::write_u32(&mut bytes[4..], shelf.len() as u32);
+    bytes
+}
+
+// What stands before an array's keys: its name behind the name's length, its kind, its limit, and how many
+// keys it has.
+pub(crate) fn array_head(name: &Name, array: &Array) -> ArrayVec<u8, MAX_HEAD_LEN>
+    ensures { result.items ≡ text.name_text name.now ++ low_bytes 1 (text.kind_number (value_of array.now)) ++ text.word (limit_of (value_of array.now)) ++ text.word (len_of (value_of array.now)) }
+{
+    let mut head = ArrayVec::new();
+    head.push(name.bytes().len() as u8);
+    append(&mut head, name.bytes());
+    head.push(kind_number(array.kind()));
+    append(&mut head, &word_bytes(array.limit()));
+    append(&mut head, &word_bytes(array.len()));
+    head
+}
+
+// Puts bytes that fit behind those of a head.
+fn append(head: &mut ArrayVec<u8, MAX_HEAD_LEN>, bytes: &[u8])
+    requires { array_vec_len head.old + length bytes.now ≤ 50 }
+    ensures items { head.new.items ≡ head.old.items ++ bytes.now }
+    ensures len { array_vec_len head.new ≡ array_vec_len head.old + length bytes.now }
+{
+    let _ = head.try_extend_from_slice(bytes);
+}
+
+// The number of a kind in dumps. (This project's own.)
+fn kind_number(kind: Kind) -> u8
+    ensures { result ≡ kind_number kind }
+{
+    match kind {
+        Kind::Judy1 => 1,
+        Kind::JudyL => 2,
+    }
+}
