@@ -4,7 +4,7 @@
 ghost use Rattle.std.specs.Prelude.{◌≡◌, ◌↔◌, ◌==◌, ◌-◌, ◌+◌, ◌<◌, ◌&&◌, ◌||◌, not, if◌then◌else◌, IsFalse, ℕ, List, [], length, Some};
 ghost use Rattle.judy_model.specs.Keys.{word_order};
 ghost use Rattle.judy_model.specs.Nearest.{IsFirst, IsLast};
-ghost use Rattle.judy_bits.specs.ByteSets.{IsByteSet, has, place, nth, next_from, prev_from, with_byte, without_byte};
+ghost use Rattle.judy_bits.specs.ByteSets.{IsByteSet, has, absent, place, nth, next_from, prev_from, with_byte, without_byte};
 
 /// Two sets with the same members are one.
 pub fn a_set_is_its_members()
@@ -45,4 +45,9 @@ pub fn counts_after_a_change()
 /// A set that grew by a byte and shrank by it is the set that never grew.
 pub fn grown_and_shrunk()
     ensures { (members : List ℕ) (byte : ℕ) → IsByteSet members → byte < 256 → IsFalse (has members byte) → without_byte (with_byte members byte) byte ≡ members }
+{}
+
+/// Of the bytes those are absent that are no members.
+pub fn absent_bytes_are_no_members()
+    ensures { (members : List ℕ) (byte : ℕ) → byte < 256 → has (absent members) byte ≡ not (has members byte) }
 {}

@@ -1,5 +1,5 @@
 //! The keys of a leaf as they stand in its block, from a word on to the block's end. What is called here knows the width at
-//! run time, and hands on to code for that width alone, which has neither a division nor a multiplication.
+//! run time, and hands on to code for that width alone, in which the number of places is a constant.
 
 ghost use Rattle.std.specs.Prelude.{◌≡◌, ◌+◌, ◌-◌, ◌/◌, ◌<◌, ◌≤◌, ◌^◌, length, take, drop, slice_index};
 ghost use Rattle.std.specs.List.{insert, remove};

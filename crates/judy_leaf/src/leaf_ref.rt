@@ -10,7 +10,8 @@ use crate::words::{Width, Words};
 use judy_block::Block;
 use std::marker::{Model, PhantomData};
 
-/// A leaf as it is read: the number of its keys, their width, and the block. No call reads the block's header.
+/// A leaf as it is read: the number of its keys, their width, and the block. Number and width stand beside the
+/// block, so that a look-up needn't take them from its header.
 #[derive(Drop)]
 pub struct LeafRef<'a, V: Words + Drop> {
     count: u8,
