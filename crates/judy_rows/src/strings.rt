@@ -24,7 +24,13 @@ fn insert<R: Abort>(rt: &R, strings: &mut JudySl, key: &[u8], value: u64) {
 }
 
 // Compares what a scan from some bytes leaves in the buffer, and what it answers.
-fn check_scan<R: Abort>(rt: &R, strings: &JudySl, scan: Scan, from: &[u8], found: Option<(&[u8], u64)>) {
+fn check_scan<R: Abort>(
+    rt: &R,
+    strings: &JudySl,
+    scan: Scan,
+    from: &[u8],
+    found: Option<(&[u8], u64)>,
+) {
     let mut key = KeyBuf::new();
     assert!(rt; key.try_extend_from_slice(from).is_ok());
     assert!(rt; is_key(key.as_slice()));
@@ -155,20 +161,23 @@ fn random_keys(rt: HostRuntime) {
         }
         table[bits] = value;
     }
-    assert_eq!(rt; strings.len(), table.iter().filter(|value| **value != 0).count() as u64);
-    let mut at = KeyBuf::new();
-    let mut found = strings.first(&mut at);
+    assert_eq!(rt;
+        strings.len(),
+        table.iter().filter(|value| **value != 0).count() as u64
+    );
+    let mut before: Option<[u8; 20]> = None;
     for (bits, held) in table.iter().enumerate() {
         let value = *held;
         let key = letters(bits);
         assert_eq!(rt; strings.get(&key).unwrap_or(0), value);
         if value != 0 {
-            assert_eq!(rt; found, Some(value));
-            assert_eq!(rt; at.as_slice(), key.as_slice());
-            found = strings.next(&mut at);
+            match before {
+                Some(last) => check_scan(&rt, &strings, Scan::Next, &last, Some((&key, value))),
+                None => check_scan(&rt, &strings, Scan::First, b"", Some((&key, value))),
+            }
+            before = Some(key);
         }
     }
-    assert_eq!(rt; found, None);
 }
 
 // Twelve bits as letters behind a stem of eight, the highest first.
