@@ -165,6 +165,7 @@ fn random_keys(rt: HostRuntime) {
         if value != 0 {
             assert_eq!(rt; found, Some(value));
             assert_eq!(rt; at.as_slice(), key.as_slice());
+            assert!(rt; is_key(at.as_slice()));
             found = strings.next(&mut at);
         }
     }
