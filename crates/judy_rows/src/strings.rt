@@ -171,18 +171,11 @@ fn random_keys(rt: HostRuntime) {
         let key = letters(bits);
         assert_eq!(rt; strings.get(&key).unwrap_or(0), value);
         if value != 0 {
-<<<<<<< HEAD
             match before {
                 Some(last) => check_scan(&rt, &strings, Scan::Next, &last, Some((&key, value))),
                 None => check_scan(&rt, &strings, Scan::First, b"", Some((&key, value))),
             }
             before = Some(key);
-=======
-            assert_eq!(rt; found, Some(value));
-            assert_eq!(rt; at.as_slice(), key.as_slice());
-            assert!(rt; is_key(at.as_slice()));
-            found = strings.next(&mut at);
->>>>>>> d342c49bb2ad2947b00fb6835a5b146d024a5edb
         }
     }
 }
