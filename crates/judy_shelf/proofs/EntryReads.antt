@@ -56,7 +56,7 @@ module _ {K : Type 0} (order : K → K → Ordering) (key : Part K) (value : Par
     entries_fault cause next =
         reading_fault whole (to_come last (suc n) held) before mid after far_is cause
         (fault_first (entries order key value last (suc n)) (λ others. done (held ++ others)) cause mid after
-          (fault_first (entry order key value last) (λ first. entries order key value (Some first.0) n >>= λ others. done (first ∷ others)) cause mid after next))
+        (fault_first (entry order key value last) (λ first. entries order key value (Some first.0) n >>= λ others. done (first ∷ others)) cause mid after next))
 
   module _ (last : Option K) (first : K) (before mid : Drawn) (read : ReadsValue (field key ((is_above order last, bad_order) ∷ [])) first before mid) where
     -- A key and its value.

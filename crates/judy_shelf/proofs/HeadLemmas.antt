@@ -68,16 +68,20 @@ module _ (value : ℕ) (before after : Drawn) (was : ReadsValue (number 1) value
 
   kind_stops : (known : Bool) → is_kind value ≡ known → value ≢ 1 → value ≢ 2 → ReadsFault grammar.kind kind before after
   kind_stops false unknown not_one not_two = record {
-    input = was.input; given = was.given; bytes = was.bytes;
-    stops = (was.failures, inl (λ more. ap (λ r. followed_by r (checked ((is_kind, bad_kind) ∷ []))) (was.gives more) ∙ ap (λ b. cond b (Ok (value, more)) (Err bad_kind)) unknown))
+    input = was.input;
+    given = was.given;
+    bytes = was.bytes;
+    stops = (was.failures, inl (λ more. ap (λ r. followed_by r (checked ((is_kind, bad_kind) ∷ []))) (was.gives more) ∙ ap (λ b. cond b (Ok (value, more)) (Err bad_kind)) unknown));
   }
   kind_stops true known not_one not_two =
       let both = and_parts (ltb 0 value) (leb value 4) known in
       let above = ltb-true 0 value both.0 in
       let below = leb-true value 4 both.1 in
       record {
-        input = was.input; given = was.given; bytes = was.bytes;
-        stops = (was.failures, inr ([], three_or_four above below not_one not_two))
+        input = was.input;
+        given = was.given;
+        bytes = was.bytes;
+        stops = (was.failures, inr ([], three_or_four above below not_one not_two));
       }
 
   pub kind_told : (found : Option Kind) → MatchOption found ((value ≢ 1) × (value ≢ 2)) (λ kind. value ≡ kind_number kind) → Reads kind_number grammar.kind before (ok_or found BadKind) after

@@ -27,7 +27,7 @@ module _ {A B : Type 0} (part : Part A) (rest : A → Part B) where
     input = read.input;
     given = read.given;
     bytes = read.bytes;
-    stops = stops_too part (part >>= rest) read.input before after (λ input fault is. ap (λ r. followed_by r rest) is) cause read.stops
+    stops = stops_too part (part >>= rest) read.input before after (λ input fault is. ap (λ r. followed_by r rest) is) cause read.stops;
   }
 
   module _ (value : A) (before mid : Drawn) (first : ReadsValue part value before mid) where
@@ -45,14 +45,19 @@ module _ {A B : Type 0} (part : Part A) (rest : A → Part B) where
     later_stops after input reader stops = stops ∙ ap (λ n. n + 1) first.failures
     later_stops after input memory stops = stops ∙ first.failures
     later_stops after input cut stops = (stops.0 ∙ first.failures, stops.1, goes_on input ∙ stops.2)
-    later_stops after input kind stops =
-        (stops.0 ∙ first.failures, elim stops.1 [
-          | inl faulty ↦ inl (λ more. goes_on_more input more ∙ faulty more)
-          | inr ends ↦ inr (first.input ++ ends.0, elim ends.1 [
+    later_stops after input kind stops = (
+      stops.0 ∙ first.failures,
+      elim stops.1 [
+        | inl faulty ↦ inl (λ more. goes_on_more input more ∙ faulty more)
+        | inr ends ↦ inr (
+          first.input ++ ends.0,
+          elim ends.1 [
             | inl three ↦ inl (ap (λ t. first.input ++ t) three ∙ sym (append_assoc first.input ends.0 (3 ∷ [])))
             | inr four ↦ inr (ap (λ t. first.input ++ t) four ∙ sym (append_assoc first.input ends.0 (4 ∷ [])))
-          ])
-        ])
+          ],
+        )
+      ],
+    )
     later_stops after input (told fault) stops = (stops.0 ∙ first.failures, λ more. goes_on_more input more ∙ stops.1 more)
 
     pub fault_then : (cause : Cause) (after : Drawn) → ReadsFault (rest value) cause mid after → ReadsFault (part >>= rest) cause before after
@@ -60,7 +65,7 @@ module _ {A B : Type 0} (part : Part A) (rest : A → Part B) where
       input = first.input ++ read.input;
       given = both_given after read.input read.given;
       bytes = All-append (λ byte. byte < 256) first.input read.input first.bytes read.bytes;
-      stops = later_stops after read.input cause read.stops
+      stops = later_stops after read.input cause read.stops;
     }
 
     pub value_then : (given : B) (after : Drawn) → ReadsValue (rest value) given mid after → ReadsValue (part >>= rest) given before after
@@ -69,7 +74,7 @@ module _ {A B : Type 0} (part : Part A) (rest : A → Part B) where
       given = both_given after read.input read.given;
       bytes = All-append (λ byte. byte < 256) first.input read.input first.bytes read.bytes;
       failures = read.failures ∙ first.failures;
-      gives = λ more. goes_on_more read.input more ∙ read.gives more
+      gives = λ more. goes_on_more read.input more ∙ read.gives more;
     }
 
     pub reads_then : {X : Type 0} (view : X → B) (after : Drawn) (result : Result X LoadFault) → Reads view (rest value) mid result after → Reads view (part >>= rest) before result after
@@ -95,7 +100,7 @@ module _ {A : Type 0} (part : Part A) (value : A) (before after : Drawn) (read :
     given = read.given;
     bytes = read.bytes;
     failures = read.failures;
-    gives = λ more. ap (λ r. followed_by r (checked ((test, fault) ∷ []))) (read.gives more) ∙ ap (λ b. cond b (Ok (value, more)) (Err fault)) passes
+    gives = λ more. ap (λ r. followed_by r (checked ((test, fault) ∷ []))) (read.gives more) ∙ ap (λ b. cond b (Ok (value, more)) (Err fault)) passes;
   }
 
   -- A value that doesn't pass the first of some checks.
@@ -104,7 +109,7 @@ module _ {A : Type 0} (part : Part A) (value : A) (before after : Drawn) (read :
     input = read.input;
     given = read.given;
     bytes = read.bytes;
-    stops = (read.failures, λ more. ap (λ r. followed_by r (checked ((test, fault) ∷ checks))) (read.gives more) ∙ ap (λ b. cond b (checked checks value more) (Err fault)) fails)
+    stops = (read.failures, λ more. ap (λ r. followed_by r (checked ((test, fault) ∷ checks))) (read.gives more) ∙ ap (λ b. cond b (checked checks value more) (Err fault)) fails);
   }
 
 -- ---- a whole of which a part is read
@@ -129,7 +134,7 @@ module _ {A B : Type 0} (whole : Part B) (before mid after : Drawn) where
     given = next.given ∙ ap (λ known. grown known next.input) far.given ∙ grown-grown before.given far.input next.input;
     bytes = All-append (λ byte. byte < 256) far.input next.input far.bytes next.bytes;
     failures = next.failures ∙ far.failures;
-    goes = λ more. ap whole (append_assoc far.input next.input more) ∙ far.goes (next.input ++ more) ∙ ap (λ r. followed_by r rest) (next.gives more)
+    goes = λ more. ap whole (append_assoc far.input next.input more) ∙ far.goes (next.input ++ more) ∙ ap (λ r. followed_by r rest) (next.gives more);
   }
 
 module _ {B : Type 0} (whole : Part B) where
@@ -149,14 +154,19 @@ module _ {B : Type 0} (whole : Part B) where
     far_stops input reader stops = stops ∙ ap (λ n. n + 1) far.failures
     far_stops input memory stops = stops ∙ far.failures
     far_stops input cut stops = (stops.0 ∙ far.failures, stops.1, far.goes input ∙ stops.2)
-    far_stops input kind stops =
-        (stops.0 ∙ far.failures, elim stops.1 [
-          | inl faulty ↦ inl (λ more. far_more input more ∙ faulty more)
-          | inr ends ↦ inr (far.input ++ ends.0, elim ends.1 [
+    far_stops input kind stops = (
+      stops.0 ∙ far.failures,
+      elim stops.1 [
+        | inl faulty ↦ inl (λ more. far_more input more ∙ faulty more)
+        | inr ends ↦ inr (
+          far.input ++ ends.0,
+          elim ends.1 [
             | inl three ↦ inl (ap (λ t. far.input ++ t) three ∙ sym (append_assoc far.input ends.0 (3 ∷ [])))
             | inr four ↦ inr (ap (λ t. far.input ++ t) four ∙ sym (append_assoc far.input ends.0 (4 ∷ [])))
-          ])
-        ])
+          ],
+        )
+      ],
+    )
     far_stops input (told fault) stops = (stops.0 ∙ far.failures, λ more. far_more input more ∙ stops.1 more)
 
     -- What stops the rest stops the whole.
@@ -165,7 +175,7 @@ module _ {B : Type 0} (whole : Part B) where
       input = far.input ++ next.input;
       given = next.given ∙ ap (λ known. grown known next.input) far.given ∙ grown-grown before.given far.input next.input;
       bytes = All-append (λ byte. byte < 256) far.input next.input far.bytes next.bytes;
-      stops = far_stops next.input cause next.stops
+      stops = far_stops next.input cause next.stops;
     }
 
     pub reading_result : {X : Type 0} (view : X → B) (result : Result X LoadFault) → Reads view rest mid result after → Reads view whole before result after
@@ -174,7 +184,7 @@ module _ {B : Type 0} (whole : Part B) where
       given = next.given ∙ ap (λ known. grown known next.input) far.given ∙ grown-grown before.given far.input next.input;
       bytes = All-append (λ byte. byte < 256) far.input next.input far.bytes next.bytes;
       failures = next.failures ∙ far.failures;
-      gives = λ more. far_more next.input more ∙ next.gives more
+      gives = λ more. far_more next.input more ∙ next.gives more;
     }
     reading_result view (Err fault) next = reading_fault (cause_of fault) next
 

@@ -42,8 +42,11 @@ module _ (room : List ℕ) (filled : ℕ) (before after : Drawn) (given : after.
     input = take filled room;
     given = given;
     bytes = are;
-    stops = (same, subst (λ e. IfSome e (λ end. end ≡ true)) (sym ended) (ended_told known),
-      ap (λ b. cond b (Err truncated) (Ok (take wanted (take filled room), drop wanted (take filled room)))) (lt-ltb (length (take filled room)) wanted (let l = length-take-le filled room within in omega arith)))
+    stops = (
+      same,
+      subst (λ e. IfSome e (λ end. end ≡ true)) (sym ended) (ended_told known),
+      ap (λ b. cond b (Err truncated) (Ok (take wanted (take filled room), drop wanted (take filled room)))) (lt-ltb (length (take filled room)) wanted (let l = length-take-le filled room within in omega arith)),
+    );
   }
 
   pub room_broken : (wanted : ℕ) → after.failures ≡ before.failures + 1 → ReadsFault (bytes wanted) reader before after
@@ -59,7 +62,7 @@ room_full room wanted before after given are long same = record {
       let whole = length-append room more in
       let enough : wanted ≤ length (room ++ more) = omega arith in
       ap (λ b. cond b (Err truncated) (Ok (take wanted (room ++ more), drop wanted (room ++ more)))) (le-ltb (length (room ++ more)) wanted enough)
-      ∙ (λ t. Ok (take_at room more wanted long t, drop_at room more wanted long t))
+      ∙ (λ t. Ok (take_at room more wanted long t, drop_at room more wanted long t));
 }
 
 -- A byte that came where none may.
@@ -68,7 +71,7 @@ byte_trailing byte before after given same is = record {
   input = byte ∷ [];
   given = given;
   bytes = All-cons (λ byte. byte < 256) byte [] is (All-nil (λ byte. byte < 256));
-  stops = (same, λ more. refl)
+  stops = (same, λ more. refl);
 }
 
 -- Of a room of one byte at least one byte is all.

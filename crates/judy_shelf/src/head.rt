@@ -73,7 +73,11 @@ pub(crate) fn read_name<R: Source>(source: &mut R, shelf: &Shelf) -> Result<Name
 }
 
 // Reads a name that fills `text`.
-fn read_name_text<R: Source>(source: &mut R, shelf: &Shelf, text: &mut [u8]) -> Result<Name, LoadFault>
+fn read_name_text<R: Source>(
+    source: &mut R,
+    shelf: &Shelf,
+    text: &mut [u8],
+) -> Result<Name, LoadFault>
     requires below { (R.tally source.old).failures < 2 ^ 64 - 1 }
     requires some { 1 ≤ length text.old }
     requires most { length text.old ≤ 32 }
@@ -137,7 +141,10 @@ pub(crate) fn read_key_count<R: Source>(source: &mut R, limit: u64) -> Result<u6
 }
 
 // Reads a word that is greater than the one before, if there is one.
-pub(crate) fn read_word_after<R: Source>(source: &mut R, before: Option<u64>) -> Result<u64, LoadFault>
+pub(crate) fn read_word_after<R: Source>(
+    source: &mut R,
+    before: Option<u64>,
+) -> Result<u64, LoadFault>
     requires { (R.tally source.old).failures < 2 ^ 64 - 1 }
     ensures above { IfOk result (λ word. IsTrue (is_above word_order before word)) }
     ensures read { Reads (λ word. word) (field grammar.word ((is_above word_order before, bad_order) ∷ [])) (drawn (R.given source.old) (R.ended source.old) (R.tally source.old).failures) result (drawn (R.given source.new) (R.ended source.new) (R.tally source.new).failures) }

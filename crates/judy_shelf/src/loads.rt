@@ -13,7 +13,9 @@ ghost use Rattle.judy_shelf.specs.Writes.{kind_number};
 use crate::array::Array;
 use crate::fault::LoadFault;
 use crate::fields::{read_end, read_u64};
-use crate::head::{read_array_count, read_key_count, read_kind, read_limit, read_magic, read_name, read_word_after};
+use crate::head::{
+    read_array_count, read_key_count, read_kind, read_limit, read_magic, read_name, read_word_after,
+};
 use crate::kind::Kind;
 use crate::name::Name;
 use crate::shelf::Shelf;
@@ -52,7 +54,12 @@ fn read_store<R: Source>(alloc: Global, source: &mut R) -> Result<Shelf, LoadFau
 }
 
 // Reads the keys of a set, so many.
-fn read_set<R: Source>(alloc: Global, source: &mut R, limit: u64, count: u64) -> Result<Judy1, LoadFault>
+fn read_set<R: Source>(
+    alloc: Global,
+    source: &mut R,
+    limit: u64,
+    count: u64,
+) -> Result<Judy1, LoadFault>
     requires below { (R.tally source.old).failures < 2 ^ 64 - 1 }
     requires some { 1 ≤ limit }
     requires most { limit ≤ 4294967295 }
@@ -71,7 +78,12 @@ fn read_set<R: Source>(alloc: Global, source: &mut R, limit: u64, count: u64) ->
 }
 
 // Reads the keys of a map, so many, and the value of each behind it.
-fn read_words<R: Source>(alloc: Global, source: &mut R, limit: u64, count: u64) -> Result<JudyL, LoadFault>
+fn read_words<R: Source>(
+    alloc: Global,
+    source: &mut R,
+    limit: u64,
+    count: u64,
+) -> Result<JudyL, LoadFault>
     requires below { (R.tally source.old).failures < 2 ^ 64 - 1 }
     requires some { 1 ≤ limit }
     requires most { limit ≤ 4294967295 }
@@ -103,7 +115,13 @@ fn read_body<R: Source>(alloc: Global, source: &mut R) -> Result<Array, LoadFaul
 }
 
 // Reads the keys of an array of a kind, so many.
-fn read_contents<R: Source>(alloc: Global, source: &mut R, kind: Kind, limit: u64, count: u64) -> Result<Array, LoadFault>
+fn read_contents<R: Source>(
+    alloc: Global,
+    source: &mut R,
+    kind: Kind,
+    limit: u64,
+    count: u64,
+) -> Result<Array, LoadFault>
     requires below { (R.tally source.old).failures < 2 ^ 64 - 1 }
     requires some { 1 ≤ limit }
     requires most { limit ≤ 4294967295 }
@@ -116,7 +134,11 @@ fn read_contents<R: Source>(alloc: Global, source: &mut R, kind: Kind, limit: u6
 }
 
 // Reads an array whose name no array on the shelf has.
-fn read_array<R: Source>(alloc: Global, source: &mut R, shelf: &Shelf) -> Result<(Name, Array), LoadFault>
+fn read_array<R: Source>(
+    alloc: Global,
+    source: &mut R,
+    shelf: &Shelf,
+) -> Result<(Name, Array), LoadFault>
     requires { (R.tally source.old).failures < 2 ^ 64 - 1 }
     ensures new { IfOk result (λ made. array_named shelf.now made.0 ≡ None) }
     ensures read { Reads (λ made. (made.0, value_of made.1)) (grammar.array (store_of shelf.now)) (drawn (R.given source.old) (R.ended source.old) (R.tally source.old).failures) result (drawn (R.given source.new) (R.ended source.new) (R.tally source.new).failures) }

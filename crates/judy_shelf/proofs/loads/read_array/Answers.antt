@@ -15,7 +15,7 @@ returns-in_err-array-clause-read g c =
     let earlier = store_of c.args.shelf.now in
     reads_err (λ made. (made.0, value_of made.1)) (grammar.array earlier) before two fault c.from_residual-in_err-array.result c.from_residual-in_err-array.ensures.1
     (fault_then (grammar.name earlier) (λ name. grammar.body >>= λ held. done (name, held)) c.in_ok-name.name before one c.in_ok-name.ensures.read (cause_of fault) two
-      (fault_first grammar.body (λ held. done (c.in_ok-name.name, held)) (cause_of fault) one two c.in_err-array.ensures))
+    (fault_first grammar.body (λ held. done (c.in_ok-name.name, held)) (cause_of fault) one two c.in_err-array.ensures))
 
 pub returns-clause-read : goal.returns-clause-read
 returns-clause-read g c =

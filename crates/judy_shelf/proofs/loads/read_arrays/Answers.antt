@@ -12,9 +12,11 @@ pub arrays-init : goal.arrays-init
 arrays-init g c =
     let before = drawn (g.R.Source.given c.args.source.now) (g.R.Source.ended c.args.source.now) (g.R.Source.tally c.args.source.now).failures in
     let none = ap length c.new-shelf.ensures in
-    let all : c.args.count ≡ c.args.count - 0 = omega arith in
-    (omega arith, subst (λ made. Reading (grammar.arrays [] c.args.count) (grammar.arrays (store_of made) (c.args.count - 0)) before before) (sym c.new-shelf.ensures)
-      (subst (λ n. Reading (grammar.arrays [] c.args.count) (grammar.arrays [] n) before before) all (reading_none (grammar.arrays [] c.args.count) before)))
+    let all : c.args.count ≡ c.args.count - 0 = omega arith in (
+      omega arith,
+      subst (λ made. Reading (grammar.arrays [] c.args.count) (grammar.arrays (store_of made) (c.args.count - 0)) before before) (sym c.new-shelf.ensures)
+          (subst (λ n. Reading (grammar.arrays [] c.args.count) (grammar.arrays [] n) before before) all (reading_none (grammar.arrays [] c.args.count) before)),
+    )
 
 pub returns-in_err-name : goal.returns-in_err-name
 returns-in_err-name g c =

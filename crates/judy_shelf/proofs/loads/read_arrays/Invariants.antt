@@ -10,4 +10,4 @@ abbrev pub invariant-arrays : goal.invariant-arrays
 invariant-arrays g l =
     (length l.shelf ≤ l.counter)
     × Reading (grammar.arrays [] l.count) (grammar.arrays (store_of l.shelf) (l.count - l.counter))
-      (drawn (g.R.Source.given l.fn.source) (g.R.Source.ended l.fn.source) (g.R.Source.tally l.fn.source).failures) (drawn (g.R.Source.given l.source) (g.R.Source.ended l.source) (g.R.Source.tally l.source).failures)
+    (drawn (g.R.Source.given l.fn.source) (g.R.Source.ended l.fn.source) (g.R.Source.tally l.fn.source).failures) (drawn (g.R.Source.given l.source) (g.R.Source.ended l.source) (g.R.Source.tally l.source).failures)

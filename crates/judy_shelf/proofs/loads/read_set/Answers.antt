@@ -60,7 +60,10 @@ keys-preserved g c =
     let new = c.keys.invariant.3 in
     let next = entry_read word_order grammar.word grammar.no_value count c.keys.before key mid after c.in_ok-key.ensures.read 0 after (value_done 0 after) in
     let far = entries_next word_order grammar.word grammar.no_value count c.keys.before left n one held before mid after c.keys.invariant.4 (key, 0) next in
-    let set = c.in-Ok.ensures.set in
-    (held ++ (key, 0) ∷ [], ap (λ a. a.limit) set ∙ c.keys.invariant.1,
+    let set = c.in-Ok.ensures.set in (
+      held ++ (key, 0) ∷ [],
+      ap (λ a. a.limit) set ∙ c.keys.invariant.1,
       ap (λ a. a.map) set ∙ ap (λ m. ins m key) c.keys.invariant.2 ∙ set_more nat_cmp_total nat_cmp-IsAntisymmetric c.keys.before held new key 0 above ∙ sym (made_more nat_cmp_total nat_cmp-IsAntisymmetric c.keys.before held new key 0 above),
-      new_more nat_cmp_total nat_cmp-IsAntisymmetric c.keys.before held new key 0 above, far)
+      new_more nat_cmp_total nat_cmp-IsAntisymmetric c.keys.before held new key 0 above,
+      far,
+    )

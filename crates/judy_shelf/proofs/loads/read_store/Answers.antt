@@ -15,7 +15,7 @@ returns-in_err-count g c =
     let fault = c.in_err-count.field-0.0 in
     reads_err store_of up_to_end before two fault c.from_residual-in_err-count.result c.from_residual-in_err-count.ensures.1
     (fault_then grammar.begins (λ _. grammar.array_count >>= λ count. grammar.arrays [] count) magic before one c.in_ok-read_magic.ensures (cause_of fault) two
-      (fault_first grammar.array_count (λ count. grammar.arrays [] count) (cause_of fault) one two c.in_err-count.ensures.read))
+    (fault_first grammar.array_count (λ count. grammar.arrays [] count) (cause_of fault) one two c.in_err-count.ensures.read))
 
 pub returns : goal.returns
 returns g c =

@@ -80,7 +80,10 @@ keys-preserved g c =
     let above = c.in_ok-key.ensures.above in
     let new = c.keys.invariant.3 in
     let next = entry_read word_order grammar.word grammar.word count c.keys.before key mid keyed c.in_ok-key.ensures.read value after c.in_ok-value.ensures in
-    let far = entries_next word_order grammar.word grammar.word count c.keys.before left n one held before mid after c.keys.invariant.4 (key, value) next in
-    (held ++ (key, value) ∷ [], c.keys.invariant.1,
+    let far = entries_next word_order grammar.word grammar.word count c.keys.before left n one held before mid after c.keys.invariant.4 (key, value) next in (
+      held ++ (key, value) ∷ [],
+      c.keys.invariant.1,
       ap (λ m. insert m key value) c.keys.invariant.2 ∙ sym (made_more nat_cmp_total nat_cmp-IsAntisymmetric c.keys.before held new key value above),
-      new_more nat_cmp_total nat_cmp-IsAntisymmetric c.keys.before held new key value above, far)
+      new_more nat_cmp_total nat_cmp-IsAntisymmetric c.keys.before held new key value above,
+      far,
+    )

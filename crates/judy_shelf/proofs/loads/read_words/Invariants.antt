@@ -13,4 +13,4 @@ abbrev pub invariant-keys : goal.invariant-keys
 invariant-keys g l =
     (held : List (ℕ × ℕ)) × (l.words.limit ≡ l.limit) × (l.words.map ≡ from_entries held) × AreNew nat_cmp_total nat_cmp-IsAntisymmetric l.before held
     × Reading (whole word_order grammar.word grammar.word l.count) (to_come word_order grammar.word grammar.word l.count l.before (l.count - l.counter) held)
-      (drawn (g.R.Source.given l.fn.source) (g.R.Source.ended l.fn.source) (g.R.Source.tally l.fn.source).failures) (drawn (g.R.Source.given l.source) (g.R.Source.ended l.source) (g.R.Source.tally l.source).failures)
+    (drawn (g.R.Source.given l.fn.source) (g.R.Source.ended l.fn.source) (g.R.Source.tally l.fn.source).failures) (drawn (g.R.Source.given l.source) (g.R.Source.ended l.source) (g.R.Source.tally l.source).failures)
