@@ -1,15 +1,15 @@
 -- What a change at one seat makes of the look-ups.
-use Rattle.std.proofs.Common.{◌≡◌, ◌≢◌, ℕ, zero, suc, ◌+◌, ◌<◌, ◌==◌, Bool, true, false, cond, List, [], ◌∷◌, ◌++◌, length, Option, None, Some, ◌⊎◌, inl, inr, refl, sym, ap, subst, ◌∙◌, arith, eq-eqb}
-use Rattle.std.proofs.lemmas.List.{append-nil, append_assoc, length-append, append_cancel_left}
-use Rattle.std.proofs.lemmas.Bool.{cases_eq, ne_eqb}
-use Rattle.std.specs.FinMap.{FinMap, get}
+use Rattle.std.proofs.Common.{◌≡◌, ◌≢◌, ℕ, suc, List, [], ◌∷◌, ◌++◌, Option, Some, ◌⊎◌, inl, inr, refl, sym, ap, subst, ◌∙◌}
+use Rattle.std.proofs.lemmas.List.{append-nil, append_assoc, append_cancel_left}
+use Rattle.std.proofs.lemmas.Bool.{cases_eq}
+use Rattle.std.specs.FinMap.{FinMap}
 use Rattle.judy_model.specs.Keys.{word_order}
-use Rattle.judy_sl.specs.Pieces.{ArePieces, AreInner, IsInner, IsFinal}
-use Rattle.judy_sl.specs.World.{World, Node, gone, tail, level, at_node, at_entry, lookup, step_node, step_entry, walk}
-use Rattle.judy_sl.specs.Worlds.{IsWorld, FitsBehind}
+use Rattle.judy_sl.specs.Pieces.{ArePieces, AreInner}
+use Rattle.judy_sl.specs.World.{World, gone, level, lookup, step_node, step_entry, walk}
+use Rattle.judy_sl.specs.Worlds.{IsWorld}
 use Rattle.judy_sl.specs.Grown.{IsChange}
-use Rattle.judy_sl.proofs.Ways.{look_in, lookup-walk, step-parts, tail-same, tail-other}
-use Rattle.judy_sl.proofs.Frames.{frame, frame-below}
+use Rattle.judy_sl.proofs.Ways.{look_in, lookup-walk, step-parts}
+use Rattle.judy_sl.proofs.Frames.{frame}
 
 -- Pieces begin with others, or they don't.
 split-front : (front ps : List ℕ) → ((rest : List ℕ) × (ps ≡ front ++ rest)) ⊎ ((rest : List ℕ) → ps ≢ front ++ rest)

@@ -1,11 +1,11 @@
 -- What a change of an entry, or of a tail, makes of the look-ups.
-use Rattle.std.proofs.Common.{◌≡◌, ◌≢◌, ℕ, zero, suc, List, [], ◌∷◌, ◌++◌, Option, None, Some, inl, inr, refl, sym, ap, subst, ◌∙◌, arith}
+use Rattle.std.proofs.Common.{◌≡◌, ◌≢◌, ℕ, suc, List, [], ◌∷◌, ◌++◌, Option, None, Some, inl, inr, refl, sym, ap, subst, ◌∙◌}
 use Rattle.std.proofs.lemmas.List.{append_assoc}
 use Rattle.std.proofs.lemmas.Bool.{cases_eq}
 use Rattle.std.specs.FinMap.{FinMap, get}
 use Rattle.judy_model.specs.Keys.{word_order}
-use Rattle.judy_sl.specs.Pieces.{ArePieces, AreInner, IsInner, IsFinal}
-use Rattle.judy_sl.specs.World.{World, Node, gone, tail, level, at_node, at_entry, lookup, walk}
+use Rattle.judy_sl.specs.Pieces.{ArePieces, AreInner, IsFinal}
+use Rattle.judy_sl.specs.World.{World, gone, tail, level, at_entry, lookup, walk}
 use Rattle.judy_sl.specs.Worlds.{IsWorld, FitsBehind}
 use Rattle.judy_sl.proofs.Ways.{look_in, tail-same, tail-other}
 use Rattle.judy_sl.proofs.Frames.{frame-below}

@@ -1,35 +1,31 @@
 -- A key that is added where a level has no entry for it.
-use Rattle.std.proofs.Common.{◌≡◌, ◌≢◌, ℕ, zero, suc, ◌<◌, ◌≤◌, ◌-◌, List, [], ◌∷◌, ◌++◌, length, drop, get_or, set, Option, None, Some, inl, inr, refl, sym, ap, subst, ◌∙◌, arith}
+use Rattle.std.proofs.Common.{◌≡◌, ◌≢◌, ℕ, zero, suc, ◌<◌, ◌≤◌, ◌-◌, List, [], ◌∷◌, ◌++◌, length, get_or, set, Some, inl, inr, refl, sym, ap, subst, ◌∙◌, arith}
 use Rattle.std.proofs.lemmas.Bool.{cases_eq, cases_lt}
-use Rattle.std.proofs.lemmas.Option.{none-some, slice_get-get_or, slice_get_past}
-use Rattle.std.proofs.lemmas.List.{append_assoc, length-drop, length-set, get_or-set_same, get_or-set_other}
-use Rattle.std.specs.Prelude.{slice_get}
-use Rattle.std.specs.FinMap.{FinMap, get, insert}
+use Rattle.std.proofs.lemmas.Option.{slice_get-get_or, slice_get_past}
+use Rattle.std.proofs.lemmas.List.{length-drop, length-set, get_or-set_same, get_or-set_other}
+use Rattle.std.specs.FinMap.{FinMap, insert}
 use Rattle.judy_model.specs.Keys.{word_order, IsStringKey}
 use Rattle.judy_model.specs.Arrays.{ArrayOf}
-use Rattle.judy_word.specs.Writes.{with_value}
 use Rattle.judy_sl.specs.declared.child.Child.{Child}
-use Rattle.judy_sl.specs.declared.child.Rest.{Rest}
 use Rattle.judy_sl.specs.declared.child.Child.TheVariants.{Free, Tail, Level}
 use Rattle.judy_sl.specs.declared.arena.Arena.{Arena}
 use Rattle.judy_sl.specs.declared.arena.Place.{Place}
 use Rattle.judy_sl.specs.declared.arena.Place.TheVariants.{Root, Below}
-use Rattle.judy_sl.specs.Pieces.{pieces, piece_of, IsText, IsInner, IsFinal, SpellKey, ArePieces, AreInner}
-use Rattle.judy_sl.specs.World.{World, Node, gone, tail, level, lookup, at_entry, walk}
-use Rattle.judy_sl.specs.Worlds.{IsWorld, FitsBehind}
+use Rattle.judy_sl.specs.Pieces.{pieces, IsFinal, SpellKey}
+use Rattle.judy_sl.specs.World.{World, Node, gone, level}
+use Rattle.judy_sl.specs.Worlds.{IsWorld}
 use Rattle.judy_sl.specs.Arenas.{world_of, node_of, child_at, IsArena, HasText, HasLimit}
 use Rattle.judy_sl.specs.Children.{child_with, IsTaken}
-use Rattle.judy_sl.specs.Places.{IsPlace, IsInside, with_child, place_with}
-use Rattle.judy_sl.specs.Ways.{seat_of, piece_at, LeadsTo, IsFound, IsGap, HasValue, left_of}
-use Rattle.judy_sl.specs.Grown.{IsChange, IsPut, IsAdded, IsSame, next_place, free_or}
-use Rattle.judy_sl.proofs.PieceLemmas.{piece-IsFinal, piece-IsInner, text-drop}
-use Rattle.judy_sl.proofs.Ways.{look_in, lookup-in, walk-more, tail-same, tail-other, pieces_short, pieces_long}
+use Rattle.judy_sl.specs.Places.{IsPlace, IsInside, place_with}
+use Rattle.judy_sl.specs.Ways.{seat_of, piece_at, IsGap, HasValue, left_of}
+use Rattle.judy_sl.specs.Grown.{IsChange, IsAdded, IsSame, next_place, free_or}
+use Rattle.judy_sl.proofs.PieceLemmas.{piece-IsFinal}
+use Rattle.judy_sl.proofs.Ways.{pieces_short}
 use Rattle.judy_sl.proofs.Changes.{way-stays}
-use Rattle.judy_sl.proofs.Seats.{set_node, set_behind, set_node-comm, cond-same, cond-other, NodeFits, IsUsed, keeps, fits-put, put}
-use Rattle.judy_sl.proofs.Entries.{changes_value, changes_behind}
-use Rattle.judy_sl.proofs.OnWay.{pieces-some, inner-more}
+use Rattle.judy_sl.proofs.Seats.{set_node, cond-same, NodeFits, IsUsed}
+use Rattle.judy_sl.proofs.Entries.{changes_value}
 use Rattle.judy_sl.proofs.Written.{behind-leads, apart-leads}
-use Rattle.judy_sl.proofs.Linked.{node_with, inside_of, world-with_place, place-with_arena, fits-insert, insert-some, get-insert_here, get-insert_off, text-with, limit-with}
+use Rattle.judy_sl.proofs.Linked.{node_with, inside_of, world-with_place, place-with_arena, fits-insert, insert-some, get-insert_here, get-insert_off}
 
 -- ---- nothing has changed
 

@@ -1,10 +1,10 @@
 -- What stays where one seat changes.
-use Rattle.std.proofs.Common.{◌≡◌, ◌≢◌, ℕ, zero, suc, ◌+◌, ◌<◌, List, [], ◌∷◌, ◌++◌, length, Option, None, Some, refl, sym, ap, subst, ◌∙◌, arith}
-use Rattle.std.proofs.lemmas.List.{append-nil, append_assoc, length-append}
+use Rattle.std.proofs.Common.{◌≡◌, ◌≢◌, ℕ, suc, List, [], ◌∷◌, ◌++◌, Option, None, Some, refl, sym, ap, subst, ◌∙◌}
+use Rattle.std.proofs.lemmas.List.{append-nil, append_assoc}
 use Rattle.std.specs.FinMap.{FinMap, get}
 use Rattle.judy_model.specs.Keys.{word_order}
-use Rattle.judy_sl.specs.Pieces.{ArePieces, AreInner, IsInner}
-use Rattle.judy_sl.specs.World.{World, Node, gone, tail, level, at_node, at_entry, lookup, step_node, step_entry, walk}
+use Rattle.judy_sl.specs.Pieces.{ArePieces}
+use Rattle.judy_sl.specs.World.{World, Node, gone, tail, level, at_entry, lookup}
 use Rattle.judy_sl.specs.Worlds.{IsWorld, FitsBehind}
 use Rattle.judy_sl.proofs.Ways.{look_in}
 

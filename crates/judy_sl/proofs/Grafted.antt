@@ -1,7 +1,6 @@
 -- A branch that takes the place of a tail: from its fork up to that place.
-use Rattle.std.proofs.Common.{◌≡◌, ◌≢◌, ℕ, zero, suc, ◌+◌, ◌*◌, ◌/◌, ◌<◌, ◌≤◌, List, [], ◌∷◌, ◌++◌, length, drop, Option, None, Some, Bool, true, false, IsTrue, is_some, ◌⊎◌, inl, inr, refl, sym, ap, subst, ◌∙◌, arith}
+use Rattle.std.proofs.Common.{◌≡◌, ◌≢◌, ℕ, zero, suc, ◌*◌, ◌/◌, ◌<◌, ◌≤◌, List, [], ◌∷◌, ◌++◌, length, drop, Option, None, Some, true, false, IsTrue, is_some, ◌⊎◌, inl, inr, refl, sym, ap, subst, ◌∙◌, arith}
 use Rattle.std.proofs.lemmas.Bool.{cases_eq}
-use Rattle.std.proofs.lemmas.Option.{none-some, same_Some}
 use Rattle.std.proofs.lemmas.List.{append_assoc, append-nil, length-append}
 use Rattle.std.specs.Ordering.{eq_by_cmp}
 use Rattle.std.specs.Map.{keys_of}
@@ -9,29 +8,28 @@ use Rattle.std.specs.FinMap.{FinMap, get, insert, empty, contains_key, get-empty
 use Rattle.judy_model.specs.Keys.{word_order, byte_order, IsStringKey}
 use Rattle.judy_model.specs.Arrays.{ArrayOf, empty_array}
 use Rattle.judy_word.specs.Writes.{with_value}
-use Rattle.judy_sl.specs.declared.child.Child.{Child}
-use Rattle.judy_sl.specs.declared.child.Child.TheVariants.{Free, Tail, Level}
+use Rattle.judy_sl.specs.declared.child.Child.TheVariants.{Tail, Level}
 use Rattle.judy_sl.specs.declared.arena.Arena.{Arena}
 use Rattle.judy_sl.specs.declared.branches.Twig.{Twig}
 use Rattle.judy_sl.specs.declared.branches.Branch.{Branch}
-use Rattle.judy_sl.specs.Pieces.{pieces, pieces_in, piece_of, IsText, IsInner, IsFinal, SpellKey, ArePieces, AreInner}
-use Rattle.judy_sl.specs.World.{World, Node, gone, tail, level, lookup, at_entry, walk}
-use Rattle.judy_sl.specs.Worlds.{IsWorld, FitsBehind}
-use Rattle.judy_sl.specs.Arenas.{world_of, node_of, child_at, IsArena, HasText, HasLimit}
+use Rattle.judy_sl.specs.Pieces.{pieces, pieces_in, piece_of, IsText, IsInner, SpellKey, ArePieces, AreInner}
+use Rattle.judy_sl.specs.World.{World, gone, tail, level}
+use Rattle.judy_sl.specs.Worlds.{FitsBehind}
+use Rattle.judy_sl.specs.Arenas.{world_of, node_of, IsArena}
 use Rattle.judy_sl.specs.Places.{with_child}
-use Rattle.judy_sl.specs.Ways.{LeadsTo, IsClash, left_of}
+use Rattle.judy_sl.specs.Ways.{LeadsTo, left_of}
 use Rattle.judy_sl.specs.Grown.{IsChange, IsPut, IsHung, HasTwig, IsSound, IsGraft, IsGrafted}
 use Rattle.judy_sl.specs.Branches.{IsTwig, IsSprout, IsBuilt, AreSingle, single, entry_of}
 use Rattle.judy_sl.proofs.PieceLemmas.{piece-IsFinal, piece-IsInner, text-drop, pieces_are}
-use Rattle.judy_sl.proofs.Ways.{look_in, lookup-in, tail-same, tail-other, same-eq_by_cmp, eq_by_cmp-same, pieces_short, pieces_long}
+use Rattle.judy_sl.proofs.Ways.{look_in, tail-same, tail-other, same-eq_by_cmp, eq_by_cmp-same, pieces_short, pieces_long}
 use Rattle.judy_sl.proofs.Frames.{frame-below}
 use Rattle.judy_sl.proofs.Changes.{changes, longer}
-use Rattle.judy_sl.proofs.Seats.{set_node, set_behind, cond-same, cond-other, NodeFits, IsUsed}
+use Rattle.judy_sl.proofs.Seats.{set_node, cond-same, cond-other}
 use Rattle.judy_sl.proofs.OnWay.{pieces-head, pieces-some}
 use Rattle.judy_sl.proofs.Branching.{keys-more}
 use Rattle.judy_sl.proofs.Written.{behind-leads}
 use Rattle.judy_sl.proofs.Linked.{get-insert_here, get-insert_off, world-with_child, arena-with_child}
-use Rattle.judy_sl.proofs.Grafts.{Grafts, grafts-start, put-grafts, put-arena, put-same, put-here, behind_put, IsSide, side-stays, IsBranch, fork-branch, up-grafts, up-branch}
+use Rattle.judy_sl.proofs.Grafts.{Grafts, grafts-start, put-grafts, put-same, put-here, behind_put, IsSide, side-stays, IsBranch, fork-branch, up-grafts, up-branch}
 
 -- ---- a twig that is hung up
 

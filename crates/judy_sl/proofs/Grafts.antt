@@ -1,26 +1,22 @@
 -- A branch that takes the place of a tail.
-use Rattle.std.proofs.Common.{◌≡◌, ◌≢◌, ℕ, zero, suc, ◌+◌, ◌*◌, ◌<◌, ◌≤◌, List, [], ◌∷◌, ◌++◌, length, drop, Option, None, Some, inl, inr, refl, sym, ap, subst, ◌∙◌, arith}
+use Rattle.std.proofs.Common.{◌≡◌, ◌≢◌, ℕ, suc, ◌*◌, ◌≤◌, List, [], ◌∷◌, ◌++◌, length, None, Some, inl, inr, refl, sym, ap, subst, ◌∙◌, arith}
 use Rattle.std.proofs.lemmas.Bool.{cases_eq}
 use Rattle.std.proofs.lemmas.Option.{none-some, same_Some}
-use Rattle.std.proofs.lemmas.List.{append_assoc, append-nil, length-append}
-use Rattle.std.specs.FinMap.{FinMap, get, insert, empty, get-empty}
-use Rattle.judy_model.specs.Keys.{word_order, IsStringKey}
-use Rattle.judy_model.specs.Arrays.{ArrayOf, empty_array}
-use Rattle.judy_word.specs.Writes.{with_value}
+use Rattle.std.proofs.lemmas.List.{length-append}
+use Rattle.std.specs.FinMap.{FinMap, get, empty, get-empty}
+use Rattle.judy_model.specs.Keys.{word_order}
+use Rattle.judy_model.specs.Arrays.{ArrayOf}
 use Rattle.judy_sl.specs.declared.child.Child.{Child}
-use Rattle.judy_sl.specs.declared.child.Child.TheVariants.{Free, Tail, Level}
+use Rattle.judy_sl.specs.declared.child.Child.TheVariants.{Level}
 use Rattle.judy_sl.specs.declared.arena.Arena.{Arena}
-use Rattle.judy_sl.specs.declared.branches.Twig.{Twig}
-use Rattle.judy_sl.specs.Pieces.{pieces, piece_of, IsText, IsInner, IsFinal, SpellKey, ArePieces, AreInner}
-use Rattle.judy_sl.specs.World.{World, Node, gone, tail, level, lookup, at_entry, walk}
+use Rattle.judy_sl.specs.Pieces.{IsInner, IsFinal, SpellKey, ArePieces}
+use Rattle.judy_sl.specs.World.{World, gone, tail, level, lookup, at_entry}
 use Rattle.judy_sl.specs.Worlds.{IsWorld, FitsBehind}
 use Rattle.judy_sl.specs.Arenas.{world_of, node_of, child_at, IsArena, HasText, HasLimit}
-use Rattle.judy_sl.specs.Grown.{IsChange, IsPut, IsHung}
-use Rattle.judy_sl.specs.Branches.{IsTwig, entry_of}
-use Rattle.judy_sl.proofs.Ways.{look_in, lookup-in, tail-same, tail-other}
-use Rattle.judy_sl.proofs.Frames.{frame, frame-below}
-use Rattle.judy_sl.proofs.Seats.{set_node, set_behind, cond-same, cond-other, NodeFits, IsUsed, keeps, fits-put, put}
-use Rattle.judy_sl.proofs.Linked.{get-insert_here, get-insert_off}
+use Rattle.judy_sl.specs.Grown.{IsPut}
+use Rattle.judy_sl.proofs.Ways.{look_in, tail-same, tail-other}
+use Rattle.judy_sl.proofs.Frames.{frame-below}
+use Rattle.judy_sl.proofs.Seats.{set_behind, cond-same, cond-other, NodeFits, IsUsed, keeps, put}
 use Rattle.judy_sl.proofs.Tailed.{world-put}
 
 -- An arena, and another in which everything of the first still stands.

@@ -1,17 +1,16 @@
 -- What an insert makes of an array of strings.
-use Rattle.std.proofs.Common.{◌≡◌, ◌≢◌, ℕ, ◌+◌, ◌≤◌, ◌==◌, true, false, List, Option, None, Some, Result, Ok, Err, IfOk, OnOk, IfErr, IsTrue, IsFalse, refl, sym, ap, subst, ◌∙◌, arith, eq-eqb}
+use Rattle.std.proofs.Common.{◌≡◌, ◌≢◌, ℕ, ◌+◌, List, None, Some, Result, Ok, Err, IfOk, OnOk, IfErr, IsTrue, IsFalse, refl, sym, ap, ◌∙◌, arith, eq-eqb}
 use Rattle.std.proofs.lemmas.Bool.{ne_eqb}
 use Rattle.std.proofs.lemmas.Option.{none-some}
 use Rattle.std.specs.Borrow.{name_if_ok, MutBor}
 use borrow.Follows.Closed.{read_of}
-use Rattle.std.specs.FinMap.{FinMap, get, insert, len}
+use Rattle.std.specs.FinMap.{FinMap, get, len}
 use Rattle.judy_model.specs.Keys.{word_order, byte_order, IsStringKey}
-use Rattle.judy_model.specs.Arrays.{ArrayOf, ins, is_full}
+use Rattle.judy_model.specs.Arrays.{ins, is_full}
 use Rattle.judy_model.specs.Tables.{table, string_keys}
 use Rattle.judy_model.proofs.Inserts.{get-insert_itself, ins_present, ins_absent, is_full_present, is_full_absent}
 use Rattle.judy_model.proofs.TableLemmas.{byte_order_total}
 use Rattle.judy_sl.specs.declared.error.SlError.{SlError}
-use Rattle.judy_sl.specs.declared.error.SlError.TheVariants.{NoMemory}
 use Rattle.judy_sl.specs.declared.child.Child.{Child}
 use Rattle.judy_sl.specs.declared.child.Child.TheVariants.{Free, Tail, Level}
 use Rattle.judy_sl.specs.declared.arena.Arena.{Arena}
@@ -21,7 +20,7 @@ use Rattle.judy_sl.specs.declared.arena.Way.{Way}
 use Rattle.judy_sl.specs.declared.arena.Way.TheVariants.{At, Gap, Clash}
 use Rattle.judy_sl.specs.Pieces.{pieces}
 use Rattle.judy_sl.specs.World.{World, lookup}
-use Rattle.judy_sl.specs.Arenas.{world_of, child_at, map_of, array_of, IsArena, IsStrings}
+use Rattle.judy_sl.specs.Arenas.{world_of, child_at, map_of, array_of, IsStrings}
 use Rattle.judy_sl.specs.Children.{value_at, value_in}
 use Rattle.judy_sl.specs.Places.{place_with, place_value, place_in_value}
 use Rattle.judy_sl.specs.Ways.{IsWay, IsNew, IsFound}
@@ -30,7 +29,7 @@ use Rattle.judy_sl.specs.Lends.{with_value}
 use Rattle.judy_sl.proofs.Maps.{get-map, map_written, len-added}
 use Rattle.judy_sl.proofs.Filled.{world-same, arena-same}
 use Rattle.judy_sl.proofs.Written.{written-change, value-there}
-use Rattle.judy_sl.proofs.Keeping.{gap-none, clash-none, strings-written, get-there, value-place}
+use Rattle.judy_sl.proofs.Keeping.{gap-none, clash-none, get-there, value-place}
 
 -- ---- results that are never an error
 

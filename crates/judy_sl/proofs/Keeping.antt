@@ -1,13 +1,13 @@
 -- An array of strings, and what its changes make of it.
-use Rattle.std.proofs.Common.{◌≡◌, ◌≢◌, ℕ, zero, suc, ◌+◌, ◌≤◌, ◌<◌, List, [], ◌∷◌, ◌++◌, length, Option, None, Some, refl, sym, ap, subst, ◌∙◌, arith}
-use Rattle.std.specs.FinMap.{FinMap, get, empty, insert, len, len-empty, empty_of_len}
-use Rattle.judy_model.specs.Keys.{word_order, byte_order, IsStringKey}
-use Rattle.judy_model.specs.Arrays.{ArrayOf, empty_array}
+use Rattle.std.proofs.Common.{◌≡◌, ℕ, suc, ◌≤◌, List, [], ◌∷◌, ◌++◌, None, Some, sym, ap, ◌∙◌, arith}
+use Rattle.std.specs.FinMap.{FinMap, get, insert, len, len-empty}
+use Rattle.judy_model.specs.Keys.{byte_order, IsStringKey}
+use Rattle.judy_model.specs.Arrays.{empty_array}
 use Rattle.judy_sl.specs.declared.arena.Arena.{Arena}
 use Rattle.judy_sl.specs.declared.arena.Place.{Place}
 use Rattle.judy_sl.specs.Pieces.{pieces, piece_of}
-use Rattle.judy_sl.specs.World.{World, Node, gone, tail, level, lookup, at_entry}
-use Rattle.judy_sl.specs.Arenas.{world_of, map_of, array_of, IsArena, IsStrings}
+use Rattle.judy_sl.specs.World.{World, lookup, at_entry}
+use Rattle.judy_sl.specs.Arenas.{world_of, map_of, array_of, IsStrings}
 use Rattle.judy_sl.specs.Places.{place_with, place_value}
 use Rattle.judy_sl.specs.Ways.{IsFound, IsGap, IsClash, seat_of, left_of}
 use Rattle.judy_sl.specs.Lends.{with_value}

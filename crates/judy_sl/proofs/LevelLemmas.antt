@@ -1,16 +1,14 @@
 -- What a level holds, by the keys that begin with the bytes behind which it stands.
-use Rattle.std.proofs.Common.{◌≡◌, ◌≢◌, ℕ, zero, suc, ◌+◌, ◌*◌, ◌^◌, ◌%◌, ◌<◌, ◌≤◌, IsTrue, inl, inr, ⊎_elim, List, [], ◌∷◌, ◌++◌, length, drop, Option, Some, None, is_some, sym, refl, ap, ◌∙◌, subst, arith}
+use Rattle.std.proofs.Common.{◌≡◌, ◌≢◌, ℕ, zero, suc, ◌+◌, ◌*◌, ◌^◌, ◌%◌, ◌<◌, ◌≤◌, IsTrue, ⊎_elim, List, [], ◌∷◌, ◌++◌, length, drop, Option, Some, None, is_some, sym, refl, ap, ◌∙◌, subst, arith}
 use Rattle.std.specs.FinMap.{FinMap, get, contains_key}
 use Rattle.std.proofs.lemmas.List.{append_assoc, append-nil, append_cancel_left, length-append, length-drop, drop-append-le}
 use Rattle.std.proofs.lemmas.List.Elements.{All-append}
 use Rattle.std.proofs.lemmas.Option.{none-some}
-use Rattle.judy_model.specs.Keys.{IsStringKey, word_order, byte_order}
-use Rattle.judy_model.specs.Tables.{string_keys}
+use Rattle.judy_model.specs.Keys.{IsStringKey, word_order}
 use Rattle.judy_model.proofs.TableLemmas.{string_keys-all, get-table}
 use Rattle.judy_sl.specs.declared.arena.Arena.{Arena}
-use Rattle.judy_sl.specs.Pieces.{spelled, piece_of, pieces, spelling, IsFinal, AreInner, ArePieces, IsText, SpellKey}
+use Rattle.judy_sl.specs.Pieces.{spelled, piece_of, pieces, spelling, AreInner, ArePieces, IsText, SpellKey}
 use Rattle.judy_sl.specs.World.{World, at_node, gone, tail, level, lookup, walk}
-use Rattle.judy_sl.specs.Worlds.{IsWorld}
 use Rattle.judy_sl.specs.Arenas.{world_of, map_of, IsArena}
 use Rattle.judy_sl.specs.Levels.{IsLevelOf, HasBranch}
 use Rattle.judy_sl.proofs.Ways.{pieces_short, pieces_long, lookup-walk, walk-more, walk-behind}

@@ -1,10 +1,10 @@
 -- What an edit of an arena makes of its seats.
-use Rattle.std.proofs.Common.{◌≡◌, ◌≢◌, ℕ, zero, suc, ◌<◌, ◌≤◌, cond, List, [], ◌∷◌, ◌++◌, length, get_or, set, Option, None, Some, inl, inr, true, false, refl, sym, ap, subst, ◌∙◌, arith}
+use Rattle.std.proofs.Common.{◌≡◌, ◌≢◌, ℕ, zero, suc, ◌<◌, cond, List, [], ◌∷◌, ◌++◌, length, Some, inl, inr, true, false, refl, sym, ap, subst, ◌∙◌, arith}
 use Rattle.std.proofs.lemmas.Bool.{cases_eq, cases_lt}
 use Rattle.std.proofs.lemmas.Option.{none-some}
 use Rattle.std.proofs.lemmas.List.{get_or-set_same, get_or-set_other, get_or_past}
 use Rattle.std.proofs.lemmas.Cmp.{nat_cmp_total}
-use Rattle.std.specs.Ordering.{eq_by_cmp, is_eq}
+use Rattle.std.specs.Ordering.{eq_by_cmp}
 use Rattle.std.specs.FinMap.{FinMap, get, insert, empty, get-insert, get-empty, nat_cmp-IsAntisymmetric}
 use Rattle.judy_model.specs.Keys.{word_order}
 use Rattle.judy_model.specs.Arrays.{ArrayOf}
@@ -15,17 +15,15 @@ use Rattle.judy_sl.specs.declared.child.Child.TheVariants.{Free, Tail, Level}
 use Rattle.judy_sl.specs.declared.arena.Arena.{Arena}
 use Rattle.judy_sl.specs.declared.arena.Place.{Place}
 use Rattle.judy_sl.specs.declared.arena.Place.TheVariants.{Root, Below}
-use Rattle.judy_sl.specs.Pieces.{pieces, IsText, IsInner, IsFinal, SpellKey, ArePieces}
-use Rattle.judy_sl.specs.World.{World, Node, gone, tail, level, lookup, walk}
+use Rattle.judy_sl.specs.Pieces.{IsFinal, SpellKey}
+use Rattle.judy_sl.specs.World.{World, Node, gone, tail, level}
 use Rattle.judy_sl.specs.Worlds.{IsWorld, FitsBehind}
 use Rattle.judy_sl.specs.Arenas.{world_of, node_of, child_at, IsArena, HasText, HasLimit}
-use Rattle.judy_sl.specs.Children.{child_with, value_at}
-use Rattle.judy_sl.specs.Places.{IsInside, with_child, place_with, place_value}
-use Rattle.judy_sl.specs.Ways.{seat_of, piece_at, HasValue, IsFound, LeadsTo}
-use Rattle.judy_sl.proofs.Ways.{equal_lists, walk-behind}
+use Rattle.judy_sl.specs.Children.{child_with}
+use Rattle.judy_sl.specs.Places.{IsInside, with_child, place_with}
+use Rattle.judy_sl.specs.Ways.{seat_of, piece_at}
+use Rattle.judy_sl.proofs.Ways.{equal_lists}
 use Rattle.judy_sl.proofs.Seats.{set_node, cond-same, cond-other, NodeFits, IsUsed, keeps}
-use Rattle.judy_sl.specs.Grown.{IsChange}
-use Rattle.judy_sl.proofs.Entries.{changes_tail, changes_value}
 
 -- ---- entries of a map of words
 

@@ -1,9 +1,9 @@
 -- What an arena becomes where a child of it is lent on.
-use Rattle.std.proofs.Common.{◌≡◌, ℕ, ap, ◌∙◌, sym, refl}
+use Rattle.std.proofs.Common.{◌≡◌, ℕ, ap, ◌∙◌}
 use Rattle.judy_sl.specs.declared.child.Child.{Child}
 use Rattle.judy_sl.specs.declared.child.Child.TheVariants.{Free}
 use Rattle.judy_sl.specs.declared.arena.Arena.{Arena}
-use Rattle.judy_sl.specs.declared.arena.Place.TheVariants.{Root, Below}
+use Rattle.judy_sl.specs.declared.arena.Place.TheVariants.{Below}
 use Rattle.judy_sl.specs.Children.{child_with}
 use Rattle.judy_sl.specs.Arenas.{child_at}
 use Rattle.judy_sl.specs.Places.{with_child, place_with}

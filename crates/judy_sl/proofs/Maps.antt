@@ -1,18 +1,16 @@
 -- An arena as the map of its keys.
-use Rattle.std.proofs.Common.{◌≡◌, ◌≢◌, ℕ, zero, suc, ◌+◌, ◌≤◌, List, [], ◌∷◌, ◌++◌, length, get_or, cond, is_some, Option, None, Some, refl, sym, ap, subst, ◌∙◌, arith}
+use Rattle.std.proofs.Common.{◌≡◌, ◌≢◌, ℕ, zero, suc, ◌+◌, List, [], ◌++◌, get_or, cond, is_some, Option, None, Some, refl, sym, ap, subst, ◌∙◌, arith}
 use Rattle.std.proofs.lemmas.Option.{none-some}
-use Rattle.std.specs.FinMap.{FinMap, get, empty, insert, remove, len, contains_key, get-empty, len-insert, len-empty}
+use Rattle.std.specs.FinMap.{FinMap, get, empty, insert, remove, len, get-empty, len-insert}
 use Rattle.judy_model.specs.Keys.{word_order, byte_order, IsStringKey}
 use Rattle.judy_model.specs.Arrays.{ArrayOf, empty_array}
-use Rattle.judy_model.specs.Tables.{table, string_keys}
-use Rattle.judy_model.proofs.TableLemmas.{byte_order_total, string_keys-all, get-table, get-table_bad, table_none, table_insert, table_remove, table_same}
-use Rattle.judy_sl.specs.declared.child.Child.{Child}
+use Rattle.judy_model.proofs.TableLemmas.{byte_order_total, string_keys-all, get-table, get-table_bad, table_none, table_insert, table_remove}
 use Rattle.judy_sl.specs.declared.child.Child.TheVariants.{Free}
 use Rattle.judy_sl.specs.declared.arena.Arena.{Arena}
 use Rattle.judy_sl.specs.Pieces.{pieces, piece_of, SpellKey}
-use Rattle.judy_sl.specs.World.{World, Node, gone, tail, level, lookup, at_entry}
+use Rattle.judy_sl.specs.World.{gone, tail, level, lookup, at_entry}
 use Rattle.judy_sl.specs.Worlds.{FitsBehind}
-use Rattle.judy_sl.specs.Arenas.{world_of, node_of, child_at, map_of, array_of, HasText, HasLimit, IsArena, IsStrings}
+use Rattle.judy_sl.specs.Arenas.{world_of, node_of, child_at, map_of, HasText, HasLimit, IsArena}
 use Rattle.judy_sl.proofs.PieceLemmas.{text_of_key, pieces_are, pieces_same}
 use Rattle.judy_sl.proofs.OnWay.{pieces-head}
 use Rattle.judy_sl.specs.Grown.{IsChange}

@@ -1,6 +1,6 @@
 -- The way of a key, level by level.
-use Rattle.std.proofs.Common.{◌≡◌, ◌≢◌, ℕ, zero, suc, ◌-◌, ◌+◌, ◌/◌, ◌<◌, ◌≤◌, List, [], ◌∷◌, ◌++◌, length, drop, take, get_or, Option, None, Some, refl, sym, ap, subst, ◌∙◌, arith}
-use Rattle.std.proofs.lemmas.List.{append-nil, append_assoc, length-drop, drop-drop, take_rest}
+use Rattle.std.proofs.Common.{◌≡◌, ◌≢◌, ℕ, zero, suc, ◌-◌, ◌+◌, ◌/◌, ◌<◌, ◌≤◌, List, [], ◌∷◌, ◌++◌, length, drop, get_or, Option, None, Some, refl, sym, ap, subst, ◌∙◌, arith}
+use Rattle.std.proofs.lemmas.List.{append_assoc, length-drop, drop-drop}
 use Rattle.std.specs.FinMap.{FinMap, get}
 use Rattle.judy_model.specs.Keys.{word_order}
 use Rattle.judy_sl.specs.declared.child.Child.{Child}
@@ -9,10 +9,9 @@ use Rattle.judy_sl.specs.declared.arena.Arena.{Arena}
 use Rattle.judy_sl.specs.declared.arena.Place.{Place}
 use Rattle.judy_sl.specs.declared.arena.Place.TheVariants.{Below}
 use Rattle.judy_sl.specs.Pieces.{pieces, pieces_in, piece_of, IsText, IsInner, IsFinal, AreInner}
-use Rattle.judy_sl.specs.World.{World, Node, gone, tail, level, lookup, at_entry, walk}
-use Rattle.judy_sl.specs.Worlds.{IsWorld}
+use Rattle.judy_sl.specs.World.{World, gone, tail, level, lookup, at_entry}
 use Rattle.judy_sl.specs.Arenas.{world_of, node_of, child_at, IsArena}
-use Rattle.judy_sl.specs.Ways.{LeadsTo, HasValue, IsFound, IsGap, IsClash, place_in, seat_in, seat_of, piece_at, left_of}
+use Rattle.judy_sl.specs.Ways.{LeadsTo, HasValue, IsFound, IsGap, IsClash, place_in, seat_in, left_of}
 use Rattle.judy_sl.proofs.PieceLemmas.{piece-IsFinal, piece-IsInner, text-drop, pieces_same}
 use Rattle.judy_sl.proofs.Ways.{look_in, lookup-in, lookup-walk, lookup-level, walk-more, pieces_short, pieces_long, tail-same, tail-other}
 

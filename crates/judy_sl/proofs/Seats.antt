@@ -1,9 +1,9 @@
 -- The seats with another node at one of them.
-use Rattle.std.proofs.Common.{◌≡◌, ◌≢◌, ℕ, zero, suc, ◌==◌, Bool, true, false, cond, List, [], ◌∷◌, ◌++◌, Some, inl, inr, refl, sym, ap, subst, ◌∙◌, arith, eq-eqb}
+use Rattle.std.proofs.Common.{◌≡◌, ◌≢◌, ℕ, zero, suc, ◌==◌, cond, List, ◌++◌, inl, inr, sym, ap, subst, ◌∙◌, arith, eq-eqb}
 use Rattle.std.proofs.lemmas.Bool.{cases_eq, ne_eqb}
-use Rattle.std.specs.FinMap.{FinMap, get, empty}
+use Rattle.std.specs.FinMap.{FinMap, empty}
 use Rattle.judy_model.specs.Keys.{word_order}
-use Rattle.judy_sl.specs.Pieces.{IsInner, IsFinal, SpellKey}
+use Rattle.judy_sl.specs.Pieces.{SpellKey}
 use Rattle.judy_sl.specs.World.{World, Node, gone, tail, level}
 use Rattle.judy_sl.specs.Worlds.{IsWorld, FitsBehind}
 

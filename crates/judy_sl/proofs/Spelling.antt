@@ -1,7 +1,7 @@
 -- How bytes spell a piece.
-use Rattle.std.proofs.Common.{◌≡◌, ℕ, zero, suc, ◌+◌, ◌*◌, ◌^◌, ◌<◌, ◌≤◌, List, [], ◌∷◌, length, take, get_or, refl, sym, ap, ◌∙◌, arith}
+use Rattle.std.proofs.Common.{◌≡◌, ℕ, zero, suc, ◌+◌, ◌*◌, ◌^◌, ◌<◌, ◌≤◌, List, [], ◌∷◌, length, take, get_or, refl, ap, arith}
 use Rattle.std.specs.Int.{from_be_bytes, w64}
-use Rattle.judy_sl.specs.Pieces.{spelled, piece_of}
+use Rattle.judy_sl.specs.Pieces.{spelled}
 use Rattle.std.proofs.Math.Nat.{pow-succ'}
 
 -- One byte more.

@@ -1,11 +1,11 @@
 -- A key that is added where another's tail stood.
-use Rattle.std.proofs.Common.{◌≡◌, ◌≢◌, ℕ, suc, ◌<◌, ◌-◌, List, length, drop, take, get_or, Option, None, Some, refl, sym, ap, subst, ◌∙◌}
+use Rattle.std.proofs.Common.{◌≡◌, ℕ, suc, ◌<◌, ◌-◌, List, length, drop, take, get_or, None, Some, sym, ap, subst, ◌∙◌}
 use Rattle.std.proofs.lemmas.Option.{none-some}
 use Rattle.std.proofs.lemmas.List.{take_rest, get_or_default}
 use Rattle.judy_model.specs.Keys.{IsStringKey}
 use Rattle.judy_sl.specs.declared.child.Child.{Child}
 use Rattle.judy_sl.specs.declared.child.Rest.{Rest}
-use Rattle.judy_sl.specs.declared.child.Child.TheVariants.{Free, Tail, Level}
+use Rattle.judy_sl.specs.declared.child.Child.TheVariants.{Free, Tail}
 use Rattle.judy_sl.specs.declared.arena.Arena.{Arena}
 use Rattle.judy_sl.specs.declared.arena.Place.{Place}
 use Rattle.judy_sl.specs.declared.branches.Branch.{Branch}

@@ -1,31 +1,31 @@
 -- A key that is added with a new tail.
-use Rattle.std.proofs.Common.{◌≡◌, ◌≢◌, ℕ, zero, suc, ◌<◌, ◌≤◌, ◌-◌, List, [], ◌∷◌, ◌++◌, length, drop, Option, None, Some, inl, inr, refl, sym, ap, subst, ◌∙◌, arith}
+use Rattle.std.proofs.Common.{◌≡◌, ◌≢◌, ℕ, zero, suc, ◌≤◌, ◌-◌, List, [], ◌∷◌, ◌++◌, length, drop, None, Some, inl, inr, refl, sym, ap, subst, ◌∙◌, arith}
 use Rattle.std.proofs.lemmas.Bool.{cases_eq}
-use Rattle.std.proofs.lemmas.Option.{none-some, same_Some}
+use Rattle.std.proofs.lemmas.Option.{same_Some}
 use Rattle.std.proofs.lemmas.List.{append_assoc, length-drop}
 use Rattle.std.specs.FinMap.{FinMap, get, insert}
 use Rattle.judy_model.specs.Keys.{word_order, IsStringKey}
 use Rattle.judy_model.specs.Arrays.{ArrayOf}
 use Rattle.judy_sl.specs.declared.child.Child.{Child}
 use Rattle.judy_sl.specs.declared.child.Rest.{Rest}
-use Rattle.judy_sl.specs.declared.child.Child.TheVariants.{Free, Tail, Level}
+use Rattle.judy_sl.specs.declared.child.Child.TheVariants.{Tail}
 use Rattle.judy_sl.specs.declared.arena.Arena.{Arena}
 use Rattle.judy_sl.specs.declared.arena.Place.{Place}
-use Rattle.judy_sl.specs.declared.arena.Place.TheVariants.{Root, Below}
-use Rattle.judy_sl.specs.Pieces.{pieces, piece_of, IsText, IsInner, IsFinal, SpellKey, ArePieces, AreInner}
-use Rattle.judy_sl.specs.World.{World, Node, gone, tail, level, lookup, at_entry, walk}
+use Rattle.judy_sl.specs.declared.arena.Place.TheVariants.{Below}
+use Rattle.judy_sl.specs.Pieces.{pieces, IsText, IsInner, IsFinal, SpellKey, ArePieces}
+use Rattle.judy_sl.specs.World.{World, Node, gone, tail, level, lookup, at_entry}
 use Rattle.judy_sl.specs.Worlds.{IsWorld, FitsBehind}
 use Rattle.judy_sl.specs.Arenas.{world_of, node_of, child_at, IsArena, HasText, HasLimit}
-use Rattle.judy_sl.specs.Places.{IsPlace, place_with}
+use Rattle.judy_sl.specs.Places.{place_with}
 use Rattle.judy_sl.specs.Ways.{seat_of, piece_at, LeadsTo, IsFound, IsGap, HasValue, left_of}
 use Rattle.judy_sl.specs.Grown.{IsChange, IsPut, IsAdded, IsSame, next_place}
 use Rattle.judy_sl.proofs.PieceLemmas.{piece-IsInner, text-drop}
 use Rattle.judy_sl.proofs.Ways.{look_in, lookup-in, walk-more, tail-same, tail-other, pieces_long}
 use Rattle.judy_sl.proofs.Changes.{way-stays}
-use Rattle.judy_sl.proofs.Seats.{set_node, set_behind, set_node-comm, cond-same, cond-other, NodeFits, IsUsed, keeps, fits-put, put}
+use Rattle.judy_sl.proofs.Seats.{set_node, set_behind, set_node-comm, cond-same, cond-other, IsUsed, keeps, fits-put, put}
 use Rattle.judy_sl.proofs.Entries.{changes_behind}
 use Rattle.judy_sl.proofs.OnWay.{pieces-some, inner-more}
-use Rattle.judy_sl.proofs.Written.{behind-leads, apart-leads}
+use Rattle.judy_sl.proofs.Written.{behind-leads}
 use Rattle.judy_sl.proofs.Linked.{node_with, texts-place, limits-place, root-place, world-with_place, insert-some, get-insert_here, get-insert_off}
 use Rattle.judy_sl.proofs.Filled.{level-place, place-inside, world-same, arena-same, next-stays}
 

@@ -1,5 +1,5 @@
 -- Steps on the way of a key.
-use Rattle.std.proofs.Common.{◌≡◌, ◌≢◌, ℕ, zero, suc, ◌/◌, Bool, true, false, cond, ◌<◌, ◌≤◌, List, [], ◌∷◌, ◌++◌, length, drop, Option, None, Some, refl, sym, ap, subst, ◌∙◌, arith}
+use Rattle.std.proofs.Common.{◌≡◌, ◌≢◌, ℕ, suc, ◌/◌, true, false, cond, ◌<◌, ◌≤◌, List, [], ◌∷◌, ◌++◌, length, drop, Option, None, Some, refl, sym, ap, ◌∙◌, arith}
 use Rattle.std.proofs.lemmas.List.{length-drop, append-nil, append_assoc}
 use Rattle.std.proofs.lemmas.Option.{none-some}
 use Rattle.std.specs.FinMap.{FinMap, get}
@@ -9,8 +9,8 @@ use Rattle.std.specs.declared.cmp.Ordering.{Ordering}
 use Rattle.std.specs.declared.cmp.Ordering.TheVariants.{Less, Equal, Greater}
 use Rattle.judy_model.specs.Keys.{word_order, byte_order}
 use Rattle.judy_model.proofs.TableLemmas.{byte_order_total, byte_order_same}
-use Rattle.judy_sl.specs.Pieces.{pieces, pieces_in, piece_of, AreInner, IsText}
-use Rattle.judy_sl.specs.Worlds.{IsWorld, FitsBehind}
+use Rattle.judy_sl.specs.Pieces.{pieces, pieces_in, piece_of, AreInner}
+use Rattle.judy_sl.specs.Worlds.{IsWorld}
 use Rattle.judy_sl.specs.World.{World, Node, gone, tail, level, at_node, at_entry, lookup, step_node, step_entry, walk}
 
 -- Fewer than eight bytes are one piece.

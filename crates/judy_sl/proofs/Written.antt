@@ -1,20 +1,19 @@
 -- A value that is written where the key's value stands.
-use Rattle.std.proofs.Common.{◌≡◌, ◌≢◌, ℕ, zero, suc, ◌<◌, List, [], ◌∷◌, ◌++◌, length, Option, None, Some, refl, sym, ap, subst, ◌∙◌}
-use Rattle.std.specs.FinMap.{FinMap, get, insert}
-use Rattle.judy_model.specs.Keys.{word_order}
+use Rattle.std.proofs.Common.{◌≡◌, ◌≢◌, ℕ, zero, suc, List, [], ◌∷◌, ◌++◌, Some, refl, sym, ap, subst, ◌∙◌}
+use Rattle.std.specs.FinMap.{insert}
 use Rattle.judy_sl.specs.declared.child.Child.{Child}
 use Rattle.judy_sl.specs.declared.child.Child.TheVariants.{Free, Tail, Level}
 use Rattle.judy_sl.specs.declared.arena.Arena.{Arena}
 use Rattle.judy_sl.specs.declared.arena.Place.{Place}
 use Rattle.judy_sl.specs.declared.arena.Place.TheVariants.{Root, Below}
-use Rattle.judy_sl.specs.Pieces.{pieces, IsFinal, SpellKey}
+use Rattle.judy_sl.specs.Pieces.{pieces}
 use Rattle.judy_sl.specs.World.{World, Node, gone, tail, level, lookup, at_entry, walk}
 use Rattle.judy_sl.specs.Worlds.{IsWorld}
 use Rattle.judy_sl.specs.Arenas.{world_of, node_of, child_at, IsArena}
 use Rattle.judy_sl.specs.Children.{value_at}
 use Rattle.judy_sl.specs.Places.{IsInside, place_with, place_value}
 use Rattle.judy_sl.specs.Ways.{seat_of, piece_at, HasValue, IsFound, LeadsTo}
-use Rattle.judy_sl.proofs.Ways.{look_in, lookup-in, lookup-walk, walk-behind, tail-same}
+use Rattle.judy_sl.proofs.Ways.{look_in, lookup-walk, walk-behind, tail-same}
 use Rattle.judy_sl.proofs.Seats.{set_node, cond-same, cond-other, NodeFits, IsUsed}
 use Rattle.judy_sl.specs.Grown.{IsChange}
 use Rattle.judy_sl.proofs.Entries.{changes_tail, changes_value}

@@ -1,5 +1,5 @@
 -- What a child becomes, for whatever is left in a slot of it.
-use Rattle.std.specs.Prelude.{◌≢◌, ℕ, Option, Some, None, Result}
+use Rattle.std.specs.Prelude.{ℕ, Option, Some, None, Result}
 use Rattle.std.specs.Borrow.{LendsIf, LendsIfOk, MutBor, Fml, u64}
 use Rattle.std.specs.FinMap.{get}
 use Rattle.judy_model.specs.Arrays.{ins}

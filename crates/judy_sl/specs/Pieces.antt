@@ -1,5 +1,5 @@
 -- Keys as pieces of eight bytes. (This project's own.)
-use Rattle.std.specs.Prelude.{◌≡◌, ◌≢◌, ℕ, zero, suc, ◌+◌, ◌*◌, ◌/◌, ◌%◌, ◌^◌, ◌<◌, ◌≤◌, nat_lt, List, [], ◌∷◌, length, drop, filter, All}
+use Rattle.std.specs.Prelude.{◌≡◌, ◌≢◌, ℕ, zero, suc, ◌+◌, ◌*◌, ◌/◌, ◌%◌, ◌^◌, ◌<◌, nat_lt, List, [], ◌∷◌, length, drop, filter, All}
 use Rattle.std.specs.List.{flat_map}
 use Rattle.judy_model.specs.Keys.{IsStringKey}
 use Rattle.judy_model.specs.WordBytes.{low_bytes}

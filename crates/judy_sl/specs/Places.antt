@@ -1,5 +1,5 @@
 -- What an arena becomes, for whatever is left in a slot of it.
-use Rattle.std.specs.Prelude.{ℕ, ◌<◌, Option, Some, None, Result, length}
+use Rattle.std.specs.Prelude.{ℕ, ◌<◌, Option, Result, length}
 use Rattle.std.specs.Borrow.{Lends, LendsIf, LendsIfOk, MutBor, Fml, u64}
 use Rattle.std.specs.Vec.{with_item}
 use Rattle.std.specs.FinMap.{get}

@@ -1,6 +1,6 @@
 -- The levels of an array as seats: a seat has nothing, a tail or a level. Seat 0 has the first level, and each
 -- entry of a level under a piece that isn't final leads to the seat behind its value.
-use Rattle.std.specs.Prelude.{ℕ, zero, suc, Bool, cond, List, [], ◌∷◌, Option, None, Some}
+use Rattle.std.specs.Prelude.{ℕ, suc, cond, List, [], ◌∷◌, Option, None, Some}
 use Rattle.std.specs.FinMap.{FinMap, get}
 use Rattle.std.specs.Ordering.{eq_by_cmp}
 use Rattle.judy_model.specs.Keys.{word_order, byte_order}

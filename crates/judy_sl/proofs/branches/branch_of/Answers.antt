@@ -1,9 +1,9 @@
-use Rattle.std.proofs.Common.{◌≡◌, ◌≤◌, ◌-◌, ◌∙◌, sym, ap, arith, length, drop, cond, Bool, true, subst}
+use Rattle.std.proofs.Common.{◌≡◌, ◌≤◌, ◌∙◌, sym, ap, arith, length, cond, Bool, true, subst}
 use Rattle.std.proofs.lemmas.List.{take_rest, length-drop}
 use Rattle.judy_model.specs.Keys.{word_order}
 use Rattle.judy_model.specs.Arrays.{ArrayOf}
 use Rattle.judy_sl.specs.Branches.{IsSprout}
-use Rattle.judy_sl.proofs.Branching.{IsCommon, common-long, common-more}
+use Rattle.judy_sl.proofs.Branching.{common-long, common-more}
 use Rattle.judy_sl.proofs.branches.branch_of.Goals as goal
 
 pushed : {A : Type 0} (b : Bool) (xs ys zs : A) → zs ≡ cond b xs ys → b ≡ true → zs ≡ xs

@@ -1,6 +1,6 @@
-use Rattle.std.proofs.Common.{◌≡◌, ap, ◌∙◌, sym}
+use Rattle.std.proofs.Common.{ap, ◌∙◌}
 use Rattle.std.specs.Int.{from_be_bytes, w64}
-use Rattle.judy_sl.specs.Pieces.{piece_of, spelled}
+use Rattle.judy_sl.specs.Pieces.{piece_of}
 use Rattle.judy_sl.proofs.Spelling.{from_be_bytes-spelled}
 use Rattle.judy_sl.proofs.pieces.first_piece.Goals as goal
 

@@ -1,4 +1,4 @@
-use Rattle.std.proofs.Common.{◌≡◌, ◌+◌, ◌*◌, ◌^◌, ◌<◌, ◌≤◌, suc, ap, ◌∙◌, sym, arith, add-one, get_or}
+use Rattle.std.proofs.Common.{◌≡◌, ap, ◌∙◌, arith, add-one}
 use Rattle.judy_sl.specs.Pieces.{piece_of, spelled}
 use Rattle.judy_sl.proofs.Spelling.{spelled-more, spelled-below, within_seven}
 use Rattle.judy_sl.proofs.pieces.short_piece.Goals as goal

@@ -1,4 +1,4 @@
-use Rattle.std.proofs.Common.{◌≡◌, ◌∙◌, sym, ap, subst, refl, arith, ◌-◌, ◌+◌, length, drop}
+use Rattle.std.proofs.Common.{◌∙◌, sym, subst, refl, ◌-◌, ◌+◌, length}
 use Rattle.std.proofs.lemmas.List.{drop-drop, take_rest}
 use Rattle.judy_sl.specs.declared.arena.Arena.{Arena}
 use Rattle.judy_sl.specs.Grown.{IsAdded}

@@ -4,7 +4,7 @@ use Rattle.std.proofs.lemmas.Bool.Decides.{Decides-eqb}
 use Rattle.std.proofs.lemmas.Slice.Eq.{slice_eq-Decides}
 use Rattle.std.specs.FinMap.{get}
 use Rattle.judy_sl.specs.declared.child.Child.TheVariants.{Free, Tail, Level}
-use Rattle.judy_sl.specs.Arenas.{child_at, node_of, HasText}
+use Rattle.judy_sl.specs.Arenas.{node_of, HasText}
 use Rattle.judy_sl.proofs.OnWay.{on-start, on-moved, found-tail, found-clash, found-none, found-last, not-gone, child_from}
 use Rattle.judy_sl.proofs.arena.Arena.get.Goals as goal
 

@@ -1,4 +1,4 @@
-use Rattle.std.proofs.Common.{◌≡◌, ℕ, ap, ◌∙◌, sym, refl}
+use Rattle.std.proofs.Common.{ℕ}
 use denote.Ref.{MutBor}
 use borrow.Follows.Closed.{read_of}
 use Rattle.std.specs.Borrow.{name_if_ok}

@@ -1,4 +1,4 @@
-use Rattle.std.proofs.Common.{◌≡◌, ◌∙◌, ℕ, ◌<◌, ◌%◌, List, [], ◌∷◌, sym, ap, arith, length, refl, suc}
+use Rattle.std.proofs.Common.{◌≡◌, ◌∙◌, ℕ, ◌<◌, ◌%◌, List, [], ◌∷◌, sym, ap, arith, length, refl}
 use Rattle.std.proofs.lemmas.List.{take_rest}
 use Rattle.std.specs.FinMap.{get}
 use Rattle.judy_sl.specs.declared.child.Child.TheVariants.{Free, Tail, Level}

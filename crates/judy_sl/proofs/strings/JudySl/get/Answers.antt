@@ -1,5 +1,4 @@
-use Rattle.std.proofs.Common.{◌≡◌, ◌∙◌, sym, ap, true, false, IsTrue}
-use Rattle.judy_model.specs.Keys.{IsStringKey}
+use Rattle.std.proofs.Common.{◌∙◌, sym}
 use Rattle.judy_sl.proofs.Maps.{get-map, get-map_bad}
 use Rattle.judy_sl.proofs.PieceLemmas.{text_of_key}
 use Rattle.judy_sl.proofs.strings.JudySl.get.Goals as goal

@@ -1,10 +1,8 @@
-use Rattle.std.proofs.Common.{◌≡◌, ◌∙◌, ℕ, sym, ap, refl, subst, None, inr}
+use Rattle.std.proofs.Common.{◌∙◌, ℕ, sym, ap, refl, subst, inr}
 use Rattle.std.specs.Borrow.{name_if_ok, MutBor}
 use borrow.Follows.Closed.{read_of}
 use Rattle.judy_model.specs.Arrays.{ArrayOf}
 use Rattle.judy_model.specs.Keys.{byte_order}
-use Rattle.judy_sl.specs.declared.error.SlError.{SlError}
-use Rattle.judy_sl.specs.Arenas.{map_of}
 use Rattle.judy_sl.specs.Lends.{with_value, IsRefusal}
 use Rattle.judy_sl.proofs.Maps.{get-map}
 use Rattle.judy_sl.proofs.Keeping.{strings-written, array-written}

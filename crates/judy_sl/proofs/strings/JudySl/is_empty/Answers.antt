@@ -1,8 +1,7 @@
-use Rattle.std.proofs.Common.{◌≡◌, ◌∙◌, sym, ap, ℕ, eq-eqb}
+use Rattle.std.proofs.Common.{◌∙◌, sym, ap, ℕ, eq-eqb}
 use Rattle.std.proofs.lemmas.Bool.{eqb-true}
 use Rattle.std.specs.FinMap.{FinMap, len, empty_of_len, len-empty}
 use Rattle.judy_model.specs.Keys.{byte_order}
-use Rattle.judy_model.specs.Arrays.{ArrayOf}
 use Rattle.judy_sl.specs.Arenas.{map_of}
 use Rattle.judy_sl.proofs.strings.JudySl.is_empty.Goals as goal
 

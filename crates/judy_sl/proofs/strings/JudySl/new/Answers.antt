@@ -1,7 +1,6 @@
-use Rattle.std.proofs.Common.{◌≡◌, ap, ℕ}
+use Rattle.std.proofs.Common.{ap, ℕ}
 use Rattle.std.specs.FinMap.{FinMap}
 use Rattle.judy_model.specs.Keys.{byte_order}
-use Rattle.judy_model.specs.Arrays.{ArrayOf}
 use Rattle.judy_sl.proofs.Keeping.{strings-new}
 use Rattle.judy_sl.proofs.Maps.{empty-map}
 use Rattle.judy_sl.proofs.strings.JudySl.new.Goals as goal

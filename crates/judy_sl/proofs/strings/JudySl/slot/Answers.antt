@@ -1,4 +1,4 @@
-use Rattle.std.proofs.Common.{◌≡◌, ◌∙◌, sym, ap, refl}
+use Rattle.std.proofs.Common.{◌∙◌, sym, ap, refl}
 use Rattle.std.specs.Option.{ghost_name_of}
 use borrow.Follows.Closed.{read_of}
 use Rattle.judy_model.specs.Arrays.{ArrayOf}
@@ -6,9 +6,7 @@ use Rattle.judy_model.specs.Keys.{byte_order}
 use Rattle.judy_sl.specs.Arenas.{world_of}
 use Rattle.judy_sl.specs.Lends.{with_value}
 use Rattle.judy_sl.proofs.Maps.{get-map, get-map_bad}
-use Rattle.judy_sl.proofs.PieceLemmas.{text_of_key}
 use Rattle.judy_sl.proofs.Keeping.{gap-none, clash-none, strings-written, array-written, value-place}
-use Rattle.judy_sl.proofs.Written.{inside-there}
 use Rattle.judy_sl.proofs.strings.JudySl.slot.Goals as goal
 
 pub returns-then-not-is_key : goal.returns-then-not-is_key
