@@ -49,9 +49,9 @@ key_of-IsByteString (sign ∷ signs) =
     elim (sign == 61) as (λ b. IfSome (cond b (cond (list_all is_shown signs) (Some signs) None) (cond (sign == 35) (bytes_of_digits signs) None)) IsByteString) [
       | true ↦ shown-IsByteString signs
       | false ↦ elim (sign == 35) as (λ b. IfSome (cond b (bytes_of_digits signs) None) IsByteString) [
-          | true ↦ bytes_of_digits-IsByteString signs
-          | false ↦ tt
-        ]
+        | true ↦ bytes_of_digits-IsByteString signs
+        | false ↦ tt
+      ]
     ]
 
 is_bytes_key-IsBytesKey : (key : List ℕ) → IsByteString key → is_bytes_key key ≡ true → IsBytesKey key

@@ -17,6 +17,6 @@ pub mod shapes;
 pub mod steps;
 pub mod stores;
 pub mod strings;
-pub mod whole_lines;
 pub mod tables;
+pub mod whole_lines;
 pub mod words;

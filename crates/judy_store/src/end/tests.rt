@@ -21,6 +21,9 @@ fn ends(rt: HostRuntime) {
         assert_eq!(rt; sink.bytes(), line);
     }
     let mut sink = MemSink::<64>::new(64, SinkTrouble::Fails { at: 9 });
-    assert_eq!(rt; write_line(&End::Run(RunFault::Read), &mut sink), Err(RunFault::Write));
+    assert_eq!(rt;
+        write_line(&End::Run(RunFault::Read), &mut sink),
+        Err(RunFault::Write)
+    );
     assert_eq!(rt; sink.bytes(), b"judystore".as_slice());
 }
