@@ -3,7 +3,7 @@ use Rattle.std.specs.List.{list_all}
 use Rattle.judy_script.specs.Cuts.{is_space}
 use Rattle.judy_script.proofs.tokens.front_len.Given as goal
 
--- the bytes so far are as asked, and counted
+-- the bytes so far are all spaces, or none is one, and counted
 abbrev pub invariant-loop-byte : goal.invariant-loop-byte
 invariant-loop-byte l = record {
   within : l.byte-index ≤ length l.text;
