@@ -1,0 +1,4 @@
+pub mod Maps
+pub mod Shaped
+pub mod Leaves
+pub mod KindFacts
