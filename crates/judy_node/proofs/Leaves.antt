@@ -4,7 +4,7 @@ use Rattle.std.specs.List.{AllByRecursion}
 use Rattle.std.specs.List.Sorted.{IsStrictlySortedBy}
 use Rattle.std.specs.Cmp.{nat_cmp_is}
 use Rattle.std.proofs.lemmas.Bool.{cases_order}
-use Rattle.std.proofs.lemmas.List.Elements.{All-head, All-tail}
+use Rattle.std.proofs.lemmas.List.Elements.{All-nil, All-cons, All-head, All-tail}
 use Rattle.judy_model.specs.Keys.{word_order}
 use Rattle.judy_block.specs.Contents.{Contents}
 use Rattle.judy_leaf.specs.KeyLists.{KeyList, keys_of, IsKeyList, AreFree}
@@ -66,3 +66,16 @@ imm_width_fits width head word is = let low = is.list.some in let high = is.list
 pub imm_pair : (words width head word : ℕ) → (imm_list (suc words) width head word).pairs ≡ (head, word) ∷ []
 unfolding imm_list
 imm_pair words width head word = refl
+
+pub imm_parts_one : (words width head word : ℕ) → suc words ≤ 1 → 1 ≤ width → width ≤ 8 → head < 256 ^ width → IsImmParts (suc words) width head word
+unfolding imm_list IsStrictlySortedBy
+imm_parts_one words width head word one low high below = record {
+  one = one;
+  list = record { ascending = (tt, tt); below = All-cons (λ key. key < 256 ^ width) head [] below (All-nil (λ key. key < 256 ^ width)); some = low; most = high };
+  free = ((λ (none : suc words ≡ 0). let never : ⊥ = omega arith in absurd never), tt);
+}
+
+pub imm_list-width : (words width head word : ℕ) → (imm_list words width head word).width ≡ width
+unfolding imm_list
+imm_list-width zero width head word = refl
+imm_list-width (suc words) width head word = refl

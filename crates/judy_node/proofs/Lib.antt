@@ -2,3 +2,5 @@ pub mod Maps
 pub mod Shaped
 pub mod Leaves
 pub mod KindFacts
+pub mod ViewFacts
+pub mod Counted

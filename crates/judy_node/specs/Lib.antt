@@ -1,3 +1,5 @@
 pub mod Trees
 pub mod Kinds
 pub mod Falls
+pub mod Roots
+pub mod Views

@@ -88,3 +88,9 @@ branch_tree width skipped bytes kids count = record {
   pairs = branch_pairs width skipped bytes kids;
   form = branch skipped bytes count ∷ forms_in kids;
 }
+
+-- What every tree of words keeps: its keys have eight bytes and ascend; and where it is tight, its form is that of the rule.
+pub record IsNode (words : ℕ) (tree : Tree) : Type 0 where
+  pub wide : tree.width ≡ 8
+  pub map : IsMap words 0 (256 ^ 8) tree.pairs
+  pub shaped : IsTight tree → tree.form ≡ form_of words 8 (keys_of tree.pairs)

@@ -1,12 +1,14 @@
 //! The nodes below the root.
 
-ghost use Rattle.std.specs.Prelude.{◌≡◌, length};
-ghost use Rattle.judy_node.specs.Trees.{Tree};
+ghost use Rattle.std.specs.Prelude.{◌≡◌, ◌+◌, ◌-◌, ◌%◌, ◌^◌, ◌<◌, length, if◌then◌else◌, ◌==◌};
+ghost use Rattle.judy_node.specs.Trees.{IsChild};
 ghost use Rattle.judy_node.specs.Kinds.{tree_of, IsLevel};
+ghost use Rattle.judy_node.specs.Views.{IsView};
 
-use judy_bits::{ByteSet, Skip};
+use crate::view::ViewOf;
+use judy_bits::{ByteSet, Meter, Skip};
 use judy_block::Block;
-use judy_leaf::{Head, Words};
+use judy_leaf::{BitRef, Head, ImmOf, LeafRef, Words};
 use std::marker::{Model, PhantomData};
 
 /// A node below the root, which has keys, in 16 bytes.
@@ -71,6 +73,34 @@ impl<V: Words + Drop> Model for ChildOf<V> {
 }
 
 impl<V: Words + Drop> ChildOf<V> {
+    /// How many keys there are below. It reads no block but a bitmap leaf's header, and the branch of a branch.
+    pub fn pop(&self) -> u64
+        ensures { result ≡ length self.now.pairs }
+    {
+        match &self.kind {
+            KindOf::Imm(head, _) => imm_len::<V>(head),
+            KindOf::Leaf(count, _) => u64::from(*count),
+            KindOf::Bit(_, block) => u64::from(block.tag() % 65_536),
+            KindOf::Branch(branch) => branch.population,
+        }
+    }
+
+    /// Enters the node, whose keys have `width` bytes: one visit.
+    pub fn enter(&self, width: u8, meter: &mut Meter) -> ViewOf<'_, V>
+        requires below { meter.old < 2 ^ 64 - 1 }
+        requires child { IsChild V.WORDS width self.now }
+        ensures visits { meter.new ≡ meter.old + 1 }
+        ensures view { IsView V.WORDS width self.now result }
+    {
+        meter.tick();
+        match &self.kind {
+            KindOf::Imm(head, word) => ViewOf::Imm(ImmOf::of_parts(width, head, *word)),
+            KindOf::Leaf(count, block) => ViewOf::Leaf(LeafRef::new(*count, width, block)),
+            KindOf::Bit(head, block) => ViewOf::BitLeaf(head.number(), BitRef::new(block)),
+            KindOf::Branch(branch) => ViewOf::Branch(branch),
+        }
+    }
+
     /// Opens.
     pub fn open(self) -> KindOf<V>
         ensures tree { self ≡ tree_of V.WORDS result }
@@ -86,4 +116,11 @@ impl<V: Words + Drop> ChildOf<V> {
     {
         ChildOf { kind }
     }
+}
+
+// How many keys an immediate has.
+fn imm_len<V: Words + Drop>(head: &Head) -> u64
+    ensures { result ≡ (if V.WORDS == 0 then head.now % 256 else 1) }
+{
+    if V::WORDS == 0 { head.number() % 256 } else { 1 }
 }

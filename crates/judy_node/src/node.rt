@@ -1,0 +1,84 @@
+//! The root of a tree.
+
+ghost use Rattle.std.specs.Prelude.{◌≡◌, ◌+◌, ◌-◌, ◌^◌, ◌<◌, length};
+ghost use Rattle.judy_node.specs.Trees.{IsNode};
+ghost use Rattle.judy_node.specs.Roots.{root_tree, empty_tree};
+ghost use Rattle.judy_node.specs.Views.{IsView};
+
+use crate::child::ChildOf;
+use crate::view::ViewOf;
+use judy_bits::Meter;
+use judy_leaf::Words;
+use std::marker::Model;
+
+/// A tree of words.
+#[derive(Drop)]
+pub struct NodeOf<V: Words + Drop> {
+    kind: RootOf<V>,
+}
+
+/// The kinds of roots.
+#[derive(Drop)]
+enum RootOf<V: Words + Drop> {
+    Empty,
+    One(u64, u64),
+    Many(ChildOf<V>),
+}
+
+impl<V: Words + Drop> Model for NodeOf<V> {
+    ghost use Rattle.judy_node.specs.Trees.{Tree};
+
+    ghost Value = { Tree };
+
+    ghost use Rattle.judy_node.specs.Roots.{root_tree, IsRoot};
+
+    ghost view = { λ a. root_tree a.kind };
+
+    ghost invariant = { λ a. IsRoot V.WORDS a.kind };
+}
+
+impl<V: Words + Drop> NodeOf<V> {
+    /// The tree without keys.
+    pub fn empty() -> NodeOf<V>
+        ensures { result ≡ empty_tree }
+    {
+        NodeOf { kind: RootOf::Empty }
+    }
+
+    /// A law without a body: what every tree keeps.
+    pub fn told(&self)
+        ensures { IsNode V.WORDS self.now }
+    {
+        let _ = &self.kind;
+    }
+
+    /// How many keys there are. It enters no node.
+    pub fn pop(&self) -> u64
+        ensures { result ≡ length self.now.pairs }
+    {
+        match &self.kind {
+            RootOf::Empty => 0,
+            RootOf::One(_, _) => 1,
+            RootOf::Many(child) => child.pop(),
+        }
+    }
+
+    /// Enters the root: one visit.
+    pub fn enter(&self, meter: &mut Meter) -> ViewOf<'_, V>
+        requires { meter.old < 2 ^ 64 - 1 }
+        ensures visits { meter.new ≡ meter.old + 1 }
+        ensures view { IsView V.WORDS 8 self.now result }
+    {
+        match &self.kind {
+            RootOf::Empty => {
+                meter.tick();
+                ViewOf::Null
+            }
+            RootOf::One(key, value) => {
+                meter.tick();
+                ViewOf::One(*key, *value)
+            }
+            RootOf::Many(child) => child.enter(8, meter),
+        }
+    }
+}
