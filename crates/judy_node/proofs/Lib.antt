@@ -4,3 +4,4 @@ pub mod Leaves
 pub mod KindFacts
 pub mod ViewFacts
 pub mod Counted
+pub mod StepFacts

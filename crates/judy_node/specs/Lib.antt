@@ -3,3 +3,5 @@ pub mod Kinds
 pub mod Falls
 pub mod Roots
 pub mod Views
+pub mod Steps
+pub mod Populations

@@ -1,11 +1,14 @@
 //! The nodes of a tree.
 #![tactic(auto)]
 
+mod branch;
 mod child;
 pub mod laws;
 mod node;
+mod step;
 mod view;
 
 pub use child::{BranchOf, ChildOf, KindOf};
 pub use node::NodeOf;
+pub use step::Step;
 pub use view::ViewOf;
