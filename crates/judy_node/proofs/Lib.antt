@@ -5,3 +5,4 @@ pub mod KindFacts
 pub mod ViewFacts
 pub mod Counted
 pub mod StepFacts
+pub mod Counts

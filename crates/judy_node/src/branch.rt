@@ -4,11 +4,11 @@ ghost use Rattle.std.specs.Prelude.{◌≡◌, ◌+◌, ◌*◌, ◌^◌, ◌<�
 ghost use Rattle.judy_model.specs.WordBytes.{number_of};
 ghost use Rattle.judy_bits.specs.ByteSets as set;
 ghost use Rattle.judy_bits.specs.ByteSets.{has};
-ghost use Rattle.judy_node.specs.Trees.{IsBranch};
+ghost use Rattle.judy_node.specs.Trees.{Tree, IsBranch};
 ghost use Rattle.judy_node.specs.Steps.{IsStep};
-ghost use Rattle.judy_node.specs.Populations.{keys_before, HoldsNth};
+ghost use Rattle.judy_node.specs.Populations.{population, keys_before, HoldsNth};
 
-use crate::child::BranchOf;
+use crate::child::{BranchOf, ChildOf};
 use crate::step::Step;
 use judy_bits::{low_part, without_low};
 use judy_leaf::Words;
@@ -47,4 +47,57 @@ impl<V: Words + Drop> BranchOf<V> {
             self.bytes.place(byte)
         }
     }
+
+    /// How many keys there are below.
+    pub fn keys(&self) -> u64
+        requires { IsBranch V.WORDS self.now.width self.now.skip self.now.bytes self.now.children.items self.now.population }
+        ensures { result ≡ population self.now.children.items }
+    {
+        self.population
+    }
+
+    /// How many keys there are below the first children, so many. It adds from the nearer end.
+    pub fn keys_before(&self, place: usize) -> u64
+        requires branch { IsBranch V.WORDS self.now.width self.now.skip self.now.bytes self.now.children.items self.now.population }
+        requires place { place ≤ length self.now.children.items }
+        ensures { result ≡ keys_before place self.now.children.items }
+    {
+        let all = self.keys();
+        if place <= self.children.len() / 2 {
+            population_of(&self.children[..place])
+        } else {
+            all - population_of(&self.children[place..])
+        }
+    }
+
+    /// The child that has the n-th of the keys below, counted from 0, and which of its own keys it is.
+    pub fn holding(&self, n: u64) -> (usize, u64)
+        requires branch { IsBranch V.WORDS self.now.width self.now.skip self.now.bytes self.now.children.items self.now.population }
+        requires within { n < self.now.population }
+        ensures { (kid : Tree) × HoldsNth self.now.children.items n result.0 result.1 kid }
+    {
+        let mut left = n;
+        let mut place = 0;
+        for child in &self.children {
+            let count = child.pop();
+            if left < count {
+                return (place, left);
+            }
+            left -= count;
+            place += 1;
+        }
+        unreachable!()
+    }
+}
+
+// How many keys there are below children.
+fn population_of<V: Words + Drop>(children: &[ChildOf<V>]) -> u64
+    requires { population children.now < 2 ^ 64 }
+    ensures { result ≡ population children.now }
+{
+    let mut sum = 0;
+    for child in children {
+        sum += child.pop();
+    }
+    sum
 }
