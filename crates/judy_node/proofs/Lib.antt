@@ -6,3 +6,4 @@ pub mod ViewFacts
 pub mod Counted
 pub mod StepFacts
 pub mod Counts
+pub mod Groups

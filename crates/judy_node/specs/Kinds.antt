@@ -1,7 +1,7 @@
 -- The kinds of nodes as trees, and what each kind keeps.
-use Rattle.std.specs.Prelude.{◌≡◌, ℕ, zero, suc, ◌+◌, ◌-◌, ◌*◌, ◌/◌, ◌%◌, ◌^◌, ◌<◌, ◌≤◌, List, [], ◌∷◌, length}
-use Rattle.judy_model.specs.WordBytes.{low_bytes}
-use Rattle.judy_model.specs.Forms.{Form, immediate, leaf, bitmap_leaf}
+use Rattle.std.specs.Prelude.{◌≡◌, ℕ, zero, suc, ◌+◌, ◌-◌, ◌*◌, ◌/◌, ◌%◌, ◌^◌, ◌<◌, ◌≤◌, List, [], ◌∷◌, ◌++◌, length}
+use Rattle.judy_model.specs.WordBytes.{low_bytes, number_of}
+use Rattle.judy_model.specs.Forms.{Form, immediate, leaf, bitmap_leaf, branch}
 use Rattle.judy_model.specs.Shapes.{immediate_limit}
 use Rattle.judy_block.specs.Contents.{Contents}
 use Rattle.judy_leaf.specs.KeyLists.{keys_of}
@@ -75,3 +75,24 @@ IsLevel words (Imm head word) = IsImm words head word
 IsLevel words (Leaf count block) = IsLeaf words count block
 IsLevel words (Bit skipped block) = IsBit words skipped block
 IsLevel words (Branch b) = IsBranch words b.value.width b.value.skip b.value.bytes b.value.children.items b.value.population
+
+-- ---- more bytes to skip
+
+-- The node skips bytes: it is a bitmap leaf or a branch.
+abbrev pub IsDeep : {V : _} → KindOf V → Type 0
+IsDeep (Imm head word) = ⊥
+IsDeep (Leaf count block) = ⊥
+IsDeep (Bit skipped block) = Unit {0}
+IsDeep (Branch b) = Unit {0}
+
+-- A form whose first node skips more bytes, in front of its own.
+abbrev pub skip_more : List ℕ → Form → Form
+skip_more more [] = []
+skip_more more (immediate keys ∷ nodes) = immediate keys ∷ nodes
+skip_more more (leaf keys ∷ nodes) = leaf keys ∷ nodes
+skip_more more (bitmap_leaf skipped bytes ∷ nodes) = bitmap_leaf (more ++ skipped) bytes ∷ nodes
+skip_more more (branch skipped bytes count ∷ nodes) = branch (more ++ skipped) bytes count ∷ nodes
+
+-- A tree that skips more bytes.
+abbrev pub behind : List ℕ → Tree → Tree
+behind more tree = record { width = length more + tree.width; pairs = shift (number_of more * 256 ^ tree.width) tree.pairs; form = skip_more more tree.form }

@@ -5,3 +5,4 @@ pub mod Roots
 pub mod Views
 pub mod Steps
 pub mod Populations
+pub mod Built
