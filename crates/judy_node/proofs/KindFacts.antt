@@ -54,6 +54,10 @@ some_keys_form words width keys some more few =
 
 -- ---- kinds
 
+-- One node has no more than the bytes of its keys.
+one_node : (width count : ℕ) → 1 ≤ width → 1 ≤ count → 1 ≤ width * count
+one_node width count low some = mul-le 1 1 width count low some
+
 -- The end of a block of 256 below so many blocks.
 block_end : (block blocks : ℕ) → block < blocks → block * 256 + 256 ≤ blocks * 256 ^ 1
 block_end block blocks below = omega arith
@@ -80,6 +84,7 @@ imm-child zero width head word level at =
       wide = at.wide;
       some = omega arith;
       map = subst (λ w. IsMap 0 0 (256 ^ w) (imm_list 0 (head / 256) head word).pairs) is_width (imm_map (head / 256) head word level.0);
+      nodes = one_node width (length (imm_list 0 (head / 256) head word).pairs) at.low_width (omega arith);
       shaped = λ tight. sym (few_keys_form 0 width (keys_of (imm_list 0 (head / 256) head word).pairs) at.low_width (omega arith)
         (subst (λ w. length (keys_of (imm_list 0 (head / 256) head word).pairs) ≤ immediate_limit 0 w) is_width (omega arith)));
     }
@@ -93,6 +98,7 @@ imm-child (suc words) width head word level at =
       wide = at.wide;
       some = subst (λ pairs. 0 < length pairs) (sym is) (omega arith);
       map = subst (λ pairs. IsMap (suc words) 0 (256 ^ width) pairs) (sym is) (omega arith, here, (λ (none : suc words ≡ 0). let never : ⊥ = omega arith in absurd never), tt);
+      nodes = one_node width (length (imm_list (suc words) 0 head word).pairs) at.low_width (subst (λ pairs. 1 ≤ length pairs) (sym is) (omega arith));
       shaped = λ tight. subst (λ pairs. immediate (keys_of pairs) ∷ [] ≡ form_of (suc words) width (keys_of pairs)) (sym is)
         (sym (few_keys_form (suc words) width (head ∷ []) at.low_width (omega arith) (omega arith)));
     }
@@ -113,6 +119,7 @@ leaf-child words width count block level at =
       wide = at.wide;
       some = omega arith;
       map = subst (λ w. IsMap words 0 (256 ^ w) pairs) is_width (leaf_map words count block level.parts);
+      nodes = one_node width (length pairs) at.low_width (omega arith);
       shaped = λ tight. sym (some_keys_form words width (keys_of pairs) at.low_width
         (subst (λ w. immediate_limit words w < length (keys_of pairs)) is_width (omega arith)) (omega arith));
     }
@@ -146,6 +153,7 @@ bit-child words width skipped block level at =
       some = omega arith;
       map = map-wider words (skipped * 256 + 0) (skipped * 256 + 256) 0 (256 ^ width) (shift (skipped * 256) inner) (omega arith) top
         (map-shift words 0 256 (skipped * 256) inner (bit_map words block level.parts));
+      nodes = one_node width (length (shift (skipped * 256) inner)) at.low_width (omega arith);
       shaped = λ tight. sym (
         ap (form_of words width) keys_are
         ∙ ap (λ w. form_of words w (raise (number_of shared * 256) (keys_of inner))) (sym length_is)

@@ -7,3 +7,4 @@ pub mod Counted
 pub mod StepFacts
 pub mod Counts
 pub mod Groups
+pub mod ShapeFacts

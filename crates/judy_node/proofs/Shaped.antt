@@ -1,6 +1,6 @@
 -- A tight node has the form of the rule, kind by kind.
 use Rattle.std.proofs.Common.{◌≡◌, ◌≢◌, ℕ, zero, suc, ◌+◌, ◌-◌, ◌*◌, ◌^◌, ◌<◌, ◌≤◌, Bool, true, false, cond, leb, List, [], ◌∷◌, ◌++◌, length, sym, refl, ap, ◌∙◌, subst, arith, length-append}
-use Rattle.std.proofs.Math.Nat.{pow-suc, pow-succ', mul_assoc, add-mul, mul_comm}
+use Rattle.std.proofs.Math.Nat.{pow-suc, pow-succ', mul_assoc, add-mul, mul-add, mul_comm}
 use Rattle.std.proofs.lemmas.Nat.{mul-le, pow-add}
 use Rattle.std.proofs.lemmas.Bool.{leb-true, leb-false, cases_Bool, le-leb}
 use Rattle.judy_model.specs.Keys.{IsByteString}
@@ -120,6 +120,31 @@ some-join words width low unit block (byte ∷ bytes) (kid ∷ kids) are one =
     let both = length-append (shift ((block + byte) * unit) kid.pairs) (join unit block bytes kids) in
     omega arith
 
+children-nodes : (words width low unit block : ℕ) (bytes : List ℕ) (kids : List Tree) → AreChildren words width low bytes kids → length (forms_in kids) ≤ width * length (join unit block bytes kids)
+children-nodes words width low unit block [] [] are = omega arith
+children-nodes words width low unit block [] (kid ∷ kids) are = absurd are
+children-nodes words width low unit block (byte ∷ bytes) [] are = absurd are
+children-nodes words width low unit block (byte ∷ bytes) (kid ∷ kids) are =
+    let start = (block + byte) * unit in
+    let nodes = length-append kid.form (forms_in kids) in
+    let pairs : length (shift start kid.pairs ++ join unit block bytes kids) ≡ length kid.pairs + length (join unit block bytes kids) =
+    length-append (shift start kid.pairs) (join unit block bytes kids) ∙ ap (λ n. n + length (join unit block bytes kids)) (length-shift start kid.pairs) in
+    let product : width * length (shift start kid.pairs ++ join unit block bytes kids) ≡ width * length kid.pairs + width * length (join unit block bytes kids) =
+    ap (λ n. width * n) pairs ∙ mul-add width (length kid.pairs) (length (join unit block bytes kids)) in
+    let here = are.2.nodes in
+    let rest = children-nodes words width (byte + 1) unit block bytes kids are.3 in
+    omega arith
+
+branch-nodes : (words width : ℕ) (skipped bytes : List ℕ) (kids : List Tree) (count : ℕ) → IsBranch words width skipped bytes kids count
+    → suc (length (forms_in kids)) ≤ (length skipped + 1 + width) * length (branch_pairs width skipped bytes kids)
+branch-nodes words width skipped bytes kids count is =
+    let some = some-join words width 0 (256 ^ width) (number_of skipped * 256) bytes kids is.parts.children is.holds in
+    let below = children-nodes words width 0 (256 ^ width) (number_of skipped * 256) bytes kids is.parts.children in
+    let n = length (branch_pairs width skipped bytes kids) in
+    let spread = add-mul (length skipped + 1) width n in
+    let one : 1 * 1 ≤ (length skipped + 1) * n = mul-le 1 1 (length skipped + 1) n (omega arith) (omega arith) in
+    omega arith
+
 pub branch-child : (words width : ℕ) (skipped bytes : List ℕ) (kids : List Tree) (count : ℕ) → IsBranch words width skipped bytes kids count
     → IsChild words (length skipped + 1 + width) (branch_tree width skipped bytes kids count)
 branch-child words width skipped bytes kids count is = record {
@@ -128,5 +153,6 @@ branch-child words width skipped bytes kids count is = record {
   wide = λ _. refl;
   some = some-join words width 0 (256 ^ width) (number_of skipped * 256) bytes kids is.parts.children is.holds;
   map = branch-map words width skipped bytes kids count is.parts;
+  nodes = branch-nodes words width skipped bytes kids count is;
   shaped = branch-shaped words width skipped bytes kids count is.parts;
 }

@@ -6,3 +6,4 @@ pub mod Views
 pub mod Steps
 pub mod Populations
 pub mod Built
+pub mod ShapeSums

@@ -46,14 +46,15 @@ forms_in (kid ∷ kids) = kid.form ++ forms_in kids
 
 -- ---- nodes
 
--- What every node below another keeps, for keys of a width: it has keys, which ascend and fit the width; and where it is
--- tight, its form is that of the rule.
+-- What every node below another keeps, for keys of a width: it has keys, which ascend and fit the width, and no more nodes
+-- than these keys have bytes; and where it is tight, its form is that of the rule.
 pub record IsChild (words width : ℕ) (child : Tree) : Type 0 where
   pub low_width : 1 ≤ width
   pub high_width : width ≤ 8
   pub wide : child.width ≢ 0 → child.width ≡ width
   pub some : 0 < length child.pairs
   pub map : IsMap words 0 (256 ^ width) child.pairs
+  pub nodes : length child.form ≤ width * length child.pairs
   pub shaped : IsTight child → child.form ≡ form_of words width (keys_of child.pairs)
 
 -- A child for each byte, the bytes ascending from one on.
@@ -93,4 +94,5 @@ branch_tree width skipped bytes kids count = record {
 pub record IsNode (words : ℕ) (tree : Tree) : Type 0 where
   pub wide : tree.width ≡ 8
   pub map : IsMap words 0 (256 ^ 8) tree.pairs
+  pub nodes : length tree.form ≤ 8 * length tree.pairs
   pub shaped : IsTight tree → tree.form ≡ form_of words 8 (keys_of tree.pairs)

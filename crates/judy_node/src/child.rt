@@ -15,7 +15,7 @@ use std::marker::{Model, PhantomData};
 #[cycle(node)]
 #[derive(Drop)]
 pub struct ChildOf<V: Words + Drop> {
-    kind: KindOf<V>,
+    pub(crate) kind: KindOf<V>,
 }
 
 /// The kinds of nodes below the root, by their parts: for writing.

@@ -4,8 +4,11 @@ ghost use Rattle.std.specs.Prelude.{◌≡◌, ◌+◌, ◌-◌, ◌^◌, ◌<�
 ghost use Rattle.judy_node.specs.Trees.{IsNode};
 ghost use Rattle.judy_node.specs.Roots.{root_tree, empty_tree};
 ghost use Rattle.judy_node.specs.Views.{IsView};
+ghost use Rattle.judy_node.specs.ShapeSums.{shape_as};
+ghost use Rattle.judy_model.specs.Forms.{shape_in};
 
 use crate::child::ChildOf;
+use crate::shape::Shape;
 use crate::view::ViewOf;
 use judy_bits::Meter;
 use judy_leaf::Words;
@@ -80,5 +83,21 @@ impl<V: Words + Drop> NodeOf<V> {
             }
             RootOf::Many(child) => child.enter(8, meter),
         }
+    }
+
+    /// How many nodes of each kind the tree has.
+    pub fn shape(&self) -> Shape
+        ensures { shape_as result ≡ shape_in self.now.form }
+    {
+        let mut shape = Shape::nothing();
+        match &self.kind {
+            RootOf::Empty => {}
+            RootOf::One(_, _) => shape.immediates = 1,
+            RootOf::Many(child) => {
+                let _ = child.pop();
+                child.count_into(&mut shape);
+            }
+        }
+        shape
     }
 }
