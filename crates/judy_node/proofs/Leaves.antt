@@ -7,7 +7,8 @@ use Rattle.std.proofs.lemmas.Bool.{cases_order}
 use Rattle.std.proofs.lemmas.List.Elements.{All-nil, All-cons, All-head, All-tail}
 use Rattle.judy_model.specs.Keys.{word_order}
 use Rattle.judy_block.specs.Contents.{Contents}
-use Rattle.judy_leaf.specs.KeyLists.{KeyList, keys_of, IsKeyList, AreFree}
+use Rattle.judy_leaf.specs.KeyLists.{KeyList, keys_of, IsKeyList, AreFree, low_pairs}
+use Rattle.judy_model.proofs.WordOrder.{less_word}
 use Rattle.judy_leaf.specs.Layouts.{leaf_list, IsLeafParts, bit_list, IsBitParts, imm_list, IsImmParts, packed}
 use Rattle.judy_node.specs.Trees.{Pairs, IsMap}
 
@@ -79,3 +80,27 @@ pub imm_list-width : (words width head word : ℕ) → (imm_list words width hea
 unfolding imm_list
 imm_list-width zero width head word = refl
 imm_list-width (suc words) width head word = refl
+
+-- ---- and back
+
+less_all : (words key low top : ℕ) (pairs : Pairs) → key < low → IsMap words low top pairs → AllByRecursion (λ other. word_order key other ≡ Less) (keys_of pairs)
+less_all words key low top [] below map = tt
+less_all words key low top (pair ∷ pairs) below map = let first = map.0 in (less_word key pair.0 (omega arith), less_all words key (pair.0 + 1) top pairs (omega arith) map.3)
+
+map_ascends : (words low top : ℕ) (pairs : Pairs) → IsMap words low top pairs → IsStrictlySortedBy word_order (keys_of pairs)
+unfolding IsStrictlySortedBy
+map_ascends words low top [] map = tt
+map_ascends words low top (pair ∷ pairs) map = (less_all words pair.0 (pair.0 + 1) top pairs (omega arith) map.3, map_ascends words (pair.0 + 1) top pairs map.3)
+
+map_below : (words low top : ℕ) (pairs : Pairs) → IsMap words low top pairs → All (λ key. key < top) (keys_of pairs)
+map_below words low top [] map = All-nil (λ key. key < top)
+map_below words low top (pair ∷ pairs) map = All-cons (λ key. key < top) pair.0 (keys_of pairs) map.1 (map_below words (pair.0 + 1) top pairs map.3)
+
+-- A map is a key list.
+pub map_list : (words width : ℕ) (pairs : Pairs) → 1 ≤ width → width ≤ 8 → IsMap words 0 (256 ^ width) pairs → IsKeyList (record { width = width; pairs = pairs })
+map_list words width pairs low high map = record { ascending = map_ascends words 0 (256 ^ width) pairs map; below = map_below words 0 (256 ^ width) pairs map; some = low; most = high }
+
+-- Its values are 0 where keys have none, also before keys were cut to their lowest bytes.
+pub map_free : (words low top unit : ℕ) (pairs : Pairs) → IsMap words low top (low_pairs unit pairs) → AreFree words pairs
+map_free words low top unit [] map = tt
+map_free words low top unit (pair ∷ pairs) map = (map.2, map_free words (pair.0 % unit + 1) top unit pairs map.3)

@@ -8,3 +8,4 @@ pub mod StepFacts
 pub mod Counts
 pub mod Groups
 pub mod ShapeFacts
+pub mod BuiltFacts

@@ -2,6 +2,7 @@
 #![tactic(auto)]
 
 mod branch;
+mod build;
 mod child;
 pub mod laws;
 mod node;
