@@ -190,25 +190,30 @@ ascending-append (x ∷ xs) ys first second between =
     all_append P [] ys first second = second
     all_append P (x ∷ xs) ys first second = (first.0, all_append P xs ys first.1 second)
 
--- A set with a byte is a set.
-pub with_byte-IsByteSet : (xs : List ℕ) (byte : ℕ) → IsByteSet xs → byte < 256 → IsByteSet (with_byte xs byte)
+-- A list with a byte ascends.
+pub with_byte-ascending : (xs : List ℕ) (byte : ℕ) → IsStrictlySortedBy word_order xs → IsStrictlySortedBy word_order (with_byte xs byte)
 unfolding IsStrictlySortedBy
-with_byte-IsByteSet xs byte is small =
+with_byte-ascending xs byte ascending =
     let low = filter (λ member. is_lt (word_order member byte)) xs in
     let high = filter (λ member. is_gt (word_order member byte)) xs in
-    let low_small = All-filter (λ member. is_lt (word_order member byte)) (λ b. b < 256) xs is.bytes in
-    let high_small = All-filter (λ member. is_gt (word_order member byte)) (λ b. b < 256) xs is.bytes in
-    record {
-      ascending = ascending-append low (byte ∷ high) (ascending-filter word_order (λ member. is_lt (word_order member byte)) xs is.ascending)
-          (first byte high (λ y here. less_word byte y (ltb-true byte y (sym (is_gt_word y byte) ∙ (among_from_filter (λ member. is_gt (word_order member byte)) xs y here).1))) (ascending-filter word_order (λ member. is_gt (word_order member byte)) xs is.ascending))
-          (λ x y before after.
-          let less = lt_from_word x byte (among_from_filter (λ member. is_lt (word_order member byte)) xs x before).1 in
-          ⊎_elim (λ e. omega arith) (λ later. let more = ltb-true byte y (sym (is_gt_word y byte) ∙ (among_from_filter (λ member. is_gt (word_order member byte)) xs y later).1) in omega arith) after);
-      bytes = All-append (λ b. b < 256) low (byte ∷ high) low_small (All-cons (λ b. b < 256) byte high small high_small);
-    }
+    ascending-append low (byte ∷ high) (ascending-filter word_order (λ member. is_lt (word_order member byte)) xs ascending)
+    (first byte high (λ y here. less_word byte y (ltb-true byte y (sym (is_gt_word y byte) ∙ (among_from_filter (λ member. is_gt (word_order member byte)) xs y here).1))) (ascending-filter word_order (λ member. is_gt (word_order member byte)) xs ascending))
+    (λ x y before after.
+    let less = lt_from_word x byte (among_from_filter (λ member. is_lt (word_order member byte)) xs x before).1 in
+    ⊎_elim (λ e. omega arith) (λ later. let more = ltb-true byte y (sym (is_gt_word y byte) ∙ (among_from_filter (λ member. is_gt (word_order member byte)) xs y later).1) in omega arith) after)
   where
     first : (x : ℕ) (ys : List ℕ) → ((y : ℕ) → Among ys y → word_order x y ≡ Less) → IsStrictlySortedBy word_order ys → IsStrictlySortedBy word_order (x ∷ ys)
     first x ys below ascending = (all_from_among (λ y. word_order x y ≡ Less) ys below, ascending)
+
+-- A set with a byte is a set.
+pub with_byte-IsByteSet : (xs : List ℕ) (byte : ℕ) → IsByteSet xs → byte < 256 → IsByteSet (with_byte xs byte)
+with_byte-IsByteSet xs byte is small =
+    let low_small = All-filter (λ member. is_lt (word_order member byte)) (λ b. b < 256) xs is.bytes in
+    let high_small = All-filter (λ member. is_gt (word_order member byte)) (λ b. b < 256) xs is.bytes in
+    record {
+      ascending = with_byte-ascending xs byte is.ascending;
+      bytes = All-append (λ b. b < 256) (filter (λ member. is_lt (word_order member byte)) xs) (byte ∷ filter (λ member. is_gt (word_order member byte)) xs) low_small (All-cons (λ b. b < 256) byte (filter (λ member. is_gt (word_order member byte)) xs) small high_small);
+    }
 
 -- A set without a byte is a set.
 pub without_byte-IsByteSet : (xs : List ℕ) (byte : ℕ) → IsByteSet xs → IsByteSet (without_byte xs byte)

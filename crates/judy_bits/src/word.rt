@@ -1,6 +1,6 @@
 //! The bytes of a word.
 
-ghost use Rattle.std.specs.Prelude.{◌≡◌, ◌<◌, ◌≤◌, ◌/◌, ◌%◌, ◌^◌};
+ghost use Rattle.std.specs.Prelude.{◌≡◌, ◌<◌, ◌≤◌, ◌*◌, ◌/◌, ◌%◌, ◌^◌};
 ghost use Rattle.judy_model.specs.WordBytes as bytes;
 
 use crate::bits::low_ones;
@@ -27,4 +27,13 @@ pub fn low_part(word: u64, width: usize) -> u64
     ensures { result ≡ word % 256 ^ width }
 {
     word & low_ones(8 * width)
+}
+
+/// A word moved up by whole bytes, so many, at most 8: `word * 256^width` by two shifts. It has to be a word.
+pub fn moved_up(word: u64, width: usize) -> u64
+    requires width { width ≤ 8 }
+    requires within { word * 256 ^ width < 2 ^ 64 }
+    ensures { result ≡ word * 256 ^ width }
+{
+    (word << (4 * width)) << (4 * width)
 }

@@ -69,7 +69,7 @@ pub record FitsAt (width : ℕ) (tree : Tree) : Type 0 where
   pub wide : tree.width ≢ 0 → tree.width ≡ width
   pub below : AllBelow (256 ^ width) (keys_of tree.pairs)
 
-imm-child : (words width head word : ℕ) → IsImm words head word → FitsAt width (imm_tree words head word) → IsChild words width (imm_tree words head word)
+pub imm-child : (words width head word : ℕ) → IsImm words head word → FitsAt width (imm_tree words head word) → IsChild words width (imm_tree words head word)
 imm-child zero width head word level at =
     let fits = imm_width_fits (head / 256) head word level.0 in
     let low = fits.0 in
@@ -103,7 +103,7 @@ imm-child (suc words) width head word level at =
         (sym (few_keys_form (suc words) width (head ∷ []) at.low_width (omega arith) (omega arith)));
     }
 
-leaf-child : (words width count : ℕ) (block : Contents) → IsLeaf words count block → FitsAt width (leaf_tree words count block) → IsChild words width (leaf_tree words count block)
+pub leaf-child : (words width count : ℕ) (block : Contents) → IsLeaf words count block → FitsAt width (leaf_tree words count block) → IsChild words width (leaf_tree words count block)
 leaf-child words width count block level at =
     let fits = leaf_width words count block level.parts in
     let low = fits.0 in
@@ -129,7 +129,7 @@ low_bytes-are zero word = All-nil (λ byte. byte < 256)
 low_bytes-are (suc width) word =
     All-cons (λ byte. byte < 256) (word / 256 ^ width % 256) (low_bytes width word) (mod_below (word / 256 ^ width) 256 (omega arith)) (low_bytes-are width word)
 
-bit-child : (words width skipped : ℕ) (block : Contents) → IsBit words skipped block → FitsAt width (bit_tree words skipped block) → IsChild words width (bit_tree words skipped block)
+pub bit-child : (words width skipped : ℕ) (block : Contents) → IsBit words skipped block → FitsAt width (bit_tree words skipped block) → IsChild words width (bit_tree words skipped block)
 bit-child words width skipped block level at =
     let low = level.low_width in
     let is_width : bit_width block ≡ width = at.wide (λ (none : bit_width block ≡ 0). let never : ⊥ = omega arith in never) in

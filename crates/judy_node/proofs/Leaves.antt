@@ -1,5 +1,5 @@
 -- What the parts of leaves give: their pairs are a map.
-use Rattle.std.proofs.Common.{◌≡◌, ◌≢◌, ℕ, zero, suc, ◌+◌, ◌*◌, ◌/◌, ◌%◌, ◌^◌, ◌<◌, ◌≤◌, List, [], ◌∷◌, length, All, sym, refl, ap, ◌∙◌, subst, ⊎_elim, arith, Ordering, Less, Equal, Greater, nat_cmp}
+use Rattle.std.proofs.Common.{◌≡◌, ◌≢◌, ℕ, zero, suc, ◌+◌, ◌*◌, ◌/◌, ◌%◌, ◌^◌, ◌<◌, ◌≤◌, List, [], ◌∷◌, length, take, drop, All, sym, refl, ap, ◌∙◌, subst, ⊎_elim, arith, Ordering, Less, Equal, Greater, nat_cmp}
 use Rattle.std.specs.List.{AllByRecursion}
 use Rattle.std.specs.List.Sorted.{IsStrictlySortedBy}
 use Rattle.std.specs.Cmp.{nat_cmp_is}
@@ -9,7 +9,7 @@ use Rattle.judy_model.specs.Keys.{word_order}
 use Rattle.judy_block.specs.Contents.{Contents}
 use Rattle.judy_leaf.specs.KeyLists.{KeyList, keys_of, IsKeyList, AreFree, low_pairs}
 use Rattle.judy_model.proofs.WordOrder.{less_word}
-use Rattle.judy_leaf.specs.Layouts.{leaf_list, IsLeafParts, bit_list, IsBitParts, imm_list, IsImmParts, packed}
+use Rattle.judy_leaf.specs.Layouts.{leaf_list, IsLeafParts, bit_list, IsBitParts, imm_list, IsImmParts, packed, pairs_from}
 use Rattle.judy_node.specs.Trees.{Pairs, IsMap}
 
 less_from : (left right : ℕ) → nat_cmp left right ≡ Less → left < right
@@ -104,3 +104,22 @@ map_list words width pairs low high map = record { ascending = map_ascends words
 pub map_free : (words low top unit : ℕ) (pairs : Pairs) → IsMap words low top (low_pairs unit pairs) → AreFree words pairs
 map_free words low top unit [] map = tt
 map_free words low top unit (pair ∷ pairs) map = (map.2, map_free words (pair.0 % unit + 1) top unit pairs map.3)
+
+-- A bitmap leaf of wider keys has the same last bytes.
+same_count : (tag : ℕ) → (tag + 65536) % 65536 ≡ tag % 65536
+same_count tag = omega arith
+
+pub bit_list-wider : (words : ℕ) (block : Contents) → bit_list words (record block { tag = block.tag + 65536 }) ≡ bit_list words block
+unfolding bit_list
+bit_list-wider words block = ap (λ n. record { width = 1; pairs = pairs_from (drop (words * n) block.words) (take (words * n) block.words) }) (same_count block.tag)
+
+pub bit_parts-wider : (words : ℕ) (block : Contents) → IsBitParts words block → IsBitParts words (record block { tag = block.tag + 65536 })
+bit_parts-wider words block is =
+    let same = sym (bit_list-wider words block) in
+    record {
+      one = is.one;
+      long = ap (λ l. length l.pairs) (sym same) ∙ is.long ∙ sym (same_count block.tag);
+      wide = ap (λ l. l.width) (sym same) ∙ is.wide;
+      list = subst IsKeyList same is.list;
+      free = subst (λ l. AreFree words l.pairs) same is.free;
+    }

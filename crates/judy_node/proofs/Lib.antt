@@ -9,3 +9,4 @@ pub mod Counts
 pub mod Groups
 pub mod ShapeFacts
 pub mod BuiltFacts
+pub mod Behind

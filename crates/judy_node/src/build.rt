@@ -8,7 +8,7 @@ ghost use Rattle.judy_node.specs.Kinds.{tree_of, IsLevel, IsDeep, behind};
 ghost use Rattle.judy_node.specs.Built.{sharing, middle, IsBuilt, AreMade};
 
 use crate::child::{BranchOf, ChildOf, KindOf};
-use judy_bits::{low_part, without_low, ByteSet, Skip};
+use judy_bits::{low_part, moved_up, without_low, ByteSet, Skip};
 use judy_leaf::{bits_of_sorted, imm_of_sorted, leaf_of_sorted, Head, Words};
 use std::alloc::{AllocError, Global};
 use std::marker::PhantomData;
@@ -222,7 +222,7 @@ impl<V: Words + Drop> KindOf<V> {
     {
         match self {
             KindOf::Bit(head, mut block) => {
-                let front = u64::from(byte) << (8 * (block.tag() / 65_536 - 1));
+                let front = moved_up(u64::from(byte), (block.tag() / 65_536 - 1) as usize);
                 let head = Head::new(front + head.number());
                 block.set_tag(block.tag() + 65_536);
                 KindOf::Bit(head, block)
