@@ -10,3 +10,4 @@ pub mod Groups
 pub mod ShapeFacts
 pub mod BuiltFacts
 pub mod Behind
+pub mod MadeFacts
