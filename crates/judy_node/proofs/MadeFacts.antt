@@ -5,15 +5,19 @@ use Rattle.std.proofs.lemmas.Nat.{le-div, mul-le, mod_below, div-mul-add}
 use Rattle.std.proofs.Math.Arith.{mod-mul}
 use Rattle.std.proofs.lemmas.List.{append-nil, take-append-drop, take_all}
 use Rattle.judy_model.specs.WordBytes.{number_of}
-use Rattle.judy_model.specs.Forms.{branch, loose_in}
+use Rattle.judy_model.specs.Forms.{Form, immediate, leaf, bitmap_leaf, branch, loose_in}
+use Rattle.judy_node.specs.Kinds.{tree_of, IsLevel, IsDeep, skip_more, behind}
+use Rattle.judy_node.specs.declared.child.KindOf.{KindOf}
+use Rattle.judy_node.specs.declared.child.KindOf.TheVariants.{Imm, Leaf, Bit, Branch}
+use Rattle.judy_node.proofs.KindFacts.{level-child}
 use Rattle.judy_model.specs.Shapes.{AllBelow}
 use Rattle.judy_model.proofs.ByteLemmas.{unit_pos}
 use Rattle.judy_model.proofs.FormLemmas.{branch_tight, tight-head}
 use Rattle.std.proofs.lemmas.List.Elements.{All-nil}
-use Rattle.judy_leaf.specs.KeyLists.{low_pairs}
+use Rattle.judy_leaf.specs.KeyLists.{keys_of, low_pairs}
 use Rattle.judy_node.specs.Trees.{Pairs, Tree, IsTight, IsMap, shift, join, forms_in, IsChild, AreChildren, IsBranch, branch_tree, branch_pairs}
 use Rattle.judy_node.specs.Built.{middle, sharing, IsBuilt, AreMade}
-use Rattle.judy_node.proofs.Maps.{map-wider}
+use Rattle.judy_node.proofs.Maps.{map-wider, map-AllBelow}
 use Rattle.judy_node.proofs.Shaped.{branch-child}
 use Rattle.judy_node.proofs.Groups.{AllMiddle, NotMiddle, sharing-within, sharing-front, sharing-rest, sharing-yes, length-low_pairs, low_pairs-append, low_pairs-shared, map-front, map-down, map-after, children-push, join-push, forms-push, below-push, below-wider}
 
@@ -103,7 +107,7 @@ made_more words below pairs rest bytes kids next byte end kid made some is_byte 
       none = λ (never : length (bytes ++ byte ∷ []) ≡ 0). let no_way : ⊥ = omega arith in absurd no_way;
       one = λ (only : length (bytes ++ byte ∷ []) ≡ 1).
         let begun : rest ≡ pairs = made.none (omega arith) in
-        let end_is : end ≡ sharing unit 256 (middle unit 256 (get_or pairs 0 (0, 0)).0) pairs = is ∙ ap (λ b. sharing unit 256 b rest) is_byte ∙ ap (λ ps. sharing unit 256 (middle unit 256 (get_or ps 0 (0, 0)).0) ps) begun in
+        let end_is : end ≡ sharing unit 256 (middle unit 256 (get_or pairs 0 (0, 0)).0) pairs = is ∙ ap (λ b. sharing unit 256 b rest) is_byte ∙ ap (λ (ps : Pairs). sharing unit 256 (middle unit 256 (get_or ps 0 (0, 0)).0) ps) begun in
         let same_length = ap length begun in
         omega arith;
     }
@@ -156,3 +160,61 @@ one_byte_map words below pairs byte end is all map =
     let shared : low_pairs (256 ^ (below + 1)) pairs ≡ shift (byte * unit) (low_pairs unit pairs) =
     ap (λ n. low_pairs n pairs) top ∙ low_pairs-shared unit 256 byte pairs (unit_pos below) (omega arith) (all_share unit byte pairs end is all) in
     map-down words 0 (256 ^ (below + 1)) (byte * unit) unit pairs (subst (IsMap words 0 (256 ^ (below + 1))) shared map) (unit_pos below)
+
+-- ---- one byte more
+
+loose_skip_more : (more : List ℕ) (form : Form) → loose_in (skip_more more form) ≡ loose_in form
+loose_skip_more more [] = refl
+loose_skip_more more (immediate keys ∷ nodes) = refl
+loose_skip_more more (leaf keys ∷ nodes) = refl
+loose_skip_more more (bitmap_leaf skipped bytes ∷ nodes) = refl
+loose_skip_more more (branch skipped bytes count ∷ nodes) = refl
+
+deep_width : {V : _} (words : ℕ) (kind : KindOf V) → IsLevel words kind → IsDeep kind → 1 ≤ (tree_of words kind).width
+deep_width words (Imm head word) level deep = absurd deep
+deep_width words (Leaf count block) level deep = absurd deep
+deep_width words (Bit skipped block) level deep = level.low_width
+deep_width words (Branch b) level deep = omega arith
+
+-- The width of a node that skips bytes is told.
+pub deep_is : {V : _} (words width : ℕ) (pairs : Pairs) (kind : KindOf V) → IsLevel words kind → IsDeep kind → IsBuilt words width pairs (tree_of words kind) → (tree_of words kind).width ≡ width
+deep_is words width pairs kind level deep built =
+    let low = deep_width words kind level deep in
+    built.child.wide (λ (none : (tree_of words kind).width ≡ 0). let never : ⊥ = omega arith in never)
+
+pub behind_built : {V : _} (words below byte end : ℕ) (pairs : Pairs) (kind next : KindOf V) → IsLevel words kind → IsDeep kind → IsBuilt words below pairs (tree_of words kind)
+    → IsLevel words next → tree_of words next ≡ behind (byte ∷ []) (tree_of words kind) → end ≡ sharing (256 ^ below) 256 byte pairs → length pairs ≤ end → 1 ≤ below → below ≤ 7
+    → IsMap words 0 (256 ^ (below + 1)) (low_pairs (256 ^ (below + 1)) pairs) → IsBuilt words (below + 1) pairs (tree_of words next)
+behind_built {V} words below byte end pairs kind next level deep built level_next is end_is all low high map =
+    let unit = 256 ^ below in
+    let told = deep_is words below pairs kind level deep built in
+    let top : 256 ^ (below + 1) ≡ 256 * unit = unit_above below ∙ mul_comm unit 256 in
+    let alone : number_of (byte ∷ []) ≡ byte = omega arith in
+    let shared : low_pairs (256 ^ (below + 1)) pairs ≡ shift (byte * unit) (low_pairs unit pairs) =
+    ap (λ n. low_pairs n pairs) top ∙ low_pairs-shared unit 256 byte pairs (unit_pos below) (omega arith) (all_share unit byte pairs end end_is all) in
+    let same : (tree_of words next).pairs ≡ low_pairs (256 ^ (below + 1)) pairs =
+    ap (λ t. t.pairs) is ∙ (λ t. shift (alone t * 256 ^ told t) (built.same t)) ∙ sym shared in
+    let wide : (tree_of words next).width ≡ below + 1 = ap (λ t. t.width) is ∙ (let e : 1 + (tree_of words kind).width ≡ below + 1 = omega arith in e) in
+    record {
+      child = level-child words (below + 1) next level_next (record {
+        low_width = omega arith;
+        high_width = omega arith;
+        wide = λ _. wide;
+        below = subst (λ ps. AllBelow (256 ^ (below + 1)) (keys_of ps)) (sym same) (map-AllBelow words 0 (256 ^ (below + 1)) (low_pairs (256 ^ (below + 1)) pairs) map);
+      });
+      same = same;
+      tight = ap (λ t. loose_in t.form) is ∙ loose_skip_more (byte ∷ []) (tree_of words kind).form ∙ built.tight;
+    }
+
+pub byte_before : (words below : ℕ) (pairs rest : Pairs) (bytes : List ℕ) (kids : List Tree) (next byte : ℕ) → AreMade words below pairs rest bytes kids next → 0 < length rest
+    → byte ≡ middle (256 ^ below) 256 (get_or rest 0 (0, 0)).0 → AllBelow byte bytes
+byte_before words below pairs rest bytes kids next byte made some is_byte =
+    below-wider next byte bytes (subst (λ n. next ≤ n) (sym is_byte) (next_within words next (256 ^ below) rest (unit_pos below) some made.after)) made.before
+
+-- What a slice from a place on holds.
+pub rest_is : (pairs : Pairs) (at : ℕ) → take (length pairs - at) (drop at pairs) ≡ drop at pairs
+rest_is pairs at = let long = length-drop at pairs in take_all (length pairs - at) (drop at pairs) (omega arith)
+
+pub length_none : (pairs : Pairs) → length pairs ≡ 0 → pairs ≡ []
+length_none [] none = refl
+length_none (pair ∷ pairs) none = let never : ⊥ = omega arith in absurd never

@@ -86,17 +86,17 @@ fn bits<V: Words + Drop>(alloc: Global, pairs: &[(u64, u64)]) -> Result<KindOf<V
     Ok(KindOf::Bit(Head::new(0), block))
 }
 
-// Makes the child of the first pairs, those of one byte, and puts it behind the others. The answer is how many pairs
-// those are.
+// Makes the child of the first pairs, those of one byte, and puts it behind the others. The answer is the rest of the
+// pairs.
 #[cycle(build)]
-fn add_group<V: Words + Drop>(alloc: Global, branch: &mut BranchOf<V>, below: u8, pairs: &[(u64, u64)], rest: &[(u64, u64)]) -> Result<usize, AllocError>
+fn add_group<'a, V: Words + Drop>(alloc: Global, branch: &mut BranchOf<V>, below: u8, pairs: &[(u64, u64)], rest: &'a [(u64, u64)]) -> Result<&'a [(u64, u64)], AllocError>
     requires one { V.WORDS ≤ 1 }
     requires width { (1 ≤ below) × (below ≤ 7) }
     requires some { 0 < length rest.now }
     requires two { sharing (256 ^ below) 256 (middle (256 ^ below) 256 (slice_index_or pairs.now 0 (0, 0)).0) pairs.now < length pairs.now }
     requires made { (next : ℕ) × AreMade V.WORDS below pairs.now rest.now branch.old.bytes branch.old.children.items next }
-    ensures within { IfOk result (λ end. (0 < end) × (end ≤ length rest.now)) }
-    ensures made { IfOk result (λ end. (next : ℕ) × AreMade V.WORDS below pairs.now (drop end rest.now) branch.new.bytes branch.new.children.items next) }
+    ensures fewer { IfOk result (λ left. length left.now < length rest.now) }
+    ensures made { IfOk result (λ left. (next : ℕ) × AreMade V.WORDS below pairs.now left.now branch.new.bytes branch.new.children.items next) }
     ensures others { (branch.new.skip ≡ branch.old.skip) × (branch.new.width ≡ branch.old.width) × (branch.new.population ≡ branch.old.population) }
 {
     let byte = byte_above(rest[0].0, below);
@@ -111,7 +111,7 @@ fn add_group<V: Words + Drop>(alloc: Global, branch: &mut BranchOf<V>, below: u8
     let Ok(()) = branch.children.push(child) else {
         return Err(AllocError);
     };
-    Ok(end)
+    Ok(&rest[end..])
 }
 
 // A node of sorted pairs.
@@ -199,10 +199,10 @@ fn split<V: Words + Drop>(alloc: Global, below: u8, pairs: &[(u64, u64)]) -> Res
     };
     let mut rest = pairs;
     while !rest.is_empty() {
-        let Ok(end) = add_group(alloc, &mut branch, below, pairs, rest) else {
+        let Ok(left) = add_group(alloc, &mut branch, below, pairs, rest) else {
             return Err(AllocError);
         };
-        rest = &rest[end..];
+        rest = left;
     }
     match Box::new(alloc, branch) {
         Ok(branch) => Ok(KindOf::Branch(branch)),
