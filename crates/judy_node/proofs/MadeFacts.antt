@@ -1,6 +1,6 @@
 -- The children of a branch, made one group of pairs after another.
 use Rattle.std.proofs.Common.{◌≡◌, ◌≢◌, ℕ, zero, suc, ◌+◌, ◌-◌, ◌*◌, ◌/◌, ◌%◌, ◌^◌, ◌<◌, ◌≤◌, List, [], ◌∷◌, ◌++◌, length, take, drop, get_or, sym, refl, ap, ◌∙◌, subst, arith, append_assoc, length-append, length-drop}
-use Rattle.std.proofs.Math.Nat.{pow-suc, mul_comm}
+use Rattle.std.proofs.Math.Nat.{pow-suc, mul_comm, mod-eq_of_lt}
 use Rattle.std.proofs.lemmas.Nat.{le-div, mul-le, mod_below, div-mul-add}
 use Rattle.std.proofs.Math.Arith.{mod-mul}
 use Rattle.std.proofs.lemmas.List.{append-nil, take-append-drop, take_all}
@@ -211,10 +211,11 @@ pub byte_before : (words below : ℕ) (pairs rest : Pairs) (bytes : List ℕ) (k
 byte_before words below pairs rest bytes kids next byte made some is_byte =
     below-wider next byte bytes (subst (λ n. next ≤ n) (sym is_byte) (next_within words next (256 ^ below) rest (unit_pos below) some made.after)) made.before
 
--- What a slice from a place on holds.
-pub rest_is : (pairs : Pairs) (at : ℕ) → take (length pairs - at) (drop at pairs) ≡ drop at pairs
-rest_is pairs at = let long = length-drop at pairs in take_all (length pairs - at) (drop at pairs) (omega arith)
-
 pub length_none : (pairs : Pairs) → length pairs ≡ 0 → pairs ≡ []
 length_none [] none = refl
 length_none (pair ∷ pairs) none = let never : ⊥ = omega arith in absurd never
+
+-- Keys below a bound are all that is read of them there.
+pub low_pairs_same : (words low top : ℕ) (pairs : Pairs) → IsMap words low top pairs → low_pairs top pairs ≡ pairs
+low_pairs_same words low top [] map = refl
+low_pairs_same words low top (pair ∷ pairs) map = λ t. (mod-eq_of_lt map.1 t, pair.1) ∷ low_pairs_same words (pair.0 + 1) top pairs map.3 t

@@ -111,7 +111,8 @@ fn add_group<'a, V: Words + Drop>(alloc: Global, branch: &mut BranchOf<V>, below
     let Ok(()) = branch.children.push(child) else {
         return Err(AllocError);
     };
-    Ok(&rest[end..])
+    let (_, left) = rest.split_at(end);
+    Ok(left)
 }
 
 // A node of sorted pairs.
@@ -137,7 +138,7 @@ fn child_of_sorted<V: Words + Drop>(alloc: Global, width: u8, pairs: &[(u64, u64
 
 // A node of more sorted pairs than an immediate holds.
 #[cycle(build)]
-fn kind_of_sorted<V: Words + Drop>(alloc: Global, width: u8, pairs: &[(u64, u64)]) -> Result<KindOf<V>, AllocError>
+pub(crate) fn kind_of_sorted<V: Words + Drop>(alloc: Global, width: u8, pairs: &[(u64, u64)]) -> Result<KindOf<V>, AllocError>
     requires one { V.WORDS ≤ 1 }
     requires width { (1 ≤ width) × (width ≤ 8) }
     requires more { immediate_limit V.WORDS width < length pairs.now }

@@ -1,17 +1,19 @@
 //! The root of a tree.
 
-ghost use Rattle.std.specs.Prelude.{◌≡◌, ◌+◌, ◌-◌, ◌^◌, ◌<◌, length};
-ghost use Rattle.judy_node.specs.Trees.{IsNode};
+ghost use Rattle.std.specs.Prelude.{◌≡◌, ◌+◌, ◌-◌, ◌^◌, ◌<◌, ◌≤◌, length, IfOk};
+ghost use Rattle.judy_node.specs.Trees.{IsNode, IsMap, IsTight};
 ghost use Rattle.judy_node.specs.Roots.{root_tree, empty_tree};
 ghost use Rattle.judy_node.specs.Views.{IsView};
 ghost use Rattle.judy_node.specs.ShapeSums.{shape_as};
 ghost use Rattle.judy_model.specs.Forms.{shape_in};
 
+use crate::build::kind_of_sorted;
 use crate::child::ChildOf;
 use crate::shape::Shape;
 use crate::view::ViewOf;
 use judy_bits::Meter;
 use judy_leaf::Words;
+use std::alloc::{AllocError, Global};
 use std::marker::Model;
 
 /// A tree of words.
@@ -99,5 +101,30 @@ impl<V: Words + Drop> NodeOf<V> {
             }
         }
         shape
+    }
+
+    /// The tight tree of pairs whose keys strictly ascend; their values are 0 where keys have no values. The error is want
+    /// of memory; nothing is kept then.
+    pub fn from_sorted(alloc: Global, pairs: &[(u64, u64)]) -> Result<NodeOf<V>, AllocError>
+        requires one { V.WORDS ≤ 1 }
+        requires map { IsMap V.WORDS 0 (256 ^ 8) pairs.now }
+        ensures pairs { IfOk result (λ tree. tree.pairs ≡ pairs.now) }
+        ensures tight { IfOk result (λ tree. IsTight tree) }
+    {
+        if pairs.is_empty() {
+            return Ok(NodeOf::empty());
+        }
+        if pairs.len() == 1 {
+            let (key, value) = pairs[0];
+            return Ok(NodeOf {
+                kind: RootOf::One(key, value),
+            });
+        }
+        match kind_of_sorted(alloc, 8, pairs) {
+            Ok(kind) => Ok(NodeOf {
+                kind: RootOf::Many(ChildOf::close(kind)),
+            }),
+            Err(refused) => Err(refused),
+        }
     }
 }

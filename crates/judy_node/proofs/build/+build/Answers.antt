@@ -6,7 +6,7 @@ use Rattle.judy_node.specs.Trees.{IsMap, IsBranch, branch_tree}
 use Rattle.judy_node.specs.Kinds.{tree_of, behind}
 use Rattle.judy_node.specs.Built.{sharing, middle, IsBuilt, AreMade}
 use Rattle.judy_node.proofs.Groups.{sharing-within, with_byte-push, below-wider}
-use Rattle.judy_node.proofs.MadeFacts.{made_none, group_map, group_some, made_more, made_branch, made_built, byte_before, behind_built, one_byte_map, rest_is, length_none}
+use Rattle.judy_node.proofs.MadeFacts.{made_none, group_map, group_some, made_more, made_branch, made_built, byte_before, behind_built, one_byte_map, length_none}
 use Rattle.judy_node.proofs.build.+build.Goals as goal
 
 pub add_group-slice_bounds-child_of_sorted-end : goal.add_group-slice_bounds-child_of_sorted-end
@@ -29,7 +29,7 @@ add_group-returns-clause-fewer g t c =
     let bounds = group_some c.args.below c.args.rest.now c.byte_above-byte.result c.group_end-end.result c.requires.some c.byte_above-byte.ensures c.group_end-end.ensures in
     let first = bounds.0 in
     let last = bounds.1 in
-    let left = ap length (rest_is c.args.rest.now c.group_end-end.result) ∙ length-drop c.group_end-end.result c.args.rest.now in
+    let left = c.split_at.ensures.back_len in
     omega arith
 
 pub add_group-returns-clause-made : goal.add_group-returns-clause-made
@@ -41,7 +41,7 @@ add_group-returns-clause-made g t c =
       (byte_before words c.args.below c.args.pairs.now c.args.rest.now old.bytes old.children.items made.0 c.byte_above-byte.result made.1 c.requires.some c.byte_above-byte.ensures) in
     let kids = c.in-Ok-push.ensures.items ∙ ap (λ kids. kids ++ c.in-Ok.child ∷ []) c.try_reserve.ensures.items in
     (c.byte_above-byte.result + 1,
-    subst (λ left. AreMade words c.args.below c.args.pairs.now left c.add.new.self c.push.new.self.items (c.byte_above-byte.result + 1)) (sym (rest_is c.args.rest.now c.group_end-end.result))
+    subst (λ left. AreMade words c.args.below c.args.pairs.now left c.add.new.self c.push.new.self.items (c.byte_above-byte.result + 1)) (sym c.split_at.ensures.back)
     (subst (λ bs. AreMade words c.args.below c.args.pairs.now (drop c.group_end-end.result c.args.rest.now) bs c.push.new.self.items (c.byte_above-byte.result + 1)) (sym bytes)
     (subst (λ ks. AreMade words c.args.below c.args.pairs.now (drop c.group_end-end.result c.args.rest.now) (old.bytes ++ c.byte_above-byte.result ∷ []) ks (c.byte_above-byte.result + 1)) (sym kids)
       (made_more words c.args.below c.args.pairs.now c.args.rest.now old.bytes old.children.items made.0 c.byte_above-byte.result c.group_end-end.result c.in-Ok.child made.1 c.requires.some
@@ -148,19 +148,7 @@ split-returns-in-Ok-new-clause-built g t c =
       (subst (λ n. IsBuilt words (c.args.below + 1) c.args.pairs.now (branch_tree c.args.below [] b.bytes b.children.items n)) (sym at.3)
         (made_built words c.args.below c.args.pairs.now c.loop-rest.rest.now b.bytes b.children.items at.0.0 at.0.1 over c.requires.width.0 c.requires.width.1 c.requires.more))))
 
-pub add_group-offset_bounds-rest-end : goal.add_group-offset_bounds-rest-end
-add_group-offset_bounds-rest-end g t c =
-    let fits = c.element_fits.fits in
-    let bounds = group_some c.args.below c.args.rest.now c.byte_above-byte.result c.group_end-end.result c.requires.some c.byte_above-byte.ensures c.group_end-end.ensures in
-    let last = bounds.1 in
-    ?
-
-pub add_group-slice_bounds-result-count : goal.add_group-slice_bounds-result-count
-add_group-slice_bounds-result-count g t c =
-    let bounds = group_some c.args.below c.args.rest.now c.byte_above-byte.result c.group_end-end.result c.requires.some c.byte_above-byte.ensures c.group_end-end.ensures in
-    bounds.1
-
-pub add_group-slice_bounds-result-start : goal.add_group-slice_bounds-result-start
-add_group-slice_bounds-result-start g t c =
+pub add_group-split_at-requires : goal.add_group-split_at-requires
+add_group-split_at-requires g t c =
     let bounds = group_some c.args.below c.args.rest.now c.byte_above-byte.result c.group_end-end.result c.requires.some c.byte_above-byte.ensures c.group_end-end.ensures in
     bounds.1
