@@ -1,5 +1,6 @@
 -- What the examples speak of.
-use Rattle.std.specs.Prelude.{ℕ, true, List, [], ◌∷◌, codes}
+use Rattle.std.specs.Prelude.{ℕ, zero, suc, ◌*◌, true, List, [], ◌∷◌, ◌++◌, codes}
+use Rattle.std.specs.List.{range_with_len}
 use Rattle.judy_model.specs.Arrays.{judy1, judyl, empty_array}
 use Rattle.judy_model.specs.Lines.{Line}
 use Rattle.judy_model.specs.Stores.{Store}
@@ -21,3 +22,8 @@ two_arrays = (codes "a", judyl (empty_array 1)) ∷ (codes "s", judy1 (empty_arr
 abbrev pub shape : ℕ → ℕ → ℕ → ℕ → ℕ → ℕ → Shape
 shape immediates leaves bitmap_leaves linear bitmap full =
     record { immediates = immediates; leaves = leaves; bitmap_leaves = bitmap_leaves; linear = linear; bitmap = bitmap; full = full }
+
+-- So many runs of `size` words each, one at each multiple of a unit from 0 on.
+abbrev pub runs : ℕ → ℕ → ℕ → List ℕ
+runs unit size zero = []
+runs unit size (suc count) = runs unit size count ++ range_with_len (count * unit) size

@@ -1,6 +1,6 @@
 //! Short cases of the definitions, each computed by the check: what a reader would work out by hand.
 
-ghost use Rattle.std.specs.Prelude.{◌≡◌, ◌+◌, ◌*◌, ◌-◌, ◌^◌, true, false, [], ◌∷◌, ◌++◌, codes, replicate, Some, None, Ok, Err};
+ghost use Rattle.std.specs.Prelude.{◌≡◌, ◌+◌, ◌*◌, ◌-◌, ◌^◌, true, false, [], ◌∷◌, ◌++◌, codes, drop, replicate, Some, None, Ok, Err};
 ghost use Rattle.judy_model.specs.Arrays.{judy1, empty_array};
 ghost use Rattle.judy_model.specs.Lines.{lines_of, text_of, is_too_long};
 ghost use Rattle.judy_model.specs.Tokens.{tokens_of, word_of, name_of};
@@ -11,7 +11,7 @@ ghost use Rattle.judy_model.specs.Shapes.{form_of, shape_of};
 ghost use Rattle.std.specs.List.{range_with_len};
 ghost use Rattle.judy_model.specs.CommandWords as command;
 ghost use Rattle.judy_model.specs.CommandWords.{command_named};
-ghost use Rattle.judy_model.specs.Examples.{line, one_array, two_arrays, shape};
+ghost use Rattle.judy_model.specs.Examples.{line, one_array, two_arrays, shape, runs};
 
 /// An LF ends a line; what stands after the last LF is a line if it isn't empty.
 pub fn scripts_are_cut_at_each_line_feed()
@@ -128,7 +128,7 @@ pub fn answers_are_lines()
     ensures refusal { output_of (Err no_such_array) ≡ codes "error no-such-array" ++ 10 ∷ [] }
 {}
 
-/// The shapes of the table [shape-table]: nodes by kind, without values (0 value words a key) and with them (1).
+/// Shapes of small sets: nodes by kind, without values (0 value words a key) and with them (1).
 pub fn shape_table()
     ensures nothing { shape_of 0 [] ≡ shape 0 0 0 0 0 0 }
     ensures no_pair { shape_of 1 [] ≡ shape 0 0 0 0 0 0 }
@@ -139,4 +139,19 @@ pub fn shape_table()
     ensures words_of_a_byte { shape_of 0 (range_with_len 0 256) ≡ shape 0 0 1 0 0 0 }
     ensures pairs_of_a_byte { shape_of 1 (range_with_len 0 256) ≡ shape 0 0 1 0 0 0 }
     ensures one_more { shape_of 0 (range_with_len 0 257) ≡ shape 1 0 1 1 0 0 }
+{}
+
+/// Where one kind of node ends and the next begins.
+pub fn kinds_have_their_limits()
+    ensures leaf { shape_of 0 (range_with_len 0 32) ≡ shape 0 1 0 0 0 0 }
+    ensures bitmap_leaf { shape_of 0 (range_with_len 0 33) ≡ shape 0 0 1 0 0 0 }
+    ensures apart { shape_of 0 (range_with_len 0 33 ++ 2 ^ 56 ∷ []) ≡ shape 1 0 1 1 0 0 }
+    ensures two_bytes { shape_of 0 (range_with_len 0 512) ≡ shape 0 0 2 1 0 0 }
+    ensures linear { shape_of 0 (runs (2 ^ 56) 5 7) ≡ shape 0 7 0 1 0 0 }
+    ensures bitmap { shape_of 0 (runs (2 ^ 56) 5 8) ≡ shape 0 8 0 0 1 0 }
+    ensures still_bitmap { shape_of 0 (runs (2 ^ 56) 1 127) ≡ shape 127 0 0 0 1 0 }
+    ensures full { shape_of 0 (runs (2 ^ 56) 1 128) ≡ shape 128 0 0 0 0 1 }
+    ensures immediates { shape_of 0 (runs 256 8 5) ≡ shape 5 0 0 1 0 0 }
+    ensures one_leaf { shape_of 0 (range_with_len 0 9 ++ drop 8 (runs 256 8 5)) ≡ shape 4 1 0 1 0 0 }
+    ensures with_values { shape_of 1 (runs 256 8 5) ≡ shape 0 5 0 1 0 0 }
 {}
