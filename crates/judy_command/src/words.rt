@@ -1,8 +1,9 @@
 //! Words as tokens say them and as answers.
 
-ghost use Rattle.std.specs.Prelude.{◌≡◌, ◌<◌, ◌^◌, length, IsTrue, nat_lt, if◌then◌else◌, Some, None};
+ghost use Rattle.std.specs.Prelude.{◌≡◌, ◌<◌, ◌^◌, length, IsTrue, nat_lt, if◌then◌else◌, Some, None, IfOk};
 ghost use Rattle.std.specs.Str.Parse.{digits_value};
 ghost use Rattle.judy_command.specs.Replies.{checked, answer_of};
+ghost use Rattle.judy_model.specs.Keys.{IsWord};
 ghost use Rattle.judy_model.specs.Commands as model;
 ghost use Rattle.judy_model.specs.Commands.{word_at};
 ghost use Rattle.std.specs.List.{list_all};
@@ -12,7 +13,8 @@ use crate::reply::{Answer, Refusal};
 
 /// The word that a token says: 1 to 20 decimal digits with a number below 2^64. Else `BadWord`.
 pub(crate) fn word(token: &[u8]) -> Result<u64, Refusal>
-    ensures { checked result ≡ word_at token.now }
+    ensures said { checked result ≡ word_at token.now }
+    ensures word { IfOk result IsWord }
 {
     if token.is_empty() || token.len() > 20 || !are_digits(token) {
         return Err(Refusal::BadWord);

@@ -13,6 +13,8 @@ mod check;
 #[cfg(test)]
 mod faults;
 #[cfg(test)]
+mod keys;
+#[cfg(test)]
 mod lines;
 #[cfg(test)]
 mod refusals;
