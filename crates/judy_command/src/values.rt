@@ -32,6 +32,7 @@ pub(crate) trait ValueMap<K> {
     ghost order: { Key → Key → Ordering };
 
     ghost key_of: { K → Key };
+
     ghost IsKey: { Key → Type 0 };
 
     ghost array_of: { Self → ArrayOf order };
@@ -82,6 +83,7 @@ impl ValueMap<u64> for JudyL {
     ghost order = { word_order };
 
     ghost key_of = { λ key. key };
+
     ghost IsKey = { IsWord };
 
     ghost array_of = { λ array. array };
@@ -123,6 +125,7 @@ impl<'b> ValueMap<&'b [u8]> for JudyHs<Fnv1a> {
     ghost order = { byte_order };
 
     ghost key_of = { λ key. key.now };
+
     ghost IsKey = { IsBytesKey };
 
     ghost array_of = { λ array. array };
