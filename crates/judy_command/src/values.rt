@@ -33,6 +33,7 @@ pub(crate) trait ValueMap<K> {
     ghost order: { Key → Key → Ordering };
 
     ghost key_of: { K → Key };
+
     ghost IsKey: { Key → Type 0 };
 
     ghost array_of: { Self → ArrayOf order };
@@ -83,6 +84,7 @@ impl ValueMap<u64> for JudyL {
     ghost order = { word_order };
 
     ghost key_of = { λ key. key };
+
     ghost IsKey = { IsWord };
 
     ghost array_of = { λ array. array };
@@ -165,6 +167,7 @@ impl<'b> ValueMap<&'b [u8]> for JudyHs<Fnv1a> {
     ghost order = { byte_order };
 
     ghost key_of = { λ key. key.now };
+
     ghost IsKey = { IsBytesKey };
 
     ghost array_of = { λ array. array };

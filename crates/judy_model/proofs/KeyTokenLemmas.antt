@@ -1,8 +1,8 @@
 -- Byte strings as key tokens say them and as they are printed.
-use Rattle.std.proofs.Common.{◌≡◌, ◌≢◌, ℕ, ◌+◌, ◌*◌, ◌/◌, ◌%◌, ◌<◌, ◌≤◌, Bool, true, false, cond, not, ◌&&◌, ◌==◌, nat_lt, nat_le, List, [], ◌∷◌, length, Option, Some, None, refl, sym, ap, ◌∙◌, arith, All, IfSome}
+use Rattle.std.proofs.Common.{◌≡◌, ◌≢◌, ℕ, ◌+◌, ◌*◌, ◌/◌, ◌%◌, ◌<◌, Bool, true, false, cond, not, ◌==◌, nat_lt, nat_le, List, [], ◌∷◌, length, Option, Some, None, refl, sym, ap, ◌∙◌, arith, All, IfSome}
 use Rattle.std.specs.Prelude.{filter}
-use Rattle.std.specs.List.{list_all, slice_split}
-use Rattle.std.proofs.lemmas.Bool.{and_parts, lt-ltb, le-leb, leb-true, eqb-false, eqb-true}
+use Rattle.std.specs.List.{list_all}
+use Rattle.std.proofs.lemmas.Bool.{and_parts, lt-ltb, le-leb, leb-true}
 use Rattle.std.proofs.lemmas.List.Elements.{All-nil, All-cons, All-head, All-tail}
 use Rattle.std.proofs.lemmas.List.Splits.{slice_split_none}
 use Rattle.judy_model.specs.Keys.{IsByteString, IsBytesKey, IsStringKey}
@@ -49,9 +49,9 @@ key_of-IsByteString (sign ∷ signs) =
     elim (sign == 61) as (λ b. IfSome (cond b (cond (list_all is_shown signs) (Some signs) None) (cond (sign == 35) (bytes_of_digits signs) None)) IsByteString) [
       | true ↦ shown-IsByteString signs
       | false ↦ elim (sign == 35) as (λ b. IfSome (cond b (bytes_of_digits signs) None) IsByteString) [
-          | true ↦ bytes_of_digits-IsByteString signs
-          | false ↦ tt
-        ]
+        | true ↦ bytes_of_digits-IsByteString signs
+        | false ↦ tt
+      ]
     ]
 
 is_bytes_key-IsBytesKey : (key : List ℕ) → IsByteString key → is_bytes_key key ≡ true → IsBytesKey key
