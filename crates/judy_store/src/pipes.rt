@@ -1,7 +1,9 @@
 //! The program's pipes: std's readers and writers, which tell nothing of their bytes.
 
 ghost use Rattle.std.specs.Prelude.{◌≡◌, None};
+ghost use Rattle.std.specs.IoError.{error_kind};
 ghost use Rattle.judy_pipe.specs.Tally.{new_tally};
+ghost use Rattle.judy_store.specs.Stops.{stop_of_kind};
 
 use judy_pipe::{BrokenPipe, Sink, Source, Stop, Tally};
 use std::io;
@@ -100,7 +102,9 @@ impl<W: Write> Sink for WriteSink<W> {
 }
 
 // How std's error stops a call.
-fn stop_of(error: io::Error) -> Stop {
+fn stop_of(error: io::Error) -> Stop
+    ensures { result ≡ stop_of_kind (error_kind error) }
+{
     if error.kind() == ErrorKind::Interrupted {
         Stop::Interrupted
     } else {
