@@ -1,5 +1,5 @@
 //! The worked rows that cross crates, as tests by the rows' names: scripts with the answers that the
-//! specification gives, run over memory.
+//! specification gives, run over memory. And leaves and immediates, which no row reaches yet, beside a plain list.
 //!
 //! The crate stands on top of all others and has no code of its own.
 #![tactic(auto)]
@@ -14,6 +14,8 @@ mod check;
 mod dumps;
 #[cfg(test)]
 mod faults;
+#[cfg(test)]
+mod leaves;
 #[cfg(test)]
 mod lines;
 #[cfg(test)]
