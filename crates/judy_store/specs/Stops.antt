@@ -7,4 +7,4 @@ use Rattle.judy_pipe.specs.declared.stop.Stop.TheVariants.{Interrupted, Failed}
 -- An interruption is one, and every other error is a failure.
 abbrev pub stop_of_kind : ErrorKind → Stop
 stop_of_kind kind.Interrupted = Interrupted
-stop_of_kind other = Failed
+stop_of_kind _ = Failed
