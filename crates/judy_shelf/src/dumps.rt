@@ -36,12 +36,12 @@ pub fn dump<W: Sink>(shelf: &Shelf, sink: &mut W) -> Result<(), DumpFault>
 fn holds_bytes(shelf: &Shelf) -> bool
     ensures { MatchBool result (HoldsBytes shelf.now) (All (λ entry. IsFalse (is_of_bytes entry.1)) shelf.now) }
 {
-    let mut place = 0;
-    'arrays: while let Some((_, array)) = shelf.at(place) {
+    let mut seen = 0;
+    'arrays: while let Some((_, array)) = shelf.at(seen) {
         if is_of_bytes(array) {
             return true;
         }
-        place += 1;
+        seen += 1;
     }
     false
 }
