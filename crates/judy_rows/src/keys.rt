@@ -44,3 +44,57 @@ fn bad_byte_keys(rt: HostRuntime) {
     ];
     check_lines(&rt, &mut shelf, &table);
 }
+
+#[test]
+fn string_order(rt: HostRuntime) {
+    let mut shelf = Shelf::new(rt.alloc());
+    let table = [
+        (b"make s judysl".as_slice(), b"ok\n".as_slice()),
+        (b"ins s #ff 6", b"was 0\n"),
+        (b"ins s =abcdefgh 3", b"was 0\n"),
+        (b"ins s = 1", b"was 0\n"),
+        (b"ins s =zz 5", b"was 0\n"),
+        (b"ins s =abcdefghi 4", b"was 0\n"),
+        (b"ins s =abcdefg 2", b"was 0\n"),
+        (b"first s =", b"= 1\n"),
+        (b"next s =", b"=abcdefg 2\n"),
+        (b"next s =abcdefg", b"=abcdefgh 3\n"),
+        (b"next s =abcdefgh", b"=abcdefghi 4\n"),
+        (b"next s =abcdefghi", b"=zz 5\n"),
+        (b"next s =zz", b"#ff 6\n"),
+        (b"next s #FF", b"none\n"),
+        (b"prev s =", b"none\n"),
+        (b"last s #ffff", b"#ff 6\n"),
+    ];
+    check_lines(&rt, &mut shelf, &table);
+}
+
+// The line `ins s =`, 1,025 letters, ` 1`.
+fn too_long_key() -> [u8; 1034] {
+    let mut line = [b'a'; 1034];
+    line[..7].copy_from_slice(b"ins s =");
+    line[1032..].copy_from_slice(b" 1");
+    line
+}
+
+#[test]
+fn bad_keys(rt: HostRuntime) {
+    let mut shelf = Shelf::new(rt.alloc());
+    let long = too_long_key();
+    let table = [
+        (b"make s judysl".as_slice(), b"ok\n".as_slice()),
+        (b"ins s =abcdefghij 1", b"was 0\n"),
+        (b"ins s #00 1", b"error bad-key\n"),
+        (b"get s #00", b"error bad-key\n"),
+        (b"get s #0", b"error bad-key\n"),
+        (b"get s abc", b"error bad-key\n"),
+        (&long, b"error bad-key\n"),
+        (b"ins s #00 x", b"error bad-key\n"),
+        (b"ins s =a x", b"error bad-word\n"),
+        (b"del s =abcd", b"0\n"),
+        (b"fe s 0", b"error wrong-kind\n"),
+        (b"count s =a =b", b"error wrong-kind\n"),
+        (b"list", b"names s:judysl:1\n"),
+    ];
+    check_lines(&rt, &mut shelf, &table);
+}
