@@ -10,3 +10,4 @@ pub mod KeyedSteps
 pub mod HsLemmas
 pub mod InnerLemmas
 pub mod Counting
+pub mod ValueLemmas

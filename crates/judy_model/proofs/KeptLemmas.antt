@@ -1,14 +1,15 @@
 -- What an array that is one holds, and a store that is one.
-use Rattle.std.proofs.Common.{◌≡◌, ◌↔◌, ℕ, ◌≤◌, Bool, true, false, cond, ◌&&◌, List, [], ◌∷◌, ◌++◌, map, Option, Some, None, Result, Ok, refl, sym, ap, subst, ◌∙◌, arith, IsTrue, nat_lt, nat_le, codes, decimal, ok_or}
+use Rattle.std.proofs.Common.{◌≡◌, ◌↔◌, ℕ, ◌≤◌, Bool, true, false, cond, ◌&&◌, List, [], ◌∷◌, ◌++◌, map, Option, Some, None, Result, Ok, refl, sym, ap, subst, ◌∙◌, arith, IsTrue, All, get_or, nat_lt, nat_le, codes, decimal, ok_or}
 use Rattle.std.specs.Prelude.{bytes_eq}
 use Rattle.std.specs.declared.cmp.Ordering.{Ordering}
 use Rattle.std.specs.Ordering.{eq_by_cmp}
 use Rattle.std.specs.List.{AllByRecursion, IsDistinct}
 use Rattle.std.specs.Map.{keys_of, values_of}
 use Rattle.std.specs.Cmp.Lexicographic.{bytes_decides}
-use Rattle.std.specs.FinMap.{IsAntisymmetric, entries, find, get, get-entries, nat_cmp-IsAntisymmetric, slice_cmp-IsAntisymmetric}
+use Rattle.std.specs.Cmp.{IsTotalOrder, tied_itself}
+use Rattle.std.specs.FinMap.{IsAntisymmetric, entries, entries_sorted, find, get, get-entries, len, nat_cmp-IsAntisymmetric, slice_cmp-IsAntisymmetric}
 use Rattle.std.proofs.lemmas.Bool.{and_parts, leb-true, le-leb, lt-ltb}
-use Rattle.std.proofs.lemmas.List.Elements.{All-nil, All-cons, All-head, recursion_from_All}
+use Rattle.std.proofs.lemmas.List.Elements.{All-nil, All-cons, All-head, All-map, recursion_from_All}
 use Rattle.std.proofs.lemmas.Map.Keys.{IsDistinct-head, IsDistinct-tail}
 use Rattle.std.proofs.lemmas.Option.{none-some}
 use Rattle.judy_model.specs.Keys.{IsWord, IsStringKey, IsBytesKey, word_order, byte_order}
@@ -20,6 +21,7 @@ use Rattle.judy_model.specs.CommandWords.{make}
 use Rattle.judy_model.specs.Commands.{Outcome, ◌>>=◌, provided, carried_out}
 use Rattle.judy_model.specs.Examples.{one_array}
 use Rattle.judy_model.proofs.Orders.{same_from_tie}
+use Rattle.judy_model.proofs.Pairs.{find-at}
 use Rattle.judy_model.proofs.ValuesLemmas.{value_from_All}
 use Rattle.judy_model.proofs.WordLemmas.{word_of-decimal}
 
@@ -58,6 +60,22 @@ strings_hold array key value is held = held_entry (slice_cmp-IsAntisymmetric nat
 
 pub bytes_hold : (array : ArrayOf byte_order) (key : List ℕ) (value : ℕ) → IsArray (judyhs array) → get array.map key ≡ Some value → IsBytesKey key × IsWord value
 bytes_hold array key value is held = held_entry (slice_cmp-IsAntisymmetric nat_cmp-IsAntisymmetric) IsBytesKey array is key value held
+
+module _ {K : Type 0} {order : K → K → Ordering} (total : IsTotalOrder order) (array : ArrayOf order) where
+  entries_each : (P : K × ℕ → Type 0) → ((key : K) (value : ℕ) → get array.map key ≡ Some value → P (key, value)) → All P (entries array.map)
+  entries_each P each = λ k d within.
+      let pair = get_or (entries array.map) k d in
+      each pair.0 pair.1 (get-entries array.map pair.0 ∙ find-at order total (entries array.map) pair.0 k d (entries_sorted array.map) within (tied_itself total pair.0))
+
+  -- an array that holds words under keys, as many as its limit at most, is one
+  pub holds-IsArrayOf : (IsKey : K → Type 0) → 1 ≤ array.limit → IsWord array.limit → len array.map ≤ array.limit → ((key : K) (value : ℕ) → get array.map key ≡ Some value → IsKey key × IsWord value) → IsArrayOf IsKey array
+  holds-IsArrayOf IsKey some small within held = record {
+    holds_some = some;
+    limit_is_word = small;
+    within_limit = within;
+    keys_are = All-map IsKey (λ pair. pair.0) (entries array.map) (entries_each (λ pair. IsKey pair.0) (λ key value is. (held key value is).0));
+    values_are = All-map IsWord (λ pair. pair.1) (entries array.map) (entries_each (λ pair. IsWord pair.1) (λ key value is. (held key value is).1));
+  }
 
 -- ---- stores
 

@@ -2,12 +2,15 @@
 use Rattle.std.proofs.Common.{◌≡◌, ℕ, ◌+◌, ◌-◌, ◌<◌, ◌≤◌, suc, arith, true, false, cond, IsTrue, List, [], ◌∷◌, ◌++◌, Option, Some, None, Result, Ok, Err, refl, sym, ap, subst, ◌∙◌, append_assoc, append-nil, Less, Equal, Greater}
 use Rattle.std.specs.declared.cmp.Ordering.{Ordering}
 use Rattle.std.specs.Ordering.{is_lt, is_eq, eq_by_cmp, ordering_reverse}
-use Rattle.std.specs.Cmp.{IsTotalOrder}
-use Rattle.std.specs.FinMap.{IsAntisymmetric, find, from_entries, from_entries_push, get, insert, get-from_entries}
+use Rattle.std.specs.Cmp.{IsTotalOrder, nat_cmp_total, tied_itself}
+use Rattle.std.specs.Cmp.Lexicographic.{nat_list_cmp_total}
+use Rattle.std.specs.FinMap.{IsAntisymmetric, nat_cmp-IsAntisymmetric, slice_cmp-IsAntisymmetric, find, from_entries, from_entries_push, get, insert, get-from_entries}
 use Rattle.std.specs.FinMap.Entries.{find-append}
 use Rattle.std.proofs.lemmas.List.Elements.{All-nil, All-append}
 use Rattle.judy_model.specs.Arrays.{ArrayOf, ArrayValue, ins}
-use Rattle.judy_model.specs.Keys.{IsByteString}
+use Rattle.judy_model.specs.Keys.{IsByteString, word_order, byte_order}
+use Rattle.judy_model.specs.DumpText.{length_order}
+use Rattle.judy_model.proofs.KindLemmas.{length_order-total}
 use Rattle.judy_model.specs.Fields.{Fault, bad_order, Part, field, followed_by, ◌>>=◌, done, Behind}
 use Rattle.judy_model.specs.DumpGrammar.{is_above, entry, entries, filled}
 use Rattle.judy_model.proofs.Inserts.{ins_absent}
@@ -77,7 +80,7 @@ module _ {K : Type 0} (order : K → K → Ordering) (key : Part K) (value : Par
   pub entry_key_stopped : (last : Option K) (cause : Cause) (before after : Drawn) → ReadsFault Nowhere (field key ((is_above order last, bad_order) ∷ [])) cause before after → ReadsFault Nowhere (entry order key value last) cause before after
   entry_key_stopped last cause before after next = fault_first (field key ((is_above order last, bad_order) ∷ [])) (λ first. value >>= λ held. done (first, held)) cause before after next
 
-  module _ (kind : ArrayOf order → ArrayValue) (limit : ℕ) (before after : Drawn) where
+  module _ {map_order : K → K → Ordering} (kind : ArrayOf map_order → ArrayValue) (limit : ℕ) (before after : Drawn) where
     pub filled_value : (held : List (K × ℕ)) → ReadsValue whole held before after → ReadsValue (filled kind limit whole) (kind (record { limit = limit; map = from_entries held })) before after
     filled_value held read = value_then whole (λ held. done (kind (record { limit = limit; map = from_entries held }))) held before after read _ after (value_done _ after)
 
@@ -139,14 +142,14 @@ module _ {K : Type 0} (order : K → K → Ordering) (key : Part K) (value : Par
     listed_end = ap (whole order key value listed) (sym (append-nil far.input)) ∙ listed_behind []
 
     -- The array that holds them and nothing else.
-    pub listing_filled : (kind : ArrayOf order → ArrayValue) (limit count : ℕ) (array : ArrayOf order) → listed ≡ count → array.limit ≡ limit → array.map ≡ from_entries held → ReadsValue (filled kind limit (whole order key value count)) (kind array) before mid
+    pub listing_filled : {map_order : K → K → Ordering} (kind : ArrayOf map_order → ArrayValue) (limit count : ℕ) (array : ArrayOf map_order) → listed ≡ count → array.limit ≡ limit → array.map ≡ from_entries held → ReadsValue (filled kind limit (whole order key value count)) (kind array) before mid
     listing_filled kind limit count array all limits maps =
         let same : kind (record { limit = limit; map = from_entries held }) ≡ kind array = sym (λ t. kind (record { limit = limits t; map = maps t })) in
         subst (λ n. ReadsValue (filled kind limit (whole order key value n)) (kind array) before mid) all
         (subst (λ made. ReadsValue (filled kind limit (whole order key value listed)) made before mid) same (filled_value order key value listed kind limit before mid held listing_whole))
 
     -- Want of memory behind the last of them.
-    pub listing_memory : (kind : ArrayOf order → ArrayValue) (limit count : ℕ) → listed ≤ count → ReadsFault (AtSome (λ n. filled kind limit (entries order key value None n)) count) (filled kind limit (whole order key value count)) memory before mid
+    pub listing_memory : {map_order : K → K → Ordering} (kind : ArrayOf map_order → ArrayValue) (limit count : ℕ) → listed ≤ count → ReadsFault (AtSome (λ n. filled kind limit (entries order key value None n)) count) (filled kind limit (whole order key value count)) memory before mid
     listing_memory kind limit count within = record {
       input = far.input;
       given = far.given;
@@ -154,31 +157,60 @@ module _ {K : Type 0} (order : K → K → Ordering) (key : Part K) (value : Par
       stops = (far.failures, (listed, within, subst (λ r. Behind (followed_by r (λ held. done (kind (record { limit = limit; map = from_entries held })))) (λ _ rest. rest ≡ [])) (sym listed_end) refl));
     }
 
-module _ {K : Type 0} {order : K → K → Ordering} (total : IsTotalOrder order) (same : IsAntisymmetric order) where
+-- An order in which keys are read, and that of the map into which they are put.
+pub record KeyOrders {K : Type 0} (order map_order : K → K → Ordering) : Type 0 where
+  pub total : IsTotalOrder order
+  pub map_total : IsTotalOrder map_order
+  pub same : IsAntisymmetric map_order
+
+pub word_keys : KeyOrders word_order word_order
+word_keys = record { total = nat_cmp_total; map_total = nat_cmp_total; same = nat_cmp-IsAntisymmetric }
+
+pub string_keys : KeyOrders byte_order byte_order
+string_keys = record { total = nat_list_cmp_total; map_total = nat_list_cmp_total; same = slice_cmp-IsAntisymmetric nat_cmp-IsAntisymmetric }
+
+pub bytes_keys : KeyOrders length_order byte_order
+bytes_keys = record { total = length_order-total; map_total = nat_list_cmp_total; same = slice_cmp-IsAntisymmetric nat_cmp-IsAntisymmetric }
+
+is_Equal : (r : Ordering) → is_eq r ≡ true → r ≡ Equal
+is_Equal Less e = absurd cc
+is_Equal Equal e = refl
+is_Equal Greater e = absurd cc
+
+module _ {K : Type 0} {order map_order : K → K → Ordering} (orders : KeyOrders order map_order) where
   -- The keys above the last one are none of those held.
   abbrev pub AreNew : Option K → List (K × ℕ) → Type 0
-  AreNew last held = (key : K) → IsTrue (is_above order last key) → find order key held ≡ None
+  AreNew last held = (key : K) → IsTrue (is_above order last key) → find map_order key held ≡ None
 
   pub new_none : AreNew None []
   new_none key above = refl
 
   above_both : (last : Option K) (key other : K) → IsTrue (is_above order last key) → order key other ≡ Less → IsTrue (is_above order last other)
   above_both None key other above less = refl
-  above_both (Some before) key other above less = ap is_lt (total.trans before key other (is_Less _ above) less)
+  above_both (Some before) key other above less = ap is_lt (orders.total.trans before key other (is_Less _ above) less)
+
+  -- A key that is above another is not that one in the map.
+  apart : (key other : K) → order key other ≡ Less → eq_by_cmp map_order other key ≡ false
+  apart key other less = elim (eq_by_cmp map_order other key) as (λ b. eq_by_cmp map_order other key ≡ b → b ≡ false) [
+    | true ↦ λ e.
+        let one : other ≡ key = orders.same other key (is_Equal (map_order other key) e) in
+        let tied : Less ≡ Equal = sym less ∙ ap (order key) one ∙ tied_itself orders.total key in
+        absurd cc
+    | false ↦ λ e. refl
+  ] refl
 
   module _ (last : Option K) (held : List (K × ℕ)) (new : AreNew last held) (key : K) (value : ℕ) (above : IsTrue (is_above order last key)) where
     pub new_more : AreNew (Some key) (held ++ (key, value) ∷ [])
     new_more other later =
         let less = is_Less (order key other) later in
-        let apart : eq_by_cmp order other key ≡ false = ap is_eq (total.antisymm other key ∙ ap ordering_reverse less) in
-        find-append order total held key value other (new key above) ∙ ap (λ b. cond b (Some value) (find order other held)) apart ∙ new other (above_both last key other above less)
+        find-append map_order orders.map_total held key value other (new key above) ∙ ap (λ b. cond b (Some value) (find map_order other held)) (apart key other less) ∙ new other (above_both last key other above less)
 
-    pub made_more : from_entries {R = order} (held ++ (key, value) ∷ []) ≡ insert (from_entries held) key value
-    made_more = from_entries_push total same held key value (new key above)
+    pub made_more : from_entries {R = map_order} (held ++ (key, value) ∷ []) ≡ insert (from_entries held) key value
+    made_more = from_entries_push orders.map_total orders.same held key value (new key above)
 
-    pub absent_key : get (from_entries {R = order} held) key ≡ None
-    absent_key = get-from_entries total held key ∙ new key above
+    pub absent_key : get (from_entries {R = map_order} held) key ≡ None
+    absent_key = get-from_entries orders.map_total held key ∙ new key above
 
     -- An insert of the key.
-    pub set_more : ins (from_entries {R = order} held) key ≡ insert (from_entries held) key 0
+    pub set_more : ins (from_entries {R = map_order} held) key ≡ insert (from_entries held) key 0
     set_more = ins_absent (from_entries held) key absent_key

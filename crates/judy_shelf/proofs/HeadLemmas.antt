@@ -1,5 +1,5 @@
 -- Names and kinds as they are read.
-use Rattle.std.proofs.Common.{◌≡◌, ◌≢◌, ℕ, ◌<◌, ◌≤◌, ◌⊎◌, inl, inr, Bool, true, false, cond, not, leb, ltb, ◌==◌, ◌/◌, ◌%◌, List, [], ◌∷◌, ◌++◌, length, Option, Some, None, Ok, Err, is_some, is_none, ok_or, MatchOption, refl, sym, ap, subst, ◌∙◌, append-nil, arith}
+use Rattle.std.proofs.Common.{◌≡◌, ◌≢◌, ℕ, ◌<◌, ◌≤◌, ◌⊎◌, inl, inr, Bool, true, false, cond, not, leb, ltb, ◌==◌, ◌/◌, ◌%◌, List, [], ◌∷◌, ◌++◌, length, Option, Some, None, Ok, Err, IsFalse, is_some, is_none, ok_or, MatchOption, refl, sym, ap, subst, ◌∙◌, append-nil, arith}
 use Rattle.std.specs.Borrow.{Bor}
 use Rattle.std.specs.Option.{option_copied, option_map}
 use Rattle.std.specs.List.{list_all}
@@ -15,13 +15,13 @@ use Rattle.judy_shelf.specs.declared.array.Array.{Array}
 use Rattle.judy_shelf.specs.declared.fault.LoadFault.{LoadFault}
 use Rattle.judy_shelf.specs.declared.fault.LoadFault.TheVariants.{BadKind}
 use Rattle.judy_shelf.specs.declared.kind.Kind.{Kind}
-use Rattle.judy_shelf.specs.declared.kind.Kind.TheVariants.{Judy1, JudyL}
+use Rattle.judy_shelf.specs.declared.kind.Kind.TheVariants.{Judy1, JudyL, JudySl, JudyHs}
 use Rattle.judy_shelf.specs.Arrays.{value_of}
 use Rattle.judy_shelf.specs.Shelves.{Entries, store_of}
 use Rattle.judy_shelf.specs.Writes.{kind_number}
-use Rattle.judy_shelf.specs.Reads.{Drawn, kind, told, ReadsValue, ReadsFault, Nowhere, Reads}
+use Rattle.judy_shelf.specs.Reads.{Drawn, told, ReadsValue, ReadsFault, Nowhere, Reads}
 use Rattle.judy_shelf.proofs.ShelfLemmas.{array_named-store_of}
-use Rattle.judy_shelf.proofs.ReadLemmas.{value_passes, value_passes_both, value_fails_second}
+use Rattle.judy_shelf.proofs.ReadLemmas.{value_passes, value_passes_both, value_fails, value_fails_second}
 
 -- ---- names
 
@@ -55,36 +55,12 @@ module _ (entries : Entries) (wanted : ℕ) (read name : List ℕ) (before after
 -- ---- kinds
 
 module _ (value : ℕ) (before after : Drawn) (was : ReadsValue (number 1) value before after) where
-  one_byte : was.input ≡ value % 256 ∷ []
-  one_byte =
-      let back = (number-IsSpelled 1).back (was.input ++ []) value [] (subst IsByteString (sym (append-nil was.input)) was.bytes) (was.gives []) in
-      sym (append-nil was.input) ∙ back.0 ∙ ap (λ n. n % 256 ∷ []) (let e : value / 1 ≡ value = omega arith in e)
+  kind_told_by : (made : Kind) → value ≡ kind_number made → is_kind (kind_number made) ≡ true → ReadsValue grammar.kind (kind_number made) before after
+  kind_told_by made same known = subst (λ n. ReadsValue grammar.kind n before after) same (value_passes (number 1) value before after was is_kind bad_kind (ap is_kind same ∙ known))
 
-  three_or_four : 0 < value → value ≤ 4 → value ≢ 1 → value ≢ 2 → (was.input ≡ [] ++ 3 ∷ []) ⊎ (was.input ≡ [] ++ 4 ∷ [])
-  three_or_four above below not_one not_two = elim (value == 3) as (λ b. value == 3 ≡ b → (was.input ≡ [] ++ 3 ∷ []) ⊎ (was.input ≡ [] ++ 4 ∷ [])) [
-    | true ↦ λ e. let three = eqb-true value 3 e in inl (one_byte ∙ ap (λ n. n % 256 ∷ []) three)
-    | false ↦ λ e. let other = eqb-false value 3 e in let four : value ≡ 4 = omega arith in inr (one_byte ∙ ap (λ n. n % 256 ∷ []) four)
-  ] refl
-
-  kind_stops : (known : Bool) → is_kind value ≡ known → value ≢ 1 → value ≢ 2 → ReadsFault Nowhere grammar.kind kind before after
-  kind_stops false unknown not_one not_two = record {
-    input = was.input;
-    given = was.given;
-    bytes = was.bytes;
-    stops = (was.failures, inl (λ more. ap (λ r. followed_by r (checked ((is_kind, bad_kind) ∷ []))) (was.gives more) ∙ ap (λ b. cond b (Ok (value, more)) (Err bad_kind)) unknown));
-  }
-  kind_stops true known not_one not_two =
-      let both = and_parts (ltb 0 value) (leb value 4) known in
-      let above = ltb-true 0 value both.0 in
-      let below = leb-true value 4 both.1 in
-      record {
-        input = was.input;
-        given = was.given;
-        bytes = was.bytes;
-        stops = (was.failures, inr ([], three_or_four above below not_one not_two));
-      }
-
-  pub kind_told : (found : Option Kind) → MatchOption found ((value ≢ 1) × (value ≢ 2)) (λ kind. value ≡ kind_number kind) → Reads kind_number grammar.kind before (ok_or found BadKind) after
-  kind_told None unknown = kind_stops (is_kind value) refl unknown.0 unknown.1
-  kind_told (Some Judy1) same = subst (λ n. ReadsValue grammar.kind n before after) same (value_passes (number 1) value before after was is_kind bad_kind (ap is_kind same))
-  kind_told (Some JudyL) same = subst (λ n. ReadsValue grammar.kind n before after) same (value_passes (number 1) value before after was is_kind bad_kind (ap is_kind same))
+  pub kind_told : (found : Option Kind) → MatchOption found (IsFalse (is_kind value)) (λ kind. value ≡ kind_number kind) → Reads kind_number grammar.kind before (ok_or found BadKind) after
+  kind_told None unknown = value_fails (number 1) value before after was is_kind bad_kind [] unknown
+  kind_told (Some Judy1) same = kind_told_by Judy1 same refl
+  kind_told (Some JudyL) same = kind_told_by JudyL same refl
+  kind_told (Some JudySl) same = kind_told_by JudySl same refl
+  kind_told (Some JudyHs) same = kind_told_by JudyHs same refl

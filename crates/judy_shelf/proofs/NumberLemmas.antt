@@ -1,6 +1,6 @@
 -- Numbers as std reads them from bytes, and as the definitions do.
 use Rattle.std.proofs.Common.{◌≡◌, ℕ, List, [], ◌∷◌, length, get_or, subst, arith}
-use Rattle.std.specs.Int.{w32, w64, from_be_bytes}
+use Rattle.std.specs.Int.{w16, w32, w64, from_be_bytes}
 use Rattle.judy_model.specs.WordBytes.{number_of}
 use Rattle.judy_model.specs.Fields.{done, bytes, number}
 use Rattle.judy_shelf.specs.Reads.{Drawn, Cause, ReadsValue, ReadsFault, Nowhere}
@@ -10,6 +10,12 @@ pub from_1 : (read : List ℕ) → length read ≡ 1 → number_of read ≡ get_
 from_1 [] long = absurd (omega arith)
 from_1 (a ∷ []) long = omega arith
 from_1 (a ∷ b ∷ rest) long = absurd (omega arith)
+
+pub from_be_2 : (read : List ℕ) → length read ≡ 2 → number_of read ≡ from_be_bytes w16 read
+from_be_2 [] long = absurd (omega arith)
+from_be_2 (a ∷ []) long = absurd (omega arith)
+from_be_2 (a ∷ b ∷ []) long = omega arith
+from_be_2 (a ∷ b ∷ c ∷ rest) long = absurd (omega arith)
 
 pub from_be_4 : (read : List ℕ) → length read ≡ 4 → number_of read ≡ from_be_bytes w32 read
 from_be_4 [] long = absurd (omega arith)

@@ -1,13 +1,13 @@
 -- Parts that are read one after another.
-use Rattle.std.proofs.Common.{◌≡◌, ℕ, ◌+◌, ◌<◌, inl, inr, Bool, true, false, cond, List, [], ◌∷◌, ◌++◌, Result, Ok, Err, refl, sym, ap, subst, ◌∙◌, append_assoc}
+use Rattle.std.proofs.Common.{◌≡◌, ℕ, ◌+◌, ◌<◌, Bool, true, false, cond, List, [], ◌∷◌, ◌++◌, Result, Ok, Err, refl, sym, ap, subst, ◌∙◌, append_assoc}
 use Rattle.std.specs.Result.{IsErrAnd}
 use Rattle.std.proofs.lemmas.List.Elements.{All-nil, All-append}
 use Rattle.judy_model.specs.Keys.{IsByteString}
-use Rattle.judy_model.specs.Fields.{Fault, truncated, bad_kind, Part, followed_by, ◌>>=◌, done, checked, field, Behind, Begins}
+use Rattle.judy_model.specs.Fields.{Fault, truncated, Part, followed_by, ◌>>=◌, done, checked, field, Behind, Begins}
 use Rattle.judy_pipe.specs.Pipe.{grown}
 use Rattle.judy_pipe.proofs.Moves.{grown-grown}
 use Rattle.judy_shelf.specs.declared.fault.LoadFault.{LoadFault}
-use Rattle.judy_shelf.specs.Reads.{Drawn, Cause, reader, memory, cut, kind, told, cause_of, Stops, ReadsValue, ReadsFault, ReadsWanting, Nowhere, Reads}
+use Rattle.judy_shelf.specs.Reads.{Drawn, Cause, reader, memory, cut, told, cause_of, Stops, ReadsValue, ReadsFault, ReadsWanting, Nowhere, Reads}
 use Rattle.judy_shelf.proofs.WriteLemmas.{grown_nothing}
 
 -- ---- one part behind another
@@ -18,7 +18,6 @@ module _ {A B : Type 0} (Wants Also : List ℕ → Type 0) (part : Part A) (othe
   stops_too reader stops = stops
   stops_too memory stops = (stops.0, also stops.1)
   stops_too cut stops = (stops.0, stops.1, same input truncated stops.2)
-  stops_too kind stops = (stops.0, elim stops.1 [ inl faulty ↦ inl (λ more. same (input ++ more) bad_kind (faulty more)) | inr ends ↦ inr ends ])
   stops_too (told fault) stops = (stops.0, λ more. same (input ++ more) fault (stops.1 more))
 
 -- No memory is wanted nowhere.
@@ -56,19 +55,6 @@ module _ {A B : Type 0} (part : Part A) (rest : A → Part B) where
     later_stops Wants Also after input also reader stops = stops ∙ ap (λ n. n + 1) first.failures
     later_stops Wants Also after input also memory stops = (stops.0 ∙ first.failures, also stops.1)
     later_stops Wants Also after input also cut stops = (stops.0 ∙ first.failures, stops.1, goes_on input ∙ stops.2)
-    later_stops Wants Also after input also kind stops = (
-      stops.0 ∙ first.failures,
-      elim stops.1 [
-        | inl faulty ↦ inl (λ more. goes_on_more input more ∙ faulty more)
-        | inr ends ↦ inr (
-          first.input ++ ends.0,
-          elim ends.1 [
-            | inl three ↦ inl (ap (λ t. first.input ++ t) three ∙ sym (append_assoc first.input ends.0 (3 ∷ [])))
-            | inr four ↦ inr (ap (λ t. first.input ++ t) four ∙ sym (append_assoc first.input ends.0 (4 ∷ [])))
-          ],
-        )
-      ],
-    )
     later_stops Wants Also after input also (told fault) stops = (stops.0 ∙ first.failures, λ more. goes_on_more input more ∙ stops.1 more)
 
     pub fault_behind : (Wants Also : List ℕ → Type 0) → ((input : List ℕ) → Wants input → Also (first.input ++ input)) → (cause : Cause) (after : Drawn) → ReadsFault Wants (rest value) cause mid after → ReadsFault Also (part >>= rest) cause before after
@@ -172,19 +158,6 @@ module _ {B : Type 0} (whole : Part B) where
     far_stops Wants Also input also reader stops = stops ∙ ap (λ n. n + 1) far.failures
     far_stops Wants Also input also memory stops = (stops.0 ∙ far.failures, also stops.1)
     far_stops Wants Also input also cut stops = (stops.0 ∙ far.failures, stops.1, far.goes input ∙ stops.2)
-    far_stops Wants Also input also kind stops = (
-      stops.0 ∙ far.failures,
-      elim stops.1 [
-        | inl faulty ↦ inl (λ more. far_more input more ∙ faulty more)
-        | inr ends ↦ inr (
-          far.input ++ ends.0,
-          elim ends.1 [
-            | inl three ↦ inl (ap (λ t. far.input ++ t) three ∙ sym (append_assoc far.input ends.0 (3 ∷ [])))
-            | inr four ↦ inr (ap (λ t. far.input ++ t) four ∙ sym (append_assoc far.input ends.0 (4 ∷ [])))
-          ],
-        )
-      ],
-    )
     far_stops Wants Also input also (told fault) stops = (stops.0 ∙ far.failures, λ more. far_more input more ∙ stops.1 more)
 
     -- What stops the rest stops the whole.

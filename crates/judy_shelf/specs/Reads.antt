@@ -1,5 +1,5 @@
 -- What a source gave where a part of a dump was read from it, and what is known of the part.
-use Rattle.std.specs.Prelude.{◌≡◌, ℕ, ◌+◌, ◌<◌, ◌≤◌, ◌⊎◌, Bool, true, false, List, [], ◌∷◌, ◌++◌, Option, IfSome, Result, Ok, Err}
+use Rattle.std.specs.Prelude.{◌≡◌, ℕ, ◌+◌, ◌<◌, ◌≤◌, Bool, true, false, List, [], ◌∷◌, ◌++◌, Option, IfSome, Result, Ok, Err}
 use Rattle.judy_model.specs.Keys.{IsByteString}
 use Rattle.judy_model.specs.Stores.{Store, IsStore, IsRegular}
 use Rattle.judy_model.specs.Fields as fields
@@ -29,8 +29,6 @@ pub data Cause : Type 0 where
   memory : Cause
   -- the bytes ended
   cut : Cause
-  -- a kind that shelves don't have
-  kind : Cause
   -- a fault of the grammar
   told : Fault → Cause
 
@@ -41,7 +39,7 @@ cause_of load.BadMagic = told fields.bad_magic
 cause_of load.TooMany = told fields.too_many
 cause_of load.BadName = told fields.bad_name
 cause_of load.SameName = told fields.same_name
-cause_of load.BadKind = kind
+cause_of load.BadKind = told fields.bad_kind
 cause_of load.BadLimit = told fields.bad_limit
 cause_of load.BadCount = told fields.bad_count
 cause_of load.BadKey = told fields.bad_key
@@ -53,16 +51,11 @@ cause_of load.NoMemory = memory
 abbrev pub IsFaulty : {A : Type 0} → Part A → List ℕ → Fault → Type 0
 IsFaulty part input fault = (more : List ℕ) → part (input ++ more) ≡ Err fault
 
--- The last byte read is the number of judysl or of judyhs.
-abbrev pub EndsWithString : List ℕ → Type 0
-EndsWithString input = (front : List ℕ) × ((input ≡ front ++ 3 ∷ []) ⊎ (input ≡ front ++ 4 ∷ []))
-
 -- What stopped the reading of a part behind these bytes; behind which of them memory may be wanted is told.
 abbrev pub Stops : {A : Type 0} → (List ℕ → Type 0) → Part A → List ℕ → Drawn → Drawn → Cause → Type 0
 Stops Wants part input before after reader = after.failures ≡ before.failures + 1
 Stops Wants part input before after memory = (after.failures ≡ before.failures) × Wants input
 Stops Wants part input before after cut = (after.failures ≡ before.failures) × IfSome after.ended (λ ended. ended ≡ true) × (part input ≡ Err fields.truncated)
-Stops Wants part input before after kind = (after.failures ≡ before.failures) × (IsFaulty part input fields.bad_kind ⊎ EndsWithString input)
 Stops Wants part input before after (told fault) = (after.failures ≡ before.failures) × IsFaulty part input fault
 
 -- A part was read whole, and gives a value, whatever comes after it.

@@ -4,7 +4,7 @@ use Rattle.judy_pipe.specs.Pipe.{grown, GrewByFront}
 use Rattle.judy_shelf.specs.declared.fault.DumpFault.{DumpFault}
 use Rattle.judy_shelf.specs.declared.fault.DumpFault.TheVariants.{NoMemory, Write}
 use Rattle.judy_shelf.specs.declared.kind.Kind.{Kind}
-use Rattle.judy_shelf.specs.declared.kind.Kind.TheVariants.{Judy1, JudyL}
+use Rattle.judy_shelf.specs.declared.kind.Kind.TheVariants.{Judy1, JudyL, JudySl, JudyHs}
 
 -- What a sink tells: the bytes that it took, where it tells them, and how often it failed.
 pub record Sunk : Type 0 where
@@ -37,3 +37,5 @@ Dumped text before (Err NoMemory) after = ⊥
 abbrev pub kind_number : Kind → ℕ
 kind_number Judy1 = 1
 kind_number JudyL = 2
+kind_number JudySl = 3
+kind_number JudyHs = 4

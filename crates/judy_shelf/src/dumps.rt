@@ -50,6 +50,8 @@ fn write_array<W: Sink>(name: &Name, array: &Array, sink: &mut W) -> Result<(), 
     match array {
         Array::Judy1(set) => write_set(set, sink),
         Array::JudyL(words) => write_words(words, sink),
+        Array::JudySl(_) => Err(BrokenPipe),
+        Array::JudyHs(_) => Err(BrokenPipe),
     }
 }
 

@@ -34,6 +34,16 @@ pub(crate) fn read_u8<R: Source>(source: &mut R) -> Result<u8, LoadFault>
     Ok(bytes[0])
 }
 
+// Reads a number of two bytes, the highest first.
+pub(crate) fn read_u16<R: Source>(source: &mut R) -> Result<u16, LoadFault>
+    requires { (R.tally source.old).failures < 2 ^ 64 - 1 }
+    ensures { Reads (λ number. number) (fields.number 2) (drawn (R.given source.old) (R.ended source.old) (R.tally source.old).failures) result (drawn (R.given source.new) (R.ended source.new) (R.tally source.new).failures) }
+{
+    let mut bytes = [0; 2];
+    read_bytes(source, &mut bytes)?;
+    Ok(u16::from_be_bytes(bytes))
+}
+
 // Reads a number of four bytes, the highest first.
 pub(crate) fn read_u32<R: Source>(source: &mut R) -> Result<u32, LoadFault>
     requires { (R.tally source.old).failures < 2 ^ 64 - 1 }

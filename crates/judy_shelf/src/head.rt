@@ -1,11 +1,11 @@
 //! What stands before an array's keys in a dump, read field by field, each checked as soon as it is read.
 
-ghost use Rattle.std.specs.Prelude.{◌≡◌, ◌<◌, ◌≤◌, ◌-◌, ◌^◌, ◌∷◌, [], ◌≢◌, IfOk, IsTrue, MatchOption, None, length};
+ghost use Rattle.std.specs.Prelude.{◌≡◌, ◌<◌, ◌≤◌, ◌-◌, ◌^◌, ◌∷◌, [], IfOk, IsTrue, IsFalse, MatchOption, None, length};
 ghost use Rattle.judy_model.specs.Fields.{field, number, bytes, bad_name, bad_limit, bad_count, bad_order};
 ghost use Rattle.judy_model.specs.Keys.{word_order};
 ghost use Rattle.judy_model.specs.DumpText.{magic};
 ghost use Rattle.judy_model.specs.DumpGrammar as grammar;
-ghost use Rattle.judy_model.specs.DumpGrammar.{is_name_length, is_limit, is_above, name_checks};
+ghost use Rattle.judy_model.specs.DumpGrammar.{is_name_length, is_kind, is_limit, is_above, name_checks};
 ghost use Rattle.judy_model.specs.Stores.{array_named};
 ghost use Rattle.judy_shelf.specs.Shelves.{store_of};
 ghost use Rattle.judy_shelf.specs.Writes.{kind_number};
@@ -101,14 +101,18 @@ pub(crate) fn read_kind<R: Source>(source: &mut R) -> Result<Kind, LoadFault>
     kind_of_number(number).ok_or(LoadFault::BadKind)
 }
 
-// The kind of a number, if shelves have it.
+// The kind of a number, if there is one.
 fn kind_of_number(number: u8) -> Option<Kind>
-    ensures { MatchOption result ((number ≢ 1) × (number ≢ 2)) (λ kind. number ≡ kind_number kind) }
+    ensures { MatchOption result (IsFalse (is_kind number)) (λ kind. number ≡ kind_number kind) }
 {
     if number == 1 {
         Some(Kind::Judy1)
     } else if number == 2 {
         Some(Kind::JudyL)
+    } else if number == 3 {
+        Some(Kind::JudySl)
+    } else if number == 4 {
+        Some(Kind::JudyHs)
     } else {
         None
     }

@@ -11,6 +11,10 @@ pub enum Kind {
     Judy1,
     /// A map from words to words: the manual's JudyL.
     JudyL,
+    /// A map from byte strings without zero bytes to words, in their order: the manual's JudySL.
+    JudySl,
+    /// A map from byte strings to words, in no order: the manual's JudyHS.
+    JudyHs,
 }
 
 impl Kind {
@@ -19,10 +23,17 @@ impl Kind {
         ensures named { option_map empty_of_kind result ≡ kind_named word.now }
         ensures spelled { IfSome result (λ kind. word.now ≡ kind_word kind) }
     {
-        match word {
-            b"judy1" => Some(Kind::Judy1),
-            b"judyl" => Some(Kind::JudyL),
-            _ => None,
+        // Comparisons and no patterns: the search for proofs stops at six bytes.
+        if word == b"judy1".as_slice() {
+            Some(Kind::Judy1)
+        } else if word == b"judyl".as_slice() {
+            Some(Kind::JudyL)
+        } else if word == b"judysl".as_slice() {
+            Some(Kind::JudySl)
+        } else if word == b"judyhs".as_slice() {
+            Some(Kind::JudyHs)
+        } else {
+            None
         }
     }
 
@@ -35,6 +46,8 @@ impl Kind {
         match self {
             Kind::Judy1 => b"judy1",
             Kind::JudyL => b"judyl",
+            Kind::JudySl => b"judysl",
+            Kind::JudyHs => b"judyhs",
         }
     }
 }

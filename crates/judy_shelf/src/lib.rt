@@ -11,6 +11,7 @@ mod error;
 mod fault;
 mod fields;
 mod head;
+mod keys;
 mod kind;
 mod loads;
 mod name;

@@ -1,8 +1,9 @@
 //! A shelf from bytes.
 
 ghost use Rattle.std.specs.Prelude.{◌<◌, ◌≤◌, ◌-◌, ◌^◌, ◌≡◌, [], None, IfOk};
-ghost use Rattle.judy_model.specs.Arrays.{judy1, judyl};
-ghost use Rattle.judy_model.specs.Keys.{word_order};
+ghost use Rattle.judy_model.specs.Arrays.{judy1, judyl, judysl, judyhs};
+ghost use Rattle.judy_model.specs.Keys.{word_order, byte_order};
+ghost use Rattle.judy_model.specs.DumpText.{length_order};
 ghost use Rattle.judy_model.specs.DumpGrammar as grammar;
 ghost use Rattle.judy_model.specs.Stores.{array_named};
 ghost use Rattle.judy_shelf.specs.Arrays.{value_of};
@@ -16,10 +17,13 @@ use crate::fields::{read_end, read_u64};
 use crate::head::{
     read_array_count, read_key_count, read_kind, read_limit, read_magic, read_name, read_word_after,
 };
+use crate::keys::{LastKey, MAX_KEY_LEN, read_bytes_after, read_string_after};
 use crate::kind::Kind;
 use crate::name::Name;
 use crate::shelf::Shelf;
+use judy_hs::{Fnv1a, JudyHs};
 use judy_pipe::Source;
+use judy_sl::JudySl;
 use judy_word::{Judy1, JudyL};
 use std::alloc::Global;
 
@@ -30,8 +34,8 @@ use std::alloc::Global;
 /// gave the end. Every other answer is the first fault in the order of the fields: what the source gave has that
 /// fault, whatever came after it, and `Truncated` comes only where its last read gave the end. `Read` comes only
 /// where the source failed, which it then did once; `NoMemory` where there is none for an array or a key, and only
-/// where what the source gave has no fault and ends behind a key count or an entry. A kind that shelves don't have yet, that of judysl or judyhs, is `BadKind`. No byte is asked for beyond the fields,
-/// but for the one that is `Trailing`, so that a source that never ends is left.
+/// where what the source gave has no fault and ends behind a key count or an entry. No byte is
+/// asked for beyond the fields, but for the one that is `Trailing`, so that a source that never ends is left.
 ///
 /// Memory is asked for by the keys that were read, one after another, and never by a number that the bytes say.
 pub fn load<R: Source>(alloc: Global, source: &mut R) -> Result<Shelf, LoadFault>
@@ -103,6 +107,62 @@ fn read_words<R: Source>(
     Ok(words)
 }
 
+// Reads the keys of an array of strings, so many, and the value of each behind it.
+fn read_strings<R: Source>(
+    alloc: Global,
+    source: &mut R,
+    limit: u64,
+    count: u64,
+) -> Result<JudySl, LoadFault>
+    requires below { (R.tally source.old).failures < 2 ^ 64 - 1 }
+    requires some { 1 ≤ limit }
+    requires most { limit ≤ 4294967295 }
+    ensures { ReadsWanting (AtSome (λ listed. grammar.filled judysl limit (grammar.entries byte_order grammar.string_without_zero grammar.word None listed)) count) judysl (grammar.filled judysl limit (grammar.entries byte_order grammar.string_without_zero grammar.word None count)) (drawn (R.given source.old) (R.ended source.old) (R.tally source.old).failures) result (drawn (R.given source.new) (R.ended source.new) (R.tally source.new).failures) }
+{
+    let mut strings = JudySl::new(alloc, limit);
+    let mut last = LastKey::new();
+    let mut room = [0; MAX_KEY_LEN];
+    'keys: for _ in 0..count {
+        let len = read_string_after(source, &last, &mut room)?;
+        let value = read_u64(source)?;
+        let key = &room[..len];
+        match strings.ins(key) {
+            Ok(slot) => *slot = value,
+            Err(_) => return Err(LoadFault::NoMemory),
+        }
+        last.keep(key);
+    }
+    Ok(strings)
+}
+
+// Reads the keys of an array of byte strings, so many, and the value of each behind it.
+fn read_byte_strings<R: Source>(
+    alloc: Global,
+    source: &mut R,
+    limit: u64,
+    count: u64,
+) -> Result<JudyHs<Fnv1a>, LoadFault>
+    requires below { (R.tally source.old).failures < 2 ^ 64 - 1 }
+    requires some { 1 ≤ limit }
+    requires most { limit ≤ 4294967295 }
+    ensures { ReadsWanting (AtSome (λ listed. grammar.filled judyhs limit (grammar.entries length_order grammar.string grammar.word None listed)) count) judyhs (grammar.filled judyhs limit (grammar.entries length_order grammar.string grammar.word None count)) (drawn (R.given source.old) (R.ended source.old) (R.tally source.old).failures) result (drawn (R.given source.new) (R.ended source.new) (R.tally source.new).failures) }
+{
+    let mut strings = JudyHs::new(alloc, limit, Fnv1a);
+    let mut last = LastKey::new();
+    let mut room = [0; MAX_KEY_LEN];
+    'keys: for _ in 0..count {
+        let len = read_bytes_after(source, &last, &mut room)?;
+        let value = read_u64(source)?;
+        let key = &room[..len];
+        match strings.ins(key) {
+            Ok(slot) => *slot = value,
+            Err(_) => return Err(LoadFault::NoMemory),
+        }
+        last.keep(key);
+    }
+    Ok(strings)
+}
+
 // Reads what stands behind an array's name.
 fn read_body<R: Source>(alloc: Global, source: &mut R) -> Result<Array, LoadFault>
     requires { (R.tally source.old).failures < 2 ^ 64 - 1 }
@@ -130,6 +190,10 @@ fn read_contents<R: Source>(
     match kind {
         Kind::Judy1 => Ok(Array::Judy1(read_set(alloc, source, limit, count)?)),
         Kind::JudyL => Ok(Array::JudyL(read_words(alloc, source, limit, count)?)),
+        Kind::JudySl => Ok(Array::JudySl(read_strings(alloc, source, limit, count)?)),
+        Kind::JudyHs => Ok(Array::JudyHs(read_byte_strings(
+            alloc, source, limit, count,
+        )?)),
     }
 }
 

@@ -26,3 +26,4 @@ pub mod Grafts
 pub mod Grafted
 pub mod Splits
 pub mod LevelLemmas
+pub mod Words

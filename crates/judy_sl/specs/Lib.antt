@@ -10,3 +10,4 @@ pub mod Grown
 pub mod Branches
 pub mod Lends
 pub mod Levels
+pub mod Words

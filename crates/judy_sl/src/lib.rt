@@ -13,6 +13,7 @@ mod branches;
 mod child;
 mod error;
 mod grow;
+mod kept;
 mod keys;
 pub mod laws;
 mod level;

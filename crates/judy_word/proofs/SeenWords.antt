@@ -1,15 +1,14 @@
 -- What an array keeps that was read from key to key.
-use Rattle.std.proofs.Common.{◌≡◌, ℕ, ◌-◌, ◌^◌, ◌<◌, ◌≤◌, Bool, true, false, ◌&&◌, Option, Some, None, is_some, All, sym, ap, subst, ◌∙◌, ⊎_elim, arith, get_or, true≢false, lt-ltb, le-leb}
-use Rattle.std.specs.Cmp.{nat_cmp_total, tied_itself}
-use Rattle.std.specs.FinMap.{FinMap, entries, entries_sorted, get, get-entries, contains_key, len, nat_cmp-IsAntisymmetric}
+use Rattle.std.proofs.Common.{◌≡◌, ℕ, ◌-◌, ◌^◌, ◌<◌, ◌≤◌, Bool, true, false, ◌&&◌, Option, Some, None, is_some, sym, ap, subst, ◌∙◌, ⊎_elim, arith, true≢false, lt-ltb, le-leb}
+use Rattle.std.specs.Cmp.{nat_cmp_total}
+use Rattle.std.specs.FinMap.{FinMap, get, contains_key, len, nat_cmp-IsAntisymmetric}
 use Rattle.std.proofs.lemmas.Bool.{cases_lt, ltb-true}
-use Rattle.std.proofs.lemmas.List.Elements.{All-map}
 use Rattle.judy_model.specs.Keys.{IsWord, word_order}
 use Rattle.judy_model.specs.Arrays.{ArrayOf, IsArrayOf}
 use Rattle.judy_model.specs.Nearest.{IsFirst, IsNext}
 use Rattle.judy_model.specs.Neighbours.{first, next}
 use Rattle.judy_model.proofs.NearestLemmas.{first-IsFirst, next-IsNext}
-use Rattle.judy_model.proofs.Pairs.{find-at}
+use Rattle.judy_model.proofs.KeptLemmas.{holds-IsArrayOf}
 use Rattle.judy_model.proofs.WordOrder.{is_ge_word, is_gt_word, le_from_word}
 
 -- the keys below the one that comes next, or all of them, were read as words, and their values
@@ -81,17 +80,5 @@ module _ (map : FinMap word_order ℕ) where
   pub falls : (key : ℕ) → IsWord key → left_from (next map key) < 2 ^ 64 - key
   falls key small = falls_by key small (next map key) (next-IsNext nat_cmp_total nat_cmp-IsAntisymmetric map key)
 
-  -- what holds of each key and its value
-  All-entries : (P : ℕ × ℕ → Type 0) → ((key value : ℕ) → get map key ≡ Some value → P (key, value)) → All P (entries map)
-  All-entries P each = λ k d within.
-      let pair = get_or (entries map) k d in
-      each pair.0 pair.1 (get-entries map pair.0 ∙ find-at word_order nat_cmp_total (entries map) pair.0 k d (entries_sorted map) within (tied_itself nat_cmp_total pair.0))
-
 pub IsArrayOf-seen : (array : ArrayOf word_order) → Seen array.map None → 1 ≤ array.limit → IsWord array.limit → len array.map ≤ array.limit → IsArrayOf IsWord array
-IsArrayOf-seen array seen some small within = record {
-  holds_some = some;
-  limit_is_word = small;
-  within_limit = within;
-  keys_are = All-map IsWord (λ pair. pair.0) (entries array.map) (All-entries array.map (λ pair. IsWord pair.0) (λ key value is. (seen key value is).0));
-  values_are = All-map IsWord (λ pair. pair.1) (entries array.map) (All-entries array.map (λ pair. IsWord pair.1) (λ key value is. (seen key value is).1));
-}
+IsArrayOf-seen array seen some small within = holds-IsArrayOf nat_cmp_total array IsWord some small within seen

@@ -1,18 +1,16 @@
 use Rattle.std.proofs.Common.{◌≡◌, ◌+◌, ◌<◌, ◌≤◌, ◌∷◌, [], ◌++◌, Some, sym, ap, ◌∙◌, arith}
-use Rattle.std.specs.Cmp.{nat_cmp_total}
-use Rattle.std.specs.FinMap.{nat_cmp-IsAntisymmetric}
 use Rattle.judy_model.specs.Arrays.{judy1, ins}
 use Rattle.judy_model.specs.Keys.{word_order}
 use Rattle.judy_model.specs.DumpGrammar as grammar
 use Rattle.judy_shelf.specs.Reads.{drawn, cause_of}
 use Rattle.judy_shelf.proofs.ReadLemmas.{reads_err, value_done}
-use Rattle.judy_shelf.proofs.EntryReads.{whole, listing_none, listing_next, listing_fault, listing_memory, listing_filled, entry_read, entry_key_stopped, filled_fault, new_none, new_more, set_more, made_more}
+use Rattle.judy_shelf.proofs.EntryReads.{word_keys, whole, listing_none, listing_next, listing_fault, listing_memory, listing_filled, entry_read, entry_key_stopped, filled_fault, new_none, new_more, set_more, made_more}
 use Rattle.judy_shelf.proofs.loads.read_set.Goals as goal
 
 pub keys-init : goal.keys-init
 keys-init g c =
     let before = drawn (g.R.Source.given c.args.source.now) (g.R.Source.ended c.args.source.now) (g.R.Source.tally c.args.source.now).failures in
-    ([], ap (λ a. a.limit) c.new-set.ensures, ap (λ a. a.map) c.new-set.ensures, new_none nat_cmp_total nat_cmp-IsAntisymmetric, listing_none word_order grammar.word grammar.no_value before)
+    ([], ap (λ a. a.limit) c.new-set.ensures, ap (λ a. a.map) c.new-set.ensures, new_none word_keys, listing_none word_order grammar.word grammar.no_value before)
 
 pub returns-in_err-key : goal.returns-in_err-key
 returns-in_err-key g c =
@@ -55,8 +53,8 @@ keys-preserved g c =
     let set = c.in-Ok.ensures.set in (
       held ++ (key, 0) ∷ [],
       ap (λ a. a.limit) set ∙ c.keys.invariant.1,
-      ap (λ a. a.map) set ∙ ap (λ m. ins m key) c.keys.invariant.2 ∙ set_more nat_cmp_total nat_cmp-IsAntisymmetric c.keys.before held new key 0 above ∙ sym (made_more nat_cmp_total nat_cmp-IsAntisymmetric c.keys.before held new key 0 above),
-      new_more nat_cmp_total nat_cmp-IsAntisymmetric c.keys.before held new key 0 above,
+      ap (λ a. a.map) set ∙ ap (λ m. ins m key) c.keys.invariant.2 ∙ set_more word_keys c.keys.before held new key 0 above ∙ sym (made_more word_keys c.keys.before held new key 0 above),
+      new_more word_keys c.keys.before held new key 0 above,
       far,
     )
 

@@ -1,18 +1,17 @@
 use Rattle.std.proofs.Common.{◌≡◌, ◌+◌, ◌<◌, ◌≤◌, ◌∷◌, [], ◌++◌, Some, sym, ap, ◌∙◌, arith}
-use Rattle.std.specs.Cmp.{nat_cmp_total}
-use Rattle.std.specs.FinMap.{nat_cmp-IsAntisymmetric, insert}
+use Rattle.std.specs.FinMap.{insert}
 use Rattle.judy_model.specs.Arrays.{judyl}
 use Rattle.judy_model.specs.Keys.{word_order}
 use Rattle.judy_model.specs.DumpGrammar as grammar
 use Rattle.judy_shelf.specs.Reads.{drawn, cause_of}
 use Rattle.judy_shelf.proofs.ReadLemmas.{reads_err}
-use Rattle.judy_shelf.proofs.EntryReads.{whole, listing_none, listing_next, listing_fault, listing_memory, listing_filled, entry_read, entry_key_stopped, entry_value_stopped, filled_fault, new_none, new_more, made_more}
+use Rattle.judy_shelf.proofs.EntryReads.{word_keys, whole, listing_none, listing_next, listing_fault, listing_memory, listing_filled, entry_read, entry_key_stopped, entry_value_stopped, filled_fault, new_none, new_more, made_more}
 use Rattle.judy_shelf.proofs.loads.read_words.Goals as goal
 
 pub keys-init : goal.keys-init
 keys-init g c =
     let before = drawn (g.R.Source.given c.args.source.now) (g.R.Source.ended c.args.source.now) (g.R.Source.tally c.args.source.now).failures in
-    ([], ap (λ a. a.limit) c.new-words.ensures, ap (λ a. a.map) c.new-words.ensures, new_none nat_cmp_total nat_cmp-IsAntisymmetric, listing_none word_order grammar.word grammar.word before)
+    ([], ap (λ a. a.limit) c.new-words.ensures, ap (λ a. a.map) c.new-words.ensures, new_none word_keys, listing_none word_order grammar.word grammar.word before)
 
 pub returns-in_err-key : goal.returns-in_err-key
 returns-in_err-key g c =
@@ -73,8 +72,8 @@ keys-preserved g c =
     let far = listing_next word_order grammar.word grammar.word c.keys.counter c.keys.before held before mid c.keys.invariant.4 (key, value) after next in (
       held ++ (key, value) ∷ [],
       c.keys.invariant.1,
-      ap (λ m. insert m key value) c.keys.invariant.2 ∙ sym (made_more nat_cmp_total nat_cmp-IsAntisymmetric c.keys.before held new key value above),
-      new_more nat_cmp_total nat_cmp-IsAntisymmetric c.keys.before held new key value above,
+      ap (λ m. insert m key value) c.keys.invariant.2 ∙ sym (made_more word_keys c.keys.before held new key value above),
+      new_more word_keys c.keys.before held new key value above,
       far,
     )
 

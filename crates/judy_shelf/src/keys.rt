@@ -1,0 +1,141 @@
+//! The keys of a dump that are byte strings: each is read into one fixed buffer, and the one before it is kept in
+//! another.
+
+ghost use Rattle.std.specs.Prelude.{◌≡◌, ◌≢◌, ◌<◌, ◌≤◌, ◌-◌, ◌^◌, ◌∷◌, [], not, ◌==◌, IfOk, IsTrue, None, Some, length, take, nat_le};
+ghost use Rattle.std.specs.List.{list_all};
+ghost use Rattle.judy_model.specs.Keys.{byte_order};
+ghost use Rattle.judy_model.specs.DumpText.{length_order};
+ghost use Rattle.judy_model.specs.Fields.{field, number, bad_key, bad_order};
+ghost use Rattle.judy_model.specs.DumpGrammar as grammar;
+ghost use Rattle.judy_model.specs.DumpGrammar.{is_above};
+ghost use Rattle.judy_shelf.specs.Reads.{drawn, Reads};
+ghost use Rattle.judy_shelf.specs.LastKeys.{last_key};
+
+use crate::fault::LoadFault;
+use crate::fields::{read_bytes, read_u16};
+use judy_pipe::Source;
+use judy_sl::KeyBuf;
+
+// The most bytes of a key. (This project's own.)
+pub(crate) const MAX_KEY_LEN: usize = 1024;
+
+// The key that was read last, if there is one.
+#[derive(Drop)]
+pub(crate) struct LastKey {
+    bytes: KeyBuf,
+    is_some: bool,
+}
+
+impl LastKey {
+    // No key.
+    pub(crate) fn new() -> LastKey
+        ensures { last_key result ≡ None }
+    {
+        LastKey {
+            bytes: KeyBuf::new(),
+            is_some: false,
+        }
+    }
+
+    // Keeps a copy of a key.
+    pub(crate) fn keep(&mut self, key: &[u8])
+        requires { length key.now ≤ 1024 }
+        ensures { last_key self.new ≡ Some key.now }
+    {
+        self.bytes.clear();
+        let _ = self.bytes.try_extend_from_slice(key);
+        self.is_some = true;
+    }
+
+    // Whether a key is greater, as byte strings are ordered.
+    fn is_before(&self, key: &[u8]) -> bool
+        ensures { result ≡ is_above byte_order (last_key self.now) key.now }
+    {
+        !self.is_some || self.bytes.as_slice().cmp(key).is_lt()
+    }
+
+    // Whether a key is greater by its length, or as long and greater.
+    fn is_before_by_length(&self, key: &[u8]) -> bool
+        ensures { result ≡ is_above length_order (last_key self.now) key.now }
+    {
+        let last = self.bytes.as_slice();
+        !self.is_some || last.len().cmp(&key.len()).then(last.cmp(key)).is_lt()
+    }
+}
+
+// Reads how long a key is.
+fn read_key_len<R: Source>(source: &mut R) -> Result<u16, LoadFault>
+    requires { (R.tally source.old).failures < 2 ^ 64 - 1 }
+    ensures most { IfOk result (λ len. len ≤ 1024) }
+    ensures read { Reads (λ len. len) (field (number 2) (((λ length. nat_le length 1024), bad_key) ∷ [])) (drawn (R.given source.old) (R.ended source.old) (R.tally source.old).failures) result (drawn (R.given source.new) (R.ended source.new) (R.tally source.new).failures) }
+{
+    let len = read_u16(source)?;
+    if len > 1024 {
+        return Err(LoadFault::BadKey);
+    }
+    Ok(len)
+}
+
+// Reads a key into the front of `room`, and answers how long it is.
+fn read_key<R: Source>(source: &mut R, room: &mut [u8]) -> Result<usize, LoadFault>
+    requires below { (R.tally source.old).failures < 2 ^ 64 - 1 }
+    requires fits { length room.old ≡ 1024 }
+    ensures room { length room.new ≡ 1024 }
+    ensures most { IfOk result (λ len. len ≤ 1024) }
+    ensures read { Reads (λ len. take len room.new) grammar.string (drawn (R.given source.old) (R.ended source.old) (R.tally source.old).failures) result (drawn (R.given source.new) (R.ended source.new) (R.tally source.new).failures) }
+{
+    let len = read_key_len(source)? as usize;
+    read_bytes(source, &mut room[..len])?;
+    Ok(len)
+}
+
+// Reads a key of a judysl array, which is greater than the last one.
+pub(crate) fn read_string_after<R: Source>(
+    source: &mut R,
+    last: &LastKey,
+    room: &mut [u8],
+) -> Result<usize, LoadFault>
+    requires below { (R.tally source.old).failures < 2 ^ 64 - 1 }
+    requires fits { length room.old ≡ 1024 }
+    ensures room { length room.new ≡ 1024 }
+    ensures most { IfOk result (λ len. len ≤ 1024) }
+    ensures above { IfOk result (λ len. IsTrue (is_above byte_order (last_key last.now) (take len room.new))) }
+    ensures read { Reads (λ len. take len room.new) (field grammar.string_without_zero ((is_above byte_order (last_key last.now), bad_order) ∷ [])) (drawn (R.given source.old) (R.ended source.old) (R.tally source.old).failures) result (drawn (R.given source.new) (R.ended source.new) (R.tally source.new).failures) }
+{
+    let len = read_key(source, room)?;
+    let key = &room[..len];
+    if !is_without_zero(key) {
+        return Err(LoadFault::BadKey);
+    }
+    if !last.is_before(key) {
+        return Err(LoadFault::BadOrder);
+    }
+    Ok(len)
+}
+
+// Reads a key of a judyhs array, which is greater than the last one by its length, or as long and greater.
+pub(crate) fn read_bytes_after<R: Source>(
+    source: &mut R,
+    last: &LastKey,
+    room: &mut [u8],
+) -> Result<usize, LoadFault>
+    requires below { (R.tally source.old).failures < 2 ^ 64 - 1 }
+    requires fits { length room.old ≡ 1024 }
+    ensures room { length room.new ≡ 1024 }
+    ensures most { IfOk result (λ len. len ≤ 1024) }
+    ensures above { IfOk result (λ len. IsTrue (is_above length_order (last_key last.now) (take len room.new))) }
+    ensures read { Reads (λ len. take len room.new) (field grammar.string ((is_above length_order (last_key last.now), bad_order) ∷ [])) (drawn (R.given source.old) (R.ended source.old) (R.tally source.old).failures) result (drawn (R.given source.new) (R.ended source.new) (R.tally source.new).failures) }
+{
+    let len = read_key(source, room)?;
+    if !last.is_before_by_length(&room[..len]) {
+        return Err(LoadFault::BadOrder);
+    }
+    Ok(len)
+}
+
+// Whether no byte of a key is zero.
+fn is_without_zero(key: &[u8]) -> bool
+    ensures { result ≡ list_all (λ byte. not (byte == 0)) key.now }
+{
+    key.iter().all(|byte| *byte != 0)
+}
