@@ -9,3 +9,4 @@ pub mod NumberLemmas
 pub mod HeadLemmas
 pub mod EntryReads
 pub mod ArrayReads
+pub mod SortedLemmas

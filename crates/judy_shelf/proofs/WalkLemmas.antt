@@ -1,18 +1,22 @@
 -- The entries of a map, one after another by `first` and `next`, and lists whose items are written in turn.
 use Rattle.std.proofs.Common.{◌≡◌, ℕ, zero, suc, ◌-◌, ◌^◌, ◌<◌, Bool, true, false, cond, List, [], ◌∷◌, ◌++◌, length, take, drop, filter, slice_get, Option, Some, None, option_map, unwrap_or, refl, sym, ap, subst, ◌∙◌, append_assoc, append-nil, arith, ◌==◌, ltb, Less, Equal, Greater}
 use Rattle.std.specs.List.{flat_map}
-use Rattle.std.specs.Cmp.{nat_cmp_total, tied_itself}
+use Rattle.std.specs.Cmp.{IsTotalOrder, nat_cmp_total, tied_itself}
+use Rattle.std.specs.Cmp.Lexicographic.{nat_list_cmp_total}
+use Rattle.std.specs.declared.cmp.Ordering.{Ordering}
 use Rattle.std.specs.Ordering.{nat_cmp, is_lt, is_gt}
 use Rattle.std.specs.FinMap.{FinMap, keys, entries, entries_sorted, contains_key, get, get-entries, nat_cmp-IsAntisymmetric}
 use Rattle.std.proofs.lemmas.Bool.{le-ltb, ltb-false, eqb-false, and_parts}
 use Rattle.std.proofs.lemmas.List.{take-append-drop}
 use Rattle.std.proofs.lemmas.Grind.{flat_map-append}
 use Rattle.std.proofs.lemmas.Option.{slice_get-map, slice_get_within, get_or_from_slice_get}
-use Rattle.judy_model.specs.Keys.{word_order}
+use Rattle.judy_model.specs.Keys.{word_order, byte_order}
 use Rattle.judy_model.specs.Neighbours.{first, next}
 use Rattle.judy_model.specs.Counts.{rank}
 use Rattle.judy_model.specs.Nearest.{IsNext}
-use Rattle.judy_model.proofs.RankLemmas.{first-slice_get, next-slice_get, count_up_to_at}
+use Rattle.judy_model.proofs.RankLemmas.{first-slice_get, next-slice_get, count_up_to_at, rank_at}
+use Rattle.std.proofs.lemmas.Option.{same_Some}
+use Rattle.judy_sl.specs.Scans.{value_found}
 use Rattle.judy_model.proofs.NearestLemmas.{next-IsNext}
 use Rattle.judy_model.proofs.Pairs.{find-at}
 use Rattle.judy_pipe.specs.Pipe.{grown}
@@ -36,50 +40,116 @@ none_below_zero (key ∷ ks) = elim (is_lt (nat_cmp key 0)) as (λ b. is_lt (nat
   | false ↦ λ e. none_below_zero ks
 ] refl
 
+module _ {K : Type 0} {order : K → K → Ordering} (total : IsTotalOrder order) (m : FinMap order ℕ) where
+  -- A walk goes on from each entry to the one behind it.
+  pub walk_on : (place : ℕ) (key : K) → slice_get (keys m) place ≡ Some key → next m key ≡ slice_get (keys m) (suc place)
+  walk_on place key at = next-slice_get total m key ∙ ap (slice_get (keys m)) (count_up_to_at total m place key at)
+
+  entry_of_key : (place : ℕ) (key : K) (found : Option (K × ℕ)) → slice_get (entries m) place ≡ found → option_map (λ e. e.0) found ≡ Some key → (value : ℕ) × (get m key ≡ Some value) × (slice_get (entries m) place ≡ Some (key, value))
+  entry_of_key place key None at is = absurd cc
+  entry_of_key place key (Some pair) at is =
+      let same : pair.0 ≡ key = cc in
+      let within = slice_get_within (entries m) place pair at in
+      let there = get_or_from_slice_get (entries m) place pair pair at in
+      let held : get m key ≡ Some pair.1 = get-entries m key ∙ find-at order total (entries m) key place pair (entries_sorted m) within (ap (λ e. order e.0 key) there ∙ ap (λ k. order k key) same ∙ tied_itself total key) ∙ ap (λ e. Some e.1) there in
+      (pair.1, held, at ∙ ap Some (λ t. (same t, pair.1)))
+
+  -- The entry at a place is the key there with its value.
+  pub entry_there : (place : ℕ) (key : K) → slice_get (keys m) place ≡ Some key → (value : ℕ) × (get m key ≡ Some value) × (slice_get (entries m) place ≡ Some (key, value))
+  entry_there place key at = entry_of_key place key (slice_get (entries m) place) refl (sym (slice_get-map (λ e. e.0) (entries m) place) ∙ at)
+
+  no_entry_of : (place : ℕ) (found : Option (K × ℕ)) → option_map (λ e. e.0) found ≡ None → found ≡ None
+  no_entry_of place None is = refl
+  no_entry_of place (Some pair) is = absurd cc
+
+  pub no_entry_there : (place : ℕ) → slice_get (keys m) place ≡ None → slice_get (entries m) place ≡ None
+  no_entry_there place at = no_entry_of place (slice_get (entries m) place) (sym (slice_get-map (λ e. e.0) (entries m) place) ∙ at)
+
 module _ (m : FinMap word_order ℕ) where
   -- The walk begins at the first entry.
   pub walk_first : first m 0 ≡ slice_get (keys m) 0
   unfolding rank
   walk_first = first-slice_get nat_cmp_total m 0 ∙ ap (slice_get (keys m)) (none_below_zero (keys m))
 
-  -- And goes on from each to the one behind it.
   pub walk_next : (place key : ℕ) → slice_get (keys m) place ≡ Some key → next m key ≡ slice_get (keys m) (suc place)
-  walk_next place key at = next-slice_get nat_cmp_total m key ∙ ap (slice_get (keys m)) (count_up_to_at nat_cmp_total m place key at)
+  walk_next place key at = walk_on nat_cmp_total m place key at
 
-  entry_of_key : (place key : ℕ) (found : Option (ℕ × ℕ)) → slice_get (entries m) place ≡ found → option_map (λ e. e.0) found ≡ Some key → slice_get (entries m) place ≡ Some (key, unwrap_or (get m key) 0)
-  entry_of_key place key None at is = absurd cc
-  entry_of_key place key (Some pair) at is =
-      let same : pair.0 ≡ key = cc in
-      let within = slice_get_within (entries m) place pair at in
-      let there = get_or_from_slice_get (entries m) place pair pair at in
-      let held : get m key ≡ Some pair.1 = get-entries m key ∙ find-at word_order nat_cmp_total (entries m) key place pair (entries_sorted m) within (ap (λ e. nat_cmp e.0 key) there ∙ ap (λ k. nat_cmp k key) same ∙ tied_itself nat_cmp_total key) ∙ ap (λ e. Some e.1) there in
-      at ∙ ap Some (λ t. (same t, ap (λ o. unwrap_or o 0) (sym held) t))
-
-  -- The entry at a place is the key there with its value.
   pub entry_at : (place key : ℕ) → slice_get (keys m) place ≡ Some key → slice_get (entries m) place ≡ Some (key, unwrap_or (get m key) 0)
-  entry_at place key at = entry_of_key place key (slice_get (entries m) place) refl (sym (slice_get-map (λ e. e.0) (entries m) place) ∙ at)
-
-  no_entry_of : (place : ℕ) (found : Option (ℕ × ℕ)) → option_map (λ e. e.0) found ≡ None → found ≡ None
-  no_entry_of place None is = refl
-  no_entry_of place (Some pair) is = absurd cc
+  entry_at place key at =
+      let there = entry_there nat_cmp_total m place key at in
+      there.2 ∙ ap Some (λ t. (key, ap (λ o. unwrap_or o 0) (sym there.1) t))
 
   pub no_entry_at : (place : ℕ) → slice_get (keys m) place ≡ None → slice_get (entries m) place ≡ None
-  no_entry_at place at = no_entry_of place (slice_get (entries m) place) (sym (slice_get-map (λ e. e.0) (entries m) place) ∙ at)
+  no_entry_at place at = no_entry_there nat_cmp_total m place at
+
+-- ---- the entries of a map of strings in turn
+
+none_below_empty : (ks : List (List ℕ)) → length (filter (λ key. is_lt (byte_order key [])) ks) ≡ 0
+none_below_empty [] = refl
+none_below_empty ([] ∷ ks) = none_below_empty ks
+none_below_empty ((byte ∷ key) ∷ ks) = none_below_empty ks
+
+module _ (m : FinMap byte_order ℕ) where
+  pub walk_first_string : first m [] ≡ slice_get (keys m) 0
+  unfolding rank
+  walk_first_string = first-slice_get nat_list_cmp_total m [] ∙ ap (slice_get (keys m)) (none_below_empty (keys m))
+
+  pub walk_on_string : (place : ℕ) (key : List ℕ) → slice_get (keys m) place ≡ Some key → next m key ≡ slice_get (keys m) (suc place)
+  walk_on_string place key at = walk_on nat_list_cmp_total m place key at
+
+  -- The walk stands at a place: at this key with this value, or behind all.
+  abbrev pub IsAt : ℕ → List ℕ → Option ℕ → Type 0
+  IsAt place key None = slice_get (keys m) place ≡ None
+  IsAt place key (Some value) = (slice_get (keys m) place ≡ Some key) × (get m key ≡ Some value)
+
+  stands : (place : ℕ) (old : List ℕ) (found : Option (List ℕ)) → slice_get (keys m) place ≡ found → IsAt place (unwrap_or found old) (value_found m found)
+  stands place old None at = at
+  stands place old (Some key) at =
+      let there = entry_there nat_list_cmp_total m place key at in
+      subst (λ o. IsAt place key o) (sym there.1) (at, there.1)
+
+  pub is_at : (place : ℕ) (old key : List ℕ) (found : Option (List ℕ)) (value : Option ℕ) → found ≡ slice_get (keys m) place → key ≡ unwrap_or found old → value ≡ value_found m found → IsAt place key value
+  is_at place old key found value at keyed valued =
+      subst (λ k. IsAt place k value) (sym keyed) (subst (λ v. IsAt place (unwrap_or found old) v) (sym valued) (stands place old found (sym at)))
+
+  -- The entry at which it stands.
+  pub entry_here : (place : ℕ) (key : List ℕ) (value : ℕ) → IsAt place key (Some value) → slice_get (entries m) place ≡ Some (key, value)
+  entry_here place key value at =
+      let there = entry_there nat_list_cmp_total m place key at.0 in
+      let same : there.0 ≡ value = same_Some there.0 value (sym there.1 ∙ at.1) in
+      there.2 ∙ ap (λ v. Some (key, v)) same
+
+  -- How many entries are to come.
+  abbrev pub to_come : List ℕ → Option ℕ → ℕ
+  to_come key None = 0
+  to_come key (Some value) = suc (length (keys m)) - rank m key
+
+  pub falls : (place : ℕ) (key after : List ℕ) (value : ℕ) (next : Option ℕ) → IsAt place key (Some value) → IsAt (suc place) after next → to_come after next < to_come key (Some value)
+  falls place key after value None here there =
+      let at = rank_at nat_list_cmp_total m place key here.0 in
+      let within = slice_get_within (keys m) place key here.0 in
+      omega (arith, at, within)
+  falls place key after value (Some other) here there =
+      let at = rank_at nat_list_cmp_total m place key here.0 in
+      let then = rank_at nat_list_cmp_total m (suc place) after there.0 in
+      let within = slice_get_within (keys m) place key here.0 in
+      omega (arith, at, then, within)
 
 -- ---- items in turn
 
-module _ {A : Type 0} (text : A → List ℕ) where
-  take_one : (items : List A) (place : ℕ) (item : A) → slice_get items place ≡ Some item → flat_map text (take (suc place) items) ≡ flat_map text (take place items) ++ text item
+module _ {A B : Type 0} (text : A → List B) where
+  pub take_one : (items : List A) (place : ℕ) (item : A) → slice_get items place ≡ Some item → flat_map text (take (suc place) items) ≡ flat_map text (take place items) ++ text item
   take_one [] place item at = absurd cc
   take_one (x ∷ items) zero item at = let same : x ≡ item = cc in append-nil (text x) ∙ ap text same
   take_one (x ∷ items) (suc place) item at = ap (λ t. text x ++ t) (take_one items place item at) ∙ sym (append_assoc (text x) (flat_map text (take place items)) (text item))
 
-  take_none : (items : List A) (place : ℕ) → slice_get items place ≡ None → take place items ≡ items
+  pub take_none : (items : List A) (place : ℕ) → slice_get items place ≡ None → take place items ≡ items
   take_none [] zero at = refl
   take_none [] (suc place) at = refl
   take_none (x ∷ items) zero at = absurd cc
   take_none (x ∷ items) (suc place) at = ap (λ xs. x ∷ xs) (take_none items place at)
 
+module _ {A : Type 0} (text : A → List ℕ) where
   module _ (items : List A) (before : Sunk) where
     -- The items before a place are written.
     abbrev pub Written : ℕ → Sunk → Type 0
@@ -91,17 +161,17 @@ module _ {A : Type 0} (text : A → List ℕ) where
     pub written_more : (place : ℕ) (item : A) (mid after : Sunk) → Written place mid → slice_get items place ≡ Some item → WroteAll (text item) mid after → Written (suc place) after
     written_more place item mid after written at wrote =
         let both = wrote_both (flat_map text (take place items)) (text item) before mid after written wrote in
-        (both.0 ∙ ap (grown before.taken) (sym (take_one items place item at)), both.1)
+        (both.0 ∙ ap (grown before.taken) (sym (take_one text items place item at)), both.1)
 
     pub written_stop : (place : ℕ) (item : A) (mid after : Sunk) → Written place mid → slice_get items place ≡ Some item → WroteFront (text item) mid after → WroteFront (flat_map text items) before after
     written_stop place item mid after written at wrote =
         let both = wrote_second (flat_map text (take place items)) (text item) before mid after written wrote in
-        let here : WroteFront (flat_map text (take (suc place) items)) before after = subst (λ t. WroteFront t before after) (sym (take_one items place item at)) both in
+        let here : WroteFront (flat_map text (take (suc place) items)) before after = subst (λ t. WroteFront t before after) (sym (take_one text items place item at)) both in
         subst (λ t. WroteFront t before after) (sym (flat_map-append text (take (suc place) items) (drop (suc place) items)) ∙ ap (flat_map text) (take-append-drop (suc place) items))
         (wrote_first (flat_map text (take (suc place) items)) (flat_map text (drop (suc place) items)) before after here)
 
     pub written_all : (place : ℕ) (now : Sunk) → Written place now → slice_get items place ≡ None → WroteAll (flat_map text items) before now
-    written_all place now written at = (written.0 ∙ ap (λ xs. grown before.taken (flat_map text xs)) (take_none items place at), written.1)
+    written_all place now written at = (written.0 ∙ ap (λ xs. grown before.taken (flat_map text xs)) (take_none text items place at), written.1)
 
 -- ---- how far a walk has to go
 

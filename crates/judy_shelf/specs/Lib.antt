@@ -3,6 +3,7 @@ pub mod Arrays
 pub mod Makes
 pub mod Shelves
 pub mod Lends
+pub mod Sorted
 pub mod Writes
 pub mod Reads
 pub mod LastKeys

@@ -1,57 +1,81 @@
 //! A shelf as bytes.
 
-ghost use Rattle.std.specs.Prelude.{◌≡◌, ◌<◌, ◌-◌, ◌^◌, ◌++◌, ℕ, List};
-ghost use Rattle.judy_model.specs.Arrays.{judy1, judyl};
+ghost use Rattle.std.specs.Prelude.{◌≡◌, ◌<◌, ◌-◌, ◌^◌, ◌++◌, ◌∷◌, [], ℕ, List, Some, option_map, option_copied};
+ghost use Rattle.judy_model.specs.Arrays.{judy1, judyl, judysl};
 ghost use Rattle.judy_model.specs.DumpText as text;
 ghost use Rattle.judy_model.specs.DumpText.{dump_of, array_text};
 ghost use Rattle.judy_shelf.specs.Arrays.{value_of};
 ghost use Rattle.judy_shelf.specs.Shelves.{store_of};
+ghost use Rattle.judy_shelf.specs.Sorted.{pairs_in, lists_in, sorted_in, sorted_lists};
 ghost use Rattle.judy_shelf.specs.Writes.{sunk, Wrote, Dumped};
 
 use crate::array::Array;
 use crate::fault::DumpFault;
 use crate::name::Name;
 use crate::shelf::Shelf;
-use crate::write::{array_head, heading, put, put_word};
+use crate::sorted::{SortedKeys, list_count, sorted_lists};
+use crate::write::{array_head, heading, put, put_string_entry, put_word};
 use judy_pipe::{BrokenPipe, Sink};
+use judy_sl::{JudySl, KeyBuf};
 use judy_word::{Judy1, JudyL};
 
 /// Writes the dump of a shelf: its arrays in the order of making, each with its keys in order and their
 /// values, in the format JDY1 (this project's own).
 ///
 /// At Ok the sink took the dump of the store that the shelf is, and nothing else. `Write` comes only where the
-/// sink failed, which it then did once; it took a front of the dump. It asks for no memory, since no array of
-/// these kinds has to be sorted, and so never answers `NoMemory`.
+/// sink failed, which it then did once; it took a front of the dump. `NoMemory` comes only where a judyhs array
+/// stands, whose keys have to be sorted: it asks for that before the first byte, and the sink has then taken none.
 pub fn dump<W: Sink>(shelf: &Shelf, sink: &mut W) -> Result<(), DumpFault>
     requires { (W.tally sink.old).failures < 2 ^ 64 - 1 }
-    ensures { Dumped (dump_of (store_of shelf.now)) (sunk (W.taken sink.old) (W.tally sink.old).failures) result (sunk (W.taken sink.new) (W.tally sink.new).failures) }
+    ensures { Dumped shelf.now (sunk (W.taken sink.old) (W.tally sink.old).failures) result (sunk (W.taken sink.new) (W.tally sink.new).failures) }
 {
-    write_shelf(shelf, sink).map_err(|_| DumpFault::Write)
+    let Ok(lists) = sorted_lists(shelf) else {
+        return Err(DumpFault::NoMemory);
+    };
+    write_shelf(shelf, &lists, sink).map_err(|_| DumpFault::Write)
 }
 
-fn write_shelf<W: Sink>(shelf: &Shelf, sink: &mut W) -> Result<(), BrokenPipe>
-    requires { (W.tally sink.old).failures < 2 ^ 64 - 1 }
+// Writes a shelf, of whose judyhs arrays these are the sorted keys.
+fn write_shelf<W: Sink>(
+    shelf: &Shelf,
+    lists: &[SortedKeys<'_>],
+    sink: &mut W,
+) -> Result<(), BrokenPipe>
+    requires below { (W.tally sink.old).failures < 2 ^ 64 - 1 }
+    requires sorted { lists_in lists.now ≡ sorted_lists shelf.now }
     ensures { Wrote (dump_of (store_of shelf.now)) (sunk (W.taken sink.old) (W.tally sink.old).failures) result (sunk (W.taken sink.new) (W.tally sink.new).failures) }
 {
     put(sink, &heading(shelf))?;
     let mut place = 0;
+    let mut listed = 0;
     'arrays: while let Some((name, array)) = shelf.at(place) {
-        write_array(name, array, sink)?;
+        write_array(name, array, lists.get(listed), sink)?;
+        listed += list_count(array);
         place += 1;
     }
     Ok(())
 }
 
-fn write_array<W: Sink>(name: &Name, array: &Array, sink: &mut W) -> Result<(), BrokenPipe>
-    requires { (W.tally sink.old).failures < 2 ^ 64 - 1 }
+// Writes an array, the sorted keys of which are these, where it is a judyhs array.
+fn write_array<W: Sink>(
+    name: &Name,
+    array: &Array,
+    keys: Option<&SortedKeys<'_>>,
+    sink: &mut W,
+) -> Result<(), BrokenPipe>
+    requires below { (W.tally sink.old).failures < 2 ^ 64 - 1 }
+    requires sorted { (list : List (List ℕ × ℕ)) → sorted_in array.now ≡ list ∷ [] → option_map pairs_in (option_copied keys) ≡ Some list }
     ensures { Wrote (array_text (name.now, value_of array.now)) (sunk (W.taken sink.old) (W.tally sink.old).failures) result (sunk (W.taken sink.new) (W.tally sink.new).failures) }
 {
     put(sink, &array_head(name, array))?;
     match array {
         Array::Judy1(set) => write_set(set, sink),
         Array::JudyL(words) => write_words(words, sink),
-        Array::JudySl(_) => Err(BrokenPipe),
-        Array::JudyHs(_) => Err(BrokenPipe),
+        Array::JudySl(strings) => write_strings(strings, sink),
+        Array::JudyHs(_) => match keys {
+            Some(keys) => keys.write(sink),
+            None => unreachable!(),
+        },
     }
 }
 
@@ -77,6 +101,21 @@ fn write_words<W: Sink>(words: &JudyL, sink: &mut W) -> Result<(), BrokenPipe>
     'keys: while let Some(key) = next {
         put_entry(sink, key, words.get(key).unwrap_or(0))?;
         next = words.next(key);
+    }
+    Ok(())
+}
+
+// Writes the keys of an array of strings, each behind its length, and the value of each behind it.
+fn write_strings<W: Sink>(strings: &JudySl, sink: &mut W) -> Result<(), BrokenPipe>
+    requires { (W.tally sink.old).failures < 2 ^ 64 - 1 }
+    ensures { Wrote (text.contents (judysl strings.now)) (sunk (W.taken sink.old) (W.tally sink.old).failures) result (sunk (W.taken sink.new) (W.tally sink.new).failures) }
+{
+    strings.holds_strings();
+    let mut key = KeyBuf::new();
+    let mut next = strings.first(&mut key);
+    'keys: while let Some(value) = next {
+        put_string_entry(sink, key.as_slice(), value)?;
+        next = strings.next(&mut key);
     }
     Ok(())
 }

@@ -16,6 +16,7 @@ mod kind;
 mod loads;
 mod name;
 mod shelf;
+mod sorted;
 mod write;
 
 pub use array::Array;

@@ -191,9 +191,7 @@ fn read_contents<R: Source>(
         Kind::Judy1 => Ok(Array::Judy1(read_set(alloc, source, limit, count)?)),
         Kind::JudyL => Ok(Array::JudyL(read_words(alloc, source, limit, count)?)),
         Kind::JudySl => Ok(Array::JudySl(read_strings(alloc, source, limit, count)?)),
-        Kind::JudyHs => Ok(Array::JudyHs(read_byte_strings(
-            alloc, source, limit, count,
-        )?)),
+        Kind::JudyHs => Ok(Array::JudyHs(read_byte_strings(alloc, source, limit, count)?)),
     }
 }
 

@@ -90,6 +90,11 @@ impl Shelf {
         }
     }
 
+    // Where its memory comes from.
+    pub(crate) fn allocator(&self) -> Global {
+        self.alloc
+    }
+
     // Puts an array that was made elsewhere last. Where there is no memory, the shelf is as it was.
     pub(crate) fn add(&mut self, name: Name, array: Array) -> Result<(), MakeError>
         requires room { length self.old < 64 }

@@ -35,6 +35,28 @@ pub(crate) fn put_word<W: Sink>(sink: &mut W, word: u64) -> Result<(), BrokenPip
     put(sink, &word_bytes(word))
 }
 
+// Writes a byte string behind its length, and its value.
+pub(crate) fn put_string_entry<W: Sink>(
+    sink: &mut W,
+    key: &[u8],
+    value: u64,
+) -> Result<(), BrokenPipe>
+    requires { (W.tally sink.old).failures < 2 ^ 64 - 1 }
+    ensures { Wrote (text.string key.now ++ text.word value) (sunk (W.taken sink.old) (W.tally sink.old).failures) result (sunk (W.taken sink.new) (W.tally sink.new).failures) }
+{
+    put(sink, &len_bytes(key.len()))?;
+    put(sink, key)?;
+    put_word(sink, value)
+}
+
+// The bytes of a key's length.
+fn len_bytes(len: usize) -> [u8; 2]
+    ensures { result ≡ low_bytes 2 len }
+{
+    let bytes = word_bytes(len as u64);
+    [bytes[6], bytes[7]]
+}
+
 // The bytes of a word.
 fn word_bytes(word: u64) -> [u8; 8]
     ensures { result ≡ text.word word }

@@ -49,6 +49,10 @@ words-array limit count arena is words =
     let there = table_some string_keys-all (λ k. lookup (world_of arena) 0 (pieces k)) key value held in
     (there.0, lookup-word (world_of arena) words 0 (pieces key) value there.1))
 
+-- The keys are strings without a zero byte.
+pub strings-kept : (limit count : ℕ) (arena : Arena) → IsStrings limit count arena → (key : List ℕ) (value : ℕ) → get (array_of limit arena).map key ≡ Some value → IsStringKey key
+strings-kept limit count arena is key value held = (table_some string_keys-all (λ k. lookup (world_of arena) 0 (pieces k)) key value held).0
+
 -- The first level and the children are all seats.
 pub children-words : (arena : Arena) → IsArrayOf IsWord arena.root → ((at : ℕ) → at < length arena.children.items → HasWords (node_of (child_at arena at))) → (seat : ℕ) → HasWords (world_of arena seat)
 children-words arena root each zero = λ piece value held. (words_hold arena.root piece value root held).1

@@ -1,8 +1,9 @@
 //! What every array keeps, whatever was left in its slots: its levels and tails are read, each value once.
 
-ghost use Rattle.std.specs.Prelude.{ℕ};
+ghost use Rattle.std.specs.Prelude.{◌≡◌, ℕ, List, Some};
+ghost use Rattle.std.specs.FinMap.{get};
 ghost use Rattle.judy_model.specs.Arrays as array;
-ghost use Rattle.judy_model.specs.Keys.{IsWord};
+ghost use Rattle.judy_model.specs.Keys.{IsWord, IsStringKey};
 ghost use Rattle.judy_sl.specs.Arenas.{world_of, node_of};
 ghost use Rattle.judy_sl.specs.Words.{HasWords};
 
@@ -43,6 +44,14 @@ impl JudySl {
         ensures { array.IsArray (array.judysl self.now) }
     {
         self.arena.has_words();
+    }
+
+    /// A law of every array that a program holds: its keys are strings without a zero byte. It answers nothing and
+    /// reads nothing, for a caller whose proof is to know it.
+    pub fn holds_strings(&self)
+        ensures { (key : List ℕ) (value : ℕ) → get self.now.map key ≡ Some value → IsStringKey key }
+    {
+        let _arena = &self.arena;
     }
 }
 

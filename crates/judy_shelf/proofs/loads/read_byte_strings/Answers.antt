@@ -1,4 +1,4 @@
-use Rattle.std.proofs.Common.{◌≡◌, ◌+◌, ◌<◌, ◌≤◌, ◌∷◌, [], ◌++◌, None, Some, take, sym, ap, subst, ◌∙◌, arith}
+use Rattle.std.proofs.Common.{◌≡◌, ◌+◌, ◌<◌, ◌≤◌, ◌∷◌, [], ◌++◌, Some, take, sym, ap, subst, ◌∙◌, arith}
 use Rattle.std.specs.FinMap.{insert}
 use Rattle.judy_model.specs.Arrays.{judyhs}
 use Rattle.judy_model.specs.DumpText.{length_order}
