@@ -9,4 +9,3 @@ pub mod GroupChanges
 pub mod KeyedSteps
 pub mod HsLemmas
 pub mod InnerLemmas
-pub mod Counting

@@ -28,3 +28,4 @@ pub mod Grafted
 pub mod Splits
 pub mod LevelLemmas
 pub mod Words
+pub mod Rooms
