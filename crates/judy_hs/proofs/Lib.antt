@@ -9,3 +9,5 @@ pub mod GroupChanges
 pub mod KeyedSteps
 pub mod HsLemmas
 pub mod InnerLemmas
+pub mod Counting
+pub mod ValueLemmas

@@ -1,5 +1,6 @@
 pub mod Chains
 pub mod Entries
+pub mod Values
 pub mod ChainLends
 pub mod LongGroups
 pub mod ChainPlaces

@@ -201,4 +201,13 @@ impl<H: ByteHash + Drop> JudyHs<H> {
     {
         self.groups.group(n as u64)
     }
+
+    /// A law of every array that a program holds, whatever was left in its slots: its keys are byte strings of at
+    /// most 1,024 bytes, its limit and its values words, and it holds at most as many keys as its limit. It
+    /// answers nothing and reads each value, for a caller whose proof is to know it.
+    pub fn is_array(&self)
+        ensures { array.IsArray (array.judyhs self.now) }
+    {
+        self.groups.are_words();
+    }
 }

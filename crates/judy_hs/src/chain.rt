@@ -6,6 +6,8 @@ ghost use Rattle.std.specs.List.{position, remove};
 ghost use Rattle.std.specs.Option.{option_copied_mut};
 ghost use Rattle.judy_hs.specs.Chains.{value_in, IsPlace, value_at};
 ghost use Rattle.judy_hs.specs.Entries.{holds};
+ghost use Rattle.judy_hs.specs.Values.{AreWords};
+ghost use Rattle.judy_model.specs.Keys.{IsWord};
 
 use std::alloc::{AllocError, Global};
 use std::marker::Model;
@@ -112,4 +114,18 @@ impl Chain {
     {
         self.entries.is_empty()
     }
+
+    // That its values are words.
+    pub fn are_words(&self)
+        ensures { AreWords (value_in self.now) }
+    {
+        for entry in &self.entries {
+            is_word(entry.value);
+        }
+    }
 }
+
+// A number of 64 bits is a word.
+fn is_word(_value: u64)
+    ensures { IsWord _value }
+{}

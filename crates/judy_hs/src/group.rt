@@ -1,6 +1,6 @@
 //! The keys of one length.
 
-ghost use Rattle.std.specs.Prelude.{◌≡◌, ◌≢◌, ◌<◌, ◌↔◌, IsTrue, option_copied, IfOk, OnOk, OnErr, IfSome, None, Some, MatchOption};
+ghost use Rattle.std.specs.Prelude.{ℕ, ◌≡◌, ◌≢◌, ◌<◌, ◌↔◌, IsTrue, option_copied, IfOk, OnOk, OnErr, IfSome, None, Some, MatchOption};
 ghost use Rattle.std.specs.Borrow.{sem};
 ghost use Rattle.std.specs.FinMap.{get, len as map_len};
 ghost use Rattle.std.specs.Option.{option_copied_mut};
@@ -29,6 +29,7 @@ impl GroupPlace {
     ghost use Rattle.judy_hs.specs.Groups.{in_group, words_of, IsInside, IsNewInside, IsUsable, value_inside, group_with_key, group_without, CanTakeKey, IsRemovable, IsEmptyGroup};
     ghost use Rattle.judy_hs.specs.GroupPlaces.{group_of};
     ghost use Rattle.judy_hs.specs.GroupLends.{LendsInside};
+    ghost use Rattle.judy_hs.specs.Values.{AreWords};
 
     // The value of a key, by its word or hash.
     pub fn get(&self, part: u64, key: &[u8]) -> Option<u64>
@@ -131,6 +132,17 @@ impl GroupPlace {
             GroupPlace::Short(words) => Some(words),
             GroupPlace::Long(group) => Some(group.hashes()),
             GroupPlace::Free(_) => None,
+        }
+    }
+
+    // That the values of its keys are words.
+    pub fn are_words(&self)
+        ensures { (part : ℕ) → AreWords (in_group (group_of self.now) part) }
+    {
+        match self {
+            GroupPlace::Short(words) => words.is_array(),
+            GroupPlace::Long(group) => group.are_words(),
+            GroupPlace::Free(_) => {}
         }
     }
 }

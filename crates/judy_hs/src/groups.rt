@@ -1,6 +1,6 @@
 //! All groups of an array, by the length of their keys.
 
-ghost use Rattle.std.specs.Prelude.{◌≡◌, ◌≢◌, ◌<◌, ◌≤◌, [], option_copied, IfOk, IsOk, OnErr, IsSome, IfSome, None, Some, MatchOption, length, vec_len, vec_capacity};
+ghost use Rattle.std.specs.Prelude.{ℕ, ◌≡◌, ◌≢◌, ◌<◌, ◌≤◌, [], option_copied, IfOk, IsOk, OnErr, IsSome, IfSome, None, Some, MatchOption, length, vec_len, vec_capacity};
 ghost use Rattle.std.specs.Borrow.{sem};
 ghost use Rattle.std.specs.FinMap.{get, len as map_len};
 ghost use Rattle.std.specs.Option.{option_copied_mut};
@@ -66,6 +66,7 @@ impl Groups {
     ghost use Rattle.judy_hs.specs.Groups.{IsUsable, CanTakeKey, IsRemovable, IsEmptyGroup, value_inside, group_without};
     ghost use Rattle.judy_hs.specs.Keyed.{no_keys, in_keyed, words_at, group_at, IsSpot, IsNewSpot, added_keyed, with_group, keyed_without, without_group};
     ghost use Rattle.judy_hs.specs.KeyedLends.{LendsSpot, LendsSpotOk};
+    ghost use Rattle.judy_hs.specs.Values.{AreWords};
 
     // No groups.
     pub fn new(alloc: Global) -> Groups
@@ -208,6 +209,15 @@ impl Groups {
         match self.groups.get(place as usize) {
             Some(group) => group.words(),
             None => None,
+        }
+    }
+
+    // That the values of the keys are words.
+    pub fn are_words(&self)
+        ensures { (part : ℕ) → AreWords (in_keyed self.now part) }
+    {
+        for group in &self.groups {
+            group.are_words();
         }
     }
 }

@@ -1,6 +1,6 @@
 //! The keys of one length above 8 bytes, by their hashes.
 
-ghost use Rattle.std.specs.Prelude.{◌≡◌, ◌≢◌, ◌∷◌, [], ◌<◌, ◌≤◌, IfOk, OnOk, OnErr, None, Some, MatchOption, ◌++◌, ◌↔◌, IsTrue, IfSome, length, vec_len, vec_capacity};
+ghost use Rattle.std.specs.Prelude.{ℕ, ◌≡◌, ◌≢◌, ◌∷◌, [], ◌<◌, ◌≤◌, IfOk, OnOk, OnErr, None, Some, MatchOption, ◌++◌, ◌↔◌, IsTrue, IfSome, length, vec_len, vec_capacity};
 ghost use Rattle.std.specs.FinMap.{get, empty, len as map_len};
 ghost use Rattle.std.specs.Borrow.{sem};
 ghost use Rattle.std.specs.Option.{option_copied_mut};
@@ -71,8 +71,9 @@ fn free_place(chains: &mut Vec<ChainPlace>, free: usize) -> Result<(usize, usize
 
 impl ChainPlace {
     ghost use Rattle.judy_hs.specs.ChainPlaces.{pairs_at};
-    ghost use Rattle.judy_hs.specs.Chains.{value_at};
+    ghost use Rattle.judy_hs.specs.Chains.{value_in, value_at};
     ghost use Rattle.judy_hs.specs.LongLends.{LendsPlace};
+    ghost use Rattle.judy_hs.specs.Values.{AreWords};
 
     // The slot of the value at a place of the chain.
     fn slot(&mut self, at: usize) -> Option<&mut u64>
@@ -112,11 +113,22 @@ impl ChainPlace {
             ChainPlace::Free(_) => unreachable!(),
         }
     }
+
+    // That the values of the chain are words.
+    fn are_words(&self)
+        ensures { AreWords (value_in (pairs_at self.now)) }
+    {
+        match self {
+            ChainPlace::Taken(chain) => chain.are_words(),
+            ChainPlace::Free(_) => {}
+        }
+    }
 }
 
 impl LongGroup {
     ghost use Rattle.judy_hs.specs.LongGroups.{one_long, in_long, chain_at, IsLongPlace, IsAdded, value_of_place, with_chain, without_key};
     ghost use Rattle.judy_hs.specs.LongLends.{LendsLong};
+    ghost use Rattle.judy_hs.specs.Values.{AreWords};
 
     // The group of one key, with the value 0.
     pub fn of(alloc: Global, hash: u64, key: &[u8]) -> Result<LongGroup, AllocError>
@@ -249,5 +261,14 @@ impl LongGroup {
         ensures { result.now ≡ self.now.hashes }
     {
         &self.hashes
+    }
+
+    // That its values are words.
+    pub fn are_words(&self)
+        ensures { (hash : ℕ) → AreWords (in_long self.now hash) }
+    {
+        for place in &self.chains {
+            place.are_words();
+        }
     }
 }

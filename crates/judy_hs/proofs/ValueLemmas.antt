@@ -1,0 +1,97 @@
+-- Values that a program holds are words, and so an array is one of the definitions.
+use Rattle.std.proofs.Common.{◌≡◌, ℕ, zero, suc, ◌<◌, true, false, cond, List, [], ◌∷◌, map, length, get_or, Option, Some, None, All, bytes_eq, refl, sym, subst, ◌∙◌, arith}
+use Rattle.std.specs.List.{HoldsAt}
+use Rattle.std.specs.FinMap.{FinMap, get, get-entries, entries, entries_sorted}
+use Rattle.std.specs.Cmp.{tied_itself}
+use Rattle.std.proofs.lemmas.List.{get_or_default}
+use Rattle.std.proofs.lemmas.List.Elements.{All-head, All-tail, All-map}
+use Rattle.std.proofs.lemmas.Option.{none-some}
+use Rattle.judy_model.specs.Keys.{IsWord, IsBytesKey, word_order, byte_order}
+use Rattle.judy_model.specs.Arrays.{ArrayOf, IsArray, judyl, judyhs}
+use Rattle.judy_model.proofs.KeptLemmas.{words_hold}
+use Rattle.judy_model.proofs.Pairs.{find-at}
+use Rattle.judy_model.proofs.TableLemmas.{bytes_keys-all, table_some, byte_order_total}
+use Rattle.judy_hs.specs.Chains.{Pairs, value_in}
+use Rattle.judy_hs.specs.Entries.{pairs_of}
+use Rattle.judy_hs.specs.ChainPlaces.{pairs_at, chains_of}
+use Rattle.judy_hs.specs.LongGroups.{in_long, in_chain}
+use Rattle.judy_hs.specs.Groups.{Group, none, in_group}
+use Rattle.judy_hs.specs.GroupPlaces.{group_of, groups_of}
+use Rattle.judy_hs.specs.Keyed.{Keyed, in_keyed, in_place}
+use Rattle.judy_hs.specs.Kept.{IsHs, value_of, map_of, array_of}
+use Rattle.judy_hs.specs.Values.{AreWords}
+use Rattle.judy_hs.specs.Parts.{part_of}
+use Rattle.judy_hs.specs.declared.chain.LongEntry.{LongEntry}
+use Rattle.judy_hs.specs.declared.long_group.ChainPlace.{ChainPlace}
+use Rattle.judy_hs.specs.declared.group.GroupPlace.{GroupPlace}
+
+-- What holds of an element that is read holds at its place.
+pub read_holds : {X : Type 0} (P : X → Type 0) (xs : List X) (i : ℕ) (x : X) → i < length xs → x ≡ get_or xs i x → P x → HoldsAt P xs i
+read_holds P xs i x within is holds = λ d. subst P (is ∙ get_or_default xs i x d within) holds
+
+-- What holds of each element, and of the one that stands for none, holds of what is found at a place.
+pub at_place : {X Y : Type 0} (f : X → Y) (missing : Y) (P : Y → Type 0) → P missing → (xs : List X) → All (λ x. P (f x)) xs → (i : ℕ) → P (get_or (map f xs) i missing)
+at_place f missing P past [] each i = past
+at_place f missing P past (x ∷ xs) each zero = All-head (λ x. P (f x)) x xs each
+at_place f missing P past (x ∷ xs) each (suc i) = at_place f missing P past xs (All-tail (λ x. P (f x)) x xs each) i
+
+-- ---- chains
+
+pub entries_words : (entries : List LongEntry) → All (λ (entry : LongEntry). IsWord entry.value) entries → AreWords (value_in (pairs_of entries))
+entries_words [] each key value is = absurd (none-some value is)
+entries_words (entry ∷ rest) each key value is =
+    elim (bytes_eq entry.key.items key) as (λ b. cond b (Some entry.value) (value_in (pairs_of rest) key) ≡ Some value → IsWord value) [
+      | true ↦ λ (same : Some entry.value ≡ Some value). let one : entry.value ≡ value = cc in subst IsWord one (All-head (λ (entry : LongEntry). IsWord entry.value) entry rest each)
+      | false ↦ λ later. entries_words rest (All-tail (λ (entry : LongEntry). IsWord entry.value) entry rest each) key value later
+    ] is
+
+no_words : (find : List ℕ → Option ℕ) → ((key : List ℕ) → find key ≡ None) → AreWords find
+no_words find absent key value is = absurd (none-some value (sym (absent key) ∙ is))
+
+-- ---- groups of long keys
+
+module _ (hashes : ArrayOf word_order) (places : List ChainPlace) (each : All (λ (place : ChainPlace). AreWords (value_in (pairs_at place))) places) where
+  led_words : (found : Option ℕ) → AreWords (in_chain (record { hashes = hashes; chains = chains_of places }) found)
+  led_words None = no_words _ (λ key. refl)
+  led_words (Some place) = at_place pairs_at [] (λ (chain : Pairs). AreWords (value_in chain)) (no_words (value_in []) (λ key. refl)) places each place
+
+  pub chains_words : (hash : ℕ) → AreWords (in_long (record { hashes = hashes; chains = chains_of places }) hash)
+  chains_words hash = led_words (get hashes.map hash)
+
+-- ---- groups of short keys
+
+pub short_words : (words : ArrayOf word_order) → IsArray (judyl words) → (part : ℕ) (key : List ℕ) (value : ℕ) → get words.map part ≡ Some value → IsWord value
+short_words words is part key value held = (words_hold words part value is held).1
+
+-- ---- all groups
+
+module _ (lengths : ArrayOf word_order) (places : List GroupPlace) (each : All (λ (place : GroupPlace). (part : ℕ) → AreWords (in_group (group_of place) part)) places) where
+  placed_words : (found : Option ℕ) (part : ℕ) → AreWords (in_place (record { lengths = lengths; groups = groups_of places }) found part)
+  placed_words None part = no_words _ (λ key. refl)
+  placed_words (Some place) part = at_place group_of none (λ (group : Group). (part : ℕ) → AreWords (in_group group part)) (λ part. no_words (in_group none part) (λ key. refl)) places each place part
+
+  pub groups_words : (part : ℕ) → AreWords (in_keyed (record { lengths = lengths; groups = groups_of places }) part)
+  groups_words part key value held = placed_words (get lengths.map (length key)) part key value held
+
+-- ---- the array
+
+-- What holds of each key and its value holds of each entry.
+entries_hold : (m : FinMap byte_order ℕ) (P : List ℕ × ℕ → Type 0) → ((key : List ℕ) (value : ℕ) → get m key ≡ Some value → P (key, value)) → All P (entries m)
+entries_hold m P each = λ k d within.
+    let pair = get_or (entries m) k d in
+    each pair.0 pair.1 (get-entries m pair.0 ∙ find-at byte_order byte_order_total (entries m) pair.0 k d (entries_sorted m) within (tied_itself byte_order_total pair.0))
+
+module _ (hash_of : List ℕ → ℕ) (limit count : ℕ) (keyed : Keyed) (is : IsHs hash_of limit count keyed) (words : (part : ℕ) → AreWords (in_keyed keyed part)) where
+  held : (key : List ℕ) (value : ℕ) → get (map_of hash_of keyed) key ≡ Some value → IsBytesKey key × IsWord value
+  held key value is =
+      let found = table_some bytes_keys-all (value_of hash_of keyed) key value is in
+      (found.0, words (part_of hash_of key) key value found.1)
+
+  pub is_judyhs : IsArray (judyhs (array_of hash_of limit keyed))
+  is_judyhs = record {
+    holds_some = is.holds_some;
+    limit_is_word = let fits = is.limit_fits in omega arith;
+    within_limit = let counted = is.counted in let within = is.within_limit in omega arith;
+    keys_are = All-map IsBytesKey (λ pair. pair.0) (entries (map_of hash_of keyed)) (entries_hold (map_of hash_of keyed) (λ pair. IsBytesKey pair.0) (λ key value is. (held key value is).0));
+    values_are = All-map IsWord (λ pair. pair.1) (entries (map_of hash_of keyed)) (entries_hold (map_of hash_of keyed) (λ pair. IsWord pair.1) (λ key value is. (held key value is).1));
+  }
