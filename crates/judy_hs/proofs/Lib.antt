@@ -9,7 +9,6 @@ pub mod GroupChanges
 pub mod KeyedSteps
 pub mod HsLemmas
 pub mod InnerLemmas
-pub mod Counting
 pub mod ValueLemmas
 pub mod WalkLemmas
 pub mod SortLemmas

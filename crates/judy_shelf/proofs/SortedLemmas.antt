@@ -1,5 +1,5 @@
 -- The sorted lists of a shelf, array by array.
-use Rattle.std.proofs.Common.{◌≡◌, ℕ, zero, suc, ◌+◌, ◌<◌, ◌≤◌, List, [], ◌∷◌, ◌++◌, length, take, get_or, map, slice_get, option_map, option_copied, Option, Some, None, IsSome, IfSome, refl, sym, ap, subst, ◌∙◌}
+use Rattle.std.proofs.Common.{◌≡◌, ℕ, zero, suc, ◌+◌, ◌<◌, ◌≤◌, List, [], ◌∷◌, ◌++◌, length, take, get_or, map, slice_get, option_map, option_copied, Bool, true, false, Option, Some, None, IsSome, IfSome, refl, sym, ap, subst, ◌∙◌}
 use Rattle.std.specs.Borrow.{Bor}
 use Rattle.std.proofs.lemmas.List.{length-append, length-map}
 use Rattle.std.proofs.lemmas.Option.{slice_get-map, slice_get-get_or, slice_get_past, slice_get_within}
@@ -47,7 +47,9 @@ lists_counted entries place entry at = ap length (lists_more entries place entry
 -- What is found at a place among lists.
 pub found_list : (found : Option (Bor SortedKeys)) (lists : List SortedKeys) (place : ℕ) (pairs : List (List ℕ × ℕ)) → slice_get (lists_in lists) place ≡ Some pairs →
     (place < length lists → IsSome found) → IfSome found (λ one. one.now ≡ get_or lists place one.now) → option_map pairs_in (option_copied found) ≡ Some pairs
-found_list None lists place pairs at there is = absurd (there (subst (λ n. place < n) (length-map lists pairs_in) (slice_get_within (lists_in lists) place pairs at)))
+found_list None lists place pairs at there is =
+    let missing : false ≡ true = there (subst (λ n. place < n) (length-map lists pairs_in) (slice_get_within (lists_in lists) place pairs at)) in
+    absurd cc
 found_list (Some one) lists place pairs at there is =
     let within = subst (λ n. place < n) (length-map lists pairs_in) (slice_get_within (lists_in lists) place pairs at) in
     ap (λ (keys : SortedKeys). Some (pairs_in keys)) is ∙ sym (slice_get-map pairs_in lists place ∙ ap (option_map pairs_in) (slice_get-get_or lists place one.now within)) ∙ at

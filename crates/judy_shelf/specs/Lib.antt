@@ -7,3 +7,4 @@ pub mod Sorted
 pub mod Writes
 pub mod Reads
 pub mod LastKeys
+pub mod Faults
