@@ -39,7 +39,7 @@ value_in-head key value rest = ap (λ b. cond b (Some value) (value_in rest key)
 pub value_in-later : (pair : List ℕ × ℕ) (rest : Pairs) (key : List ℕ) → pair.0 ≢ key → value_in (pair ∷ rest) key ≡ value_in rest key
 value_in-later pair rest key differ = ap (λ b. cond b (Some pair.1) (value_in rest key)) (bytes_apart pair.0 key differ)
 
-value_in-here : (pair : List ℕ × ℕ) (rest : Pairs) (key : List ℕ) → pair.0 ≡ key → value_in (pair ∷ rest) key ≡ Some pair.1
+pub value_in-here : (pair : List ℕ × ℕ) (rest : Pairs) (key : List ℕ) → pair.0 ≡ key → value_in (pair ∷ rest) key ≡ Some pair.1
 value_in-here pair rest key same = ap (λ b. cond b (Some pair.1) (value_in rest key)) (ap (λ k. bytes_eq k key) same ∙ bytes_itself key)
 
 -- ---- the place of a key

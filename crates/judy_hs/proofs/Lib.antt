@@ -11,3 +11,8 @@ pub mod HsLemmas
 pub mod InnerLemmas
 pub mod Counting
 pub mod ValueLemmas
+pub mod WalkLemmas
+pub mod SortLemmas
+pub mod LevelLists
+pub mod GroupLists
+pub mod ListedLemmas

@@ -2,11 +2,12 @@
 use Rattle.std.proofs.Common.{◌≡◌, ℕ, zero, suc, ◌<◌, true, false, cond, List, [], ◌∷◌, map, length, get_or, Option, Some, None, All, bytes_eq, refl, sym, subst, ◌∙◌, arith}
 use Rattle.std.specs.List.{HoldsAt}
 use Rattle.std.specs.FinMap.{FinMap, get, get-entries, entries, entries_sorted}
-use Rattle.std.specs.Cmp.{tied_itself}
+use Rattle.std.specs.declared.cmp.Ordering.{Ordering}
+use Rattle.std.specs.Cmp.{IsTotalOrder, tied_itself}
 use Rattle.std.proofs.lemmas.List.{get_or_default}
 use Rattle.std.proofs.lemmas.List.Elements.{All-head, All-tail, All-map}
 use Rattle.std.proofs.lemmas.Option.{none-some}
-use Rattle.judy_model.specs.Keys.{IsWord, IsBytesKey, word_order, byte_order}
+use Rattle.judy_model.specs.Keys.{IsWord, IsBytesKey, word_order}
 use Rattle.judy_model.specs.Arrays.{ArrayOf, IsArray, judyl, judyhs}
 use Rattle.judy_model.proofs.KeptLemmas.{words_hold}
 use Rattle.judy_model.proofs.Pairs.{find-at}
@@ -76,10 +77,10 @@ module _ (lengths : ArrayOf word_order) (places : List GroupPlace) (each : All (
 -- ---- the array
 
 -- What holds of each key and its value holds of each entry.
-entries_hold : (m : FinMap byte_order ℕ) (P : List ℕ × ℕ → Type 0) → ((key : List ℕ) (value : ℕ) → get m key ≡ Some value → P (key, value)) → All P (entries m)
-entries_hold m P each = λ k d within.
+pub entries_hold : {K : Type 0} {order : K → K → Ordering} → IsTotalOrder order → (m : FinMap order ℕ) (P : K × ℕ → Type 0) → ((key : K) (value : ℕ) → get m key ≡ Some value → P (key, value)) → All P (entries m)
+entries_hold {order = order} total m P each = λ k d within.
     let pair = get_or (entries m) k d in
-    each pair.0 pair.1 (get-entries m pair.0 ∙ find-at byte_order byte_order_total (entries m) pair.0 k d (entries_sorted m) within (tied_itself byte_order_total pair.0))
+    each pair.0 pair.1 (get-entries m pair.0 ∙ find-at order total (entries m) pair.0 k d (entries_sorted m) within (tied_itself total pair.0))
 
 module _ (hash_of : List ℕ → ℕ) (limit count : ℕ) (keyed : Keyed) (is : IsHs hash_of limit count keyed) (words : (part : ℕ) → AreWords (in_keyed keyed part)) where
   held : (key : List ℕ) (value : ℕ) → get (map_of hash_of keyed) key ≡ Some value → IsBytesKey key × IsWord value
@@ -92,6 +93,6 @@ module _ (hash_of : List ℕ → ℕ) (limit count : ℕ) (keyed : Keyed) (is : 
     holds_some = is.holds_some;
     limit_is_word = let fits = is.limit_fits in omega arith;
     within_limit = let counted = is.counted in let within = is.within_limit in omega arith;
-    keys_are = All-map IsBytesKey (λ pair. pair.0) (entries (map_of hash_of keyed)) (entries_hold (map_of hash_of keyed) (λ pair. IsBytesKey pair.0) (λ key value is. (held key value is).0));
-    values_are = All-map IsWord (λ pair. pair.1) (entries (map_of hash_of keyed)) (entries_hold (map_of hash_of keyed) (λ pair. IsWord pair.1) (λ key value is. (held key value is).1));
+    keys_are = All-map IsBytesKey (λ pair. pair.0) (entries (map_of hash_of keyed)) (entries_hold byte_order_total (map_of hash_of keyed) (λ pair. IsBytesKey pair.0) (λ key value is. (held key value is).0));
+    values_are = All-map IsWord (λ pair. pair.1) (entries (map_of hash_of keyed)) (entries_hold byte_order_total (map_of hash_of keyed) (λ pair. IsWord pair.1) (λ key value is. (held key value is).1));
   }

@@ -16,3 +16,4 @@ pub mod Kept
 pub mod Refusals
 pub mod Slots
 pub mod InnerForm
+pub mod Listed

@@ -6,12 +6,13 @@ ghost use Rattle.std.specs.FinMap as map;
 ghost use Rattle.std.specs.Option.{option_copied_mut};
 ghost use Rattle.judy_model.specs.Arrays as array;
 
+use crate::entry::HsEntry;
 use crate::error::HsError;
 use crate::groups::Groups;
 use crate::hash::ByteHash;
 use crate::part::part_of;
 use judy_word::JudyL;
-use std::alloc::Global;
+use std::alloc::{AllocError, Global};
 use std::marker::Model;
 
 // The most bytes of a key. (This project's own.)
@@ -46,6 +47,8 @@ impl<H: ByteHash + Drop> Model for JudyHs<H> {
 impl<H: ByteHash + Drop> JudyHs<H> {
     ghost use Rattle.judy_hs.specs.Slots.{LendsSlot, LendsIns};
     ghost use Rattle.judy_hs.specs.Refusals.{IsRefusal};
+    ghost use Rattle.judy_hs.specs.Listed.{entries_in};
+    ghost use Rattle.judy_model.specs.DumpText.{entries_by, length_order};
     ghost use Rattle.judy_hs.specs.InnerForm.{HasLength, IsLengths, IsShortGroup, IsLongGroup};
 
     /// The empty array that holds at most `limit` keys, from 1 to 4,294,967,295 (limit: this project's own), under a hash.
@@ -200,6 +203,17 @@ impl<H: ByteHash + Drop> JudyHs<H> {
         ensures long { 8 < n → IfSome result (λ group. IsLongGroup H.hash_of self.now.map n group.now.map) }
     {
         self.groups.group(n as u64)
+    }
+
+    /// All keys with their values, by the lengths of the keys, and those of one length by their bytes: the order of a
+    /// dump. Long keys are borrowed and not copied. `AllocError` where there is no memory for the list. (This project's
+    /// own.)
+    pub fn sorted(&self) -> Result<Vec<HsEntry<'_>>, AllocError>
+        ensures { IfOk result (λ list. entries_in list.items ≡ entries_by length_order self.now.map) }
+    {
+        let mut list = Vec::with_capacity(self.groups.allocator(), self.count as usize)?;
+        self.groups.list(&mut list)?;
+        Ok(list)
     }
 
     /// A law of every array that a program holds, whatever was left in its slots: its keys are byte strings of at

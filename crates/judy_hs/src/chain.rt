@@ -6,9 +6,11 @@ ghost use Rattle.std.specs.List.{position, remove};
 ghost use Rattle.std.specs.Option.{option_copied_mut};
 ghost use Rattle.judy_hs.specs.Chains.{value_in, IsPlace, value_at};
 ghost use Rattle.judy_hs.specs.Entries.{holds};
+ghost use Rattle.judy_hs.specs.Listed.{entries_in};
 ghost use Rattle.judy_hs.specs.Values.{AreWords};
 ghost use Rattle.judy_model.specs.Keys.{IsWord};
 
+use crate::entry::{HsEntry, HsKey};
 use std::alloc::{AllocError, Global};
 use std::marker::Model;
 
@@ -113,6 +115,19 @@ impl Chain {
         ensures { IsTrue result ↔ (self.now ≡ []) }
     {
         self.entries.is_empty()
+    }
+
+    // Adds its keys with their values to a list.
+    pub fn list<'a>(&'a self, list: &mut Vec<HsEntry<'a>>) -> Result<(), AllocError>
+        ensures { OnOk result (entries_in list.new.items ≡ entries_in list.old.items ++ self.now) }
+    {
+        for entry in &self.entries {
+            list.push(HsEntry {
+                key: HsKey::Long(&entry.key),
+                value: entry.value,
+            })?;
+        }
+        Ok(())
     }
 
     // That its values are words.

@@ -1,10 +1,12 @@
 //! The keys of one length.
 
-ghost use Rattle.std.specs.Prelude.{ℕ, ◌≡◌, ◌≢◌, ◌<◌, ◌↔◌, IsTrue, option_copied, IfOk, OnOk, OnErr, IfSome, None, Some, MatchOption};
+ghost use Rattle.std.specs.Prelude.{ℕ, ◌≤◌, ◌++◌, ◌≡◌, ◌≢◌, ◌<◌, ◌↔◌, IsTrue, option_copied, IfOk, OnOk, OnErr, IfSome, None, Some, MatchOption};
 ghost use Rattle.std.specs.Borrow.{sem};
 ghost use Rattle.std.specs.FinMap.{get, len as map_len};
 ghost use Rattle.std.specs.Option.{option_copied_mut};
+ghost use Rattle.judy_hs.specs.Listed.{entries_in, short_list};
 
+use crate::entry::{HsEntry, short_key};
 use crate::long_group::LongGroup;
 use judy_word::{InsertError, JudyL};
 use std::alloc::{AllocError, Global};
@@ -29,6 +31,7 @@ impl GroupPlace {
     ghost use Rattle.judy_hs.specs.Groups.{in_group, words_of, IsInside, IsNewInside, IsUsable, value_inside, group_with_key, group_without, CanTakeKey, IsRemovable, IsEmptyGroup};
     ghost use Rattle.judy_hs.specs.GroupPlaces.{group_of};
     ghost use Rattle.judy_hs.specs.GroupLends.{LendsInside};
+    ghost use Rattle.judy_hs.specs.Listed.{CanList, group_list};
     ghost use Rattle.judy_hs.specs.Values.{AreWords};
 
     // The value of a key, by its word or hash.
@@ -135,6 +138,22 @@ impl GroupPlace {
         }
     }
 
+    // Adds its keys, which have so many bytes, with their values to a list, by their bytes.
+    pub fn list<'a>(
+        &'a self,
+        key_length: usize,
+        list: &mut Vec<HsEntry<'a>>,
+    ) -> Result<(), AllocError>
+        requires { CanList key_length (group_of self.now) }
+        ensures { OnOk result (entries_in list.new.items ≡ entries_in list.old.items ++ group_list key_length (group_of self.now)) }
+    {
+        match self {
+            GroupPlace::Short(words) => list_words(words, key_length, list),
+            GroupPlace::Long(group) => group.list(list),
+            GroupPlace::Free(_) => Ok(()),
+        }
+    }
+
     // That the values of its keys are words.
     pub fn are_words(&self)
         ensures { (part : ℕ) → AreWords (in_group (group_of self.now) part) }
@@ -145,4 +164,25 @@ impl GroupPlace {
             GroupPlace::Free(_) => {}
         }
     }
+}
+
+// Adds the keys of so many bytes that the words of an array spell to a list, with their values.
+fn list_words(
+    words: &JudyL,
+    key_length: usize,
+    list: &mut Vec<HsEntry<'_>>,
+) -> Result<(), AllocError>
+    requires { key_length ≤ 8 }
+    ensures { OnOk result (entries_in list.new.items ≡ entries_in list.old.items ++ short_list key_length words.now) }
+{
+    let mut found = words.first(0);
+    'words: while let Some(word) = found {
+        let value = words.get(word).unwrap_or(0);
+        list.push(HsEntry {
+            key: short_key(word, key_length),
+            value,
+        })?;
+        found = words.next(word);
+    }
+    Ok(())
 }

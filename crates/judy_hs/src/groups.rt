@@ -1,6 +1,6 @@
 //! All groups of an array, by the length of their keys.
 
-ghost use Rattle.std.specs.Prelude.{ℕ, ◌≡◌, ◌≢◌, ◌<◌, ◌≤◌, [], option_copied, IfOk, IsOk, OnErr, IsSome, IfSome, None, Some, MatchOption, length, vec_len, vec_capacity};
+ghost use Rattle.std.specs.Prelude.{ℕ, ◌++◌, OnOk, ◌≡◌, ◌≢◌, ◌<◌, ◌≤◌, [], option_copied, IfOk, IsOk, OnErr, IsSome, IfSome, None, Some, MatchOption, length, vec_len, vec_capacity};
 ghost use Rattle.std.specs.Borrow.{sem};
 ghost use Rattle.std.specs.FinMap.{get, len as map_len};
 ghost use Rattle.std.specs.Option.{option_copied_mut};
@@ -8,6 +8,7 @@ ghost use Rattle.judy_hs.specs.Groups.{one_group, one_inside};
 ghost use Rattle.judy_hs.specs.GroupPlaces.{group_of, groups_of};
 ghost use Rattle.judy_hs.specs.Keyed.{IsFreeGroup};
 
+use crate::entry::HsEntry;
 use crate::error::HsError;
 use crate::group::{GroupPlace, Inside};
 use crate::long_group::{LongGroup, put};
@@ -66,6 +67,7 @@ impl Groups {
     ghost use Rattle.judy_hs.specs.Groups.{IsUsable, CanTakeKey, IsRemovable, IsEmptyGroup, value_inside, group_without};
     ghost use Rattle.judy_hs.specs.Keyed.{no_keys, in_keyed, words_at, group_at, IsSpot, IsNewSpot, added_keyed, with_group, keyed_without, without_group};
     ghost use Rattle.judy_hs.specs.KeyedLends.{LendsSpot, LendsSpotOk};
+    ghost use Rattle.judy_hs.specs.Listed.{CanList, entries_in, group_list, keyed_list};
     ghost use Rattle.judy_hs.specs.Values.{AreWords};
 
     // No groups.
@@ -209,6 +211,36 @@ impl Groups {
         match self.groups.get(place as usize) {
             Some(group) => group.words(),
             None => None,
+        }
+    }
+
+    // Adds all keys with their values to a list, by their lengths, and those of one length by their bytes.
+    pub fn list<'a>(&'a self, list: &mut Vec<HsEntry<'a>>) -> Result<(), AllocError>
+        requires { (key_length place : ℕ) → get self.now.lengths.map key_length ≡ Some place → CanList key_length (group_at self.now place) }
+        ensures { OnOk result (entries_in list.new.items ≡ entries_in list.old.items ++ keyed_list self.now) }
+    {
+        let mut found = self.lengths.first(0);
+        'lengths: while let Some(key_length) = found {
+            let place = self.lengths.get(key_length).unwrap_or(0);
+            self.list_group(key_length as usize, place as usize, list)?;
+            found = self.lengths.next(key_length);
+        }
+        Ok(())
+    }
+
+    // Adds the keys of the group at a place, which have so many bytes, with their values to a list.
+    fn list_group<'a>(
+        &'a self,
+        key_length: usize,
+        place: usize,
+        list: &mut Vec<HsEntry<'a>>,
+    ) -> Result<(), AllocError>
+        requires { CanList key_length (group_at self.now place) }
+        ensures { OnOk result (entries_in list.new.items ≡ entries_in list.old.items ++ group_list key_length (group_at self.now place)) }
+    {
+        match self.groups.get(place) {
+            Some(group) => group.list(key_length, list),
+            None => Ok(()),
         }
     }
 

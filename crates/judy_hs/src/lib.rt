@@ -12,6 +12,7 @@
 
 mod bytes;
 mod chain;
+mod entry;
 mod error;
 mod group;
 mod groups;
@@ -20,5 +21,6 @@ mod long_group;
 mod part;
 
 pub use bytes::JudyHs;
+pub use entry::{HsEntry, HsKey};
 pub use error::HsError;
 pub use hash::{ByteHash, Fnv1a};

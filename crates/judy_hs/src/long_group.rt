@@ -7,8 +7,10 @@ ghost use Rattle.std.specs.Option.{option_copied_mut};
 ghost use Rattle.std.specs.List.{remove};
 ghost use Rattle.judy_hs.specs.LongGroups.{put_at, IsFreePlace};
 ghost use Rattle.judy_hs.specs.ChainPlaces.{chains_of};
+ghost use Rattle.judy_hs.specs.Listed.{entries_in};
 
 use crate::chain::Chain;
+use crate::entry::{HsEntry, sort_from};
 use judy_word::{InsertError, JudyL};
 use std::alloc::{AllocError, Global};
 use std::marker::Model;
@@ -114,6 +116,16 @@ impl ChainPlace {
         }
     }
 
+    // Adds the keys of the chain with their values to a list.
+    fn list<'a>(&'a self, list: &mut Vec<HsEntry<'a>>) -> Result<(), AllocError>
+        ensures { OnOk result (entries_in list.new.items ≡ entries_in list.old.items ++ pairs_at self.now) }
+    {
+        match self {
+            ChainPlace::Taken(chain) => chain.list(list),
+            ChainPlace::Free(_) => Ok(()),
+        }
+    }
+
     // That the values of the chain are words.
     fn are_words(&self)
         ensures { AreWords (value_in (pairs_at self.now)) }
@@ -128,6 +140,8 @@ impl ChainPlace {
 impl LongGroup {
     ghost use Rattle.judy_hs.specs.LongGroups.{one_long, in_long, chain_at, IsLongPlace, IsAdded, value_of_place, with_chain, without_key};
     ghost use Rattle.judy_hs.specs.LongLends.{LendsLong};
+    ghost use Rattle.judy_hs.specs.Chains.{AreApart};
+    ghost use Rattle.judy_hs.specs.Listed.{chained, long_list};
     ghost use Rattle.judy_hs.specs.Values.{AreWords};
 
     // The group of one key, with the value 0.
@@ -261,6 +275,40 @@ impl LongGroup {
         ensures { result.now ≡ self.now.hashes }
     {
         &self.hashes
+    }
+
+    // Adds its keys with their values to a list, by their bytes.
+    pub fn list<'a>(&'a self, list: &mut Vec<HsEntry<'a>>) -> Result<(), AllocError>
+        requires { AreApart (chained self.now) }
+        ensures { OnOk result (entries_in list.new.items ≡ entries_in list.old.items ++ long_list self.now) }
+    {
+        let start = list.len();
+        self.list_chains(list)?;
+        sort_from(list, start);
+        Ok(())
+    }
+
+    // Adds its keys with their values to a list, chain by chain.
+    fn list_chains<'a>(&'a self, list: &mut Vec<HsEntry<'a>>) -> Result<(), AllocError>
+        ensures { OnOk result (entries_in list.new.items ≡ entries_in list.old.items ++ chained self.now) }
+    {
+        let mut found = self.hashes.first(0);
+        'hashes: while let Some(hash) = found {
+            let place = self.hashes.get(hash).unwrap_or(0);
+            self.list_chain(place as usize, list)?;
+            found = self.hashes.next(hash);
+        }
+        Ok(())
+    }
+
+    // Adds the keys of the chain at a place with their values to a list.
+    fn list_chain<'a>(&'a self, place: usize, list: &mut Vec<HsEntry<'a>>) -> Result<(), AllocError>
+        ensures { OnOk result (entries_in list.new.items ≡ entries_in list.old.items ++ chain_at self.now place) }
+    {
+        match self.chains.get(place) {
+            Some(chain) => chain.list(list),
+            None => Ok(()),
+        }
     }
 
     // That its values are words.
