@@ -1,5 +1,6 @@
 -- The list that a bitmap leaf is.
-use Rattle.std.proofs.Common.{◌≡◌, ℕ, ◌+◌, ◌*◌, ◌/◌, ◌<◌, ◌≤◌, Some, None, true, false, cond, List, [], ◌∷◌, length, take, drop, get_or, is_lt, refl, ap, sym, ◌∙◌, subst, arith, get_or-take}
+use Rattle.std.proofs.Common.{◌≡◌, ℕ, zero, suc, ◌+◌, ◌*◌, ◌/◌, ◌^◌, ◌<◌, ◌≤◌, Some, None, true, false, cond, List, [], ◌∷◌, length, take, drop, get_or, is_lt, refl, ap, sym, ◌∙◌, subst, arith, get_or-take}
+use Rattle.std.proofs.Math.Nat.{pow-suc}
 use Rattle.std.proofs.lemmas.Bool.{false_from_ne_true}
 use Rattle.std.proofs.lemmas.List.{length-take-le, length-drop, get_or-drop}
 use Rattle.std.proofs.lemmas.List.Elements.{All-head, All-tail}
@@ -7,12 +8,13 @@ use Rattle.std.specs.List.{All, AllByRecursion}
 use Rattle.std.proofs.lemmas.Option.{same_Some, slice_get-get_or}
 use Rattle.judy_block.specs.Contents.{Contents}
 use Rattle.judy_model.specs.Keys.{word_order}
+use Rattle.judy_model.proofs.ByteLemmas.{unit_pos}
 use Rattle.judy_model.proofs.Ascending.{all_among}
 use Rattle.judy_bits.specs.ByteSets as set
 use Rattle.judy_bits.specs.ByteSets.{IsByteSet}
 use Rattle.judy_bits.proofs.SetLemmas.{is_below, filter_all, Among-has}
 use Rattle.judy_bits.proofs.MemberLemmas.{length-members_of-le, members_of-IsByteSet}
-use Rattle.judy_leaf.specs.KeyLists.{KeyList, keys_of, values_of, pairs_of}
+use Rattle.judy_leaf.specs.KeyLists.{KeyList, keys_of, values_of, pairs_of, IsKeyList}
 use Rattle.judy_leaf.specs.BitLeaves.{bit_keys, bit_list, IsBitParts}
 use Rattle.judy_leaf.proofs.LeafLists.{keys_of-pairs_of, length-pairs_of, length-keys_of, no_value, value_of, rank_within}
 
@@ -70,6 +72,27 @@ module _ (words : ℕ) (block : Contents) (is : IsBitParts words block) (list : 
 
   pub bit_set : IsByteSet (keys_of list.pairs)
   bit_set = subst IsByteSet bit_keys_are (members_of-IsByteSet (take 4 block.words))
+
+  -- The list of a bitmap leaf is a list of keys of its node's width.
+  pub bit_list_is : IsKeyList list
+  bit_list_is =
+      let wide = ap (λ l. l.width) seen in
+      let some = is.some in
+      let most = is.most in
+      record {
+        some = omega arith;
+        most = omega arith;
+        ascending = bit_set.ascending;
+        below = fit (keys_of list.pairs) (all_bytes (keys_of list.pairs) bit_set.bytes) (byte_fits list.width (omega arith));
+      }
+    where
+      byte_fits : (width : ℕ) → 1 ≤ width → 256 ≤ 256 ^ width
+      byte_fits zero some = let never : ⊥ = omega arith in absurd never
+      byte_fits (suc width) some = omega (arith, pow-suc 256 width, unit_pos width)
+
+      fit : (xs : List ℕ) → AllByRecursion (λ byte. byte < 256) xs → 256 ≤ 256 ^ list.width → AllByRecursion (λ byte. byte < 256 ^ list.width) xs
+      fit [] all wide = tt
+      fit (x ∷ xs) all wide = (let small = all.0 in omega arith, fit xs all.1 wide)
 
   pub bit_most : length list.pairs ≤ 256
   bit_most = subst (λ n. n ≤ 256) (sym bit_length) (length-members_of-le (take 4 block.words))

@@ -1,14 +1,15 @@
 -- The list that an immediate is, and what a key more or less makes of it.
-use Rattle.std.proofs.Common.{◌≡◌, ℕ, zero, suc, ◌+◌, ◌-◌, ◌*◌, ◌/◌, ◌<◌, ◌≤◌, ◌==◌, false, List, [], ◌∷◌, length, take, replicate, get_or, refl, ap, sym, ◌∙◌, subst, arith}
-use Rattle.std.specs.List.{insert, remove}
+use Rattle.std.proofs.Common.{◌≡◌, ℕ, zero, suc, ◌+◌, ◌-◌, ◌*◌, ◌/◌, ◌^◌, ◌<◌, ◌≤◌, ◌==◌, false, List, [], ◌∷◌, length, take, replicate, get_or, refl, ap, sym, ◌∙◌, subst, arith}
+use Rattle.std.specs.List.{insert, remove, AllByRecursion}
 use Rattle.std.specs.List.Sorted.{IsStrictlySortedBy}
 use Rattle.std.proofs.lemmas.List.{length-take-le}
 use Rattle.judy_model.specs.Keys.{word_order}
 use Rattle.judy_bits.specs.ByteSets as set
 use Rattle.judy_leaf.specs.Packing.{places_of, keys_in, IsPacked, IsWidth}
-use Rattle.judy_leaf.specs.KeyLists.{KeyList, keys_of, values_of, pairs_of, with_pair}
+use Rattle.judy_leaf.specs.KeyLists.{KeyList, keys_of, values_of, pairs_of, with_pair, IsKeyList}
 use Rattle.judy_leaf.specs.Immediates.{imm_list, imm_room, count_in, keys_part, value_part, parts_list, IsImm, IsWordChange}
 use Rattle.judy_leaf.proofs.Placed.{per_pos, length-places_of}
+use Rattle.judy_leaf.proofs.KeysIn.{keys_below_unit}
 use Rattle.judy_leaf.proofs.KeyEdits.{packed_more}
 use Rattle.judy_leaf.proofs.LeafLists.{keys_of-pairs_of, length-pairs_of, length-keys_of, no_value, value_of, rank_within}
 use Rattle.judy_leaf.proofs.PairLists.{pairs-insert_none, pairs-remove, pairs-remove_none, ascending-insert, ascending-remove}
@@ -87,6 +88,20 @@ module _ (words width count keys value : ℕ) (is : IsImm words width count keys
 
   pub imm_keys : (n : ℕ) → n ≡ count → keys_in width n (keys ∷ []) ≡ keys_of list.pairs
   imm_keys n e = ap (λ k. keys_in width k (keys ∷ [])) e ∙ own_keys
+
+  pub imm_ascending : IsStrictlySortedBy word_order (keys_of list.pairs)
+  imm_ascending = subst (IsStrictlySortedBy word_order) own_keys is.ascending
+
+  -- The list of an immediate is a list of keys of its width.
+  pub imm_list_is : IsKeyList list
+  imm_list_is =
+      let own : keys_of (pairs_of (keys_in width count (keys ∷ [])) (take (words * count) (value ∷ []))) ≡ keys_in width count (keys ∷ []) = keys_of-pairs_of (keys_in width count (keys ∷ [])) (take (words * count) (value ∷ [])) in
+      subst IsKeyList seen (record {
+        some = is.packed.is_width.some;
+        most = is.packed.is_width.most;
+        ascending = subst (IsStrictlySortedBy word_order) (sym own) is.ascending;
+        below = subst (AllByRecursion (λ key. key < 256 ^ width)) (sym own) (keys_below_unit width count (keys ∷ []));
+      })
 
   pub imm_rank : (rank key : ℕ) → rank ≡ set.rank (keys_of list.pairs) key → rank ≤ length list.pairs
   imm_rank rank key ranked =

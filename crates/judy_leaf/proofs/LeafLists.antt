@@ -1,13 +1,17 @@
 -- The list that a leaf is, from its keys and values.
-use Rattle.std.proofs.Common.{◌≡◌, ℕ, zero, suc, ◌*◌, ◌<◌, ◌≤◌, List, [], ◌∷◌, length, take, drop, get_or, refl, ap, sym, ◌∙◌, subst, arith, get_or-take}
+use Rattle.std.proofs.Common.{◌≡◌, ℕ, zero, suc, ◌*◌, ◌^◌, ◌<◌, ◌≤◌, List, [], ◌∷◌, length, take, drop, get_or, refl, ap, sym, ◌∙◌, subst, arith, get_or-take}
 use Rattle.std.proofs.lemmas.List.{length-take-le}
+use Rattle.std.specs.List.{AllByRecursion}
+use Rattle.std.specs.List.Sorted.{IsStrictlySortedBy}
+use Rattle.judy_model.specs.Keys.{word_order}
 use Rattle.judy_model.proofs.Places.{length-filter-le}
 use Rattle.judy_block.specs.Contents.{Contents}
 use Rattle.judy_bits.specs.ByteSets as set
 use Rattle.judy_leaf.specs.Packing.{places_of}
-use Rattle.judy_leaf.specs.KeyLists.{KeyList, keys_of, values_of, pairs_of}
+use Rattle.judy_leaf.specs.KeyLists.{KeyList, keys_of, values_of, pairs_of, IsKeyList}
 use Rattle.judy_leaf.specs.Leaves.{keys_from, AreKeysFrom, IsLeafParts, leaf_list}
 use Rattle.judy_leaf.proofs.Placed.{length-places_of}
+use Rattle.judy_leaf.proofs.KeysIn.{keys_below_unit}
 
 pub keys_of-pairs_of : (keys values : List ℕ) → keys_of (pairs_of keys values) ≡ keys
 keys_of-pairs_of [] values = refl
@@ -77,6 +81,18 @@ module _ (words count : ℕ) (block : Contents) (is : IsLeafParts words count bl
   pub read_keys : (width : ℕ) → block.tag ≡ width → (w n s : ℕ) → w ≡ width → n ≡ count → s ≡ words → keys_from w n (s * n) block ≡ keys_of list.pairs
   read_keys width tagged w n s p q r =
       (λ t. keys_from ((p ∙ sym tagged) t) (q t) (r t * q t) block) ∙ sym (leaf_keys words count block is) ∙ ap (λ l. keys_of l.pairs) seen
+
+  pub read_ascending : IsStrictlySortedBy word_order (keys_of list.pairs)
+  read_ascending = subst (IsStrictlySortedBy word_order) (sym (leaf_keys words count block is) ∙ ap (λ l. keys_of l.pairs) seen) is.ascending
+
+  -- The list of a leaf is a list of keys of its width.
+  pub read_list : IsKeyList list
+  read_list = subst IsKeyList seen (record {
+    some = is.keys.packed.is_width.some;
+    most = is.keys.packed.is_width.most;
+    ascending = subst (IsStrictlySortedBy word_order) (sym (leaf_keys words count block is)) is.ascending;
+    below = subst (AllByRecursion (λ key. key < 256 ^ block.tag)) (sym (leaf_keys words count block is)) (keys_below_unit block.tag count (drop (words * count) block.words));
+  })
 
   pub read_rank : (rank key : ℕ) → rank ≡ set.rank (keys_of list.pairs) key → rank ≤ length list.pairs
   read_rank rank key ranked =

@@ -2,11 +2,13 @@ pub mod Digits
 pub mod WordSteps
 pub mod Placed
 pub mod Counted
+pub mod KeysIn
 pub mod EditSteps
 pub mod WordsFor
 pub mod ListEdits
 pub mod KeyEdits
 pub mod LeafLists
+pub mod Nearest
 pub mod PairLists
 pub mod ValueSteps
 pub mod PairSteps

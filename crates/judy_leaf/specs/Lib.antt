@@ -8,3 +8,4 @@ pub mod PairChanges
 pub mod Immediates
 pub mod BitLeaves
 pub mod BitChanges
+pub mod Nearby

@@ -25,6 +25,8 @@ pub struct BitLeafOf<V: Words + Drop> {
 /// A bitmap leaf whose keys have `W` words of value each, 0 or 1.
 pub type BitLeaf<const W: usize> = BitLeafOf<Width<W>>;
 
+const _: () = prove!(size_of::<BitLeaf<1>>() == 8);
+
 impl<V: Words + Drop> Model for BitLeafOf<V> {
     ghost use Rattle.judy_leaf.specs.KeyLists.{KeyList};
 

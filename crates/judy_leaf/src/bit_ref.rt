@@ -3,10 +3,11 @@
 ghost use Rattle.std.specs.Prelude.{◌≡◌, ◌<◌, ◌≤◌, ◌==◌, length, slice_index};
 ghost use Rattle.judy_bits.specs.ByteSets as set;
 ghost use Rattle.judy_bits.specs.ByteSets.{IsByteSet};
-ghost use Rattle.judy_leaf.specs.KeyLists.{keys_of, values_of};
+ghost use Rattle.judy_leaf.specs.KeyLists.{keys_of, values_of, IsKeyList};
 ghost use Rattle.judy_leaf.specs.BitLeaves.{IsBitParts, bit_list};
+ghost use Rattle.judy_leaf.specs.Nearby.{pair_from, pair_up_to};
 
-use crate::words::Words;
+use crate::words::{Width, Words};
 use judy_bits::Bits256;
 use judy_block::Block;
 use std::marker::{Model, PhantomData};
@@ -17,6 +18,8 @@ pub struct BitRef<'a, V: Words + Drop> {
     block: &'a Block,
     words: PhantomData<V>,
 }
+
+const _: () = prove!(size_of::<BitRef<'static, Width<1>>>() == 8);
 
 impl<'a, V: Words + Drop> Model for BitRef<'a, V> {
     ghost use Rattle.judy_leaf.specs.KeyLists.{KeyList};
@@ -58,6 +61,8 @@ impl<'a, V: Words + Drop> BitRef<'a, V> {
     pub fn len(&self) -> usize
         ensures count { result ≡ length self.now.pairs }
         ensures within { result ≤ 256 }
+        ensures is_set { IsByteSet (keys_of self.now.pairs) }
+        ensures list { IsKeyList self.now }
     {
         (self.block.tag() % 65_536) as usize
     }
@@ -116,6 +121,44 @@ impl<'a, V: Words + Drop> BitRef<'a, V> {
             self.block.get(4 + at)
         } else {
             0
+        }
+    }
+
+    /// The nearest key at or above a number, with its value; none where all keys are below.
+    pub fn at_or_after(&self, number: u64) -> Option<(u64, u64)>
+        ensures { result ≡ pair_from self.now.pairs number }
+    {
+        let at = self.rank(number);
+        if at < self.len() {
+            Some((self.key_at(at), self.value_at(at)))
+        } else {
+            None
+        }
+    }
+
+    /// The nearest key at or below a number, with its value; none where all keys are above.
+    pub fn at_or_before(&self, number: u64) -> Option<(u64, u64)>
+        ensures { result ≡ pair_up_to self.now.pairs number }
+    {
+        let past = self.count_up_to(number);
+        if past == 0 {
+            None
+        } else {
+            Some((self.key_at(past - 1), self.value_at(past - 1)))
+        }
+    }
+
+    // How many keys are at or below a number.
+    fn count_up_to(&self, number: u64) -> usize
+        ensures value { result ≡ set.count_up_to (keys_of self.now.pairs) number }
+        ensures within { result ≤ length self.now.pairs }
+        ensures is_set { IsByteSet (keys_of self.now.pairs) }
+    {
+        let bits = self.bits();
+        if number < 255 {
+            bits.rank((number + 1) as u8)
+        } else {
+            self.len()
         }
     }
 

@@ -4,8 +4,9 @@ ghost use Rattle.std.specs.Prelude.{◌≡◌, ◌+◌, ◌-◌, ◌*◌, ◌/�
 ghost use Rattle.std.specs.List.{remove};
 ghost use Rattle.judy_bits.specs.ByteSets as set;
 ghost use Rattle.judy_leaf.specs.Packing.{IsWidth};
-ghost use Rattle.judy_leaf.specs.KeyLists.{keys_of, values_of, with_pair, with_value_at};
+ghost use Rattle.judy_leaf.specs.KeyLists.{keys_of, values_of, with_pair, with_value_at, IsKeyList};
 ghost use Rattle.judy_leaf.specs.Immediates.{imm_room, parts_list, IsImmParts};
+ghost use Rattle.judy_leaf.specs.Nearby.{pair_from, pair_up_to};
 
 use crate::one_word;
 use crate::words::{Width, Words};
@@ -23,6 +24,8 @@ pub struct ImmOf<V: Words + Drop> {
 
 /// An immediate whose keys have `W` words of value each, 0 or 1.
 pub type Imm<const W: usize> = ImmOf<Width<W>>;
+
+const _: () = prove!(size_of::<Imm<1>>() == 24);
 
 impl<V: Words + Drop> Model for ImmOf<V> {
     ghost use Rattle.judy_leaf.specs.KeyLists.{KeyList};
@@ -59,6 +62,7 @@ impl<V: Words + Drop> ImmOf<V> {
     pub fn len(&self) -> usize
         ensures count { result ≡ length self.now.pairs }
         ensures within { result ≤ 8 }
+        ensures list { IsKeyList self.now }
     {
         usize::from(self.count)
     }
@@ -111,6 +115,26 @@ impl<V: Words + Drop> ImmOf<V> {
         ensures { result ≡ slice_index (values_of self.now.pairs) at }
     {
         if V::WORDS == 1 { self.value } else { 0 }
+    }
+
+    /// The nearest key at or above a number, with its value; none where all keys are below.
+    pub fn at_or_after(&self, number: u64) -> Option<(u64, u64)>
+        ensures { result ≡ pair_from self.now.pairs number }
+    {
+        match one_word::next(self.width, usize::from(self.count), self.keys, number) {
+            Some((at, key)) => Some((key, self.value_at(at))),
+            None => None,
+        }
+    }
+
+    /// The nearest key at or below a number, with its value; none where all keys are above.
+    pub fn at_or_before(&self, number: u64) -> Option<(u64, u64)>
+        ensures { result ≡ pair_up_to self.now.pairs number }
+    {
+        match one_word::previous(self.width, usize::from(self.count), self.keys, number) {
+            Some((at, key)) => Some((key, self.value_at(at))),
+            None => None,
+        }
     }
 
     /// Puts a key in, with the value 0. The key is absent and below 256 to the power of the width, and the immediate isn't full.

@@ -1,17 +1,18 @@
 //! The keys of a leaf as they stand in its block, from a word on to the block's end. What is called here knows the width at
 //! run time, and hands on to code for that width alone, in which the number of places is a constant.
 
-ghost use Rattle.std.specs.Prelude.{◌≡◌, ◌+◌, ◌-◌, ◌/◌, ◌<◌, ◌≤◌, ◌^◌, length, take, drop, slice_index};
+ghost use Rattle.std.specs.Prelude.{◌≡◌, ◌+◌, ◌-◌, ◌/◌, ◌<◌, ◌≤◌, ◌^◌, MatchOption, length, take, drop, slice_index};
 ghost use Rattle.std.specs.List.{insert, remove};
 ghost use Rattle.std.specs.List.Sorted.{IsStrictlySortedBy};
 ghost use Rattle.judy_model.specs.Keys.{word_order};
 ghost use Rattle.judy_bits.specs.ByteSets as set;
 ghost use Rattle.judy_leaf.specs.Packing.{IsWidth};
 ghost use Rattle.judy_leaf.specs.Leaves.{words_for, keys_from, AreKeysFrom};
+ghost use Rattle.judy_leaf.specs.Nearby.{IsNextAt, IsPreviousAt};
 ghost use Rattle.judy_leaf.specs.KeyChanges.{IsKeyChange, HasPlace, HasPlaceFor};
 
 use crate::edit::{pull_key, push_key};
-use crate::packed::{find_in, key_of, rank_in};
+use crate::packed::{find_in, key_of, next_in, previous_in, rank_in};
 use judy_block::Block;
 
 // How many words so many keys take.
@@ -75,6 +76,54 @@ pub(crate) fn find(
         6 => find_in::<6>(count, words_from::<6>(block, start, count), key),
         7 => find_in::<7>(count, words_from::<7>(block, start, count), key),
         _ => find_in::<8>(count, words_from::<8>(block, start, count), key),
+    }
+}
+
+// The place of the nearest key at or above a number, and that key.
+pub(crate) fn next(
+    width: usize,
+    block: &Block,
+    start: usize,
+    count: usize,
+    number: u64,
+) -> Option<(usize, u64)>
+    requires start { start ≤ 32 }
+    requires keys { AreKeysFrom width count start block.now }
+    ensures { MatchOption result (set.rank (keys_from width count start block.now) number ≡ count) (λ found. IsNextAt (keys_from width count start block.now) number found) }
+{
+    match width {
+        1 => next_in::<1>(count, words_from::<1>(block, start, count), number),
+        2 => next_in::<2>(count, words_from::<2>(block, start, count), number),
+        3 => next_in::<3>(count, words_from::<3>(block, start, count), number),
+        4 => next_in::<4>(count, words_from::<4>(block, start, count), number),
+        5 => next_in::<5>(count, words_from::<5>(block, start, count), number),
+        6 => next_in::<6>(count, words_from::<6>(block, start, count), number),
+        7 => next_in::<7>(count, words_from::<7>(block, start, count), number),
+        _ => next_in::<8>(count, words_from::<8>(block, start, count), number),
+    }
+}
+
+// The place of the nearest key at or below a number, and that key.
+pub(crate) fn previous(
+    width: usize,
+    block: &Block,
+    start: usize,
+    count: usize,
+    number: u64,
+) -> Option<(usize, u64)>
+    requires start { start ≤ 32 }
+    requires keys { AreKeysFrom width count start block.now }
+    ensures { MatchOption result (set.count_up_to (keys_from width count start block.now) number ≡ 0) (λ found. IsPreviousAt (keys_from width count start block.now) number found) }
+{
+    match width {
+        1 => previous_in::<1>(count, words_from::<1>(block, start, count), number),
+        2 => previous_in::<2>(count, words_from::<2>(block, start, count), number),
+        3 => previous_in::<3>(count, words_from::<3>(block, start, count), number),
+        4 => previous_in::<4>(count, words_from::<4>(block, start, count), number),
+        5 => previous_in::<5>(count, words_from::<5>(block, start, count), number),
+        6 => previous_in::<6>(count, words_from::<6>(block, start, count), number),
+        7 => previous_in::<7>(count, words_from::<7>(block, start, count), number),
+        _ => previous_in::<8>(count, words_from::<8>(block, start, count), number),
     }
 }
 

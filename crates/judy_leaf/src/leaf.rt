@@ -24,6 +24,8 @@ pub struct LeafOf<V: Words + Drop> {
 /// A leaf whose keys have `W` words of value each, 0 or 1.
 pub type Leaf<const W: usize> = LeafOf<Width<W>>;
 
+const _: () = prove!(size_of::<Leaf<1>>() == 16);
+
 impl<V: Words + Drop> Model for LeafOf<V> {
     ghost use Rattle.judy_leaf.specs.KeyLists.{KeyList};
 

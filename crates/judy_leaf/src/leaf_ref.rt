@@ -2,8 +2,9 @@
 
 ghost use Rattle.std.specs.Prelude.{◌≡◌, ◌+◌, ◌*◌, ◌<◌, ◌≤◌, ◌^◌, ◌==◌, length, slice_index};
 ghost use Rattle.judy_bits.specs.ByteSets as set;
-ghost use Rattle.judy_leaf.specs.KeyLists.{KeyList, keys_of, values_of};
+ghost use Rattle.judy_leaf.specs.KeyLists.{KeyList, keys_of, values_of, IsKeyList};
 ghost use Rattle.judy_leaf.specs.Leaves.{IsLeafParts, leaf_list};
+ghost use Rattle.judy_leaf.specs.Nearby.{pair_from, pair_up_to};
 
 use crate::keys;
 use crate::words::{Width, Words};
@@ -19,6 +20,8 @@ pub struct LeafRef<'a, V: Words + Drop> {
     block: &'a Block,
     words: PhantomData<V>,
 }
+
+const _: () = prove!(size_of::<LeafRef<'static, Width<1>>>() == 16);
 
 impl<'a, V: Words + Drop> Model for LeafRef<'a, V> {
     ghost use Rattle.std.specs.Prelude.{◌≡◌};
@@ -52,6 +55,7 @@ impl<'a, V: Words + Drop> LeafRef<'a, V> {
     pub fn len(&self) -> usize
         ensures count { result ≡ length self.now.pairs }
         ensures within { result ≤ 32 }
+        ensures list { IsKeyList self.now }
     {
         usize::from(self.count)
     }
@@ -121,5 +125,29 @@ impl<'a, V: Words + Drop> LeafRef<'a, V> {
         ensures { result ≡ slice_index (values_of self.now.pairs) at }
     {
         if V::WORDS == 1 { self.block.get(at) } else { 0 }
+    }
+
+    /// The nearest key at or above a number, with its value; none where all keys are below.
+    pub fn at_or_after(&self, number: u64) -> Option<(u64, u64)>
+        ensures { result ≡ pair_from self.now.pairs number }
+    {
+        let count = usize::from(self.count);
+        let width = usize::from(self.width);
+        match keys::next(width, self.block, V::WORDS * count, count, number) {
+            Some((at, key)) => Some((key, self.value_at(at))),
+            None => None,
+        }
+    }
+
+    /// The nearest key at or below a number, with its value; none where all keys are above.
+    pub fn at_or_before(&self, number: u64) -> Option<(u64, u64)>
+        ensures { result ≡ pair_up_to self.now.pairs number }
+    {
+        let count = usize::from(self.count);
+        let width = usize::from(self.width);
+        match keys::previous(width, self.block, V::WORDS * count, count, number) {
+            Some((at, key)) => Some((key, self.value_at(at))),
+            None => None,
+        }
     }
 }

@@ -1,14 +1,15 @@
 //! Keys packed into one word, for a width that is known at run time.
 
-ghost use Rattle.std.specs.Prelude.{◌≡◌, ◌+◌, ◌-◌, ◌/◌, ◌<◌, ◌≤◌, ◌^◌, [], ◌∷◌, slice_index};
+ghost use Rattle.std.specs.Prelude.{◌≡◌, ◌+◌, ◌-◌, ◌/◌, ◌<◌, ◌≤◌, ◌^◌, MatchOption, [], ◌∷◌, slice_index};
 ghost use Rattle.std.specs.List.{insert, remove};
 ghost use Rattle.std.specs.List.Sorted.{IsStrictlySortedBy};
 ghost use Rattle.judy_model.specs.Keys.{word_order};
 ghost use Rattle.judy_bits.specs.ByteSets as set;
 ghost use Rattle.judy_leaf.specs.Packing.{keys_in, IsPacked, IsWidth};
+ghost use Rattle.judy_leaf.specs.Nearby.{IsNextAt, IsPreviousAt};
 ghost use Rattle.judy_leaf.specs.Immediates.{IsWordChange};
 
-use crate::packed::{find_in, key_of, rank_in};
+use crate::packed::{find_in, key_of, next_in, previous_in, rank_in};
 use crate::place;
 
 // How many keys a word holds.
@@ -51,6 +52,40 @@ pub(crate) fn find(width: u8, count: usize, word: u64, key: u64) -> Option<usize
         6 => find_in::<6>(count, &[word], key),
         7 => find_in::<7>(count, &[word], key),
         _ => find_in::<8>(count, &[word], key),
+    }
+}
+
+// The place of the nearest key at or above a number, and that key.
+pub(crate) fn next(width: u8, count: usize, word: u64, number: u64) -> Option<(usize, u64)>
+    requires { IsPacked width count (word ∷ []) }
+    ensures { MatchOption result (set.rank (keys_in width count (word ∷ [])) number ≡ count) (λ found. IsNextAt (keys_in width count (word ∷ [])) number found) }
+{
+    match width {
+        1 => next_in::<1>(count, &[word], number),
+        2 => next_in::<2>(count, &[word], number),
+        3 => next_in::<3>(count, &[word], number),
+        4 => next_in::<4>(count, &[word], number),
+        5 => next_in::<5>(count, &[word], number),
+        6 => next_in::<6>(count, &[word], number),
+        7 => next_in::<7>(count, &[word], number),
+        _ => next_in::<8>(count, &[word], number),
+    }
+}
+
+// The place of the nearest key at or below a number, and that key.
+pub(crate) fn previous(width: u8, count: usize, word: u64, number: u64) -> Option<(usize, u64)>
+    requires { IsPacked width count (word ∷ []) }
+    ensures { MatchOption result (set.count_up_to (keys_in width count (word ∷ [])) number ≡ 0) (λ found. IsPreviousAt (keys_in width count (word ∷ [])) number found) }
+{
+    match width {
+        1 => previous_in::<1>(count, &[word], number),
+        2 => previous_in::<2>(count, &[word], number),
+        3 => previous_in::<3>(count, &[word], number),
+        4 => previous_in::<4>(count, &[word], number),
+        5 => previous_in::<5>(count, &[word], number),
+        6 => previous_in::<6>(count, &[word], number),
+        7 => previous_in::<7>(count, &[word], number),
+        _ => previous_in::<8>(count, &[word], number),
     }
 }
 

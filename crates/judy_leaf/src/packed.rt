@@ -4,11 +4,12 @@
 //! below can't be foreseen, and a wrong guess costs more than all the comparisons. The places of the last word that hold no
 //! key are 0, so they count as below every key but 0.
 
-ghost use Rattle.std.specs.Prelude.{◌≡◌, ◌*◌, ◌/◌, ◌<◌, ◌≤◌, ℕ, length, slice_index, count_by, nat_lt};
+ghost use Rattle.std.specs.Prelude.{◌≡◌, ◌*◌, ◌/◌, ◌<◌, ◌≤◌, ℕ, MatchOption, length, slice_index, count_by, nat_lt};
 ghost use Rattle.std.specs.List.Sorted.{IsStrictlySortedBy};
 ghost use Rattle.judy_model.specs.Keys.{word_order};
 ghost use Rattle.judy_bits.specs.ByteSets as set;
 ghost use Rattle.judy_leaf.specs.Packing.{places, places_of, keys_in, IsPacked, IsWidth};
+ghost use Rattle.judy_leaf.specs.Nearby.{IsNextAt, IsPreviousAt};
 
 use crate::place::key_in;
 
@@ -68,5 +69,54 @@ pub(crate) fn find_in<const W: usize>(count: usize, words: &[u64], key: u64) -> 
         Some(at)
     } else {
         None
+    }
+}
+
+// The place of the nearest key at or above a number, and that key.
+pub(crate) fn next_in<const W: usize>(
+    count: usize,
+    words: &[u64],
+    number: u64,
+) -> Option<(usize, u64)>
+    requires packed { IsPacked W count words.now }
+    requires few { length words.now ≤ 65535 }
+    ensures { MatchOption result (set.rank (keys_in W count words.now) number ≡ count) (λ found. IsNextAt (keys_in W count words.now) number found) }
+{
+    let at = rank_in::<W>(count, words, number);
+    if at < count {
+        Some((at, key_of::<W>(words, at)))
+    } else {
+        None
+    }
+}
+
+// How many of the keys are at or below a number.
+fn up_to_in<const W: usize>(count: usize, words: &[u64], number: u64) -> usize
+    requires packed { IsPacked W count words.now }
+    requires few { length words.now ≤ 65535 }
+    ensures { result ≡ set.count_up_to (keys_in W count words.now) number }
+{
+    if number == u64::MAX {
+        count
+    } else {
+        rank_in::<W>(count, words, number + 1)
+    }
+}
+
+// The place of the nearest key at or below a number, and that key.
+pub(crate) fn previous_in<const W: usize>(
+    count: usize,
+    words: &[u64],
+    number: u64,
+) -> Option<(usize, u64)>
+    requires packed { IsPacked W count words.now }
+    requires few { length words.now ≤ 65535 }
+    ensures { MatchOption result (set.count_up_to (keys_in W count words.now) number ≡ 0) (λ found. IsPreviousAt (keys_in W count words.now) number found) }
+{
+    let past = up_to_in::<W>(count, words, number);
+    if past == 0 {
+        None
+    } else {
+        Some((past - 1, key_of::<W>(words, past - 1)))
     }
 }

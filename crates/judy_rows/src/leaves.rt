@@ -11,7 +11,7 @@ use std::test::Fail;
 
 // Where a key is taken out.
 #[derive(Clone, Copy)]
-enum End {
+pub(crate) enum End {
     Front,
     Middle,
     Back,
@@ -19,7 +19,7 @@ enum End {
 
 impl End {
     // The place of that key among so many.
-    fn place(self, len: usize) -> usize {
+    pub(crate) fn place(self, len: usize) -> usize {
         match self {
             End::Front => 0,
             End::Middle => len / 2,
@@ -61,14 +61,14 @@ fn key_of(place: u64, top: u64) -> u64
 }
 
 // The value that a key has, which tells its bytes from the key's.
-fn value_of<V: Words + Drop>(key: u64) -> u64
+pub(crate) fn value_of<V: Words + Drop>(key: u64) -> u64
     ensures { V.WORDS ≡ 0 → result ≡ 0 }
 {
     if V::WORDS == 0 { 0 } else { u64::MAX - key / 3 }
 }
 
 // Puts a pair into the plain list, at its place.
-fn note(
+pub(crate) fn note(
     rt: &impl Abort,
     plain: &mut Vec<(u64, u64)>,
     key: u64,
@@ -108,7 +108,7 @@ fn put<V: Words + Drop>(
 }
 
 // A key, the words beside it, and a word that differs from it in its highest bit, which only a key of eight bytes has.
-fn beside(key: u64) -> [u64; 4] {
+pub(crate) fn beside(key: u64) -> [u64; 4] {
     [
         key,
         key.wrapping_sub(1),
@@ -135,7 +135,13 @@ fn check_leaf<V: Words + Drop>(rt: &impl Abort, leaf: LeafRef<'_, V>, plain: &[(
 }
 
 // Compares the rank and the place of a word.
-fn check_word(rt: &impl Abort, word: u64, plain: &[(u64, u64)], rank: usize, place: Option<usize>) {
+pub(crate) fn check_word(
+    rt: &impl Abort,
+    word: u64,
+    plain: &[(u64, u64)],
+    rank: usize,
+    place: Option<usize>,
+) {
     let below = plain.iter().filter(|pair| pair.0 < word).count();
     let at = plain.iter().position(|pair| pair.0 == word);
     assert_eq!(rt; rank, below, "{word}");

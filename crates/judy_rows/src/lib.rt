@@ -1,11 +1,13 @@
 //! The worked rows that cross crates, as tests by the rows' names: scripts with the answers that the
-//! specification gives, run over memory. And leaves and immediates, which no row reaches yet, beside a plain list.
+//! specification gives, run over memory. And leaves, bitmap leaves and immediates, which no row reaches yet, beside a plain list.
 //!
 //! The crate stands on top of all others and has no code of its own.
 #![tactic(auto)]
 
 #[cfg(test)]
 mod arrays;
+#[cfg(test)]
+mod bit_leaves;
 #[cfg(test)]
 mod bytes;
 #[cfg(test)]

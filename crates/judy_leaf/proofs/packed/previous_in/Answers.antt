@@ -1,0 +1,24 @@
+use Rattle.std.proofs.Common.{◌≡◌, ◌+◌, ◌-◌, is_le, ◌∙◌, arith}
+use Rattle.judy_model.specs.Keys.{word_order}
+use Rattle.judy_model.proofs.Places.{length-filter-le}
+use Rattle.judy_leaf.specs.Packing.{keys_in}
+use Rattle.judy_leaf.proofs.KeysIn.{length-keys, there_in}
+use Rattle.judy_leaf.proofs.packed.previous_in.Goals as goal
+
+pub key_of-requires-clause-inside : goal.key_of-requires-clause-inside
+key_of-requires-clause-inside g c =
+    let most = length-filter-le (λ key. is_le (word_order key c.args.number)) (keys_in g.row.W c.args.count c.args.words.now) in
+    let long = length-keys g.row.W c.args.count c.args.words.now c.requires.packed in
+    let is = c.up_to_in-past.ensures in
+    let enough = c.requires.packed.enough in
+    let some = c.if-past-eq0.false in
+    omega arith
+
+pub returns-else-past-eq0 : goal.returns-else-past-eq0
+returns-else-past-eq0 g c =
+    let most = length-filter-le (λ key. is_le (word_order key c.args.number)) (keys_in g.row.W c.args.count c.args.words.now) in
+    let long = length-keys g.row.W c.args.count c.args.words.now c.requires.packed in
+    let is = c.up_to_in-past.ensures in
+    let some = c.if-past-eq0.false in
+    let back : c.up_to_in-past.result - 1 + 1 ≡ c.up_to_in-past.result = omega arith in
+    record { place = back ∙ is; key = there_in g.row.W c.args.count c.args.words.now c.requires.packed (c.up_to_in-past.result - 1) c.key_of.result (omega arith) c.key_of.ensures }

@@ -1,0 +1,172 @@
+//! Bitmap leaves, filled to 256 keys and emptied beside a plain list that the test keeps sorted itself.
+
+ghost use Rattle.std.specs.Prelude.{◌≤◌, ◌<◌};
+
+use crate::leaves::{End, beside, check_word, note, value_of};
+use judy_leaf::{BitLeafOf, BitRef, Width, Words};
+use std::alloc::{AllocError, Global};
+use std::process::Abort;
+use std::test::Fail;
+
+// Compares what a bitmap leaf answers with the plain list.
+fn check_bits<V: Words + Drop>(rt: &impl Abort, leaf: BitRef<'_, V>, plain: &[(u64, u64)]) {
+    assert_eq!(rt; leaf.len(), plain.len());
+    for (at, &(key, value)) in plain.iter().enumerate() {
+        assert!(rt; at < leaf.len());
+        assert_eq!(rt; leaf.key_at(at), key);
+        assert_eq!(rt; leaf.value_at(at), value);
+        for word in beside(key) {
+            check_word(rt, word, plain, leaf.rank(word), leaf.find(word));
+        }
+    }
+}
+
+// Puts an absent key in, with its value: at once or through the slot.
+fn put<V: Words + Drop>(
+    rt: &impl Abort,
+    alloc: Global,
+    leaf: &mut BitLeafOf<V>,
+    key: u64,
+    at_once: bool,
+) -> Result<(), AllocError>
+    requires { key < 256 }
+{
+    assert!(rt; leaf.reading().find(key).is_none());
+    let value = value_of::<V>(key);
+    if at_once {
+        return leaf.insert_pair(alloc, key, value);
+    }
+    leaf.insert(alloc, key)?;
+    if V::WORDS == 1 {
+        let at = leaf.reading().rank(key);
+        assert!(rt; at < leaf.reading().len());
+        let slot = leaf.slot_at(at);
+        assert_eq!(rt; *slot, 0);
+        *slot = value;
+    }
+    Ok(())
+}
+
+// A bitmap leaf of all 256 keys, put in from `first` on in steps of `by`, with the plain list beside it.
+fn filled<V: Words + Drop>(
+    rt: &impl Abort,
+    plain: &mut Vec<(u64, u64)>,
+    alloc: Global,
+    first: u64,
+    by: u64,
+) -> Result<BitLeafOf<V>, AllocError>
+    requires { V.WORDS ≤ 1 }
+{
+    let mut leaf = BitLeafOf::<V>::from_sorted(alloc, 3, &[])?;
+    for step in 0..256u64 {
+        let key = first.wrapping_add(step.wrapping_mul(by)) % 256;
+        put(rt, alloc, &mut leaf, key, step % 2 == 0)?;
+        note(rt, plain, key, value_of::<V>(key))?;
+        if step % 32 == 31 {
+            check_bits(rt, leaf.reading(), plain);
+        }
+    }
+    assert_eq!(rt; leaf.reading().width(), 3);
+    assert_eq!(rt; leaf.reading().next_absent(0), None);
+    Ok(leaf)
+}
+
+// Takes a full leaf apart and puts it together again, and takes its keys out, one by one.
+fn check_emptying<V: Words + Drop>(
+    rt: &impl Abort,
+    leaf: BitLeafOf<V>,
+    plain: &mut Vec<(u64, u64)>,
+    end: End,
+) {
+    let mut leaf = BitLeafOf::<V>::of_parts(leaf.into_parts());
+    for step in 0..256 {
+        let at = end.place(plain.len());
+        assert!(rt; at < plain.len() && at < leaf.reading().len());
+        plain.remove(at);
+        leaf.remove(at);
+        if step % 32 == 31 {
+            check_bits(rt, leaf.reading(), plain);
+        }
+    }
+}
+
+// Bitmap leaves in ascending, descending and mixed order, emptied from each end and from the middle.
+fn check_orders<V: Words + Drop>(rt: &impl Abort, alloc: Global) -> Result<(), AllocError>
+    requires { V.WORDS ≤ 1 }
+{
+    for (first, by) in [(0, 1), (255, 255), (5, 37)] {
+        for end in [End::Front, End::Middle, End::Back] {
+            let mut plain = Vec::new(alloc);
+            let leaf = filled::<V>(rt, &mut plain, alloc, first, by)?;
+            check_emptying(rt, leaf, &mut plain, end);
+        }
+    }
+    Ok(())
+}
+
+#[test]
+fn bitmap_leaves_of_sets(rt: HostRuntime) -> Result<(), Fail> {
+    check_orders::<Width<0>>(&rt, rt.alloc())?;
+    Ok(())
+}
+
+#[test]
+fn bitmap_leaves_of_maps(rt: HostRuntime) -> Result<(), Fail> {
+    check_orders::<Width<1>>(&rt, rt.alloc())?;
+    Ok(())
+}
+
+// Keys on both sides of each border between two words of bits, told by their lowest bytes.
+#[test]
+fn gaps_at_word_borders(rt: HostRuntime) -> Result<(), Fail> {
+    let pairs = [
+        (0x123f, 10),
+        (0x1240, 11),
+        (0x127f, 12),
+        (0x1280, 13),
+        (0x12bf, 14),
+        (0x12c0, 15),
+    ];
+    let leaf = BitLeafOf::<Width<1>>::from_sorted(rt.alloc(), 2, &pairs)?;
+    let leaf = leaf.reading();
+    check_bits(
+        &rt,
+        leaf,
+        &[
+            (63, 10),
+            (64, 11),
+            (127, 12),
+            (128, 13),
+            (191, 14),
+            (192, 15),
+        ],
+    );
+    Ok(())
+}
+
+#[test]
+fn neighbours_at_word_borders(rt: HostRuntime) -> Result<(), Fail> {
+    let pairs = [(63, 0), (64, 0), (127, 0), (128, 0), (191, 0), (192, 0)];
+    let leaf = BitLeafOf::<Width<0>>::from_sorted(rt.alloc(), 1, &pairs)?;
+    let leaf = leaf.reading();
+    // A byte, and from it on and down to it the nearest key and the nearest byte that is none.
+    for (byte, next, previous, next_absent, previous_absent) in [
+        (0, Some(63), None, 0, 0),
+        (62, Some(63), None, 62, 62),
+        (63, Some(63), Some(63), 65, 62),
+        (64, Some(64), Some(64), 65, 62),
+        (65, Some(127), Some(64), 65, 65),
+        (127, Some(127), Some(127), 129, 126),
+        (128, Some(128), Some(128), 129, 126),
+        (191, Some(191), Some(191), 193, 190),
+        (192, Some(192), Some(192), 193, 190),
+        (193, None, Some(192), 193, 193),
+        (255, None, Some(192), 255, 255),
+    ] {
+        assert_eq!(rt; leaf.next_from(byte), next);
+        assert_eq!(rt; leaf.prev_from(byte), previous);
+        assert_eq!(rt; leaf.next_absent(byte), Some(next_absent));
+        assert_eq!(rt; leaf.prev_absent(byte), Some(previous_absent));
+    }
+    Ok(())
+}
