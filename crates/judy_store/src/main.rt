@@ -7,6 +7,8 @@
 //! tell no bytes.
 #![tactic(auto)]
 
+ghost use Rattle.std.specs.Prelude.{◌<◌, ◌-◌, ◌^◌};
+
 mod command_line;
 mod end;
 mod files;
@@ -19,9 +21,14 @@ use crate::command_line::options;
 use crate::end::{End, status, write_line};
 use crate::pipes::WriteSink;
 use crate::work::serve;
+use judy_pipe::{BufferedSink, Sink};
+use judy_script::RunFault;
 use std::env;
 use std::io::ErrorKind;
 use std::process::ExitCode;
+
+// How many bytes of what is said of an end are written at once.
+const LINE_LEN: usize = 4096;
 
 fn main(rt: HostRuntime) -> ExitCode {
     let end = match carry_out(&rt) {
@@ -48,16 +55,27 @@ fn words(rt: &HostRuntime) -> Result<Vec<String>, End> {
 }
 
 // Tells the user of the end: help on standard output, all else on standard error. Help that can't be written ends
-// the program as answers do that can't.
+// the program as answers do that can't. What is said is written in one piece where it fits, so that no other
+// program's words come between.
 fn told(rt: &HostRuntime, end: End) -> End {
     let mut end = end;
     if let End::Help(_) = end {
-        match write_line(&end, &mut WriteSink::new(rt.stdout())) {
+        let mut output = BufferedSink::<_, LINE_LEN>::new(WriteSink::new(rt.stdout()));
+        match say(&end, &mut output) {
             Ok(()) => return end,
             Err(fault) => end = End::Run(fault),
         }
     }
+    let mut errors = BufferedSink::<_, LINE_LEN>::new(WriteSink::new(rt.stderr()));
     // Where standard error fails too, there is nobody left to tell.
-    let _ = write_line(&end, &mut WriteSink::new(rt.stderr()));
+    let _ = say(&end, &mut errors);
     end
+}
+
+// Writes what is said of an end, and hands it on.
+fn say<W: Sink>(end: &End, sink: &mut W) -> Result<(), RunFault>
+    requires { (W.tally sink.old).failures < 2 ^ 64 - 1 }
+{
+    write_line(end, sink)?;
+    sink.flush().map_err(|_| RunFault::Write)
 }
