@@ -2,7 +2,7 @@
 
 ghost use Rattle.std.specs.Prelude.{◌≡◌, ◌+◌, ◌*◌, ◌<◌, ◌≤◌, ◌^◌, ◌==◌, length, slice_index};
 ghost use Rattle.judy_bits.specs.ByteSets as set;
-ghost use Rattle.judy_leaf.specs.KeyLists.{KeyList, keys_of, values_of};
+ghost use Rattle.judy_leaf.specs.KeyLists.{KeyList, keys_of, values_of, IsKeyList};
 ghost use Rattle.judy_leaf.specs.Leaves.{IsLeafParts, leaf_list};
 
 use crate::keys;
@@ -46,6 +46,13 @@ impl<'a, V: Words + Drop> LeafRef<'a, V> {
             block,
             words: PhantomData,
         }
+    }
+
+    /// A law without a body: the keys ascend and have `width` bytes.
+    pub fn told(&self)
+        ensures { IsKeyList self.now }
+    {
+        let _ = &self.count;
     }
 
     /// How many keys there are, at most 32.
