@@ -46,18 +46,18 @@ one_room words other n count one e room =
 room_none : (words other : ℕ) → words ≡ 0 → imm_room words other ≡ 8 / other
 room_none words other none = ap (λ w. imm_room w other) none
 
-pairs_put : (words count at key value : ℕ) (ks : List ℕ) → words ≤ 1 → (words ≡ 1 → count ≡ 0) → length ks ≡ count → at ≤ count
-    → pairs_of (insert ks at key) (take (words * (count + 1)) (0 ∷ [])) ≡ insert (pairs_of ks (take (words * count) (value ∷ []))) at (key, 0)
-pairs_put zero count at key value ks most empty long place =
-    ap (λ n. pairs_of (insert ks at key) (take n (0 ∷ []))) (let e : 0 * (count + 1) ≡ 0 = omega arith in e)
+pairs_put : (words count at key value new : ℕ) (ks : List ℕ) → words ≤ 1 → (words ≡ 1 → count ≡ 0) → (words ≡ 0 → new ≡ 0) → length ks ≡ count → at ≤ count
+    → pairs_of (insert ks at key) (take (words * (count + 1)) (new ∷ [])) ≡ insert (pairs_of ks (take (words * count) (value ∷ []))) at (key, new)
+pairs_put zero count at key value new ks most empty zeroed long place =
+    ap (λ n. pairs_of (insert ks at key) (take n (new ∷ []))) (let e : 0 * (count + 1) ≡ 0 = omega arith in e)
     ∙ pairs-insert_none ks at key (omega arith)
-    ∙ ap (λ n. insert (pairs_of ks (take n (value ∷ []))) at (key, 0)) (let e : 0 ≡ 0 * count = omega arith in e)
-pairs_put (suc zero) count at key value ks most empty long place =
+    ∙ (λ t. insert (pairs_of ks (take ((let e : 0 ≡ 0 * count = omega arith in e) t) (value ∷ []))) at (key, sym (zeroed refl) t))
+pairs_put (suc zero) count at key value new ks most empty zeroed long place =
     let none : count ≡ 0 = empty refl in
     let first : at ≡ 0 = omega arith in
-    (λ t. pairs_of (insert ks (first t) key) (take ((let e : 1 * (count + 1) ≡ 1 = omega arith in e) t) (0 ∷ [])))
-    ∙ (λ t. insert (pairs_of ks (take ((let e : 0 ≡ 1 * count = omega arith in e) t) (value ∷ []))) (sym first t) (key, 0))
-pairs_put (suc (suc w)) count at key value ks most empty long place = let never : ⊥ = omega arith in absurd never
+    (λ t. pairs_of (insert ks (first t) key) (take ((let e : 1 * (count + 1) ≡ 1 = omega arith in e) t) (new ∷ [])))
+    ∙ (λ t. insert (pairs_of ks (take ((let e : 0 ≡ 1 * count = omega arith in e) t) (value ∷ []))) (sym first t) (key, new))
+pairs_put (suc (suc w)) count at key value new ks most empty zeroed long place = let never : ⊥ = omega arith in absurd never
 
 pairs_taken : (words count at value : ℕ) (ks : List ℕ) → words ≤ 1 → (words ≡ 1 → count ≤ 1) → length ks ≡ count → at < count
     → pairs_of (remove ks at) (take (words * (count - 1)) (value ∷ [])) ≡ remove (pairs_of ks (take (words * count) (value ∷ []))) at
@@ -140,9 +140,10 @@ module _ (words width count keys value : ℕ) (is : IsImm words width count keys
   pub room_within : (n : ℕ) → n ≡ count → length list.pairs < imm_room words list.width → n < 8 / width
   room_within n e room = subst (λ k. k < 8 / width) (sym e) (room_all room)
 
-  pub imm_put : (at key new : ℕ) → IsWordChange width count (count + 1) (λ keys. insert keys at key) keys new → at ≡ set.rank (keys_of list.pairs) key → set.has (keys_of list.pairs) key ≡ false
-      → length list.pairs < imm_room words list.width → IsImm words width (count + 1) new × (imm_list words width (count + 1) new 0 ≡ record list { pairs = with_pair key 0 list.pairs })
-  imm_put at key new change ranked absent room =
+  pub imm_put : (at key value_now new : ℕ) → IsWordChange width count (count + 1) (λ keys. insert keys at key) keys new → at ≡ set.rank (keys_of list.pairs) key → set.has (keys_of list.pairs) key ≡ false
+      → length list.pairs < imm_room words list.width → (words ≡ 0 → value_now ≡ 0)
+      → IsImm words width (count + 1) new × (imm_list words width (count + 1) new value_now ≡ record list { pairs = with_pair key value_now list.pairs })
+  imm_put at key value_now new change ranked absent room zeroed =
       let ascending : IsStrictlySortedBy word_order (keys_of list.pairs) = subst (IsStrictlySortedBy word_order) own_keys is.ascending in
       let keys_now : keys_in width (count + 1) (new ∷ []) ≡ insert (keys_of list.pairs) (set.rank (keys_of list.pairs) key) key = change.changed ∙ (λ t. insert (own_keys t) (ranked t) key) in
       let most = imm_rank at key ranked in
@@ -156,9 +157,9 @@ module _ (words width count keys value : ℕ) (is : IsImm words width count keys
         },
         (λ t. record {
           width = ap (λ l. l.width) seen t;
-          pairs = (ap (λ ks. pairs_of ks (take (words * (count + 1)) (0 ∷ []))) change.changed
-              ∙ pairs_put words count at key value (keys_in width count (keys ∷ [])) is.one empty long (omega arith)
-              ∙ (λ j. insert (seen j).pairs (ranked j) (key, 0))) t;
+          pairs = (ap (λ ks. pairs_of ks (take (words * (count + 1)) (value_now ∷ []))) change.changed
+              ∙ pairs_put words count at key value value_now (keys_in width count (keys ∷ [])) is.one empty zeroed long (omega arith)
+              ∙ (λ j. insert (seen j).pairs (ranked j) (key, value_now))) t;
         }),
       )
 

@@ -1,5 +1,5 @@
 -- What a leaf or an immediate is to its callers.
-use Rattle.std.specs.Prelude.{ℕ, zero, suc, ◌%◌, ◌^◌, ◌<◌, ◌≤◌, List, [], ◌∷◌}
+use Rattle.std.specs.Prelude.{ℕ, zero, suc, ◌+◌, ◌%◌, ◌^◌, ◌<◌, ◌≤◌, List, [], ◌∷◌}
 use Rattle.std.specs.List.{AllByRecursion, insert}
 use Rattle.std.specs.List.Sorted.{IsStrictlySortedBy}
 use Rattle.judy_model.specs.Keys.{word_order}
@@ -30,6 +30,11 @@ pairs_of (key ∷ keys) (value ∷ values) = (key, value) ∷ pairs_of keys valu
 abbrev pub low_pairs : ℕ → List (ℕ × ℕ) → List (ℕ × ℕ)
 low_pairs unit [] = []
 low_pairs unit (pair ∷ pairs) = (pair.0 % unit, pair.1) ∷ low_pairs unit pairs
+
+-- Pairs with each key so much higher.
+abbrev pub shift : ℕ → List (ℕ × ℕ) → List (ℕ × ℕ)
+shift by [] = []
+shift by (pair ∷ pairs) = (by + pair.0, pair.1) ∷ shift by pairs
 
 -- The pairs with one more, in its place among the keys.
 abbrev pub with_pair : ℕ → ℕ → List (ℕ × ℕ) → List (ℕ × ℕ)

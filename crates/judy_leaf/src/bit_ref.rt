@@ -57,6 +57,13 @@ impl<'a, V: Words + Drop> BitRef<'a, V> {
         Bits256::of_words([first, second, third, fourth])
     }
 
+    /// A law without a body: the keys are a set of bytes.
+    pub fn told(&self)
+        ensures { IsByteSet (keys_of self.now.pairs) }
+    {
+        let _ = &self.block;
+    }
+
     /// How many keys there are, at most 256.
     pub fn len(&self) -> usize
         ensures count { result ≡ length self.now.pairs }

@@ -1,15 +1,16 @@
 //! An immediate: a few keys in the node itself.
 
 ghost use Rattle.std.specs.Prelude.{◌≡◌, ◌+◌, ◌-◌, ◌*◌, ◌/◌, ◌<◌, ◌≤◌, ◌^◌, ◌==◌, [], ◌∷◌, length, slice_index, IsFalse};
-ghost use Rattle.std.specs.List.{remove};
+ghost use Rattle.std.specs.List.{remove, AllByRecursion};
 ghost use Rattle.judy_bits.specs.ByteSets as set;
 ghost use Rattle.judy_leaf.specs.Packing.{IsWidth};
-ghost use Rattle.judy_leaf.specs.KeyLists.{keys_of, values_of, with_pair, with_value_at, IsKeyList};
+ghost use Rattle.judy_leaf.specs.KeyLists.{keys_of, values_of, low_pairs, with_pair, with_value_at, IsKeyList};
 ghost use Rattle.judy_leaf.specs.Immediates.{imm_room, parts_list, IsImmParts};
 ghost use Rattle.judy_leaf.specs.Nearby.{pair_from, pair_up_to};
 
 use crate::one_word;
 use crate::words::{Width, Words};
+use judy_bits::low_part;
 use std::marker::{Model, PhantomData};
 
 /// A few keys, and a value where `V` says so, without memory: one key where keys have a value, else as many as fit into a word.
@@ -56,6 +57,13 @@ impl<V: Words + Drop> ImmOf<V> {
             value: 0,
             words: PhantomData,
         }
+    }
+
+    /// A law without a body: the keys ascend and have `width` bytes.
+    pub fn told(&self)
+        ensures { IsKeyList self.now }
+    {
+        let _ = &self.count;
     }
 
     /// How many keys there are, at most 8.
@@ -144,10 +152,37 @@ impl<V: Words + Drop> ImmOf<V> {
         requires below { key < 256 ^ self.old.width }
         ensures { self.new ≡ record self.old { pairs = with_pair key 0 self.old.pairs } }
     {
+        self.insert_pair(key, 0);
+    }
+
+    /// Puts a key in with its value, which is 0 where keys have no value; else as `insert`.
+    pub fn insert_pair(&mut self, key: u64, value: u64)
+        requires absent { IsFalse (set.has (keys_of self.old.pairs) key) }
+        requires room { length self.old.pairs < imm_room V.WORDS self.old.width }
+        requires below { key < 256 ^ self.old.width }
+        requires no_value { V.WORDS ≡ 0 → value ≡ 0 }
+        ensures { self.new ≡ record self.old { pairs = with_pair key value self.old.pairs } }
+    {
         let at = self.rank(key);
         self.keys = one_word::with_key(self.width, usize::from(self.count), self.keys, at, key);
-        self.value = 0;
+        self.value = value;
         self.count += 1;
+    }
+
+    /// The immediate of pairs, no more than fit, whose keys are read by their lowest `width` bytes, 1 to 8; these strictly ascend.
+    /// Where keys have no value, each value is 0.
+    pub fn from_sorted(width: u8, pairs: &[(u64, u64)]) -> ImmOf<V>
+        requires words { V.WORDS ≤ 1 }
+        requires list { IsKeyList (record { width = width; pairs = low_pairs (256 ^ width) pairs.now }) }
+        requires few { length pairs.now ≤ imm_room V.WORDS width }
+        requires no_values { V.WORDS ≡ 0 → AllByRecursion (λ pair. pair.1 ≡ 0) pairs.now }
+        ensures { result ≡ record { width = width; pairs = low_pairs (256 ^ width) pairs.now } }
+    {
+        let mut imm = ImmOf::new(width);
+        for (key, value) in pairs {
+            imm.insert_pair(low_part(*key, usize::from(width)), *value);
+        }
+        imm
     }
 
     /// Takes the key at a place out, with its value.

@@ -51,6 +51,13 @@ impl<'a, V: Words + Drop> LeafRef<'a, V> {
         }
     }
 
+    /// A law without a body: the keys ascend and have `width` bytes.
+    pub fn told(&self)
+        ensures { IsKeyList self.now }
+    {
+        let _ = &self.count;
+    }
+
     /// How many keys there are, at most 32.
     pub fn len(&self) -> usize
         ensures count { result ≡ length self.now.pairs }

@@ -1,0 +1,14 @@
+pub mod Maps
+pub mod Shaped
+pub mod Leaves
+pub mod KindFacts
+pub mod ViewFacts
+pub mod Counted
+pub mod StepFacts
+pub mod FillFacts
+pub mod Counts
+pub mod Groups
+pub mod ShapeFacts
+pub mod BuiltFacts
+pub mod Behind
+pub mod MadeFacts

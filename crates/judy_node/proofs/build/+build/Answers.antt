@@ -1,0 +1,204 @@
+use Rattle.std.proofs.Common.{◌≡◌, ◌+◌, ◌-◌, ◌^◌, [], ◌∷◌, ◌++◌, length, drop, sym, refl, ap, ◌∙◌, subst, arith}
+use Rattle.std.proofs.lemmas.List.{length-take-le}
+use Rattle.std.proofs.lemmas.Bool.{eqb-true, eqb-false}
+use Rattle.judy_leaf.specs.KeyLists.{low_pairs}
+use Rattle.judy_node.specs.Trees.{IsMap, IsBranch, branch_tree}
+use Rattle.judy_node.specs.Kinds.{tree_of}
+use Rattle.judy_node.specs.Built.{sharing, IsBuilt, AreMade}
+use Rattle.judy_node.proofs.Groups.{with_byte-push}
+use Rattle.judy_node.proofs.MadeFacts.{made_none, group_map, group_some, made_more, made_branch, made_built, byte_before, behind_built, one_byte_map, length_none}
+use Rattle.judy_node.proofs.build.+build.Goals as goal
+
+pub add_group-slice_bounds-child_of_sorted-end : goal.add_group-slice_bounds-child_of_sorted-end
+add_group-slice_bounds-child_of_sorted-end g t c =
+    let bounds = group_some c.args.below c.args.rest.now c.byte_above-byte.result c.group_end-end.result c.requires.some c.byte_above-byte.ensures c.group_end-end.ensures in
+    sym (length-take-le c.group_end-end.result c.args.rest.now bounds.1)
+
+pub add_group-child_of_sorted-requires : goal.add_group-child_of_sorted-requires
+add_group-child_of_sorted-requires g t c κs within =
+    let bounds = group_some c.args.below c.args.rest.now c.byte_above-byte.result c.group_end-end.result c.requires.some c.byte_above-byte.ensures c.group_end-end.ensures in
+    let first = bounds.0 in
+    let long = length-take-le c.group_end-end.result c.args.rest.now bounds.1 in
+    let made = c.requires.made in
+    let falls = c.decreases in (
+      omega arith,
+      (
+        within,
+        (
+          c.requires.one,
+          (
+            c.requires.width,
+            (
+              omega arith,
+              group_map g.V.Words.WORDS c.args.below c.args.pairs.now c.args.rest.now c.args.branch.now.bytes c.args.branch.now.children.items made.0 c.byte_above-byte.result c.group_end-end.result made.1 c.group_end-end.ensures,
+            ),
+          ),
+        ),
+      ),
+    )
+
+pub add_group-returns-clause-fewer : goal.add_group-returns-clause-fewer
+add_group-returns-clause-fewer g t c =
+    let bounds = group_some c.args.below c.args.rest.now c.byte_above-byte.result c.group_end-end.result c.requires.some c.byte_above-byte.ensures c.group_end-end.ensures in
+    let first = bounds.0 in
+    let last = bounds.1 in
+    let left = c.split_at.ensures.back_len in
+    omega arith
+
+pub add_group-returns-clause-made : goal.add_group-returns-clause-made
+add_group-returns-clause-made g t c =
+    let words = g.V.Words.WORDS in
+    let old = c.args.branch.now in
+    let made = c.requires.made in
+    let bytes = c.add.ensures ∙ with_byte-push c.byte_above-byte.result old.bytes
+    (byte_before words c.args.below c.args.pairs.now c.args.rest.now old.bytes old.children.items made.0 c.byte_above-byte.result made.1 c.requires.some c.byte_above-byte.ensures) in
+    let kids = c.in-Ok-push.ensures.items ∙ ap (λ kids. kids ++ c.in-Ok.child ∷ []) c.try_reserve.ensures.items in (
+      c.byte_above-byte.result + 1,
+      subst (λ left. AreMade words c.args.below c.args.pairs.now left c.add.new.self c.push.new.self.items (c.byte_above-byte.result + 1)) (sym c.split_at.ensures.back)
+          (subst (λ bs. AreMade words c.args.below c.args.pairs.now (drop c.group_end-end.result c.args.rest.now) bs c.push.new.self.items (c.byte_above-byte.result + 1)) (sym bytes)
+          (subst (λ ks. AreMade words c.args.below c.args.pairs.now (drop c.group_end-end.result c.args.rest.now) (old.bytes ++ c.byte_above-byte.result ∷ []) ks (c.byte_above-byte.result + 1)) (sym kids)
+          (made_more words c.args.below c.args.pairs.now c.args.rest.now old.bytes old.children.items made.0 c.byte_above-byte.result c.group_end-end.result c.in-Ok.child made.1 c.requires.some
+          c.byte_above-byte.ensures (omega (arith, c.byte_above-byte.type_inv)) c.group_end-end.ensures c.in-Ok.ensures c.requires.two))),
+    )
+
+pub child_of_sorted-kind_of_sorted-requires : goal.child_of_sorted-kind_of_sorted-requires
+child_of_sorted-kind_of_sorted-requires g t c κs within =
+    let width = c.requires.width in
+    let high = width.1 in
+    let limit = c.most_in_imm.ensures in
+    let more = c.if-pairs-most_in_imm.false in
+    let falls = c.decreases in
+    (omega arith, (within, (c.requires.one, ((width.0, omega arith), (omega arith, c.requires.map)))))
+
+pub kind_of_sorted-many-requires : goal.kind_of_sorted-many-requires
+kind_of_sorted-many-requires g t c κs within =
+    let many = c.if-pairs-le32.false in
+    let falls = c.decreases in
+    (omega arith, (within, (c.requires.one, (c.requires.width, (omega arith, c.requires.map)))))
+
+pub many-split-requires : goal.many-split-requires
+many-split-requires g t c κs within =
+    let low = c.requires.width.0 in
+    let high = c.requires.width.1 in
+    let apart = c.if-width-eq1.false in
+    let falls = c.decreases in
+    let fewer = c.if-group_end-pairs.true in
+    let end = c.group_end.ensures ∙ ap (λ b. sharing (256 ^ (c.args.width - 1)) 256 b c.args.pairs.now) c.byte_above-byte.ensures in
+    let width : c.args.width ≡ c.args.width - 1 + 1 = omega arith in (
+      omega arith,
+      (
+        within,
+        (
+          c.requires.one,
+          (
+            (omega arith, omega arith),
+            (
+              c.requires.more,
+              (
+                omega arith,
+                subst (λ w. IsMap g.V.Words.WORDS 0 (256 ^ w) (low_pairs (256 ^ w) c.args.pairs.now)) width c.requires.map,
+              ),
+            ),
+          ),
+        ),
+      ),
+    )
+
+pub many-many-requires : goal.many-many-requires
+many-many-requires g t c κs within =
+    let low = c.requires.width.0 in
+    let high = c.requires.width.1 in
+    let apart = c.if-width-eq1.false in
+    let falls = c.decreases in
+    let width : c.args.width ≡ c.args.width - 1 + 1 = omega arith in (
+      omega arith,
+      (
+        within,
+        (
+          c.requires.one,
+          (
+            (omega arith, omega arith),
+            (
+              c.requires.more,
+              one_byte_map g.V.Words.WORDS (c.args.width - 1) c.args.pairs.now c.byte_above-byte.result c.group_end.result c.group_end.ensures c.if-group_end-pairs.false
+                  (subst (λ w. IsMap g.V.Words.WORDS 0 (256 ^ w) (low_pairs (256 ^ w) c.args.pairs.now)) width c.requires.map),
+            ),
+          ),
+        ),
+      ),
+    )
+
+pub many-returns-in-Ok-clause-built : goal.many-returns-in-Ok-clause-built
+many-returns-in-Ok-clause-built g t c =
+    let words = g.V.Words.WORDS in
+    let low = c.requires.width.0 in
+    let high = c.requires.width.1 in
+    let apart = c.if-width-eq1.false in
+    let width : c.args.width ≡ c.args.width - 1 + 1 = omega arith in
+    subst (λ w. IsBuilt words w c.args.pairs.now (tree_of words c.behind.result)) (sym width)
+    (behind_built words (c.args.width - 1) c.byte_above-byte.result c.group_end.result c.args.pairs.now c.in-Ok.kind c.behind.result c.in-Ok.ensures.level.0 c.in-Ok.ensures.level.1 c.in-Ok.ensures.built
+    c.behind.ensures.level c.behind.ensures.tree c.group_end.ensures c.if-group_end-pairs.false (omega arith) (omega arith)
+    (subst (λ w. IsMap words 0 (256 ^ w) (low_pairs (256 ^ w) c.args.pairs.now)) width c.requires.map))
+
+pub split-loop-rest-init : goal.split-loop-rest-init
+split-loop-rest-init g t c =
+    let words = g.V.Words.WORDS in
+    let many = c.requires.more in (
+      (
+        0,
+        subst (λ bs. AreMade words c.args.below c.args.pairs.now c.args.pairs.now bs c.new.result.items 0) (sym c.new-3.ensures)
+            (subst (λ ks. AreMade words c.args.below c.args.pairs.now c.args.pairs.now [] ks 0) (sym c.new.ensures.items)
+            (made_none words c.args.below c.args.pairs.now c.requires.map (omega arith))),
+      ),
+      c.new-2.ensures,
+      refl,
+      refl,
+    )
+
+pub split-add_group-requires : goal.split-add_group-requires
+split-add_group-requires g t c κs within =
+    let falls = c.decreases in
+    let test = c.loop-rest-test.true in
+    let empty = c.is_empty.ensures in
+    let apart = eqb-false (length c.loop-rest.rest.now) 0 (sym empty ∙ test) in
+    (omega arith, (within, (c.requires.one, (c.requires.width, (omega arith, (c.requires.two, c.loop-rest.invariant.0))))))
+
+pub split-loop-rest-smaller : goal.split-loop-rest-smaller
+split-loop-rest-smaller g t c = c.in-Ok.ensures.fewer
+
+pub split-loop-rest-preserved : goal.split-loop-rest-preserved
+split-loop-rest-preserved g t c =
+    let others = c.in-Ok.ensures.others in
+    let before = c.loop-rest.invariant in
+    (c.in-Ok.ensures.made, others.0 ∙ before.1, others.1 ∙ before.2, others.2 ∙ before.3)
+
+pub split-returns-in-Ok-new-clause-level : goal.split-returns-in-Ok-new-clause-level
+split-returns-in-Ok-new-clause-level g t c =
+    let words = g.V.Words.WORDS in
+    let at = c.loop-rest.invariant in
+    let b = c.loop-rest.branch in
+    let over = length_none c.loop-rest.rest.now (eqb-true (length c.loop-rest.rest.now) 0 (sym c.is_empty.ensures ∙ c.loop-rest-test.false)) in (
+      subst (λ v. IsBranch words v.width v.skip v.bytes v.children.items v.population) (sym c.in-Ok-new.ensures.ok)
+          (subst (λ w. IsBranch words w b.skip b.bytes b.children.items b.population) (sym at.2)
+          (subst (λ s. IsBranch words c.args.below s b.bytes b.children.items b.population) (sym at.1)
+          (subst (λ n. IsBranch words c.args.below [] b.bytes b.children.items n) (sym at.3)
+          (made_branch words c.args.below c.args.pairs.now c.loop-rest.rest.now b.bytes b.children.items at.0.0 at.0.1 over c.requires.width.0 c.requires.width.1 c.requires.more)))),
+      tt,
+    )
+
+pub split-returns-in-Ok-new-clause-built : goal.split-returns-in-Ok-new-clause-built
+split-returns-in-Ok-new-clause-built g t c =
+    let words = g.V.Words.WORDS in
+    let at = c.loop-rest.invariant in
+    let b = c.loop-rest.branch in
+    let over = length_none c.loop-rest.rest.now (eqb-true (length c.loop-rest.rest.now) 0 (sym c.is_empty.ensures ∙ c.loop-rest-test.false)) in
+    subst (λ v. IsBuilt words (c.args.below + 1) c.args.pairs.now (branch_tree v.width v.skip v.bytes v.children.items v.population)) (sym c.in-Ok-new.ensures.ok)
+    (subst (λ w. IsBuilt words (c.args.below + 1) c.args.pairs.now (branch_tree w b.skip b.bytes b.children.items b.population)) (sym at.2)
+    (subst (λ s. IsBuilt words (c.args.below + 1) c.args.pairs.now (branch_tree c.args.below s b.bytes b.children.items b.population)) (sym at.1)
+    (subst (λ n. IsBuilt words (c.args.below + 1) c.args.pairs.now (branch_tree c.args.below [] b.bytes b.children.items n)) (sym at.3)
+    (made_built words c.args.below c.args.pairs.now c.loop-rest.rest.now b.bytes b.children.items at.0.0 at.0.1 over c.requires.width.0 c.requires.width.1 c.requires.more))))
+
+pub add_group-split_at-requires : goal.add_group-split_at-requires
+add_group-split_at-requires g t c =
+    let bounds = group_some c.args.below c.args.rest.now c.byte_above-byte.result c.group_end-end.result c.requires.some c.byte_above-byte.ensures c.group_end-end.ensures in
+    bounds.1

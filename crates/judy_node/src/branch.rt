@@ -1,0 +1,103 @@
+//! What those who go through a branch ask of it.
+
+ghost use Rattle.std.specs.Prelude.{◌≡◌, ◌+◌, ◌*◌, ◌^◌, ◌<◌, ◌≤◌, length, slice_index_or, slice_get, Some, MatchOption, IsFalse, IsTrue};
+ghost use Rattle.judy_model.specs.WordBytes.{number_of};
+ghost use Rattle.judy_bits.specs.ByteSets as set;
+ghost use Rattle.judy_bits.specs.ByteSets.{has};
+ghost use Rattle.judy_node.specs.Trees.{Tree, IsBranch};
+ghost use Rattle.judy_node.specs.Steps.{IsStep};
+ghost use Rattle.judy_node.specs.Populations.{population, keys_before, HoldsNth};
+
+use crate::child::{BranchOf, ChildOf};
+use crate::step::Step;
+use judy_bits::{low_part, without_low};
+use judy_leaf::Words;
+
+impl<V: Words + Drop> BranchOf<V> {
+    /// Where a key goes: one step down, or which way past the branch.
+    pub fn step(&self, key: u64) -> Step
+        requires { IsBranch V.WORDS self.now.width self.now.skip self.now.bytes self.now.children.items self.now.population }
+        ensures { IsStep (256 ^ self.now.width) (number_of self.now.skip * 256) self.now.bytes key result }
+    {
+        let width = usize::from(self.width);
+        let front = self.skip.number() * 256;
+        let block = without_low(key, width);
+        if block < front {
+            return Step::Below;
+        }
+        if block - front > 255 {
+            return Step::Above;
+        }
+        let byte = (block - front) as u8;
+        let rest = low_part(key, width);
+        match self.place(byte) {
+            Some(place) => Step::Child(byte, place, rest),
+            None => Step::Missing(byte, self.bytes.rank(byte), rest),
+        }
+    }
+
+    /// The place of the child of a byte. Where all 256 children stand, a byte is its place.
+    pub fn place(&self, byte: u8) -> Option<usize>
+        requires { IsBranch V.WORDS self.now.width self.now.skip self.now.bytes self.now.children.items self.now.population }
+        ensures { result ≡ set.place self.now.bytes byte }
+    {
+        if self.children.len() == 256 {
+            Some(usize::from(byte))
+        } else {
+            self.bytes.place(byte)
+        }
+    }
+
+    /// How many keys there are below.
+    pub fn keys(&self) -> u64
+        requires { IsBranch V.WORDS self.now.width self.now.skip self.now.bytes self.now.children.items self.now.population }
+        ensures { result ≡ population self.now.children.items }
+    {
+        self.population
+    }
+
+    /// How many keys there are below the first children, so many. It adds from the nearer end.
+    pub fn keys_before(&self, place: usize) -> u64
+        requires branch { IsBranch V.WORDS self.now.width self.now.skip self.now.bytes self.now.children.items self.now.population }
+        requires place { place ≤ length self.now.children.items }
+        ensures { result ≡ keys_before place self.now.children.items }
+    {
+        let all = self.keys();
+        if place <= self.children.len() / 2 {
+            population_of(&self.children[..place])
+        } else {
+            all - population_of(&self.children[place..])
+        }
+    }
+
+    /// The child that has the n-th of the keys below, counted from 0, and which of its own keys it is.
+    pub fn holding(&self, n: u64) -> (usize, u64)
+        requires branch { IsBranch V.WORDS self.now.width self.now.skip self.now.bytes self.now.children.items self.now.population }
+        requires within { n < self.now.population }
+        ensures { (kid : Tree) × HoldsNth self.now.children.items n result.0 result.1 kid }
+    {
+        let mut left = n;
+        let mut place = 0;
+        for child in &self.children {
+            let count = child.pop();
+            if left < count {
+                return (place, left);
+            }
+            left -= count;
+            place += 1;
+        }
+        unreachable!()
+    }
+}
+
+// How many keys there are below children.
+fn population_of<V: Words + Drop>(children: &[ChildOf<V>]) -> u64
+    requires { population children.now < 2 ^ 64 }
+    ensures { result ≡ population children.now }
+{
+    let mut sum = 0;
+    for child in children {
+        sum += child.pop();
+    }
+    sum
+}

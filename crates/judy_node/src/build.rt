@@ -1,0 +1,267 @@
+//! The tight tree of sorted pairs.
+
+ghost use Rattle.std.specs.Prelude.{◌≡◌, ℕ, suc, ◌+◌, ◌-◌, ◌*◌, ◌/◌, ◌%◌, ◌^◌, ◌<◌, ◌≤◌, [], ◌∷◌, length, drop, IfOk, OnOk, slice_index_or};
+ghost use Rattle.judy_model.specs.Shapes.{immediate_limit};
+ghost use Rattle.judy_leaf.specs.KeyLists.{low_pairs};
+ghost use Rattle.judy_node.specs.Trees.{IsMap, IsChild, AreParts, branch_tree};
+ghost use Rattle.judy_node.specs.Kinds.{tree_of, IsLevel, IsDeep, behind};
+ghost use Rattle.judy_node.specs.Built.{sharing, middle, IsBuilt, AreMade};
+
+use crate::child::{BranchOf, ChildOf, KindOf};
+use crate::head::Head;
+use judy_bits::{ByteSet, Skip, low_part, moved_up, without_low};
+use judy_leaf::{BitLeafOf, ImmOf, LeafOf, Words};
+use std::alloc::{AllocError, Global};
+use std::marker::PhantomData;
+
+// The byte of a key above its lowest ones, so many.
+fn byte_above(key: u64, below: u8) -> u8
+    requires { below ≤ 7 }
+    ensures { result ≡ middle (256 ^ below) 256 key }
+{
+    low_part(without_low(key, usize::from(below)), 1) as u8
+}
+
+// How many of the first pairs have a byte there.
+fn group_end(pairs: &[(u64, u64)], below: u8, byte: u8) -> usize
+    requires { below ≤ 7 }
+    ensures { result ≡ sharing (256 ^ below) 256 byte pairs.now }
+{
+    for (at, pair) in pairs.iter().enumerate() {
+        if byte_above(pair.0, below) != byte {
+            return at;
+        }
+    }
+    pairs.len()
+}
+
+// How many keys of a width an immediate holds.
+fn most_in_imm<V: Words + Drop>(width: u8) -> usize
+    requires { 1 ≤ width }
+    ensures { result ≡ immediate_limit V.WORDS width }
+{
+    if V::WORDS == 0 {
+        8 / usize::from(width)
+    } else {
+        1
+    }
+}
+
+// An immediate of sorted pairs.
+fn few<V: Words + Drop>(width: u8, pairs: &[(u64, u64)]) -> KindOf<V>
+    requires one { V.WORDS ≤ 1 }
+    requires width { (1 ≤ width) × (width ≤ 7) }
+    requires some { 0 < length pairs.now }
+    requires within { length pairs.now ≤ immediate_limit V.WORDS width }
+    requires map { IsMap V.WORDS 0 (256 ^ width) (low_pairs (256 ^ width) pairs.now) }
+    ensures level { IsLevel V.WORDS result }
+    ensures built { IsBuilt V.WORDS width pairs.now (tree_of V.WORDS result) }
+{
+    if V::WORDS == 0 {
+        let (count, keys) = ImmOf::<V>::from_sorted(width, pairs).into_parts();
+        KindOf::Imm(Head::new(count + 256 * u64::from(width)), keys)
+    } else {
+        let (key, value) = pairs[0];
+        KindOf::Imm(Head::new(low_part(key, usize::from(width))), value)
+    }
+}
+
+// A leaf of sorted pairs.
+fn some<V: Words + Drop>(
+    alloc: Global,
+    width: u8,
+    pairs: &[(u64, u64)],
+) -> Result<KindOf<V>, AllocError>
+    requires one { V.WORDS ≤ 1 }
+    requires width { (1 ≤ width) × (width ≤ 8) }
+    requires more { immediate_limit V.WORDS width < length pairs.now }
+    requires within { length pairs.now ≤ 32 }
+    requires map { IsMap V.WORDS 0 (256 ^ width) (low_pairs (256 ^ width) pairs.now) }
+    ensures level { IfOk result (λ kind. IsLevel V.WORDS kind) }
+    ensures built { IfOk result (λ kind. IsBuilt V.WORDS width pairs.now (tree_of V.WORDS kind)) }
+{
+    let (count, block) = LeafOf::<V>::from_sorted(alloc, width, pairs)?.into_parts();
+    Ok(KindOf::Leaf(count, block))
+}
+
+// A bitmap leaf of sorted pairs, whose keys are one byte.
+fn bits<V: Words + Drop>(alloc: Global, pairs: &[(u64, u64)]) -> Result<KindOf<V>, AllocError>
+    requires one { V.WORDS ≤ 1 }
+    requires more { 32 < length pairs.now }
+    requires map { IsMap V.WORDS 0 (256 ^ 1) (low_pairs (256 ^ 1) pairs.now) }
+    ensures level { IfOk result (λ kind. IsLevel V.WORDS kind × IsDeep kind) }
+    ensures built { IfOk result (λ kind. IsBuilt V.WORDS 1 pairs.now (tree_of V.WORDS kind)) }
+{
+    let block = BitLeafOf::<V>::from_sorted(alloc, 1, pairs)?.into_parts();
+    Ok(KindOf::Bit(Head::new(0), block))
+}
+
+// Makes the child of the first pairs, those of one byte, and puts it behind the others. The answer is the rest of the
+// pairs.
+#[cycle(build)]
+fn add_group<'a, V: Words + Drop>(
+    alloc: Global,
+    branch: &mut BranchOf<V>,
+    below: u8,
+    pairs: &[(u64, u64)],
+    rest: &'a [(u64, u64)],
+) -> Result<&'a [(u64, u64)], AllocError>
+    requires one { V.WORDS ≤ 1 }
+    requires width { (1 ≤ below) × (below ≤ 7) }
+    requires some { 0 < length rest.now }
+    requires two { sharing (256 ^ below) 256 (middle (256 ^ below) 256 (slice_index_or pairs.now 0 (0, 0)).0) pairs.now < length pairs.now }
+    requires made { (next : ℕ) × AreMade V.WORDS below pairs.now rest.now branch.old.bytes branch.old.children.items next }
+    ensures fewer { IfOk result (λ left. length left.now < length rest.now) }
+    ensures made { IfOk result (λ left. (next : ℕ) × AreMade V.WORDS below pairs.now left.now branch.new.bytes branch.new.children.items next) }
+    ensures others { (branch.new.skip ≡ branch.old.skip) × (branch.new.width ≡ branch.old.width) × (branch.new.population ≡ branch.old.population) }
+{
+    let byte = byte_above(rest[0].0, below);
+    let end = group_end(rest, below, byte);
+    if branch.children.try_reserve(1).is_err() {
+        return Err(AllocError);
+    }
+    let Ok(child) = child_of_sorted(alloc, below, &rest[..end]) else {
+        return Err(AllocError);
+    };
+    branch.bytes.add(byte);
+    let Ok(()) = branch.children.push(child) else {
+        return Err(AllocError);
+    };
+    let (_, left) = rest.split_at(end);
+    Ok(left)
+}
+
+// A node of sorted pairs.
+#[cycle(build)]
+fn child_of_sorted<V: Words + Drop>(
+    alloc: Global,
+    width: u8,
+    pairs: &[(u64, u64)],
+) -> Result<ChildOf<V>, AllocError>
+    requires one { V.WORDS ≤ 1 }
+    requires width { (1 ≤ width) × (width ≤ 7) }
+    requires some { 0 < length pairs.now }
+    requires map { IsMap V.WORDS 0 (256 ^ width) (low_pairs (256 ^ width) pairs.now) }
+    ensures { IfOk result (λ child. IsBuilt V.WORDS width pairs.now child) }
+{
+    if pairs.len() <= most_in_imm::<V>(width) {
+        return Ok(ChildOf::close(few(width, pairs)));
+    }
+    let Ok(kind) = kind_of_sorted(alloc, width, pairs) else {
+        return Err(AllocError);
+    };
+    Ok(ChildOf::close(kind))
+}
+
+// A node of more sorted pairs than an immediate holds.
+#[cycle(build)]
+pub(crate) fn kind_of_sorted<V: Words + Drop>(
+    alloc: Global,
+    width: u8,
+    pairs: &[(u64, u64)],
+) -> Result<KindOf<V>, AllocError>
+    requires one { V.WORDS ≤ 1 }
+    requires width { (1 ≤ width) × (width ≤ 8) }
+    requires more { immediate_limit V.WORDS width < length pairs.now }
+    requires map { IsMap V.WORDS 0 (256 ^ width) (low_pairs (256 ^ width) pairs.now) }
+    ensures level { IfOk result (λ kind. IsLevel V.WORDS kind) }
+    ensures built { IfOk result (λ kind. IsBuilt V.WORDS width pairs.now (tree_of V.WORDS kind)) }
+{
+    if pairs.len() <= 32 {
+        return some(alloc, width, pairs);
+    }
+    match many(alloc, width, pairs) {
+        Ok(kind) => Ok(kind),
+        Err(refused) => Err(refused),
+    }
+}
+
+// A bitmap leaf or a branch of more than 32 sorted pairs.
+#[cycle(build)]
+fn many<V: Words + Drop>(
+    alloc: Global,
+    width: u8,
+    pairs: &[(u64, u64)],
+) -> Result<KindOf<V>, AllocError>
+    requires one { V.WORDS ≤ 1 }
+    requires width { (1 ≤ width) × (width ≤ 8) }
+    requires more { 32 < length pairs.now }
+    requires map { IsMap V.WORDS 0 (256 ^ width) (low_pairs (256 ^ width) pairs.now) }
+    ensures level { IfOk result (λ kind. IsLevel V.WORDS kind × IsDeep kind) }
+    ensures built { IfOk result (λ kind. IsBuilt V.WORDS width pairs.now (tree_of V.WORDS kind)) }
+{
+    if width == 1 {
+        return bits(alloc, pairs);
+    }
+    let below = width - 1;
+    let byte = byte_above(pairs[0].0, below);
+    if group_end(pairs, below, byte) < pairs.len() {
+        return split(alloc, below, pairs);
+    }
+    match many(alloc, below, pairs) {
+        Ok(kind) => Ok(kind.behind(byte)),
+        Err(refused) => Err(refused),
+    }
+}
+
+// A branch of sorted pairs that don't all have one byte.
+#[cycle(build)]
+fn split<V: Words + Drop>(
+    alloc: Global,
+    below: u8,
+    pairs: &[(u64, u64)],
+) -> Result<KindOf<V>, AllocError>
+    requires one { V.WORDS ≤ 1 }
+    requires width { (1 ≤ below) × (below ≤ 7) }
+    requires more { 32 < length pairs.now }
+    requires two { sharing (256 ^ below) 256 (middle (256 ^ below) 256 (slice_index_or pairs.now 0 (0, 0)).0) pairs.now < length pairs.now }
+    requires map { IsMap V.WORDS 0 (256 ^ (below + 1)) (low_pairs (256 ^ (below + 1)) pairs.now) }
+    ensures level { IfOk result (λ kind. IsLevel V.WORDS kind × IsDeep kind) }
+    ensures built { IfOk result (λ kind. IsBuilt V.WORDS (below + 1) pairs.now (tree_of V.WORDS kind)) }
+{
+    let mut branch = BranchOf {
+        children: Vec::new(alloc),
+        skip: Skip::new(&[]),
+        width: below,
+        bytes: ByteSet::new(),
+        population: pairs.len() as u64,
+        words: PhantomData,
+    };
+    let mut rest = pairs;
+    while !rest.is_empty() {
+        let Ok(left) = add_group(alloc, &mut branch, below, pairs, rest) else {
+            return Err(AllocError);
+        };
+        rest = left;
+    }
+    match Box::new(alloc, branch) {
+        Ok(branch) => Ok(KindOf::Branch(branch)),
+        Err(_) => Err(AllocError),
+    }
+}
+
+impl<V: Words + Drop> KindOf<V> {
+    /// The node behind one byte more that it skips. It is a bitmap leaf or a branch.
+    pub fn behind(self, byte: u8) -> KindOf<V>
+        requires level { IsLevel V.WORDS self }
+        requires deep { IsDeep self }
+        requires width { (tree_of V.WORDS self).width + 1 ≤ 8 }
+        ensures level { IsLevel V.WORDS result }
+        ensures deep { IsDeep result }
+        ensures tree { tree_of V.WORDS result ≡ behind (byte ∷ []) (tree_of V.WORDS self) }
+    {
+        match self {
+            KindOf::Bit(head, mut block) => {
+                let front = moved_up(u64::from(byte), (block.tag() / 65_536 - 1) as usize);
+                let head = Head::new(front + head.number());
+                block.set_tag(block.tag() + 65_536);
+                KindOf::Bit(head, block)
+            }
+            KindOf::Branch(mut branch) => {
+                branch.skip = Skip::joined(&Skip::new(&[]), byte, &branch.skip);
+                KindOf::Branch(branch)
+            }
+            _ => unreachable!(),
+        }
+    }
+}

@@ -1,0 +1,32 @@
+//! The tree of a set or a map of words: its nodes, and what reads them.
+//!
+//! To its callers a tree is its keys with their values and its form (specs/Trees.antt), the list of its nodes without what they
+//! hold beside keys. Where no node is loose, the form is that of judy_model's rule, a function of the keys: that is a law of every tree
+//! ([`NodeOf::told`], laws.rt), and so two tight trees with the same keys are alike.
+//!
+//! The root, a [`Node`], has keys of eight bytes: it is empty, one pair, or a [`Child`] with two keys or more. A child is an
+//! immediate, a leaf, a bitmap leaf or a branch, in 16 bytes: seven bytes and a word, a number of keys and a block, or one pointer. It
+//! doesn't keep the width of its keys, which those who come down the tree know. Both are entered, which is one visit on a
+//! [`judy_bits::Meter`], and give the same [`View`]; a branch answers by [`BranchOf::step`] where a key goes.
+//!
+//! child.rt has the nodes, node.rt the root, branch.rt what is asked of a branch, shape.rt and fill.rt what goes over a whole tree, build.rt
+//! makes the tight tree of sorted pairs. The crate stands on judy_model, judy_bits, judy_block and judy_leaf.
+#![tactic(auto)]
+
+mod branch;
+mod build;
+mod child;
+mod fill;
+mod head;
+pub mod laws;
+mod node;
+mod shape;
+mod step;
+mod view;
+
+pub use child::{BranchOf, Child, ChildOf, KindOf};
+pub use head::Head;
+pub use node::{Node, NodeOf};
+pub use shape::Shape;
+pub use step::Step;
+pub use view::{View, ViewOf};

@@ -1,0 +1,154 @@
+//! The root of a tree.
+
+ghost use Rattle.std.specs.Prelude.{◌≡◌, ◌+◌, ◌-◌, ◌^◌, ◌<◌, ◌≤◌, length, IfOk};
+ghost use Rattle.judy_node.specs.Trees.{IsNode, IsMap, IsTight};
+ghost use Rattle.judy_node.specs.Roots.{root_tree, empty_tree};
+ghost use Rattle.judy_node.specs.Views.{IsView};
+ghost use Rattle.judy_node.specs.ShapeSums.{shape_as};
+ghost use Rattle.judy_model.specs.Forms.{shape_in};
+
+use crate::build::kind_of_sorted;
+use crate::child::ChildOf;
+use crate::shape::Shape;
+use crate::view::ViewOf;
+use judy_bits::Meter;
+use judy_leaf::{Width, Words};
+use std::alloc::{AllocError, Global};
+use std::marker::Model;
+
+/// A tree of words.
+#[derive(Drop)]
+pub struct NodeOf<V: Words + Drop> {
+    kind: RootOf<V>,
+}
+
+/// A tree whose keys have `W` words of value each, 0 or 1.
+pub type Node<const W: usize> = NodeOf<Width<W>>;
+
+// The kinds of roots. A pair with a key of eight bytes has no room in a child, so it stands here, and what stands below has two
+// keys or more.
+#[derive(Drop)]
+enum RootOf<V: Words + Drop> {
+    // No key.
+    Empty,
+    // One pair: the key, and its value, 0 where keys have no value.
+    One(u64, u64),
+    // Two keys or more.
+    Many(ChildOf<V>),
+}
+
+impl<V: Words + Drop> Model for NodeOf<V> {
+    ghost use Rattle.judy_node.specs.Trees.{Tree};
+
+    ghost Value = { Tree };
+
+    ghost use Rattle.judy_node.specs.Roots.{root_tree, IsRoot};
+
+    ghost view = { λ a. root_tree a.kind };
+
+    ghost invariant = { λ a. IsRoot V.WORDS a.kind };
+}
+
+impl<V: Words + Drop> NodeOf<V> {
+    /// The tree without keys.
+    pub fn empty() -> NodeOf<V>
+        ensures { result ≡ empty_tree }
+    {
+        NodeOf {
+            kind: RootOf::Empty,
+        }
+    }
+
+    /// A law without a body, what every tree keeps: its keys ascend, and where no node is loose, its form is that of the rule.
+    pub fn told(&self)
+        ensures { IsNode V.WORDS self.now }
+    {
+        let _ = &self.kind;
+    }
+
+    /// How many keys there are. It enters no node.
+    pub fn pop(&self) -> u64
+        ensures { result ≡ length self.now.pairs }
+    {
+        match &self.kind {
+            RootOf::Empty => 0,
+            RootOf::One(_, _) => 1,
+            RootOf::Many(child) => child.pop(),
+        }
+    }
+
+    /// Enters the root: one visit.
+    pub fn enter(&self, meter: &mut Meter) -> ViewOf<'_, V>
+        requires { meter.old < 2 ^ 64 - 1 }
+        ensures visits { meter.new ≡ meter.old + 1 }
+        ensures view { IsView V.WORDS 8 self.now result }
+    {
+        match &self.kind {
+            RootOf::Empty => {
+                meter.tick();
+                ViewOf::Null
+            }
+            RootOf::One(key, value) => {
+                meter.tick();
+                ViewOf::One(*key, *value)
+            }
+            RootOf::Many(child) => child.enter(8, meter),
+        }
+    }
+
+    /// How many nodes of each kind the tree has.
+    pub fn shape(&self) -> Shape
+        ensures { shape_as result ≡ shape_in self.now.form }
+    {
+        let mut shape = Shape::nothing();
+        match &self.kind {
+            RootOf::Empty => {}
+            RootOf::One(_, _) => shape.immediates = 1,
+            RootOf::Many(child) => {
+                let _ = child.pop();
+                child.count_into(&mut shape);
+            }
+        }
+        shape
+    }
+
+    /// The pairs by ascending key, in a vector of their own. The error is want of memory.
+    pub fn gather(&self, alloc: Global) -> Result<Vec<(u64, u64)>, AllocError>
+        ensures { IfOk result (λ pairs. pairs.items ≡ self.now.pairs) }
+    {
+        match &self.kind {
+            RootOf::Empty => Ok(Vec::new(alloc)),
+            RootOf::One(key, value) => Ok(vec![in alloc; (*key, *value)]?),
+            RootOf::Many(child) => {
+                let mut pairs = vec![in alloc; (0, 0); child.pop() as usize]?;
+                child.fill(8, 0, &mut pairs);
+                Ok(pairs)
+            }
+        }
+    }
+
+    /// The tight tree of pairs whose keys strictly ascend; their values are 0 where keys have no values. The error is want
+    /// of memory; nothing is kept then.
+    pub fn from_sorted(alloc: Global, pairs: &[(u64, u64)]) -> Result<NodeOf<V>, AllocError>
+        requires one { V.WORDS ≤ 1 }
+        requires map { IsMap V.WORDS 0 (256 ^ 8) pairs.now }
+        ensures pairs { IfOk result (λ tree. tree.pairs ≡ pairs.now) }
+        ensures tight { IfOk result (λ tree. IsTight tree) }
+    {
+        if pairs.is_empty() {
+            return Ok(NodeOf::empty());
+        }
+        if pairs.len() == 1 {
+            let (key, value) = pairs[0];
+            return Ok(NodeOf {
+                kind: RootOf::One(key, value),
+            });
+        }
+        match kind_of_sorted(alloc, 8, pairs) {
+            Ok(kind) => Ok(NodeOf {
+                kind: RootOf::Many(ChildOf::close(kind)),
+            }),
+            Err(refused) => Err(refused),
+        }
+    }
+}
