@@ -3,8 +3,10 @@ use Rattle.judy_shelf.specs.declared.error.MakeError.{MakeError}
 use Rattle.judy_shelf.specs.declared.error.MakeError.TheVariants as make
 use Rattle.judy_word.specs.declared.error.InsertError.{InsertError}
 use Rattle.judy_word.specs.declared.error.InsertError.TheVariants as word
+use Rattle.judy_hs.specs.declared.error.HsError.{HsError}
+use Rattle.judy_hs.specs.declared.error.HsError.TheVariants as bytes
 use Rattle.judy_command.specs.declared.reply.Refusal.{Refusal}
-use Rattle.judy_command.specs.declared.reply.Refusal.TheVariants.{BadLimit, Exists, TooManyArrays, Full, NoMemory}
+use Rattle.judy_command.specs.declared.reply.Refusal.TheVariants.{BadKey, BadLimit, Exists, TooManyArrays, Full, NoMemory}
 
 abbrev pub refusal_of_make : MakeError → Refusal
 refusal_of_make make.BadLimit = BadLimit
@@ -15,3 +17,8 @@ refusal_of_make make.NoMemory = NoMemory
 abbrev pub refusal_of_insert : InsertError → Refusal
 refusal_of_insert word.Full = Full
 refusal_of_insert word.NoMemory = NoMemory
+
+abbrev pub refusal_of_bytes : HsError → Refusal
+refusal_of_bytes bytes.TooLong = BadKey
+refusal_of_bytes bytes.Full = Full
+refusal_of_bytes bytes.NoMemory = NoMemory

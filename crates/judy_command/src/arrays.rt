@@ -11,10 +11,11 @@ ghost use Rattle.judy_command.specs.Replies.{checked, reply_of};
 ghost use Rattle.judy_command.specs.Follows.{Follows};
 
 use crate::command::{KeyCommand, PairCommand};
-use crate::keys::KeyBuf;
+use crate::keys::{KeyBuf, bytes_key};
 use crate::maps::{words_on_key, words_on_pair};
 use crate::reply::{Answer, Refusal, Reply};
 use crate::sets::{set_on_key, set_on_pair};
+use crate::values::{map_on_key, map_on_pair};
 use judy_shelf::{Array, Name, Shelf};
 
 // The name that a token says.
@@ -82,6 +83,7 @@ fn on_key<'k>(
     match array {
         Array::Judy1(set) => set_on_key(set, command, token),
         Array::JudyL(words) => words_on_key(words, command, token),
+        Array::JudyHs(bytes) => map_on_key(bytes, command, bytes_key(token, key)),
     }
 }
 
@@ -92,19 +94,27 @@ pub(crate) fn on_pair_at(
     command: PairCommand,
     first: &[u8],
     second: &[u8],
+    key: &mut KeyBuf,
 ) -> Reply<'static>
     ensures { let before = store_of shelf.old in
         Follows before (model.at_name before name.now (model.on_pair (pair_command_of command) first.now second.now)) (reply_of result) (store_of shelf.new) }
 {
-    on_pair(array_at(shelf, name)?, command, first, second)
+    on_pair(array_at(shelf, name)?, command, first, second, key)
 }
 
-fn on_pair(array: &mut Array, command: PairCommand, first: &[u8], second: &[u8]) -> Reply<'static>
+fn on_pair(
+    array: &mut Array,
+    command: PairCommand,
+    first: &[u8],
+    second: &[u8],
+    key: &mut KeyBuf,
+) -> Reply<'static>
     ensures { let before = value_of array.old in
         Follows before (model.on_pair (pair_command_of command) first.now second.now before) (reply_of result) (value_of array.new) }
 {
     match array {
         Array::Judy1(set) => set_on_pair(set, command, first, second),
         Array::JudyL(words) => words_on_pair(words, command, first, second),
+        Array::JudyHs(bytes) => map_on_pair(bytes, command, bytes_key(first, key), second),
     }
 }

@@ -65,7 +65,7 @@ fn carry_out<'k>(
         (Command::Free, [name]) => free_array(shelf, name),
         (Command::Key(command), [name, token]) => on_key_at(shelf, name, command, token, key),
         (Command::Pair(command), [name, first, second]) => on_pair_at(
-            shelf, name, command, first, second,
+            shelf, name, command, first, second, key,
         ),
         _ => Err(Refusal::ArgumentCount),
     })

@@ -1,10 +1,12 @@
 //! Keys of the string kinds as tokens say them.
 
-ghost use Rattle.std.specs.Prelude.{◌≡◌, ◌==◌, not, if◌then◌else◌, Some, None};
+ghost use Rattle.std.specs.Prelude.{◌≡◌, ◌==◌, not, if◌then◌else◌, Some, None, IfOk};
 ghost use Rattle.std.specs.List.{list_all};
+ghost use Rattle.judy_model.specs.Keys.{IsBytesKey};
 ghost use Rattle.judy_model.specs.KeyTokens.{is_shown, bytes_of_digits};
 ghost use Rattle.judy_model.specs.Commands.{bytes_key_at, string_key_at};
 ghost use Rattle.judy_command.specs.KeyReads.{read_into, key_or_refusal};
+ghost use Rattle.judy_command.specs.Slots.{said};
 
 use crate::reply::Refusal;
 use arrayvec::ArrayVec;
@@ -27,7 +29,16 @@ pub(crate) fn read_bytes_key(token: &[u8], key: &mut KeyBuf) -> Result<(), Refus
     }
 }
 
-/// The same for a judysl array, whose keys hold no zero byte.
+/// The key of a judyhs array that a token says, put into the buffer.
+pub(crate) fn bytes_key<'k>(token: &[u8], key: &'k mut KeyBuf) -> Result<&'k [u8], Refusal>
+    ensures said { said (λ bytes. bytes.now) result ≡ bytes_key_at token.now }
+    ensures key { IfOk result (λ bytes. IsBytesKey bytes.now) }
+{
+    read_bytes_key(token, key)?;
+    Ok(key.as_slice())
+}
+
+/// Puts the key of a judysl array that a token says into the buffer: one of a judyhs array without a zero byte.
 pub(crate) fn read_string_key(token: &[u8], key: &mut KeyBuf) -> Result<(), Refusal>
     ensures { read_into result key.new.items ≡ string_key_at token.now }
 {

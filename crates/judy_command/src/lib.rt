@@ -6,8 +6,10 @@
 //! array, that there was no memory and nothing changed.
 //!
 //! `command` has the commands and their words; `carry_out` says which arguments each takes and `arrays` finds
-//! the array that a command names; `sets` and `maps` say which commands each kind has. A new command is a
-//! case there and in the definitions.
+//! the array that a command names. `sets` and `maps` say which commands a kind has beside those of all maps,
+//! which `values` has, once for every array that lends its slots. `keys` reads keys of bytes, `words` numbers;
+//! `refusals` turns what an array refuses into a line's refusal. A new command is a case there and in the
+//! definitions.
 //!
 //! The crate stands on `judy_shelf` and the arrays; `judy_script` cuts lines into tokens and prints replies.
 #![tactic(auto)]

@@ -1,6 +1,7 @@
 //! What a shelf and its arrays refuse, as a script's refusals.
 
 use crate::reply::Refusal;
+use judy_hs::HsError;
 use judy_shelf::MakeError;
 use judy_word::InsertError;
 
@@ -30,6 +31,21 @@ impl From<InsertError> for Refusal {
         match error {
             InsertError::Full => Refusal::Full,
             InsertError::NoMemory => Refusal::NoMemory,
+        }
+    }
+}
+
+impl From<HsError> for Refusal {
+    ghost use Rattle.std.specs.Prelude.{◌≡◌};
+    ghost use Rattle.judy_command.specs.Refusals.{refusal_of_bytes};
+
+    ghost from_gives = { λ error refusal. refusal ≡ refusal_of_bytes error };
+
+    fn from(error: HsError) -> Refusal {
+        match error {
+            HsError::TooLong => Refusal::BadKey,
+            HsError::Full => Refusal::Full,
+            HsError::NoMemory => Refusal::NoMemory,
         }
     }
 }

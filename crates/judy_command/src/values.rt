@@ -1,13 +1,14 @@
 //! What all arrays with values have, whatever their keys are: a value is looked up, put in, overwritten and
 //! deleted.
 
-ghost use Rattle.std.specs.Prelude.{◌≡◌, ℕ, Some, Ok, IfOk, IfErr, OnOk, IsTrue, IsFalse};
+ghost use Rattle.std.specs.Prelude.{◌≡◌, ℕ, List, Some, Ok, IfOk, IfErr, OnOk, IsTrue, IsFalse};
 ghost use Rattle.std.specs.declared.cmp.Ordering.{Ordering};
 ghost use Rattle.std.specs.Borrow.{sem, LendsIf, LendsIfOk, u64};
 ghost use Rattle.std.specs.Option.{option_copied_mut};
 ghost use Rattle.std.specs.Cmp.{IsTotalOrder, nat_cmp_total};
 ghost use Rattle.std.specs.FinMap as finite;
-ghost use Rattle.std.specs.FinMap.{IsAntisymmetric, nat_cmp-IsAntisymmetric};
+ghost use Rattle.std.specs.FinMap.{IsAntisymmetric, nat_cmp-IsAntisymmetric, slice_cmp-IsAntisymmetric};
+ghost use Rattle.std.proofs.lemmas.Cmp.{nat_list_cmp_total};
 ghost use Rattle.judy_model.specs.Arrays as array;
 ghost use Rattle.judy_model.specs.Arrays.{ArrayOf, ArrayValue};
 ghost use Rattle.judy_model.specs.Commands as model;
@@ -19,6 +20,7 @@ ghost use Rattle.judy_command.specs.Slots.{with_value, said, IsInsertRefusal};
 use crate::command::{KeyCommand, PairCommand};
 use crate::reply::{Answer, Refusal, Reply};
 use crate::words::{number_or_nothing, word};
+use judy_hs::{Fnv1a, JudyHs};
 use judy_word::JudyL;
 use std::mem::replace;
 
@@ -31,6 +33,8 @@ pub(crate) trait ValueMap<K> {
 
     ghost key_of: { K → Key };
 
+    ghost IsKey: { Key → Type 0 };
+
     ghost array_of: { Self → ArrayOf order };
 
     ghost kind_of: { ArrayOf order → ArrayValue };
@@ -41,6 +45,7 @@ pub(crate) trait ValueMap<K> {
     /// The slot of the key, which is put in with the value 0 where it is absent. `Full` or `NoMemory`, only
     /// where it is absent, and then the array is as it was.
     fn ins(&mut self, key: K) -> Result<&mut u64, Refusal>
+        requires { IsKey (key_of key) }
         ensures* writes_back { sem 𝓛 (LendsIfOk Self.row u64 self.entry result (written self.entry.now key) self.entry.now) }
         ensures value { IfOk result (λ slot. Some slot.now ≡ finite.get (array.ins (array_of self.old).map (key_of key)) (key_of key)) }
         ensures accepted { OnOk result (IsFalse (array.is_full (array_of self.old) (key_of key))) }
@@ -70,7 +75,7 @@ pub(crate) trait ValueMap<K> {
 
 impl ValueMap<u64> for JudyL {
     ghost use Rattle.std.specs.Prelude.{refl};
-    ghost use Rattle.judy_model.specs.Keys.{word_order};
+    ghost use Rattle.judy_model.specs.Keys.{IsWord, word_order};
     ghost use Rattle.judy_model.specs.Arrays.{judyl};
 
     ghost Key = { ℕ };
@@ -78,6 +83,8 @@ impl ValueMap<u64> for JudyL {
     ghost order = { word_order };
 
     ghost key_of = { λ key. key };
+
+    ghost IsKey = { IsWord };
 
     ghost array_of = { λ array. array };
 
@@ -108,6 +115,48 @@ impl ValueMap<u64> for JudyL {
     ghost writes = { λ array key value. refl };
 }
 
+impl<'b> ValueMap<&'b [u8]> for JudyHs<Fnv1a> {
+    ghost use Rattle.std.specs.Prelude.{refl};
+    ghost use Rattle.judy_model.specs.Keys.{IsBytesKey, byte_order};
+    ghost use Rattle.judy_model.specs.Arrays.{judyhs};
+
+    ghost Key = { List ℕ };
+
+    ghost order = { byte_order };
+
+    ghost key_of = { λ key. key.now };
+
+    ghost IsKey = { IsBytesKey };
+
+    ghost array_of = { λ array. array };
+
+    ghost kind_of = { judyhs };
+
+    ghost written = { λ array key value. with_value array key.now value };
+
+    fn ins(&mut self, key: &'b [u8]) -> Result<&mut u64, Refusal> {
+        Ok(JudyHs::<Fnv1a>::ins(self, key)?)
+    }
+
+    fn slot(&mut self, key: &'b [u8]) -> Option<&mut u64> {
+        JudyHs::<Fnv1a>::slot(self, key)
+    }
+
+    fn get(&self, key: &'b [u8]) -> Option<u64> {
+        JudyHs::<Fnv1a>::get(self, key)
+    }
+
+    fn del(&mut self, key: &'b [u8]) -> bool {
+        JudyHs::<Fnv1a>::del(self, key)
+    }
+
+    ghost is_total = { nat_list_cmp_total };
+
+    ghost is_antisymmetric = { slice_cmp-IsAntisymmetric nat_cmp-IsAntisymmetric };
+
+    ghost writes = { λ array key value. refl };
+}
+
 /// What a command of one key does to the array. The key is what a token said, or why it was refused.
 pub(crate) fn map_on_key<K: Drop, M: ValueMap<K>>(
     map: &mut M,
@@ -130,6 +179,7 @@ pub(crate) fn map_on_pair<K: Drop, M: ValueMap<K>>(
     key: Result<K, Refusal>,
     value: &[u8],
 ) -> Reply<'static>
+    requires { IfOk key (λ key. M.IsKey (M.key_of key)) }
     ensures { Follows (M.kind_of (M.array_of map.old)) (model.map_on_pair M.kind_of (pair_command_of command) (M.array_of map.old) (said M.key_of key) value.now) (reply_of result) (M.kind_of (M.array_of map.new)) }
 {
     match command {
@@ -141,6 +191,7 @@ pub(crate) fn map_on_pair<K: Drop, M: ValueMap<K>>(
 
 // Reads the slot of the key, which is new or not, and writes the value through it.
 fn insert<K, M: ValueMap<K>>(map: &mut M, key: K, value: u64) -> Reply<'static>
+    requires { M.IsKey (M.key_of key) }
     ensures { Follows (M.kind_of (M.array_of map.old)) (model.inserted M.kind_of (M.array_of map.old) (M.key_of key) value) (reply_of result) (M.kind_of (M.array_of map.new)) }
 {
     Ok(Answer::Was(replace(map.ins(key)?, value)))

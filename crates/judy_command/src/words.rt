@@ -1,11 +1,12 @@
 //! Words as tokens say them and as answers.
 
-ghost use Rattle.std.specs.Prelude.{◌≡◌, ◌<◌, ◌≤◌, ◌+◌, ◌*◌, ◌^◌, ◌&&◌, length, nat_lt, if◌then◌else◌, Some, None, IfSome};
+ghost use Rattle.std.specs.Prelude.{◌≡◌, ◌<◌, ◌≤◌, ◌+◌, ◌*◌, ◌^◌, ◌&&◌, length, nat_lt, if◌then◌else◌, Some, None, IfSome, IfOk};
 ghost use Rattle.std.specs.Char.{is_ascii_digit, digit_value};
 ghost use Rattle.std.specs.List.{list_all};
 ghost use Rattle.std.specs.Str.Parse.{digits_value};
 ghost use Rattle.judy_model.specs.Tokens.{word_of};
 ghost use Rattle.judy_command.specs.Replies.{checked, answer_of};
+ghost use Rattle.judy_model.specs.Keys.{IsWord};
 ghost use Rattle.judy_model.specs.Commands as model;
 ghost use Rattle.judy_model.specs.Commands.{word_at};
 
@@ -16,7 +17,8 @@ const SAFE_DIGITS: usize = 19;
 
 /// The word that a token says: 1 to 20 decimal digits with a number below 2^64. Else `BadWord`.
 pub(crate) fn word(token: &[u8]) -> Result<u64, Refusal>
-    ensures { checked result ≡ word_at token.now }
+    ensures said { checked result ≡ word_at token.now }
+    ensures word { IfOk result IsWord }
 {
     let number = match token.len() {
         0 => None,

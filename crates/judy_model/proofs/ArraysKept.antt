@@ -12,7 +12,7 @@ use Rattle.judy_model.specs.Keys.{IsWord, IsStringKey, IsBytesKey, word_order, b
 use Rattle.judy_model.specs.Arrays.{ArrayOf, IsArrayOf, ArrayValue, judy1, judyl, judysl, judyhs, IsArray, limit_of, empty_array, with_map, ins, is_full}
 use Rattle.judy_model.specs.CommandWords as command
 use Rattle.judy_model.specs.CommandWords.{KeyCommand, PairCommand}
-use Rattle.judy_model.specs.Commands.{Outcome, ◌>>=◌, word_at, string_key_at, bytes_key_at, added, inserted, overwritten, set_on_key, set_on_pair, map_on_key, map_on_pair, words_on_key, words_on_pair, strings_on_key, on_key, on_pair, freed_whole}
+use Rattle.judy_model.specs.Commands.{Outcome, word_at, string_key_at, bytes_key_at, added, inserted, overwritten, set_on_key, set_on_pair, map_on_key, map_on_pair, words_on_key, words_on_pair, strings_on_key, on_key, on_pair, freed_whole}
 use Rattle.judy_model.specs.Replies.{Refusal}
 use Rattle.judy_model.proofs.ChangesLemmas.{write-ins}
 use Rattle.judy_model.proofs.Inserts.{is_full_present}

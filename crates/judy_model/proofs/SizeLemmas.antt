@@ -4,11 +4,11 @@ use Rattle.std.specs.Prelude.{bytes_eq, ⊤, ◌&&◌}
 use Rattle.std.specs.List.{starts_with}
 use Rattle.std.specs.declared.cmp.Ordering.{Ordering}
 use Rattle.std.specs.Cmp.{IsTotalOrder, nat_cmp_total}
-use Rattle.std.specs.FinMap.{FinMap, IsAntisymmetric, empty, get, contains_key, insert, len, len-empty, len-insert, nat_cmp-IsAntisymmetric, slice_cmp-IsAntisymmetric}
+use Rattle.std.specs.FinMap.{IsAntisymmetric, empty, get, contains_key, insert, len, len-empty, len-insert, nat_cmp-IsAntisymmetric, slice_cmp-IsAntisymmetric}
 use Rattle.std.proofs.lemmas.Cmp.{nat_list_cmp_total}
 use Rattle.std.proofs.lemmas.Result.{IfOk-at_ok}
 use Rattle.judy_model.specs.Keys.{word_order, byte_order}
-use Rattle.judy_model.specs.Arrays.{ArrayOf, ArrayValue, judy1, judyl, judysl, judyhs, len_of, emptied, empty_array, is_full}
+use Rattle.judy_model.specs.Arrays.{ArrayOf, ArrayValue, judy1, judyl, judysl, judyhs, len_of, emptied, is_full}
 use Rattle.judy_model.specs.Kinds.{kind_named}
 use Rattle.judy_model.specs.Lines.{Line, is_too_long, text_of}
 use Rattle.judy_model.specs.Tokens.{tokens_of}
@@ -203,7 +203,8 @@ either_kind false kind others here there = there
 kind_named-IsNewKind : (word : List ℕ) → IfSome (kind_named word) IsNewKind
 kind_named-IsNewKind word =
     either_kind (bytes_eq word (codes "judy1")) _ _ (λ limit. len-empty word_order ℕ)
-    (either_kind (bytes_eq word (codes "judyl")) _ _ (λ limit. len-empty word_order ℕ) tt)
+    (either_kind (bytes_eq word (codes "judyl")) _ _ (λ limit. len-empty word_order ℕ)
+    (either_kind (bytes_eq word (codes "judyhs")) _ _ (λ limit. len-empty byte_order ℕ) tt))
 
 module _ (store : Store) where
   -- what a command does to the size of the store

@@ -44,6 +44,6 @@ pub fn check_run<R: Abort>(
 pub fn value_of(shelf: &Shelf, name: &[u8], key: u64) -> Option<u64> {
     match shelf.get(&Name::new(name)?)? {
         Array::JudyL(words) => words.get(key),
-        Array::Judy1(_) => None,
+        _ => None,
     }
 }

@@ -15,6 +15,8 @@ mod dumps;
 #[cfg(test)]
 mod faults;
 #[cfg(test)]
+mod keys;
+#[cfg(test)]
 mod leaves;
 #[cfg(test)]
 mod lines;

@@ -1,10 +1,15 @@
 -- What a sink has taken where a text was written to it, whole or in part.
-use Rattle.std.specs.Prelude.{◌≡◌, ℕ, ◌+◌, List, Option, Result, Ok, Err}
+use Rattle.std.specs.Prelude.{◌≡◌, ℕ, ◌+◌, Bool, true, false, IsTrue, List, Option, IsSomeAnd, Result, Ok, Err}
+use Rattle.std.specs.List.{slice_get}
+use Rattle.judy_model.specs.DumpText.{dump_of}
 use Rattle.judy_pipe.specs.Pipe.{grown, GrewByFront}
 use Rattle.judy_shelf.specs.declared.fault.DumpFault.{DumpFault}
 use Rattle.judy_shelf.specs.declared.fault.DumpFault.TheVariants.{NoMemory, Write}
+use Rattle.judy_shelf.specs.declared.array.Array.{Array}
+use Rattle.judy_shelf.specs.declared.array.Array.TheVariants as array
 use Rattle.judy_shelf.specs.declared.kind.Kind.{Kind}
-use Rattle.judy_shelf.specs.declared.kind.Kind.TheVariants.{Judy1, JudyL}
+use Rattle.judy_shelf.specs.declared.kind.Kind.TheVariants.{Judy1, JudyL, JudyHs}
+use Rattle.judy_shelf.specs.Shelves.{Entries, store_of}
 
 -- What a sink tells: the bytes that it took, where it tells them, and how often it failed.
 pub record Sunk : Type 0 where
@@ -27,13 +32,24 @@ abbrev pub Wrote : {X E : Type 0} → List ℕ → Sunk → Result X E → Sunk 
 Wrote text before (Ok done) after = WroteAll text before after
 Wrote text before (Err fault) after = WroteFront text before after
 
--- A dump was written whole, or a front of it; no memory is wanted for it.
-abbrev pub Dumped : List ℕ → Sunk → Result (Unit {0}) DumpFault → Sunk → Type 0
-Dumped text before (Ok done) after = WroteAll text before after
-Dumped text before (Err Write) after = WroteFront text before after
-Dumped text before (Err NoMemory) after = ⊥
+-- The keys of an array are byte strings.
+abbrev pub is_of_bytes : Array → Bool
+is_of_bytes (array.Judy1 set) = false
+is_of_bytes (array.JudyL words) = false
+is_of_bytes (array.JudyHs bytes) = true
+
+-- An array whose keys are byte strings stands on a shelf.
+abbrev pub HoldsBytes : Entries → Type 0
+HoldsBytes entries = (place : ℕ) × IsSomeAnd (slice_get entries place) (λ entry. IsTrue (is_of_bytes entry.1))
+
+-- The dump of a shelf was written whole, or a front of it; or nothing, where an array's keys are byte strings.
+abbrev pub Dumped : Entries → Sunk → Result (Unit {0}) DumpFault → Sunk → Type 0
+Dumped entries before (Ok done) after = WroteAll (dump_of (store_of entries)) before after
+Dumped entries before (Err Write) after = WroteFront (dump_of (store_of entries)) before after
+Dumped entries before (Err NoMemory) after = HoldsBytes entries × (after ≡ before)
 
 -- The number of a kind in dumps.
 abbrev pub kind_number : Kind → ℕ
 kind_number Judy1 = 1
 kind_number JudyL = 2
+kind_number JudyHs = 4

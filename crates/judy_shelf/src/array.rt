@@ -7,6 +7,7 @@ ghost use Rattle.judy_shelf.specs.Kinds.{kind_word};
 ghost use Rattle.judy_shelf.specs.Arrays.{new_array};
 
 use crate::kind::Kind;
+use judy_hs::{Fnv1a, JudyHs};
 use judy_word::{Judy1, JudyL};
 use std::alloc::Global;
 
@@ -19,6 +20,7 @@ pub(crate) fn new_array(alloc: Global, kind: Kind, limit: u64) -> Array
     match kind {
         Kind::Judy1 => Array::Judy1(Judy1::new(alloc, limit)),
         Kind::JudyL => Array::JudyL(JudyL::new(alloc, limit)),
+        Kind::JudyHs => Array::JudyHs(JudyHs::new(alloc, limit, Fnv1a)),
     }
 }
 
@@ -30,6 +32,8 @@ pub enum Array {
     Judy1(Judy1),
     /// A map from words to words.
     JudyL(JudyL),
+    /// A map from byte strings to words.
+    JudyHs(JudyHs<Fnv1a>),
 }
 
 impl Array {
@@ -43,6 +47,7 @@ impl Array {
         match self {
             Array::Judy1(_) => Kind::Judy1,
             Array::JudyL(_) => Kind::JudyL,
+            Array::JudyHs(_) => Kind::JudyHs,
         }
     }
 
@@ -53,6 +58,7 @@ impl Array {
         match self {
             Array::Judy1(set) => set.limit(),
             Array::JudyL(words) => words.limit(),
+            Array::JudyHs(bytes) => bytes.limit(),
         }
     }
 
@@ -64,6 +70,7 @@ impl Array {
         match self {
             Array::Judy1(set) => set.len(),
             Array::JudyL(words) => words.len(),
+            Array::JudyHs(bytes) => bytes.len(),
         }
     }
 
@@ -83,6 +90,7 @@ impl Array {
         match self {
             Array::Judy1(set) => set.free_array(),
             Array::JudyL(words) => words.free_array(),
+            Array::JudyHs(bytes) => bytes.free_array(),
         }
     }
 
@@ -95,6 +103,7 @@ impl Array {
         match self {
             Array::Judy1(set) => set.is_array(),
             Array::JudyL(words) => words.is_array(),
+            Array::JudyHs(bytes) => bytes.is_array(),
         }
     }
 }

@@ -1,12 +1,12 @@
 //! A shelf as bytes.
 
-ghost use Rattle.std.specs.Prelude.{◌≡◌, ◌<◌, ◌-◌, ◌^◌, ◌++◌, ℕ, List};
+ghost use Rattle.std.specs.Prelude.{◌≡◌, ◌<◌, ◌-◌, ◌^◌, ◌++◌, ℕ, List, MatchBool, All, IsFalse};
 ghost use Rattle.judy_model.specs.Arrays.{judy1, judyl};
 ghost use Rattle.judy_model.specs.DumpText as text;
 ghost use Rattle.judy_model.specs.DumpText.{dump_of, array_text};
 ghost use Rattle.judy_shelf.specs.Arrays.{value_of};
 ghost use Rattle.judy_shelf.specs.Shelves.{store_of};
-ghost use Rattle.judy_shelf.specs.Writes.{sunk, Wrote, Dumped};
+ghost use Rattle.judy_shelf.specs.Writes.{sunk, is_of_bytes, HoldsBytes, Wrote, Dumped};
 
 use crate::array::Array;
 use crate::fault::DumpFault;
@@ -20,17 +20,46 @@ use judy_word::{Judy1, JudyL};
 /// values, in the format JDY1 (this project's own).
 ///
 /// At Ok the sink took the dump of the store that the shelf is, and nothing else. `Write` comes only where the
-/// sink failed, which it then did once; it took a front of the dump. It asks for no memory, since no array of
-/// these kinds has to be sorted, and so never answers `NoMemory`.
+/// sink failed, which it then did once; it took a front of the dump. A shelf with a judyhs array isn't dumped
+/// yet: it answers `NoMemory`, with no byte written.
 pub fn dump<W: Sink>(shelf: &Shelf, sink: &mut W) -> Result<(), DumpFault>
     requires { (W.tally sink.old).failures < 2 ^ 64 - 1 }
-    ensures { Dumped (dump_of (store_of shelf.now)) (sunk (W.taken sink.old) (W.tally sink.old).failures) result (sunk (W.taken sink.new) (W.tally sink.new).failures) }
+    ensures { Dumped shelf.now (sunk (W.taken sink.old) (W.tally sink.old).failures) result (sunk (W.taken sink.new) (W.tally sink.new).failures) }
 {
+    if holds_bytes(shelf) {
+        return Err(DumpFault::NoMemory);
+    }
     write_shelf(shelf, sink).map_err(|_| DumpFault::Write)
 }
 
+// Whether an array whose keys are byte strings stands on a shelf.
+fn holds_bytes(shelf: &Shelf) -> bool
+    ensures { MatchBool result (HoldsBytes shelf.now) (All (λ entry. IsFalse (is_of_bytes entry.1)) shelf.now) }
+{
+    let mut seen = 0;
+    'arrays: while let Some((_, array)) = shelf.at(seen) {
+        if is_of_bytes(array) {
+            return true;
+        }
+        seen += 1;
+    }
+    false
+}
+
+// Whether the keys of an array are byte strings.
+fn is_of_bytes(array: &Array) -> bool
+    ensures { result ≡ is_of_bytes array.now }
+{
+    match array {
+        Array::Judy1(_) => false,
+        Array::JudyL(_) => false,
+        Array::JudyHs(_) => true,
+    }
+}
+
 fn write_shelf<W: Sink>(shelf: &Shelf, sink: &mut W) -> Result<(), BrokenPipe>
-    requires { (W.tally sink.old).failures < 2 ^ 64 - 1 }
+    requires below { (W.tally sink.old).failures < 2 ^ 64 - 1 }
+    requires words { All (λ entry. IsFalse (is_of_bytes entry.1)) shelf.now }
     ensures { Wrote (dump_of (store_of shelf.now)) (sunk (W.taken sink.old) (W.tally sink.old).failures) result (sunk (W.taken sink.new) (W.tally sink.new).failures) }
 {
     put(sink, &heading(shelf))?;
@@ -43,13 +72,15 @@ fn write_shelf<W: Sink>(shelf: &Shelf, sink: &mut W) -> Result<(), BrokenPipe>
 }
 
 fn write_array<W: Sink>(name: &Name, array: &Array, sink: &mut W) -> Result<(), BrokenPipe>
-    requires { (W.tally sink.old).failures < 2 ^ 64 - 1 }
+    requires below { (W.tally sink.old).failures < 2 ^ 64 - 1 }
+    requires words { IsFalse (is_of_bytes array.now) }
     ensures { Wrote (array_text (name.now, value_of array.now)) (sunk (W.taken sink.old) (W.tally sink.old).failures) result (sunk (W.taken sink.new) (W.tally sink.new).failures) }
 {
     put(sink, &array_head(name, array))?;
     match array {
         Array::Judy1(set) => write_set(set, sink),
         Array::JudyL(words) => write_words(words, sink),
+        Array::JudyHs(_) => unreachable!(),
     }
 }
 

@@ -1,6 +1,6 @@
 //! What stands before an array's keys in a dump, read field by field, each checked as soon as it is read.
 
-ghost use Rattle.std.specs.Prelude.{◌≡◌, ◌<◌, ◌≤◌, ◌-◌, ◌^◌, ◌∷◌, [], ◌≢◌, IfOk, IsTrue, MatchOption, None, length};
+ghost use Rattle.std.specs.Prelude.{◌≡◌, ◌<◌, ◌≤◌, ◌-◌, ◌^◌, ◌∷◌, [], ◌≢◌, IfOk, IfSome, IsTrue, MatchOption, None, length};
 ghost use Rattle.judy_model.specs.Fields.{field, number, bytes, bad_name, bad_limit, bad_count, bad_order};
 ghost use Rattle.judy_model.specs.Keys.{word_order};
 ghost use Rattle.judy_model.specs.DumpText.{magic};
@@ -95,7 +95,8 @@ fn read_name_text<R: Source>(
 // Reads the kind of an array.
 pub(crate) fn read_kind<R: Source>(source: &mut R) -> Result<Kind, LoadFault>
     requires { (R.tally source.old).failures < 2 ^ 64 - 1 }
-    ensures { Reads kind_number grammar.kind (drawn (R.given source.old) (R.ended source.old) (R.tally source.old).failures) result (drawn (R.given source.new) (R.ended source.new) (R.tally source.new).failures) }
+    ensures words { IfOk result (λ kind. kind_number kind ≤ 2) }
+    ensures read { Reads kind_number grammar.kind (drawn (R.given source.old) (R.ended source.old) (R.tally source.old).failures) result (drawn (R.given source.new) (R.ended source.new) (R.tally source.new).failures) }
 {
     let number = read_u8(source)?;
     kind_of_number(number).ok_or(LoadFault::BadKind)
@@ -103,7 +104,8 @@ pub(crate) fn read_kind<R: Source>(source: &mut R) -> Result<Kind, LoadFault>
 
 // The kind of a number, if shelves have it.
 fn kind_of_number(number: u8) -> Option<Kind>
-    ensures { MatchOption result ((number ≢ 1) × (number ≢ 2)) (λ kind. number ≡ kind_number kind) }
+    ensures number { MatchOption result ((number ≢ 1) × (number ≢ 2)) (λ kind. number ≡ kind_number kind) }
+    ensures words { IfSome result (λ kind. kind_number kind ≤ 2) }
 {
     if number == 1 {
         Some(Kind::Judy1)

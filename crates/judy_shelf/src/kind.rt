@@ -11,6 +11,8 @@ pub enum Kind {
     Judy1,
     /// A map from words to words: the manual's JudyL.
     JudyL,
+    /// A map from byte strings to words, in no order: the manual's JudyHS.
+    JudyHs,
 }
 
 impl Kind {
@@ -19,10 +21,15 @@ impl Kind {
         ensures named { option_map empty_of_kind result ≡ kind_named word.now }
         ensures spelled { IfSome result (λ kind. word.now ≡ kind_word kind) }
     {
-        match word {
-            b"judy1" => Some(Kind::Judy1),
-            b"judyl" => Some(Kind::JudyL),
-            _ => None,
+        // Comparisons and no patterns: the search for proofs stops at six bytes.
+        if word == b"judy1".as_slice() {
+            Some(Kind::Judy1)
+        } else if word == b"judyl".as_slice() {
+            Some(Kind::JudyL)
+        } else if word == b"judyhs".as_slice() {
+            Some(Kind::JudyHs)
+        } else {
+            None
         }
     }
 
@@ -35,6 +42,7 @@ impl Kind {
         match self {
             Kind::Judy1 => b"judy1",
             Kind::JudyL => b"judyl",
+            Kind::JudyHs => b"judyhs",
         }
     }
 }

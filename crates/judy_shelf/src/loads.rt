@@ -125,11 +125,13 @@ fn read_contents<R: Source>(
     requires below { (R.tally source.old).failures < 2 ^ 64 - 1 }
     requires some { 1 ≤ limit }
     requires most { limit ≤ 4294967295 }
+    requires words { kind_number kind ≤ 2 }
     ensures { Reads value_of (grammar.contents (kind_number kind) limit count) (drawn (R.given source.old) (R.ended source.old) (R.tally source.old).failures) result (drawn (R.given source.new) (R.ended source.new) (R.tally source.new).failures) }
 {
     match kind {
         Kind::Judy1 => Ok(Array::Judy1(read_set(alloc, source, limit, count)?)),
         Kind::JudyL => Ok(Array::JudyL(read_words(alloc, source, limit, count)?)),
+        Kind::JudyHs => unreachable!(),
     }
 }
 

@@ -84,5 +84,6 @@ fn kind_number(kind: Kind) -> u8
     match kind {
         Kind::Judy1 => 1,
         Kind::JudyL => 2,
+        Kind::JudyHs => 4,
     }
 }

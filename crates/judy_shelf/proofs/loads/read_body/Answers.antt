@@ -14,7 +14,7 @@ returns-in_err-limit g c =
     let fault = c.in_err-limit.field-0.0 in
     let kind = kind_number c.in_ok-kind.kind in
     reads_err value_of grammar.body before two fault c.from_residual-in_err-limit.result c.from_residual-in_err-limit.ensures.1
-    (fault_then grammar.kind (λ kind. grammar.limit >>= λ limit. grammar.key_count limit >>= λ count. grammar.contents kind limit count) kind before one c.in_ok-kind.ensures (cause_of fault) two
+    (fault_then grammar.kind (λ kind. grammar.limit >>= λ limit. grammar.key_count limit >>= λ count. grammar.contents kind limit count) kind before one c.in_ok-kind.ensures.read (cause_of fault) two
     (fault_first grammar.limit (λ limit. grammar.key_count limit >>= λ count. grammar.contents kind limit count) (cause_of fault) one two c.in_err-limit.ensures.read))
 
 pub returns-in_err-count : goal.returns-in_err-count
@@ -27,7 +27,7 @@ returns-in_err-count g c =
     let kind = kind_number c.in_ok-kind.kind in
     let limit = c.in_ok-limit.limit in
     reads_err value_of grammar.body before three fault c.from_residual-in_err-count.result c.from_residual-in_err-count.ensures.1
-    (fault_then grammar.kind (λ kind. grammar.limit >>= λ limit. grammar.key_count limit >>= λ count. grammar.contents kind limit count) kind before one c.in_ok-kind.ensures (cause_of fault) three
+    (fault_then grammar.kind (λ kind. grammar.limit >>= λ limit. grammar.key_count limit >>= λ count. grammar.contents kind limit count) kind before one c.in_ok-kind.ensures.read (cause_of fault) three
     (fault_then grammar.limit (λ limit. grammar.key_count limit >>= λ count. grammar.contents kind limit count) limit one two c.in_ok-limit.ensures.read (cause_of fault) three
     (fault_first (grammar.key_count limit) (λ count. grammar.contents kind limit count) (cause_of fault) two three c.in_err-count.ensures)))
 
@@ -41,6 +41,6 @@ returns g c =
     let kind = kind_number c.in_ok-kind.kind in
     let limit = c.in_ok-limit.limit in
     let count = c.in_ok-count.count in
-    reads_then grammar.kind (λ kind. grammar.limit >>= λ limit. grammar.key_count limit >>= λ count. grammar.contents kind limit count) kind before one c.in_ok-kind.ensures value_of four c.read_contents.result
+    reads_then grammar.kind (λ kind. grammar.limit >>= λ limit. grammar.key_count limit >>= λ count. grammar.contents kind limit count) kind before one c.in_ok-kind.ensures.read value_of four c.read_contents.result
     (reads_then grammar.limit (λ limit. grammar.key_count limit >>= λ count. grammar.contents kind limit count) limit one two c.in_ok-limit.ensures.read value_of four c.read_contents.result
     (reads_then (grammar.key_count limit) (λ count. grammar.contents kind limit count) count two three c.in_ok-count.ensures value_of four c.read_contents.result c.read_contents.ensures))
