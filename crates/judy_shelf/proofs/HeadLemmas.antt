@@ -15,7 +15,7 @@ use Rattle.judy_shelf.specs.declared.array.Array.{Array}
 use Rattle.judy_shelf.specs.declared.fault.LoadFault.{LoadFault}
 use Rattle.judy_shelf.specs.declared.fault.LoadFault.TheVariants.{BadKind}
 use Rattle.judy_shelf.specs.declared.kind.Kind.{Kind}
-use Rattle.judy_shelf.specs.declared.kind.Kind.TheVariants.{Judy1, JudyL, JudyHs}
+use Rattle.judy_shelf.specs.declared.kind.Kind.TheVariants.{Judy1, JudyL, JudySl, JudyHs}
 use Rattle.judy_shelf.specs.Arrays.{value_of}
 use Rattle.judy_shelf.specs.Shelves.{Entries, store_of}
 use Rattle.judy_shelf.specs.Writes.{kind_number}
@@ -88,4 +88,5 @@ module _ (value : ℕ) (before after : Drawn) (was : ReadsValue (number 1) value
   kind_told None unknown = kind_stops (is_kind value) refl unknown.0 unknown.1
   kind_told (Some Judy1) same = subst (λ n. ReadsValue grammar.kind n before after) same (value_passes (number 1) value before after was is_kind bad_kind (ap is_kind same))
   kind_told (Some JudyL) same = subst (λ n. ReadsValue grammar.kind n before after) same (value_passes (number 1) value before after was is_kind bad_kind (ap is_kind same))
+  kind_told (Some JudySl) same = subst (λ n. ReadsValue grammar.kind n before after) same (value_passes (number 1) value before after was is_kind bad_kind (ap is_kind same))
   kind_told (Some JudyHs) same = subst (λ n. ReadsValue grammar.kind n before after) same (value_passes (number 1) value before after was is_kind bad_kind (ap is_kind same))

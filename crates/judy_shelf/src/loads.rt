@@ -131,6 +131,7 @@ fn read_contents<R: Source>(
     match kind {
         Kind::Judy1 => Ok(Array::Judy1(read_set(alloc, source, limit, count)?)),
         Kind::JudyL => Ok(Array::JudyL(read_words(alloc, source, limit, count)?)),
+        Kind::JudySl => unreachable!(),
         Kind::JudyHs => unreachable!(),
     }
 }
