@@ -14,6 +14,7 @@ pub mod ScanEnds
 pub mod OnWay
 pub mod ScanEntries
 pub mod Linked
+pub mod Led
 pub mod Written
 pub mod Maps
 pub mod Keeping
@@ -27,3 +28,4 @@ pub mod Grafted
 pub mod Splits
 pub mod LevelLemmas
 pub mod Words
+pub mod Rooms

@@ -9,7 +9,7 @@ use Rattle.judy_sl.specs.declared.child.Child.TheVariants.{Free}
 use Rattle.judy_sl.specs.declared.arena.Arena.{Arena}
 use Rattle.judy_sl.specs.Pieces.{pieces, piece_of, SpellKey}
 use Rattle.judy_sl.specs.World.{gone, tail, level, lookup, at_entry}
-use Rattle.judy_sl.specs.Worlds.{FitsBehind}
+use Rattle.judy_sl.specs.Worlds.{FitsBehind, AllLed}
 use Rattle.judy_sl.specs.Arenas.{world_of, node_of, child_at, map_of, HasText, HasLimit, IsArena}
 use Rattle.judy_sl.proofs.PieceLemmas.{text_of_key, pieces_are, pieces_same}
 use Rattle.judy_sl.proofs.OnWay.{pieces-head}
@@ -74,6 +74,9 @@ module _ (arena : Arena) (nothing : arena.children.items ≡ []) (no_root : aren
     root_limit = ap (λ (words : ArrayOf word_order). words.limit) no_root;
     limits = λ at. subst HasLimit (sym (child-none at)) tt;
   }
+
+  pub empty-led : AllLed (world_of arena)
+  empty-led at there = absurd (there (ap node_of (child-none at)))
 
   pub empty-map : map_of arena ≡ empty
   empty-map = table_none string_keys-all (λ k. lookup (world_of arena) 0 (pieces k)) (λ key is.

@@ -7,14 +7,14 @@ ghost use Rattle.judy_model.specs.Arrays.{empty_array};
 ghost use Rattle.judy_sl.specs.Pieces.{pieces, IsText};
 ghost use Rattle.judy_sl.specs.World.{lookup};
 ghost use Rattle.judy_sl.specs.Arenas.{world_of, child_at, IsArena};
-ghost use Rattle.judy_sl.specs.Places.{place_value, place_in_value, place_with, IsInside, IsPlace, LendsItem, LendsPlace, LendsPlaceOk};
+ghost use Rattle.judy_sl.specs.Places.{place_value, place_in_value, place_with, IsInside, IsPlace, PlaceHasRoom, LendsItem, LendsPlace, LendsPlaceOk};
 ghost use Rattle.judy_sl.specs.declared.error.SlError.TheVariants.{NoMemory};
 ghost use Rattle.judy_sl.specs.Ways.{place_in, IsWay};
 
 use crate::child::Child;
 use crate::error::SlError;
 use crate::pieces::first_piece;
-use judy_word::JudyL;
+use judy_word::{InsertError, JudyL};
 use std::alloc::Global;
 
 // The value of a piece that isn't final is the place of its child in the list. Free places are linked from `free`.
@@ -153,7 +153,8 @@ impl Arena {
 
     // The slot of a value, which is put in with the value 0 where it is absent.
     pub fn ins(&mut self, place: Place) -> Result<&mut u64, SlError>
-        requires { IsPlace self.old place }
+        requires place { IsPlace self.old place }
+        requires room { PlaceHasRoom self.old place }
         ensures* writes_back { sem 𝓛 (LendsPlaceOk self.entry place result) }
         ensures value { IfOk result (λ slot. Some slot.now ≡ place_in_value self.old place) }
         ensures refused { IfErr result (λ error. (place_value self.old place ≡ None) × (error ≡ NoMemory)) }
@@ -161,7 +162,8 @@ impl Arena {
         match place {
             Place::Root(piece) => match self.root.ins(piece) {
                 Ok(slot) => Ok(slot),
-                Err(_) => Err(SlError::NoMemory),
+                Err(InsertError::Full) => unreachable!(),
+                Err(InsertError::NoMemory) => Err(SlError::NoMemory),
             },
             Place::Below(at, piece) => self.child_at(at).ins(piece),
         }
@@ -169,7 +171,8 @@ impl Arena {
 
     // Puts a value in at a place, or writes it there.
     pub fn enter(&mut self, place: Place, value: u64) -> Result<(), SlError>
-        requires { IsPlace self.old place }
+        requires place { IsPlace self.old place }
+        requires room { PlaceHasRoom self.old place }
         ensures entered { OnOk result (self.new ≡ place_with self.old place value) }
         ensures unchanged { OnErr result (self.new ≡ self.old) }
         ensures refused { IfErr result (λ error. error ≡ NoMemory) }
