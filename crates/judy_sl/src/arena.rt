@@ -43,7 +43,7 @@ pub enum Way {
 }
 
 // The place of a piece of the first level, or of the level of a child.
-fn place_in(child: Option<usize>, piece: u64) -> Place
+pub fn place_in(child: Option<usize>, piece: u64) -> Place
     ensures { result ≡ place_in child piece }
 {
     match child {
@@ -131,7 +131,7 @@ impl Arena {
     }
 
     // The child at a place.
-    fn child_at(&mut self, at: usize) -> &mut Child
+    pub fn child_at(&mut self, at: usize) -> &mut Child
         requires { at < length self.old.children.items }
         ensures* writes_back { sem 𝓛 (LendsItem self.entry at result) }
         ensures value { result.now ≡ child_at self.old at }

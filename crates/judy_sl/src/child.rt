@@ -23,6 +23,7 @@ impl Child {
     ghost use Rattle.std.specs.Borrow.{sem};
     ghost use Rattle.std.specs.Option.{option_copied_mut};
     ghost use Rattle.judy_sl.specs.declared.error.SlError.TheVariants.{NoMemory};
+    ghost use Rattle.judy_sl.specs.Shrunk.{child_without};
     ghost use Rattle.judy_sl.specs.Children.{LendsChild, LendsChildOk, value_at, value_in, IsTaken, HasRoom};
 
     // The slot of a piece of a level, or of the one key of a tail.
@@ -53,6 +54,19 @@ impl Child {
             },
             Child::Tail(tail) => Ok(&mut tail.value),
             Child::Free(_) => unreachable!(),
+        }
+    }
+
+    // Takes an entry out of a level; a tail has none.
+    pub fn take_out(&mut self, piece: u64)
+        ensures { self.new ≡ child_without self.old piece }
+    {
+        match self {
+            Child::Level(level) => {
+                level.del(piece);
+            }
+            Child::Tail(_) => {}
+            Child::Free(_) => {}
         }
     }
 }

@@ -115,6 +115,23 @@ impl JudySl {
         }
     }
 
+    /// Takes the key out, and answers whether it was there; bytes that are no key answer as an absent one. It can't fail
+    /// and asks for no memory of its own. (Manual: JSLD, JudySLDel.)
+    pub fn del(&mut self, key: &[u8]) -> bool
+        ensures answer { result ≡ map.contains_key self.old.map key.now }
+        ensures deleted { self.new ≡ array.with_map self.old (array.del self.old.map key.now) }
+    {
+        let arena = &self.arena;
+        if !is_key(key) {
+            return false;
+        }
+        let found = self.arena.del(key);
+        if found {
+            self.count -= 1;
+        }
+        found
+    }
+
     /// How many keys the array holds: at most its limit. (This project's own.)
     pub fn len(&self) -> u64
         ensures count { result ≡ map.len self.now.map }
