@@ -58,7 +58,7 @@ still world key (Some at) rest (Some before) cut less is e weaker =
     let same : before ≡ cut = cc in
     cut-weaker world key cut (IsLone world at (pieces rest)) less (weaker at refl) (subst (λ c. IsCutWhere (IsLone world at (pieces rest)) world key c) same is)
 
-module _ (world : World) (key : List ℕ) (child : Option ℕ) (map : FinMap word_order ℕ) (rest : List ℕ) (on : IsOnWay world key (seat_in child) map rest) (before : Option Cut) (so_far : IsCutSoFar world key child rest before) where
+module _ (world : World) (key : List ℕ) (child : Option ℕ) (map : FinMap word_order ℕ) (rest : List ℕ) (on : IsOnWay world key (seat_in child) map rest) (is_text : IsText key) (before : Option Cut) (so_far : IsCutSoFar world key child rest before) where
   leads-here : (place : Place) → seat_of place ≡ seat_in child → piece_at place ≡ piece_of rest → (ps : List ℕ) → pieces rest ≡ piece_of rest ∷ ps → LeadsTo world key (seat_of place) (piece_at place ∷ ps)
   leads-here place seat piece ps e = record {
     front = on.leads.front;
@@ -103,7 +103,7 @@ module _ (world : World) (key : List ℕ) (child : Option ℕ) (map : FinMap wor
           map = map;
           is_level = is-level;
           wide = wide-here place seat-is deeper.1;
-          child = (ap (get map) (at-is ∙ sym piece_is) ∙ entry, subst IsInner (sym at-is) (piece-IsInner rest on.text long), subst IsText left (text-drop 8 rest on.text), ap pieces left, omega (arith, l, within), λ lone. lone);
+          child = (ap (get map) (at-is ∙ sym piece_is) ∙ entry, subst IsInner (sym at-is) (piece-IsInner rest (on.text is_text) long), subst IsText left (text-drop 8 rest (on.text is_text)), ap pieces left, omega (arith, l, within), λ lone. lone);
         })
     cut-on at cut long entry (inr before_is) =
         still world key child rest before cut (IsLone world at (pieces (drop 8 rest))) so_far before_is.0 (λ k is lone. lone-here k is at (ap (get map) (sym piece_is) ∙ entry) before_is.1 (pieces (drop 8 rest)) (pieces_long rest long) (entry-on at (pieces (drop 8 rest)) lone))
@@ -116,7 +116,7 @@ module _ (world : World) (key : List ℕ) (child : Option ℕ) (map : FinMap wor
       map = map;
       is_level = is-level;
       wide = wide-here place seat-is deeper.1;
-      child = (refl, subst IsFinal (sym at-is) (piece-IsFinal rest on.text short), (value, ap (get map) (at-is ∙ sym piece_is) ∙ entry));
+      child = (refl, subst IsFinal (sym at-is) (piece-IsFinal rest (on.text is_text) short), (value, ap (get map) (at-is ∙ sym piece_is) ∙ entry));
     })
     cut-last value cut short entry (inr before_is) =
         still world key child rest before cut (Unit {0}) so_far before_is.0 (λ k is yes. lone-here k is value (ap (get map) (sym piece_is) ∙ entry) before_is.1 [] (pieces_short rest short) tt)

@@ -34,3 +34,5 @@ pub mod Splits
 pub mod LevelLemmas
 pub mod Words
 pub mod Rooms
+pub mod Exact
+pub mod Looked

@@ -4,7 +4,7 @@ use Rattle.std.proofs.lemmas.Option.{none-some}
 use Rattle.std.specs.FinMap.{FinMap, get, empty, insert, remove, len, get-empty, len-insert}
 use Rattle.judy_model.specs.Keys.{word_order, byte_order, IsStringKey}
 use Rattle.judy_model.specs.Arrays.{ArrayOf, empty_array}
-use Rattle.judy_model.proofs.TableLemmas.{byte_order_total, string_keys-all, get-table, get-table_bad, table_none, table_insert, table_remove}
+use Rattle.judy_model.proofs.TableLemmas.{byte_order_total, string_keys-all, get-table, get-table_bad, none_at, table_none, table_insert, table_remove}
 use Rattle.judy_sl.specs.declared.child.Child.TheVariants.{Free}
 use Rattle.judy_sl.specs.declared.arena.Arena.{Arena}
 use Rattle.judy_sl.specs.Pieces.{pieces, piece_of, SpellKey}
@@ -19,6 +19,10 @@ module _ (arena : Arena) (key : List ℕ) where
   -- The map has what is found under the pieces of a key.
   pub get-map : IsStringKey key → get (map_of arena) key ≡ lookup (world_of arena) 0 (pieces key)
   get-map is = get-table string_keys-all (λ k. lookup (world_of arena) 0 (pieces k)) key is
+
+  -- Where a key wouldn't be found, there is nothing.
+  pub get-map_none : (IsStringKey key → lookup (world_of arena) 0 (pieces key) ≡ None) → get (map_of arena) key ≡ None
+  get-map_none none = none_at string_keys-all (λ k. lookup (world_of arena) 0 (pieces k)) key none
 
   -- And nothing under what is no key.
   pub get-map_bad : (IsStringKey key → ⊥) → get (map_of arena) key ≡ None
