@@ -126,6 +126,7 @@ impl<'b> ValueMap<&'b [u8]> for JudySl {
     ghost order = { byte_order };
 
     ghost key_of = { λ key. key.now };
+
     ghost IsKey = { IsStringKey };
 
     ghost array_of = { λ array. array };

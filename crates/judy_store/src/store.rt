@@ -2,7 +2,6 @@
 //! shelf is dumped.
 
 ghost use Rattle.std.specs.Prelude.{◌≡◌, ◌+◌, ◌-◌, ◌<◌, ◌^◌, [], true, OnOk};
-ghost use Rattle.judy_model.specs.DumpText.{dump_of};
 ghost use Rattle.judy_model.specs.RunEnds.{RanToEnd, LeftBy};
 ghost use Rattle.judy_pipe.specs.Pipe.{told};
 ghost use Rattle.judy_shelf.specs.Shelves.{store_of};
@@ -55,7 +54,7 @@ pub fn run_store<R: Source, W: Sink>(
 /// of `dump`; it is `Write` too where the dump was given and its last bytes couldn't be handed on.
 pub fn dump_store<W: Sink>(shelf: &Shelf, sink: &mut W) -> Result<(), DumpFault>
     requires { (W.tally sink.old).failures < 2 ^ 64 - 1 }
-    ensures dumped { Dumped (dump_of (store_of shelf.now)) (sunk (W.taken sink.old) (W.tally sink.old).failures) result (sunk (W.taken sink.new) (W.tally sink.new).failures) }
+    ensures dumped { Dumped shelf.now (sunk (W.taken sink.old) (W.tally sink.old).failures) result (sunk (W.taken sink.new) (W.tally sink.new).failures) }
     ensures handed_on { OnOk result (W.kept sink.new ≡ []) }
 {
     dump(shelf, sink)?;
