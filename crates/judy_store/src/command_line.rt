@@ -24,20 +24,23 @@ Commands of a script, one a line; each is answered by one line on standard outpu
   set NAME I              judy1: 1 where I is a new key, else 0
   unset NAME I            judy1: 1 where I was a key, else 0; now it is none
   test NAME I             judy1: 1 where I is a key, else 0
-  ins NAME K V            judyl: K has the value V now: was X, 0 where K is new
-  get NAME K              judyl: the value of K, or none
-  put NAME K V            judyl: as ins where K is a key; else none
-  del NAME K              judyl: 1 where K was a key, else 0; now it is none
+  ins NAME K V            maps: K has the value V now: was X, 0 where K is new
+  get NAME K              maps: the value of K, or none
+  put NAME K V            maps: as ins where K is a key; else none
+  del NAME K              maps: 1 where K was a key, else 0; now it is none
   first NAME K            the least key from K on, and its value; or none
+                          (this and the next three: all kinds but judyhs)
   next NAME K             the least key above K
   last NAME K             the greatest key up to K
   prev NAME K             the greatest key below K
-  fe, ne, le, pe NAME I   the same four among the words that are no keys
-  count NAME I J          how many keys there are from I to J
-  bycount NAME N          the N-th key, counted from 1
+  fe, ne, le, pe NAME I   judy1, judyl: these four among the words that are no keys
+  count NAME I J          judy1, judyl: how many keys there are from I to J
+  bycount NAME N          judy1, judyl: the N-th key, counted from 1
 
-KIND is judy1, a set of words, or judyl, a map from words to words; a word is a
-decimal number below 2^64. A line that is refused answers error and the reason.
+KIND is judy1, a set of words, or one of the maps to words: judyl from words,
+judysl from strings in their order, judyhs from byte strings in none. A word is
+a decimal number below 2^64; a string is = and then its bytes, or # and then
+hexadecimal digits. A line that is refused answers error and the reason.
 judystore(1) tells more.";
 
 /// Reads the words of a command line, the program's name first, by the meaning that `clap` gives them.
