@@ -35,11 +35,7 @@ fn check_ins<R: Abort, H: ByteHash + Drop>(
 }
 
 // Compares the list of all entries.
-fn check_sorted<R: Abort, H: ByteHash + Drop>(
-    rt: &R,
-    array: &JudyHs<H>,
-    entries: &[(&[u8], u64)],
-) {
+fn check_sorted<R: Abort, H: ByteHash + Drop>(rt: &R, array: &JudyHs<H>, entries: &[(&[u8], u64)]) {
     match array.sorted() {
         Ok(list) => {
             assert_eq!(rt; list.len(), entries.len());

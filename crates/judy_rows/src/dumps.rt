@@ -167,3 +167,78 @@ fn interrupted_dumps(rt: HostRuntime) {
         Some(LoadFault::Read),
     );
 }
+
+// A judyl array, a judysl array of three places and a judyhs array, made in no order of their keys.
+const STORE_OF_THREE: &[u8] =
+    b"make l judyl\nins l 5 9\nmake s judysl 3\nins s =ab 2\nins s = 1\nmake h judyhs\nins h =b 8\nins h #00 7\nins h # 9\n";
+
+const DUMP_OF_THREE: &[u8; 135] =
+    b"JDY1\x00\x00\x00\x03\x01l\x02\x00\x00\x00\x00\xff\xff\xff\xff\x00\x00\x00\x00\x00\x00\x00\x01\x00\x00\x00\x00\x00\x00\x00\x05\x00\x00\x00\x00\x00\x00\x00\x09\x01s\x03\x00\x00\x00\x00\x00\x00\x00\x03\x00\x00\x00\x00\x00\x00\x00\x02\x00\x00\x00\x00\x00\x00\x00\x00\x00\x01\x00\x02ab\x00\x00\x00\x00\x00\x00\x00\x02\x01h\x04\x00\x00\x00\x00\xff\xff\xff\xff\x00\x00\x00\x00\x00\x00\x00\x03\x00\x00\x00\x00\x00\x00\x00\x00\x00\x09\x00\x01\x00\x00\x00\x00\x00\x00\x00\x00\x07\x00\x01b\x00\x00\x00\x00\x00\x00\x00\x08";
+
+// The dump of the store of three with a byte changed is loaded, and what it gives is dumped as the same bytes; or
+// it has a fault.
+fn check_changed<R: Abort>(rt: &R, alloc: Global, bytes: &[u8]) {
+    let mut source = MemSource::new(bytes, 64, SourceTrouble::Never);
+    if let Ok(loaded) = load(alloc, &mut source) {
+        let mut sink = MemSink::<135>::new(135, SinkTrouble::Never);
+        assert_eq!(rt; dump(&loaded, &mut sink), Ok(()));
+        assert_eq!(rt; sink.bytes(), bytes);
+    }
+}
+
+#[test]
+fn dump_and_sorted(rt: HostRuntime) {
+    let mut shelf = Shelf::new(rt.alloc());
+    check_answers(
+        &rt,
+        &mut shelf,
+        STORE_OF_THREE,
+        b"ok\nwas 0\nok\nwas 0\nwas 0\nok\nwas 0\nwas 0\nwas 0\n",
+    );
+    let mut sink = MemSink::<135>::new(135, SinkTrouble::Never);
+    assert_eq!(rt; dump(&shelf, &mut sink), Ok(()));
+    assert_eq!(rt; sink.bytes(), DUMP_OF_THREE.as_slice());
+    check_changed(&rt, rt.alloc(), DUMP_OF_THREE);
+}
+
+#[test]
+fn faults_in_store_of_three(rt: HostRuntime) {
+    let table = [
+        (62, b"\x04\x01".as_slice(), LoadFault::BadKey),
+        (75, b"\x00", LoadFault::BadKey),
+        (126, b"\x00", LoadFault::BadOrder),
+        (44, b"l", LoadFault::SameName),
+        (46, b"\x00\x00\x00\x00\x00\x00\x00\x01", LoadFault::BadCount),
+    ];
+    for (at, bytes, fault) in &table {
+        let mut changed = *DUMP_OF_THREE;
+        changed[*at..*at + bytes.len()].copy_from_slice(bytes);
+        check_load(
+            &rt,
+            rt.alloc(),
+            &changed,
+            SourceTrouble::Never,
+            Some(*fault),
+        );
+    }
+}
+
+#[test]
+fn changed_dumps(rt: HostRuntime) {
+    for len in 0..DUMP_OF_THREE.len() {
+        check_load(
+            &rt,
+            rt.alloc(),
+            &DUMP_OF_THREE[..len],
+            SourceTrouble::Never,
+            Some(LoadFault::Truncated),
+        );
+    }
+    for at in 0..DUMP_OF_THREE.len() {
+        for byte in 0..=255 {
+            let mut changed = *DUMP_OF_THREE;
+            changed[at] = byte;
+            check_changed(&rt, rt.alloc(), &changed);
+        }
+    }
+}
