@@ -104,6 +104,33 @@ fn bad_keys(rt: HostRuntime) {
     assert_eq!(rt; strings.get(b"abcdefghij"), None);
 }
 
+// Bytes with a zero are no key, wherever it stands, though a key begins with what comes before it.
+#[test]
+fn bytes_with_zeros(rt: HostRuntime) {
+    let mut strings = JudySl::new(rt.alloc(), 4_294_967_295);
+    insert(&rt, &mut strings, b"", 1);
+    insert(&rt, &mut strings, b"abcdefg", 2);
+    insert(&rt, &mut strings, b"abcdefgh", 3);
+    insert(&rt, &mut strings, b"abcdefghij", 4);
+    let bad = [
+        b"\0".as_slice(),
+        b"\0\0\0\0\0\0\0\0",
+        b"\0\0\0\0\0\0\0\0a",
+        b"abcdefg\0",
+        b"abcdefg\0hij",
+        b"abcdefgh\0",
+        b"abcdefghij\0",
+        b"abcdefgh\0ij",
+        b"abcd\0fghij",
+    ];
+    for bytes in bad {
+        assert_eq!(rt; strings.get(bytes), None);
+        assert!(rt; strings.slot(bytes).is_none());
+        assert!(rt; matches!(strings.ins(bytes), Err(SlError::BadKey)));
+    }
+    assert_eq!(rt; strings.len(), 4);
+}
+
 // The part of the row on JudySL: keys of the greatest length that share all bytes but the last.
 #[test]
 fn long_keys_and_one_hash(rt: HostRuntime) {
@@ -184,12 +211,12 @@ fn pieces_of_keys(rt: HostRuntime) {
 fn check_level<R: Abort>(rt: &R, level: Option<&JudyL>, pieces: &[u64]) {
     match level {
         Some(words) => {
-            assert_eq!(rt; words.len(), pieces.len() as u64);
-            let mut nth = 0;
+            let mut found = words.first(0);
             for piece in pieces {
-                nth += 1;
-                assert_eq!(rt; words.by_count(nth), Some(*piece));
+                assert_eq!(rt; found, Some(*piece));
+                found = words.next(*piece);
             }
+            assert_eq!(rt; found, None);
         }
         None => assert!(rt; false),
     }
