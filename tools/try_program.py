@@ -4,7 +4,8 @@
 usage: tools/try_program.py PROGRAM
 
 Prints a line for each check that fails, and how many passed; the status is 0 where all did. What it expects is
-README's: the answers of the first script, the ends of the program with their status and line.
+README's: the answers of the first script, the ends of the program with their status and line (rows command-lines and
+command-line-ends), the files that it writes.
 """
 
 import os
@@ -16,6 +17,12 @@ import tempfile
 
 FIRST_SCRIPT = b"make a judyl\nins a 5 7\nins a 5 9\nget a 5\nget a 6\nput a 6 1\n"
 FIRST_ANSWERS = b"ok\nwas 0\nwas 7\n9\nnone\nnone\n"
+# The dump of a judy1 `a` with the key 1, and of the store that the first script leaves.
+SMALL_DUMP = bytes.fromhex("4a445931 00000001 01 61 01 00000000ffffffff 0000000000000001 0000000000000001")
+FIRST_DUMP = bytes.fromhex("4a445931 00000001 01 61 02 00000000ffffffff 0000000000000001 0000000000000005 0000000000000009")
+EMPTY_DUMP = bytes.fromhex("4a445931 00000000")
+LIST = b"list\n"
+SMALL_LIST = b"names a:judy1:1\n"
 SECONDS = 10
 
 
@@ -54,6 +61,128 @@ def check_ends(checks, program):
         script.write(FIRST_SCRIPT)
         script.seek(0)
         checks.expect("a full device", run(program, stdin=script, stdout=full), (1, None, b"judystore: run: write\n"))
+
+
+# Command lines in a folder with the files of `fill`, where standard input is the script LIST: status, answers and what
+# stands on standard error, and the file that each leaves besides, with its bytes.
+COMMAND_LINES = [
+    # row command-lines
+    ("", 0, b"names\n", "", None),
+    ("--load d", 0, SMALL_LIST, "", None),
+    ("--dump e s", 0, FIRST_ANSWERS, "", ("e", FIRST_DUMP)),
+    ("--load d --dump e s", 0, b"error exists\n" + b"error wrong-kind\n" * 5, "", ("e", SMALL_DUMP)),
+    # other ways to write them
+    ("s --dump=e", 0, FIRST_ANSWERS, "", ("e", FIRST_DUMP)),
+    ("--dump e", 0, b"names\n", "", ("e", EMPTY_DUMP)),
+    ("--load d --dump d l", 0, SMALL_LIST, "", ("d", SMALL_DUMP)),
+    ("--load d -- --nope", 0, SMALL_LIST, "", None),
+    # a name `-` is an ordinary file name
+    ("-", 0, FIRST_ANSWERS, "", None),
+    ("--load - s", 1, b"", "judystore: load: bad-magic\n", None),
+    # what is opened, in the order of the program's work
+    ("none", 1, b"", "judystore: open: none\n", None),
+    ("--load none nil", 1, b"", "judystore: open: none\n", None),
+    ("--load cut none", 1, b"", "judystore: load: truncated\n", None),
+    ("--dump none/e s", 1, FIRST_ANSWERS, "judystore: open: none/e\n", None),
+    ("--dump e none", 1, b"", "judystore: open: none\n", ("e", None)),
+    # folders
+    ("--load . s", 1, b"", "judystore: load: read\n", None),
+    ("--dump e .", 1, b"", "judystore: run: read\n", ("e", None)),
+    ("--dump . s", 1, FIRST_ANSWERS, "judystore: open: .\n", None),
+    # loads and dumps
+    ("--load s", 1, b"", "judystore: load: bad-magic\n", None),
+    ("--load long", 1, b"", "judystore: load: trailing\n", None),
+    ("--dump e --load cut", 1, b"", "judystore: load: truncated\n", ("e", None)),
+    ("--dump /dev/full s", 1, FIRST_ANSWERS, "judystore: dump: write\n", None),
+]
+
+# Command lines that are refused (row command-line-ends): status 2, and clap's text begins so.
+REFUSED = [
+    ("--load", "error: a value is required for '--load <FILE>'"),
+    ("--dump", "error: a value is required for '--dump <FILE>'"),
+    ("a b", "error: unexpected argument 'b'"),
+    ("--nope", "error: unexpected argument '--nope'"),
+    ("--load a --load b", "error: the argument '--load <FILE>' cannot be used multiple times"),
+    ("--load -x", "error: unexpected argument '-x'"),
+]
+
+
+def fill(folder):
+    """The files of the command lines: scripts, dumps, and texts that are no dump."""
+    for name, content in [
+        ("s", FIRST_SCRIPT),
+        ("-", FIRST_SCRIPT),
+        ("--nope", LIST),
+        ("l", LIST),
+        ("d", SMALL_DUMP),
+        ("cut", SMALL_DUMP[:-1]),
+        ("long", SMALL_DUMP + b"\0"),
+    ]:
+        write(os.path.join(folder, name), content)
+
+
+def write(path, content):
+    with open(path, "wb") as file:
+        file.write(content)
+
+
+def read(path):
+    """The bytes of a file; None where there is none."""
+    if not os.path.exists(path):
+        return None
+    with open(path, "rb") as file:
+        return file.read()
+
+
+def run_in(folder, program, words, before=None):
+    """One run in a folder, where standard input is the script LIST."""
+    ran = subprocess.run([program, *words], cwd=folder, input=LIST, capture_output=True, timeout=SECONDS, preexec_fn=before)
+    return ran.returncode, ran.stdout, ran.stderr
+
+
+def check_command_lines(checks, program):
+    for line, status, answers, told, left in COMMAND_LINES:
+        with tempfile.TemporaryDirectory() as folder:
+            fill(folder)
+            checks.expect(f"judystore {line}", run_in(folder, program, line.split()), (status, answers, told.encode()))
+            if left:
+                checks.expect(f"judystore {line}, the file", read(os.path.join(folder, left[0])), left[1])
+
+
+def check_refused(checks, program):
+    for line, text in REFUSED:
+        status, answers, told = run_in("/", program, line.split())
+        checks.expect(f"judystore {line}", (status, answers, told.decode()[: len(text)]), (2, b"", text))
+    checks.expect("words that are no text", run_in("/", program, [b"--load", b"\xff"]), (2, b"", b""))
+    for word in ["--help", "-h"]:
+        status, text, told = run_in("/", program, [word])
+        checks.expect(word, (status, told), (0, b""))
+        for part in [b"[OPTIONS] [SCRIPT]", b"--load <FILE>", b"--dump <FILE>", b"ins NAME K V", b"bycount NAME N"]:
+            checks.expect(f"{word} tells {part}", part in text, True)
+    with open("/dev/full", "wb") as full:
+        ran = subprocess.run([program, "--help"], stdout=full, stderr=subprocess.PIPE, timeout=SECONDS)
+        checks.expect("help on a full device", (ran.returncode, ran.stderr), (1, b"judystore: run: write\n"))
+
+
+# Which standard stream is closed, the command line, the status, and the files that are left, with their bytes.
+CLOSED = [
+    (2, "--dump e s", 0, [("e", FIRST_DUMP)]),
+    (2, "--dump /dev/full s", 1, [("s", FIRST_SCRIPT)]),
+    (2, "--load cut s", 1, [("cut", SMALL_DUMP[:-1])]),
+    (1, "--load d --dump e s", 1, [("e", None), ("s", FIRST_SCRIPT), ("d", SMALL_DUMP)]),
+    (0, "--load d --dump e", 1, [("e", None)]),
+]
+
+
+def check_closed(checks, program):
+    """A file that is opened never takes the place of a standard stream that was closed."""
+    for stream, line, status, files in CLOSED:
+        with tempfile.TemporaryDirectory() as folder:
+            fill(folder)
+            name = f"{stream} closed, judystore {line}"
+            checks.expect(name, run_in(folder, program, line.split(), lambda: os.close(stream))[0], status)
+            for file, content in files:
+                checks.expect(f"{name}, {file}", read(os.path.join(folder, file)), content)
 
 
 def answer_of(reader):
@@ -104,6 +233,9 @@ def main():
     program = os.path.abspath(sys.argv[1])
     checks = Checks()
     check_ends(checks, program)
+    check_command_lines(checks, program)
+    check_refused(checks, program)
+    check_closed(checks, program)
     check_pipes(checks, program)
     check_terminal(checks, program)
     print(f"the program as people use it: {checks.passed} checks passed, {checks.failed} failed")

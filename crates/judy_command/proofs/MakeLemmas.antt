@@ -9,7 +9,7 @@ use Rattle.judy_model.specs.Kinds.{kind_named}
 use Rattle.judy_model.specs.Commands.{Outcome, ◌>>=◌, name_at, provided, limit_at, made}
 use Rattle.judy_shelf.specs.declared.array.Array.{Array}
 use Rattle.judy_shelf.specs.declared.kind.Kind.{Kind}
-use Rattle.judy_shelf.specs.declared.kind.Kind.TheVariants.{Judy1, JudyL, JudyHs}
+use Rattle.judy_shelf.specs.declared.kind.Kind.TheVariants.{Judy1, JudyL, JudySl, JudyHs}
 use Rattle.judy_shelf.specs.declared.error.MakeError.{MakeError}
 use Rattle.judy_shelf.specs.declared.error.MakeError.TheVariants as make
 use Rattle.judy_shelf.specs.Kinds.{empty_of_kind}
@@ -64,6 +64,7 @@ module _ (entries : Entries) (token kind_token : List ℕ) (given : Option (List
   value_of-new_array : (k : Kind) → empty_of_kind k limit ≡ value_of (new_array k limit)
   value_of-new_array Judy1 = refl
   value_of-new_array JudyL = refl
+  value_of-new_array JudySl = refl
   value_of-new_array JudyHs = refl
 
   -- an array that the shelf made is the one that the definitions make

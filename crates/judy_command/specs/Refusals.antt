@@ -3,6 +3,8 @@ use Rattle.judy_shelf.specs.declared.error.MakeError.{MakeError}
 use Rattle.judy_shelf.specs.declared.error.MakeError.TheVariants as make
 use Rattle.judy_word.specs.declared.error.InsertError.{InsertError}
 use Rattle.judy_word.specs.declared.error.InsertError.TheVariants as word
+use Rattle.judy_sl.specs.declared.error.SlError.{SlError}
+use Rattle.judy_sl.specs.declared.error.SlError.TheVariants as strings
 use Rattle.judy_hs.specs.declared.error.HsError.{HsError}
 use Rattle.judy_hs.specs.declared.error.HsError.TheVariants as bytes
 use Rattle.judy_command.specs.declared.reply.Refusal.{Refusal}
@@ -17,6 +19,11 @@ refusal_of_make make.NoMemory = NoMemory
 abbrev pub refusal_of_insert : InsertError → Refusal
 refusal_of_insert word.Full = Full
 refusal_of_insert word.NoMemory = NoMemory
+
+abbrev pub refusal_of_strings : SlError → Refusal
+refusal_of_strings strings.BadKey = BadKey
+refusal_of_strings strings.Full = Full
+refusal_of_strings strings.NoMemory = NoMemory
 
 abbrev pub refusal_of_bytes : HsError → Refusal
 refusal_of_bytes bytes.TooLong = BadKey

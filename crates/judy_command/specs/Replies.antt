@@ -1,5 +1,5 @@
 -- The code's replies as those of the definitions.
-use Rattle.std.specs.Prelude.{Result, Ok, Err}
+use Rattle.std.specs.Prelude.{ℕ, List, Option, Some, None, Result, Ok, Err}
 use Rattle.judy_model.specs.Stores.{Store}
 use Rattle.judy_model.specs.Replies as model
 use Rattle.judy_command.specs.declared.reply.Answer.{Answer}
@@ -48,3 +48,8 @@ abbrev pub line_reply_of : Store → LineReply → model.Reply
 line_reply_of store Silent = Ok model.silent
 line_reply_of store Listed = Ok (model.listed store)
 line_reply_of store (Said reply) = reply_of reply
+
+-- The answer of a scan that leaves the key found in its buffer, and that key's value if there is one.
+abbrev pub found_entry : Option ℕ → List ℕ → model.Answer
+found_entry (Some value) key = model.string_entry key value
+found_entry None key = model.nothing

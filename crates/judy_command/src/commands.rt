@@ -11,10 +11,10 @@ ghost use Rattle.judy_command.specs.Texts.{texts};
 
 use crate::arrays::{drop_array, free_array, on_key_at, on_pair_at};
 use crate::command::Command;
-use crate::keys::KeyBuf;
 use crate::make::make_array;
 use crate::reply::{LineReply, Refusal};
 use judy_shelf::Shelf;
+use judy_sl::KeyBuf;
 
 /// What a line's tokens do to the shelf, and the line's reply. The first token is the command, the others
 /// its arguments; without a token, or where the first one begins with `;`, nothing is done.

@@ -1,21 +1,18 @@
 //! Keys of the string kinds as tokens say them.
 
-ghost use Rattle.std.specs.Prelude.{◌≡◌, ◌==◌, not, if◌then◌else◌, Some, None, IfOk};
+ghost use Rattle.std.specs.Prelude.{◌≡◌, ◌==◌, not, if◌then◌else◌, Some, None, IfOk, OnOk};
 ghost use Rattle.std.specs.List.{list_all};
-ghost use Rattle.judy_model.specs.Keys.{IsBytesKey};
+ghost use Rattle.judy_model.specs.Keys.{IsBytesKey, IsStringKey};
 ghost use Rattle.judy_model.specs.KeyTokens.{is_shown, bytes_of_digits};
 ghost use Rattle.judy_model.specs.Commands.{bytes_key_at, string_key_at};
 ghost use Rattle.judy_command.specs.KeyReads.{read_into, key_or_refusal};
 ghost use Rattle.judy_command.specs.Slots.{said};
 
 use crate::reply::Refusal;
-use arrayvec::ArrayVec;
+use judy_sl::KeyBuf;
 
 // The most bytes of a key. (This project's own.)
 const MAX_KEY_LEN: usize = 1024;
-
-/// A buffer that a key fits.
-pub type KeyBuf = ArrayVec<u8, MAX_KEY_LEN>;
 
 /// Puts the key of a judyhs array that a token says into the buffer: `=` and bytes from `!` to `~`, or `#` and
 /// hexadecimal digits, for at most 1,024 bytes. Else `BadKey`.
@@ -29,6 +26,18 @@ pub(crate) fn read_bytes_key(token: &[u8], key: &mut KeyBuf) -> Result<(), Refus
     }
 }
 
+/// The same for a judysl array, whose keys hold no zero byte.
+pub(crate) fn read_string_key(token: &[u8], key: &mut KeyBuf) -> Result<(), Refusal>
+    ensures said { read_into result key.new.items ≡ string_key_at token.now }
+    ensures key { OnOk result (IsStringKey key.new.items) }
+{
+    read_bytes_key(token, key)?;
+    if !are_non_zero(key) {
+        return Err(Refusal::BadKey);
+    }
+    Ok(())
+}
+
 /// The key of a judyhs array that a token says, put into the buffer.
 pub(crate) fn bytes_key<'k>(token: &[u8], key: &'k mut KeyBuf) -> Result<&'k [u8], Refusal>
     ensures said { said (λ bytes. bytes.now) result ≡ bytes_key_at token.now }
@@ -38,15 +47,13 @@ pub(crate) fn bytes_key<'k>(token: &[u8], key: &'k mut KeyBuf) -> Result<&'k [u8
     Ok(key.as_slice())
 }
 
-/// Puts the key of a judysl array that a token says into the buffer: one of a judyhs array without a zero byte.
-pub(crate) fn read_string_key(token: &[u8], key: &mut KeyBuf) -> Result<(), Refusal>
-    ensures { read_into result key.new.items ≡ string_key_at token.now }
+/// The key of a judysl array that a token says, put into the buffer.
+pub(crate) fn string_key<'k>(token: &[u8], key: &'k mut KeyBuf) -> Result<&'k [u8], Refusal>
+    ensures said { said (λ bytes. bytes.now) result ≡ string_key_at token.now }
+    ensures key { IfOk result (λ bytes. IsStringKey bytes.now) }
 {
-    read_bytes_key(token, key)?;
-    if !are_non_zero(key) {
-        return Err(Refusal::BadKey);
-    }
-    Ok(())
+    read_string_key(token, key)?;
+    Ok(key.as_slice())
 }
 
 // Puts bytes that stand for themselves into the buffer.

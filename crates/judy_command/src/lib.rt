@@ -7,7 +7,7 @@
 //!
 //! `command` has the commands and their words; `carry_out` says which arguments each takes and `arrays` finds
 //! the array that a command names. `sets` and `maps` say which commands a kind has beside those of all maps,
-//! which `values` has, once for every array that lends its slots. `keys` reads keys of bytes, `words` numbers;
+//! (`strings` too), which `values` has, once for every array that lends its slots. `keys` reads keys of bytes, `words` numbers;
 //! `refusals` turns what an array refuses into a line's refusal. A new command is a case there and in the
 //! definitions.
 //!
@@ -23,9 +23,9 @@ mod maps;
 mod refusals;
 mod reply;
 mod sets;
+mod strings;
 mod values;
 mod words;
 
 pub use commands::execute;
-pub use keys::KeyBuf;
 pub use reply::{Answer, LineReply, Refusal, Reply};

@@ -3,6 +3,7 @@
 use crate::reply::Refusal;
 use judy_hs::HsError;
 use judy_shelf::MakeError;
+use judy_sl::SlError;
 use judy_word::InsertError;
 
 impl From<MakeError> for Refusal {
@@ -31,6 +32,21 @@ impl From<InsertError> for Refusal {
         match error {
             InsertError::Full => Refusal::Full,
             InsertError::NoMemory => Refusal::NoMemory,
+        }
+    }
+}
+
+impl From<SlError> for Refusal {
+    ghost use Rattle.std.specs.Prelude.{◌≡◌};
+    ghost use Rattle.judy_command.specs.Refusals.{refusal_of_strings};
+
+    ghost from_gives = { λ error refusal. refusal ≡ refusal_of_strings error };
+
+    fn from(error: SlError) -> Refusal {
+        match error {
+            SlError::BadKey => Refusal::BadKey,
+            SlError::Full => Refusal::Full,
+            SlError::NoMemory => Refusal::NoMemory,
         }
     }
 }

@@ -4,7 +4,7 @@ ghost use Rattle.std.specs.Prelude.{◌≡◌};
 ghost use Rattle.judy_model.specs.Replies.{refusal_word};
 ghost use Rattle.judy_command.specs.Replies.{refusal_of};
 
-use crate::keys::KeyBuf;
+use judy_sl::KeyBuf;
 use thiserror::Error;
 
 /// The answer of a command that isn't refused. (This project's own script.)

@@ -21,6 +21,7 @@ use crate::command::{KeyCommand, PairCommand};
 use crate::reply::{Answer, Refusal, Reply};
 use crate::words::{number_or_nothing, word};
 use judy_hs::{Fnv1a, JudyHs};
+use judy_sl::JudySl;
 use judy_word::JudyL;
 use std::mem::replace;
 
@@ -111,6 +112,48 @@ impl ValueMap<u64> for JudyL {
     ghost is_total = { nat_cmp_total };
 
     ghost is_antisymmetric = { nat_cmp-IsAntisymmetric };
+
+    ghost writes = { λ array key value. refl };
+}
+
+impl<'b> ValueMap<&'b [u8]> for JudySl {
+    ghost use Rattle.std.specs.Prelude.{refl};
+    ghost use Rattle.judy_model.specs.Keys.{IsStringKey, byte_order};
+    ghost use Rattle.judy_model.specs.Arrays.{judysl};
+
+    ghost Key = { List ℕ };
+
+    ghost order = { byte_order };
+
+    ghost key_of = { λ key. key.now };
+
+    ghost IsKey = { IsStringKey };
+
+    ghost array_of = { λ array. array };
+
+    ghost kind_of = { judysl };
+
+    ghost written = { λ array key value. with_value array key.now value };
+
+    fn ins(&mut self, key: &'b [u8]) -> Result<&mut u64, Refusal> {
+        Ok(JudySl::ins(self, key)?)
+    }
+
+    fn slot(&mut self, key: &'b [u8]) -> Option<&mut u64> {
+        JudySl::slot(self, key)
+    }
+
+    fn get(&self, key: &'b [u8]) -> Option<u64> {
+        JudySl::get(self, key)
+    }
+
+    fn del(&mut self, key: &'b [u8]) -> bool {
+        JudySl::del(self, key)
+    }
+
+    ghost is_total = { nat_list_cmp_total };
+
+    ghost is_antisymmetric = { slice_cmp-IsAntisymmetric nat_cmp-IsAntisymmetric };
 
     ghost writes = { λ array key value. refl };
 }

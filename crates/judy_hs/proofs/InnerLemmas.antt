@@ -19,7 +19,7 @@ use Rattle.judy_hs.specs.InnerForm.{HasLength, IsLengths, IsShortGroup, IsLongGr
 use Rattle.judy_hs.proofs.ChainLemmas.{some_pair}
 use Rattle.judy_hs.proofs.PartLemmas.{part_short, part_long}
 use Rattle.judy_hs.proofs.GroupSteps.{some_none}
-use Rattle.judy_hs.proofs.Counting.{fewer}
+use Rattle.judy_model.proofs.Counting.{fewer}
 
 IsByteString-low_bytes : (width word : ℕ) → IsByteString (low_bytes width word)
 IsByteString-low_bytes zero word = All-nil (λ byte. byte < 256)

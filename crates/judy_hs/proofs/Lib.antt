@@ -9,5 +9,4 @@ pub mod GroupChanges
 pub mod KeyedSteps
 pub mod HsLemmas
 pub mod InnerLemmas
-pub mod Counting
 pub mod ValueLemmas

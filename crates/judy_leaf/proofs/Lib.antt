@@ -12,6 +12,8 @@ pub mod ValueSteps
 pub mod PairSteps
 pub mod LeafChanges
 pub mod Filled
+pub mod LowPairs
 pub mod ImmLists
-pub mod SlotSteps
 pub mod BitLists
+pub mod BitSteps
+pub mod SlotSteps

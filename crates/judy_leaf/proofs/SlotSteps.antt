@@ -1,5 +1,5 @@
 -- Another value at a place.
-use Rattle.std.proofs.Common.{◌≡◌, ℕ, zero, suc, ◌*◌, ◌<◌, List, [], ◌∷◌, length, take, drop, set, refl, ap, sym, ◌∙◌, subst, arith}
+use Rattle.std.proofs.Common.{◌≡◌, ℕ, zero, suc, ◌+◌, ◌*◌, ◌/◌, ◌<◌, List, [], ◌∷◌, length, take, drop, set, refl, ap, sym, ◌∙◌, subst, arith}
 use Rattle.std.specs.List.Sorted.{IsStrictlySortedBy}
 use Rattle.std.proofs.lemmas.List.{drop-set-lt, length-set, length-take-le}
 use Rattle.std.proofs.Math.Seq.{take-set-lt}
@@ -9,6 +9,10 @@ use Rattle.judy_leaf.specs.Packing.{keys_in, IsPacked}
 use Rattle.judy_leaf.specs.KeyLists.{KeyList, pairs_of, valued, with_value_at}
 use Rattle.judy_leaf.specs.Leaves.{keys_from, leaf_list, IsLeafParts}
 use Rattle.judy_leaf.specs.Immediates.{imm_list, IsImm}
+use Rattle.judy_bits.specs.BitWords.{members_of}
+use Rattle.judy_leaf.specs.BitLeaves.{bit_keys, bit_list, IsBitParts}
+use Rattle.judy_leaf.proofs.BitLists.{bit_length, bit_value_inside}
+use Rattle.judy_leaf.proofs.BitSteps.{all_values, as_many}
 use Rattle.judy_leaf.proofs.LeafLists.{length-keys_from}
 use Rattle.judy_leaf.proofs.ImmLists.{imm_length, length-keys_in}
 
@@ -57,3 +61,43 @@ imm_written words width count keys value is list seen at one inside new =
           ∙ (λ j. valued (first j) (pairs_of (keys_in width count (keys ∷ [])) (take (sym single j) (value ∷ []))) new)) t;
     })
     ∙ ap (λ l. with_value_at at l new) seen
+
+-- ---- a bitmap leaf
+
+words_after : (words : List ℕ) (at value : ℕ) → 4 + at < length words → (take 4 (set words (4 + at) value) ≡ take 4 words) × (drop 4 (set words (4 + at) value) ≡ set (drop 4 words) at value)
+words_after (a ∷ b ∷ c ∷ d ∷ words) at value inside =
+    let e : 4 + at ≡ suc (suc (suc (suc at))) = omega arith in
+    (ap (λ n. take 4 (set (a ∷ b ∷ c ∷ d ∷ words) n value)) e, ap (λ n. drop 4 (set (a ∷ b ∷ c ∷ d ∷ words) n value)) e)
+words_after [] at value inside = let never : ⊥ = omega arith in absurd never
+words_after (a ∷ []) at value inside = let never : ⊥ = omega arith in absurd never
+words_after (a ∷ b ∷ []) at value inside = let never : ⊥ = omega arith in absurd never
+words_after (a ∷ b ∷ c ∷ []) at value inside = let never : ⊥ = omega arith in absurd never
+
+module _ (words at value : ℕ) (block : Contents) (is : IsBitParts words block) (list : KeyList) (seen : bit_list words block ≡ list) (one : words ≡ 1) (inside : at < length list.pairs) where
+  there : 4 + at < length block.words
+  there = bit_value_inside words block is list seen at inside one
+
+  pub bit_valued : IsBitParts words (record block { words = set block.words (4 + at) value })
+  bit_valued =
+      let keys = ap members_of (words_after block.words at value there).0 in
+      record {
+        one = is.one;
+        some = is.some;
+        most = is.most;
+        count = is.count ∙ ap length (sym keys);
+        full = length-set block.words (4 + at) value ∙ is.full ∙ ap (λ ks. 4 + words * length ks) (sym keys);
+      }
+
+  pub bit_written : bit_list words (record block { words = set block.words (4 + at) value }) ≡ with_value_at at list value
+  bit_written =
+      let keys = bit_keys block in
+      let many = bit_length words block is list seen in
+      let all = as_many words block is one in
+      (λ t. record {
+        width = block.tag / 65536;
+        pairs = (ap (pairs_of (bit_keys (record block { words = set block.words (4 + at) value }))) (all_values words (record block { words = set block.words (4 + at) value }) bit_valued)
+            ∙ (λ j. pairs_of (members_of ((words_after block.words at value there).0 j)) ((words_after block.words at value there).1 j))
+            ∙ valued-pairs_of keys (drop 4 block.words) at value (omega arith) (omega arith)
+            ∙ ap (λ values. valued at (pairs_of keys values) value) (sym (all_values words block is))) t;
+      })
+      ∙ ap (λ l. with_value_at at l value) seen

@@ -7,7 +7,7 @@ use Rattle.judy_leaf.specs.Leaves.{words_for, AreKeysFrom}
 use Rattle.judy_leaf.specs.ValueChanges.{IsValueChange}
 
 -- A word put in.
-put_is : (words : List ℕ) (at value : ℕ) → at ≤ length words → set (with_gap at 1 words) at value ≡ insert words at value
+pub put_is : (words : List ℕ) (at value : ℕ) → at ≤ length words → set (with_gap at 1 words) at value ≡ insert words at value
 put_is words zero value inside = refl
 put_is [] (suc at) value inside = let never : ⊥ = omega arith in absurd never
 put_is (x ∷ words) (suc at) value inside = ap (λ rest. x ∷ rest) (put_is words at value (omega arith))
@@ -24,13 +24,13 @@ take-insert words (suc at) zero value place inside = let never : ⊥ = omega ari
 take-insert [] (suc at) (suc count) value place inside = let never : ⊥ = omega arith in absurd never
 take-insert (x ∷ words) (suc at) (suc count) value place inside = ap (λ rest. x ∷ rest) (take-insert words at count value (omega arith) (omega arith))
 
-length-insert : (words : List ℕ) (at value : ℕ) → at ≤ length words → length (insert words at value) ≡ suc (length words)
+pub length-insert : (words : List ℕ) (at value : ℕ) → at ≤ length words → length (insert words at value) ≡ suc (length words)
 length-insert words zero value place = refl
 length-insert [] (suc at) value place = let never : ⊥ = omega arith in absurd never
 length-insert (x ∷ words) (suc at) value place = ap suc (length-insert words at value (omega arith))
 
 -- A word taken out.
-without_is : (words : List ℕ) (at : ℕ) → without_gap at 1 words ≡ remove words at
+pub without_is : (words : List ℕ) (at : ℕ) → without_gap at 1 words ≡ remove words at
 without_is words at = ap (λ n. take at words ++ drop n words) (let e : at + 1 ≡ suc at = omega arith in e)
 
 drop-remove : (words : List ℕ) (at count : ℕ) → at ≤ count → count < length words → drop count (remove words at) ≡ drop (suc count) words
@@ -45,7 +45,7 @@ take-remove (x ∷ words) zero count place inside = refl
 take-remove (x ∷ words) (suc at) zero place inside = let never : ⊥ = omega arith in absurd never
 take-remove (x ∷ words) (suc at) (suc count) place inside = ap (λ rest. x ∷ rest) (take-remove words at count (omega arith) (omega arith))
 
-length-remove : (words : List ℕ) (at : ℕ) → at < length words → suc (length (remove words at)) ≡ length words
+pub length-remove : (words : List ℕ) (at : ℕ) → at < length words → suc (length (remove words at)) ≡ length words
 length-remove [] at inside = let never : ⊥ = omega arith in absurd never
 length-remove (x ∷ words) zero inside = refl
 length-remove (x ∷ words) (suc at) inside = ap suc (length-remove words at (omega arith))

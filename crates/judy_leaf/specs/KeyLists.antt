@@ -1,5 +1,5 @@
 -- What a leaf or an immediate is to its callers.
-use Rattle.std.specs.Prelude.{ℕ, zero, suc, ◌^◌, ◌<◌, ◌≤◌, List, [], ◌∷◌}
+use Rattle.std.specs.Prelude.{ℕ, zero, suc, ◌%◌, ◌^◌, ◌<◌, ◌≤◌, List, [], ◌∷◌}
 use Rattle.std.specs.List.{AllByRecursion, insert}
 use Rattle.std.specs.List.Sorted.{IsStrictlySortedBy}
 use Rattle.judy_model.specs.Keys.{word_order}
@@ -25,6 +25,11 @@ abbrev pub pairs_of : List ℕ → List ℕ → List (ℕ × ℕ)
 pairs_of [] values = []
 pairs_of (key ∷ keys) [] = (key, 0) ∷ pairs_of keys []
 pairs_of (key ∷ keys) (value ∷ values) = (key, value) ∷ pairs_of keys values
+
+-- The pairs with what of each key is below a unit, a power of 256: its lowest bytes.
+abbrev pub low_pairs : ℕ → List (ℕ × ℕ) → List (ℕ × ℕ)
+low_pairs unit [] = []
+low_pairs unit (pair ∷ pairs) = (pair.0 % unit, pair.1) ∷ low_pairs unit pairs
 
 -- The pairs with one more, in its place among the keys.
 abbrev pub with_pair : ℕ → ℕ → List (ℕ × ℕ) → List (ℕ × ℕ)

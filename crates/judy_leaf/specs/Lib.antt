@@ -7,3 +7,4 @@ pub mod ValueChanges
 pub mod PairChanges
 pub mod Immediates
 pub mod BitLeaves
+pub mod BitChanges

@@ -1,11 +1,17 @@
 //! A bitmap leaf: one-byte keys as bits.
 
-ghost use Rattle.std.specs.Prelude.{◌≡◌};
+ghost use Rattle.std.specs.Prelude.{◌≡◌, ◌+◌, ◌*◌, ◌<◌, ◌≤◌, ℕ, length, slice_index, IfOk, OnOk, OnErr, IsFalse};
+ghost use Rattle.std.specs.List.{remove, AllByRecursion};
+ghost use Rattle.judy_bits.specs.ByteSets as set;
+ghost use Rattle.judy_leaf.specs.Packing.{IsWidth};
+ghost use Rattle.judy_leaf.specs.KeyLists.{keys_of, values_of, with_pair, with_value_at, low_pairs, IsKeyList};
 ghost use Rattle.judy_leaf.specs.BitLeaves.{IsBitParts, bit_list};
 
 use crate::bit_ref::BitRef;
 use crate::words::{Width, Words};
+use crate::{bit_edit, pairs};
 use judy_block::Block;
+use std::alloc::{AllocError, Global};
 use std::marker::{Model, PhantomData};
 
 /// Up to 256 keys of one byte, and a value for each where `V` says so, in one block. The width that it tells is that of its node's
@@ -31,7 +37,26 @@ impl<V: Words + Drop> Model for BitLeafOf<V> {
     ghost invariant = { λ l. IsBitParts V.WORDS l.block };
 }
 
+// The capacity of a block that has so many keys: with their values room for half as many more, and 16 at least, but
+// for 256 at most.
+fn capacity_for<V: Words + Drop>(count: usize) -> usize
+    requires one { V.WORDS ≤ 1 }
+    requires count { count ≤ 256 }
+    ensures enough { 4 + V.WORDS * count ≤ result }
+    ensures some { 4 ≤ result }
+    ensures most { result ≤ 260 }
+{
+    if V::WORDS == 1 {
+        4 + ((count + (count / 2).max(16)) / 4 * 4).min(256)
+    } else {
+        4
+    }
+}
+
 impl<V: Words + Drop> BitLeafOf<V> {
+    ghost use Rattle.std.specs.Borrow.{sem, Lends, u64 as word};
+    ghost use Rattle.judy_leaf.specs.contracts.bit_leaf.BitLeafOf.{the_row};
+
     /// The bitmap leaf of a block.
     pub fn of_parts(block: Block) -> BitLeafOf<V>
         requires { IsBitParts V.WORDS block }
@@ -57,5 +82,75 @@ impl<V: Words + Drop> BitLeafOf<V> {
         ensures { result ≡ self.now }
     {
         BitRef::new(&self.block)
+    }
+
+    /// Puts a key in, with the value 0. The key is absent and below 256.
+    /// The error is want of memory; the leaf is unchanged then.
+    pub fn insert(&mut self, alloc: Global, key: u64) -> Result<(), AllocError>
+        requires absent { IsFalse (set.has (keys_of self.old.pairs) key) }
+        requires below { key < 256 }
+        ensures added { OnOk result (self.new ≡ record self.old { pairs = with_pair key 0 self.old.pairs }) }
+        ensures unchanged { OnErr result (self.new ≡ self.old) }
+    {
+        self.insert_pair(alloc, key, 0)
+    }
+
+    /// Puts a key in with its value, which is 0 where keys have no value; else as `insert`.
+    pub fn insert_pair(&mut self, alloc: Global, key: u64, value: u64) -> Result<(), AllocError>
+        requires absent { IsFalse (set.has (keys_of self.old.pairs) key) }
+        requires below { key < 256 }
+        requires no_value { V.WORDS ≡ 0 → value ≡ 0 }
+        ensures added { OnOk result (self.new ≡ record self.old { pairs = with_pair key value self.old.pairs }) }
+        ensures unchanged { OnErr result (self.new ≡ self.old) }
+    {
+        let at = self.reading().rank(key);
+        let count = self.reading().len() + 1;
+        let needed = 4 + V::WORDS * count;
+        pairs::give_room(&mut self.block, alloc, needed, capacity_for::<V>(count))?;
+        bit_edit::put::<V>(&mut self.block, at, key as u8, value);
+        Ok(())
+    }
+
+    /// Takes the key at a place out, with its value. No memory is asked for.
+    pub fn remove(&mut self, at: usize)
+        requires { at < length self.old.pairs }
+        ensures { self.new ≡ record self.old { pairs = remove self.old.pairs at } }
+    {
+        let key = self.reading().key_at(at);
+        bit_edit::take::<V>(&mut self.block, at, key as u8);
+    }
+
+    /// The bitmap leaf of pairs, in a node whose keys have `width` bytes, 1 to 8. Of each key the lowest byte counts; by these
+    /// the keys strictly ascend, so that there are at most 256. Where keys have no value, each value is 0. The error is want
+    /// of memory; nothing is kept then.
+    pub fn from_sorted(
+        alloc: Global,
+        width: u8,
+        pairs: &[(u64, u64)],
+    ) -> Result<BitLeafOf<V>, AllocError>
+        requires words { V.WORDS ≤ 1 }
+        requires width { IsWidth width }
+        requires list { IsKeyList (record { width = 1; pairs = low_pairs 256 pairs.now }) }
+        requires no_values { V.WORDS ≡ 0 → AllByRecursion (λ pair. pair.1 ≡ 0) pairs.now }
+        ensures { IfOk result (λ leaf. leaf ≡ record { width = width; pairs = low_pairs 256 pairs.now }) }
+    {
+        let mut block = Block::new(alloc, capacity_for::<V>(pairs.len()))?;
+        block.open_gap(0, 4);
+        block.set_tag(65_536 * u32::from(width));
+        bit_edit::put_all::<V>(&mut block, pairs);
+        Ok(BitLeafOf {
+            block,
+            words: PhantomData,
+        })
+    }
+
+    /// Lends the value at a place; nothing else changes.
+    pub fn slot_at(&mut self, at: usize) -> &mut u64
+        requires map { V.WORDS ≡ 1 }
+        requires inside { at < length self.old.pairs }
+        ensures* changes { sem 𝓛 (Lends (the_row V.row V.Words) word self.entry result (with_value_at at self.entry.now)) }
+        ensures value { result.now ≡ slice_index (values_of self.old.pairs) at }
+    {
+        self.block.slot(4 + at)
     }
 }

@@ -98,7 +98,8 @@ impl<'a, V: Words + Drop> BitRef<'a, V> {
     /// The key at a place, counted from 0.
     pub fn key_at(&self, at: usize) -> u64
         requires { at < length self.now.pairs }
-        ensures { result ≡ slice_index (keys_of self.now.pairs) at }
+        ensures key { result ≡ slice_index (keys_of self.now.pairs) at }
+        ensures below { result < 256 }
     {
         match self.bits().nth(at) {
             Some(byte) => u64::from(byte),

@@ -3,7 +3,7 @@
 ghost use Rattle.std.specs.Prelude.{◌≡◌, ◌+◌, ◌*◌, ◌<◌, ◌≤◌, ◌^◌, length, slice_index, IfOk, OnOk, OnErr, IsFalse};
 ghost use Rattle.std.specs.List.{remove, AllByRecursion};
 ghost use Rattle.judy_bits.specs.ByteSets as set;
-ghost use Rattle.judy_leaf.specs.KeyLists.{keys_of, values_of, with_pair, with_value_at, IsKeyList};
+ghost use Rattle.judy_leaf.specs.KeyLists.{keys_of, values_of, with_pair, with_value_at, low_pairs, IsKeyList};
 ghost use Rattle.judy_leaf.specs.Leaves.{IsLeafParts, leaf_list};
 
 use crate::leaf_ref::LeafRef;
@@ -97,7 +97,7 @@ impl<V: Words + Drop> LeafOf<V> {
         let width = self.block.tag() as usize;
         let count = usize::from(self.count);
         let needed = V::WORDS * (count + 1) + keys::words_of(width, count + 1);
-        pairs::give_room(&mut self.block, alloc, needed)?;
+        pairs::give_room(&mut self.block, alloc, needed, (needed + 3) / 4 * 4)?;
         pairs::put::<V>(&mut self.block, width, count, at, key, value);
         self.count += 1;
         Ok(())
@@ -114,18 +114,18 @@ impl<V: Words + Drop> LeafOf<V> {
         self.count -= 1;
     }
 
-    /// The leaf of pairs whose keys strictly ascend and have `width` bytes, 1 to 8; at most 32. Where keys have no value, each
-    /// value is 0. The error is want of memory; nothing is kept then.
+    /// The leaf of at most 32 pairs. Of each key the lowest `width` bytes count, 1 to 8; by these the keys strictly ascend. Where
+    /// keys have no value, each value is 0. The error is want of memory; nothing is kept then.
     pub fn from_sorted(
         alloc: Global,
         width: u8,
         pairs: &[(u64, u64)],
     ) -> Result<LeafOf<V>, AllocError>
         requires words { V.WORDS ≤ 1 }
-        requires list { IsKeyList (record { width = width; pairs = pairs.now }) }
+        requires list { IsKeyList (record { width = width; pairs = low_pairs (256 ^ width) pairs.now }) }
         requires few { length pairs.now ≤ 32 }
         requires no_values { V.WORDS ≡ 0 → AllByRecursion (λ pair. pair.1 ≡ 0) pairs.now }
-        ensures { IfOk result (λ leaf. leaf ≡ record { width = width; pairs = pairs.now }) }
+        ensures { IfOk result (λ leaf. leaf ≡ record { width = width; pairs = low_pairs (256 ^ width) pairs.now }) }
     {
         let needed = V::WORDS * pairs.len() + keys::words_of(usize::from(width), pairs.len());
         let mut block = Block::new(alloc, needed / 4 * 4 + 4)?;

@@ -2,17 +2,18 @@
 //!
 //! What each is to its callers is a key list (specs/KeyLists.antt): the width, and the pairs of key and value by strictly
 //! ascending key. A [`Leaf`] holds up to 32 keys in one block: the values, a word each, and then the keys, as many to a word as fit
-//! into its eight bytes. An [`Imm`] holds as many keys as fit into one word, or one key with its value, and asks for no memory. In a node
-//! they stand as their parts: a leaf as its number of keys and its block, whose tag is the width; an immediate as two words. So both
-//! are made of their parts and taken apart again where they change, and [`LeafRef`] reads a leaf where its parts stand. An immediate is read as
-//! itself. A [`BitLeaf`] has up to 256 one-byte keys as bits in one block, before their values; so far it is made of its block, taken apart
-//! and read by [`BitRef`].
+//! into its eight bytes. A [`BitLeaf`] has up to 256 keys of one byte as bits in one block, before their values. An [`Imm`] holds as many keys as
+//! fit into one word, or one key with its value, and asks for no memory. In a node they stand as their parts: a leaf as its number of keys
+//! and its block, whose tag is the width; a bitmap leaf as its block, whose tag has the number of keys and the width; an immediate as
+//! two words. So each is made of its parts and taken apart again where it changes, and [`LeafRef`] and [`BitRef`] read leaves where their
+//! parts stand. An immediate is read as itself.
 //!
 //! place.rt has the places of one word, for a width that is known when a program is compiled; packed.rt searches words, and edit.rt
 //! changes those of a block, place by place. keys.rt and one_word.rt know the width at run time and hand on to these. values.rt and pairs.rt put
-//! values beside the keys. The crate stands on judy_model, judy_bits and judy_block; the nodes of the tree stand on it.
+//! values beside the keys, and bit_edit.rt changes the block of a bitmap leaf. The crate stands on judy_model, judy_bits and judy_block; the nodes of the tree stand on it.
 #![tactic(auto)]
 
+mod bit_edit;
 mod bit_leaf;
 mod bit_ref;
 mod edit;

@@ -2,24 +2,31 @@
 
 ghost use Rattle.std.specs.Prelude.{◌≡◌, ◌+◌, ◌-◌, ◌*◌, ◌<◌, ◌≤◌, ◌^◌, length, [], OnOk, OnErr};
 ghost use Rattle.std.specs.List.{AllByRecursion};
-ghost use Rattle.judy_leaf.specs.KeyLists.{IsKeyList};
+ghost use Rattle.judy_leaf.specs.KeyLists.{low_pairs, IsKeyList};
 ghost use Rattle.judy_leaf.specs.Leaves.{words_for, leaf_list, AreKeysFrom};
 ghost use Rattle.judy_leaf.specs.PairChanges.{IsPairPut, IsPairTaken, HasRoom};
 
 use crate::words::Words;
 use crate::{keys, values};
+use judy_bits::low_part;
 use judy_block::Block;
 use std::alloc::{AllocError, Global};
 
-// Sees to it that a block has room for so many words: by a larger one, whose capacity is a multiple of 4, where it hasn't.
-pub(crate) fn give_room(block: &mut Block, alloc: Global, needed: usize) -> Result<(), AllocError>
-    requires within { needed ≤ 66 }
+// Sees to it that a block has room for so many words: by a block of the larger capacity where it hasn't.
+pub(crate) fn give_room(
+    block: &mut Block,
+    alloc: Global,
+    needed: usize,
+    capacity: usize,
+) -> Result<(), AllocError>
     requires fits { length block.old.words ≤ needed }
+    requires larger { needed ≤ capacity }
+    requires within { (1 ≤ capacity) × (capacity ≤ 65535) }
     ensures room { OnOk result (HasRoom needed block.old block.new) }
     ensures unchanged { OnErr result (block.new ≡ block.old) }
 {
     if block.capacity() < needed {
-        let mut larger = Block::new(alloc, (needed + 3) / 4 * 4)?;
+        let mut larger = Block::new(alloc, capacity)?;
         larger.copy_from(block);
         *block = larger;
     }
@@ -69,21 +76,21 @@ pub(crate) fn take<V: Words + Drop>(block: &mut Block, width: usize, count: usiz
     }
 }
 
-// Puts pairs, whose keys ascend, into a block without words, whose tag is the width.
+// Puts pairs, whose keys' lowest bytes ascend, into a block without words, whose tag is the width.
 pub(crate) fn put_all<V: Words + Drop>(block: &mut Block, width: usize, pairs: &[(u64, u64)])
     requires one { V.WORDS ≤ 1 }
     requires tag { block.old.tag ≡ width }
     requires empty { block.old.words ≡ [] }
-    requires list { IsKeyList (record { width = width; pairs = pairs.now }) }
+    requires list { IsKeyList (record { width = width; pairs = low_pairs (256 ^ width) pairs.now }) }
     requires few { length pairs.now ≤ 32 }
     requires no_values { V.WORDS ≡ 0 → AllByRecursion (λ pair. pair.1 ≡ 0) pairs.now }
     requires room { V.WORDS * length pairs.now + words_for width (length pairs.now) ≤ block.old.capacity }
     ensures tag { block.new.tag ≡ width }
     ensures keys { AreKeysFrom width (length pairs.now) (V.WORDS * length pairs.now) block.new }
-    ensures pairs { (leaf_list V.WORDS (length pairs.now) block.new).pairs ≡ pairs.now }
+    ensures pairs { (leaf_list V.WORDS (length pairs.now) block.new).pairs ≡ low_pairs (256 ^ width) pairs.now }
 {
     for at in 0..pairs.len() {
         let (key, value) = pairs[at];
-        put::<V>(block, width, at, at, key, value);
+        put::<V>(block, width, at, at, low_part(key, width), value);
     }
 }

@@ -41,3 +41,4 @@ pub mod DumpLemmas
 pub mod EndLemmas
 pub mod FormLemmas
 pub mod GroupLemmas
+pub mod Counting

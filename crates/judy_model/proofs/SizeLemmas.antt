@@ -204,7 +204,8 @@ kind_named-IsNewKind : (word : List ℕ) → IfSome (kind_named word) IsNewKind
 kind_named-IsNewKind word =
     either_kind (bytes_eq word (codes "judy1")) _ _ (λ limit. len-empty word_order ℕ)
     (either_kind (bytes_eq word (codes "judyl")) _ _ (λ limit. len-empty word_order ℕ)
-    (either_kind (bytes_eq word (codes "judyhs")) _ _ (λ limit. len-empty byte_order ℕ) tt))
+    (either_kind (bytes_eq word (codes "judysl")) _ _ (λ limit. len-empty byte_order ℕ)
+    (either_kind (bytes_eq word (codes "judyhs")) _ _ (λ limit. len-empty byte_order ℕ) tt)))
 
 module _ (store : Store) where
   -- what a command does to the size of the store

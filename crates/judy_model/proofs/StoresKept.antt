@@ -12,8 +12,8 @@ use Rattle.std.proofs.lemmas.Map.{keys-set_value, length-set_value}
 use Rattle.std.proofs.lemmas.Map.Keys.{IsDistinct-head, IsDistinct-tail, IsDistinct-cons, IsDistinct-push}
 use Rattle.std.proofs.lemmas.Map.Made.{is_some-lookup}
 use Rattle.std.proofs.lemmas.Map.Views.{All-map-remove_entry, All-values-set_value, IfSome-lookup_from_All}
-use Rattle.judy_model.specs.Keys.{IsWord, IsBytesKey}
-use Rattle.judy_model.specs.Arrays.{ArrayValue, judy1, judyl, judyhs, IsArray, limit_of, empty_array}
+use Rattle.judy_model.specs.Keys.{IsWord, IsStringKey, IsBytesKey}
+use Rattle.judy_model.specs.Arrays.{ArrayValue, judy1, judyl, judysl, judyhs, IsArray, limit_of, empty_array}
 use Rattle.judy_model.specs.Kinds.{kind_named}
 use Rattle.judy_model.specs.Tokens.{is_name, name_of, tokens_of}
 use Rattle.judy_model.specs.Lines.{Line, lines_of, is_too_long, text_of}
@@ -128,13 +128,14 @@ IsRegular-none = All-nil (λ array. limit_of array ≤ 4294967295)
 Makes : (ℕ → ArrayValue) → Type 0
 Makes empty = (limit : ℕ) → 1 ≤ limit → limit ≤ 4294967295 → IsArray (empty limit) × (limit_of (empty limit) ≤ 4294967295)
 
-kinds_make : (one two three : Bool) → IfSome (cond one (Some (λ limit. judy1 (empty_array limit))) (cond two (Some (λ limit. judyl (empty_array limit)))
-    (cond three (Some (λ limit. judyhs (empty_array limit))) None))) Makes
+kinds_make : (one two three four : Bool) → IfSome (cond one (Some (λ limit. judy1 (empty_array limit))) (cond two (Some (λ limit. judyl (empty_array limit)))
+    (cond three (Some (λ limit. judysl (empty_array limit))) (cond four (Some (λ limit. judyhs (empty_array limit))) None)))) Makes
 unfolding Makes
-kinds_make true two three = λ limit some small. ((empty-IsArrayOf IsWord limit some (omega arith), All-values-empty (λ value. value ≡ 0)), small)
-kinds_make false true three = λ limit some small. (empty-IsArrayOf IsWord limit some (omega arith), small)
-kinds_make false false true = λ limit some small. (empty-IsArrayOf IsBytesKey limit some (omega arith), small)
-kinds_make false false false = tt
+kinds_make true two three four = λ limit some small. ((empty-IsArrayOf IsWord limit some (omega arith), All-values-empty (λ value. value ≡ 0)), small)
+kinds_make false true three four = λ limit some small. (empty-IsArrayOf IsWord limit some (omega arith), small)
+kinds_make false false true four = λ limit some small. (empty-IsArrayOf IsStringKey limit some (omega arith), small)
+kinds_make false false false true = λ limit some small. (empty-IsArrayOf IsBytesKey limit some (omega arith), small)
+kinds_make false false false false = tt
 
 name_of-is_name : (token : List ℕ) → IfSome (name_of token) (λ name. IsTrue (is_name name))
 name_of-is_name token = elim (is_name token) as (λ b. is_name token ≡ b → IfSome (cond b (Some token) None) (λ name. IsTrue (is_name name))) [
@@ -163,7 +164,7 @@ module _ (P : Store → Type 0) (lasts : IsLasting P) where
     unfolding Makes
     made_lasts token kind limit =
         followed (λ name. IsTrue (is_name name)) Q (name_at token) _ (found (λ name. IsTrue (is_name name)) (name_of token) bad_name (name_of-is_name token)) (λ name named.
-        followed Makes Q (ok_or (kind_named kind) wrong_kind) _ (found Makes (kind_named kind) wrong_kind (kinds_make (bytes_eq kind (codes "judy1")) (bytes_eq kind (codes "judyl")) (bytes_eq kind (codes "judyhs")))) (λ empty makes.
+        followed Makes Q (ok_or (kind_named kind) wrong_kind) _ (found Makes (kind_named kind) wrong_kind (kinds_make (bytes_eq kind (codes "judy1")) (bytes_eq kind (codes "judyl")) (bytes_eq kind (codes "judysl")) (bytes_eq kind (codes "judyhs")))) (λ empty makes.
         followed (λ _. ⊤) Q (limit_at limit) _ (anything (limit_at limit)) (λ limit _.
         followed _ Q (provided (nat_lt 0 limit && nat_le limit 4294967295) bad_limit) _ (checked (nat_lt 0 limit && nat_le limit 4294967295) bad_limit) (λ _ bounds.
         followed _ Q (provided (is_none (array_named store name)) exists) _ (checked (is_none (array_named store name)) exists) (λ _ new.

@@ -203,7 +203,8 @@ apart_from : (key other : List ℕ) → eq_by_cmp byte_order other key ≡ false
 apart_from key other apart e = true≢false (sym (ap (λ k. eq_by_cmp byte_order k key) e ∙ ap is_eq (tied_itself byte_order_total key)) ∙ apart)
 
 module _ {keys : List (List ℕ)} {IsKey : List ℕ → Type 0} (all : ListsAll keys IsKey) where
-  none_at : (answer : List ℕ → Option ℕ) (key : List ℕ) → (IsKey key → answer key ≡ None) → get (table keys answer) key ≡ None
+  -- Where a key would have no answer, the table has none.
+  pub none_at : (answer : List ℕ → Option ℕ) (key : List ℕ) → (IsKey key → answer key ≡ None) → get (table keys answer) key ≡ None
   none_at answer key none =
       elim (list_any (eq_by_cmp byte_order key) keys) as (λ b. list_any (eq_by_cmp byte_order key) keys ≡ b → get (table keys answer) key ≡ None) [
         | true ↦ λ found. let is = all.only key (Among-list_any byte_order_total byte_order_same keys key found) in get-table all answer key is ∙ none is

@@ -64,3 +64,11 @@ end (byte ∷ bytes) = Err trailing
 abbrev pub value_of : {A : Type 0} → Result (A × List ℕ) Fault → Result A Fault
 value_of (Ok read) = Ok read.0
 value_of (Err fault) = Err fault
+
+-- Bytes begin with a part that has no fault, and this holds of its value and of the bytes behind it.
+abbrev pub Behind : {A : Type 0} → Result (A × List ℕ) Fault → (A → List ℕ → Type 0) → Type 0
+Behind (Ok read) Holds = Holds read.0 read.1
+Behind (Err fault) Holds = ⊥
+
+abbrev pub Begins : {A : Type 0} → Part A → (A → List ℕ → Type 0) → List ℕ → Type 0
+Begins part Holds = λ bytes. Behind (part bytes) Holds

@@ -14,5 +14,6 @@ abbrev pub kind_named : List ℕ → Option (ℕ → ArrayValue)
 kind_named word =
     if bytes_eq word (codes "judy1") then Some (λ limit. judy1 (empty_array limit))
     else if bytes_eq word (codes "judyl") then Some (λ limit. judyl (empty_array limit))
+    else if bytes_eq word (codes "judysl") then Some (λ limit. judysl (empty_array limit))
     else if bytes_eq word (codes "judyhs") then Some (λ limit. judyhs (empty_array limit))
     else None

@@ -21,6 +21,7 @@ pub mod Runs
 pub mod Fields
 pub mod DumpText
 pub mod DumpGrammar
+pub mod DumpPlaces
 pub mod DumpExamples
 pub mod Forms
 pub mod Shapes

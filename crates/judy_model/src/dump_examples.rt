@@ -4,6 +4,7 @@ ghost use Rattle.std.specs.Prelude.{◌≡◌, [], ◌∷◌, ◌++◌, codes, t
 ghost use Rattle.judy_model.specs.Fields.{truncated, bad_magic, too_many, bad_name, same_name, bad_kind, bad_limit, bad_count, bad_key, bad_order, trailing};
 ghost use Rattle.judy_model.specs.DumpText.{dump_of};
 ghost use Rattle.judy_model.specs.DumpGrammar.{IsDump, fault_of};
+ghost use Rattle.judy_model.specs.DumpPlaces.{EndsAtEntry};
 ghost use Rattle.judy_model.specs.DumpExamples.{small, heading, overwritten, set_of_one, dump_of_one, three_arrays, dump_of_three};
 
 /// The empty store has a dump of eight bytes, a set of one key one of 35.
@@ -50,4 +51,11 @@ pub fn faults_in_store_of_three()
     ensures order { fault_of (overwritten dump_of_three 126 (0 ∷ [])) ≡ Some bad_order }
     ensures name { fault_of (overwritten dump_of_three 44 (108 ∷ [])) ≡ Some same_name }
     ensures limit { fault_of (overwritten dump_of_three 46 (small 1)) ≡ Some bad_count }
+{}
+
+/// Memory may be wanted behind the key count of an array and behind each of its entries.
+pub fn ends_at_entries()
+    ensures count { EndsAtEntry (take 27 dump_of_one) }
+    ensures entry { EndsAtEntry dump_of_one }
+    ensures second { EndsAtEntry (take 72 dump_of_three) }
 {}

@@ -4,7 +4,7 @@ pub mod keys;
 pub mod runs;
 
 ghost use Rattle.std.specs.Prelude.{◌≡◌, ◌+◌, ◌*◌, ◌-◌, ◌^◌, true, false, [], ◌∷◌, ◌++◌, codes, drop, replicate, Some, None, Ok, Err};
-ghost use Rattle.judy_model.specs.Arrays.{judy1, judyhs, empty_array};
+ghost use Rattle.judy_model.specs.Arrays.{judy1, judysl, judyhs, empty_array};
 ghost use Rattle.judy_model.specs.Lines.{lines_of, text_of, is_too_long};
 ghost use Rattle.judy_model.specs.Tokens.{tokens_of, word_of, name_of};
 ghost use Rattle.judy_model.specs.KeyTokens.{key_of, is_bytes_key, is_string_key, bytes_key_of, string_key_of, printed_key};
@@ -126,7 +126,7 @@ pub fn each_kind_has_its_commands()
     ensures string_count { step string_arrays (line (codes "count t x y")) ≡ (Err wrong_kind, string_arrays) }
     ensures bytes_first { step string_arrays (line (codes "first h x")) ≡ (Err wrong_kind, string_arrays) }
     ensures missing { step two_arrays (line (codes "fe b x")) ≡ (Err no_such_array, two_arrays) }
-    ensures string_kind { step [] (line (codes "make b judysl")) ≡ (Err wrong_kind, []) }
+    ensures string_kind { step [] (line (codes "make b judysl 3")) ≡ (Ok done, (codes "b", judysl (empty_array 3)) ∷ []) }
     ensures bytes_kind { step [] (line (codes "make b judyhs 3")) ≡ (Ok done, (codes "b", judyhs (empty_array 3)) ∷ []) }
     ensures no_kind { step [] (line (codes "make b judyh")) ≡ (Err wrong_kind, []) }
 {}

@@ -1,2 +1,3 @@
 pub mod Moves
 pub mod Counts
+pub mod Ahead

@@ -1,11 +1,15 @@
 -- What a call of a pipe does to the bytes that it tells, and what a source keeps to.
-use Rattle.std.specs.Prelude.{◌≡◌, ℕ, ◌≤◌, ◌&&◌, ◌==◌, Bool, true, false, nat_lt, List, ◌++◌, length, take, Option, Some, None, Result, Ok, Err, option_map, IfSome}
+use Rattle.std.specs.Prelude.{◌≡◌, ℕ, ◌-◌, ◌≤◌, ◌&&◌, ◌==◌, Bool, true, false, nat_lt, List, ◌++◌, length, take, Option, Some, None, Result, Ok, Err, option_map, IfSome}
 use Rattle.std.specs.Result.{result_unwrap_or}
 use Rattle.judy_pipe.specs.declared.tally.Tally.{Tally}
 
 -- the bytes known so far with `bytes` after them; a pipe that tells nothing goes on telling nothing
 abbrev pub grown : Option (List ℕ) → List ℕ → Option (List ℕ)
 grown known bytes = option_map (λ before. before ++ bytes) known
+
+-- the bytes known so far, but for the last of them, so many
+abbrev pub without : Option (List ℕ) → ℕ → Option (List ℕ)
+without known count = option_map (λ bytes. take (length bytes - count) bytes) known
 
 -- the bytes that a call with this answer moved: a front of `bytes`, and none where it stopped
 abbrev pub moved : {E : Type 0} → Result ℕ E → List ℕ → List ℕ
@@ -23,6 +27,10 @@ gave_end (Err e) room = false
 -- the bytes known so far grew by a front of `bytes`, perhaps none or all of them
 abbrev pub GrewByFront : Option (List ℕ) → List ℕ → Option (List ℕ) → Type 0
 GrewByFront old bytes new = (n : ℕ) × (n ≤ length bytes) × (new ≡ grown old (take n bytes))
+
+-- the inner source of one that reads ahead gave what that one gave, and up to so many bytes more
+abbrev pub IsAhead : ℕ → Option (List ℕ) → Option (List ℕ) → Type 0
+IsAhead most given inner = (kept : List ℕ) × (length kept ≤ most) × (inner ≡ grown given kept)
 
 -- `whole` begins with `front`
 abbrev pub IsFront : List ℕ → List ℕ → Type 0

@@ -12,12 +12,14 @@
 //! so is every 1,000th interruption in a row, and so is a write that takes 0 bytes of a piece that is
 //! not empty. [`write_all`] and [`read_some`] try an interrupted call again until that number rises.
 //!
-//! [`BufferedSink`] hands on to another sink in large pieces. [`MemSource`] and [`MemSink`] are the pipes over memory, which can be made to fail or to be
+//! [`BufferedSource`] reads ahead from another source in large pieces, and [`BufferedSink`] hands on to another sink
+//! in large pieces. [`MemSource`] and [`MemSink`] are the pipes over memory, which can be made to fail or to be
 //! interrupted at a stated place. The crate stands lowest among those that move bytes: it knows
 //! neither files nor what the bytes mean, and it takes no memory.
 #![tactic(auto)]
 
 mod buffered_sink;
+mod buffered_source;
 mod mem_sink;
 mod mem_source;
 mod sink;
@@ -26,6 +28,7 @@ mod stop;
 mod tally;
 
 pub use buffered_sink::BufferedSink;
+pub use buffered_source::BufferedSource;
 pub use mem_sink::{MemSink, SinkTrouble};
 pub use mem_source::{MemSource, SourceTrouble};
 pub use sink::{Sink, write_all};

@@ -155,6 +155,38 @@ fn a_buffer_tries_again(rt: HostRuntime) {
     assert_eq!(rt; sink.into_inner().bytes(), TEXT.as_slice());
 }
 
+// Reads three bytes, one, two, and then the end or a failure, ahead by four, and says what came and counts.
+fn expect_ahead(rt: &impl Abort, trouble: SourceTrouble, given: usize, failures: u64)
+    requires given { given ≤ 6 }
+{
+    let mut source = BufferedSource::<_, 4>::new(MemSource::new(&TEXT, 3, trouble));
+    let mut got = ArrayVec::<u8, 6>::new();
+    let mut room = [0; 3];
+    for size in [3, 1, 2, 3, 3, 3] {
+        let Ok(count) = read_some(&mut source, &mut room[..size]) else {
+            break;
+        };
+        let _ = got.try_extend_from_slice(&room[..count]);
+    }
+    assert_eq!(rt; got.as_slice(), &TEXT[..given], "{trouble:?}");
+    assert_eq!(rt; source.failures(), failures, "{trouble:?}");
+    assert_eq!(rt;
+        source.into_inner().has_ended(),
+        failures == 0,
+        "{trouble:?}"
+    );
+}
+
+#[test]
+fn a_buffer_meets_trouble_before_it(rt: HostRuntime) {
+    expect_ahead(&rt, SourceTrouble::Never, 6, 0);
+    for at in 0..7 {
+        expect_ahead(&rt, SourceTrouble::Fails { at }, at, 1);
+        expect_ahead(&rt, SourceTrouble::Interrupts { at, times: 999 }, 6, 0);
+        expect_ahead(&rt, SourceTrouble::Interrupts { at, times: 1000 }, at, 1);
+    }
+}
+
 #[test]
 fn full_sink_fails(rt: HostRuntime) {
     let mut sink = MemSink::<4>::new(3, SinkTrouble::Never);

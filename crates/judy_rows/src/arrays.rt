@@ -150,6 +150,15 @@ fn listing(rt: HostRuntime) {
         (b"drop a", b"freed 0\n"),
         (b"make a judy1", b"ok\n"),
         (b"list", b"names b:judyl:0 a:judy1:0\n"),
+        (b"make h judyhs", b"ok\n"),
+        (b"make s judysl", b"ok\n"),
+        (b"ins s = 1", b"was 0\n"),
+        (
+            b"list",
+            b"names b:judyl:0 a:judy1:0 h:judyhs:0 s:judysl:1\n",
+        ),
+        (b"drop h", b"freed 0\n"),
+        (b"drop s", b"freed 1\n"),
     ];
     check_lines(&rt, &mut shelf, &table);
     // 62 more arrays are 64.

@@ -2,7 +2,7 @@
 
 ghost use Rattle.std.specs.Prelude.{◌≡◌, ◌<◌, ◌≤◌, ◌^◌, length};
 ghost use Rattle.std.specs.List.{AllByRecursion};
-ghost use Rattle.judy_leaf.specs.KeyLists.{IsKeyList};
+ghost use Rattle.judy_leaf.specs.KeyLists.{low_pairs, IsKeyList};
 
 use judy_leaf::{ImmOf, LeafOf, LeafRef, Width, Words};
 use std::alloc::{AllocError, Global};
@@ -347,7 +347,7 @@ fn check_sorted<V: Words + Drop>(
     pairs: &[(u64, u64)],
 ) -> Result<(), AllocError>
     requires words { V.WORDS ≤ 1 }
-    requires list { IsKeyList (record { width = width; pairs = pairs.now }) }
+    requires list { IsKeyList (record { width = width; pairs = low_pairs (256 ^ width) pairs.now }) }
     requires few { length pairs.now ≤ 32 }
     requires no_values { V.WORDS ≡ 0 → AllByRecursion (λ pair. pair.1 ≡ 0) pairs.now }
 {

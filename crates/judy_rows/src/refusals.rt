@@ -94,7 +94,7 @@ fn refusals_in_order(rt: HostRuntime) {
         (b"ins l x y", b"error bad-word\n"),
         (b"get l 18446744073709551616", b"error bad-word\n"),
         (b"get l 000000000000000000001", b"error bad-word\n"),
-        (b"make b judysl", b"error wrong-kind\n"),
+        (b"make b judys", b"error wrong-kind\n"),
         (b"make b judyh", b"error wrong-kind\n"),
         (b"list", b"names l:judyl:0 s:judy1:0\n"),
     ];

@@ -1,6 +1,7 @@
 //! Rows of arrays over strings, by the calls of the array.
 
 use judy_sl::{JudySl, KeyBuf, SlError, is_key};
+use judy_word::JudyL;
 use std::process::Abort;
 
 // The four scans.
@@ -107,28 +108,36 @@ fn bad_keys(rt: HostRuntime) {
 #[test]
 fn long_keys_and_one_hash(rt: HostRuntime) {
     let mut strings = JudySl::new(rt.alloc(), 4_294_967_295);
-    let mut key = [b'k'; 1024];
-    insert(&rt, &mut strings, &key, 1);
-    key[1023] = b'l';
-    insert(&rt, &mut strings, &key, 2);
-    insert(&rt, &mut strings, &key[..1023], 3);
-    assert_eq!(rt; strings.get(&key), Some(2));
-    assert_eq!(rt; strings.get(&key[..1023]), Some(3));
-    assert_eq!(rt; strings.get(&key[..1022]), None);
-    key[1023] = b'k';
-    assert_eq!(rt; strings.get(&key), Some(1));
-    check_scan(&rt, &strings, Scan::Next, &key[..1023], Some((&key, 1)));
-    assert_eq!(rt; strings.len(), 3);
+    let mut p = [b'a'; 1024];
+    p[1023] = b'b';
+    let mut q = p;
+    q[1023] = b'c';
+    insert(&rt, &mut strings, &p, 1);
+    insert(&rt, &mut strings, &q, 2);
+    check_scan(&rt, &strings, Scan::Next, &p, Some((&q, 2)));
+    check_scan(&rt, &strings, Scan::Next, &p[..1023], Some((&p, 1)));
+    assert_eq!(rt; strings.get(&p), Some(1));
+    assert_eq!(rt; strings.get(&p[..1023]), None);
+    strings.is_array();
+    assert_eq!(rt; strings.len(), 2);
 }
 
-// The part of the row with ample memory: a tail is split in the first level and behind shared pieces.
+// The part of the row with ample memory.
 #[test]
 fn refused_string_insert(rt: HostRuntime) {
     let mut strings = JudySl::new(rt.alloc(), 4_294_967_295);
-    insert(&rt, &mut strings, b"abcdefghijklmnopqrstuvwxyz", 1);
-    insert(&rt, &mut strings, b"abcdefghijklmnopqrstuvwxy", 2);
-    insert(&rt, &mut strings, b"abcdefghijklmnop", 3);
-    insert(&rt, &mut strings, b"abcdefgh........", 4);
+    insert(&rt, &mut strings, b"abcdefgh", 3);
+    assert_eq!(rt; strings.get(b"abcdefghi"), None);
+    insert(&rt, &mut strings, b"abcdefghi", 4);
+    assert_eq!(rt; strings.get(b"abcdefgh"), Some(3));
+    assert_eq!(rt; strings.get(b"abcdefghi"), Some(4));
+    assert_eq!(rt; strings.len(), 2);
+}
+
+// Tails are split in the first level and behind shared pieces.
+#[test]
+fn tails_split(rt: HostRuntime) {
+    let mut strings = JudySl::new(rt.alloc(), 4_294_967_295);
     let held = [
         (b"abcdefghijklmnopqrstuvwxyz".as_slice(), 1),
         (b"abcdefghijklmnopqrstuvwxy", 2),
@@ -136,10 +145,54 @@ fn refused_string_insert(rt: HostRuntime) {
         (b"abcdefgh........", 4),
     ];
     for (key, value) in held {
+        insert(&rt, &mut strings, key, value);
+    }
+    for (key, value) in held {
         assert_eq!(rt; strings.get(key), Some(value));
         assert!(rt; matches!(strings.ins(key), Ok(slot) if *slot == value));
     }
     assert_eq!(rt; strings.get(b"abcdefgh"), None);
+}
+
+// The first pieces of the keys, and those behind a whole one, as the levels show them.
+#[test]
+fn pieces_of_keys(rt: HostRuntime) {
+    let mut strings = JudySl::new(rt.alloc(), 4_294_967_295);
+    let keys = [
+        b"".as_slice(),
+        b"abc",
+        b"abcdefg",
+        b"abcdefgh",
+        b"abcdefghi",
+    ];
+    for key in keys {
+        insert(&rt, &mut strings, key, 1);
+    }
+    let firsts = [
+        0,
+        0x6162_6300_0000_0000,
+        0x6162_6364_6566_6700,
+        0x6162_6364_6566_6768,
+    ];
+    check_level(&rt, strings.level(b""), &firsts);
+    let at = b"abcdefgh";
+    assert!(rt; is_key(at));
+    check_level(&rt, strings.level(at), &[0, 0x6900_0000_0000_0000]);
+}
+
+// Compares the pieces of a level, which is there.
+fn check_level<R: Abort>(rt: &R, level: Option<&JudyL>, pieces: &[u64]) {
+    match level {
+        Some(words) => {
+            assert_eq!(rt; words.len(), pieces.len() as u64);
+            let mut nth = 0;
+            for piece in pieces {
+                nth += 1;
+                assert_eq!(rt; words.by_count(nth), Some(*piece));
+            }
+        }
+        None => assert!(rt; false),
+    }
 }
 
 // Random keys of two letters against a table of all keys that were put in.

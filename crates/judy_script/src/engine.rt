@@ -15,9 +15,10 @@ use crate::cut::cut_at;
 use crate::fault::RunFault;
 use crate::line::{LineBuffer, line_reply};
 use crate::print::{Text, print};
-use judy_command::{KeyBuf, LineReply};
+use judy_command::LineReply;
 use judy_pipe::{Sink, write_all};
 use judy_shelf::Shelf;
+use judy_sl::KeyBuf;
 
 /// The buffers of a run: of the line that goes on, of a line's key, and of an answer. They are made once a
 /// run.

@@ -8,8 +8,9 @@ ghost use Rattle.judy_command.specs.Replies.{line_reply_of};
 
 use crate::tokens::split;
 use arrayvec::ArrayVec;
-use judy_command::{KeyBuf, LineReply, Refusal, execute};
+use judy_command::{LineReply, Refusal, execute};
 use judy_shelf::Shelf;
+use judy_sl::KeyBuf;
 
 /// The most bytes of a line before its LF, a CR counted. (This project's own.)
 pub(crate) const MAX_LINE_LEN: usize = 4096;

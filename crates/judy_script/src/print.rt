@@ -10,8 +10,9 @@ ghost use Rattle.judy_shelf.specs.Shelves.{store_of};
 ghost use Rattle.judy_command.specs.Replies.{line_reply_of, answer_of};
 
 use arrayvec::ArrayVec;
-use judy_command::{Answer, KeyBuf, LineReply};
+use judy_command::{Answer, LineReply};
 use judy_shelf::{Array, Name, Shelf};
+use judy_sl::KeyBuf;
 
 /// The buffer of an answer line: it is made once a run and takes no memory.
 pub(crate) type Text = ArrayVec<u8, 8192>;

@@ -1,26 +1,96 @@
 -- Arrays that are read one after another, and the whole of a dump.
-use Rattle.std.proofs.Common.{◌≡◌, ℕ, suc, List, [], true, IfSome, Result, Ok, Err, refl, sym, ap, subst, ◌∙◌, append-nil}
+use Rattle.std.proofs.Common.{◌≡◌, ℕ, ◌+◌, ◌-◌, ◌<◌, ◌≤◌, suc, List, [], ◌++◌, true, IfSome, Result, Ok, Err, refl, sym, ap, subst, ◌∙◌, append-nil, append_assoc, arith}
+use Rattle.std.proofs.lemmas.List.Elements.{All-nil, All-append}
 use Rattle.judy_model.specs.Arrays.{ArrayValue}
 use Rattle.judy_model.specs.Stores.{Store, with_new_array}
-use Rattle.judy_model.specs.Fields.{Fault, Part, followed_by, ◌>>=◌, done, end, value_of}
+use Rattle.judy_model.specs.Keys.{IsByteString}
+use Rattle.judy_model.specs.Fields.{Fault, Part, followed_by, ◌>>=◌, done, end, value_of, Behind, Begins}
 use Rattle.judy_model.specs.DumpGrammar as grammar
 use Rattle.judy_model.specs.DumpGrammar.{IsDump}
+use Rattle.judy_model.specs.DumpPlaces.{up_to_entry, EndsAtEntry}
 use Rattle.judy_model.proofs.DumpLemmas.{dump_back}
-use Rattle.judy_shelf.specs.Reads.{Drawn, Cause, ReadsValue, ReadsFault, up_to_end, LoadsWhole, Loaded, cause_of}
+use Rattle.judy_model.proofs.FieldLemmas.{followed_ok, done_ok}
+use Rattle.judy_pipe.specs.Pipe.{grown}
+use Rattle.judy_pipe.proofs.Moves.{grown-grown}
+use Rattle.judy_shelf.specs.Reads.{Drawn, Cause, memory, ReadsValue, ReadsFault, Nowhere, AtSome, InBody, InArray, InArrays, InStore, up_to_end, LoadsWhole, Loaded, cause_of}
 use Rattle.std.specs.Result.{IsErrAnd}
 use Rattle.judy_shelf.specs.declared.fault.LoadFault.{LoadFault}
 use Rattle.judy_shelf.specs.Shelves.{Entries}
-use Rattle.judy_shelf.proofs.ReadLemmas.{stops_too, fault_first, fault_then, Reading, reading_value, reading_fault}
+use Rattle.judy_shelf.proofs.ReadLemmas.{stops_too, fault_first, fault_within, fault_then, Reading, reading_end, reading_fault}
+use Rattle.judy_shelf.proofs.WriteLemmas.{grown_nothing}
 
-module _ (all : Part Store) (made : Store) (left n : ℕ) (is : left ≡ suc n) (before mid after : Drawn) (far : Reading all (grammar.arrays made left) before mid) where
-  arrays_far : Reading all (grammar.arrays made (suc n)) before mid
-  arrays_far = subst (λ m. Reading all (grammar.arrays made m) before mid) is far
+-- An array that was read whole ends behind its last entry, or its key count.
+array_ends : (made : Store) (input : List ℕ) (read : List ℕ × ArrayValue) → grammar.array made input ≡ Ok (read, []) → InArray made input
+array_ends made input read is =
+    let name = followed_ok (grammar.name made input) (λ name. grammar.body >>= λ held. done (name, held)) (read, []) is in
+    let body = followed_ok (grammar.body name.0.1) (λ held. done (name.0.0, held)) (read, []) name.2 in
+    let kind = followed_ok (grammar.kind name.0.1) (λ kind. grammar.limit >>= λ limit. grammar.key_count limit >>= λ count. grammar.contents kind limit count) body.0 body.1 in
+    let limit = followed_ok (grammar.limit kind.0.1) (λ limit. grammar.key_count limit >>= λ count. grammar.contents kind.0.0 limit count) body.0 kind.2 in
+    let count = followed_ok (grammar.key_count limit.0.0 limit.0.1) (λ count. grammar.contents kind.0.0 limit.0.0 count) body.0 limit.2 in
+    let Contents = AtSome (grammar.contents kind.0.0 limit.0.0) count.0.0 in
+    let ends : body.0.1 ≡ [] = (done_ok (name.0.0, body.0.0) body.0.1 read [] body.2).1 in
+    let contents : Contents count.0.1 = (count.0.0, omega arith, subst (λ r. Behind r (λ _ rest. rest ≡ [])) (sym count.2) ends) in
+    let counted = subst (λ r. Behind r (λ count. AtSome (grammar.contents kind.0.0 limit.0.0) count)) (sym count.1) contents in
+    let limited = subst (λ r. Behind r (λ limit. Begins (grammar.key_count limit) (λ count. AtSome (grammar.contents kind.0.0 limit) count))) (sym limit.1) counted in
+    let inside : InBody name.0.1 = subst (λ r. Behind r (λ kind. Begins grammar.limit (λ limit. Begins (grammar.key_count limit) (λ count. AtSome (grammar.contents kind limit) count)))) (sym kind.1) limited in
+    subst (λ r. Behind r (λ name. InBody)) (sym name.1) inside
 
-  pub arrays_next : (name : List ℕ) (held : ArrayValue) → ReadsValue (grammar.array made) (name, held) mid after → Reading all (grammar.arrays (with_new_array made name held) n) before after
-  arrays_next name held read = reading_value all before mid after (grammar.array made) (λ next. grammar.arrays (with_new_array made next.0 next.1) n) (name, held) arrays_far read
+-- So many arrays were read, which are these, however many are said.
+pub record ArraysRead (earlier : ℕ) (made : Store) (before now : Drawn) : Type 0 where
+  pub input : List ℕ
+  pub given : now.given ≡ grown before.given input
+  pub bytes : IsByteString input
+  pub failures : now.failures ≡ before.failures
+  pub goes : (left total : ℕ) → earlier + left ≡ total → (more : List ℕ) → grammar.arrays [] total (input ++ more) ≡ grammar.arrays made left more
 
-  pub arrays_fault : (cause : Cause) → ReadsFault (grammar.array made) cause mid after → ReadsFault all cause before after
-  arrays_fault cause read = reading_fault all (grammar.arrays made (suc n)) before mid after arrays_far cause (fault_first (grammar.array made) (λ next. grammar.arrays (with_new_array made next.0 next.1) n) cause mid after read)
+pub arrays_none : (now : Drawn) → ArraysRead 0 [] now now
+arrays_none now = record {
+  input = [];
+  given = sym (grown_nothing now.given);
+  bytes = All-nil (λ byte. byte < 256);
+  failures = refl;
+  goes = λ left total is more. let same : total ≡ left = omega (arith, is) in ap (λ n. grammar.arrays [] n more) same;
+}
+
+module _ (earlier : ℕ) (made : Store) (before mid : Drawn) (far : ArraysRead earlier made before mid) where
+  abbrev far_reading : (left total : ℕ) → earlier + left ≡ total → Reading (grammar.arrays [] total) (grammar.arrays made left) before mid
+  far_reading left total is = record { input = far.input; given = far.given; bytes = far.bytes; failures = far.failures; goes = far.goes left total is }
+
+  far_begins : (input : List ℕ) → InArray made input → Begins (grammar.arrays [] earlier) InArray (far.input ++ input)
+  far_begins input inside =
+      let all : earlier + 0 ≡ earlier = omega arith in
+      subst (λ r. Behind r InArray) (sym (far.goes 0 earlier all input)) inside
+
+  pub arrays_whole : ReadsValue (grammar.arrays [] earlier) made before mid
+  arrays_whole =
+      let all : earlier + 0 ≡ earlier = omega arith in
+      reading_end (grammar.arrays [] earlier) made before mid (far_reading 0 earlier all)
+
+  module _ (after : Drawn) where
+    pub arrays_next : (name : List ℕ) (held : ArrayValue) → ReadsValue (grammar.array made) (name, held) mid after → ArraysRead (earlier + 1) (with_new_array made name held) before after
+    arrays_next name held next = record {
+      input = far.input ++ next.input;
+      given = next.given ∙ ap (λ known. grown known next.input) far.given ∙ grown-grown before.given far.input next.input;
+      bytes = All-append (λ byte. byte < 256) far.input next.input far.bytes next.bytes;
+      failures = next.failures ∙ far.failures;
+      goes = λ left total is more.
+          let one : earlier + suc left ≡ total = omega (arith, is) in
+          ap (grammar.arrays [] total) (append_assoc far.input next.input more) ∙ far.goes (suc left) total one (next.input ++ more)
+          ∙ ap (λ r. followed_by r (λ next. grammar.arrays (with_new_array made next.0 next.1) left)) (next.gives more);
+    }
+
+    pub arrays_fault : (total : ℕ) → earlier < total → (cause : Cause) → ReadsFault (InArray made) (grammar.array made) cause mid after → ReadsFault (InArrays total) (grammar.arrays [] total) cause before after
+    arrays_fault total some cause next =
+        let n = total - (earlier + 1) in
+        let all : earlier + suc n ≡ total = omega (arith, some) in
+        reading_fault (grammar.arrays [] total) (grammar.arrays made (suc n)) before mid after (far_reading (suc n) total all) (InArray made) (InArrays total) (λ input inside. (earlier, some, far_begins input inside)) cause
+        (fault_within (grammar.array made) (λ next. grammar.arrays (with_new_array made next.0 next.1) n) (InArray made) (InArray made) (λ input inside. inside) cause mid after next)
+
+    -- Want of memory for one more array, which was read.
+    pub arrays_memory : (total : ℕ) → earlier < total → (name : List ℕ) (held : ArrayValue) → ReadsValue (grammar.array made) (name, held) mid after → ReadsFault (InArrays total) (grammar.arrays [] total) memory before after
+    arrays_memory total some name held next =
+        let is = ap (grammar.array made) (sym (append-nil next.input)) ∙ next.gives [] in
+        arrays_fault total some memory (record { input = next.input; given = next.given; bytes = next.bytes; stops = (next.failures, array_ends made next.input (name, held) is) })
 
 -- ---- the whole
 
@@ -39,13 +109,50 @@ in_three (Err fault) one two three = refl
 store_parts : (dump : List ℕ) → grammar.store dump ≡ (up_to_end >>= at_last) dump
 store_parts dump = in_three (grammar.begins dump) (λ _. grammar.array_count) (grammar.arrays []) at_last
 
+-- A part that begins bytes, and what holds behind it.
+begun : {A : Type 0} (read : Result (A × List ℕ) Fault) (Holds : A → List ℕ → Type 0) → Behind read Holds → (first : A × List ℕ) × (read ≡ Ok first) × Holds first.0 first.1
+begun (Ok first) Holds holds = (first, refl, holds)
+begun (Err fault) Holds holds = absurd holds
+
+-- What stands behind the number of arrays, and behind a name, up to an entry.
+abbrev rest_of : ℕ → ℕ → Part (ℕ × ℕ)
+rest_of listed arrays =
+    grammar.kind >>= λ kind. grammar.limit >>= λ limit. grammar.key_count limit >>= λ keys. grammar.contents kind limit listed >>= λ _. done (arrays, keys)
+
+abbrev up_to_entry_of : ℕ → ℕ → ℕ → Part (ℕ × ℕ)
+up_to_entry_of earlier listed arrays = grammar.arrays [] earlier >>= λ made. grammar.name made >>= λ _. rest_of listed arrays
+
+-- The places told part by part are those of the definition.
+ends_at_entry : (dump : List ℕ) → InStore dump → EndsAtEntry dump
+ends_at_entry dump inside =
+    let magic = begun (grammar.begins dump) (λ magic. Begins grammar.array_count InArrays) inside in
+    let arrays = begun (grammar.array_count magic.0.1) InArrays magic.2 in
+    let earlier = arrays.2.0 in
+    let made = begun (grammar.arrays [] earlier arrays.0.1) InArray arrays.2.2 in
+    let name = begun (grammar.name made.0.0 made.0.1) (λ name. InBody) made.2 in
+    let kind = begun (grammar.kind name.0.1) (λ kind. Begins grammar.limit (λ limit. Begins (grammar.key_count limit) (λ count. AtSome (grammar.contents kind limit) count))) name.2 in
+    let limit = begun (grammar.limit kind.0.1) (λ limit. Begins (grammar.key_count limit) (λ count. AtSome (grammar.contents kind.0.0 limit) count)) kind.2 in
+    let count = begun (grammar.key_count limit.0.0 limit.0.1) (λ count. AtSome (grammar.contents kind.0.0 limit.0.0) count) limit.2 in
+    let listed = count.2.0 in
+    let contents = begun (grammar.contents kind.0.0 limit.0.0 listed count.0.1) (λ _ rest. rest ≡ []) count.2.2 in
+    let is : up_to_entry earlier listed dump ≡ Ok ((arrays.0.0, count.0.0), contents.0.1) =
+    ap (λ r. followed_by r (λ _. grammar.array_count >>= λ arrays. up_to_entry_of earlier listed arrays)) magic.1
+    ∙ ap (λ r. followed_by r (up_to_entry_of earlier listed)) arrays.1
+    ∙ ap (λ r. followed_by r (λ made. grammar.name made >>= λ _. rest_of listed arrays.0.0)) made.1
+    ∙ ap (λ r. followed_by r (λ _. rest_of listed arrays.0.0)) name.1
+    ∙ ap (λ r. followed_by r (λ kind. grammar.limit >>= λ limit. grammar.key_count limit >>= λ keys. grammar.contents kind limit listed >>= λ _. done (arrays.0.0, keys))) kind.1
+    ∙ ap (λ r. followed_by r (λ limit. grammar.key_count limit >>= λ keys. grammar.contents kind.0.0 limit listed >>= λ _. done (arrays.0.0, keys))) limit.1
+    ∙ ap (λ r. followed_by r (λ keys. grammar.contents kind.0.0 limit.0.0 listed >>= λ _. done (arrays.0.0, keys))) count.1
+    ∙ ap (λ r. followed_by r (λ _. done (arrays.0.0, count.0.0))) contents.1 in
+    (earlier, listed, subst (λ r. Behind r (λ said rest. (earlier < said.0) × (listed ≤ said.1) × (rest ≡ []))) (sym is) (arrays.2.1, count.2.1, contents.2))
+
 module _ (before after : Drawn) where
-  told_whole : (cause : Cause) → ReadsFault (up_to_end >>= at_last) cause before after → ReadsFault grammar.store cause before after
-  told_whole cause read = record { input = read.input; given = read.given; bytes = read.bytes; stops = stops_too (up_to_end >>= at_last) grammar.store read.input before after (λ input fault is. store_parts input ∙ is) cause read.stops }
+  told_whole : (cause : Cause) → ReadsFault EndsAtEntry (up_to_end >>= at_last) cause before after → ReadsFault EndsAtEntry grammar.store cause before after
+  told_whole cause read = record { input = read.input; given = read.given; bytes = read.bytes; stops = stops_too EndsAtEntry EndsAtEntry (up_to_end >>= at_last) grammar.store read.input before after (λ input fault is. store_parts input ∙ is) (λ ends. ends) cause read.stops }
 
   -- What stops the reading before the end.
-  pub stopped_early : (cause : Cause) → ReadsFault up_to_end cause before after → ReadsFault grammar.store cause before after
-  stopped_early cause read = told_whole cause (fault_first up_to_end at_last cause before after read)
+  pub stopped_early : (cause : Cause) → ReadsFault InStore up_to_end cause before after → ReadsFault EndsAtEntry grammar.store cause before after
+  stopped_early cause read = told_whole cause (fault_within up_to_end at_last InStore EndsAtEntry ends_at_entry cause before after read)
 
 module _ (store : Store) (before mid after : Drawn) (first : ReadsValue up_to_end store before mid) where
   -- Behind the arrays come no bytes.
@@ -56,10 +163,10 @@ module _ (store : Store) (before mid after : Drawn) (first : ReadsValue up_to_en
       record { input = first.input; given = given ∙ first.given; bytes = first.bytes; failures = failures ∙ first.failures; ended = ended; is_dump = is; is_store = known.1; is_regular = known.2 }
 
   -- What stops the reading behind the arrays stops the whole.
-  pub loads_fault : (cause : Cause) → ReadsFault end cause mid after → ReadsFault grammar.store cause before after
+  pub loads_fault : (cause : Cause) → ReadsFault Nowhere end cause mid after → ReadsFault EndsAtEntry grammar.store cause before after
   loads_fault cause read = told_whole before after cause (fault_then up_to_end at_last store before mid first cause after (fault_first end (λ _. done store) cause mid after read))
 
 -- What is answered where the load was stopped.
-pub loaded_err : (before after : Drawn) (fault : LoadFault) (result : Result Entries LoadFault) → IsErrAnd result (λ told. told ≡ fault) → ReadsFault grammar.store (cause_of fault) before after → Loaded before result after
+pub loaded_err : (before after : Drawn) (fault : LoadFault) (result : Result Entries LoadFault) → IsErrAnd result (λ told. told ≡ fault) → ReadsFault EndsAtEntry grammar.store (cause_of fault) before after → Loaded before result after
 loaded_err before after fault (Ok entries) is read = absurd is
-loaded_err before after fault (Err other) is read = subst (λ f. ReadsFault grammar.store (cause_of f) before after) (sym is) read
+loaded_err before after fault (Err other) is read = subst (λ f. ReadsFault EndsAtEntry grammar.store (cause_of f) before after) (sym is) read

@@ -1,16 +1,21 @@
 -- Entries that are read one after another into a map.
-use Rattle.std.proofs.Common.{◌≡◌, ℕ, suc, true, false, cond, IsTrue, List, [], ◌∷◌, ◌++◌, Option, Some, None, Result, Ok, Err, refl, sym, ap, subst, ◌∙◌, append_assoc, append-nil, Less, Equal, Greater}
+use Rattle.std.proofs.Common.{◌≡◌, ℕ, ◌+◌, ◌-◌, ◌<◌, ◌≤◌, suc, arith, true, false, cond, IsTrue, List, [], ◌∷◌, ◌++◌, Option, Some, None, Result, Ok, Err, refl, sym, ap, subst, ◌∙◌, append_assoc, append-nil, Less, Equal, Greater}
 use Rattle.std.specs.declared.cmp.Ordering.{Ordering}
 use Rattle.std.specs.Ordering.{is_lt, is_eq, eq_by_cmp, ordering_reverse}
 use Rattle.std.specs.Cmp.{IsTotalOrder}
 use Rattle.std.specs.FinMap.{IsAntisymmetric, find, from_entries, from_entries_push, get, insert, get-from_entries}
 use Rattle.std.specs.FinMap.Entries.{find-append}
+use Rattle.std.proofs.lemmas.List.Elements.{All-nil, All-append}
 use Rattle.judy_model.specs.Arrays.{ArrayOf, ArrayValue, ins}
-use Rattle.judy_model.specs.Fields.{Fault, bad_order, Part, field, followed_by, ◌>>=◌, done}
+use Rattle.judy_model.specs.Keys.{IsByteString}
+use Rattle.judy_model.specs.Fields.{Fault, bad_order, Part, field, followed_by, ◌>>=◌, done, Behind}
 use Rattle.judy_model.specs.DumpGrammar.{is_above, entry, entries, filled}
 use Rattle.judy_model.proofs.Inserts.{ins_absent}
-use Rattle.judy_shelf.specs.Reads.{Drawn, Cause, ReadsValue, ReadsFault}
-use Rattle.judy_shelf.proofs.ReadLemmas.{fault_first, fault_then, value_then, value_done, Reading, reading_none, reading_value, reading_told, reading_end, reading_fault}
+use Rattle.judy_pipe.specs.Pipe.{grown}
+use Rattle.judy_pipe.proofs.Moves.{grown-grown}
+use Rattle.judy_shelf.specs.Reads.{Drawn, Cause, memory, ReadsValue, ReadsFault, Nowhere, AtSome}
+use Rattle.judy_shelf.proofs.WriteLemmas.{grown_nothing}
+use Rattle.judy_shelf.proofs.ReadLemmas.{fault_first, fault_then, value_then, value_done, Reading, reading_fault}
 
 nothing_more : {A : Type 0} (read : Result (A × List ℕ) Fault) → read ≡ followed_by read (λ value. done value)
 nothing_more (Ok given) = refl
@@ -37,24 +42,21 @@ module _ {K : Type 0} (order : K → K → Ordering) (key : Part K) (value : Par
   abbrev pub to_come : Option K → ℕ → List (K × ℕ) → Part (List (K × ℕ))
   to_come last left held = entries order key value last left >>= λ others. done (held ++ others)
 
-  pub entries_start : (now : Drawn) → Reading whole (to_come None count []) now now
-  entries_start now = reading_told whole whole (to_come None count []) now now (λ more. nothing_more (whole more)) (reading_none whole now)
+  -- One entry more.
+  pub one_entry : (last : Option K) (left : ℕ) (held : List (K × ℕ)) (pair : K × ℕ) (input more : List ℕ) → entry order key value last (input ++ more) ≡ Ok (pair, more) →
+      to_come last (suc left) held (input ++ more) ≡ to_come (Some pair.0) left (held ++ pair ∷ []) more
+  one_entry last left held pair input more is =
+      let rest : K × ℕ → Part (List (K × ℕ)) = λ first. entries order key value (Some first.0) left >>= λ others. done (first ∷ others) in
+      let keep : List (K × ℕ) → Part (List (K × ℕ)) = λ others. done (held ++ others) in
+      in_a_row (entry order key value last (input ++ more)) rest keep ∙ ap (λ r. followed_by r (λ first. rest first >>= keep)) is ∙ one_more (entries order key value (Some pair.0) left more) held pair
 
   module _ (last : Option K) (left n : ℕ) (is : left ≡ suc n) (held : List (K × ℕ)) (before mid after : Drawn) (far : Reading whole (to_come last left held) before mid) where
     far_is : Reading whole (to_come last (suc n) held) before mid
     far_is = subst (λ m. Reading whole (to_come last m held) before mid) is far
 
-    pub entries_next : (pair : K × ℕ) → ReadsValue (entry order key value last) pair mid after → Reading whole (to_come (Some pair.0) n (held ++ pair ∷ [])) before after
-    entries_next pair next =
-        let rest : K × ℕ → Part (List (K × ℕ)) = λ first. entries order key value (Some first.0) n >>= λ others. done (first ∷ others) in
-        let keep : List (K × ℕ) → Part (List (K × ℕ)) = λ others. done (held ++ others) in
-        let split = reading_told whole (to_come last (suc n) held) (entry order key value last >>= λ first. rest first >>= keep) before mid (λ more. in_a_row (entry order key value last more) rest keep) far_is in
-        reading_told whole (rest pair >>= keep) (to_come (Some pair.0) n (held ++ pair ∷ [])) before after (λ more. one_more (entries order key value (Some pair.0) n more) held pair)
-        (reading_value whole before mid after (entry order key value last) (λ first. rest first >>= keep) pair split next)
-
-    pub entries_fault : (cause : Cause) → ReadsFault (entry order key value last) cause mid after → ReadsFault whole cause before after
+    pub entries_fault : (cause : Cause) → ReadsFault Nowhere (entry order key value last) cause mid after → ReadsFault Nowhere whole cause before after
     entries_fault cause next =
-        reading_fault whole (to_come last (suc n) held) before mid after far_is cause
+        reading_fault whole (to_come last (suc n) held) before mid after far_is Nowhere Nowhere (λ input never. never) cause
         (fault_first (entries order key value last (suc n)) (λ others. done (held ++ others)) cause mid after
         (fault_first (entry order key value last) (λ first. entries order key value (Some first.0) n >>= λ others. done (first ∷ others)) cause mid after next))
 
@@ -66,25 +68,91 @@ module _ {K : Type 0} (order : K → K → Ordering) (key : Part K) (value : Par
         (value_then value (λ held. done (first, held)) held mid after next (first, held) after (value_done (first, held) after))
 
     -- A key whose value couldn't be read.
-    pub entry_value_stopped : (cause : Cause) (after : Drawn) → ReadsFault value cause mid after → ReadsFault (entry order key value last) cause before after
+    pub entry_value_stopped : (cause : Cause) (after : Drawn) → ReadsFault Nowhere value cause mid after → ReadsFault Nowhere (entry order key value last) cause before after
     entry_value_stopped cause after next =
         fault_then (field key ((is_above order last, bad_order) ∷ [])) (λ first. value >>= λ held. done (first, held)) first before mid read cause after
         (fault_first value (λ held. done (first, held)) cause mid after next)
 
   -- A key that couldn't be read.
-  pub entry_key_stopped : (last : Option K) (cause : Cause) (before after : Drawn) → ReadsFault (field key ((is_above order last, bad_order) ∷ [])) cause before after → ReadsFault (entry order key value last) cause before after
+  pub entry_key_stopped : (last : Option K) (cause : Cause) (before after : Drawn) → ReadsFault Nowhere (field key ((is_above order last, bad_order) ∷ [])) cause before after → ReadsFault Nowhere (entry order key value last) cause before after
   entry_key_stopped last cause before after next = fault_first (field key ((is_above order last, bad_order) ∷ [])) (λ first. value >>= λ held. done (first, held)) cause before after next
-
-  pub entries_done : (last : Option K) (held : List (K × ℕ)) (before now : Drawn) → Reading whole (to_come last 0 held) before now → ReadsValue whole held before now
-  entries_done last held before now far =
-      reading_end whole held before now (reading_told whole (to_come last 0 held) (done held) before now (λ more. ap (λ all. Ok (all, more)) (append-nil held)) far)
 
   module _ (kind : ArrayOf order → ArrayValue) (limit : ℕ) (before after : Drawn) where
     pub filled_value : (held : List (K × ℕ)) → ReadsValue whole held before after → ReadsValue (filled kind limit whole) (kind (record { limit = limit; map = from_entries held })) before after
     filled_value held read = value_then whole (λ held. done (kind (record { limit = limit; map = from_entries held }))) held before after read _ after (value_done _ after)
 
-    pub filled_fault : (cause : Cause) → ReadsFault whole cause before after → ReadsFault (filled kind limit whole) cause before after
+    pub filled_fault : {Also : List ℕ → Type 0} → (cause : Cause) → ReadsFault Nowhere whole cause before after → ReadsFault Also (filled kind limit whole) cause before after
     filled_fault cause read = fault_first whole (λ held. done (kind (record { limit = limit; map = from_entries held }))) cause before after read
+
+module _ {K : Type 0} (order : K → K → Ordering) (key : Part K) (value : Part ℕ) where
+  -- So many entries were read, which are these, however many are said.
+  pub record Listing (listed : ℕ) (last : Option K) (held : List (K × ℕ)) (before now : Drawn) : Type 0 where
+    pub input : List ℕ
+    pub given : now.given ≡ grown before.given input
+    pub bytes : IsByteString input
+    pub failures : now.failures ≡ before.failures
+    pub goes : (left total : ℕ) → listed + left ≡ total → (more : List ℕ) → whole order key value total (input ++ more) ≡ to_come order key value total last left held more
+
+  pub listing_none : (now : Drawn) → Listing 0 None [] now now
+  listing_none now = record {
+    input = [];
+    given = sym (grown_nothing now.given);
+    bytes = All-nil (λ byte. byte < 256);
+    failures = refl;
+    goes = λ left total is more.
+        let same : total ≡ left = omega (arith, is) in
+        nothing_more (whole order key value total more) ∙ ap (λ n. to_come order key value total None n [] more) same;
+  }
+
+  module _ (listed : ℕ) (last : Option K) (held : List (K × ℕ)) (before mid : Drawn) (far : Listing listed last held before mid) where
+    abbrev listing_reading : (left total : ℕ) → listed + left ≡ total → Reading (whole order key value total) (to_come order key value total last left held) before mid
+    listing_reading left total is = record { input = far.input; given = far.given; bytes = far.bytes; failures = far.failures; goes = far.goes left total is }
+
+    pub listing_next : (pair : K × ℕ) (after : Drawn) → ReadsValue (entry order key value last) pair mid after → Listing (listed + 1) (Some pair.0) (held ++ pair ∷ []) before after
+    listing_next pair after next = record {
+      input = far.input ++ next.input;
+      given = next.given ∙ ap (λ known. grown known next.input) far.given ∙ grown-grown before.given far.input next.input;
+      bytes = All-append (λ byte. byte < 256) far.input next.input far.bytes next.bytes;
+      failures = next.failures ∙ far.failures;
+      goes = λ left total is more.
+          let one : listed + suc left ≡ total = omega (arith, is) in
+          ap (whole order key value total) (append_assoc far.input next.input more) ∙ far.goes (suc left) total one (next.input ++ more)
+          ∙ one_entry order key value total last left held pair next.input more (next.gives more);
+    }
+
+    pub listing_fault : (total : ℕ) → listed < total → (cause : Cause) (after : Drawn) → ReadsFault Nowhere (entry order key value last) cause mid after → ReadsFault Nowhere (whole order key value total) cause before after
+    listing_fault total some cause after next =
+        let n = total - (listed + 1) in
+        let all : listed + suc n ≡ total = omega (arith, some) in
+        entries_fault order key value total last (suc n) n refl held before mid after (listing_reading (suc n) total all) cause next
+
+    listed_behind : (more : List ℕ) → whole order key value listed (far.input ++ more) ≡ Ok (held, more)
+    listed_behind more =
+        let all : listed + 0 ≡ listed = omega arith in
+        far.goes 0 listed all more ∙ ap (λ all. Ok (all, more)) (append-nil held)
+
+    -- These are all of so many.
+    pub listing_whole : ReadsValue (whole order key value listed) held before mid
+    listing_whole = record { input = far.input; given = far.given; bytes = far.bytes; failures = far.failures; gives = listed_behind }
+
+    listed_end : whole order key value listed far.input ≡ Ok (held, [])
+    listed_end = ap (whole order key value listed) (sym (append-nil far.input)) ∙ listed_behind []
+
+    -- The array that holds them and nothing else.
+    pub listing_filled : (kind : ArrayOf order → ArrayValue) (limit count : ℕ) (array : ArrayOf order) → listed ≡ count → array.limit ≡ limit → array.map ≡ from_entries held → ReadsValue (filled kind limit (whole order key value count)) (kind array) before mid
+    listing_filled kind limit count array all limits maps =
+        let same : kind (record { limit = limit; map = from_entries held }) ≡ kind array = sym (λ t. kind (record { limit = limits t; map = maps t })) in
+        subst (λ n. ReadsValue (filled kind limit (whole order key value n)) (kind array) before mid) all
+        (subst (λ made. ReadsValue (filled kind limit (whole order key value listed)) made before mid) same (filled_value order key value listed kind limit before mid held listing_whole))
+
+    -- Want of memory behind the last of them.
+    pub listing_memory : (kind : ArrayOf order → ArrayValue) (limit count : ℕ) → listed ≤ count → ReadsFault (AtSome (λ n. filled kind limit (entries order key value None n)) count) (filled kind limit (whole order key value count)) memory before mid
+    listing_memory kind limit count within = record {
+      input = far.input;
+      given = far.given;
+      bytes = far.bytes;
+      stops = (far.failures, (listed, within, subst (λ r. Behind (followed_by r (λ held. done (kind (record { limit = limit; map = from_entries held })))) (λ _ rest. rest ≡ [])) (sym listed_end) refl));
+    }
 
 module _ {K : Type 0} {order : K → K → Ordering} (total : IsTotalOrder order) (same : IsAntisymmetric order) where
   -- The keys above the last one are none of those held.

@@ -15,11 +15,11 @@ use Rattle.judy_shelf.specs.declared.array.Array.{Array}
 use Rattle.judy_shelf.specs.declared.fault.LoadFault.{LoadFault}
 use Rattle.judy_shelf.specs.declared.fault.LoadFault.TheVariants.{BadKind}
 use Rattle.judy_shelf.specs.declared.kind.Kind.{Kind}
-use Rattle.judy_shelf.specs.declared.kind.Kind.TheVariants.{Judy1, JudyL, JudyHs}
+use Rattle.judy_shelf.specs.declared.kind.Kind.TheVariants.{Judy1, JudyL, JudySl, JudyHs}
 use Rattle.judy_shelf.specs.Arrays.{value_of}
 use Rattle.judy_shelf.specs.Shelves.{Entries, store_of}
 use Rattle.judy_shelf.specs.Writes.{kind_number}
-use Rattle.judy_shelf.specs.Reads.{Drawn, kind, told, ReadsValue, ReadsFault, Reads}
+use Rattle.judy_shelf.specs.Reads.{Drawn, kind, told, ReadsValue, ReadsFault, Nowhere, Reads}
 use Rattle.judy_shelf.proofs.ShelfLemmas.{array_named-store_of}
 use Rattle.judy_shelf.proofs.ReadLemmas.{value_passes, value_passes_both, value_fails_second}
 
@@ -49,7 +49,7 @@ module _ (entries : Entries) (wanted : ℕ) (read name : List ℕ) (before after
   name_is_new new = subst (λ n. ReadsValue (field (bytes wanted) (name_checks (store_of entries))) n before after) same
       (value_passes_both (bytes wanted) read before after was (list_all is_name_byte) (is_new (store_of entries)) bad_name same_name bytes_pass (ap (is_new (store_of entries)) same ∙ new))
 
-  pub name_is_taken : is_new (store_of entries) name ≡ false → ReadsFault (field (bytes wanted) (name_checks (store_of entries))) (told same_name) before after
+  pub name_is_taken : is_new (store_of entries) name ≡ false → ReadsFault Nowhere (field (bytes wanted) (name_checks (store_of entries))) (told same_name) before after
   name_is_taken taken = value_fails_second (bytes wanted) read before after was (list_all is_name_byte) (is_new (store_of entries)) bad_name same_name bytes_pass (ap (is_new (store_of entries)) same ∙ taken)
 
 -- ---- kinds
@@ -66,7 +66,7 @@ module _ (value : ℕ) (before after : Drawn) (was : ReadsValue (number 1) value
     | false ↦ λ e. let other = eqb-false value 3 e in let four : value ≡ 4 = omega arith in inr (one_byte ∙ ap (λ n. n % 256 ∷ []) four)
   ] refl
 
-  kind_stops : (known : Bool) → is_kind value ≡ known → value ≢ 1 → value ≢ 2 → ReadsFault grammar.kind kind before after
+  kind_stops : (known : Bool) → is_kind value ≡ known → value ≢ 1 → value ≢ 2 → ReadsFault Nowhere grammar.kind kind before after
   kind_stops false unknown not_one not_two = record {
     input = was.input;
     given = was.given;
@@ -88,4 +88,5 @@ module _ (value : ℕ) (before after : Drawn) (was : ReadsValue (number 1) value
   kind_told None unknown = kind_stops (is_kind value) refl unknown.0 unknown.1
   kind_told (Some Judy1) same = subst (λ n. ReadsValue grammar.kind n before after) same (value_passes (number 1) value before after was is_kind bad_kind (ap is_kind same))
   kind_told (Some JudyL) same = subst (λ n. ReadsValue grammar.kind n before after) same (value_passes (number 1) value before after was is_kind bad_kind (ap is_kind same))
+  kind_told (Some JudySl) same = subst (λ n. ReadsValue grammar.kind n before after) same (value_passes (number 1) value before after was is_kind bad_kind (ap is_kind same))
   kind_told (Some JudyHs) same = subst (λ n. ReadsValue grammar.kind n before after) same (value_passes (number 1) value before after was is_kind bad_kind (ap is_kind same))

@@ -3,7 +3,7 @@ use Rattle.std.proofs.Common.{◌≡◌, ℕ, List, [], ◌∷◌, length, get_o
 use Rattle.std.specs.Int.{w32, w64, from_be_bytes}
 use Rattle.judy_model.specs.WordBytes.{number_of}
 use Rattle.judy_model.specs.Fields.{done, bytes, number}
-use Rattle.judy_shelf.specs.Reads.{Drawn, Cause, ReadsValue, ReadsFault}
+use Rattle.judy_shelf.specs.Reads.{Drawn, Cause, ReadsValue, ReadsFault, Nowhere}
 use Rattle.judy_shelf.proofs.ReadLemmas.{fault_first, value_then, value_done}
 
 pub from_1 : (read : List ℕ) → length read ≡ 1 → number_of read ≡ get_or read 0 0
@@ -37,5 +37,5 @@ number_read width read value before after first is =
     value_then (bytes width) (λ spelled. done (number_of spelled)) read before after first value after (subst (λ n. ReadsValue (done (number_of read)) n after after) is (value_done (number_of read) after))
 
 -- A number whose bytes couldn't be read.
-pub number_stopped : (width : ℕ) (cause : Cause) (before after : Drawn) → ReadsFault (bytes width) cause before after → ReadsFault (number width) cause before after
+pub number_stopped : (width : ℕ) (cause : Cause) (before after : Drawn) → ReadsFault Nowhere (bytes width) cause before after → ReadsFault Nowhere (number width) cause before after
 number_stopped width cause before after first = fault_first (bytes width) (λ spelled. done (number_of spelled)) cause before after first

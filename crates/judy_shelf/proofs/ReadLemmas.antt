@@ -3,32 +3,43 @@ use Rattle.std.proofs.Common.{◌≡◌, ℕ, ◌+◌, ◌<◌, inl, inr, Bool, 
 use Rattle.std.specs.Result.{IsErrAnd}
 use Rattle.std.proofs.lemmas.List.Elements.{All-nil, All-append}
 use Rattle.judy_model.specs.Keys.{IsByteString}
-use Rattle.judy_model.specs.Fields.{Fault, truncated, bad_kind, Part, followed_by, ◌>>=◌, done, checked, field}
+use Rattle.judy_model.specs.Fields.{Fault, truncated, bad_kind, Part, followed_by, ◌>>=◌, done, checked, field, Behind, Begins}
 use Rattle.judy_pipe.specs.Pipe.{grown}
 use Rattle.judy_pipe.proofs.Moves.{grown-grown}
 use Rattle.judy_shelf.specs.declared.fault.LoadFault.{LoadFault}
-use Rattle.judy_shelf.specs.Reads.{Drawn, Cause, reader, memory, cut, kind, told, cause_of, Stops, ReadsValue, ReadsFault, Reads}
+use Rattle.judy_shelf.specs.Reads.{Drawn, Cause, reader, memory, cut, kind, told, cause_of, Stops, ReadsValue, ReadsFault, ReadsWanting, Nowhere, Reads}
 use Rattle.judy_shelf.proofs.WriteLemmas.{grown_nothing}
 
 -- ---- one part behind another
 
-module _ {A B : Type 0} (part : Part A) (other : Part B) (input : List ℕ) (before after : Drawn) (same : (read : List ℕ) (fault : Fault) → part read ≡ Err fault → other read ≡ Err fault) where
+module _ {A B : Type 0} (Wants Also : List ℕ → Type 0) (part : Part A) (other : Part B) (input : List ℕ) (before after : Drawn) (same : (read : List ℕ) (fault : Fault) → part read ≡ Err fault → other read ≡ Err fault) (also : Wants input → Also input) where
   -- What stops a part stops all that begins with it.
-  pub stops_too : (cause : Cause) → Stops part input before after cause → Stops other input before after cause
+  pub stops_too : (cause : Cause) → Stops Wants part input before after cause → Stops Also other input before after cause
   stops_too reader stops = stops
-  stops_too memory stops = stops
+  stops_too memory stops = (stops.0, also stops.1)
   stops_too cut stops = (stops.0, stops.1, same input truncated stops.2)
   stops_too kind stops = (stops.0, elim stops.1 [ inl faulty ↦ inl (λ more. same (input ++ more) bad_kind (faulty more)) | inr ends ↦ inr ends ])
   stops_too (told fault) stops = (stops.0, λ more. same (input ++ more) fault (stops.1 more))
 
+-- No memory is wanted nowhere.
+pub nowhere : (Also : List ℕ → Type 0) (input : List ℕ) → Nowhere input → Also input
+nowhere Also input never = absurd never
+
+-- What holds of the bytes behind a part.
+pub begins_then : {A : Type 0} (part : Part A) (value : A) (before mid : Drawn) (first : ReadsValue part value before mid) (Holds : A → List ℕ → Type 0) (input : List ℕ) → Holds value input → Begins part Holds (first.input ++ input)
+begins_then part value before mid first Holds input holds = subst (λ r. Behind r Holds) (sym (first.gives input)) holds
+
 module _ {A B : Type 0} (part : Part A) (rest : A → Part B) where
-  pub fault_first : (cause : Cause) (before after : Drawn) → ReadsFault part cause before after → ReadsFault (part >>= rest) cause before after
-  fault_first cause before after read = record {
+  pub fault_within : (Wants Also : List ℕ → Type 0) → ((input : List ℕ) → Wants input → Also input) → (cause : Cause) (before after : Drawn) → ReadsFault Wants part cause before after → ReadsFault Also (part >>= rest) cause before after
+  fault_within Wants Also also cause before after read = record {
     input = read.input;
     given = read.given;
     bytes = read.bytes;
-    stops = stops_too part (part >>= rest) read.input before after (λ input fault is. ap (λ r. followed_by r rest) is) cause read.stops;
+    stops = stops_too Wants Also part (part >>= rest) read.input before after (λ input fault is. ap (λ r. followed_by r rest) is) (also read.input) cause read.stops;
   }
+
+  pub fault_first : {Also : List ℕ → Type 0} → (cause : Cause) (before after : Drawn) → ReadsFault Nowhere part cause before after → ReadsFault Also (part >>= rest) cause before after
+  fault_first {Also} cause before after read = fault_within Nowhere Also (nowhere Also) cause before after read
 
   module _ (value : A) (before mid : Drawn) (first : ReadsValue part value before mid) where
     both_given : (after : Drawn) (input : List ℕ) → after.given ≡ grown mid.given input → after.given ≡ grown before.given (first.input ++ input)
@@ -41,11 +52,11 @@ module _ {A B : Type 0} (part : Part A) (rest : A → Part B) where
     goes_on_more : (input more : List ℕ) → (part >>= rest) ((first.input ++ input) ++ more) ≡ rest value (input ++ more)
     goes_on_more input more = ap (part >>= rest) (append_assoc first.input input more) ∙ goes_on (input ++ more)
 
-    later_stops : (after : Drawn) (input : List ℕ) (cause : Cause) → Stops (rest value) input mid after cause → Stops (part >>= rest) (first.input ++ input) before after cause
-    later_stops after input reader stops = stops ∙ ap (λ n. n + 1) first.failures
-    later_stops after input memory stops = stops ∙ first.failures
-    later_stops after input cut stops = (stops.0 ∙ first.failures, stops.1, goes_on input ∙ stops.2)
-    later_stops after input kind stops = (
+    later_stops : (Wants Also : List ℕ → Type 0) (after : Drawn) (input : List ℕ) → (Wants input → Also (first.input ++ input)) → (cause : Cause) → Stops Wants (rest value) input mid after cause → Stops Also (part >>= rest) (first.input ++ input) before after cause
+    later_stops Wants Also after input also reader stops = stops ∙ ap (λ n. n + 1) first.failures
+    later_stops Wants Also after input also memory stops = (stops.0 ∙ first.failures, also stops.1)
+    later_stops Wants Also after input also cut stops = (stops.0 ∙ first.failures, stops.1, goes_on input ∙ stops.2)
+    later_stops Wants Also after input also kind stops = (
       stops.0 ∙ first.failures,
       elim stops.1 [
         | inl faulty ↦ inl (λ more. goes_on_more input more ∙ faulty more)
@@ -58,15 +69,18 @@ module _ {A B : Type 0} (part : Part A) (rest : A → Part B) where
         )
       ],
     )
-    later_stops after input (told fault) stops = (stops.0 ∙ first.failures, λ more. goes_on_more input more ∙ stops.1 more)
+    later_stops Wants Also after input also (told fault) stops = (stops.0 ∙ first.failures, λ more. goes_on_more input more ∙ stops.1 more)
 
-    pub fault_then : (cause : Cause) (after : Drawn) → ReadsFault (rest value) cause mid after → ReadsFault (part >>= rest) cause before after
-    fault_then cause after read = record {
+    pub fault_behind : (Wants Also : List ℕ → Type 0) → ((input : List ℕ) → Wants input → Also (first.input ++ input)) → (cause : Cause) (after : Drawn) → ReadsFault Wants (rest value) cause mid after → ReadsFault Also (part >>= rest) cause before after
+    fault_behind Wants Also also cause after read = record {
       input = first.input ++ read.input;
       given = both_given after read.input read.given;
       bytes = All-append (λ byte. byte < 256) first.input read.input first.bytes read.bytes;
-      stops = later_stops after read.input cause read.stops;
+      stops = later_stops Wants Also after read.input (also read.input) cause read.stops;
     }
+
+    pub fault_then : {Also : List ℕ → Type 0} → (cause : Cause) (after : Drawn) → ReadsFault Nowhere (rest value) cause mid after → ReadsFault Also (part >>= rest) cause before after
+    fault_then {Also} cause after read = fault_behind Nowhere Also (λ input never. absurd never) cause after read
 
     pub value_then : (given : B) (after : Drawn) → ReadsValue (rest value) given mid after → ReadsValue (part >>= rest) given before after
     value_then given after read = record {
@@ -81,14 +95,18 @@ module _ {A B : Type 0} (part : Part A) (rest : A → Part B) where
     reads_then view after (Ok given) read = value_then (view given) after read
     reads_then view after (Err fault) read = fault_then (cause_of fault) after read
 
+    pub reads_behind : {X : Type 0} (Wants : A → List ℕ → Type 0) (view : X → B) (after : Drawn) (result : Result X LoadFault) → ReadsWanting (Wants value) view (rest value) mid result after → ReadsWanting (Begins part Wants) view (part >>= rest) before result after
+    reads_behind Wants view after (Ok given) read = value_then (view given) after read
+    reads_behind Wants view after (Err fault) read = fault_behind (Wants value) (Begins part Wants) (begins_then part value before mid first Wants) (cause_of fault) after read
+
 -- A value for which nothing is read.
 pub value_done : {A : Type 0} (value : A) (now : Drawn) → ReadsValue (done value) value now now
 value_done value now = record { input = []; given = sym (grown_nothing now.given); bytes = All-nil (λ byte. byte < 256); failures = refl; gives = λ more. refl }
 
 -- What is answered where the reading was stopped.
-pub reads_err : {X A : Type 0} (view : X → A) (part : Part A) (before after : Drawn) (fault : LoadFault) (result : Result X LoadFault) → IsErrAnd result (λ told. told ≡ fault) → ReadsFault part (cause_of fault) before after → Reads view part before result after
+pub reads_err : {X A : Type 0} {Wants : List ℕ → Type 0} (view : X → A) (part : Part A) (before after : Drawn) (fault : LoadFault) (result : Result X LoadFault) → IsErrAnd result (λ told. told ≡ fault) → ReadsFault Wants part (cause_of fault) before after → ReadsWanting Wants view part before result after
 reads_err view part before after fault (Ok value) is read = absurd is
-reads_err view part before after fault (Err other) is read = subst (λ f. ReadsFault part (cause_of f) before after) (sym is) read
+reads_err {Wants = Wants} view part before after fault (Err other) is read = subst (λ f. ReadsFault Wants part (cause_of f) before after) (sym is) read
 
 -- ---- checks
 
@@ -104,7 +122,7 @@ module _ {A : Type 0} (part : Part A) (value : A) (before after : Drawn) (read :
   }
 
   -- A value that doesn't pass the first of some checks.
-  pub value_fails : (test : A → Bool) (fault : Fault) (checks : List ((A → Bool) × Fault)) → test value ≡ false → ReadsFault (field part ((test, fault) ∷ checks)) (told fault) before after
+  pub value_fails : (test : A → Bool) (fault : Fault) (checks : List ((A → Bool) × Fault)) → test value ≡ false → ReadsFault Nowhere (field part ((test, fault) ∷ checks)) (told fault) before after
   value_fails test fault checks fails = record {
     input = read.input;
     given = read.given;
@@ -150,11 +168,11 @@ module _ {B : Type 0} (whole : Part B) where
     far_more : (input more : List ℕ) → whole ((far.input ++ input) ++ more) ≡ rest (input ++ more)
     far_more input more = ap whole (append_assoc far.input input more) ∙ far.goes (input ++ more)
 
-    far_stops : (input : List ℕ) (cause : Cause) → Stops rest input mid after cause → Stops whole (far.input ++ input) before after cause
-    far_stops input reader stops = stops ∙ ap (λ n. n + 1) far.failures
-    far_stops input memory stops = stops ∙ far.failures
-    far_stops input cut stops = (stops.0 ∙ far.failures, stops.1, far.goes input ∙ stops.2)
-    far_stops input kind stops = (
+    far_stops : (Wants Also : List ℕ → Type 0) (input : List ℕ) → (Wants input → Also (far.input ++ input)) → (cause : Cause) → Stops Wants rest input mid after cause → Stops Also whole (far.input ++ input) before after cause
+    far_stops Wants Also input also reader stops = stops ∙ ap (λ n. n + 1) far.failures
+    far_stops Wants Also input also memory stops = (stops.0 ∙ far.failures, also stops.1)
+    far_stops Wants Also input also cut stops = (stops.0 ∙ far.failures, stops.1, far.goes input ∙ stops.2)
+    far_stops Wants Also input also kind stops = (
       stops.0 ∙ far.failures,
       elim stops.1 [
         | inl faulty ↦ inl (λ more. far_more input more ∙ faulty more)
@@ -167,30 +185,16 @@ module _ {B : Type 0} (whole : Part B) where
         )
       ],
     )
-    far_stops input (told fault) stops = (stops.0 ∙ far.failures, λ more. far_more input more ∙ stops.1 more)
+    far_stops Wants Also input also (told fault) stops = (stops.0 ∙ far.failures, λ more. far_more input more ∙ stops.1 more)
 
     -- What stops the rest stops the whole.
-    pub reading_fault : (cause : Cause) → ReadsFault rest cause mid after → ReadsFault whole cause before after
-    reading_fault cause next = record {
+    pub reading_fault : (Wants Also : List ℕ → Type 0) → ((input : List ℕ) → Wants input → Also (far.input ++ input)) → (cause : Cause) → ReadsFault Wants rest cause mid after → ReadsFault Also whole cause before after
+    reading_fault Wants Also also cause next = record {
       input = far.input ++ next.input;
       given = next.given ∙ ap (λ known. grown known next.input) far.given ∙ grown-grown before.given far.input next.input;
       bytes = All-append (λ byte. byte < 256) far.input next.input far.bytes next.bytes;
-      stops = far_stops next.input cause next.stops;
+      stops = far_stops Wants Also next.input (also next.input) cause next.stops;
     }
-
-    pub reading_result : {X : Type 0} (view : X → B) (result : Result X LoadFault) → Reads view rest mid result after → Reads view whole before result after
-    reading_result view (Ok value) next = record {
-      input = far.input ++ next.input;
-      given = next.given ∙ ap (λ known. grown known next.input) far.given ∙ grown-grown before.given far.input next.input;
-      bytes = All-append (λ byte. byte < 256) far.input next.input far.bytes next.bytes;
-      failures = next.failures ∙ far.failures;
-      gives = λ more. far_more next.input more ∙ next.gives more;
-    }
-    reading_result view (Err fault) next = reading_fault (cause_of fault) next
-
--- Want of memory behind what was read.
-pub reading_memory : {A : Type 0} (whole rest : Part A) (before now : Drawn) → Reading whole rest before now → ReadsFault whole memory before now
-reading_memory whole rest before now far = record { input = far.input; given = far.given; bytes = far.bytes; stops = far.failures }
 
 -- ---- two checks
 
@@ -203,5 +207,5 @@ module _ {A : Type 0} (part : Part A) (value : A) (before after : Drawn) (read :
   value_passes_both second = record { input = read.input; given = read.given; bytes = read.bytes; failures = read.failures; gives = λ more. twice more ∙ ap (λ b. cond b (Ok (value, more)) (Err other)) second }
 
   -- A value that doesn't pass the second.
-  pub value_fails_second : two value ≡ false → ReadsFault (field part ((one, fault) ∷ (two, other) ∷ [])) (told other) before after
+  pub value_fails_second : two value ≡ false → ReadsFault Nowhere (field part ((one, fault) ∷ (two, other) ∷ [])) (told other) before after
   value_fails_second second = record { input = read.input; given = read.given; bytes = read.bytes; stops = (read.failures, λ more. twice more ∙ ap (λ b. cond b (Ok (value, more)) (Err other)) second) }

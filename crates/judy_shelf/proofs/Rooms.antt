@@ -9,7 +9,7 @@ use Rattle.judy_model.specs.Keys.{IsByteString}
 use Rattle.judy_model.specs.Fields.{truncated, trailing, bytes, end}
 use Rattle.judy_pipe.specs.Pipe.{grown}
 use Rattle.judy_pipe.specs.Pipe as pipe
-use Rattle.judy_shelf.specs.Reads.{Drawn, reader, cut, told, ReadsValue, ReadsFault}
+use Rattle.judy_shelf.specs.Reads.{Drawn, reader, cut, told, ReadsValue, ReadsFault, Nowhere}
 
 pub bytes_from_each : (read : List ℕ) → ((i : ℕ) → get_or read i 0 < 256) → IsByteString read
 bytes_from_each read each = All-from_get_or (λ byte. byte < 256) read 0 (λ i _. each i)
@@ -37,7 +37,7 @@ ended_told None = tt
 ended_told (Some known) = refl
 
 module _ (room : List ℕ) (filled : ℕ) (before after : Drawn) (given : after.given ≡ grown before.given (take filled room)) (are : IsByteString (take filled room)) where
-  pub room_cut : (known : Option Bool) (wanted : ℕ) → filled < wanted → filled ≤ length room → after.ended ≡ pipe.told known true → after.failures ≡ before.failures → ReadsFault (bytes wanted) cut before after
+  pub room_cut : (known : Option Bool) (wanted : ℕ) → filled < wanted → filled ≤ length room → after.ended ≡ pipe.told known true → after.failures ≡ before.failures → ReadsFault Nowhere (bytes wanted) cut before after
   room_cut known wanted short within ended same = record {
     input = take filled room;
     given = given;
@@ -49,7 +49,7 @@ module _ (room : List ℕ) (filled : ℕ) (before after : Drawn) (given : after.
     );
   }
 
-  pub room_broken : (wanted : ℕ) → after.failures ≡ before.failures + 1 → ReadsFault (bytes wanted) reader before after
+  pub room_broken : (wanted : ℕ) → after.failures ≡ before.failures + 1 → ReadsFault Nowhere (bytes wanted) reader before after
   room_broken wanted more = record { input = take filled room; given = given; bytes = are; stops = more }
 
 pub room_full : (room : List ℕ) (wanted : ℕ) (before after : Drawn) → after.given ≡ grown before.given room → IsByteString room → length room ≡ wanted → after.failures ≡ before.failures → ReadsValue (bytes wanted) room before after
@@ -66,7 +66,7 @@ room_full room wanted before after given are long same = record {
 }
 
 -- A byte that came where none may.
-pub byte_trailing : (byte : ℕ) (before after : Drawn) → after.given ≡ grown before.given (byte ∷ []) → after.failures ≡ before.failures → byte < 256 → ReadsFault end (told trailing) before after
+pub byte_trailing : (byte : ℕ) (before after : Drawn) → after.given ≡ grown before.given (byte ∷ []) → after.failures ≡ before.failures → byte < 256 → ReadsFault Nowhere end (told trailing) before after
 byte_trailing byte before after given same is = record {
   input = byte ∷ [];
   given = given;

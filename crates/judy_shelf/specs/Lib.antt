@@ -5,3 +5,4 @@ pub mod Shelves
 pub mod Lends
 pub mod Writes
 pub mod Reads
+pub mod Faults

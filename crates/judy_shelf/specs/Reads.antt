@@ -1,11 +1,12 @@
 -- What a source gave where a part of a dump was read from it, and what is known of the part.
-use Rattle.std.specs.Prelude.{◌≡◌, ℕ, ◌+◌, ◌<◌, ◌⊎◌, Bool, true, false, List, [], ◌∷◌, ◌++◌, Option, IfSome, Result, Ok, Err}
+use Rattle.std.specs.Prelude.{◌≡◌, ℕ, ◌+◌, ◌<◌, ◌≤◌, ◌⊎◌, Bool, true, false, List, [], ◌∷◌, ◌++◌, Option, IfSome, Result, Ok, Err}
 use Rattle.judy_model.specs.Keys.{IsByteString}
 use Rattle.judy_model.specs.Stores.{Store, IsStore, IsRegular}
 use Rattle.judy_model.specs.Fields as fields
-use Rattle.judy_model.specs.Fields.{Fault, Part, ◌>>=◌}
+use Rattle.judy_model.specs.Fields.{Fault, Part, ◌>>=◌, Begins}
 use Rattle.judy_model.specs.DumpGrammar as grammar
 use Rattle.judy_model.specs.DumpGrammar.{IsDump}
+use Rattle.judy_model.specs.DumpPlaces.{EndsAtEntry}
 use Rattle.judy_pipe.specs.Pipe.{grown}
 use Rattle.judy_shelf.specs.declared.fault.LoadFault.{LoadFault}
 use Rattle.judy_shelf.specs.declared.fault.LoadFault.TheVariants as load
@@ -56,13 +57,13 @@ IsFaulty part input fault = (more : List ℕ) → part (input ++ more) ≡ Err f
 abbrev pub EndsWithString : List ℕ → Type 0
 EndsWithString input = (front : List ℕ) × ((input ≡ front ++ 3 ∷ []) ⊎ (input ≡ front ++ 4 ∷ []))
 
--- What stopped the reading of a part behind these bytes.
-abbrev pub Stops : {A : Type 0} → Part A → List ℕ → Drawn → Drawn → Cause → Type 0
-Stops part input before after reader = after.failures ≡ before.failures + 1
-Stops part input before after memory = after.failures ≡ before.failures
-Stops part input before after cut = (after.failures ≡ before.failures) × IfSome after.ended (λ ended. ended ≡ true) × (part input ≡ Err fields.truncated)
-Stops part input before after kind = (after.failures ≡ before.failures) × (IsFaulty part input fields.bad_kind ⊎ EndsWithString input)
-Stops part input before after (told fault) = (after.failures ≡ before.failures) × IsFaulty part input fault
+-- What stopped the reading of a part behind these bytes; behind which of them memory may be wanted is told.
+abbrev pub Stops : {A : Type 0} → (List ℕ → Type 0) → Part A → List ℕ → Drawn → Drawn → Cause → Type 0
+Stops Wants part input before after reader = after.failures ≡ before.failures + 1
+Stops Wants part input before after memory = (after.failures ≡ before.failures) × Wants input
+Stops Wants part input before after cut = (after.failures ≡ before.failures) × IfSome after.ended (λ ended. ended ≡ true) × (part input ≡ Err fields.truncated)
+Stops Wants part input before after kind = (after.failures ≡ before.failures) × (IsFaulty part input fields.bad_kind ⊎ EndsWithString input)
+Stops Wants part input before after (told fault) = (after.failures ≡ before.failures) × IsFaulty part input fault
 
 -- A part was read whole, and gives a value, whatever comes after it.
 pub record ReadsValue {A : Type 0} (part : Part A) (value : A) (before after : Drawn) : Type 0 where
@@ -73,27 +74,54 @@ pub record ReadsValue {A : Type 0} (part : Part A) (value : A) (before after : D
   pub gives : (more : List ℕ) → part (input ++ more) ≡ Ok (value, more)
 
 -- The reading of a part was stopped.
-pub record ReadsFault {A : Type 0} (part : Part A) (cause : Cause) (before after : Drawn) : Type 0 where
+pub record ReadsFault {A : Type 0} (Wants : List ℕ → Type 0) (part : Part A) (cause : Cause) (before after : Drawn) : Type 0 where
   pub input : List ℕ
   pub given : after.given ≡ grown before.given input
   pub bytes : IsByteString input
-  pub stops : Stops part input before after cause
+  pub stops : Stops Wants part input before after cause
 
 -- One or the other, by what was answered.
+abbrev pub ReadsWanting : {X A : Type 0} → (List ℕ → Type 0) → (X → A) → Part A → Drawn → Result X LoadFault → Drawn → Type 0
+ReadsWanting Wants view part before (Ok value) after = ReadsValue part (view value) before after
+ReadsWanting Wants view part before (Err fault) after = ReadsFault Wants part (cause_of fault) before after
+
+-- Memory is wanted nowhere.
+abbrev pub Nowhere : List ℕ → Type 0
+Nowhere input = ⊥
+
+-- A part for which no memory is wanted.
 abbrev pub Reads : {X A : Type 0} → (X → A) → Part A → Drawn → Result X LoadFault → Drawn → Type 0
-Reads view part before (Ok value) after = ReadsValue part (view value) before after
-Reads view part before (Err fault) after = ReadsFault part (cause_of fault) before after
+Reads view part before result after = ReadsWanting Nowhere view part before result after
 
 -- One more byte came, or the end; or the source failed.
 abbrev pub ReadsOne : Drawn → Result Bool LoadFault → Drawn → Type 0
 ReadsOne before (Ok false) after = (after.given ≡ before.given) × (after.failures ≡ before.failures) × IfSome after.ended (λ ended. ended ≡ true)
 ReadsOne before (Ok true) after = (byte : ℕ) × (after.given ≡ grown before.given (byte ∷ [])) × (after.failures ≡ before.failures) × (byte < 256)
-ReadsOne before (Err fault) after = ReadsFault fields.end (cause_of fault) before after
+ReadsOne before (Err fault) after = ReadsFault Nowhere fields.end (cause_of fault) before after
 
 -- The end was met where one more byte was asked for; or one came, or the source failed.
 abbrev pub Ends : Drawn → Result (Unit {0}) LoadFault → Drawn → Type 0
 Ends before (Ok done) after = (after.given ≡ before.given) × (after.failures ≡ before.failures) × IfSome after.ended (λ ended. ended ≡ true)
-Ends before (Err fault) after = ReadsFault fields.end (cause_of fault) before after
+Ends before (Err fault) after = ReadsFault Nowhere fields.end (cause_of fault) before after
+
+-- ---- where memory is wanted
+
+-- Behind the first of so many, the second, and so on, or before all of them, and nothing after it.
+abbrev pub AtSome : {A : Type 0} → (ℕ → Part A) → ℕ → List ℕ → Type 0
+AtSome part count input = (listed : ℕ) × (listed ≤ count) × Begins (part listed) (λ _ rest. rest ≡ []) input
+
+-- Behind a key count, and behind each entry.
+abbrev pub InBody : List ℕ → Type 0
+InBody = Begins grammar.kind (λ kind. Begins grammar.limit (λ limit. Begins (grammar.key_count limit) (λ count. AtSome (grammar.contents kind limit) count)))
+
+abbrev pub InArray : Store → List ℕ → Type 0
+InArray earlier = Begins (grammar.name earlier) (λ name. InBody)
+
+abbrev pub InArrays : ℕ → List ℕ → Type 0
+InArrays count input = (earlier : ℕ) × (earlier < count) × Begins (grammar.arrays [] earlier) InArray input
+
+abbrev pub InStore : List ℕ → Type 0
+InStore = Begins grammar.begins (λ magic. Begins grammar.array_count InArrays)
 
 -- ---- a whole dump
 
@@ -118,4 +146,4 @@ pub record LoadsWhole (store : Store) (before after : Drawn) : Type 0 where
 -- The store of a dump was loaded, or the load was stopped by the first fault of what was read.
 abbrev pub Loaded : Drawn → Result Entries LoadFault → Drawn → Type 0
 Loaded before (Ok entries) after = LoadsWhole (store_of entries) before after
-Loaded before (Err fault) after = ReadsFault grammar.store (cause_of fault) before after
+Loaded before (Err fault) after = ReadsFault EndsAtEntry grammar.store (cause_of fault) before after

@@ -8,7 +8,7 @@ use Rattle.judy_shelf.specs.declared.fault.DumpFault.TheVariants.{NoMemory, Writ
 use Rattle.judy_shelf.specs.declared.array.Array.{Array}
 use Rattle.judy_shelf.specs.declared.array.Array.TheVariants as array
 use Rattle.judy_shelf.specs.declared.kind.Kind.{Kind}
-use Rattle.judy_shelf.specs.declared.kind.Kind.TheVariants.{Judy1, JudyL, JudyHs}
+use Rattle.judy_shelf.specs.declared.kind.Kind.TheVariants.{Judy1, JudyL, JudySl, JudyHs}
 use Rattle.judy_shelf.specs.Shelves.{Entries, store_of}
 
 -- What a sink tells: the bytes that it took, where it tells them, and how often it failed.
@@ -36,6 +36,7 @@ Wrote text before (Err fault) after = WroteFront text before after
 abbrev pub is_of_bytes : Array → Bool
 is_of_bytes (array.Judy1 set) = false
 is_of_bytes (array.JudyL words) = false
+is_of_bytes (array.JudySl strings) = true
 is_of_bytes (array.JudyHs bytes) = true
 
 -- An array whose keys are byte strings stands on a shelf.
@@ -52,4 +53,5 @@ Dumped entries before (Err NoMemory) after = HoldsBytes entries × (after ≡ be
 abbrev pub kind_number : Kind → ℕ
 kind_number Judy1 = 1
 kind_number JudyL = 2
+kind_number JudySl = 3
 kind_number JudyHs = 4

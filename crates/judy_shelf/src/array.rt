@@ -8,6 +8,7 @@ ghost use Rattle.judy_shelf.specs.Arrays.{new_array};
 
 use crate::kind::Kind;
 use judy_hs::{Fnv1a, JudyHs};
+use judy_sl::JudySl;
 use judy_word::{Judy1, JudyL};
 use std::alloc::Global;
 
@@ -20,6 +21,7 @@ pub(crate) fn new_array(alloc: Global, kind: Kind, limit: u64) -> Array
     match kind {
         Kind::Judy1 => Array::Judy1(Judy1::new(alloc, limit)),
         Kind::JudyL => Array::JudyL(JudyL::new(alloc, limit)),
+        Kind::JudySl => Array::JudySl(JudySl::new(alloc, limit)),
         Kind::JudyHs => Array::JudyHs(JudyHs::new(alloc, limit, Fnv1a)),
     }
 }
@@ -32,6 +34,8 @@ pub enum Array {
     Judy1(Judy1),
     /// A map from words to words.
     JudyL(JudyL),
+    /// A map from byte strings without zero bytes to words.
+    JudySl(JudySl),
     /// A map from byte strings to words.
     JudyHs(JudyHs<Fnv1a>),
 }
@@ -47,6 +51,7 @@ impl Array {
         match self {
             Array::Judy1(_) => Kind::Judy1,
             Array::JudyL(_) => Kind::JudyL,
+            Array::JudySl(_) => Kind::JudySl,
             Array::JudyHs(_) => Kind::JudyHs,
         }
     }
@@ -58,6 +63,7 @@ impl Array {
         match self {
             Array::Judy1(set) => set.limit(),
             Array::JudyL(words) => words.limit(),
+            Array::JudySl(strings) => strings.limit(),
             Array::JudyHs(bytes) => bytes.limit(),
         }
     }
@@ -70,6 +76,7 @@ impl Array {
         match self {
             Array::Judy1(set) => set.len(),
             Array::JudyL(words) => words.len(),
+            Array::JudySl(strings) => strings.len(),
             Array::JudyHs(bytes) => bytes.len(),
         }
     }
@@ -90,6 +97,7 @@ impl Array {
         match self {
             Array::Judy1(set) => set.free_array(),
             Array::JudyL(words) => words.free_array(),
+            Array::JudySl(strings) => strings.free_array(),
             Array::JudyHs(bytes) => bytes.free_array(),
         }
     }
@@ -103,6 +111,7 @@ impl Array {
         match self {
             Array::Judy1(set) => set.is_array(),
             Array::JudyL(words) => words.is_array(),
+            Array::JudySl(strings) => strings.is_array(),
             Array::JudyHs(bytes) => bytes.is_array(),
         }
     }

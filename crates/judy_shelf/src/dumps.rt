@@ -20,8 +20,8 @@ use judy_word::{Judy1, JudyL};
 /// values, in the format JDY1 (this project's own).
 ///
 /// At Ok the sink took the dump of the store that the shelf is, and nothing else. `Write` comes only where the
-/// sink failed, which it then did once; it took a front of the dump. A shelf with a judyhs array isn't dumped
-/// yet: it answers `NoMemory`, with no byte written.
+/// sink failed, which it then did once; it took a front of the dump. A shelf with a judysl or a judyhs array
+/// isn't dumped yet: it answers `NoMemory`, with no byte written.
 pub fn dump<W: Sink>(shelf: &Shelf, sink: &mut W) -> Result<(), DumpFault>
     requires { (W.tally sink.old).failures < 2 ^ 64 - 1 }
     ensures { Dumped shelf.now (sunk (W.taken sink.old) (W.tally sink.old).failures) result (sunk (W.taken sink.new) (W.tally sink.new).failures) }
@@ -53,6 +53,7 @@ fn is_of_bytes(array: &Array) -> bool
     match array {
         Array::Judy1(_) => false,
         Array::JudyL(_) => false,
+        Array::JudySl(_) => true,
         Array::JudyHs(_) => true,
     }
 }
@@ -80,6 +81,7 @@ fn write_array<W: Sink>(name: &Name, array: &Array, sink: &mut W) -> Result<(), 
     match array {
         Array::Judy1(set) => write_set(set, sink),
         Array::JudyL(words) => write_words(words, sink),
+        Array::JudySl(_) => unreachable!(),
         Array::JudyHs(_) => unreachable!(),
     }
 }

@@ -1,5 +1,7 @@
 //! Why a shelf isn't dumped, or isn't loaded.
 
+ghost use Rattle.std.specs.Prelude.{◌≡◌};
+
 use thiserror::Error;
 
 /// Why `dump` ended early.
@@ -11,6 +13,20 @@ pub enum DumpFault {
     /// The writer failed. A front of the dump was written.
     #[error("the dump can't be written")]
     Write,
+}
+
+impl DumpFault {
+    ghost use Rattle.judy_shelf.specs.Faults.{dump_word};
+
+    /// The fault's name in lower case with `-` between its words.
+    pub fn word(self) -> &'static [u8]
+        ensures { result.now ≡ dump_word self }
+    {
+        match self {
+            DumpFault::NoMemory => b"no-memory",
+            DumpFault::Write => b"write",
+        }
+    }
 }
 
 /// Why `load` gives no shelf: the first fault of the bytes, in the order of the fields; or the reader failed, or
@@ -56,4 +72,29 @@ pub enum LoadFault {
     /// There is no memory for an array or a key.
     #[error("out of memory")]
     NoMemory,
+}
+
+impl LoadFault {
+    ghost use Rattle.judy_shelf.specs.Faults.{load_word};
+
+    /// The fault's name in lower case with `-` between its words.
+    pub fn word(self) -> &'static [u8]
+        ensures { result.now ≡ load_word self }
+    {
+        match self {
+            LoadFault::Read => b"read",
+            LoadFault::Truncated => b"truncated",
+            LoadFault::BadMagic => b"bad-magic",
+            LoadFault::TooMany => b"too-many",
+            LoadFault::BadName => b"bad-name",
+            LoadFault::SameName => b"same-name",
+            LoadFault::BadKind => b"bad-kind",
+            LoadFault::BadLimit => b"bad-limit",
+            LoadFault::BadCount => b"bad-count",
+            LoadFault::BadKey => b"bad-key",
+            LoadFault::BadOrder => b"bad-order",
+            LoadFault::Trailing => b"trailing",
+            LoadFault::NoMemory => b"no-memory",
+        }
+    }
 }

@@ -11,6 +11,8 @@ pub enum Kind {
     Judy1,
     /// A map from words to words: the manual's JudyL.
     JudyL,
+    /// A map from byte strings without zero bytes to words, in their order: the manual's JudySL.
+    JudySl,
     /// A map from byte strings to words, in no order: the manual's JudyHS.
     JudyHs,
 }
@@ -26,6 +28,8 @@ impl Kind {
             Some(Kind::Judy1)
         } else if word == b"judyl".as_slice() {
             Some(Kind::JudyL)
+        } else if word == b"judysl".as_slice() {
+            Some(Kind::JudySl)
         } else if word == b"judyhs".as_slice() {
             Some(Kind::JudyHs)
         } else {
@@ -42,6 +46,7 @@ impl Kind {
         match self {
             Kind::Judy1 => b"judy1",
             Kind::JudyL => b"judyl",
+            Kind::JudySl => b"judysl",
             Kind::JudyHs => b"judyhs",
         }
     }

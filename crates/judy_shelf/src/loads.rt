@@ -7,7 +7,7 @@ ghost use Rattle.judy_model.specs.DumpGrammar as grammar;
 ghost use Rattle.judy_model.specs.Stores.{array_named};
 ghost use Rattle.judy_shelf.specs.Arrays.{value_of};
 ghost use Rattle.judy_shelf.specs.Shelves.{store_of};
-ghost use Rattle.judy_shelf.specs.Reads.{drawn, up_to_end, Reads, Loaded};
+ghost use Rattle.judy_shelf.specs.Reads.{drawn, up_to_end, ReadsWanting, AtSome, InBody, InArray, InArrays, InStore, Loaded};
 ghost use Rattle.judy_shelf.specs.Writes.{kind_number};
 
 use crate::array::Array;
@@ -29,8 +29,8 @@ use std::alloc::Global;
 /// At Ok what the source gave in the call is the dump of the shelf's store, which is regular, and its last read
 /// gave the end. Every other answer is the first fault in the order of the fields: what the source gave has that
 /// fault, whatever came after it, and `Truncated` comes only where its last read gave the end. `Read` comes only
-/// where the source failed, which it then did once; `NoMemory` where there is none for an array or a key. A kind
-/// that shelves don't have yet, that of judysl or judyhs, is `BadKind`. No byte is asked for beyond the fields,
+/// where the source failed, which it then did once; `NoMemory` where there is none for an array or a key, and only
+/// where what the source gave has no fault and ends behind a key count or an entry. A kind that shelves don't have yet, that of judysl or judyhs, is `BadKind`. No byte is asked for beyond the fields,
 /// but for the one that is `Trailing`, so that a source that never ends is left.
 ///
 /// Memory is asked for by the keys that were read, one after another, and never by a number that the bytes say.
@@ -46,7 +46,7 @@ pub fn load<R: Source>(alloc: Global, source: &mut R) -> Result<Shelf, LoadFault
 // Reads all of a dump but its end.
 fn read_store<R: Source>(alloc: Global, source: &mut R) -> Result<Shelf, LoadFault>
     requires { (R.tally source.old).failures < 2 ^ 64 - 1 }
-    ensures { Reads store_of up_to_end (drawn (R.given source.old) (R.ended source.old) (R.tally source.old).failures) result (drawn (R.given source.new) (R.ended source.new) (R.tally source.new).failures) }
+    ensures { ReadsWanting InStore store_of up_to_end (drawn (R.given source.old) (R.ended source.old) (R.tally source.old).failures) result (drawn (R.given source.new) (R.ended source.new) (R.tally source.new).failures) }
 {
     read_magic(source)?;
     let count = read_array_count(source)?;
@@ -63,7 +63,7 @@ fn read_set<R: Source>(
     requires below { (R.tally source.old).failures < 2 ^ 64 - 1 }
     requires some { 1 ≤ limit }
     requires most { limit ≤ 4294967295 }
-    ensures { Reads judy1 (grammar.filled judy1 limit (grammar.entries word_order grammar.word grammar.no_value None count)) (drawn (R.given source.old) (R.ended source.old) (R.tally source.old).failures) result (drawn (R.given source.new) (R.ended source.new) (R.tally source.new).failures) }
+    ensures { ReadsWanting (AtSome (λ listed. grammar.filled judy1 limit (grammar.entries word_order grammar.word grammar.no_value None listed)) count) judy1 (grammar.filled judy1 limit (grammar.entries word_order grammar.word grammar.no_value None count)) (drawn (R.given source.old) (R.ended source.old) (R.tally source.old).failures) result (drawn (R.given source.new) (R.ended source.new) (R.tally source.new).failures) }
 {
     let mut set = Judy1::new(alloc, limit);
     let mut before = None;
@@ -87,7 +87,7 @@ fn read_words<R: Source>(
     requires below { (R.tally source.old).failures < 2 ^ 64 - 1 }
     requires some { 1 ≤ limit }
     requires most { limit ≤ 4294967295 }
-    ensures { Reads judyl (grammar.filled judyl limit (grammar.entries word_order grammar.word grammar.word None count)) (drawn (R.given source.old) (R.ended source.old) (R.tally source.old).failures) result (drawn (R.given source.new) (R.ended source.new) (R.tally source.new).failures) }
+    ensures { ReadsWanting (AtSome (λ listed. grammar.filled judyl limit (grammar.entries word_order grammar.word grammar.word None listed)) count) judyl (grammar.filled judyl limit (grammar.entries word_order grammar.word grammar.word None count)) (drawn (R.given source.old) (R.ended source.old) (R.tally source.old).failures) result (drawn (R.given source.new) (R.ended source.new) (R.tally source.new).failures) }
 {
     let mut words = JudyL::new(alloc, limit);
     let mut before = None;
@@ -106,7 +106,7 @@ fn read_words<R: Source>(
 // Reads what stands behind an array's name.
 fn read_body<R: Source>(alloc: Global, source: &mut R) -> Result<Array, LoadFault>
     requires { (R.tally source.old).failures < 2 ^ 64 - 1 }
-    ensures { Reads value_of grammar.body (drawn (R.given source.old) (R.ended source.old) (R.tally source.old).failures) result (drawn (R.given source.new) (R.ended source.new) (R.tally source.new).failures) }
+    ensures { ReadsWanting InBody value_of grammar.body (drawn (R.given source.old) (R.ended source.old) (R.tally source.old).failures) result (drawn (R.given source.new) (R.ended source.new) (R.tally source.new).failures) }
 {
     let kind = read_kind(source)?;
     let limit = read_limit(source)?;
@@ -126,11 +126,12 @@ fn read_contents<R: Source>(
     requires some { 1 ≤ limit }
     requires most { limit ≤ 4294967295 }
     requires words { kind_number kind ≤ 2 }
-    ensures { Reads value_of (grammar.contents (kind_number kind) limit count) (drawn (R.given source.old) (R.ended source.old) (R.tally source.old).failures) result (drawn (R.given source.new) (R.ended source.new) (R.tally source.new).failures) }
+    ensures { ReadsWanting (AtSome (grammar.contents (kind_number kind) limit) count) value_of (grammar.contents (kind_number kind) limit count) (drawn (R.given source.old) (R.ended source.old) (R.tally source.old).failures) result (drawn (R.given source.new) (R.ended source.new) (R.tally source.new).failures) }
 {
     match kind {
         Kind::Judy1 => Ok(Array::Judy1(read_set(alloc, source, limit, count)?)),
         Kind::JudyL => Ok(Array::JudyL(read_words(alloc, source, limit, count)?)),
+        Kind::JudySl => unreachable!(),
         Kind::JudyHs => unreachable!(),
     }
 }
@@ -143,7 +144,7 @@ fn read_array<R: Source>(
 ) -> Result<(Name, Array), LoadFault>
     requires { (R.tally source.old).failures < 2 ^ 64 - 1 }
     ensures new { IfOk result (λ made. array_named shelf.now made.0 ≡ None) }
-    ensures read { Reads (λ made. (made.0, value_of made.1)) (grammar.array (store_of shelf.now)) (drawn (R.given source.old) (R.ended source.old) (R.tally source.old).failures) result (drawn (R.given source.new) (R.ended source.new) (R.tally source.new).failures) }
+    ensures read { ReadsWanting (InArray (store_of shelf.now)) (λ made. (made.0, value_of made.1)) (grammar.array (store_of shelf.now)) (drawn (R.given source.old) (R.ended source.old) (R.tally source.old).failures) result (drawn (R.given source.new) (R.ended source.new) (R.tally source.new).failures) }
 {
     let name = read_name(source, shelf)?;
     let array = read_body(alloc, source)?;
@@ -154,7 +155,7 @@ fn read_array<R: Source>(
 fn read_arrays<R: Source>(alloc: Global, source: &mut R, count: u32) -> Result<Shelf, LoadFault>
     requires below { (R.tally source.old).failures < 2 ^ 64 - 1 }
     requires few { count ≤ 64 }
-    ensures { Reads store_of (grammar.arrays [] count) (drawn (R.given source.old) (R.ended source.old) (R.tally source.old).failures) result (drawn (R.given source.new) (R.ended source.new) (R.tally source.new).failures) }
+    ensures { ReadsWanting (InArrays count) store_of (grammar.arrays [] count) (drawn (R.given source.old) (R.ended source.old) (R.tally source.old).failures) result (drawn (R.given source.new) (R.ended source.new) (R.tally source.new).failures) }
 {
     let mut shelf = Shelf::new(alloc);
     'arrays: for _ in 0..count {

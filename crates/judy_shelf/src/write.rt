@@ -84,6 +84,7 @@ fn kind_number(kind: Kind) -> u8
     match kind {
         Kind::Judy1 => 1,
         Kind::JudyL => 2,
+        Kind::JudySl => 3,
         Kind::JudyHs => 4,
     }
 }

@@ -14,7 +14,7 @@ use Rattle.judy_sl.specs.declared.branches.Twig.{Twig}
 use Rattle.judy_sl.specs.declared.branches.Branch.{Branch}
 use Rattle.judy_sl.specs.Pieces.{pieces, pieces_in, piece_of, IsText, IsInner, SpellKey, ArePieces, AreInner}
 use Rattle.judy_sl.specs.World.{World, gone, tail, level}
-use Rattle.judy_sl.specs.Worlds.{FitsBehind}
+use Rattle.judy_sl.specs.Worlds.{FitsBehind, IsLed, AllLed}
 use Rattle.judy_sl.specs.Arenas.{world_of, node_of, IsArena}
 use Rattle.judy_sl.specs.Places.{with_child}
 use Rattle.judy_sl.specs.Ways.{LeadsTo, left_of}
@@ -28,7 +28,9 @@ use Rattle.judy_sl.proofs.Seats.{set_node, cond-same, cond-other}
 use Rattle.judy_sl.proofs.OnWay.{pieces-head, pieces-some}
 use Rattle.judy_sl.proofs.Branching.{keys-more}
 use Rattle.judy_sl.proofs.Written.{behind-leads}
+use Rattle.judy_sl.proofs.Led.{KeepsEntries, keeps-none, led-moves, keeps-set}
 use Rattle.judy_sl.proofs.Linked.{get-insert_here, get-insert_off, world-with_child, arena-with_child}
+use Rattle.judy_sl.proofs.Tailed.{world-put}
 use Rattle.judy_sl.proofs.Grafts.{Grafts, grafts-start, put-grafts, put-same, put-here, behind_put, IsSide, side-stays, IsBranch, fork-branch, up-grafts, up-branch}
 
 -- ---- a twig that is hung up
@@ -41,6 +43,7 @@ pub record Hung (before now after : Arena) (was : IsArena now) (words linked : A
   pub get_off : (p : ℕ) → p ≢ piece_of rest → get linked.map p ≡ get words.map p
   pub stays : (seat : ℕ) → world_of now seat ≢ gone → (world_of after seat ≡ world_of now seat) × (grafts.is.behind seat ≡ was.behind seat)
   pub limit : linked.limit ≡ words.limit
+  pub led : (at : ℕ) → world_of after (suc at) ≢ gone → (world_of now (suc at) ≢ gone) ⊎ (IsInner (piece_of rest) × (get linked.map (piece_of rest) ≡ Some at))
 
 hung-none : (before now : Arena) (grafts : Grafts before now) (words linked : ArrayOf word_order) (place rest : List ℕ) (value : ℕ) → linked ≡ words → length rest < 8 → IsText rest → SpellKey (place ++ pieces rest) → get words.map (piece_of rest) ≡ Some value → Hung before now now grafts.is words linked place rest value
 hung-none before now grafts words linked place rest value same short text spells entry = record {
@@ -51,6 +54,7 @@ hung-none before now grafts words linked place rest value same short text spells
   get_off = λ p apart. ap (λ (l : ArrayOf word_order). get l.map p) same;
   stays = λ seat some. (refl, refl);
   limit = ap (λ (l : ArrayOf word_order). l.limit) same;
+  led = λ at there. inl there;
 }
 
 long-side : (world : World) (behind : ℕ → List ℕ) (place : List ℕ) (piece : ℕ) (held : List ℕ) (value entry : ℕ) → held ≢ [] → IsInner piece → world (suc entry) ≡ tail held value → behind (suc entry) ≡ place ++ piece ∷ [] → IsSide world behind place (piece ∷ held) value entry
@@ -73,6 +77,10 @@ hung-some before now after grafts words linked place rest value twig at put_is l
       get_off = λ p apart. ap (λ (l : ArrayOf word_order). get l.map p) linked_is ∙ get-insert_off words.map twig.piece at p (λ e. apart (e ∙ is.1));
       stays = put-same now after grafts.is (Tail twig.rest) at put_is front twig_text tt fits tt;
       limit = ap (λ (l : ArrayOf word_order). l.limit) linked_is;
+      led = λ k there. elim (cases_eq k at) [
+        | inl e ↦ inr (piece-IsInner rest text is.0, ap (λ (l : ArrayOf word_order). get l.map (piece_of rest)) linked_is ∙ ap (λ p. get (insert words.map p at) (piece_of rest)) is.1 ∙ get-insert_here words.map (piece_of rest) at ∙ ap (λ n. Some n) (sym e))
+        | inr apart ↦ inl (λ none. there (ap node_of (put_is.elsewhere k apart) ∙ none))
+      ];
     }
 
 pub hung : (before now after : Arena) (grafts : Grafts before now) (words linked : ArrayOf word_order) (place rest : List ℕ) (value : ℕ) (twig : Option Twig) → IsHung now after words linked twig → IsTwig rest value twig → IsText rest → SpellKey (place ++ pieces rest) → get words.map (piece_of rest) ≡ Some (entry_of twig value) → Hung before now after grafts.is words linked place rest value
@@ -101,6 +109,11 @@ short-place place piece rest spells =
     omega (arith, l, e, a, w)
 
 -- ---- the tail's place
+
+-- What leads to a child on the way up: what led to it before, a level that was put since, or an entry of the level
+-- that is put next.
+abbrev pub IsLedUp : Arena → Arena → FinMap word_order ℕ → ℕ → Type 0
+IsLedUp before now map at = (world_of before (suc at) ≢ gone) ⊎ IsLed (world_of now) at ⊎ ((piece : ℕ) × IsInner piece × (get map piece ≡ Some at))
 
 decide : (xs ys : List ℕ) → (xs ≡ ys) ⊎ (xs ≢ ys)
 decide xs ys = elim (eq_by_cmp byte_order xs ys) as (λ b. eq_by_cmp byte_order xs ys ≡ b → (xs ≡ ys) ⊎ (xs ≢ ys)) [
@@ -132,6 +145,26 @@ module _ (before now : Arena) (grafts : Grafts before now) (key : List ℕ) (at 
 
   after-other : (seat : ℕ) → seat ≢ suc at → world_of after seat ≡ world_of now seat
   after-other seat off = ap (λ (w : World). w seat) after-is ∙ cond-other (world_of now) (suc at) (level words.map) seat off
+
+  tail-now : (seat : ℕ) → seat ≡ suc at → world_of now seat ≡ tail held value
+  tail-now seat e = ap (world_of now) e ∙ (grafts.same (suc at) there).0 ∙ is_tail
+
+  now-led : (k : ℕ) → IsLed (world_of now) k → IsLed (world_of after) k
+  now-led = led-moves (world_of now) (world_of after) (λ seat map e. (map, after-other seat (λ here. let g : tail held value ≡ level map = sym (tail-now seat here) ∙ e in cc) ∙ e, λ p k p_inner entry. entry))
+
+  was-led : (k : ℕ) → IsLed (world_of before) k → IsLed (world_of now) k
+  was-led = led-moves (world_of before) (world_of now) (λ seat map e. (map, (grafts.same seat (λ none. let g : gone ≡ level map = sym none ∙ e in cc)).0 ∙ e, λ p k p_inner entry. entry))
+
+  led-by : AllLed (world_of before) → (k : ℕ) → IsLedUp before now words.map k → IsLed (world_of after) k
+  led-by all k (inl was) = now-led k (was-led k (all k was))
+  led-by all k (inr (inl led)) = now-led k led
+  led-by all k (inr (inr entry)) = record { seat = suc at; map = words.map; is_level = after-seat; piece = entry.0; inner = entry.1; entry = entry.2 }
+
+  pub done-led : ((k : ℕ) → world_of now (suc k) ≢ gone → IsLedUp before now words.map k) → AllLed (world_of before) → AllLed (world_of after)
+  done-led up all k some_after = led-by all k (up k (λ none. elim (cases_eq (suc k) (suc at)) [
+    | inl e ↦ (let g : tail held value ≡ gone = sym (tail-now (suc k) e) ∙ none in cc)
+    | inr off ↦ some_after (after-other (suc k) off ∙ none)
+  ]))
 
   looks : (p : ℕ) (rest : List ℕ) → ArePieces (p ∷ rest) → look_in (world_of after) (level words.map) (p ∷ rest) ≡ look_in (world_of now) (level words.map) (p ∷ rest)
   looks p rest are =
@@ -167,6 +200,7 @@ pub record IsGrafting (before now : Arena) (front held new : List ℕ) (value : 
   pub new_are : ArePieces new_now
   pub branch : IsBranch (world_of now) grafts.is.behind (front ++ keys_of upper) words.map held_now new_now value
   pub limit : words.limit ≡ 18446744073709551615
+  pub led : (at : ℕ) → world_of now (suc at) ≢ gone → IsLedUp before now words.map at
 
 pub singles-front : (upper : List (ℕ × ArrayOf word_order)) (piece : ℕ) (words : ArrayOf word_order) → AreSingle (upper ++ (piece, words) ∷ []) → AreSingle upper × (words ≡ single piece)
 singles-front [] piece words are = (tt, are.0)
@@ -179,6 +213,16 @@ inner-front (first ∷ front) piece inner = let more = inner-front front piece i
 are-more : (piece : ℕ) (ps : List ℕ) → IsInner piece → ArePieces ps → ArePieces (piece ∷ ps)
 are-more piece [] inner are = absurd are
 are-more piece (next ∷ rest) inner are = (inner, are)
+
+-- A level is put: what it leads to is led to, and what was led to still is.
+led-up : (before now later : Arena) (words : ArrayOf word_order) (linked : FinMap word_order ℕ) (to : ℕ) → IsPut now later (Level words) to → (at : ℕ) → IsLedUp before now words.map at → IsLedUp before later linked at
+led-up before now later words linked to put_is at (inl was) = inl was
+led-up before now later words linked to put_is at (inr (inl led)) =
+    let world_is = world-put now later (Level words) to put_is in
+    let keeps : KeepsEntries (world_of now (suc to)) (level words.map) = keeps-none (world_of now (suc to)) (level words.map) (λ m e. let g : gone ≡ level m = sym put_is.was_free ∙ e in cc) in
+    inr (inl (subst (λ w. IsLed w at) (sym world_is) (led-moves (world_of now) (set_node (world_of now) (suc to) (level words.map)) (keeps-set (world_of now) (suc to) (level words.map) keeps) at led)))
+led-up before now later words linked to put_is at (inr (inr entry)) =
+    inr (inl (record { seat = suc to; map = words.map; is_level = ap node_of put_is.here; piece = entry.0; inner = entry.1; entry = entry.2 }))
 
 pub grafting-up : (before now after : Arena) (front held new : List ℕ) (value : ℕ) (upper rest : List (ℕ × ArrayOf word_order)) (words above linked : ArrayOf word_order) (piece to : ℕ) → IsGrafting before now front held new value upper words → upper ≡ rest ++ (piece, above) ∷ [] → above ≡ single piece → IsPut now after (Level words) to → linked ≡ with_value above piece to → IsGrafting before after front held new value rest linked
 grafting-up before now after front held new value upper rest words above linked piece to is upper_is above_is put_is linked_is =
@@ -199,6 +243,10 @@ grafting-up before now after front held new value upper rest words above linked 
       new_are = are-more piece is.new_now parts.1 is.new_are;
       branch = up-branch now after is.grafts.is words to put_is is.limit place piece parts.1 is.held_now is.new_now value branch is.held_are is.new_are linked.map here off;
       limit = ap (λ (l : ArrayOf word_order). l.limit) (linked_is ∙ ap (λ (l : ArrayOf word_order). with_value l piece to) above_is);
+      led = λ at there. elim (cases_eq at to) [
+        | inl e ↦ inr (inr (piece, parts.1, here ∙ ap (λ n. Some n) (sym e)))
+        | inr apart ↦ led-up before now after words linked.map to put_is at (is.led at (λ none. there (ap node_of (put_is.elsewhere at apart) ∙ none)))
+      ];
     }
 
 -- ---- the fork
@@ -245,6 +293,13 @@ module _ (before : Arena) (is : IsArena before) (key : List ℕ) (is_key : IsStr
             (short-place place a hs.0 (subst (λ ps. SpellKey (place ++ ps)) hs.1 held_spells))
             ));
         limit = new.limit ∙ old.limit ∙ ap (λ (l : ArrayOf word_order). l.limit) built.new.level ∙ ap (λ (l : ArrayOf word_order). l.limit) built.old.level;
+        led = λ to there. elim (new.led to there) [
+          | inr by ↦ inr (inr (b, by.0, by.1))
+          | inl stood ↦ elim (old.led to stood) [
+            | inl was ↦ inl was
+            | inr by ↦ inr (inr (a, by.0, new.get_off a built.differ ∙ by.1))
+          ]
+        ];
       }
 
 -- ---- the whole
@@ -263,6 +318,7 @@ grafted before now key at left branch graft upper words is nothing inside =
     subst (λ ps. IsBranch (world_of now) is.grafts.is.behind clash.leads.front words.map clash.held ps clash.value) new_now (subst (λ ps. IsBranch (world_of now) is.grafts.is.behind clash.leads.front words.map ps is.new_now clash.value) held_now (subst (λ p. IsBranch (world_of now) is.grafts.is.behind p words.map is.held_now is.new_now clash.value) place is.branch)) in
     record {
       is_arena = done-arena before now is.grafts key at (piece_of (left_of key left)) h.0 leads clash.held some clash.value clash.is_tail words is.limit there inside;
+      led = done-led before now is.grafts key at (piece_of (left_of key left)) h.0 leads clash.held some clash.value clash.is_tail words is.limit there inside is.led;
       change = done-change before now is.grafts key at (piece_of (left_of key left)) h.0 leads clash.held some clash.value clash.is_tail words is.limit there inside (subst ArePieces h.1 (pieces_are (left_of key left) clash.text));
     }
 

@@ -1,5 +1,5 @@
 -- What an insert makes of an array of strings.
-use Rattle.std.proofs.Common.{◌≡◌, ◌≢◌, ℕ, ◌+◌, List, None, Some, Result, Ok, Err, IfOk, OnOk, IfErr, IsTrue, IsFalse, refl, sym, ap, ◌∙◌, arith, eq-eqb}
+use Rattle.std.proofs.Common.{◌≡◌, ◌≢◌, ℕ, ◌+◌, List, None, Some, Result, Ok, Err, IfOk, OnOk, IfErr, IsTrue, IsFalse, refl, sym, ap, subst, ◌∙◌, arith, eq-eqb}
 use Rattle.std.proofs.lemmas.Bool.{ne_eqb}
 use Rattle.std.proofs.lemmas.Option.{none-some}
 use Rattle.std.specs.Borrow.{name_if_ok, MutBor}
@@ -20,6 +20,7 @@ use Rattle.judy_sl.specs.declared.arena.Way.{Way}
 use Rattle.judy_sl.specs.declared.arena.Way.TheVariants.{At, Gap, Clash}
 use Rattle.judy_sl.specs.Pieces.{pieces}
 use Rattle.judy_sl.specs.World.{World, lookup}
+use Rattle.judy_sl.specs.Worlds.{AllLed}
 use Rattle.judy_sl.specs.Arenas.{world_of, child_at, map_of, array_of, IsStrings}
 use Rattle.judy_sl.specs.Children.{value_at, value_in}
 use Rattle.judy_sl.specs.Places.{place_with, place_value, place_in_value}
@@ -103,6 +104,7 @@ module _ (limit count : ℕ) (arena : Arena) (is : IsStrings limit count arena) 
       pub strings-added : IsStrings limit (count + 1) after
       strings-added = record {
         is_arena = added.is_arena;
+        led = added.led is.led;
         counted = ap (λ n. n + 1) is.counted ∙ sym (ap (λ (m : FinMap byte_order ℕ). len m) (map_written arena after key is_key 0 added.change) ∙ len-added (map_of arena) key 0 none);
         within_limit = (let w = is.within_limit in omega arith);
         holds_some = is.holds_some;
@@ -138,6 +140,7 @@ module _ (limit count : ℕ) (arena : Arena) (is : IsStrings limit count arena) 
     pub strings-same : IsStrings limit count same
     strings-same = record {
       is_arena = arena-same arena same is_same is.is_arena;
+      led = subst AllLed (sym (world-same arena same is_same)) is.led;
       counted = is.counted ∙ sym (ap (λ (m : FinMap byte_order ℕ). len m) map-same);
       within_limit = is.within_limit;
       holds_some = is.holds_some;

@@ -13,8 +13,8 @@ use Rattle.judy_sl.specs.Ways.{IsFound, IsGap, IsClash, seat_of, left_of}
 use Rattle.judy_sl.specs.Lends.{with_value}
 use Rattle.judy_sl.proofs.Ways.{look_in, lookup-in, lookup-walk, lookup-level, tail-other}
 use Rattle.judy_sl.proofs.OnWay.{pieces-head}
-use Rattle.judy_sl.proofs.Written.{written-arena, written-change, found-there, value-there}
-use Rattle.judy_sl.proofs.Maps.{get-map, map_written, empty-arena, empty-map, len-written}
+use Rattle.judy_sl.proofs.Written.{written-arena, written-led, written-change, found-there, value-there}
+use Rattle.judy_sl.proofs.Maps.{get-map, map_written, empty-arena, empty-led, empty-map, len-written}
 
 module _ (world : World) (key : List ℕ) where
   -- Nothing is found where a level has no entry,
@@ -41,6 +41,7 @@ module _ (world : World) (key : List ℕ) where
 pub strings-new : (limit : ℕ) (arena : Arena) → arena.children.items ≡ [] → arena.root ≡ empty_array 18446744073709551615 → 1 ≤ limit → limit ≤ 4294967295 → IsStrings limit 0 arena
 strings-new limit arena nothing no_root some most = record {
   is_arena = empty-arena arena nothing no_root;
+  led = empty-led arena nothing no_root;
   counted = sym (ap (λ (map : FinMap byte_order ℕ). len map) (empty-map arena nothing no_root) ∙ len-empty byte_order ℕ);
   within_limit = omega arith;
   holds_some = some;
@@ -60,6 +61,7 @@ module _ (limit count : ℕ) (arena : Arena) (is : IsStrings limit count arena) 
   pub strings-written : (value : ℕ) → IsStrings limit count (place_with arena place value)
   strings-written value = record {
     is_arena = written-arena arena is.is_arena key place found value;
+    led = written-led arena is.is_arena key place found value is.led;
     counted = is.counted ∙ sym (ap (λ (map : FinMap byte_order ℕ). len map) (map-written value) ∙ len-written (map_of arena) key found.value value get-there);
     within_limit = is.within_limit;
     holds_some = is.holds_some;

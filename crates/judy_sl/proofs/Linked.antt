@@ -27,7 +27,7 @@ use Rattle.judy_sl.proofs.Seats.{set_node, cond-same, cond-other, NodeFits, IsUs
 
 -- ---- entries of a map of words
 
-eq_nat-other : (x y : ℕ) → x ≢ y → eq_by_cmp word_order x y ≡ false
+pub eq_nat-other : (x y : ℕ) → x ≢ y → eq_by_cmp word_order x y ≡ false
 eq_nat-other x y apart = elim (eq_by_cmp word_order x y) as (λ b. eq_by_cmp word_order x y ≡ b → b ≡ false) [
   | true ↦ λ e. absurd (apart (nat_cmp-IsAntisymmetric x y (equal_lists (word_order x y) e)))
   | false ↦ λ e. refl

@@ -4,12 +4,12 @@ use Rattle.std.proofs.lemmas.Option.{none-some}
 use Rattle.std.specs.FinMap.{FinMap, get, empty, insert, remove, len, get-empty, len-insert}
 use Rattle.judy_model.specs.Keys.{word_order, byte_order, IsStringKey}
 use Rattle.judy_model.specs.Arrays.{ArrayOf, empty_array}
-use Rattle.judy_model.proofs.TableLemmas.{byte_order_total, string_keys-all, get-table, get-table_bad, table_none, table_insert, table_remove}
+use Rattle.judy_model.proofs.TableLemmas.{byte_order_total, string_keys-all, get-table, get-table_bad, none_at, table_none, table_insert, table_remove}
 use Rattle.judy_sl.specs.declared.child.Child.TheVariants.{Free}
 use Rattle.judy_sl.specs.declared.arena.Arena.{Arena}
 use Rattle.judy_sl.specs.Pieces.{pieces, piece_of, SpellKey}
 use Rattle.judy_sl.specs.World.{gone, tail, level, lookup, at_entry}
-use Rattle.judy_sl.specs.Worlds.{FitsBehind}
+use Rattle.judy_sl.specs.Worlds.{FitsBehind, AllLed}
 use Rattle.judy_sl.specs.Arenas.{world_of, node_of, child_at, map_of, HasText, HasLimit, IsArena}
 use Rattle.judy_sl.proofs.PieceLemmas.{text_of_key, pieces_are, pieces_same}
 use Rattle.judy_sl.proofs.OnWay.{pieces-head}
@@ -19,6 +19,10 @@ module _ (arena : Arena) (key : List ℕ) where
   -- The map has what is found under the pieces of a key.
   pub get-map : IsStringKey key → get (map_of arena) key ≡ lookup (world_of arena) 0 (pieces key)
   get-map is = get-table string_keys-all (λ k. lookup (world_of arena) 0 (pieces k)) key is
+
+  -- Where a key wouldn't be found, there is nothing.
+  pub get-map_none : (IsStringKey key → lookup (world_of arena) 0 (pieces key) ≡ None) → get (map_of arena) key ≡ None
+  get-map_none none = none_at string_keys-all (λ k. lookup (world_of arena) 0 (pieces k)) key none
 
   -- And nothing under what is no key.
   pub get-map_bad : (IsStringKey key → ⊥) → get (map_of arena) key ≡ None
@@ -74,6 +78,9 @@ module _ (arena : Arena) (nothing : arena.children.items ≡ []) (no_root : aren
     root_limit = ap (λ (words : ArrayOf word_order). words.limit) no_root;
     limits = λ at. subst HasLimit (sym (child-none at)) tt;
   }
+
+  pub empty-led : AllLed (world_of arena)
+  empty-led at there = absurd (there (ap node_of (child-none at)))
 
   pub empty-map : map_of arena ≡ empty
   empty-map = table_none string_keys-all (λ k. lookup (world_of arena) 0 (pieces k)) (λ key is.

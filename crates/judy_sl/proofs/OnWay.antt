@@ -1,6 +1,6 @@
 -- The way of a key, level by level.
 use Rattle.std.proofs.Common.{◌≡◌, ◌≢◌, ℕ, zero, suc, ◌-◌, ◌+◌, ◌/◌, ◌<◌, ◌≤◌, List, [], ◌∷◌, ◌++◌, length, drop, get_or, Option, None, Some, refl, sym, ap, subst, ◌∙◌, arith}
-use Rattle.std.proofs.lemmas.List.{append_assoc, length-drop, drop-drop}
+use Rattle.std.proofs.lemmas.List.{append_assoc, length-drop, drop-drop, get_or_past}
 use Rattle.std.specs.FinMap.{FinMap, get}
 use Rattle.judy_model.specs.Keys.{word_order}
 use Rattle.judy_sl.specs.declared.child.Child.{Child}
@@ -8,27 +8,29 @@ use Rattle.judy_sl.specs.declared.child.Child.TheVariants.{Free}
 use Rattle.judy_sl.specs.declared.arena.Arena.{Arena}
 use Rattle.judy_sl.specs.declared.arena.Place.{Place}
 use Rattle.judy_sl.specs.declared.arena.Place.TheVariants.{Below}
-use Rattle.judy_sl.specs.Pieces.{pieces, pieces_in, piece_of, IsText, IsInner, IsFinal, AreInner}
+use Rattle.judy_sl.specs.Pieces.{pieces, pieces_in, piece_of, IsText, IsInner, IsFinal, AreInner, SpellKey}
 use Rattle.judy_sl.specs.World.{World, gone, tail, level, lookup, at_entry}
+use Rattle.judy_sl.specs.Worlds.{IsWorld}
 use Rattle.judy_sl.specs.Arenas.{world_of, node_of, child_at, IsArena}
 use Rattle.judy_sl.specs.Ways.{LeadsTo, HasValue, IsFound, IsGap, IsClash, place_in, seat_in, left_of}
-use Rattle.judy_sl.proofs.PieceLemmas.{piece-IsFinal, piece-IsInner, text-drop, pieces_same}
-use Rattle.judy_sl.proofs.Ways.{look_in, lookup-in, lookup-walk, lookup-level, walk-more, pieces_short, pieces_long, tail-same, tail-other}
+use Rattle.judy_sl.proofs.PieceLemmas.{text-drop, pieces_same}
+use Rattle.judy_sl.proofs.Spelling.{spelled-more}
+use Rattle.judy_sl.proofs.Ways.{look_in, lookup-in, lookup-walk, lookup-level, walk-more, walk-behind, pieces_short, pieces_long, tail-same, tail-other}
 
 -- The way has come to a level, and this is left of the key.
 pub record IsOnWay (world : World) (key : List ℕ) (seat : ℕ) (map : FinMap word_order ℕ) (rest : List ℕ) : Type 0 where
   pub leads : LeadsTo world key seat (pieces rest)
   pub is_level : world seat ≡ level map
-  pub text : IsText rest
+  pub text : IsText key → IsText rest
   pub is_left : rest ≡ left_of key (length rest)
   pub within : length rest ≤ length key
 
 -- It begins at the first level.
-pub on-start : (world : World) (key : List ℕ) (map : FinMap word_order ℕ) → world 0 ≡ level map → IsText key → IsOnWay world key 0 map key
-on-start world key map is text = record {
+pub on-start : (world : World) (key : List ℕ) (map : FinMap word_order ℕ) → world 0 ≡ level map → IsOnWay world key 0 map key
+on-start world key map is = record {
   leads = record { front = []; inner = tt; way = refl; parts = refl };
   is_level = is;
-  text = text;
+  text = λ text. text;
   is_left = (let e : length key - length key ≡ 0 = omega arith in ap (λ n. drop n key) (sym e));
   within = omega arith;
 }
@@ -48,10 +50,10 @@ inner-more (first ∷ front) piece inner last = (inner.0, inner-more front piece
 
 module _ (world : World) (key : List ℕ) (seat : ℕ) (map : FinMap word_order ℕ) (rest : List ℕ) (on : IsOnWay world key seat map rest) where
   -- It goes on under a whole piece.
-  pub leads-on : (at : ℕ) → 8 ≤ length rest → get map (piece_of rest) ≡ Some at → LeadsTo world key (suc at) (pieces (drop 8 rest))
-  leads-on at long entry = record {
+  pub leads-on : (at : ℕ) → 8 ≤ length rest → IsInner (piece_of rest) → get map (piece_of rest) ≡ Some at → LeadsTo world key (suc at) (pieces (drop 8 rest))
+  leads-on at long whole entry = record {
     front = on.leads.front ++ piece_of rest ∷ [];
-    inner = inner-more on.leads.front (piece_of rest) on.leads.inner (piece-IsInner rest on.text long);
+    inner = inner-more on.leads.front (piece_of rest) on.leads.inner whole;
     way = walk-more world 0 on.leads.front seat map (piece_of rest) at on.leads.way on.is_level entry;
     parts = on.leads.parts ∙ ap (λ ps. on.leads.front ++ ps) (pieces_long rest long) ∙ sym (append_assoc on.leads.front (piece_of rest ∷ []) (pieces (drop 8 rest)));
   }
@@ -63,11 +65,11 @@ module _ (world : World) (key : List ℕ) (seat : ℕ) (map : FinMap word_order 
       let e : (length key - length rest) + 8 ≡ length key - length (drop 8 rest) = omega (arith, l, on.within) in
       ap (drop 8) on.is_left ∙ drop-drop 8 (length key - length rest) key ∙ ap (λ n. drop n key) e
 
-  pub on-moved : (at : ℕ) (next : FinMap word_order ℕ) → 8 ≤ length rest → get map (piece_of rest) ≡ Some at → world (suc at) ≡ level next → IsOnWay world key (suc at) next (drop 8 rest)
-  on-moved at next long entry is = record {
-    leads = leads-on at long entry;
+  pub on-moved : (at : ℕ) (next : FinMap word_order ℕ) → 8 ≤ length rest → IsInner (piece_of rest) → get map (piece_of rest) ≡ Some at → world (suc at) ≡ level next → IsOnWay world key (suc at) next (drop 8 rest)
+  on-moved at next long whole entry is = record {
+    leads = leads-on at long whole entry;
     is_level = is;
-    text = text-drop 8 rest on.text;
+    text = λ text. text-drop 8 rest (on.text text);
     is_left = left-on long;
     within = omega (arith, length-drop 8 rest, on.within);
   }
@@ -82,25 +84,33 @@ module _ (world : World) (key : List ℕ) (seat : ℕ) (map : FinMap word_order 
       ∙ ap (look_in world (level map)) (sym h.1)
 
 -- The level has no entry.
-pub on-gap : (world : World) (key : List ℕ) (map : FinMap word_order ℕ) (rest : List ℕ) (child : Option ℕ) (piece : ℕ) (place : Place) → IsOnWay world key (seat_in child) map rest → place ≡ place_in child piece → piece ≡ piece_of rest → get map piece ≡ None → IsGap world key place (length rest)
-on-gap world key map rest None piece place on e is none = subst (λ p. IsGap world key p (length rest)) (sym e) (record {
+pub on-gap : (world : World) (key : List ℕ) (map : FinMap word_order ℕ) (rest : List ℕ) (child : Option ℕ) (piece : ℕ) (place : Place) → IsOnWay world key (seat_in child) map rest → place ≡ place_in child piece → piece ≡ piece_of rest → get map piece ≡ None → IsText key → IsGap world key place (length rest)
+on-gap world key map rest None piece place on e is none is_text = subst (λ p. IsGap world key p (length rest)) (sym e) (record {
   within = on.within;
   leads = subst (λ r. LeadsTo world key 0 (pieces r)) on.is_left on.leads;
-  text = subst IsText on.is_left on.text;
+  text = subst IsText on.is_left (on.text is_text);
   map = map;
   is_level = on.is_level;
   next = is ∙ ap piece_of on.is_left;
   absent = none;
 })
-on-gap world key map rest (Some at) piece place on e is none = subst (λ p. IsGap world key p (length rest)) (sym e) (record {
+on-gap world key map rest (Some at) piece place on e is none is_text = subst (λ p. IsGap world key p (length rest)) (sym e) (record {
   within = on.within;
   leads = subst (λ r. LeadsTo world key (suc at) (pieces r)) on.is_left on.leads;
-  text = subst IsText on.is_left on.text;
+  text = subst IsText on.is_left (on.text is_text);
   map = map;
   is_level = on.is_level;
   next = is ∙ ap piece_of on.is_left;
   absent = none;
 })
+
+-- Of fewer than eight bytes the lowest of a piece is missing.
+pub short-IsFinal : (bytes : List ℕ) → length bytes < 8 → IsFinal (piece_of bytes)
+unfolding piece_of
+short-IsFinal bytes short =
+    let e = spelled-more 7 bytes in
+    let none : get_or bytes 7 0 ≡ 0 = get_or_past bytes 7 0 (omega arith) in
+    omega arith
 
 -- The level has the last piece.
 pub on-last : (world : World) (key : List ℕ) (map : FinMap word_order ℕ) (rest : List ℕ) (child : Option ℕ) (piece : ℕ) (place : Place) → IsOnWay world key (seat_in child) map rest → place ≡ place_in child piece → piece ≡ piece_of rest → length rest < 8 → (value : ℕ) → get map piece ≡ Some value → IsFound world key place
@@ -108,48 +118,48 @@ on-last world key map rest None piece place on e is short value entry = subst (I
   rest = pieces rest;
   leads = on.leads;
   value = value;
-  has = subst (λ node. HasValue node piece (pieces rest) value) (sym on.is_level) (pieces_short rest short ∙ ap (λ p. p ∷ []) (sym is), subst IsFinal (sym is) (piece-IsFinal rest on.text short), entry);
+  has = subst (λ node. HasValue node piece (pieces rest) value) (sym on.is_level) (pieces_short rest short ∙ ap (λ p. p ∷ []) (sym is), subst IsFinal (sym is) (short-IsFinal rest short), entry);
 })
 on-last world key map rest (Some at) piece place on e is short value entry = subst (IsFound world key) (sym e) (record {
   rest = pieces rest;
   leads = on.leads;
   value = value;
-  has = subst (λ node. HasValue node piece (pieces rest) value) (sym on.is_level) (pieces_short rest short ∙ ap (λ p. p ∷ []) (sym is), subst IsFinal (sym is) (piece-IsFinal rest on.text short), entry);
+  has = subst (λ node. HasValue node piece (pieces rest) value) (sym on.is_level) (pieces_short rest short ∙ ap (λ p. p ∷ []) (sym is), subst IsFinal (sym is) (short-IsFinal rest short), entry);
 })
 
 pub pieces-some : (bytes : List ℕ) → pieces bytes ≢ []
 pieces-some bytes e = let h = pieces-head bytes in (let g : piece_of bytes ∷ h.0 ≡ [] = sym h.1 ∙ e in cc)
 
-module _ (world : World) (key : List ℕ) (seat : ℕ) (map : FinMap word_order ℕ) (rest : List ℕ) (on : IsOnWay world key seat map rest) (long : 8 ≤ length rest) (at : ℕ) (entry : get map (piece_of rest) ≡ Some at) (held : List ℕ) (value : ℕ) (is : world (suc at) ≡ tail (pieces held) value) where
+module _ (world : World) (key : List ℕ) (seat : ℕ) (map : FinMap word_order ℕ) (rest : List ℕ) (on : IsOnWay world key seat map rest) (long : 8 ≤ length rest) (whole : IsInner (piece_of rest)) (at : ℕ) (entry : get map (piece_of rest) ≡ Some at) (held : List ℕ) (value : ℕ) (is : world (suc at) ≡ tail (pieces held) value) where
   -- The way comes to the key's own tail.
   pub on-tail : held ≡ drop 8 rest → IsFound world key (Below at 0)
   on-tail e = record {
     rest = pieces (drop 8 rest);
-    leads = leads-on world key seat map rest on at long entry;
+    leads = leads-on world key seat map rest on at long whole entry;
     value = value;
     has = subst (λ node. HasValue node 0 (pieces (drop 8 rest)) value) (sym is) (ap pieces e, pieces-some (drop 8 rest), refl);
   }
 
   -- The way comes to another's.
-  pub on-clash : IsText held → held ≢ drop 8 rest → IsClash world key at (length (drop 8 rest))
-  on-clash text ne =
+  pub on-clash : IsText held → held ≢ drop 8 rest → IsText key → IsClash world key at (length (drop 8 rest))
+  on-clash text ne is_text =
       let left = left-on world key seat map rest on long in
       record {
         within = omega (arith, length-drop 8 rest, on.within);
-        leads = subst (λ r. LeadsTo world key (suc at) (pieces r)) left (leads-on world key seat map rest on at long entry);
-        text = subst IsText left (text-drop 8 rest on.text);
+        leads = subst (λ r. LeadsTo world key (suc at) (pieces r)) left (leads-on world key seat map rest on at long whole entry);
+        text = subst IsText left (text-drop 8 rest (on.text is_text));
         held = pieces held;
         value = value;
         is_tail = is;
-        other = subst (λ r. pieces held ≢ pieces r) left (λ e. ne (pieces_same held (drop 8 rest) text (text-drop 8 rest on.text) e));
+        other = subst (λ r. pieces held ≢ pieces r) left (λ e. ne (pieces_same held (drop 8 rest) text (text-drop 8 rest (on.text is_text)) e));
       }
 
   -- What is found there.
   pub found-tail : held ≡ drop 8 rest → lookup world 0 (pieces key) ≡ Some value
   found-tail e =
-      ap (lookup world 0) (leads-on world key seat map rest on at long entry).parts
+      ap (lookup world 0) (leads-on world key seat map rest on at long whole entry).parts
       ∙ (let h = pieces-head (drop 8 rest) in
-      let to = leads-on world key seat map rest on at long entry in
+      let to = leads-on world key seat map rest on at long whole entry in
       ap (λ ps. lookup world 0 (to.front ++ ps)) h.1
       ∙ lookup-walk world 0 to.front (suc at) (piece_of (drop 8 rest)) h.0 to.way
       ∙ lookup-in world (suc at) (piece_of (drop 8 rest) ∷ h.0)
@@ -157,22 +167,22 @@ module _ (world : World) (key : List ℕ) (seat : ℕ) (map : FinMap word_order 
       ∙ ap (λ node. look_in world node (pieces (drop 8 rest))) (is ∙ ap (λ l. tail (pieces l) value) e)
       ∙ tail-same world (pieces (drop 8 rest)) value (pieces-some (drop 8 rest)))
 
-  pub found-clash : IsText held → held ≢ drop 8 rest → lookup world 0 (pieces key) ≡ None
-  found-clash text ne =
-      ap (lookup world 0) (leads-on world key seat map rest on at long entry).parts
+  pub found-clash : IsText held → held ≢ drop 8 rest → IsText key → lookup world 0 (pieces key) ≡ None
+  found-clash text ne is_text =
+      ap (lookup world 0) (leads-on world key seat map rest on at long whole entry).parts
       ∙ (let h = pieces-head (drop 8 rest) in
-      let to = leads-on world key seat map rest on at long entry in
+      let to = leads-on world key seat map rest on at long whole entry in
       ap (λ ps. lookup world 0 (to.front ++ ps)) h.1
       ∙ lookup-walk world 0 to.front (suc at) (piece_of (drop 8 rest)) h.0 to.way
       ∙ lookup-in world (suc at) (piece_of (drop 8 rest) ∷ h.0)
       ∙ ap (look_in world (world (suc at))) (sym h.1)
       ∙ ap (λ node. look_in world node (pieces (drop 8 rest))) is
-      ∙ tail-other world (pieces held) (pieces (drop 8 rest)) value (λ e. ne (pieces_same held (drop 8 rest) text (text-drop 8 rest on.text) e)))
+      ∙ tail-other world (pieces held) (pieces (drop 8 rest)) value (λ e. ne (pieces_same held (drop 8 rest) text (text-drop 8 rest (on.text is_text)) e)))
 
 module _ (arena : Arena) (is : IsArena arena) (key : List ℕ) (seat : ℕ) (map : FinMap word_order ℕ) (rest : List ℕ) (on : IsOnWay (world_of arena) key seat map rest) where
   -- Nothing stands where an entry leads: that can't be.
-  pub not-gone : 8 ≤ length rest → (at : ℕ) → get map (piece_of rest) ≡ Some at → node_of (child_at arena at) ≢ gone
-  not-gone long at entry = ((is.is_world.levels seat map on.is_level).leads (piece_of rest) at entry (piece-IsInner rest on.text long)).1
+  pub not-gone : IsInner (piece_of rest) → (at : ℕ) → get map (piece_of rest) ≡ Some at → node_of (child_at arena at) ≢ gone
+  not-gone whole at entry = ((is.is_world.levels seat map on.is_level).leads (piece_of rest) at entry whole).1
 
   -- The level has no entry, so the key isn't there.
   pub found-none : get map (piece_of rest) ≡ None → lookup (world_of arena) 0 (pieces key) ≡ None
@@ -192,6 +202,20 @@ module _ (arena : Arena) (is : IsArena arena) (key : List ℕ) (seat : ℕ) (map
       at-end : (o : Option ℕ) → at_entry o [] (λ at. lookup (world_of arena) (suc at) []) ≡ o
       at-end None = refl
       at-end (Some v) = refl
+
+-- Where something is found, these are the pieces of a key.
+module _ (world : World) (behind : ℕ → List ℕ) (is : IsWorld world behind) (key : List ℕ) (seat : ℕ) (map : FinMap word_order ℕ) (rest : List ℕ) (on : IsOnWay world key seat map rest) where
+  leads-behind : (end : ℕ) (ps : List ℕ) (leads : LeadsTo world key end ps) → behind end ++ ps ≡ pieces key
+  leads-behind end ps leads =
+      ap (λ place. place ++ ps) (walk-behind world behind is 0 leads.front end leads.inner leads.way ∙ ap (λ place. place ++ leads.front) is.first) ∙ sym leads.parts
+
+  pub spelled-tail : 8 ≤ length rest → IsInner (piece_of rest) → (at : ℕ) → get map (piece_of rest) ≡ Some at → (held : List ℕ) (value : ℕ) → world (suc at) ≡ tail (pieces held) value → held ≡ drop 8 rest → SpellKey (pieces key)
+  spelled-tail long whole at entry held value tailed e =
+      subst SpellKey (ap (λ bytes. behind (suc at) ++ pieces bytes) e ∙ leads-behind (suc at) (pieces (drop 8 rest)) (leads-on world key seat map rest on at long whole entry)) (is.tails (suc at) (pieces held) value tailed)
+
+  pub spelled-last : length rest < 8 → (value : ℕ) → get map (piece_of rest) ≡ Some value → SpellKey (pieces key)
+  spelled-last short value entry =
+      subst SpellKey (ap (λ ps. behind seat ++ ps) (sym (pieces_short rest short)) ∙ leads-behind seat (pieces rest) on.leads) ((is.levels seat map on.is_level).ends (piece_of rest) value entry (short-IsFinal rest short))
 
 -- A child that is read from the list.
 pub child_from : (arena : Arena) (items : List Child) → items ≡ arena.children.items → (at : ℕ) (found child : Child) → found ≡ get_or items at (Free 0) → found ≡ child → child_at arena at ≡ child

@@ -100,7 +100,7 @@ order-low high low other = ⊎_elim
     apart)
     (cases_order low other)
 
-below_high : (unit left right low other : ℕ) → low < unit → left < right → left * unit + low < right * unit + other
+pub below_high : (unit left right low other : ℕ) → low < unit → left < right → left * unit + low < right * unit + other
 below_high unit left right low other p less =
     let bound = mul-add-lt left unit low right less p in
     let turned = mul_comm unit right in
@@ -117,7 +117,7 @@ order-high unit left right low other p q = ⊎_elim
     (cases_order left right)
 
 -- Where a byte that isn't zero stands, the number isn't zero.
-spelled-some : (width byte : ℕ) (bytes : List ℕ) → byte ≢ 0 → 0 < spelled (suc width) (byte ∷ bytes)
+pub spelled-some : (width byte : ℕ) (bytes : List ℕ) → byte ≢ 0 → 0 < spelled (suc width) (byte ∷ bytes)
 spelled-some width byte bytes some =
     let here : 0 < byte * 256 ^ width = mul-pos (omega (arith, some)) (unit_pos width) in
     omega arith

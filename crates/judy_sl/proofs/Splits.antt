@@ -11,6 +11,7 @@ use Rattle.judy_sl.specs.declared.arena.Place.{Place}
 use Rattle.judy_sl.specs.declared.branches.Branch.{Branch}
 use Rattle.judy_sl.specs.Pieces.{pieces}
 use Rattle.judy_sl.specs.World.{World, gone, tail, lookup}
+use Rattle.judy_sl.specs.Worlds.{AllLed}
 use Rattle.judy_sl.specs.Arenas.{world_of, node_of, child_at, IsArena}
 use Rattle.judy_sl.specs.Ways.{IsFound, IsGap, IsClash, left_of}
 use Rattle.judy_sl.specs.Branches.{IsBuilt}
@@ -58,6 +59,7 @@ module _ (arena reserved after : Arena) (same : IsSame arena reserved) (key : Li
     pub split-added : (place : Place) → IsFound (world_of after) key place → IsAdded arena after key place
     split-added place found = record {
       is_arena = split-arena;
+      led = λ all. (grafted key left is_key split-graft).led (subst AllLed (sym (world-same arena reserved same)) all);
       change = subst (λ w. IsChange w (world_of after) (pieces key) (Some 0)) (world-same arena reserved same) (grafted key left is_key split-graft).change;
       found = found;
     }

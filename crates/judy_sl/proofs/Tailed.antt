@@ -1,7 +1,7 @@
 -- A key that is added with a new tail.
 use Rattle.std.proofs.Common.{◌≡◌, ◌≢◌, ℕ, zero, suc, ◌≤◌, ◌-◌, List, [], ◌∷◌, ◌++◌, length, drop, None, Some, inl, inr, refl, sym, ap, subst, ◌∙◌, arith}
 use Rattle.std.proofs.lemmas.Bool.{cases_eq}
-use Rattle.std.proofs.lemmas.Option.{same_Some}
+use Rattle.std.proofs.lemmas.Option.{none-some, same_Some}
 use Rattle.std.proofs.lemmas.List.{append_assoc, length-drop}
 use Rattle.std.specs.FinMap.{FinMap, get, insert}
 use Rattle.judy_model.specs.Keys.{word_order, IsStringKey}
@@ -14,7 +14,7 @@ use Rattle.judy_sl.specs.declared.arena.Place.{Place}
 use Rattle.judy_sl.specs.declared.arena.Place.TheVariants.{Below}
 use Rattle.judy_sl.specs.Pieces.{pieces, IsText, IsInner, IsFinal, SpellKey, ArePieces}
 use Rattle.judy_sl.specs.World.{World, Node, gone, tail, level, lookup, at_entry}
-use Rattle.judy_sl.specs.Worlds.{IsWorld, FitsBehind}
+use Rattle.judy_sl.specs.Worlds.{IsWorld, FitsBehind, AllLed}
 use Rattle.judy_sl.specs.Arenas.{world_of, node_of, child_at, IsArena, HasText, HasLimit}
 use Rattle.judy_sl.specs.Places.{place_with}
 use Rattle.judy_sl.specs.Ways.{seat_of, piece_at, LeadsTo, IsFound, IsGap, HasValue, left_of}
@@ -26,6 +26,7 @@ use Rattle.judy_sl.proofs.Seats.{set_node, set_behind, set_node-comm, cond-same,
 use Rattle.judy_sl.proofs.Entries.{changes_behind}
 use Rattle.judy_sl.proofs.OnWay.{pieces-some, inner-more}
 use Rattle.judy_sl.proofs.Written.{behind-leads}
+use Rattle.judy_sl.proofs.Led.{led-put}
 use Rattle.judy_sl.proofs.Linked.{node_with, texts-place, limits-place, root-place, world-with_place, insert-some, get-insert_here, get-insert_off}
 use Rattle.judy_sl.proofs.Filled.{level-place, place-inside, world-same, arena-same, next-stays}
 
@@ -213,6 +214,7 @@ module _ (arena : Arena) (is : IsArena arena) (key : List ℕ) (is_key : IsStrin
             | inr apart ↦ subst HasLimit (sym (put_is.elsewhere k apart ∙ ap (λ a. child_at a k) entered_is)) (limits k)
           ];
         };
+        led = λ all. subst AllLed (sym after-is) (led-put world at (tail held 0) (seat_of place) gap.map (piece_at place) free-is gap.is_level inner-is (λ to entry. none-some to (sym gap.absent ∙ entry)) (get-insert_here gap.map (piece_at place) at) all);
         change = subst (λ w. IsChange world w (pieces key) (Some 0)) (sym after-is) (subst (λ ps. IsChange world (tailed_after world is.behind is.is_world arena.root.map refl key is_key (seat_of place) (piece_at place) held (pieces-some (drop 8 rest_of)) inner-is leads-is gap.map gap.is_level gap.absent at free-is) ps (Some 0)) (sym leads-is.parts) (tail-change world is.behind is.is_world arena.root.map refl key is_key (seat_of place) (piece_at place) held (pieces-some (drop 8 rest_of)) inner-is leads-is gap.map gap.is_level gap.absent at free-is));
         found = subst (λ w. IsFound w key (Below at 0)) (sym after-is) (tail-found world is.behind is.is_world arena.root.map refl key is_key (seat_of place) (piece_at place) held (pieces-some (drop 8 rest_of)) inner-is leads-is gap.map gap.is_level gap.absent at free-is);
       }
@@ -221,6 +223,7 @@ module _ (arena : Arena) (is : IsArena arena) (key : List ℕ) (is_key : IsStrin
 pub added-same : (before same after : Arena) (key : List ℕ) (place : Place) → IsSame before same → IsAdded same after key place → IsAdded before after key place
 added-same before same after key at is added = record {
   is_arena = added.is_arena;
+  led = λ all. added.led (subst AllLed (sym (world-same before same is)) all);
   change = subst (λ w. IsChange w (world_of after) (pieces key) (Some 0)) (world-same before same is) added.change;
   found = added.found;
 }

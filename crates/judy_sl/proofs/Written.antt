@@ -8,7 +8,7 @@ use Rattle.judy_sl.specs.declared.arena.Place.{Place}
 use Rattle.judy_sl.specs.declared.arena.Place.TheVariants.{Root, Below}
 use Rattle.judy_sl.specs.Pieces.{pieces}
 use Rattle.judy_sl.specs.World.{World, Node, gone, tail, level, lookup, at_entry, walk}
-use Rattle.judy_sl.specs.Worlds.{IsWorld}
+use Rattle.judy_sl.specs.Worlds.{IsWorld, AllLed}
 use Rattle.judy_sl.specs.Arenas.{world_of, node_of, child_at, IsArena}
 use Rattle.judy_sl.specs.Children.{value_at}
 use Rattle.judy_sl.specs.Places.{IsInside, place_with, place_value}
@@ -17,6 +17,7 @@ use Rattle.judy_sl.proofs.Ways.{look_in, lookup-walk, walk-behind, tail-same}
 use Rattle.judy_sl.proofs.Seats.{set_node, cond-same, cond-other, NodeFits, IsUsed}
 use Rattle.judy_sl.specs.Grown.{IsChange}
 use Rattle.judy_sl.proofs.Entries.{changes_tail, changes_value}
+use Rattle.judy_sl.proofs.Led.{KeepsEntries, keeps-none, keeps-insert, led-set}
 use Rattle.judy_sl.proofs.Linked.{node_with, inside_of, world-with_place, place-with_arena, fits-insert, insert-some, get-insert_here, get-insert_off}
 
 -- The seat to which a key leads has its pieces behind it.
@@ -90,6 +91,17 @@ module _ (arena : Arena) (is : IsArena arena) (key : List ℕ) (place : Place) (
     -- The arena stays one.
     pub written-arena : IsArena (place_with arena place value)
     written-arena = place-with_arena arena is place value inside-there (fits-node (world_of arena (seat_of place)) refl found.has) (used-node (seat_of place) (world_of arena (seat_of place)) found.has)
+
+    keeps-node : (node : Node) → HasValue node (piece_at place) found.rest found.value → KeepsEntries node (node_with node (piece_at place) value)
+    keeps-node gone has = absurd has
+    keeps-node (tail held v) has = keeps-none (tail held v) (tail held value) (λ map e. cc)
+    keeps-node (level map) has = keeps-insert map (piece_at place) value (λ at inner entry. inner has.1)
+
+    -- What an entry leads to, it leads to still.
+    pub written-led : AllLed (world_of arena) → AllLed (world_of (place_with arena place value))
+    written-led all =
+        let node = world_of arena (seat_of place) in
+        subst AllLed (sym (world-with_place arena place value inside-there)) (led-set (world_of arena) (seat_of place) (node_with node (piece_at place) value) (keeps-node node found.has) (some-node node (piece_at place) found.rest found.value found.has) all)
 
     change-node : (node : Node) → world_of arena (seat_of place) ≡ node → HasValue node (piece_at place) found.rest found.value → IsChange (world_of arena) (set_node (world_of arena) (seat_of place) (node_with node (piece_at place) value)) (found.leads.front ++ found.rest) (Some value)
     change-node gone e has = absurd has

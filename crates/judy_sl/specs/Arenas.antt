@@ -9,7 +9,7 @@ use Rattle.judy_sl.specs.declared.child.Child.TheVariants.{Free, Tail, Level}
 use Rattle.judy_sl.specs.declared.arena.Arena.{Arena}
 use Rattle.judy_sl.specs.Pieces.{pieces, IsText}
 use Rattle.judy_sl.specs.World.{World, Node, gone, tail, level, lookup}
-use Rattle.judy_sl.specs.Worlds.{IsWorld}
+use Rattle.judy_sl.specs.Worlds.{IsWorld, AllLed}
 
 -- The child at a place; past the end nothing, as at a free place.
 abbrev pub child_at : Arena → ℕ → Child
@@ -54,9 +54,10 @@ map_of arena = table string_keys (λ key. lookup (world_of arena) 0 (pieces key)
 abbrev pub array_of : ℕ → Arena → ArrayOf byte_order
 array_of limit arena = record { limit = limit; map = map_of arena }
 
--- What always holds of an array: it counts its keys.
+-- What always holds of an array: it keeps nothing to which no entry leads, and it counts its keys.
 pub record IsStrings (limit count : ℕ) (arena : Arena) : Type 0 where
   pub is_arena : IsArena arena
+  pub led : AllLed (world_of arena)
   pub counted : count ≡ len (map_of arena)
   pub within_limit : count ≤ limit
   pub holds_some : 1 ≤ limit

@@ -1,8 +1,8 @@
 -- What a child becomes, for whatever is left in a slot of it.
-use Rattle.std.specs.Prelude.{ℕ, Option, Some, None, Result}
+use Rattle.std.specs.Prelude.{ℕ, IsFalse, Option, Some, None, Result}
 use Rattle.std.specs.Borrow.{LendsIf, LendsIfOk, MutBor, Fml, u64}
 use Rattle.std.specs.FinMap.{get}
-use Rattle.judy_model.specs.Arrays.{ins}
+use Rattle.judy_model.specs.Arrays.{ins, is_full}
 use Rattle.judy_word.specs.Writes.{with_value}
 use Rattle.judy_sl.specs.declared.child.Child.{Child}
 use Rattle.judy_sl.specs.declared.child.Child.TheVariants.{Free, Tail, Level}
@@ -40,3 +40,9 @@ abbrev pub IsTaken : Child → Type 0
 IsTaken (Free next) = ⊥
 IsTaken (Tail rest) = Unit {0}
 IsTaken (Level words) = Unit {0}
+
+-- A level isn't full for the piece.
+abbrev pub HasRoom : Child → ℕ → Type 0
+HasRoom (Free next) piece = Unit {0}
+HasRoom (Tail rest) piece = Unit {0}
+HasRoom (Level words) piece = IsFalse (is_full words piece)

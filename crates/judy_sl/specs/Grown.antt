@@ -6,6 +6,7 @@ use Rattle.judy_sl.specs.declared.arena.Arena.{Arena}
 use Rattle.judy_sl.specs.declared.arena.Place.{Place}
 use Rattle.judy_sl.specs.Pieces.{pieces, ArePieces}
 use Rattle.judy_sl.specs.World.{World, gone, lookup}
+use Rattle.judy_sl.specs.Worlds.{AllLed}
 use Rattle.judy_sl.specs.Arenas.{world_of, node_of, child_at, IsArena}
 use Rattle.std.specs.FinMap.{contains_key}
 use Rattle.judy_model.specs.Keys.{word_order}
@@ -41,6 +42,7 @@ pub record IsPut (before after : Arena) (child : Child) (at : ℕ) : Type 0 wher
 -- A key was added with the value 0, which stands at the place.
 pub record IsAdded (before after : Arena) (key : List ℕ) (place : Place) : Type 0 where
   pub is_arena : IsArena after
+  pub led : AllLed (world_of before) → AllLed (world_of after)
   pub change : IsChange (world_of before) (world_of after) (pieces key) (Some 0)
   pub found : IsFound (world_of after) key place
 
@@ -69,6 +71,7 @@ pub record IsGraft (arena : Arena) (key : List ℕ) (at left : ℕ) (branch : Br
 -- A key was added with the value 0.
 pub record IsGrafted (before after : Arena) (key : List ℕ) : Type 0 where
   pub is_arena : IsArena after
+  pub led : AllLed (world_of before) → AllLed (world_of after)
   pub change : IsChange (world_of before) (world_of after) (pieces key) (Some 0)
 
 -- A branch of some key, in whose levels each entry is there.

@@ -6,6 +6,7 @@ pub mod Arenas
 pub mod Places
 pub mod Scans
 pub mod Ways
+pub mod Shrunk
 pub mod Grown
 pub mod Branches
 pub mod Lends

@@ -1,5 +1,5 @@
 -- Keys as pieces of eight bytes. (This project's own.)
-use Rattle.std.specs.Prelude.{◌≡◌, ◌≢◌, ℕ, zero, suc, ◌+◌, ◌*◌, ◌/◌, ◌%◌, ◌^◌, ◌<◌, nat_lt, List, [], ◌∷◌, length, drop, filter, All}
+use Rattle.std.specs.Prelude.{◌≡◌, ◌≢◌, ℕ, zero, suc, ◌+◌, ◌-◌, ◌*◌, ◌/◌, ◌%◌, ◌^◌, ◌<◌, nat_lt, List, [], ◌∷◌, length, drop, slice_get, Some, filter, All}
 use Rattle.std.specs.List.{flat_map}
 use Rattle.judy_model.specs.Keys.{IsStringKey}
 use Rattle.judy_model.specs.WordBytes.{low_bytes}
@@ -46,6 +46,10 @@ ArePieces (piece ∷ next ∷ rest) = IsInner piece × ArePieces (next ∷ rest)
 -- Bytes of which none is zero.
 abbrev pub IsText : List ℕ → Type 0
 IsText bytes = All (λ byte. (byte < 256) × (byte ≢ 0)) bytes
+
+-- The last byte isn't zero, where there is one.
+abbrev pub EndsWell : List ℕ → Type 0
+EndsWell bytes = slice_get bytes (length bytes - 1) ≢ Some 0
 
 -- The pieces are those of a key.
 pub record SpellKey (ps : List ℕ) : Type 0 where

@@ -1,9 +1,9 @@
 -- What an arena becomes, for whatever is left in a slot of it.
-use Rattle.std.specs.Prelude.{ℕ, ◌<◌, Option, Result, length}
+use Rattle.std.specs.Prelude.{ℕ, ◌<◌, IsFalse, Option, Result, length}
 use Rattle.std.specs.Borrow.{Lends, LendsIf, LendsIfOk, MutBor, Fml, u64}
 use Rattle.std.specs.Vec.{with_item}
 use Rattle.std.specs.FinMap.{get}
-use Rattle.judy_model.specs.Arrays.{ins}
+use Rattle.judy_model.specs.Arrays.{ins, is_full}
 use Rattle.judy_word.specs.Writes.{with_value}
 use Rattle.judy_sl.specs.declared.child.Child.{Child}
 use Rattle.judy_sl.specs.declared.arena.Arena.{Arena}
@@ -12,7 +12,7 @@ use Rattle.judy_sl.specs.declared.arena.Place.TheVariants.{Root, Below}
 use Rattle.judy_sl.specs.declared.error.SlError.{SlError}
 use Rattle.judy_sl.specs.contracts.child.Child as child
 use Rattle.judy_sl.specs.contracts.arena.Arena.{the_row}
-use Rattle.judy_sl.specs.Children.{child_with, value_at, value_in, IsTaken}
+use Rattle.judy_sl.specs.Children.{child_with, value_at, value_in, IsTaken, HasRoom}
 use Rattle.judy_sl.specs.Arenas.{child_at}
 
 -- The child of the place is one of the list.
@@ -55,3 +55,8 @@ place_in_value arena (Below at piece) = value_in (child_at arena at) piece
 abbrev pub IsPlace : Arena → Place → Type 0
 IsPlace arena (Root piece) = Unit {0}
 IsPlace arena (Below at piece) = (at < length arena.children.items) × IsTaken (child_at arena at)
+
+-- The level of the place isn't full for the piece.
+abbrev pub PlaceHasRoom : Arena → Place → Type 0
+PlaceHasRoom arena (Root piece) = IsFalse (is_full arena.root piece)
+PlaceHasRoom arena (Below at piece) = HasRoom (child_at arena at) piece

@@ -20,3 +20,16 @@ pub record IsWorld (world : World) (behind : ℕ → List ℕ) : Type 0 where
   pub levels : (seat : ℕ) (map : FinMap word_order ℕ) → world seat ≡ level map → FitsBehind world behind (behind seat) map
   pub used : (at : ℕ) (map : FinMap word_order ℕ) → world (suc at) ≡ level map → map ≢ empty
   pub tails : (seat : ℕ) (held : List ℕ) (value : ℕ) → world seat ≡ tail held value → SpellKey (behind seat ++ held)
+
+-- An entry of a level leads to the child at a place.
+pub record IsLed (world : World) (at : ℕ) : Type 0 where
+  pub seat : ℕ
+  pub map : FinMap word_order ℕ
+  pub is_level : world seat ≡ level map
+  pub piece : ℕ
+  pub inner : IsInner piece
+  pub entry : get map piece ≡ Some at
+
+-- An entry leads to each child that is there, so a place to which none leads any more is free.
+abbrev pub AllLed : World → Type 0
+AllLed world = (at : ℕ) → world (suc at) ≢ gone → IsLed world at

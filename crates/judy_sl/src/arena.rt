@@ -3,18 +3,20 @@
 ghost use Rattle.std.specs.Prelude.{◌≡◌, ◌<◌, [], length, Some, None, IfOk, OnOk, IfErr, OnErr};
 ghost use Rattle.std.specs.Borrow.{sem};
 ghost use Rattle.std.specs.Option.{option_copied_mut};
+ghost use Rattle.std.specs.FinMap as map;
 ghost use Rattle.judy_model.specs.Arrays.{empty_array};
-ghost use Rattle.judy_sl.specs.Pieces.{pieces, IsText};
-ghost use Rattle.judy_sl.specs.World.{lookup};
-ghost use Rattle.judy_sl.specs.Arenas.{world_of, child_at, IsArena};
-ghost use Rattle.judy_sl.specs.Places.{place_value, place_in_value, place_with, IsInside, IsPlace, LendsItem, LendsPlace, LendsPlaceOk};
+ghost use Rattle.judy_model.specs.Keys.{IsStringKey};
+ghost use Rattle.judy_sl.specs.Pieces.{IsText, EndsWell};
+ghost use Rattle.judy_sl.specs.Arenas.{child_at, map_of, IsArena};
+ghost use Rattle.judy_sl.specs.Places.{place_value, place_in_value, place_with, IsInside, IsPlace, PlaceHasRoom, LendsItem, LendsPlace, LendsPlaceOk};
 ghost use Rattle.judy_sl.specs.declared.error.SlError.TheVariants.{NoMemory};
+ghost use Rattle.judy_sl.specs.declared.arena.Way.TheVariants.{At};
 ghost use Rattle.judy_sl.specs.Ways.{place_in, IsWay};
 
 use crate::child::Child;
 use crate::error::SlError;
 use crate::pieces::first_piece;
-use judy_word::JudyL;
+use judy_word::{InsertError, JudyL};
 use std::alloc::Global;
 
 // The value of a piece that isn't final is the place of its child in the list. Free places are linked from `free`.
@@ -43,7 +45,7 @@ pub enum Way {
 }
 
 // The place of a piece of the first level, or of the level of a child.
-fn place_in(child: Option<usize>, piece: u64) -> Place
+pub fn place_in(child: Option<usize>, piece: u64) -> Place
     ensures { result ≡ place_in child piece }
 {
     match child {
@@ -65,17 +67,22 @@ impl Arena {
         }
     }
 
-    // The way of the key.
+    // The way of the key. Bytes that are no key have some way too, but never to a value: a whole piece with its lowest
+    // byte zero is found by its test, and others with a zero stand in no level and in no tail.
     pub fn walk(&self, key: &[u8]) -> Way
         requires is_arena { IsArena self.now }
-        requires is_text { IsText key.now }
-        ensures { IsWay self.now key.now result }
+        requires ends { EndsWell key.now }
+        ensures way { IsText key.now → IsWay self.now key.now result }
+        ensures there { (place : Place) → result ≡ At place → IsStringKey key.now }
     {
         let mut level = &self.root;
         let mut child = None;
         let mut rest = key;
         while rest.len() >= 8 {
             let piece = first_piece(rest);
+            if piece % 256 == 0 {
+                return Way::Gap(place_in(child, piece), rest.len());
+            }
             let Some(at) = level.get(piece) else {
                 return Way::Gap(place_in(child, piece), rest.len());
             };
@@ -103,16 +110,20 @@ impl Arena {
         }
     }
 
-    // The value of the key.
+    // The value of the key; bytes that are no key have none, as in `walk`.
     pub fn get(&self, key: &[u8]) -> Option<u64>
         requires is_arena { IsArena self.now }
-        requires is_text { IsText key.now }
-        ensures { result ≡ lookup (world_of self.now) 0 (pieces key.now) }
+        requires ends { EndsWell key.now }
+        ensures { result ≡ map.get (map_of self.now) key.now }
     {
         let mut level = &self.root;
         let mut rest = key;
         while rest.len() >= 8 {
-            let at = level.get(first_piece(rest))?;
+            let piece = first_piece(rest);
+            if piece % 256 == 0 {
+                return None;
+            }
+            let at = level.get(piece)?;
             rest = &rest[8..];
             match self.children.get(at as usize) {
                 Some(Child::Level(next)) => level = next,
@@ -131,7 +142,7 @@ impl Arena {
     }
 
     // The child at a place.
-    fn child_at(&mut self, at: usize) -> &mut Child
+    pub fn child_at(&mut self, at: usize) -> &mut Child
         requires { at < length self.old.children.items }
         ensures* writes_back { sem 𝓛 (LendsItem self.entry at result) }
         ensures value { result.now ≡ child_at self.old at }
@@ -153,7 +164,8 @@ impl Arena {
 
     // The slot of a value, which is put in with the value 0 where it is absent.
     pub fn ins(&mut self, place: Place) -> Result<&mut u64, SlError>
-        requires { IsPlace self.old place }
+        requires place { IsPlace self.old place }
+        requires room { PlaceHasRoom self.old place }
         ensures* writes_back { sem 𝓛 (LendsPlaceOk self.entry place result) }
         ensures value { IfOk result (λ slot. Some slot.now ≡ place_in_value self.old place) }
         ensures refused { IfErr result (λ error. (place_value self.old place ≡ None) × (error ≡ NoMemory)) }
@@ -161,7 +173,8 @@ impl Arena {
         match place {
             Place::Root(piece) => match self.root.ins(piece) {
                 Ok(slot) => Ok(slot),
-                Err(_) => Err(SlError::NoMemory),
+                Err(InsertError::Full) => unreachable!(),
+                Err(InsertError::NoMemory) => Err(SlError::NoMemory),
             },
             Place::Below(at, piece) => self.child_at(at).ins(piece),
         }
@@ -169,7 +182,8 @@ impl Arena {
 
     // Puts a value in at a place, or writes it there.
     pub fn enter(&mut self, place: Place, value: u64) -> Result<(), SlError>
-        requires { IsPlace self.old place }
+        requires place { IsPlace self.old place }
+        requires room { PlaceHasRoom self.old place }
         ensures entered { OnOk result (self.new ≡ place_with self.old place value) }
         ensures unchanged { OnErr result (self.new ≡ self.old) }
         ensures refused { IfErr result (λ error. error ≡ NoMemory) }

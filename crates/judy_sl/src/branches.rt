@@ -1,6 +1,7 @@
 //! What takes the place of a tail that a second key meets, built beside the array.
 
-ghost use Rattle.std.specs.Prelude.{◌≡◌, ◌≢◌, IfOk, IfErr};
+ghost use Rattle.std.specs.Prelude.{◌≡◌, ◌≢◌, ◌<◌, IfOk, IfErr};
+ghost use Rattle.std.specs.FinMap as map;
 ghost use Rattle.judy_sl.specs.declared.error.SlError.TheVariants.{NoMemory};
 ghost use Rattle.judy_sl.specs.Pieces.{IsText};
 ghost use Rattle.judy_sl.specs.Branches.{IsSprout, IsBuilt, single};
@@ -8,7 +9,7 @@ ghost use Rattle.judy_sl.specs.Branches.{IsSprout, IsBuilt, single};
 use crate::child::Rest;
 use crate::error::SlError;
 use crate::pieces::first_piece;
-use judy_word::JudyL;
+use judy_word::{InsertError, JudyL};
 use std::alloc::Global;
 
 // A tail to be, and the piece that is to lead to it.
@@ -36,7 +37,8 @@ fn one_entry(alloc: Global, piece: u64) -> Result<JudyL, SlError>
     let mut level = JudyL::unbounded(alloc);
     match level.ins(piece) {
         Ok(slot) => *slot = 0,
-        Err(_) => return Err(SlError::NoMemory),
+        Err(InsertError::Full) => unreachable!(),
+        Err(InsertError::NoMemory) => return Err(SlError::NoMemory),
     }
     Ok(level)
 }
@@ -49,6 +51,7 @@ fn sprout(
     rest: &[u8],
     value: u64,
 ) -> Result<Option<Twig>, SlError>
+    requires { map.len level.old.map < level.old.limit }
     ensures sprouted { IfOk result (λ twig. IsSprout level.old level.new rest.now value twig) }
     ensures refused { IfErr result (λ error. error ≡ NoMemory) }
 {
@@ -59,7 +62,8 @@ fn sprout(
                 *slot = value;
                 Ok(None)
             }
-            Err(_) => Err(SlError::NoMemory),
+            Err(InsertError::Full) => unreachable!(),
+            Err(InsertError::NoMemory) => Err(SlError::NoMemory),
         };
     }
     let Ok(bytes) = rest[8..].to_vec(alloc) else {
@@ -73,7 +77,8 @@ fn sprout(
                 rest: Rest { bytes, value },
             }))
         }
-        Err(_) => Err(SlError::NoMemory),
+        Err(InsertError::Full) => unreachable!(),
+        Err(InsertError::NoMemory) => Err(SlError::NoMemory),
     }
 }
 

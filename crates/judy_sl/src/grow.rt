@@ -6,7 +6,7 @@ ghost use Rattle.std.specs.FinMap as map;
 ghost use Rattle.judy_word.specs.Writes.{with_value};
 ghost use Rattle.judy_model.specs.Keys.{IsStringKey};
 ghost use Rattle.judy_sl.specs.declared.error.SlError.TheVariants.{NoMemory};
-ghost use Rattle.judy_sl.specs.Arenas.{world_of, IsArena};
+ghost use Rattle.judy_sl.specs.Arenas.{world_of, map_of, IsArena};
 ghost use Rattle.judy_sl.specs.Ways.{IsGap, IsClash, IsWay, IsNew};
 ghost use Rattle.judy_sl.specs.Grown.{IsPut, IsHung, HasTwig, IsSound, IsGraft, IsGrafted, IsAdded, IsSame, next_place};
 
@@ -69,6 +69,7 @@ impl Arena {
         requires is_arena { IsArena self.old }
         requires is_key { IsStringKey key.now }
         requires gap { IsGap (world_of self.old) key.now place left }
+        requires few { map.len (map_of self.old) ≤ 4294967295 }
         ensures added { IfOk result (λ made. IsAdded self.old self.new key.now made) }
         ensures refused { IfErr result (λ error. IsSame self.old self.new × (error ≡ NoMemory)) }
     {
@@ -174,6 +175,7 @@ impl Arena {
         requires is_key { IsStringKey key.now }
         requires way { IsWay self.old key.now way }
         requires new { IsNew way }
+        requires few { map.len (map_of self.old) ≤ 4294967295 }
         ensures added { IfOk result (λ made. IsAdded self.old self.new key.now made) }
         ensures refused { IfErr result (λ error. IsSame self.old self.new × (error ≡ NoMemory)) }
     {

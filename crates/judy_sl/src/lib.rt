@@ -19,6 +19,7 @@ pub mod laws;
 mod level;
 mod pieces;
 mod scans;
+mod shrink;
 mod strings;
 
 pub use error::SlError;

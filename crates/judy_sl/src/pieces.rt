@@ -1,7 +1,7 @@
 //! Keys piece by piece.
 
-ghost use Rattle.std.specs.Prelude.{◌≡◌, ◌+◌, ◌<◌, ◌≤◌, ℕ, ◌++◌, slice_index, length};
-ghost use Rattle.judy_sl.specs.Pieces.{piece_of, piece_bytes};
+ghost use Rattle.std.specs.Prelude.{◌≡◌, ◌↔◌, ◌+◌, ◌<◌, ◌≤◌, ℕ, ◌++◌, IsFalse, slice_index, length};
+ghost use Rattle.judy_sl.specs.Pieces.{piece_of, piece_bytes, EndsWell};
 
 use crate::keys::KeyBuf;
 
@@ -46,5 +46,15 @@ pub fn push_piece(key: &mut KeyBuf, piece: u64)
         if byte != 0 {
             key.push(byte);
         }
+    }
+}
+
+// Whether the last byte is zero, as it is in no key.
+pub fn ends_in_zero(bytes: &[u8]) -> bool
+    ensures { IsFalse result ↔ EndsWell bytes.now }
+{
+    match bytes.last() {
+        Some(byte) => *byte == 0,
+        None => false,
     }
 }

@@ -11,6 +11,7 @@ ghost use Rattle.judy_sl.specs.Lends.{LendsSlot, LendsIns, IsRefusal};
 use crate::arena::{Arena, Way};
 use crate::error::SlError;
 use crate::keys::is_key;
+use crate::pieces::ends_in_zero;
 use std::alloc::Global;
 use std::marker::Model;
 
@@ -67,12 +68,15 @@ impl JudySl {
         ensures refused { IfErr result (IsRefusal self.old key.now) }
     {
         let arena = &self.arena;
-        if !is_key(key) {
+        if ends_in_zero(key) {
             return Err(SlError::BadKey);
         }
         match arena.walk(key) {
             Way::At(place) => self.arena.ins(place),
             way => {
+                if !is_key(key) {
+                    return Err(SlError::BadKey);
+                }
                 if self.count == self.limit {
                     return Err(SlError::Full);
                 }
@@ -92,7 +96,7 @@ impl JudySl {
         ensures { result ≡ map.get self.now.map key.now }
     {
         let arena = &self.arena;
-        if !is_key(key) {
+        if ends_in_zero(key) {
             return None;
         }
         arena.get(key)
@@ -105,7 +109,7 @@ impl JudySl {
         ensures value { option_copied_mut result ≡ map.get self.old.map key.now }
     {
         let arena = &self.arena;
-        if !is_key(key) {
+        if ends_in_zero(key) {
             return None;
         }
         match arena.walk(key) {
@@ -113,6 +117,23 @@ impl JudySl {
             Way::Gap(_, _) => None,
             Way::Clash(_, _) => None,
         }
+    }
+
+    /// Takes the key out, and answers whether it was there; bytes that are no key answer as an absent one. It can't fail
+    /// and asks for no memory of its own. (Manual: JSLD, JudySLDel.)
+    pub fn del(&mut self, key: &[u8]) -> bool
+        ensures answer { result ≡ map.contains_key self.old.map key.now }
+        ensures deleted { self.new ≡ array.with_map self.old (array.del self.old.map key.now) }
+    {
+        let arena = &self.arena;
+        if !is_key(key) {
+            return false;
+        }
+        let found = self.arena.del(key);
+        if found {
+            self.count -= 1;
+        }
+        found
     }
 
     /// How many keys the array holds: at most its limit. (This project's own.)

@@ -1,32 +1,39 @@
 -- How an end of the program shows.
-use Rattle.std.specs.Prelude.{ℕ, ◌⊎◌, List, [], ◌∷◌, ◌++◌, codes}
+use Rattle.std.specs.Prelude.{ℕ, ◌⊎◌, List, [], ◌∷◌, ◌++◌, codes, string_bytes, Result, Ok, Err}
 use Rattle.judy_script.specs.declared.fault.RunFault.{RunFault}
 use Rattle.judy_script.specs.declared.fault.RunFault.TheVariants.{Read, Write, TooLong}
 use Rattle.judy_script.specs.Faults.{fault_word}
+use Rattle.judy_shelf.specs.Faults.{dump_word, load_word}
 use Rattle.judy_store.specs.declared.end.End.{End}
-use Rattle.judy_store.specs.declared.end.End.TheVariants.{Done, Run}
+use Rattle.judy_store.specs.declared.end.End.TheVariants as end
 
--- The exit status: 0 where the program is done.
+-- The exit status: 0 where the program did what it was asked, 2 where the command line was refused, else 1.
 abbrev pub status_of : End → ℕ
-status_of Done = 0
-status_of (Run fault) = 1
+status_of end.Done = 0
+status_of (end.Help text) = 0
+status_of (end.BadWords text) = 2
+status_of end.NoMemory = 1
+status_of (end.Open name) = 1
+status_of (end.Load fault) = 1
+status_of (end.Run fault) = 1
+status_of (end.Dump fault) = 1
 
--- What stands on standard error: one line ended by an LF, and nothing where the program is done.
+-- What the program says of its end: the text that an end carries, or one line ended by an LF, and nothing where it
+-- is done.
 abbrev pub line_of : End → List ℕ
-line_of Done = []
-line_of (Run fault) = codes "judystore: run: " ++ fault_word fault ++ 10 ∷ []
+line_of end.Done = []
+line_of (end.Help text) = string_bytes text
+line_of (end.BadWords text) = string_bytes text
+line_of end.NoMemory = codes "judystore: no-memory" ++ 10 ∷ []
+line_of (end.Open name) = codes "judystore: open: " ++ string_bytes name ++ 10 ∷ []
+line_of (end.Load fault) = codes "judystore: load: " ++ load_word fault ++ 10 ∷ []
+line_of (end.Run fault) = codes "judystore: run: " ++ fault_word fault ++ 10 ∷ []
+line_of (end.Dump fault) = codes "judystore: dump: " ++ dump_word fault ++ 10 ∷ []
 
--- What an end says of the run: that all of it was done, what a fault leaves, or, where the writer failed, either:
--- it failed at an answer, or once all were given.
-abbrev pub EndsRun : Type 0 → (RunFault → Type 0) → End → Type 0
-EndsRun Ran Left Done = Ran
-EndsRun Ran Left (Run Read) = Left Read
-EndsRun Ran Left (Run Write) = Left Write ⊎ Ran
-EndsRun Ran Left (Run TooLong) = Left TooLong
-
--- How many failures of its reader an end tells of.
-abbrev pub read_failures : End → ℕ
-read_failures Done = 0
-read_failures (Run Read) = 1
-read_failures (Run Write) = 0
-read_failures (Run TooLong) = 0
+-- What the end of a run and of the flush behind it says: that all was done, what a fault of the run leaves, or, where
+-- the writer failed, either: it failed at an answer, or once all were given.
+abbrev pub EndsRun : Type 0 → (RunFault → Type 0) → Result (Unit {0}) RunFault → Type 0
+EndsRun Ran Left (Ok done) = Ran
+EndsRun Ran Left (Err Read) = Left Read
+EndsRun Ran Left (Err Write) = Left Write ⊎ Ran
+EndsRun Ran Left (Err TooLong) = Left TooLong

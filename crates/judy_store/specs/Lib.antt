@@ -1,2 +1,3 @@
+pub mod CommandLines
 pub mod Ends
 pub mod Stops

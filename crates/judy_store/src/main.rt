@@ -1,36 +1,63 @@
-//! The program `judystore`: it reads a script from standard input, runs it over an empty store and writes
-//! the answers to standard output.
+//! The program `judystore`: it begins with an empty store or one that it loads, runs a script over it, writes the
+//! answers to standard output, and dumps the store where it is asked to.
 //!
-//! What it calls is proved to give the scripted answers (`judy_script`), for a reader and a writer that tell
-//! their bytes. Of the bytes of real files and terminals nothing is claimed: the program's own pipes count
-//! their failures and tell no bytes.
+//! What it calls is proved to give the scripted answers (`judy_script`) and to read and write dumps (`judy_shelf`),
+//! for a reader and a writer that tell their bytes, and to read its command line by the meaning that `clap` gives it.
+//! Of the bytes of real files and terminals nothing is claimed: the program's own pipes count their failures and
+//! tell no bytes.
 #![tactic(auto)]
 
+mod command_line;
 mod end;
+mod files;
 mod pipes;
+mod request;
 mod store;
+mod work;
 
+use crate::command_line::options;
 use crate::end::{End, status, write_line};
-use crate::pipes::{ReadSource, WriteSink};
-use crate::store::run_store;
-use judy_pipe::BufferedSink;
-use judy_shelf::Shelf;
+use crate::pipes::WriteSink;
+use crate::work::serve;
+use std::env;
+use std::io::ErrorKind;
 use std::process::ExitCode;
 
-// The most bytes of a script. (This project's own.)
-const MAX_SCRIPT_LEN: u64 = 1073741824;
-
-// How many bytes of answers are written at once.
-const OUTPUT_LEN: usize = 65536;
-
 fn main(rt: HostRuntime) -> ExitCode {
-    let end = run_store(
-        &mut ReadSource::new(rt.stdin()),
-        &mut Shelf::new(rt.alloc()),
-        &mut BufferedSink::<_, OUTPUT_LEN>::new(WriteSink::new(rt.stdout())),
-        MAX_SCRIPT_LEN,
-    );
+    let end = match carry_out(&rt) {
+        Ok(()) => End::Done,
+        Err(end) => end,
+    };
+    ExitCode::from(status(&told(&rt, end)))
+}
+
+// Does what the command line asks.
+fn carry_out(rt: &HostRuntime) -> Result<(), End> {
+    let words = words(rt)?;
+    let options = options(rt.alloc(), words.as_slice())?;
+    serve(rt, &options)
+}
+
+// The words of the command line. Where the system doesn't give them as text, they are refused without one.
+fn words(rt: &HostRuntime) -> Result<Vec<String>, End> {
+    match env::args(rt) {
+        Ok(words) => words.collect(rt.alloc()).map_err(|_| End::NoMemory),
+        Err(error) if error.kind() == ErrorKind::OutOfMemory => Err(End::NoMemory),
+        Err(_) => Err(End::BadWords(String::new(rt.alloc()))),
+    }
+}
+
+// Tells the user of the end: help on standard output, all else on standard error. Help that can't be written ends
+// the program as answers do that can't.
+fn told(rt: &HostRuntime, end: End) -> End {
+    let mut end = end;
+    if let End::Help(_) = end {
+        match write_line(&end, &mut WriteSink::new(rt.stdout())) {
+            Ok(()) => return end,
+            Err(fault) => end = End::Run(fault),
+        }
+    }
     // Where standard error fails too, there is nobody left to tell.
     let _ = write_line(&end, &mut WriteSink::new(rt.stderr()));
-    ExitCode::from(status(&end))
+    end
 }

@@ -9,9 +9,6 @@ use judy_pipe::{BrokenPipe, Sink, Source, Stop, Tally};
 use std::io;
 use std::io::{ErrorKind, Read, Write};
 
-#[cfg(test)]
-mod tests;
-
 /// A reader as a source.
 #[derive(Drop)]
 pub struct ReadSource<R> {

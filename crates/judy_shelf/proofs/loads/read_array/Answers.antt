@@ -2,8 +2,8 @@ use Rattle.judy_model.specs.Fields.{◌>>=◌, done}
 use Rattle.judy_model.specs.DumpGrammar as grammar
 use Rattle.judy_shelf.specs.Arrays.{value_of}
 use Rattle.judy_shelf.specs.Shelves.{store_of}
-use Rattle.judy_shelf.specs.Reads.{drawn, cause_of}
-use Rattle.judy_shelf.proofs.ReadLemmas.{reads_err, fault_first, fault_then, value_then, value_done}
+use Rattle.judy_shelf.specs.Reads.{drawn, cause_of, InBody, InArray}
+use Rattle.judy_shelf.proofs.ReadLemmas.{reads_err, fault_within, fault_behind, begins_then, value_then, value_done}
 use Rattle.judy_shelf.proofs.loads.read_array.Goals as goal
 
 pub returns-in_err-array-clause-read : goal.returns-in_err-array-clause-read
@@ -14,8 +14,9 @@ returns-in_err-array-clause-read g c =
     let fault = c.in_err-array.field-0.0 in
     let earlier = store_of c.args.shelf.now in
     reads_err (λ made. (made.0, value_of made.1)) (grammar.array earlier) before two fault c.from_residual-in_err-array.result c.from_residual-in_err-array.ensures.1
-    (fault_then (grammar.name earlier) (λ name. grammar.body >>= λ held. done (name, held)) c.in_ok-name.name before one c.in_ok-name.ensures.read (cause_of fault) two
-    (fault_first grammar.body (λ held. done (c.in_ok-name.name, held)) (cause_of fault) one two c.in_err-array.ensures))
+    (fault_behind (grammar.name earlier) (λ name. grammar.body >>= λ held. done (name, held)) c.in_ok-name.name before one c.in_ok-name.ensures.read InBody (InArray earlier)
+    (begins_then (grammar.name earlier) c.in_ok-name.name before one c.in_ok-name.ensures.read (λ _. InBody)) (cause_of fault) two
+    (fault_within grammar.body (λ held. done (c.in_ok-name.name, held)) InBody InBody (λ input inside. inside) (cause_of fault) one two c.in_err-array.ensures))
 
 pub returns-clause-read : goal.returns-clause-read
 returns-clause-read g c =

@@ -1,13 +1,11 @@
-use Rattle.std.proofs.Common.{◌-◌, ◌≤◌, [], length}
-use Rattle.judy_model.specs.DumpGrammar as grammar
+use Rattle.std.proofs.Common.{◌≤◌, length}
 use Rattle.judy_shelf.specs.Shelves.{store_of}
 use Rattle.judy_shelf.specs.Reads.{drawn}
-use Rattle.judy_shelf.proofs.ReadLemmas.{Reading}
+use Rattle.judy_shelf.proofs.ArrayReads.{ArraysRead}
 use Rattle.judy_shelf.proofs.loads.read_arrays.Given as goal
 
 -- so far these arrays were read
 abbrev pub invariant-arrays : goal.invariant-arrays
 invariant-arrays g l =
     (length l.shelf ≤ l.counter)
-    × Reading (grammar.arrays [] l.count) (grammar.arrays (store_of l.shelf) (l.count - l.counter))
-    (drawn (g.R.Source.given l.fn.source) (g.R.Source.ended l.fn.source) (g.R.Source.tally l.fn.source).failures) (drawn (g.R.Source.given l.source) (g.R.Source.ended l.source) (g.R.Source.tally l.source).failures)
+    × ArraysRead l.counter (store_of l.shelf) (drawn (g.R.Source.given l.fn.source) (g.R.Source.ended l.fn.source) (g.R.Source.tally l.fn.source).failures) (drawn (g.R.Source.given l.source) (g.R.Source.ended l.source) (g.R.Source.tally l.source).failures)

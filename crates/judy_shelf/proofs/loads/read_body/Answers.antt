@@ -1,9 +1,9 @@
-use Rattle.judy_model.specs.Fields.{◌>>=◌}
+use Rattle.judy_model.specs.Fields.{◌>>=◌, Begins}
 use Rattle.judy_model.specs.DumpGrammar as grammar
 use Rattle.judy_shelf.specs.Arrays.{value_of}
 use Rattle.judy_shelf.specs.Writes.{kind_number}
-use Rattle.judy_shelf.specs.Reads.{drawn, cause_of}
-use Rattle.judy_shelf.proofs.ReadLemmas.{reads_err, fault_first, fault_then, reads_then}
+use Rattle.judy_shelf.specs.Reads.{drawn, cause_of, AtSome}
+use Rattle.judy_shelf.proofs.ReadLemmas.{reads_err, fault_first, fault_then, reads_behind}
 use Rattle.judy_shelf.proofs.loads.read_body.Goals as goal
 
 pub returns-in_err-limit : goal.returns-in_err-limit
@@ -41,6 +41,8 @@ returns g c =
     let kind = kind_number c.in_ok-kind.kind in
     let limit = c.in_ok-limit.limit in
     let count = c.in_ok-count.count in
-    reads_then grammar.kind (λ kind. grammar.limit >>= λ limit. grammar.key_count limit >>= λ count. grammar.contents kind limit count) kind before one c.in_ok-kind.ensures.read value_of four c.read_contents.result
-    (reads_then grammar.limit (λ limit. grammar.key_count limit >>= λ count. grammar.contents kind limit count) limit one two c.in_ok-limit.ensures.read value_of four c.read_contents.result
-    (reads_then (grammar.key_count limit) (λ count. grammar.contents kind limit count) count two three c.in_ok-count.ensures value_of four c.read_contents.result c.read_contents.ensures))
+    reads_behind grammar.kind (λ kind. grammar.limit >>= λ limit. grammar.key_count limit >>= λ count. grammar.contents kind limit count) kind before one c.in_ok-kind.ensures.read
+    (λ kind. Begins grammar.limit (λ limit. Begins (grammar.key_count limit) (λ count. AtSome (grammar.contents kind limit) count))) value_of four c.read_contents.result
+    (reads_behind grammar.limit (λ limit. grammar.key_count limit >>= λ count. grammar.contents kind limit count) limit one two c.in_ok-limit.ensures.read
+    (λ limit. Begins (grammar.key_count limit) (λ count. AtSome (grammar.contents kind limit) count)) value_of four c.read_contents.result
+    (reads_behind (grammar.key_count limit) (λ count. grammar.contents kind limit count) count two three c.in_ok-count.ensures (AtSome (grammar.contents kind limit)) value_of four c.read_contents.result c.read_contents.ensures))

@@ -1,18 +1,18 @@
-use Rattle.std.proofs.Common.{◌≡◌, ◌-◌, ◌+◌, ◌∷◌, [], ◌++◌, suc, None, sym, ap, subst, ◌∙◌, arith}
+use Rattle.std.proofs.Common.{◌≡◌, ◌+◌, ◌<◌, ◌≤◌, ◌∷◌, [], ◌++◌, Some, sym, ap, ◌∙◌, arith}
 use Rattle.std.specs.Cmp.{nat_cmp_total}
 use Rattle.std.specs.FinMap.{nat_cmp-IsAntisymmetric}
 use Rattle.judy_model.specs.Arrays.{judy1, ins}
 use Rattle.judy_model.specs.Keys.{word_order}
 use Rattle.judy_model.specs.DumpGrammar as grammar
-use Rattle.judy_shelf.specs.Reads.{drawn, memory, cause_of}
-use Rattle.judy_shelf.proofs.ReadLemmas.{Reading, reads_err, value_done, reading_memory}
-use Rattle.judy_shelf.proofs.EntryReads.{whole, to_come, entries_start, entries_next, entries_fault, entry_read, entry_key_stopped, filled_fault, new_none, new_more, made_more, set_more}
+use Rattle.judy_shelf.specs.Reads.{drawn, cause_of}
+use Rattle.judy_shelf.proofs.ReadLemmas.{reads_err, value_done}
+use Rattle.judy_shelf.proofs.EntryReads.{whole, listing_none, listing_next, listing_fault, listing_memory, listing_filled, entry_read, entry_key_stopped, filled_fault, new_none, new_more, set_more, made_more}
 use Rattle.judy_shelf.proofs.loads.read_set.Goals as goal
 
 pub keys-init : goal.keys-init
 keys-init g c =
     let before = drawn (g.R.Source.given c.args.source.now) (g.R.Source.ended c.args.source.now) (g.R.Source.tally c.args.source.now).failures in
-    ([], ap (λ a. a.limit) c.new-set.ensures, ap (λ a. a.map) c.new-set.ensures, new_none nat_cmp_total nat_cmp-IsAntisymmetric, subst (λ left. Reading (whole word_order grammar.word grammar.no_value c.args.count) (to_come word_order grammar.word grammar.no_value c.args.count None left []) before before) (let e : c.args.count ≡ c.args.count - 0 = omega arith in e) (entries_start word_order grammar.word grammar.no_value c.args.count before))
+    ([], ap (λ a. a.limit) c.new-set.ensures, ap (λ a. a.map) c.new-set.ensures, new_none nat_cmp_total nat_cmp-IsAntisymmetric, listing_none word_order grammar.word grammar.no_value before)
 
 pub returns-in_err-key : goal.returns-in_err-key
 returns-in_err-key g c =
@@ -20,12 +20,10 @@ returns-in_err-key g c =
     let mid = drawn (g.R.Source.given c.keys.source) (g.R.Source.ended c.keys.source) (g.R.Source.tally c.keys.source).failures in
     let after = drawn (g.R.Source.given c.read_word_after.new.source) (g.R.Source.ended c.read_word_after.new.source) (g.R.Source.tally c.read_word_after.new.source).failures in
     let count = c.args.count in
-    let left = count - c.keys.counter in
-    let n = count - (c.keys.counter + 1) in
-    let one : left ≡ suc n = omega arith in
+    let some : c.keys.counter < count = omega arith in
     let held = c.keys.invariant.0 in
     let fault = c.in_err-key.field-0.0 in
-    let stop = entries_fault word_order grammar.word grammar.no_value count c.keys.before left n one held before mid after c.keys.invariant.4 (cause_of fault)
+    let stop = listing_fault word_order grammar.word grammar.no_value c.keys.counter c.keys.before held before mid c.keys.invariant.4 count some (cause_of fault) after
     (entry_key_stopped word_order grammar.word grammar.no_value count c.keys.before (cause_of fault) mid after c.in_err-key.ensures.read) in
     reads_err judy1 (grammar.filled judy1 c.args.limit (whole word_order grammar.word grammar.no_value count)) before after fault c.from_residual.result c.from_residual.ensures.1
     (filled_fault word_order grammar.word grammar.no_value count judy1 c.args.limit before after (cause_of fault) stop)
@@ -36,30 +34,24 @@ returns-in-Err g c =
     let mid = drawn (g.R.Source.given c.keys.source) (g.R.Source.ended c.keys.source) (g.R.Source.tally c.keys.source).failures in
     let after = drawn (g.R.Source.given c.read_word_after.new.source) (g.R.Source.ended c.read_word_after.new.source) (g.R.Source.tally c.read_word_after.new.source).failures in
     let count = c.args.count in
-    let left = count - c.keys.counter in
-    let n = count - (c.keys.counter + 1) in
-    let one : left ≡ suc n = omega arith in
+    let some : c.keys.counter + 1 ≤ count = omega arith in
     let held = c.keys.invariant.0 in
     let key = c.in_ok-key.key in
     let next = entry_read word_order grammar.word grammar.no_value count c.keys.before key mid after c.in_ok-key.ensures.read 0 after (value_done 0 after) in
-    let far = entries_next word_order grammar.word grammar.no_value count c.keys.before left n one held before mid after c.keys.invariant.4 (key, 0) next in
-    filled_fault word_order grammar.word grammar.no_value count judy1 c.args.limit before after memory (reading_memory (whole word_order grammar.word grammar.no_value count) _ before after far)
+    let far = listing_next word_order grammar.word grammar.no_value c.keys.counter c.keys.before held before mid c.keys.invariant.4 (key, 0) after next in
+    listing_memory word_order grammar.word grammar.no_value (c.keys.counter + 1) (Some key) (held ++ (key, 0) ∷ []) before after far judy1 c.args.limit count some
 
 pub keys-preserved : goal.keys-preserved
 keys-preserved g c =
     let before = drawn (g.R.Source.given c.args.source.now) (g.R.Source.ended c.args.source.now) (g.R.Source.tally c.args.source.now).failures in
     let mid = drawn (g.R.Source.given c.keys.source) (g.R.Source.ended c.keys.source) (g.R.Source.tally c.keys.source).failures in
     let after = drawn (g.R.Source.given c.read_word_after.new.source) (g.R.Source.ended c.read_word_after.new.source) (g.R.Source.tally c.read_word_after.new.source).failures in
-    let count = c.args.count in
-    let left = count - c.keys.counter in
-    let n = count - (c.keys.counter + 1) in
-    let one : left ≡ suc n = omega arith in
     let held = c.keys.invariant.0 in
     let key = c.in_ok-key.key in
     let above = c.in_ok-key.ensures.above in
     let new = c.keys.invariant.3 in
-    let next = entry_read word_order grammar.word grammar.no_value count c.keys.before key mid after c.in_ok-key.ensures.read 0 after (value_done 0 after) in
-    let far = entries_next word_order grammar.word grammar.no_value count c.keys.before left n one held before mid after c.keys.invariant.4 (key, 0) next in
+    let next = entry_read word_order grammar.word grammar.no_value c.args.count c.keys.before key mid after c.in_ok-key.ensures.read 0 after (value_done 0 after) in
+    let far = listing_next word_order grammar.word grammar.no_value c.keys.counter c.keys.before held before mid c.keys.invariant.4 (key, 0) after next in
     let set = c.in-Ok.ensures.set in (
       held ++ (key, 0) ∷ [],
       ap (λ a. a.limit) set ∙ c.keys.invariant.1,
@@ -67,3 +59,10 @@ keys-preserved g c =
       new_more nat_cmp_total nat_cmp-IsAntisymmetric c.keys.before held new key 0 above,
       far,
     )
+
+pub returns : goal.returns
+returns g c =
+    let before = drawn (g.R.Source.given c.args.source.now) (g.R.Source.ended c.args.source.now) (g.R.Source.tally c.args.source.now).failures in
+    let now = drawn (g.R.Source.given c.keys.source) (g.R.Source.ended c.keys.source) (g.R.Source.tally c.keys.source).failures in
+    let all : c.keys.counter ≡ c.args.count = omega arith in
+    listing_filled word_order grammar.word grammar.no_value c.keys.counter c.keys.before c.keys.invariant.0 before now c.keys.invariant.4 judy1 c.args.limit c.args.count c.keys.set all c.keys.invariant.1 c.keys.invariant.2

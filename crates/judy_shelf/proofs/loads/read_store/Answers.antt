@@ -1,10 +1,10 @@
 use Rattle.std.proofs.Common.{[]}
-use Rattle.judy_model.specs.Fields.{◌>>=◌}
+use Rattle.judy_model.specs.Fields.{◌>>=◌, Begins}
 use Rattle.judy_model.specs.DumpText.{magic}
 use Rattle.judy_model.specs.DumpGrammar as grammar
 use Rattle.judy_shelf.specs.Shelves.{store_of}
-use Rattle.judy_shelf.specs.Reads.{drawn, cause_of, up_to_end}
-use Rattle.judy_shelf.proofs.ReadLemmas.{reads_err, fault_first, fault_then, reads_then}
+use Rattle.judy_shelf.specs.Reads.{drawn, cause_of, InArrays, up_to_end}
+use Rattle.judy_shelf.proofs.ReadLemmas.{reads_err, fault_first, fault_then, reads_behind}
 use Rattle.judy_shelf.proofs.loads.read_store.Goals as goal
 
 pub returns-in_err-count : goal.returns-in_err-count
@@ -23,5 +23,5 @@ returns g c =
     let one = drawn (g.R.Source.given c.read_magic.new.source) (g.R.Source.ended c.read_magic.new.source) (g.R.Source.tally c.read_magic.new.source).failures in
     let two = drawn (g.R.Source.given c.read_array_count.new.source) (g.R.Source.ended c.read_array_count.new.source) (g.R.Source.tally c.read_array_count.new.source).failures in
     let three = drawn (g.R.Source.given c.read_arrays.new.source) (g.R.Source.ended c.read_arrays.new.source) (g.R.Source.tally c.read_arrays.new.source).failures in
-    reads_then grammar.begins (λ _. grammar.array_count >>= λ count. grammar.arrays [] count) magic before one c.in_ok-read_magic.ensures store_of three c.read_arrays.result
-    (reads_then grammar.array_count (λ count. grammar.arrays [] count) c.in_ok-count.count one two c.in_ok-count.ensures.read store_of three c.read_arrays.result c.read_arrays.ensures)
+    reads_behind grammar.begins (λ _. grammar.array_count >>= λ count. grammar.arrays [] count) magic before one c.in_ok-read_magic.ensures (λ _. Begins grammar.array_count InArrays) store_of three c.read_arrays.result
+    (reads_behind grammar.array_count (λ count. grammar.arrays [] count) c.in_ok-count.count one two c.in_ok-count.ensures.read InArrays store_of three c.read_arrays.result c.read_arrays.ensures)

@@ -1,18 +1,18 @@
-use Rattle.std.proofs.Common.{◌≡◌, ◌-◌, ◌+◌, ◌∷◌, [], ◌++◌, suc, None, sym, ap, subst, ◌∙◌, arith}
+use Rattle.std.proofs.Common.{◌≡◌, ◌+◌, ◌<◌, ◌≤◌, ◌∷◌, [], ◌++◌, Some, sym, ap, ◌∙◌, arith}
 use Rattle.std.specs.Cmp.{nat_cmp_total}
 use Rattle.std.specs.FinMap.{nat_cmp-IsAntisymmetric, insert}
 use Rattle.judy_model.specs.Arrays.{judyl}
 use Rattle.judy_model.specs.Keys.{word_order}
 use Rattle.judy_model.specs.DumpGrammar as grammar
-use Rattle.judy_shelf.specs.Reads.{drawn, memory, cause_of}
-use Rattle.judy_shelf.proofs.ReadLemmas.{Reading, reads_err, reading_memory}
-use Rattle.judy_shelf.proofs.EntryReads.{whole, to_come, entries_start, entries_next, entries_fault, entry_read, entry_key_stopped, entry_value_stopped, filled_fault, new_none, new_more, made_more}
+use Rattle.judy_shelf.specs.Reads.{drawn, cause_of}
+use Rattle.judy_shelf.proofs.ReadLemmas.{reads_err}
+use Rattle.judy_shelf.proofs.EntryReads.{whole, listing_none, listing_next, listing_fault, listing_memory, listing_filled, entry_read, entry_key_stopped, entry_value_stopped, filled_fault, new_none, new_more, made_more}
 use Rattle.judy_shelf.proofs.loads.read_words.Goals as goal
 
 pub keys-init : goal.keys-init
 keys-init g c =
     let before = drawn (g.R.Source.given c.args.source.now) (g.R.Source.ended c.args.source.now) (g.R.Source.tally c.args.source.now).failures in
-    ([], ap (λ a. a.limit) c.new-words.ensures, ap (λ a. a.map) c.new-words.ensures, new_none nat_cmp_total nat_cmp-IsAntisymmetric, subst (λ left. Reading (whole word_order grammar.word grammar.word c.args.count) (to_come word_order grammar.word grammar.word c.args.count None left []) before before) (let e : c.args.count ≡ c.args.count - 0 = omega arith in e) (entries_start word_order grammar.word grammar.word c.args.count before))
+    ([], ap (λ a. a.limit) c.new-words.ensures, ap (λ a. a.map) c.new-words.ensures, new_none nat_cmp_total nat_cmp-IsAntisymmetric, listing_none word_order grammar.word grammar.word before)
 
 pub returns-in_err-key : goal.returns-in_err-key
 returns-in_err-key g c =
@@ -20,12 +20,10 @@ returns-in_err-key g c =
     let mid = drawn (g.R.Source.given c.keys.source) (g.R.Source.ended c.keys.source) (g.R.Source.tally c.keys.source).failures in
     let after = drawn (g.R.Source.given c.read_word_after.new.source) (g.R.Source.ended c.read_word_after.new.source) (g.R.Source.tally c.read_word_after.new.source).failures in
     let count = c.args.count in
-    let left = count - c.keys.counter in
-    let n = count - (c.keys.counter + 1) in
-    let one : left ≡ suc n = omega arith in
+    let some : c.keys.counter < count = omega arith in
     let held = c.keys.invariant.0 in
     let fault = c.in_err-key.field-0.0 in
-    let stop = entries_fault word_order grammar.word grammar.word count c.keys.before left n one held before mid after c.keys.invariant.4 (cause_of fault)
+    let stop = listing_fault word_order grammar.word grammar.word c.keys.counter c.keys.before held before mid c.keys.invariant.4 count some (cause_of fault) after
     (entry_key_stopped word_order grammar.word grammar.word count c.keys.before (cause_of fault) mid after c.in_err-key.ensures.read) in
     reads_err judyl (grammar.filled judyl c.args.limit (whole word_order grammar.word grammar.word count)) before after fault c.from_residual.result c.from_residual.ensures.1
     (filled_fault word_order grammar.word grammar.word count judyl c.args.limit before after (cause_of fault) stop)
@@ -37,12 +35,10 @@ returns-in_err-value g c =
     let keyed = drawn (g.R.Source.given c.read_word_after.new.source) (g.R.Source.ended c.read_word_after.new.source) (g.R.Source.tally c.read_word_after.new.source).failures in
     let after = drawn (g.R.Source.given c.read_u64.new.source) (g.R.Source.ended c.read_u64.new.source) (g.R.Source.tally c.read_u64.new.source).failures in
     let count = c.args.count in
-    let left = count - c.keys.counter in
-    let n = count - (c.keys.counter + 1) in
-    let one : left ≡ suc n = omega arith in
+    let some : c.keys.counter < count = omega arith in
     let held = c.keys.invariant.0 in
     let fault = c.in_err-value.field-0.0 in
-    let stop = entries_fault word_order grammar.word grammar.word count c.keys.before left n one held before mid after c.keys.invariant.4 (cause_of fault)
+    let stop = listing_fault word_order grammar.word grammar.word c.keys.counter c.keys.before held before mid c.keys.invariant.4 count some (cause_of fault) after
     (entry_value_stopped word_order grammar.word grammar.word count c.keys.before c.in_ok-key.key mid keyed c.in_ok-key.ensures.read (cause_of fault) after c.in_err-value.ensures) in
     reads_err judyl (grammar.filled judyl c.args.limit (whole word_order grammar.word grammar.word count)) before after fault c.from_residual-in_err-value.result c.from_residual-in_err-value.ensures.1
     (filled_fault word_order grammar.word grammar.word count judyl c.args.limit before after (cause_of fault) stop)
@@ -54,15 +50,13 @@ returns-in-Err g c =
     let keyed = drawn (g.R.Source.given c.read_word_after.new.source) (g.R.Source.ended c.read_word_after.new.source) (g.R.Source.tally c.read_word_after.new.source).failures in
     let after = drawn (g.R.Source.given c.read_u64.new.source) (g.R.Source.ended c.read_u64.new.source) (g.R.Source.tally c.read_u64.new.source).failures in
     let count = c.args.count in
-    let left = count - c.keys.counter in
-    let n = count - (c.keys.counter + 1) in
-    let one : left ≡ suc n = omega arith in
+    let some : c.keys.counter + 1 ≤ count = omega arith in
     let held = c.keys.invariant.0 in
     let key = c.in_ok-key.key in
     let value = c.in_ok-value.value in
     let next = entry_read word_order grammar.word grammar.word count c.keys.before key mid keyed c.in_ok-key.ensures.read value after c.in_ok-value.ensures in
-    let far = entries_next word_order grammar.word grammar.word count c.keys.before left n one held before mid after c.keys.invariant.4 (key, value) next in
-    filled_fault word_order grammar.word grammar.word count judyl c.args.limit before after memory (reading_memory (whole word_order grammar.word grammar.word count) _ before after far)
+    let far = listing_next word_order grammar.word grammar.word c.keys.counter c.keys.before held before mid c.keys.invariant.4 (key, value) after next in
+    listing_memory word_order grammar.word grammar.word (c.keys.counter + 1) (Some key) (held ++ (key, value) ∷ []) before after far judyl c.args.limit count some
 
 pub keys-preserved : goal.keys-preserved
 keys-preserved g c =
@@ -70,20 +64,23 @@ keys-preserved g c =
     let mid = drawn (g.R.Source.given c.keys.source) (g.R.Source.ended c.keys.source) (g.R.Source.tally c.keys.source).failures in
     let keyed = drawn (g.R.Source.given c.read_word_after.new.source) (g.R.Source.ended c.read_word_after.new.source) (g.R.Source.tally c.read_word_after.new.source).failures in
     let after = drawn (g.R.Source.given c.read_u64.new.source) (g.R.Source.ended c.read_u64.new.source) (g.R.Source.tally c.read_u64.new.source).failures in
-    let count = c.args.count in
-    let left = count - c.keys.counter in
-    let n = count - (c.keys.counter + 1) in
-    let one : left ≡ suc n = omega arith in
     let held = c.keys.invariant.0 in
     let key = c.in_ok-key.key in
     let value = c.in_ok-value.value in
     let above = c.in_ok-key.ensures.above in
     let new = c.keys.invariant.3 in
-    let next = entry_read word_order grammar.word grammar.word count c.keys.before key mid keyed c.in_ok-key.ensures.read value after c.in_ok-value.ensures in
-    let far = entries_next word_order grammar.word grammar.word count c.keys.before left n one held before mid after c.keys.invariant.4 (key, value) next in (
+    let next = entry_read word_order grammar.word grammar.word c.args.count c.keys.before key mid keyed c.in_ok-key.ensures.read value after c.in_ok-value.ensures in
+    let far = listing_next word_order grammar.word grammar.word c.keys.counter c.keys.before held before mid c.keys.invariant.4 (key, value) after next in (
       held ++ (key, value) ∷ [],
       c.keys.invariant.1,
       ap (λ m. insert m key value) c.keys.invariant.2 ∙ sym (made_more nat_cmp_total nat_cmp-IsAntisymmetric c.keys.before held new key value above),
       new_more nat_cmp_total nat_cmp-IsAntisymmetric c.keys.before held new key value above,
       far,
     )
+
+pub returns : goal.returns
+returns g c =
+    let before = drawn (g.R.Source.given c.args.source.now) (g.R.Source.ended c.args.source.now) (g.R.Source.tally c.args.source.now).failures in
+    let now = drawn (g.R.Source.given c.keys.source) (g.R.Source.ended c.keys.source) (g.R.Source.tally c.keys.source).failures in
+    let all : c.keys.counter ≡ c.args.count = omega arith in
+    listing_filled word_order grammar.word grammar.word c.keys.counter c.keys.before c.keys.invariant.0 before now c.keys.invariant.4 judyl c.args.limit c.args.count c.keys.words all c.keys.invariant.1 c.keys.invariant.2

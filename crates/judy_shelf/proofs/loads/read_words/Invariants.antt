@@ -1,16 +1,15 @@
-use Rattle.std.proofs.Common.{◌≡◌, ◌-◌, ℕ, List}
+use Rattle.std.proofs.Common.{◌≡◌, ℕ, List}
 use Rattle.std.specs.Cmp.{nat_cmp_total}
 use Rattle.std.specs.FinMap.{from_entries, nat_cmp-IsAntisymmetric}
 use Rattle.judy_model.specs.Keys.{word_order}
 use Rattle.judy_model.specs.DumpGrammar as grammar
 use Rattle.judy_shelf.specs.Reads.{drawn}
-use Rattle.judy_shelf.proofs.ReadLemmas.{Reading}
-use Rattle.judy_shelf.proofs.EntryReads.{whole, to_come, AreNew}
+use Rattle.judy_shelf.proofs.EntryReads.{Listing, AreNew}
 use Rattle.judy_shelf.proofs.loads.read_words.Given as goal
 
 -- so far these entries were read, and the map holds them
 abbrev pub invariant-keys : goal.invariant-keys
 invariant-keys g l =
     (held : List (ℕ × ℕ)) × (l.words.limit ≡ l.limit) × (l.words.map ≡ from_entries held) × AreNew nat_cmp_total nat_cmp-IsAntisymmetric l.before held
-    × Reading (whole word_order grammar.word grammar.word l.count) (to_come word_order grammar.word grammar.word l.count l.before (l.count - l.counter) held)
+    × Listing word_order grammar.word grammar.word l.counter l.before held
     (drawn (g.R.Source.given l.fn.source) (g.R.Source.ended l.fn.source) (g.R.Source.tally l.fn.source).failures) (drawn (g.R.Source.given l.source) (g.R.Source.ended l.source) (g.R.Source.tally l.source).failures)

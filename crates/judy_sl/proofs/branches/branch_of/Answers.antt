@@ -1,9 +1,11 @@
-use Rattle.std.proofs.Common.{◌≡◌, ◌≤◌, ◌∙◌, sym, ap, arith, length, cond, Bool, true, subst}
+use Rattle.std.proofs.Common.{◌≡◌, ◌<◌, ◌≤◌, ◌∙◌, sym, ap, arith, length, cond, Bool, true, subst}
 use Rattle.std.proofs.lemmas.List.{take_rest, length-drop}
+use Rattle.std.specs.FinMap.{len}
 use Rattle.judy_model.specs.Keys.{word_order}
 use Rattle.judy_model.specs.Arrays.{ArrayOf}
 use Rattle.judy_sl.specs.Branches.{IsSprout}
 use Rattle.judy_sl.proofs.Branching.{common-long, common-more}
+use Rattle.judy_sl.proofs.Rooms.{room-first, room-second}
 use Rattle.judy_sl.proofs.branches.branch_of.Goals as goal
 
 pushed : {A : Type 0} (b : Bool) (xs ys zs : A) → zs ≡ cond b xs ys → b ≡ true → zs ≡ xs
@@ -52,3 +54,10 @@ returns-in-Ok-sprout-2-clause-built c = record {
   old = subst (λ (l : ArrayOf word_order). IsSprout l c.sprout.new.level c.loop-piece.held.now c.args.tail.now.value c.in-Ok-sprout.old) c.unbounded-fork.ensures c.in-Ok-sprout.ensures.sprouted;
   new = c.in-Ok-sprout-2.ensures.sprouted;
 }
+
+pub sprout-requires : goal.sprout-requires
+sprout-requires c = room-first c.unbounded-fork.result c.unbounded-fork.ensures
+
+pub sprout-requires-2 : goal.sprout-requires-2
+sprout-requires-2 c =
+    subst (λ (words : ArrayOf word_order). len words.map < words.limit) (sym c.in-Ok-sprout.ensures.sprouted.level) (room-second c.unbounded-fork.result _ _ c.unbounded-fork.ensures)

@@ -1,4 +1,4 @@
-use Rattle.judy_hs.proofs.Counting.{never_fresh}
+use Rattle.judy_model.proofs.Counting.{never_fresh}
 use Rattle.judy_hs.proofs.long_group.LongGroup.of.Goals as goal
 
 pub unreachable-requires : goal.unreachable-requires

@@ -1,4 +1,4 @@
-use Rattle.std.proofs.Common.{◌≡◌, ◌∙◌, ap, sym, drop}
+use Rattle.std.proofs.Common.{◌∙◌, ap, sym, drop}
 use Rattle.judy_pipe.specs.Pipe.{grown}
 use Rattle.judy_pipe.proofs.Moves.{grown-rest}
 use Rattle.judy_pipe.proofs.buffered_sink.BufferedSink.send.Goals as goal

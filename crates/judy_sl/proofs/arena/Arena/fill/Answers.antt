@@ -4,6 +4,7 @@ use Rattle.judy_sl.specs.declared.arena.Arena.{Arena}
 use Rattle.judy_sl.specs.Grown.{IsAdded}
 use Rattle.judy_sl.proofs.Filled.{fills-last}
 use Rattle.judy_sl.proofs.Tailed.{filled-tail}
+use Rattle.judy_sl.proofs.Rooms.{room-gap, room-same}
 use Rattle.judy_sl.proofs.arena.Arena.fill.Goals as goal
 
 pub returns-in-Ok-clause-added : goal.returns-in-Ok-clause-added
@@ -13,3 +14,10 @@ returns-in-Ok-clause-added c =
 pub returns-in-Ok-enter-clause-added : goal.returns-in-Ok-enter-clause-added
 returns-in-Ok-enter-clause-added c =
     filled-tail c.args.self.now _ c.enter-2.new.self c.put.new.self c.args.key.now c.args.place c.args.left c.next_place-at.result c.put.result _ c.requires.is_arena c.requires.is_key c.requires.gap c.if-left-lt8.false (record { root = refl; items = c.reserve.ensures.items }) c.next_place-at.ensures c.in-Ok-enter.ensures.entered c.put.ensures.place c.put.ensures.put (c.in-Ok-to_vec.ensures.items_if_clones_equal (λ x y e. e) ∙ take_rest c.args.key.now (length c.args.key.now - c.args.left + 8) ∙ sym (drop-drop 8 (length c.args.key.now - c.args.left) c.args.key.now)) refl
+
+pub enter-requires-clause-room : goal.enter-requires-clause-room
+enter-requires-clause-room c = room-gap c.args.self.now c.requires.is_arena c.args.key.now c.args.place c.args.left c.requires.gap c.requires.few
+
+pub enter-requires-2-clause-room : goal.enter-requires-2-clause-room
+enter-requires-2-clause-room c =
+    room-same c.args.self.now (record c.args.self.now { children = c.reserve.new.self }) (record { root = refl; items = c.reserve.ensures.items }) c.args.place (room-gap c.args.self.now c.requires.is_arena c.args.key.now c.args.place c.args.left c.requires.gap c.requires.few)

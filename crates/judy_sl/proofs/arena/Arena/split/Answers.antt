@@ -1,4 +1,5 @@
 use Rattle.std.proofs.Common.{refl}
+use Rattle.judy_sl.proofs.PieceLemmas.{text_of_key}
 use Rattle.judy_sl.proofs.Grafted.{sound-built}
 use Rattle.judy_sl.proofs.Filled.{arena-same}
 use Rattle.judy_sl.proofs.Splits.{split-arena, split-gap, split-clash, split-added}
@@ -16,12 +17,12 @@ walk-requires-clause-is_arena c =
 
 pub unreachable-requires-in-Gap : goal.unreachable-requires-in-Gap
 unreachable-requires-in-Gap c =
-    split-gap c.args.self.now _ c.graft.new.self (record { root = refl; items = c.reserve.ensures.items }) c.args.key.now c.args.at c.args.left c.requires.clash c.index.result.now c.index.ensures c.in-Tail.tail c.in-Tail.is c.in-Ok.made c.in-Ok.ensures.built c.requires.is_key c.graft.ensures.grafted c.in-Gap.field-0 c.in-Gap.field-1 c.in-Gap.ensures
+    split-gap c.args.self.now _ c.graft.new.self (record { root = refl; items = c.reserve.ensures.items }) c.args.key.now c.args.at c.args.left c.requires.clash c.index.result.now c.index.ensures c.in-Tail.tail c.in-Tail.is c.in-Ok.made c.in-Ok.ensures.built c.requires.is_key c.graft.ensures.grafted c.in-Gap.field-0 c.in-Gap.field-1 (c.in-Gap.ensures.way (text_of_key c.args.key.now c.requires.is_key))
 
 pub unreachable-requires-in-Clash : goal.unreachable-requires-in-Clash
 unreachable-requires-in-Clash c =
-    split-clash c.args.self.now _ c.graft.new.self (record { root = refl; items = c.reserve.ensures.items }) c.args.key.now c.args.at c.args.left c.requires.clash c.index.result.now c.index.ensures c.in-Tail.tail c.in-Tail.is c.in-Ok.made c.in-Ok.ensures.built c.requires.is_key c.graft.ensures.grafted c.in-Clash.field-0 c.in-Clash.field-1 c.in-Clash.ensures
+    split-clash c.args.self.now _ c.graft.new.self (record { root = refl; items = c.reserve.ensures.items }) c.args.key.now c.args.at c.args.left c.requires.clash c.index.result.now c.index.ensures c.in-Tail.tail c.in-Tail.is c.in-Ok.made c.in-Ok.ensures.built c.requires.is_key c.graft.ensures.grafted c.in-Clash.field-0 c.in-Clash.field-1 (c.in-Clash.ensures.way (text_of_key c.args.key.now c.requires.is_key))
 
 pub returns-clause-added : goal.returns-clause-added
 returns-clause-added c =
-    split-added c.args.self.now _ c.graft.new.self (record { root = refl; items = c.reserve.ensures.items }) c.args.key.now c.args.at c.args.left c.requires.clash c.index.result.now c.index.ensures c.in-Tail.tail c.in-Tail.is c.in-Ok.made c.in-Ok.ensures.built c.requires.is_key c.graft.ensures.grafted c.in-At.place c.in-At.ensures
+    split-added c.args.self.now _ c.graft.new.self (record { root = refl; items = c.reserve.ensures.items }) c.args.key.now c.args.at c.args.left c.requires.clash c.index.result.now c.index.ensures c.in-Tail.tail c.in-Tail.is c.in-Ok.made c.in-Ok.ensures.built c.requires.is_key c.graft.ensures.grafted c.in-At.place (c.in-At.ensures.way (text_of_key c.args.key.now c.requires.is_key))

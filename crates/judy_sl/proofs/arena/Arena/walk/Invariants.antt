@@ -1,11 +1,12 @@
 use Rattle.std.proofs.Common.{length}
+use Rattle.judy_sl.specs.Pieces.{EndsWell}
 use Rattle.judy_sl.specs.Arenas.{world_of, IsArena}
 use Rattle.judy_sl.specs.Ways.{seat_in}
 use Rattle.judy_sl.proofs.OnWay.{IsOnWay}
 use Rattle.judy_sl.proofs.arena.Arena.walk.Given as goal
 
 abbrev pub invariant-loop-rest : goal.invariant-loop-rest
-invariant-loop-rest l = record { on : IsOnWay (world_of l.self) l.key (seat_in l.child) l.level.map l.rest; is_arena : IsArena l.self }
+invariant-loop-rest l = record { on : IsOnWay (world_of l.self) l.key (seat_in l.child) l.level.map l.rest; is_arena : IsArena l.self; ends : EndsWell l.key }
 
 abbrev pub decreases-loop-rest : goal.decreases-loop-rest
 decreases-loop-rest l = length l.rest

@@ -1,13 +1,11 @@
-use Rattle.std.proofs.Common.{◌∙◌, sym}
-use Rattle.judy_sl.proofs.Maps.{get-map, get-map_bad}
+use Rattle.std.proofs.Common.{◌∙◌, sym, true≢false}
 use Rattle.judy_sl.proofs.PieceLemmas.{text_of_key}
+use Rattle.judy_sl.proofs.Exact.{ends-text}
+use Rattle.judy_sl.proofs.Maps.{get-map_bad}
 use Rattle.judy_sl.proofs.strings.JudySl.get.Goals as goal
 
-pub get-requires-clause-is_text : goal.get-requires-clause-is_text
-get-requires-clause-is_text c = text_of_key _ (c.is_key.ensures.0 c.if-not-is_key.false)
-
-pub returns-then-not-is_key : goal.returns-then-not-is_key
-returns-then-not-is_key c = rw (← c.self.view_is) (sym (get-map_bad c.self.inside.arena c.args.key.now (λ is. let b = sym (c.is_key.ensures.1 is) ∙ c.if-not-is_key.true in cc)))
+pub returns-then-ends_in_zero : goal.returns-then-ends_in_zero
+returns-then-ends_in_zero c = rw (← c.self.view_is) (sym (get-map_bad c.self.inside.arena c.args.key.now (λ is. true≢false (sym c.if-ends_in_zero.true ∙ c.ends_in_zero.ensures.1 (ends-text c.args.key.now (text_of_key c.args.key.now is))))))
 
 pub returns : goal.returns
-returns c = rw (← c.self.view_is) (c.get.ensures ∙ sym (get-map c.self.inside.arena c.args.key.now (c.is_key.ensures.0 c.if-not-is_key.false)))
+returns c = rw (← c.self.view_is) c.get.ensures

@@ -1,0 +1,54 @@
+//! What the program does with its files, in its order. Each file is opened when it is its turn.
+
+use crate::end::End;
+use crate::files;
+use crate::pipes::{ReadSource, WriteSink};
+use crate::request::Options;
+use crate::store::{dump_store, run_store};
+use judy_pipe::{BufferedSink, BufferedSource};
+use judy_shelf::{Shelf, load};
+use std::io::Read;
+
+// The most bytes of a script. (This project's own.)
+const MAX_SCRIPT_LEN: u64 = 1073741824;
+
+// How many bytes of a dump are read at once, and of answers or a dump written at once.
+const BUFFER_LEN: usize = 65536;
+
+/// Begins with an empty store, or the one that it loads; runs the script, and hands its answers on; then dumps the
+/// store where it is asked to. The first fault ends it, and nothing later is done.
+pub fn serve(rt: &HostRuntime, options: &Options) -> Result<(), End> {
+    let mut shelf = match &options.load {
+        Some(name) => loaded(rt, name.as_str())?,
+        None => Shelf::new(rt.alloc()),
+    };
+    match &options.script {
+        Some(name) => answer(rt, files::open(rt, name.as_str())?, &mut shelf)?,
+        None => answer(rt, rt.stdin(), &mut shelf)?,
+    }
+    match &options.dump {
+        Some(name) => dumped(rt, name.as_str(), &shelf),
+        None => Ok(()),
+    }
+}
+
+// The shelf that the dump of that name is of.
+fn loaded(rt: &HostRuntime, name: &str) -> Result<Shelf, End> {
+    let file = ReadSource::new(files::open(rt, name)?);
+    let mut source = BufferedSource::<_, BUFFER_LEN>::new(file);
+    load(rt.alloc(), &mut source).map_err(End::Load)
+}
+
+// Runs a script, and writes its answers to standard output.
+fn answer<R: Read + Drop>(rt: &HostRuntime, script: R, shelf: &mut Shelf) -> Result<(), End> {
+    let mut source = ReadSource::new(script);
+    let mut sink = BufferedSink::<_, BUFFER_LEN>::new(WriteSink::new(rt.stdout()));
+    run_store(&mut source, shelf, &mut sink, MAX_SCRIPT_LEN).map_err(End::Run)
+}
+
+// Writes the dump of a shelf to the file of that name.
+fn dumped(rt: &HostRuntime, name: &str, shelf: &Shelf) -> Result<(), End> {
+    let file = WriteSink::new(files::create(rt, name)?);
+    let mut sink = BufferedSink::<_, BUFFER_LEN>::new(file);
+    dump_store(shelf, &mut sink).map_err(End::Dump)
+}
