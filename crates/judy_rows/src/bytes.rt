@@ -1,6 +1,7 @@
 //! Rows of arrays over byte strings, and the hash of the program.
 
 use judy_hs::{ByteHash, Fnv1a, HsError, JudyHs};
+use std::alloc::Global;
 use std::process::Abort;
 
 // A hash that is the same for all keys.
@@ -29,6 +30,20 @@ fn check_ins<R: Abort, H: ByteHash + Drop>(
         Ok(slot) => {
             assert_eq!(rt; *slot, before);
             *slot = value;
+        }
+        Err(_) => assert!(rt; false),
+    }
+}
+
+// Compares the list of all entries.
+fn check_sorted<R: Abort, H: ByteHash + Drop>(rt: &R, array: &JudyHs<H>, entries: &[(&[u8], u64)]) {
+    match array.sorted() {
+        Ok(list) => {
+            assert_eq!(rt; list.len(), entries.len());
+            for (found, (key, value)) in list.iter().zip(entries) {
+                assert!(rt; found.key.bytes() == *key);
+                assert_eq!(rt; found.value, *value);
+            }
         }
         Err(_) => assert!(rt; false),
     }
@@ -122,6 +137,17 @@ fn long_keys_and_one_hash(rt: HostRuntime) {
         };
         assert_eq!(rt; array.get(&digits(number)), left);
     }
+    match array.sorted() {
+        Ok(list) => {
+            assert_eq!(rt; list.len(), 500);
+            for (entry, half) in list.iter().zip(0..500u32) {
+                let number = half.wrapping_mul(2);
+                assert!(rt; entry.key.bytes() == digits(number).as_slice());
+                assert_eq!(rt; entry.value, u64::from(number));
+            }
+        }
+        Err(_) => assert!(rt; false),
+    }
     assert_eq!(rt; array.free_array(), 500);
     assert!(rt; array.is_empty());
     assert!(rt; array.group(9).is_none());
@@ -153,6 +179,43 @@ fn keys_at_the_edges_of_their_lengths(rt: HostRuntime) {
     assert!(rt; array.del(b"abcdefghi"));
     assert!(rt; array.group(9).is_none());
     check_ins(&rt, &mut array, b"abcdefghj", 0, 5);
+}
+
+// Keys of many lengths, some of them with one hash, put in in no order.
+fn check_order<R: Abort, H: ByteHash + Drop>(rt: &R, alloc: Global, hasher: H) {
+    let entries: [(&[u8], u64); 8] = [
+        (b"", 1),
+        (b"b", 2),
+        (b"az", 3),
+        (b"zzzzzzzz", 4),
+        (b"abcdefghj", 5),
+        (b"abcdefghk", 6),
+        (b"bcdefghij", 7),
+        (b"aaaaaaaaaa", 8),
+    ];
+    let mut array = JudyHs::new(alloc, 4294967295, hasher);
+    check_sorted(rt, &array, &[]);
+    for place in [3, 6, 0, 7, 4, 1, 5, 2usize] {
+        let (key, value) = entries[place];
+        check_ins(rt, &mut array, key, 0, value);
+    }
+    check_sorted(rt, &array, &entries);
+}
+
+#[test]
+fn sorted_by_length_and_bytes(rt: HostRuntime) {
+    check_order(&rt, rt.alloc(), Same);
+    check_order(&rt, rt.alloc(), Fnv1a);
+}
+
+// Array `h` of the vector store-of-three.
+#[test]
+fn sorted_of_store_of_three(rt: HostRuntime) {
+    let mut array = JudyHs::new(rt.alloc(), 4294967295, Fnv1a);
+    check_ins(&rt, &mut array, b"b", 0, 8);
+    check_ins(&rt, &mut array, &[0], 0, 7);
+    check_ins(&rt, &mut array, b"", 0, 9);
+    check_sorted(&rt, &array, &[(b"", 9), (&[0], 7), (b"b", 8)]);
 }
 
 #[test]
