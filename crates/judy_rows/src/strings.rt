@@ -98,6 +98,8 @@ fn bad_keys(rt: HostRuntime) {
     assert!(rt; matches!(strings.ins(&long[..1024]), Err(SlError::Full)));
     assert_eq!(rt; strings.get(b"\0"), None);
     assert_eq!(rt; strings.get(&long), None);
+    assert!(rt; !strings.del(b"\0"));
+    assert!(rt; !strings.del(&long));
     assert_eq!(rt; strings.get(b"abcdefghij"), Some(7));
     assert_eq!(rt; strings.len(), 1);
     assert_eq!(rt; strings.free_array(), 1);
@@ -147,6 +149,10 @@ fn long_keys_and_one_hash(rt: HostRuntime) {
     assert_eq!(rt; strings.get(&p[..1023]), None);
     strings.is_array();
     assert_eq!(rt; strings.len(), 2);
+    assert!(rt; !strings.del(&p[..1023]));
+    assert!(rt; strings.del(&p));
+    assert_eq!(rt; strings.get(&p), None);
+    assert_eq!(rt; strings.get(&q), Some(2));
 }
 
 // The part of the row with ample memory.
@@ -222,25 +228,42 @@ fn check_level<R: Abort>(rt: &R, level: Option<&JudyL>, pieces: &[u64]) {
     }
 }
 
-// Random keys of two letters against a table of all keys that were put in.
+// Random keys that come and go, some of which end where others go on, against a table of those that are there.
 #[test]
 fn random_keys(rt: HostRuntime) {
     let mut strings = JudySl::new(rt.alloc(), 4_294_967_295);
     let mut table = [0u64; 4096];
     let mut state: u64 = 12345;
-    for value in 1..600 {
+    for value in 1..3000 {
         state = state.wrapping_mul(1_103_515_245).wrapping_add(12_345) % 2_147_483_648;
-        let bits = (state / 65_536 % 4096) as usize;
-        let key = letters(bits);
-        match strings.ins(&key) {
-            Ok(slot) => {
-                assert_eq!(rt; *slot, table[bits]);
-                *slot = value;
+        let bits = (state / 65_536 % 16 + state / 1_048_576 % 8 * 512) as usize;
+        let whole = letters(bits);
+        let key = trimmed(&whole);
+        if state / 16_777_216 % 2 == 0 {
+            assert_eq!(rt; strings.del(key), table[bits] != 0);
+            table[bits] = 0;
+        } else {
+            match strings.ins(key) {
+                Ok(slot) => {
+                    assert_eq!(rt; *slot, table[bits]);
+                    *slot = value;
+                }
+                Err(_) => assert!(rt; false),
             }
-            Err(_) => assert!(rt; false),
+            table[bits] = value;
         }
-        table[bits] = value;
+        if value % 500 == 0 {
+            check_table(&rt, &strings, &table);
+        }
     }
+    for bits in 0..4096 {
+        assert_eq!(rt; strings.del(trimmed(&letters(bits))), table[bits] != 0);
+    }
+    check_empty(&rt, &strings);
+}
+
+// Compares an array with the table of the values of all keys, where 0 stands for none.
+fn check_table<R: Abort>(rt: &R, strings: &JudySl, table: &[u64; 4096]) {
     assert_eq!(rt;
         strings.len(),
         table.iter().filter(|value| **value != 0).count() as u64
@@ -248,16 +271,43 @@ fn random_keys(rt: HostRuntime) {
     let mut before: Option<[u8; 20]> = None;
     for (bits, held) in table.iter().enumerate() {
         let value = *held;
-        let key = letters(bits);
-        assert_eq!(rt; strings.get(&key).unwrap_or(0), value);
+        let whole = letters(bits);
+        let key = trimmed(&whole);
+        assert_eq!(rt; strings.get(key).unwrap_or(0), value);
         if value != 0 {
             match before {
-                Some(last) => check_scan(&rt, &strings, Scan::Next, &last, Some((&key, value))),
-                None => check_scan(&rt, &strings, Scan::First, b"", Some((&key, value))),
+                Some(last) => check_scan(
+                    rt,
+                    strings,
+                    Scan::Next,
+                    trimmed(&last),
+                    Some((key, value)),
+                ),
+                None => check_scan(rt, strings, Scan::First, b"", Some((key, value))),
             }
-            before = Some(key);
+            before = Some(whole);
         }
     }
+}
+
+// No level is left but the first, and that is empty.
+fn check_empty<R: Abort>(rt: &R, strings: &JudySl) {
+    assert!(rt; strings.is_empty());
+    assert!(rt; is_key(b""));
+    assert!(rt; matches!(strings.level(b""), Some(level) if level.is_empty()));
+    assert!(rt; is_key(b"ssssssss"));
+    assert!(rt; strings.level(b"ssssssss").is_none());
+}
+
+// A key without the letters a at its end.
+fn trimmed(key: &[u8; 20]) -> &[u8] {
+    let mut kept = &key[..8];
+    for place in 8..20 {
+        if key[place] != b'a' {
+            kept = &key[..=place];
+        }
+    }
+    kept
 }
 
 // Twelve bits as letters behind a stem of eight, the highest first.
