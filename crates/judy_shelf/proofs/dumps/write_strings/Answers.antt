@@ -49,8 +49,7 @@ keys-preserved g c =
     let key = c.keys.key.items in
     let value = c.in-Some.value in
     let place = c.keys.invariant.0 in
-    let here = subst (λ o. IsAt m place key o) c.in-Some.is c.keys.invariant.1 in
-    (
+    let here = subst (λ o. IsAt m place key o) c.in-Some.is c.keys.invariant.1 in (
       suc place,
       is_at m (suc place) key c.next-next.new.key.items (next m key) c.next-next.result (walk_on_string m place key here.0) c.next-next.ensures.key c.next-next.ensures.value,
       written_more (λ (entry : List ℕ × ℕ). text.string entry.0 ++ text.word entry.1) (entries m) before place (key, value) mid after c.keys.invariant.2 (entry_here m place key value here)
