@@ -1,0 +1,5 @@
+//! x
+#![tactic(auto)]
+mod judyl;
+mod loose;
+mod map;
