@@ -93,14 +93,34 @@ fn byte_keys(rt: HostRuntime) {
     );
 }
 
-// With memory for each growth.
+// Puts an absent key in beside those that are held, where memory is refused once at most.
+fn put_in<R: Abort>(rt: &R, array: &mut JudyHs<Same>, key: &[u8], value: u64) {
+    let held = array.len();
+    match array.ins(key) {
+        Ok(slot) => {
+            assert_eq!(rt; *slot, 0);
+            *slot = value;
+        }
+        Err(error) => {
+            assert!(rt; matches!(error, HsError::NoMemory));
+            assert_eq!(rt; array.get(key), None);
+            assert_eq!(rt; array.len(), held);
+            assert!(rt; held == 0 || array.get(b"aaaaaaaaa") == Some(1));
+            check_ins(rt, array, key, 0, value);
+        }
+    }
+}
+
+// A key of the same chain, and one of a new group, with memory for each growth, and for a run that refuses one of them.
 #[test]
 fn refused_chain_insert(rt: HostRuntime) {
     let mut array = JudyHs::new(rt.alloc(), 4294967295, Same);
-    check_ins(&rt, &mut array, b"aaaaaaaaa", 0, 1);
-    check_ins(&rt, &mut array, b"aaaaaaaab", 0, 2);
-    check_ins(&rt, &mut array, b"aaaaaaaaaa", 0, 3);
+    put_in(&rt, &mut array, b"aaaaaaaaa", 1);
+    put_in(&rt, &mut array, b"aaaaaaaab", 2);
+    put_in(&rt, &mut array, b"aaaaaaaaaa", 3);
     assert_eq!(rt; array.get(b"aaaaaaaaa"), Some(1));
+    assert_eq!(rt; array.get(b"aaaaaaaab"), Some(2));
+    assert_eq!(rt; array.get(b"aaaaaaaaaa"), Some(3));
     assert_eq!(rt; array.len(), 3);
 }
 

@@ -155,13 +155,36 @@ fn long_keys_and_one_hash(rt: HostRuntime) {
     assert_eq!(rt; strings.get(&q), Some(2));
 }
 
-// The part of the row with ample memory.
+// What is left where memory was refused for the row's second key: the first key alone, and room to try again.
+fn check_refused<R: Abort>(rt: &R, strings: &JudySl, error: SlError) {
+    assert!(rt; matches!(error, SlError::NoMemory));
+    assert_eq!(rt; strings.get(b"abcdefgh"), Some(3));
+    assert_eq!(rt; strings.get(b"abcdefghi"), None);
+    assert_eq!(rt; strings.len(), 1);
+}
+
+// With memory for each growth, and for a run that refuses one of them.
 #[test]
 fn refused_string_insert(rt: HostRuntime) {
     let mut strings = JudySl::new(rt.alloc(), 4_294_967_295);
-    insert(&rt, &mut strings, b"abcdefgh", 3);
-    assert_eq!(rt; strings.get(b"abcdefghi"), None);
-    insert(&rt, &mut strings, b"abcdefghi", 4);
+    match strings.ins(b"abcdefgh") {
+        Ok(slot) => *slot = 3,
+        Err(error) => {
+            assert!(rt; matches!(error, SlError::NoMemory));
+            assert_eq!(rt; strings.len(), 0);
+            insert(&rt, &mut strings, b"abcdefgh", 3);
+        }
+    }
+    match strings.ins(b"abcdefghi") {
+        Ok(slot) => {
+            assert_eq!(rt; *slot, 0);
+            *slot = 4;
+        }
+        Err(error) => {
+            check_refused(&rt, &strings, error);
+            insert(&rt, &mut strings, b"abcdefghi", 4);
+        }
+    }
     assert_eq!(rt; strings.get(b"abcdefgh"), Some(3));
     assert_eq!(rt; strings.get(b"abcdefghi"), Some(4));
     assert_eq!(rt; strings.len(), 2);
