@@ -19,3 +19,4 @@ pub mod ImmLists
 pub mod BitLists
 pub mod BitSteps
 pub mod SlotSteps
+pub mod FreeRuns

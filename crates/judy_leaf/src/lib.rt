@@ -17,6 +17,7 @@ mod bit_edit;
 mod bit_leaf;
 mod bit_ref;
 mod edit;
+mod gaps;
 mod imm;
 mod keys;
 mod leaf;
