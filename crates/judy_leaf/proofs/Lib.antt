@@ -22,3 +22,4 @@ pub mod SlotSteps
 pub mod Bounds
 pub mod AbsentRuns
 pub mod AbsentBytes
+pub mod SamePairs

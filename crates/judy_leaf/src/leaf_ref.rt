@@ -1,6 +1,7 @@
 //! The reading of a leaf whose parts stand in a node.
 
 ghost use Rattle.std.specs.Prelude.{◌≡◌, ◌+◌, ◌*◌, ◌<◌, ◌≤◌, ◌^◌, ◌==◌, length, slice_index};
+ghost use Rattle.std.specs.List.{AllByRecursion};
 ghost use Rattle.judy_model.specs.Keys.{word_order};
 ghost use Rattle.judy_model.specs.Nearest.{IsFirst, IsLast};
 ghost use Rattle.judy_bits.specs.ByteSets as set;
@@ -56,6 +57,14 @@ impl<'a, V: Words + Drop> LeafRef<'a, V> {
     /// A law without a body: the keys ascend and have `width` bytes.
     pub fn told(&self)
         ensures { IsKeyList self.now }
+    {
+        let _ = &self.count;
+    }
+
+    /// A law without a body: a key has at most one word of value, and where it has none, each value is 0.
+    pub fn told_values(&self)
+        ensures words { V.WORDS ≤ 1 }
+        ensures none { V.WORDS ≡ 0 → AllByRecursion (λ pair. pair.1 ≡ 0) self.now.pairs }
     {
         let _ = &self.count;
     }
