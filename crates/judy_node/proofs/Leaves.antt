@@ -204,7 +204,7 @@ less_all : (words key low top : ℕ) (pairs : Pairs) → key < low → IsMap wor
 less_all words key low top [] below map = tt
 less_all words key low top (pair ∷ pairs) below map = let first = map.0 in (less_word key pair.0 (omega arith), less_all words key (pair.0 + 1) top pairs (omega arith) map.3)
 
-map_ascends : (words low top : ℕ) (pairs : Pairs) → IsMap words low top pairs → IsStrictlySortedBy word_order (keys_of pairs)
+pub map_ascends : (words low top : ℕ) (pairs : Pairs) → IsMap words low top pairs → IsStrictlySortedBy word_order (keys_of pairs)
 unfolding IsStrictlySortedBy
 map_ascends words low top [] map = tt
 map_ascends words low top (pair ∷ pairs) map = (less_all words pair.0 (pair.0 + 1) top pairs (omega arith) map.3, map_ascends words (pair.0 + 1) top pairs map.3)

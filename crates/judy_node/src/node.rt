@@ -19,7 +19,7 @@ use std::marker::Model;
 /// A tree of words.
 #[derive(Drop)]
 pub struct NodeOf<V: Words + Drop> {
-    kind: RootOf<V>,
+    pub(crate) kind: RootOf<V>,
 }
 
 /// A tree whose keys have `W` words of value each, 0 or 1.
