@@ -12,3 +12,8 @@ pub mod ShapeFacts
 pub mod BuiltFacts
 pub mod Behind
 pub mod MadeFacts
+pub mod SlotFacts
+pub mod SeatFacts
+pub mod Loans
+pub mod RootFacts
+pub mod ImmFacts

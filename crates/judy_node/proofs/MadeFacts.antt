@@ -163,14 +163,14 @@ one_byte_map words below pairs byte end is all map =
 
 -- ---- one byte more
 
-loose_skip_more : (more : List ℕ) (form : Form) → loose_in (skip_more more form) ≡ loose_in form
+pub loose_skip_more : (more : List ℕ) (form : Form) → loose_in (skip_more more form) ≡ loose_in form
 loose_skip_more more [] = refl
 loose_skip_more more (immediate keys ∷ nodes) = refl
 loose_skip_more more (leaf keys ∷ nodes) = refl
 loose_skip_more more (bitmap_leaf skipped bytes ∷ nodes) = refl
 loose_skip_more more (branch skipped bytes count ∷ nodes) = refl
 
-deep_width : {V : _} (words : ℕ) (kind : KindOf V) → IsLevel words kind → IsDeep kind → 1 ≤ (tree_of words kind).width
+pub deep_width : {V : _} (words : ℕ) (kind : KindOf V) → IsLevel words kind → IsDeep kind → 1 ≤ (tree_of words kind).width
 deep_width words (Imm head word) level deep = absurd deep
 deep_width words (Leaf count block) level deep = absurd deep
 deep_width words (Bit skipped block) level deep = level.parts.some

@@ -23,7 +23,7 @@ bytes_above words width low byte (other ∷ bytes) (kid ∷ kids) below are =
     let first = are.0 in
     (less_word byte other (omega arith), bytes_above words width (other + 1) byte bytes kids (omega arith) are.3)
 
-children-ascend : (words width low : ℕ) (bytes : List ℕ) (kids : List Tree) → AreChildren words width low bytes kids → IsStrictlySortedBy word_order bytes
+pub children-ascend : (words width low : ℕ) (bytes : List ℕ) (kids : List Tree) → AreChildren words width low bytes kids → IsStrictlySortedBy word_order bytes
 unfolding IsStrictlySortedBy
 children-ascend words width low [] [] are = tt
 children-ascend words width low [] (kid ∷ kids) are = absurd are

@@ -7,3 +7,5 @@ pub mod Steps
 pub mod Populations
 pub mod Built
 pub mod ShapeSums
+pub mod Slots
+pub mod Seats

@@ -5,8 +5,8 @@
 //! spell beside its block, and a branch is behind one pointer. Where keys have values an immediate is its one key and its
 //! value; else its head is the number of its keys and 256 times their width, and its word holds them.
 
-ghost use Rattle.std.specs.Prelude.{◌≡◌, ◌+◌, ◌-◌, ◌%◌, ◌^◌, ◌<◌, length, if◌then◌else◌, ◌==◌};
-ghost use Rattle.judy_node.specs.Trees.{IsChild};
+ghost use Rattle.std.specs.Prelude.{◌≡◌, ◌+◌, ◌-◌, ◌%◌, ◌^◌, ◌<◌, ◌≤◌, length, if◌then◌else◌, ◌==◌};
+ghost use Rattle.judy_node.specs.Trees.{IsChild, IsTight};
 ghost use Rattle.judy_node.specs.Kinds.{tree_of, IsLevel, IsImm, imm_tree, imm_pairs};
 ghost use Rattle.judy_node.specs.Views.{IsView};
 
@@ -127,10 +127,39 @@ impl<V: Words + Drop> ChildOf<V> {
     {
         ChildOf { kind }
     }
+
+    /// A child without memory, to stand for a moment in the place of one that is changed. It has one key.
+    pub fn vacant() -> ChildOf<V>
+        requires { V.WORDS ≤ 1 }
+        ensures { length result.pairs ≡ 1 }
+    {
+        ChildOf::close(KindOf::Imm(Head::new(257), 0))
+    }
 }
 
-// The immediate of the two words that stand for it in a node, whose keys have `width` bytes.
-pub(crate) fn imm_of<V: Words + Drop>(width: u8, head: u64, word: u64) -> ImmOf<V>
+impl<V: Words + Drop> KindOf<V> {
+    /// The node of an immediate that has a key, of at most seven bytes.
+    pub fn of_imm(imm: ImmOf<V>) -> KindOf<V>
+        requires one { V.WORDS ≤ 1 }
+        requires width { imm.width ≤ 7 }
+        requires some { 1 ≤ length imm.pairs }
+        ensures level { IsLevel V.WORDS result }
+        ensures child { IsChild V.WORDS imm.width (tree_of V.WORDS result) }
+        ensures pairs { (tree_of V.WORDS result).pairs ≡ imm.pairs }
+        ensures tight { IsTight (tree_of V.WORDS result) }
+    {
+        let width = imm.width();
+        let (head, word) = imm.into_parts();
+        if V::WORDS == 0 {
+            KindOf::Imm(Head::new(head + 256 * u64::from(width)), word)
+        } else {
+            KindOf::Imm(Head::new(head), word)
+        }
+    }
+}
+
+/// The immediate of the two words that stand for it in a node, whose keys have `width` bytes.
+pub fn imm_of<V: Words + Drop>(width: u8, head: u64, word: u64) -> ImmOf<V>
     requires level { IsImm V.WORDS head word }
     requires child { IsChild V.WORDS width (imm_tree V.WORDS head word) }
     ensures { result ≡ record { width = width; pairs = imm_pairs V.WORDS head word } }

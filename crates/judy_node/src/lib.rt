@@ -10,7 +10,7 @@
 //! [`judy_bits::Meter`], and give the same [`View`]; a branch answers by [`BranchOf::step`] where a key goes.
 //!
 //! child.rt has the nodes, node.rt the root, branch.rt what is asked of a branch, shape.rt and fill.rt what goes over a whole tree, build.rt
-//! makes the tight tree of sorted pairs. The crate stands on judy_model, judy_bits, judy_block and judy_leaf.
+//! makes the tight tree of sorted pairs, slot.rt lends the slot of a value. The crate stands on judy_model, judy_bits, judy_block and judy_leaf.
 #![tactic(auto)]
 
 mod branch;
@@ -21,12 +21,16 @@ mod head;
 pub mod laws;
 mod node;
 mod shape;
+mod slot;
 mod step;
 mod view;
 
-pub use child::{BranchOf, Child, ChildOf, KindOf};
+pub use build::{
+    child_of_sorted, immediate_of_sorted, kind_of_sorted, leaf_of_sorted, most_in_immediate,
+};
+pub use child::{BranchOf, Child, ChildOf, KindOf, imm_of};
 pub use head::Head;
-pub use node::{Node, NodeOf};
+pub use node::{Node, NodeOf, RootOf};
 pub use shape::Shape;
 pub use step::Step;
 pub use view::{View, ViewOf};

@@ -1,0 +1,225 @@
+//! The slot of a key's value, which is lent through the whole tree.
+//!
+//! A slot is lent from node to node down the tree. As no tree is deeper than eight nodes, the way down is unrolled: each level
+//! is a type, and lends by the one below it.
+
+ghost use Rattle.std.specs.Prelude.{◌≡◌, ◌+◌, ◌*◌, ◌^◌, ◌<◌, ◌≤◌, length, ℕ, IfNone, IfSome, None, IsFalse};
+ghost use Rattle.judy_node.specs.Trees.{IsChild, IsBranch};
+ghost use Rattle.judy_node.specs.Kinds.{tree_of, IsLevel};
+ghost use Rattle.judy_node.specs.Slots.{value_of, with_value};
+ghost use Rattle.judy_node.specs.Seats.{IsSeat, HasSeat, value_at, root_misses};
+ghost use Rattle.judy_node.specs.Roots.{root_tree, IsRoot};
+ghost use Rattle.std.specs.Option.{option_copied_mut};
+
+use crate::child::{BranchOf, ChildOf, KindOf, imm_of};
+use crate::node::{NodeOf, RootOf};
+use crate::step::Step;
+use judy_leaf::{BitRef, LeafRef, Words};
+use std::marker::PhantomData;
+
+// Where the value of a key stands in a node: the place of a word in the block of a leaf or a bitmap leaf; or the place of a
+// child, and what is left of the key there.
+#[derive(Clone, Copy)]
+pub struct Seat {
+    pub at: usize,
+    pub rest: u64,
+}
+
+impl<V: Words + Drop> KindOf<V> {
+    ghost use Rattle.std.specs.Borrow.{sem, LendsIf, u64 as word};
+    ghost use Rattle.judy_node.specs.contracts.child.KindOf.{the_row};
+    ghost use Rattle.judy_node.specs.Seats.{kind_written};
+
+    // Where the value of a key stands, in a node whose keys have `width` bytes; none where an immediate or a leaf doesn't have the
+    // key, or a branch has no child for it.
+    fn seat(&self, width: u8, key: u64) -> Option<Seat>
+        requires words { V.WORDS ≡ 1 }
+        requires level { IsLevel V.WORDS self.now }
+        requires child { IsChild V.WORDS width (tree_of V.WORDS self.now) }
+        ensures seat { IfSome result (λ seat. IsSeat V.WORDS self.now key seat.at seat.rest) }
+        ensures none { IfNone result (value_of key (tree_of V.WORDS self.now).pairs ≡ None) }
+    {
+        match self {
+            KindOf::Imm(head, _) => {
+                if head.number() == key {
+                    Some(Seat { at: 0, rest: 0 })
+                } else {
+                    None
+                }
+            }
+            KindOf::Leaf(count, block) => {
+                let at = LeafRef::<V>::new(*count, width, block).find(key)?;
+                Some(Seat { at, rest: 0 })
+            }
+            KindOf::Bit(head, block) => {
+                let front = head.number() * 256;
+                if key < front {
+                    return None;
+                }
+                let at = BitRef::<V>::new(block).find(key - front)?;
+                Some(Seat {
+                    at: 4 + at,
+                    rest: 0,
+                })
+            }
+            KindOf::Branch(branch) => match branch.step(key) {
+                Step::Child(_, at, rest) => Some(Seat { at, rest }),
+                Step::Missing(_, _, _) => None,
+                Step::Below => None,
+                Step::Above => None,
+            },
+        }
+    }
+
+    // The slot at a place; below a branch, that of what is left of the key.
+    fn slot_at<L: Level>(&mut self, at: usize, rest: u64) -> Option<&mut u64>
+        requires words { V.WORDS ≡ 1 }
+        requires seat { HasSeat V.WORDS L.DEPTH self.old at }
+        ensures* changes { sem 𝓛 (LendsIf (the_row V.row V.Words) word self.entry result (kind_written self.entry.now at rest) self.entry.now) }
+        ensures value { option_copied_mut result ≡ value_at self.old at rest }
+    {
+        match self {
+            KindOf::Imm(_, value) => Some(value),
+            KindOf::Leaf(_, block) => Some(block.slot(at)),
+            KindOf::Bit(_, block) => Some(block.slot(at)),
+            KindOf::Branch(branch) => branch.slot_at::<L>(at, rest),
+        }
+    }
+}
+
+impl<V: Words + Drop> BranchOf<V> {
+    ghost use Rattle.std.specs.Borrow.{sem, Lends, LendsIf, u64 as word};
+    ghost use Rattle.judy_node.specs.contracts.child.BranchOf.{the_row};
+    ghost use Rattle.judy_node.specs.contracts.child.ChildOf.{the_row as child};
+    ghost use Rattle.judy_node.specs.Seats.{branch_written, with_child, child_at};
+
+    // The child at a place.
+    fn child_at(&mut self, at: usize) -> &mut ChildOf<V>
+        requires { at < length self.old.children.items }
+        ensures* changes { sem 𝓛 (Lends (the_row V.row V.Words) (child V.row V.Words) self.entry result (with_child self.entry.now at)) }
+        ensures value { result.now ≡ child_at self.old at }
+    {
+        &mut self.children[at]
+    }
+
+    // The slot of a key of the child at a place.
+    fn slot_at<L: Level>(&mut self, at: usize, rest: u64) -> Option<&mut u64>
+        requires words { V.WORDS ≡ 1 }
+        requires inside { at < length self.old.children.items }
+        requires child { IsChild V.WORDS self.old.width (child_at self.old at) }
+        requires depth { self.old.width ≤ L.DEPTH }
+        ensures* changes { sem 𝓛 (LendsIf (the_row V.row V.Words) word self.entry result (branch_written self.entry.now at rest) self.entry.now) }
+        ensures value { option_copied_mut result ≡ value_of rest (child_at self.old at).pairs }
+    {
+        let width = self.width;
+        L::slot(self.child_at(at), width, rest)
+    }
+}
+
+impl<V: Words + Drop> ChildOf<V> {
+    ghost use Rattle.std.specs.Borrow.{sem, LendsIf, u64 as word};
+    ghost use Rattle.judy_node.specs.contracts.child.ChildOf.{the_row};
+
+    // The slot of a key of the node, whose keys have `width` bytes.
+    fn slot_at<L: Level>(&mut self, width: u8, key: u64) -> Option<&mut u64>
+        requires words { V.WORDS ≡ 1 }
+        requires child { IsChild V.WORDS width self.old }
+        requires depth { width ≤ L.DEPTH + 1 }
+        ensures* changes { sem 𝓛 (LendsIf (the_row V.row V.Words) word self.entry result (with_value self.entry.now key) self.entry.now) }
+        ensures value { option_copied_mut result ≡ value_of key self.old.pairs }
+    {
+        let seat = self.kind.seat(width, key)?;
+        self.kind.slot_at::<L>(seat.at, seat.rest)
+    }
+}
+
+// A level of the tree: it lends the slots of nodes that are no deeper than it.
+pub trait Level {
+    ghost DEPTH: { ℕ };
+
+    ghost use Rattle.std.specs.Borrow.{sem, LendsIf, u64 as word};
+    ghost use Rattle.judy_node.specs.contracts.child.ChildOf.{the_row};
+
+    // The slot of a key of a node whose keys have `width` bytes.
+    fn slot<V: Words + Drop>(node: &mut ChildOf<V>, width: u8, key: u64) -> Option<&mut u64>
+        requires words { V.WORDS ≡ 1 }
+        requires child { IsChild V.WORDS width node.old }
+        requires depth { width ≤ DEPTH }
+        ensures* changes { sem 𝓛 (LendsIf (the_row V.row V.Words) word node.entry result (with_value node.entry.now key) node.entry.now) }
+        ensures value { option_copied_mut result ≡ value_of key node.old.pairs };
+}
+
+// The level below all nodes.
+pub struct Bottom;
+
+impl Level for Bottom {
+    ghost DEPTH = { 0 };
+
+    fn slot<V: Words + Drop>(_node: &mut ChildOf<V>, _width: u8, _key: u64) -> Option<&mut u64> {
+        None
+    }
+}
+
+// The level above another.
+pub struct Above<L>(PhantomData<L>);
+
+impl<L: Level> Level for Above<L> {
+    ghost DEPTH = { L.DEPTH + 1 };
+
+    fn slot<V: Words + Drop>(node: &mut ChildOf<V>, width: u8, key: u64) -> Option<&mut u64> {
+        node.slot_at::<L>(width, key)
+    }
+}
+
+// The level above the deepest nodes, whose keys have eight bytes.
+type Deepest = Above<Above<Above<Above<Above<Above<Above<Above<Bottom>>>>>>>>;
+
+impl<V: Words + Drop> RootOf<V> {
+    ghost use Rattle.std.specs.Borrow.{sem, LendsIf, u64 as word};
+    ghost use Rattle.judy_node.specs.contracts.node.RootOf.{the_row};
+    ghost use Rattle.judy_node.specs.Seats.{root_written};
+
+    // Whether the root shows by itself that a key is absent.
+    fn misses(&self, key: u64) -> bool
+        ensures { result ≡ root_misses self.now key }
+    {
+        match self {
+            RootOf::Empty => true,
+            RootOf::One(other, _) => *other != key,
+            RootOf::Many(_) => false,
+        }
+    }
+
+    // The slot of a key.
+    fn slot(&mut self, key: u64) -> Option<&mut u64>
+        requires words { V.WORDS ≡ 1 }
+        requires root { IsRoot V.WORDS self.old }
+        requires holds { IsFalse (root_misses self.old key) }
+        ensures* changes { sem 𝓛 (LendsIf (the_row V.row V.Words) word self.entry result (root_written self.entry.now key) self.entry.now) }
+        ensures value { option_copied_mut result ≡ value_of key (root_tree self.old).pairs }
+    {
+        match self {
+            RootOf::Empty => None,
+            RootOf::One(_, value) => Some(value),
+            RootOf::Many(child) => Deepest::slot(child, 8, key),
+        }
+    }
+}
+
+impl<V: Words + Drop> NodeOf<V> {
+    ghost use Rattle.std.specs.Borrow.{sem, LendsIf, u64 as word};
+    ghost use Rattle.judy_node.specs.contracts.node.NodeOf.{the_row};
+
+    /// Lends the value of a key, of a tree whose keys have values; none where the key is absent. The tree becomes the one with the
+    /// value that is left in the slot, and nothing else changes, its form neither.
+    pub fn slot(&mut self, key: u64) -> Option<&mut u64>
+        requires words { V.WORDS ≡ 1 }
+        ensures* changes { sem 𝓛 (LendsIf (the_row V.row V.Words) word self.entry result (with_value self.entry.now key) self.entry.now) }
+        ensures value { option_copied_mut result ≡ value_of key self.old.pairs }
+    {
+        if self.kind.misses(key) {
+            return None;
+        }
+        self.kind.slot(key)
+    }
+}
