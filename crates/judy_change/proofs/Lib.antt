@@ -1,0 +1,2 @@
+pub mod PairPlaces
+pub mod ChildSets
