@@ -35,8 +35,8 @@ fn group_end(pairs: &[(u64, u64)], below: u8, byte: u8) -> usize
     pairs.len()
 }
 
-// How many keys of a width an immediate holds.
-fn most_in_imm<V: Words + Drop>(width: u8) -> usize
+/// How many keys of a width an immediate holds.
+pub fn most_in_immediate<V: Words + Drop>(width: u8) -> usize
     requires { 1 ≤ width }
     ensures { result ≡ immediate_limit V.WORDS width }
 {
@@ -47,8 +47,8 @@ fn most_in_imm<V: Words + Drop>(width: u8) -> usize
     }
 }
 
-// An immediate of sorted pairs.
-fn few<V: Words + Drop>(width: u8, pairs: &[(u64, u64)]) -> KindOf<V>
+/// The immediate of sorted pairs, whose keys are read by their lowest bytes, `width` of them. It takes no memory.
+pub fn immediate_of_sorted<V: Words + Drop>(width: u8, pairs: &[(u64, u64)]) -> KindOf<V>
     requires one { V.WORDS ≤ 1 }
     requires width { (1 ≤ width) × (width ≤ 7) }
     requires some { 0 < length pairs.now }
@@ -66,8 +66,8 @@ fn few<V: Words + Drop>(width: u8, pairs: &[(u64, u64)]) -> KindOf<V>
     }
 }
 
-// A leaf of sorted pairs.
-fn some<V: Words + Drop>(
+/// The leaf of sorted pairs, whose keys are read by their lowest bytes, `width` of them. The error is want of memory.
+pub fn leaf_of_sorted<V: Words + Drop>(
     alloc: Global,
     width: u8,
     pairs: &[(u64, u64)],
@@ -131,9 +131,10 @@ fn add_group<'a, V: Words + Drop>(
     Ok(left)
 }
 
-// A node of sorted pairs.
+/// The tight node of sorted pairs, whose keys are read by their lowest bytes, `width` of them. The error is want of
+/// memory, which an immediate doesn't take; nothing is kept then.
 #[cycle(build)]
-fn child_of_sorted<V: Words + Drop>(
+pub fn child_of_sorted<V: Words + Drop>(
     alloc: Global,
     width: u8,
     pairs: &[(u64, u64)],
@@ -144,8 +145,8 @@ fn child_of_sorted<V: Words + Drop>(
     requires map { IsMap V.WORDS 0 (256 ^ width) (low_pairs (256 ^ width) pairs.now) }
     ensures { IfOk result (λ child. IsBuilt V.WORDS width pairs.now child) }
 {
-    if pairs.len() <= most_in_imm::<V>(width) {
-        return Ok(ChildOf::close(few(width, pairs)));
+    if pairs.len() <= most_in_immediate::<V>(width) {
+        return Ok(ChildOf::close(immediate_of_sorted(width, pairs)));
     }
     let Ok(kind) = kind_of_sorted(alloc, width, pairs) else {
         return Err(AllocError);
@@ -153,9 +154,9 @@ fn child_of_sorted<V: Words + Drop>(
     Ok(ChildOf::close(kind))
 }
 
-// A node of more sorted pairs than an immediate holds.
+/// The same for more pairs than an immediate holds.
 #[cycle(build)]
-pub(crate) fn kind_of_sorted<V: Words + Drop>(
+pub fn kind_of_sorted<V: Words + Drop>(
     alloc: Global,
     width: u8,
     pairs: &[(u64, u64)],
@@ -168,7 +169,7 @@ pub(crate) fn kind_of_sorted<V: Words + Drop>(
     ensures built { IfOk result (λ kind. IsBuilt V.WORDS width pairs.now (tree_of V.WORDS kind)) }
 {
     if pairs.len() <= 32 {
-        return some(alloc, width, pairs);
+        return leaf_of_sorted(alloc, width, pairs);
     }
     match many(alloc, width, pairs) {
         Ok(kind) => Ok(kind),

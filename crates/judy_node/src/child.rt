@@ -5,7 +5,7 @@
 //! spell beside its block, and a branch is behind one pointer. Where keys have values an immediate is its one key and its
 //! value; else its head is the number of its keys and 256 times their width, and its word holds them.
 
-ghost use Rattle.std.specs.Prelude.{◌≡◌, ◌+◌, ◌-◌, ◌%◌, ◌^◌, ◌<◌, length, if◌then◌else◌, ◌==◌};
+ghost use Rattle.std.specs.Prelude.{◌≡◌, ◌+◌, ◌-◌, ◌%◌, ◌^◌, ◌<◌, ◌≤◌, length, if◌then◌else◌, ◌==◌};
 ghost use Rattle.judy_node.specs.Trees.{IsChild};
 ghost use Rattle.judy_node.specs.Kinds.{tree_of, IsLevel, IsImm, imm_tree, imm_pairs};
 ghost use Rattle.judy_node.specs.Views.{IsView};
@@ -126,6 +126,14 @@ impl<V: Words + Drop> ChildOf<V> {
         ensures { result ≡ tree_of V.WORDS kind }
     {
         ChildOf { kind }
+    }
+
+    /// A child without memory, to stand for a moment in the place of one that is changed. It has one key.
+    pub fn vacant() -> ChildOf<V>
+        requires { V.WORDS ≤ 1 }
+        ensures { length result.pairs ≡ 1 }
+    {
+        ChildOf::close(KindOf::Imm(Head::new(257), 0))
     }
 }
 

@@ -24,9 +24,12 @@ mod shape;
 mod step;
 mod view;
 
+pub use build::{
+    child_of_sorted, immediate_of_sorted, kind_of_sorted, leaf_of_sorted, most_in_immediate,
+};
 pub use child::{BranchOf, Child, ChildOf, KindOf};
 pub use head::Head;
-pub use node::{Node, NodeOf};
+pub use node::{Node, NodeOf, RootOf};
 pub use shape::Shape;
 pub use step::Step;
 pub use view::{View, ViewOf};

@@ -2,7 +2,7 @@
 
 ghost use Rattle.std.specs.Prelude.{◌≡◌, ◌+◌, ◌-◌, ◌^◌, ◌<◌, ◌≤◌, length, IfOk};
 ghost use Rattle.judy_node.specs.Trees.{IsNode, IsMap, IsTight};
-ghost use Rattle.judy_node.specs.Roots.{root_tree, empty_tree};
+ghost use Rattle.judy_node.specs.Roots.{root_tree, empty_tree, IsRoot};
 ghost use Rattle.judy_node.specs.Views.{IsView};
 ghost use Rattle.judy_node.specs.ShapeSums.{shape_as};
 ghost use Rattle.judy_model.specs.Forms.{shape_in};
@@ -25,15 +25,15 @@ pub struct NodeOf<V: Words + Drop> {
 /// A tree whose keys have `W` words of value each, 0 or 1.
 pub type Node<const W: usize> = NodeOf<Width<W>>;
 
-// The kinds of roots. A pair with a key of eight bytes has no room in a child, so it stands here, and what stands below has two
-// keys or more.
+/// The kinds of roots, by their parts: for writing. A pair with a key of eight bytes has no room in a child, so it stands here,
+/// and what stands below has two keys or more.
 #[derive(Drop)]
-enum RootOf<V: Words + Drop> {
-    // No key.
+pub enum RootOf<V: Words + Drop> {
+    /// No key.
     Empty,
-    // One pair: the key, and its value, 0 where keys have no value.
+    /// One pair: the key, and its value, 0 where keys have no values.
     One(u64, u64),
-    // Two keys or more.
+    /// Two keys or more.
     Many(ChildOf<V>),
 }
 
@@ -94,6 +94,22 @@ impl<V: Words + Drop> NodeOf<V> {
             }
             RootOf::Many(child) => child.enter(8, meter),
         }
+    }
+
+    /// The root by its kind, to be changed.
+    pub fn open(self) -> RootOf<V>
+        ensures tree { self ≡ root_tree result }
+        ensures root { IsRoot V.WORDS result }
+    {
+        self.kind
+    }
+
+    /// The tree whose root has a kind.
+    pub fn close(kind: RootOf<V>) -> NodeOf<V>
+        requires { IsRoot V.WORDS kind }
+        ensures { result ≡ root_tree kind }
+    {
+        NodeOf { kind }
     }
 
     /// How many nodes of each kind the tree has.

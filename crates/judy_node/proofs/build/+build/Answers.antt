@@ -65,8 +65,8 @@ pub child_of_sorted-kind_of_sorted-requires : goal.child_of_sorted-kind_of_sorte
 child_of_sorted-kind_of_sorted-requires g t c κs within =
     let width = c.requires.width in
     let high = width.1 in
-    let limit = c.most_in_imm.ensures in
-    let more = c.if-pairs-most_in_imm.false in
+    let limit = c.most_in_immediate.ensures in
+    let more = c.if-pairs-most_in_immediate.false in
     let falls = c.decreases in
     (omega arith, (within, (c.requires.one, ((width.0, omega arith), (omega arith, c.requires.map)))))
 

@@ -7,7 +7,7 @@ use Rattle.judy_leaf.specs.Immediates.{parts_list, IsImmParts}
 use Rattle.judy_node.proofs.Leaves.{map_list, map_free}
 use Rattle.judy_node.proofs.Groups.{length-low_pairs}
 use Rattle.judy_node.proofs.BuiltFacts.{few_done, one_done}
-use Rattle.judy_node.proofs.build.few.Goals as goal
+use Rattle.judy_node.proofs.build.immediate_of_sorted.Goals as goal
 
 pub from_sorted-requires-clause-list : goal.from_sorted-requires-clause-list
 from_sorted-requires-clause-list g c =

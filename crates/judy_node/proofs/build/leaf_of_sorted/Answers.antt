@@ -2,7 +2,7 @@ use Rattle.std.proofs.Common.{◌^◌, ◌∙◌}
 use Rattle.judy_leaf.specs.KeyLists.{low_pairs}
 use Rattle.judy_node.proofs.Leaves.{map_list, map_free}
 use Rattle.judy_node.proofs.BuiltFacts.{leaf_made, leaf_built}
-use Rattle.judy_node.proofs.build.some.Goals as goal
+use Rattle.judy_node.proofs.build.leaf_of_sorted.Goals as goal
 
 pub from_sorted-requires-clause-list : goal.from_sorted-requires-clause-list
 from_sorted-requires-clause-list g c = map_list g.V.Words.WORDS c.args.width (low_pairs (256 ^ c.args.width) c.args.pairs.now) c.requires.width.0 c.requires.width.1 c.requires.map
