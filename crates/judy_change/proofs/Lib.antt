@@ -1,2 +1,3 @@
 pub mod PairPlaces
 pub mod ChildSets
+pub mod Added

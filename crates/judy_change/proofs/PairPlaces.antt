@@ -1,7 +1,7 @@
 -- Pairs in three parts, one behind the other: what stands in the middle part is found and changed there alone.
-use Rattle.std.proofs.Common.{◌≡◌, ℕ, zero, suc, ◌+◌, ◌-◌, ◌<◌, ◌≤◌, ◌≢◌, ◌==◌, ◌||◌, ⊎_elim, Bool, true, false, cond, List, [], ◌∷◌, ◌++◌, length, take, drop, filter, sym, refl, ap, ◌∙◌, arith, ne_eqb, is_lt, length-append}
+use Rattle.std.proofs.Common.{◌≡◌, ℕ, zero, suc, ◌+◌, ◌-◌, ◌<◌, ◌≤◌, ◌≢◌, ◌==◌, ◌||◌, ⊎_elim, Bool, true, false, true≢false, cond, List, [], ◌∷◌, ◌++◌, length, take, drop, filter, sym, refl, ap, ◌∙◌, subst, arith, ne_eqb, is_lt, length-append}
 use Rattle.std.specs.List.{insert, remove, AllByRecursion}
-use Rattle.std.proofs.lemmas.Bool.{cases_lt, cases_eq, eq-eqb}
+use Rattle.std.proofs.lemmas.Bool.{cases_lt, cases_eq, cases_order, eq-eqb}
 use Rattle.std.proofs.lemmas.List.Edits.{length-insert, insert-append_left, insert-append_right, remove-append_left, remove-append_right}
 use Rattle.std.proofs.lemmas.List.Elements.{filter-append}
 use Rattle.std.proofs.lemmas.List.Folds.{list_any-append}
@@ -163,3 +163,26 @@ remove-middle start at front middle rest inside =
     ∙ ap (λ n. front ++ remove (shift start middle ++ rest) n) moved
     ∙ ap (λ ps. front ++ ps) (remove-append_left (shift start middle) rest at (omega arith))
     ∙ ap (λ ps. front ++ (ps ++ rest)) (remove-shift start at middle)
+
+-- ---- pairs with one more are a map
+
+rank-later : (key : ℕ) (pair : ℕ × ℕ) (pairs : Pairs) → pair.0 < key → rank (keys_of (pair ∷ pairs)) key ≡ suc (rank (keys_of pairs) key)
+rank-later key pair pairs less =
+    let test : ℕ → Bool = λ k. is_lt (word_order k key) in
+    ap (λ b. length (cond b (pair.0 ∷ filter test (keys_of pairs)) (filter test (keys_of pairs)))) (is_below pair.0 key less)
+
+pub map-with_pair : (words low top key value : ℕ) (pairs : Pairs) → IsMap words low top pairs → low ≤ key → key < top → has (keys_of pairs) key ≡ false → (words ≡ 0 → value ≡ 0)
+    → IsMap words low top (with_pair key value pairs)
+map-with_pair words low top key value [] map from below absent free = (from, below, free, tt)
+map-with_pair words low top key value (pair ∷ pairs) map from below absent free = ⊎_elim
+    (λ (same : pair.0 ≡ key). absurd (true≢false (sym (ap (λ b. b || has (keys_of pairs) key) (eq-eqb pair.0 key same)) ∙ absent)))
+    (λ apart. ⊎_elim
+    (λ (less : pair.0 < key).
+    let later : has (keys_of pairs) key ≡ false = ap (λ b. b || has (keys_of pairs) key) (sym (ne_eqb pair.0 key (λ e. omega arith))) ∙ absent in
+    subst (λ n. IsMap words low top (insert (pair ∷ pairs) n (key, value))) (sym (rank-later key pair pairs less))
+    (map.0, map.1, map.2, map-with_pair words (pair.0 + 1) top key value pairs map.3 (omega arith) below later free))
+    (λ (more : key < pair.0).
+    subst (λ n. IsMap words low top (insert (pair ∷ pairs) n (key, value))) (sym (rank-before words (key + 1) top key (pair ∷ pairs) (omega arith, map.1, map.2, map.3) (omega arith)))
+    (from, below, free, (omega arith, map.1, map.2, map.3)))
+    apart)
+    (cases_order pair.0 key)

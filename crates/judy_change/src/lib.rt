@@ -8,3 +8,4 @@
 #![tactic(auto)]
 
 mod gap;
+mod leaves;
