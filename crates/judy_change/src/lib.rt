@@ -7,5 +7,7 @@
 //! judy_node's parts for writing and on the leaves of judy_leaf.
 #![tactic(auto)]
 
+mod bitmaps;
 mod gap;
+mod immediates;
 mod leaves;
