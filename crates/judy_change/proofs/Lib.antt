@@ -1,0 +1,4 @@
+pub mod PairPlaces
+pub mod ChildSets
+pub mod Added
+pub mod BranchInserts

@@ -1,0 +1,2 @@
+pub mod LeafTrees
+pub mod Inserted
