@@ -1,0 +1,4 @@
+pub mod Without
+pub mod KidChanges
+pub mod Sharing
+pub mod SettleFacts
