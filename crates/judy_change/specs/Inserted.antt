@@ -1,0 +1,22 @@
+-- A pair put into a tree.
+use Rattle.std.specs.Prelude.{◌≡◌, ℕ, Bool, true, false, IsFalse, IsTrue, Result, Ok, Err}
+use Rattle.judy_bits.specs.ByteSets.{has}
+use Rattle.judy_leaf.specs.KeyLists.{keys_of, with_pair}
+use Rattle.judy_node.specs.Trees.{Tree, IsTight}
+
+-- The tree has the key.
+abbrev pub has_key : ℕ → Tree → Bool
+has_key key tree = has (keys_of tree.pairs) key
+
+-- A key that was absent stands in its place with its value, and no other pair is another; a tight tree is tight still.
+pub record IsAdded (key value : ℕ) (old new : Tree) : Type 0 where
+  pub absent : has_key key old ≡ false
+  pub pairs : new.pairs ≡ with_pair key value old.pairs
+  pub tight : IsTight old → IsTight new
+
+-- What an insert answers and leaves: true where the key was added; false where it was there; an error, for an absent key alone. In
+-- the last two cases the tree is the old one, its form included.
+abbrev pub IsInserted : {E : Type 0} → ℕ → ℕ → Tree → Tree → Result Bool E → Type 0
+IsInserted key value old new (Ok true) = IsAdded key value old new
+IsInserted key value old new (Ok false) = (has_key key old ≡ true) × (new ≡ old)
+IsInserted key value old new (Err refused) = (has_key key old ≡ false) × (new ≡ old)
