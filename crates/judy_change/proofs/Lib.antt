@@ -5,3 +5,4 @@ pub mod SettleFacts
 pub mod PairPlaces
 pub mod ChildSets
 pub mod Added
+pub mod BranchInserts

@@ -14,5 +14,7 @@ pub use removed::Removed;
 //! judy_node's parts for writing and on the leaves of judy_leaf.
 #![tactic(auto)]
 
+mod bitmaps;
 mod gap;
+mod immediates;
 mod leaves;

@@ -137,8 +137,8 @@ impl<V: Words + Drop> ChildOf<V> {
     }
 }
 
-// The immediate of the two words that stand for it in a node, whose keys have `width` bytes.
-pub(crate) fn imm_of<V: Words + Drop>(width: u8, head: u64, word: u64) -> ImmOf<V>
+/// The immediate of the two words that stand for it in a node, whose keys have `width` bytes.
+pub fn imm_of<V: Words + Drop>(width: u8, head: u64, word: u64) -> ImmOf<V>
     requires level { IsImm V.WORDS head word }
     requires child { IsChild V.WORDS width (imm_tree V.WORDS head word) }
     ensures { result ≡ record { width = width; pairs = imm_pairs V.WORDS head word } }

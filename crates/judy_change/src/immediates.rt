@@ -1,0 +1,86 @@
+//! Inserts that end at an immediate.
+
+ghost use Rattle.std.specs.Prelude.{◌≡◌, ◌^◌, ◌<◌, ◌≤◌, false, length, IfOk};
+ghost use Rattle.judy_bits.specs.ByteSets as set;
+ghost use Rattle.judy_leaf.specs.KeyLists.{keys_of, with_pair};
+ghost use Rattle.judy_leaf.specs.Immediates.{imm_room};
+ghost use Rattle.judy_node.specs.Trees.{IsChild, IsMap, IsTight};
+ghost use Rattle.judy_node.specs.Kinds.{tree_of, imm_tree, IsLevel, IsImm};
+ghost use Rattle.judy_node.specs.Built.{IsBuilt};
+ghost use Rattle.judy_change.specs.Inserted.{IsInserted};
+
+use crate::gap::put_at;
+use judy_leaf::{ImmOf, Words};
+use judy_node::{Head, KindOf, imm_of, kind_of_sorted};
+use std::alloc::{AllocError, Global};
+
+// The node of an immediate whose keys have no values.
+pub(crate) fn keys_kind<V: Words + Drop>(imm: ImmOf<V>) -> KindOf<V>
+    requires no_values { V.WORDS ≡ 0 }
+    requires some { 1 ≤ length imm.pairs }
+    ensures level { IsLevel V.WORDS result }
+    ensures width { (tree_of V.WORDS result).width ≡ imm.width }
+    ensures pairs { (tree_of V.WORDS result).pairs ≡ imm.pairs }
+    ensures tight { IsTight (tree_of V.WORDS result) }
+{
+    let width = imm.width();
+    let (count, keys) = imm.into_parts();
+    KindOf::Imm(Head::new(count + 256 * u64::from(width)), keys)
+}
+
+// Puts a key with its value into an immediate; where it is full, a leaf takes its place.
+pub(crate) fn into_immediate<V: Words + Drop>(
+    alloc: Global,
+    head: Head,
+    word: u64,
+    width: u8,
+    key: u64,
+    value: u64,
+) -> (KindOf<V>, Result<bool, AllocError>)
+    requires one { V.WORDS ≤ 1 }
+    requires level { IsImm V.WORDS head word }
+    requires child { IsChild V.WORDS width (imm_tree V.WORDS head word) }
+    requires fits { key < 256 ^ width }
+    requires no_value { V.WORDS ≡ 0 → value ≡ 0 }
+    ensures level { IsLevel V.WORDS result.0 }
+    ensures child { IsChild V.WORDS width (tree_of V.WORDS result.0) }
+    ensures inserted { IsInserted key value (imm_tree V.WORDS head word) (tree_of V.WORDS result.0) result.1 }
+{
+    let mut imm = imm_of::<V>(width, head.number(), word);
+    if imm.find(key).is_some() {
+        return (KindOf::Imm(head, word), Ok(false));
+    }
+    if imm.is_full() {
+        return match past_immediate(alloc, &imm, width, key, value) {
+            Ok(kind) => (kind, Ok(true)),
+            Err(refused) => (KindOf::Imm(head, word), Err(refused)),
+        };
+    }
+    imm.insert_pair(key, value);
+    (keys_kind(imm), Ok(true))
+}
+
+// The leaf of a full immediate's keys and one more.
+fn past_immediate<V: Words + Drop>(
+    alloc: Global,
+    full: &ImmOf<V>,
+    width: u8,
+    key: u64,
+    value: u64,
+) -> Result<KindOf<V>, AllocError>
+    requires one { V.WORDS ≤ 1 }
+    requires full { length full.now.pairs ≡ imm_room V.WORDS width }
+    requires wide { full.now.width ≡ width }
+    requires map { IsMap V.WORDS 0 (256 ^ width) full.now.pairs }
+    requires absent { set.has (keys_of full.now.pairs) key ≡ false }
+    requires fits { key < 256 ^ width }
+    requires no_value { V.WORDS ≡ 0 → value ≡ 0 }
+    ensures level { IfOk result (λ kind. IsLevel V.WORDS kind) }
+    ensures built { IfOk result (λ kind. IsBuilt V.WORDS width (with_pair key value full.now.pairs) (tree_of V.WORDS kind)) }
+{
+    let mut pairs = [(0, 0); 9];
+    let count = full.len();
+    full.fill(0, &mut pairs[..count]);
+    put_at(&mut pairs[..count + 1], full.rank(key), (key, value));
+    kind_of_sorted(alloc, width, &pairs[..count + 1])
+}
