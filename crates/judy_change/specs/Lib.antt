@@ -1,2 +1,3 @@
+pub mod Removals
 pub mod LeafTrees
 pub mod Inserted
