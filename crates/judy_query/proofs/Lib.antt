@@ -1,0 +1,6 @@
+pub mod Parts
+pub mod Splits
+pub mod Finds
+pub mod Links
+pub mod EndFacts
+pub mod Downs
