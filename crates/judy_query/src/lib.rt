@@ -10,7 +10,12 @@
 //! alone: it enters nodes and never opens one.
 #![tactic(auto)]
 
+mod branches;
+mod counts;
 mod ends;
+mod places;
 mod values;
 
+pub use counts::rank;
+pub use places::{entry_nth, nth};
 pub use values::lookup;
