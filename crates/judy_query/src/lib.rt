@@ -1,0 +1,2 @@
+//! Queries.
+#![tactic(auto)]
