@@ -1,5 +1,5 @@
 -- The keys of leaves and immediates fit their width.
-use Rattle.std.proofs.Common.{◌≡◌, ℕ, zero, suc, ◌+◌, ◌*◌, ◌/◌, ◌^◌, ◌<◌, ◌≤◌, List, [], ◌∷◌, ◌++◌, length, take, drop, get_or, refl, ap, sym, ◌∙◌, subst, arith}
+use Rattle.std.proofs.Common.{◌≡◌, ℕ, zero, suc, ◌+◌, ◌*◌, ◌/◌, ◌^◌, ◌<◌, List, [], ◌∷◌, ◌++◌, length, take, drop, get_or, refl, ap, sym, ◌∙◌, subst, arith}
 use Rattle.std.specs.List.{AllByRecursion}
 use Rattle.std.specs.List.Sorted.{IsStrictlySortedBy}
 use Rattle.std.proofs.lemmas.List.Elements.{All-head, All-tail}
@@ -32,7 +32,7 @@ places_of-below width (word ∷ words) = all_append (256 ^ width) (places width 
 pub keys_in-below : (width count : ℕ) (words : List ℕ) → AllByRecursion (λ key. key < 256 ^ width) (keys_in width count words)
 keys_in-below width count words = all_take (256 ^ width) count (places_of width words) (places_of-below width words)
 
-all_bytes : (xs : List ℕ) → IsByteString xs → AllByRecursion (λ byte. byte < 256) xs
+pub all_bytes : (xs : List ℕ) → IsByteString xs → AllByRecursion (λ byte. byte < 256) xs
 all_bytes [] all = tt
 all_bytes (x ∷ xs) all = (All-head (λ b. b < 256) x xs all, all_bytes xs (All-tail (λ b. b < 256) x xs all))
 

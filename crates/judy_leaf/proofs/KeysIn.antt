@@ -1,5 +1,5 @@
 -- The keys that words hold: how many, what stands at a place, and that each has its width.
-use Rattle.std.proofs.Common.{◌≡◌, ℕ, zero, suc, ◌/◌, ◌^◌, ◌<◌, ◌≤◌, true, List, [], ◌∷◌, ◌++◌, length, take, get_or, is_le, ap, sym, ◌∙◌, subst, arith, get_or-take, le-leb}
+use Rattle.std.proofs.Common.{◌≡◌, ℕ, zero, suc, ◌+◌, ◌/◌, ◌%◌, ◌^◌, ◌<◌, ◌≤◌, true, List, [], ◌∷◌, ◌++◌, length, take, get_or, is_le, refl, ap, sym, ◌∙◌, subst, arith, get_or-take, le-leb}
 use Rattle.std.specs.List.{AllByRecursion}
 use Rattle.std.proofs.lemmas.List.{length-take-le}
 use Rattle.judy_model.specs.Keys.{word_order}
@@ -46,6 +46,22 @@ unit_fits width is = fits width is.some is.most
     fits (suc (suc (suc (suc (suc (suc (suc zero))))))) some most = omega arith
     fits (suc (suc (suc (suc (suc (suc (suc (suc zero)))))))) some most = omega arith
     fits (suc (suc (suc (suc (suc (suc (suc (suc (suc w))))))))) some most = let never : ⊥ = omega arith in absurd never
+
+-- The greatest key of a width is the lowest bytes of the greatest word.
+pub unit_top : (width : ℕ) → IsWidth width → 18446744073709551615 % 256 ^ width + 1 ≡ 256 ^ width
+unit_top width is = top width is.some is.most
+  where
+    top : (width : ℕ) → 1 ≤ width → width ≤ 8 → 18446744073709551615 % 256 ^ width + 1 ≡ 256 ^ width
+    top zero some most = let never : ⊥ = omega arith in absurd never
+    top (suc zero) some most = refl
+    top (suc (suc zero)) some most = refl
+    top (suc (suc (suc zero))) some most = refl
+    top (suc (suc (suc (suc zero)))) some most = refl
+    top (suc (suc (suc (suc (suc zero))))) some most = refl
+    top (suc (suc (suc (suc (suc (suc zero)))))) some most = refl
+    top (suc (suc (suc (suc (suc (suc (suc zero))))))) some most = refl
+    top (suc (suc (suc (suc (suc (suc (suc (suc zero)))))))) some most = refl
+    top (suc (suc (suc (suc (suc (suc (suc (suc (suc w))))))))) some most = let never : ⊥ = omega arith in absurd never
 
 -- ---- places
 

@@ -43,6 +43,9 @@ value_of (key ∷ keys) (value ∷ values) (suc at) inside there = value_of keys
 pub rank_within : (keys : List ℕ) (key : ℕ) → set.rank keys key ≤ length keys
 rank_within keys key = length-filter-le _ keys
 
+pub count_within : (keys : List ℕ) (number : ℕ) → set.count_up_to keys number ≤ length keys
+count_within keys number = length-filter-le _ keys
+
 -- ---- a leaf
 
 pub length-keys_from : (width count start : ℕ) (block : Contents) → AreKeysFrom width count start block → length (keys_from width count start block) ≡ count

@@ -20,3 +20,5 @@ pub mod BitLists
 pub mod BitSteps
 pub mod SlotSteps
 pub mod Bounds
+pub mod AbsentRuns
+pub mod AbsentBytes

@@ -1,5 +1,5 @@
--- What stands nearest to a number among keys.
-use Rattle.std.specs.Prelude.{◌≡◌, ℕ, ◌+◌, ◌<◌, List, length, reverse, slice_index, Option, find}
+-- What stands nearest to a number, among keys or among the numbers that are no keys.
+use Rattle.std.specs.Prelude.{◌≡◌, ℕ, ◌+◌, ◌<◌, ◌&&◌, Bool, not, nat_lt, List, length, reverse, slice_index, Option, find}
 use Rattle.std.specs.Ordering.{is_le, is_ge}
 use Rattle.judy_model.specs.Keys.{word_order}
 use Rattle.judy_bits.specs.ByteSets as set
@@ -11,6 +11,10 @@ pair_from pairs number = find (λ pair. is_ge (word_order pair.0 number)) pairs
 -- The last pair whose key isn't above it.
 abbrev pub pair_up_to : List (ℕ × ℕ) → ℕ → Option (ℕ × ℕ)
 pair_up_to pairs number = find (λ pair. is_le (word_order pair.0 number)) (reverse pairs)
+
+-- Whether a number is below a bound and no key.
+abbrev pub is_absent : ℕ → List ℕ → ℕ → Bool
+is_absent bound keys number = nat_lt number bound && not (set.has keys number)
 
 -- ---- places
 

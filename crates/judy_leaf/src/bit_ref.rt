@@ -1,11 +1,13 @@
 //! The reading of a bitmap leaf whose block stands in a node.
 
 ghost use Rattle.std.specs.Prelude.{◌≡◌, ◌<◌, ◌≤◌, ◌==◌, length, slice_index};
+ghost use Rattle.judy_model.specs.Keys.{word_order};
+ghost use Rattle.judy_model.specs.Nearest.{IsFirst, IsLast};
 ghost use Rattle.judy_bits.specs.ByteSets as set;
 ghost use Rattle.judy_bits.specs.ByteSets.{IsByteSet};
 ghost use Rattle.judy_leaf.specs.KeyLists.{keys_of, values_of, IsKeyList};
 ghost use Rattle.judy_leaf.specs.BitLeaves.{IsBitParts, bit_list};
-ghost use Rattle.judy_leaf.specs.Nearby.{pair_from, pair_up_to};
+ghost use Rattle.judy_leaf.specs.Nearby.{pair_from, pair_up_to, is_absent};
 
 use crate::words::{Width, Words};
 use judy_bits::Bits256;
@@ -155,6 +157,24 @@ impl<'a, V: Words + Drop> BitRef<'a, V> {
         }
     }
 
+    /// The nearest number below 256 at or above another that is no key; none where all these are keys.
+    pub fn absent_at_or_after(&self, number: u64) -> Option<u64>
+        ensures { IsFirst word_order (is_absent 256 (keys_of self.now.pairs)) number result }
+    {
+        if number < 256 {
+            as_word(self.next_absent(number as u8))
+        } else {
+            None
+        }
+    }
+
+    /// The nearest number below 256 at or below another that is no key; none where all these are keys.
+    pub fn absent_at_or_before(&self, number: u64) -> Option<u64>
+        ensures { IsLast word_order (is_absent 256 (keys_of self.now.pairs)) number result }
+    {
+        as_word(self.prev_absent(number.min(255) as u8))
+    }
+
     // How many keys are at or below a number.
     fn count_up_to(&self, number: u64) -> usize
         ensures value { result ≡ set.count_up_to (keys_of self.now.pairs) number }
@@ -196,4 +216,11 @@ impl<'a, V: Words + Drop> BitRef<'a, V> {
     {
         self.bits().prev_absent(byte)
     }
+}
+
+// A byte as a word.
+fn as_word(byte: Option<u8>) -> Option<u64>
+    ensures { result ≡ byte }
+{
+    byte.map(u64::from)
 }

@@ -2,11 +2,13 @@
 
 ghost use Rattle.std.specs.Prelude.{◌≡◌, ◌+◌, ◌-◌, ◌*◌, ◌/◌, ◌<◌, ◌≤◌, ◌^◌, ◌==◌, [], ◌∷◌, length, slice_index, IsFalse};
 ghost use Rattle.std.specs.List.{remove, AllByRecursion};
+ghost use Rattle.judy_model.specs.Keys.{word_order};
+ghost use Rattle.judy_model.specs.Nearest.{IsFirst, IsLast};
 ghost use Rattle.judy_bits.specs.ByteSets as set;
 ghost use Rattle.judy_leaf.specs.Packing.{IsWidth};
 ghost use Rattle.judy_leaf.specs.KeyLists.{keys_of, values_of, low_pairs, with_pair, with_value_at, IsKeyList};
 ghost use Rattle.judy_leaf.specs.Immediates.{imm_room, parts_list, IsImmParts};
-ghost use Rattle.judy_leaf.specs.Nearby.{pair_from, pair_up_to};
+ghost use Rattle.judy_leaf.specs.Nearby.{pair_from, pair_up_to, is_absent};
 
 use crate::one_word;
 use crate::words::{Width, Words};
@@ -143,6 +145,22 @@ impl<V: Words + Drop> ImmOf<V> {
             Some((at, key)) => Some((key, self.value_at(at))),
             None => None,
         }
+    }
+
+    /// The nearest number at or above another that is no key, among those that a key of this width could be; none where all these
+    /// are keys.
+    pub fn absent_at_or_after(&self, number: u64) -> Option<u64>
+        ensures { IsFirst word_order (is_absent (256 ^ self.now.width) (keys_of self.now.pairs)) number result }
+    {
+        one_word::absent_from(self.width, usize::from(self.count), self.keys, number)
+    }
+
+    /// The nearest number at or below another that is no key, among those that a key of this width could be; none where all these
+    /// are keys.
+    pub fn absent_at_or_before(&self, number: u64) -> Option<u64>
+        ensures { IsLast word_order (is_absent (256 ^ self.now.width) (keys_of self.now.pairs)) number result }
+    {
+        one_word::absent_up_to(self.width, usize::from(self.count), self.keys, number)
     }
 
     /// Puts a key in, with the value 0. The key is absent and below 256 to the power of the width, and the immediate isn't full.

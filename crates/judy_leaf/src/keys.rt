@@ -5,13 +5,15 @@ ghost use Rattle.std.specs.Prelude.{◌≡◌, ◌+◌, ◌-◌, ◌/◌, ◌<�
 ghost use Rattle.std.specs.List.{insert, remove};
 ghost use Rattle.std.specs.List.Sorted.{IsStrictlySortedBy};
 ghost use Rattle.judy_model.specs.Keys.{word_order};
+ghost use Rattle.judy_model.specs.Nearest.{IsFirst, IsLast};
 ghost use Rattle.judy_bits.specs.ByteSets as set;
 ghost use Rattle.judy_leaf.specs.Packing.{IsWidth};
 ghost use Rattle.judy_leaf.specs.Leaves.{words_for, keys_from, AreKeysFrom};
-ghost use Rattle.judy_leaf.specs.Nearby.{IsNextAt, IsPreviousAt};
+ghost use Rattle.judy_leaf.specs.Nearby.{is_absent, IsNextAt, IsPreviousAt};
 ghost use Rattle.judy_leaf.specs.KeyChanges.{IsKeyChange, HasPlace, HasPlaceFor};
 
 use crate::edit::{pull_key, push_key};
+use crate::gaps::{absent_from_in, absent_up_to_in};
 use crate::packed::{find_in, key_of, next_in, previous_in, rank_in};
 use judy_block::Block;
 
@@ -124,6 +126,56 @@ pub(crate) fn previous(
         6 => previous_in::<6>(count, words_from::<6>(block, start, count), number),
         7 => previous_in::<7>(count, words_from::<7>(block, start, count), number),
         _ => previous_in::<8>(count, words_from::<8>(block, start, count), number),
+    }
+}
+
+// The nearest number at or above another that is no key and has the width of one.
+pub(crate) fn absent_from(
+    width: usize,
+    block: &Block,
+    start: usize,
+    count: usize,
+    number: u64,
+) -> Option<u64>
+    requires start { start ≤ 32 }
+    requires keys { AreKeysFrom width count start block.now }
+    requires ascending { IsStrictlySortedBy word_order (keys_from width count start block.now) }
+    ensures { IsFirst word_order (is_absent (256 ^ width) (keys_from width count start block.now)) number result }
+{
+    match width {
+        1 => absent_from_in::<1>(count, words_from::<1>(block, start, count), number),
+        2 => absent_from_in::<2>(count, words_from::<2>(block, start, count), number),
+        3 => absent_from_in::<3>(count, words_from::<3>(block, start, count), number),
+        4 => absent_from_in::<4>(count, words_from::<4>(block, start, count), number),
+        5 => absent_from_in::<5>(count, words_from::<5>(block, start, count), number),
+        6 => absent_from_in::<6>(count, words_from::<6>(block, start, count), number),
+        7 => absent_from_in::<7>(count, words_from::<7>(block, start, count), number),
+        _ => absent_from_in::<8>(count, words_from::<8>(block, start, count), number),
+    }
+}
+
+// The nearest number at or below another that is no key and has the width of one.
+pub(crate) fn absent_up_to(
+    width: usize,
+    block: &Block,
+    start: usize,
+    count: usize,
+    number: u64,
+) -> Option<u64>
+    requires start { start ≤ 32 }
+    requires keys { AreKeysFrom width count start block.now }
+    requires ascending { IsStrictlySortedBy word_order (keys_from width count start block.now) }
+    ensures { IsLast word_order (is_absent (256 ^ width) (keys_from width count start block.now)) number result }
+{
+    match width {
+        1 => absent_up_to_in::<1>(count, words_from::<1>(block, start, count), number),
+        2 => absent_up_to_in::<2>(count, words_from::<2>(block, start, count), number),
+        3 => absent_up_to_in::<3>(count, words_from::<3>(block, start, count), number),
+        4 => absent_up_to_in::<4>(count, words_from::<4>(block, start, count), number),
+        5 => absent_up_to_in::<5>(count, words_from::<5>(block, start, count), number),
+        6 => absent_up_to_in::<6>(count, words_from::<6>(block, start, count), number),
+        7 => absent_up_to_in::<7>(count, words_from::<7>(block, start, count), number),
+        _ => absent_up_to_in::<8>(count, words_from::<8>(block, start, count), number),
     }
 }
 

@@ -1,10 +1,12 @@
 //! The reading of a leaf whose parts stand in a node.
 
 ghost use Rattle.std.specs.Prelude.{◌≡◌, ◌+◌, ◌*◌, ◌<◌, ◌≤◌, ◌^◌, ◌==◌, length, slice_index};
+ghost use Rattle.judy_model.specs.Keys.{word_order};
+ghost use Rattle.judy_model.specs.Nearest.{IsFirst, IsLast};
 ghost use Rattle.judy_bits.specs.ByteSets as set;
 ghost use Rattle.judy_leaf.specs.KeyLists.{KeyList, keys_of, values_of, IsKeyList};
 ghost use Rattle.judy_leaf.specs.Leaves.{IsLeafParts, leaf_list};
-ghost use Rattle.judy_leaf.specs.Nearby.{pair_from, pair_up_to};
+ghost use Rattle.judy_leaf.specs.Nearby.{pair_from, pair_up_to, is_absent};
 
 use crate::keys;
 use crate::words::{Width, Words};
@@ -156,5 +158,25 @@ impl<'a, V: Words + Drop> LeafRef<'a, V> {
             Some((at, key)) => Some((key, self.value_at(at))),
             None => None,
         }
+    }
+
+    /// The nearest number at or above another that is no key, among those that a key of this width could be; none where all these
+    /// are keys.
+    pub fn absent_at_or_after(&self, number: u64) -> Option<u64>
+        ensures { IsFirst word_order (is_absent (256 ^ self.now.width) (keys_of self.now.pairs)) number result }
+    {
+        let count = usize::from(self.count);
+        let width = usize::from(self.width);
+        keys::absent_from(width, self.block, V::WORDS * count, count, number)
+    }
+
+    /// The nearest number at or below another that is no key, among those that a key of this width could be; none where all these
+    /// are keys.
+    pub fn absent_at_or_before(&self, number: u64) -> Option<u64>
+        ensures { IsLast word_order (is_absent (256 ^ self.now.width) (keys_of self.now.pairs)) number result }
+    {
+        let count = usize::from(self.count);
+        let width = usize::from(self.width);
+        keys::absent_up_to(width, self.block, V::WORDS * count, count, number)
     }
 }

@@ -8,8 +8,8 @@
 //! two words. So each is made of its parts and taken apart again where it changes, and [`LeafRef`] and [`BitRef`] read leaves where their
 //! parts stand. An immediate is read as itself.
 //!
-//! place.rt has the places of one word, for a width that is known when a program is compiled; packed.rt searches words, and edit.rt
-//! changes those of a block, place by place. keys.rt and one_word.rt know the width at run time and hand on to these. values.rt and pairs.rt put
+//! place.rt has the places of one word, for a width that is known when a program is compiled; packed.rt searches words, gaps.rt
+//! follows keys that are neighbours to a number that is no key, and edit.rt changes the words of a block, place by place. keys.rt and one_word.rt know the width at run time and hand on to these. values.rt and pairs.rt put
 //! values beside the keys, and bit_edit.rt changes the block of a bitmap leaf. The crate stands on judy_model, judy_bits and judy_block; the nodes of the tree stand on it.
 #![tactic(auto)]
 
@@ -18,6 +18,7 @@ mod bit_leaf;
 mod bit_ref;
 mod edit;
 mod fill;
+mod gaps;
 mod imm;
 mod keys;
 mod leaf;

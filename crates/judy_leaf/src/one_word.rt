@@ -4,11 +4,13 @@ ghost use Rattle.std.specs.Prelude.{◌≡◌, ◌+◌, ◌-◌, ◌/◌, ◌<�
 ghost use Rattle.std.specs.List.{insert, remove};
 ghost use Rattle.std.specs.List.Sorted.{IsStrictlySortedBy};
 ghost use Rattle.judy_model.specs.Keys.{word_order};
+ghost use Rattle.judy_model.specs.Nearest.{IsFirst, IsLast};
 ghost use Rattle.judy_bits.specs.ByteSets as set;
 ghost use Rattle.judy_leaf.specs.Packing.{keys_in, IsPacked, IsWidth};
-ghost use Rattle.judy_leaf.specs.Nearby.{IsNextAt, IsPreviousAt};
+ghost use Rattle.judy_leaf.specs.Nearby.{is_absent, IsNextAt, IsPreviousAt};
 ghost use Rattle.judy_leaf.specs.Immediates.{IsWordChange};
 
+use crate::gaps::{absent_from_in, absent_up_to_in};
 use crate::packed::{find_in, key_of, next_in, previous_in, rank_in};
 use crate::place;
 
@@ -86,6 +88,42 @@ pub(crate) fn previous(width: u8, count: usize, word: u64, number: u64) -> Optio
         6 => previous_in::<6>(count, &[word], number),
         7 => previous_in::<7>(count, &[word], number),
         _ => previous_in::<8>(count, &[word], number),
+    }
+}
+
+// The nearest number at or above another that is no key and has the width of one.
+pub(crate) fn absent_from(width: u8, count: usize, word: u64, number: u64) -> Option<u64>
+    requires packed { IsPacked width count (word ∷ []) }
+    requires ascending { IsStrictlySortedBy word_order (keys_in width count (word ∷ [])) }
+    ensures { IsFirst word_order (is_absent (256 ^ width) (keys_in width count (word ∷ []))) number result }
+{
+    match width {
+        1 => absent_from_in::<1>(count, &[word], number),
+        2 => absent_from_in::<2>(count, &[word], number),
+        3 => absent_from_in::<3>(count, &[word], number),
+        4 => absent_from_in::<4>(count, &[word], number),
+        5 => absent_from_in::<5>(count, &[word], number),
+        6 => absent_from_in::<6>(count, &[word], number),
+        7 => absent_from_in::<7>(count, &[word], number),
+        _ => absent_from_in::<8>(count, &[word], number),
+    }
+}
+
+// The nearest number at or below another that is no key and has the width of one.
+pub(crate) fn absent_up_to(width: u8, count: usize, word: u64, number: u64) -> Option<u64>
+    requires packed { IsPacked width count (word ∷ []) }
+    requires ascending { IsStrictlySortedBy word_order (keys_in width count (word ∷ [])) }
+    ensures { IsLast word_order (is_absent (256 ^ width) (keys_in width count (word ∷ []))) number result }
+{
+    match width {
+        1 => absent_up_to_in::<1>(count, &[word], number),
+        2 => absent_up_to_in::<2>(count, &[word], number),
+        3 => absent_up_to_in::<3>(count, &[word], number),
+        4 => absent_up_to_in::<4>(count, &[word], number),
+        5 => absent_up_to_in::<5>(count, &[word], number),
+        6 => absent_up_to_in::<6>(count, &[word], number),
+        7 => absent_up_to_in::<7>(count, &[word], number),
+        _ => absent_up_to_in::<8>(count, &[word], number),
     }
 }
 

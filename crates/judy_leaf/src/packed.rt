@@ -91,7 +91,7 @@ pub(crate) fn next_in<const W: usize>(
 }
 
 // How many of the keys are at or below a number.
-fn up_to_in<const W: usize>(count: usize, words: &[u64], number: u64) -> usize
+pub(crate) fn up_to_in<const W: usize>(count: usize, words: &[u64], number: u64) -> usize
     requires packed { IsPacked W count words.now }
     requires few { length words.now ≤ 65535 }
     ensures { result ≡ set.count_up_to (keys_in W count words.now) number }

@@ -1,4 +1,4 @@
-use Rattle.std.proofs.Common.{◌≡◌, ◌+◌, ◌^◌, ◌<◌, ◌≤◌, ◌++◌, [], ◌∷◌, length, take, ap, sym, ◌∙◌, arith}
+use Rattle.std.proofs.Common.{◌+◌, ◌++◌, [], ◌∷◌, sym, ◌∙◌, arith}
 use Rattle.std.proofs.lemmas.List.{take_more_set, take_all}
 use Rattle.judy_leaf.specs.KeyLists.{shift}
 use Rattle.judy_leaf.proofs.Bounds.{byte_below, shift_more, length-shift}
