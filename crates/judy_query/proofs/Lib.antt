@@ -1,1 +1,7 @@
 pub mod Links
+pub mod Parts
+pub mod Splits
+pub mod Finds
+pub mod Links
+pub mod EndFacts
+pub mod Downs

@@ -1,2 +1,18 @@
 //! Queries.
 #![tactic(auto)]
+//! The queries of a tree of words: what is the value of a key, how many keys are below a word, which key is the n-th, and which is
+//! nearest to a word.
+//!
+//! Each goes down the tree once, or, for a neighbour, once and then once more from a branch that it remembers; so it enters at most
+//! 8 nodes, or 16, whatever the tree, loose ones too. Each is a loop over branches and one look at the node below them (ends.rt). None
+//! asks for memory, and none makes a [`judy_bits::Meter`]: the visits are counted on the caller's.
+//!
+//! To its callers a tree is the map of its pairs (specs/Maps.antt), and each answer is that of judy_model's definitions. The calls whose
+//! names begin with `entry` give the value with the key in the same way down. The crate stands on judy_node's public contracts
+//! alone: it enters nodes and never opens one.
+#![tactic(auto)]
+
+mod ends;
+mod values;
+
+pub use values::lookup;

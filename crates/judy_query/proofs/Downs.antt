@@ -1,0 +1,225 @@
+-- The way down a tree: its beginning, a step to a child, and its end beside one.
+use Rattle.std.proofs.Common.{◌≡◌, ℕ, suc, ◌+◌, ◌-◌, ◌*◌, ◌^◌, ◌<◌, ◌≤◌, List, [], ◌++◌, length, take, drop, get_or, Some, slice_get, sym, refl, ap, ◌∙◌, subst, arith}
+use Rattle.std.proofs.Math.Nat.{add-mul}
+use Rattle.std.proofs.lemmas.Nat.{mul-le, pow-add}
+use Rattle.std.proofs.lemmas.List.{append-nil, take_all, drop_all}
+use Rattle.std.proofs.lemmas.Option.{slice_get_within, slice_get-get_or}
+use Rattle.judy_model.specs.Keys.{IsByteString}
+use Rattle.judy_model.specs.WordBytes.{number_of}
+use Rattle.judy_model.proofs.ByteLemmas.{number_of-lt}
+use Rattle.judy_leaf.specs.KeyLists.{shift}
+use Rattle.judy_node.specs.Trees.{Pairs, Tree, IsMap, join, IsChild, IsBranch, IsNode, branch_pairs}
+use Rattle.judy_node.specs.Steps.{IsKeyOf, IsStep}
+use Rattle.judy_node.specs.Views.{IsView, IsPlace, view_pairs}
+use Rattle.judy_node.specs.declared.step.Step.{Step}
+use Rattle.judy_node.specs.declared.step.Step.TheVariants.{Child, Missing, Below, Above}
+use Rattle.judy_node.specs.declared.view.ViewOf.{ViewOf}
+use Rattle.judy_node.specs.declared.view.ViewOf.TheVariants.{Null, One, Imm, Leaf, BitLeaf, Branch}
+use Rattle.judy_node.proofs.Maps.{map-wider, join-map, children-length}
+use Rattle.judy_query.specs.Parts.{IsPart, IsBeside, passed, width_of, IsShown, IsDown}
+use Rattle.judy_query.proofs.Parts.{whole_part, part_of_part}
+use Rattle.judy_query.proofs.Splits.{split-at, gap-at, first_of, rest_of}
+
+-- ---- in a branch
+
+block_within : (skipped : List ℕ) (width : ℕ) → IsByteString skipped → (number_of skipped * 256 + 256) * 256 ^ width ≤ 256 ^ (length skipped + 1 + width)
+block_within skipped width are =
+    let below = number_of-lt skipped are in
+    let spread : 256 ^ (length skipped + 1 + width) ≡ 256 ^ length skipped * 256 * 256 ^ width =
+    pow-add 256 (length skipped + 1) width ∙ ap (λ n. n * 256 ^ width) (pow-add 256 (length skipped) 1) in
+    subst (λ n. (number_of skipped * 256 + 256) * 256 ^ width ≤ n) (sym spread)
+    (mul-le (number_of skipped * 256 + 256) (256 ^ width) (256 ^ length skipped * 256) (256 ^ width) (omega arith) (omega arith))
+
+next_unit : (block byte unit : ℕ) → (block + (byte + 1)) * unit ≡ (block + byte) * unit + unit
+next_unit block byte unit =
+    ap (λ n. n * unit) (let e : block + (byte + 1) ≡ block + byte + 1 = omega arith in e)
+    ∙ add-mul (block + byte) 1 unit
+    ∙ (let e : (block + byte) * unit + 1 * unit ≡ (block + byte) * unit + unit = omega arith in e)
+
+module _ (words width : ℕ) (skipped bytes : List ℕ) (kids : List Tree) (count : ℕ) (is : IsBranch words width skipped bytes kids count) (key : ℕ) where
+  -- The child of a byte is a part of its branch.
+  pub child_part : (byte rest place : ℕ) (kid : Tree) → IsKeyOf (256 ^ width) (number_of skipped * 256) key byte rest → slice_get bytes place ≡ Some byte → slice_get kids place ≡ Some kid
+      → IsPart words (256 ^ (length skipped + 1 + width)) (branch_pairs width skipped bytes kids) (key - rest) (256 ^ width) kid.pairs
+      (first_of (256 ^ width) (number_of skipped * 256) bytes kids place) (rest_of (256 ^ width) (number_of skipped * 256) bytes kids (suc place))
+  child_part byte rest place kid of at there =
+      let unit = 256 ^ width in
+      let block = number_of skipped * 256 in
+      let top = 256 ^ (length skipped + 1 + width) in
+      let split = split-at words width 0 block bytes kids byte place kid (omega arith) is.parts.children at there in
+      let room = block_within skipped width is.parts.skipped_bytes in
+      let next = next_unit block byte unit in
+      let is_key = of.key_is in
+      let start : key - rest ≡ (block + byte) * unit = omega arith in
+      let small = of.byte_is in
+      let last : (block + (byte + 1)) * unit ≤ (block + 256) * unit = mul-le (block + (byte + 1)) unit (block + 256) unit (omega arith) (omega arith) in
+      record {
+        fits = omega arith;
+        same = split.same ∙ ap (λ n. first_of unit block bytes kids place ++ (shift n kid.pairs ++ rest_of unit block bytes kids (suc place))) (sym start);
+        before = map-wider words ((block + 0) * unit) ((block + byte) * unit) 0 (key - rest) (first_of unit block bytes kids place) (omega arith) (omega arith) split.before;
+        after = map-wider words ((block + (byte + 1)) * unit) ((block + 256) * unit) (key - rest + unit) top (rest_of unit block bytes kids (suc place)) (omega arith) room split.after;
+      }
+
+  -- A key that leads to no child is a part without pairs.
+  pub gap_part : (step : Step) → IsBeside step → IsStep (256 ^ width) (number_of skipped * 256) bytes key step → key < 256 ^ (length skipped + 1 + width)
+      → IsPart words (256 ^ (length skipped + 1 + width)) (branch_pairs width skipped bytes kids) key 1 []
+      (first_of (256 ^ width) (number_of skipped * 256) bytes kids (passed (length kids) step)) (rest_of (256 ^ width) (number_of skipped * 256) bytes kids (passed (length kids) step))
+  gap_part (Child byte place rest) beside steps within = absurd beside
+  gap_part (Missing byte place rest) beside steps within =
+      let unit = 256 ^ width in
+      let block = number_of skipped * 256 in
+      let top = 256 ^ (length skipped + 1 + width) in
+      let of = steps.0 in
+      let gap = gap-at words width 0 block bytes kids byte (omega arith) of.byte_is is.parts.children steps.1 in
+      let room = block_within skipped width is.parts.skipped_bytes in
+      let next = next_unit block byte unit in
+      let is_key = of.key_is in
+      let is_rest = of.rest_is in
+      subst (λ n. IsPart words top (branch_pairs width skipped bytes kids) key 1 [] (first_of unit block bytes kids n) (rest_of unit block bytes kids n)) (sym steps.2)
+      (record {
+        fits = omega arith;
+        same = gap.same;
+        before = map-wider words ((block + 0) * unit) ((block + byte) * unit) 0 key _ (omega arith) (omega arith) gap.before;
+        after = map-wider words ((block + (byte + 1)) * unit) ((block + 256) * unit) (key + 1) top _ (omega arith) room gap.after;
+      })
+  gap_part Below beside steps within =
+      let unit = 256 ^ width in
+      let block = number_of skipped * 256 in
+      let top = 256 ^ (length skipped + 1 + width) in
+      let room = block_within skipped width is.parts.skipped_bytes in
+      let start : (block + 0) * unit ≡ block * unit = ap (λ n. n * unit) (let e : block + 0 ≡ block = omega arith in e) in
+      record {
+        fits = omega arith;
+        same = refl;
+        before = tt;
+        after = map-wider words ((block + 0) * unit) ((block + 256) * unit) (key + 1) top (branch_pairs width skipped bytes kids) (omega arith) room (join-map words width 0 block bytes kids (omega arith) is.parts.children);
+      }
+  gap_part Above beside steps within =
+      let unit = 256 ^ width in
+      let block = number_of skipped * 256 in
+      let top = 256 ^ (length skipped + 1 + width) in
+      let long = children-length words width 0 bytes kids is.parts.children in
+      let all_bytes : take (length kids) bytes ≡ bytes = take_all (length kids) bytes (omega arith) in
+      let all_kids : take (length kids) kids ≡ kids = take_all (length kids) kids (omega arith) in
+      let none : rest_of unit block bytes kids (length kids) ≡ [] = ap (λ bs. join unit block bs (drop (length kids) kids)) (drop_all (length kids) bytes (omega arith)) in
+      let all : first_of unit block bytes kids (length kids) ≡ branch_pairs width skipped bytes kids = λ t. join unit block (all_bytes t) (all_kids t) in
+      record {
+        fits = omega arith;
+        same = sym (append-nil (branch_pairs width skipped bytes kids)) ∙ (λ t. sym all t ++ sym none t);
+        before = subst (λ ps. IsMap words 0 key ps) (sym all)
+            (map-wider words ((block + 0) * unit) ((block + 256) * unit) 0 key (branch_pairs width skipped bytes kids) (omega arith) steps (join-map words width 0 block bytes kids (omega arith) is.parts.children));
+        after = subst (λ ps. IsMap words (key + 1) top ps) (sym none) tt;
+      }
+
+-- ---- what is entered
+
+pub view_width : {V : _} (words width : ℕ) (tree : Tree) (view : ViewOf V) → (length tree.pairs ≡ 0 → width ≡ 8) → IsView words width tree view → width_of view ≡ width
+view_width words width tree Null none is = sym (none (ap length is.pairs))
+view_width words width tree (One key value) none is = sym is.place
+view_width words width tree (Imm list) none is = is.place
+view_width words width tree (Leaf list) none is = is.place
+view_width words width tree (BitLeaf skipped list) none is = is.place.0
+view_width words width tree (Branch b) none is = is.place.0
+
+shown : {V : _} (words width : ℕ) (tree : Tree) (view : ViewOf V) → 1 ≤ width → width ≤ 8 → width_of view ≡ width → IsView words width tree view → IsShown words view
+shown words width tree view some narrow wide is = record {
+  some = omega arith;
+  narrow = omega arith;
+  map = subst (λ w. IsMap words 0 (256 ^ w) (view_pairs view)) (sym wide) is.map;
+  place = subst (λ w. IsPlace words w view) (sym wide) is.place;
+}
+
+-- The way begins at the root.
+pub down_root : {V : _} (words : ℕ) (tree : Tree) (view : ViewOf V) (key : ℕ) → IsNode words tree → IsView words 8 tree view → key < 2 ^ 64 → IsDown words tree.pairs view key key
+down_root words tree view key node is word =
+    let wide = view_width words 8 tree view (λ none. refl) is in
+    record {
+      above = omega arith;
+      inside = subst (λ w. key < 256 ^ w) (sym wide) word;
+      shown = shown words 8 tree view (omega arith) (omega arith) wide is;
+      front = [];
+      back = [];
+      part = subst (λ w. IsPart words (256 ^ 8) tree.pairs (key - key) (256 ^ w) (view_pairs view) [] []) (sym wide)
+          (subst (λ ps. IsPart words (256 ^ 8) tree.pairs (key - key) (256 ^ 8) ps [] []) is.pairs
+          (whole_part words (256 ^ 8) (key - key) tree.pairs (omega arith) node.map));
+    }
+
+-- ---- steps
+
+-- The way has come to a node, and stands between these pairs.
+pub record IsStepped {V : _} (words : ℕ) (tree : Pairs) (view : ViewOf V) (key left width : ℕ) (front back : Pairs) : Type 0 where
+  pub down : IsDown words tree view key left
+  pub front_is : down.front ≡ front
+  pub back_is : down.back ≡ back
+  pub width_is : width_of view ≡ width
+
+module _ {V : _} (words : ℕ) (tree : Pairs) (b : _) (key left : ℕ) (down : IsDown {V = V} words tree (Branch b) key left) where
+  branch : IsBranch words b.now.width b.now.skip b.now.bytes b.now.children.items b.now.population
+  branch = down.shown.place.1
+
+  module _ (byte place rest : ℕ) (steps : IsStep (256 ^ b.now.width) (number_of b.now.skip * 256) b.now.bytes left (Child byte place rest)) where
+    -- There is a child at the place.
+    pub child_inside : place < length b.now.children.items
+    child_inside =
+        let long = children-length words b.now.width 0 b.now.bytes b.now.children.items branch.parts.children in
+        let within = slice_get_within b.now.bytes place byte steps.1 in
+        omega arith
+
+    module _ (kid : Tree) (is : kid ≡ get_or b.now.children.items place kid) where
+      there : slice_get b.now.children.items place ≡ Some kid
+      there = slice_get-get_or b.now.children.items place kid child_inside ∙ ap Some (sym is)
+
+      pub child_is : IsChild words b.now.width kid
+      child_is = (split-at words b.now.width 0 (number_of b.now.skip * 256) b.now.bytes b.now.children.items byte place kid (omega arith) branch.parts.children steps.1 there).child
+
+      -- A step to a child.
+      pub down_child : (next : ViewOf V) → IsView words b.now.width kid next
+          → IsStepped words tree next key rest b.now.width
+          (down.front ++ shift (key - left) (first_of (256 ^ b.now.width) (number_of b.now.skip * 256) b.now.bytes b.now.children.items place))
+          (shift (key - left) (rest_of (256 ^ b.now.width) (number_of b.now.skip * 256) b.now.bytes b.now.children.items (suc place)) ++ down.back)
+      down_child next view =
+          let child = child_is in
+          let some = child.some in
+          let of = steps.0 in
+          let is_key = of.key_is in
+          let above = down.above in
+          let unit = 256 ^ b.now.width in
+          let wide = view_width words b.now.width kid next (λ (none : length kid.pairs ≡ 0). let never : ⊥ = omega arith in absurd never) view in
+          let block = number_of b.now.skip * 256 in
+          let before = down.front ++ shift (key - left) (first_of unit block b.now.bytes b.now.children.items place) in
+          let behind = shift (key - left) (rest_of unit block b.now.bytes b.now.children.items (suc place)) ++ down.back in
+          let part = part_of_part words (256 ^ 8) tree (key - left) (256 ^ (length b.now.skip + 1 + b.now.width)) (left - rest) unit (key - rest)
+          (branch_pairs b.now.width b.now.skip b.now.bytes b.now.children.items) down.front down.back kid.pairs
+          (first_of unit block b.now.bytes b.now.children.items place) (rest_of unit block b.now.bytes b.now.children.items (suc place))
+          (omega arith) down.part
+          (child_part words b.now.width b.now.skip b.now.bytes b.now.children.items b.now.population branch left byte rest place kid of steps.1 there) in
+          record {
+            down = record {
+              above = omega arith;
+              inside = subst (λ w. rest < 256 ^ w) (sym wide) of.rest_is;
+              shown = shown words b.now.width kid next child.low_width child.high_width wide view;
+              front = before;
+              back = behind;
+              part = subst (λ w. IsPart words (256 ^ 8) tree (key - rest) (256 ^ w) (view_pairs next) before behind) (sym wide)
+                  (subst (λ ps. IsPart words (256 ^ 8) tree (key - rest) unit ps before behind) view.pairs part);
+            };
+            front_is = refl;
+            back_is = refl;
+            width_is = wide;
+          }
+
+  -- The way ends beside a child.
+  pub down_gap : (step : Step) → IsBeside step → IsStep (256 ^ b.now.width) (number_of b.now.skip * 256) b.now.bytes left step
+      → IsPart words (256 ^ 8) tree key 1 []
+      (down.front ++ shift (key - left) (first_of (256 ^ b.now.width) (number_of b.now.skip * 256) b.now.bytes b.now.children.items (passed (length b.now.children.items) step)))
+      (shift (key - left) (rest_of (256 ^ b.now.width) (number_of b.now.skip * 256) b.now.bytes b.now.children.items (passed (length b.now.children.items) step)) ++ down.back)
+  down_gap step beside steps =
+      let above = down.above in
+      part_of_part words (256 ^ 8) tree (key - left) (256 ^ (length b.now.skip + 1 + b.now.width)) left 1 key
+      (branch_pairs b.now.width b.now.skip b.now.bytes b.now.children.items) down.front down.back [] _ _ (omega arith) down.part
+      (gap_part words b.now.width b.now.skip b.now.bytes b.now.children.items b.now.population branch left step beside steps down.inside)
+
+pub beside_is : (step : Step) → ((byte place rest : ℕ) → step ≡ Child byte place rest → ⊥) → IsBeside step
+beside_is (Child byte place rest) never = never byte place rest refl
+beside_is (Missing byte place rest) never = tt
+beside_is Below never = tt
+beside_is Above never = tt
