@@ -1,3 +1,4 @@
+pub mod Links
 pub mod Parts
 pub mod Splits
 pub mod Finds

@@ -1,3 +1,5 @@
+//! Queries.
+#![tactic(auto)]
 //! The queries of a tree of words: what is the value of a key, how many keys are below a word, which key is the n-th, and which is
 //! nearest to a word.
 //!
