@@ -1,8 +1,6 @@
 -- A key that is added where a level has no entry for it.
-use Rattle.std.proofs.Common.{◌≡◌, ◌≢◌, ℕ, zero, suc, ◌<◌, ◌≤◌, ◌-◌, List, [], ◌∷◌, ◌++◌, length, get_or, set, Some, inl, inr, refl, sym, ap, subst, ◌∙◌, arith}
-use Rattle.std.proofs.lemmas.Bool.{cases_eq, cases_lt}
-use Rattle.std.proofs.lemmas.Option.{slice_get-get_or, slice_get_past}
-use Rattle.std.proofs.lemmas.List.{length-drop, length-set, get_or-set_same, get_or-set_other}
+use Rattle.std.proofs.Common.{◌≡◌, ◌≢◌, ℕ, zero, suc, ◌<◌, ◌-◌, List, [], ◌∷◌, ◌++◌, length, get_or, set, None, Some, refl, sym, ap, subst, ◌∙◌, arith}
+use Rattle.std.proofs.lemmas.List.{length-drop, length-set}
 use Rattle.std.specs.FinMap.{FinMap, insert}
 use Rattle.judy_model.specs.Keys.{word_order, IsStringKey}
 use Rattle.judy_model.specs.Arrays.{ArrayOf}
@@ -14,7 +12,7 @@ use Rattle.judy_sl.specs.declared.arena.Place.TheVariants.{Root, Below}
 use Rattle.judy_sl.specs.Pieces.{pieces, IsFinal, SpellKey}
 use Rattle.judy_sl.specs.World.{World, Node, gone, level}
 use Rattle.judy_sl.specs.Worlds.{IsWorld, AllLed}
-use Rattle.judy_sl.specs.Arenas.{world_of, node_of, child_at, IsArena, HasText, HasLimit}
+use Rattle.judy_sl.specs.Arenas.{world_of, node_of, child_at, links_of, IsArena, HasText, HasLimit}
 use Rattle.judy_sl.specs.Children.{child_with, IsTaken}
 use Rattle.judy_sl.specs.Places.{IsPlace, IsInside, place_with}
 use Rattle.judy_sl.specs.Ways.{seat_of, piece_at, IsGap, HasValue, left_of}
@@ -26,6 +24,7 @@ use Rattle.judy_sl.proofs.Seats.{set_node, cond-same, NodeFits, IsUsed}
 use Rattle.judy_sl.proofs.Entries.{changes_value}
 use Rattle.judy_sl.proofs.Written.{behind-leads, apart-leads}
 use Rattle.judy_sl.proofs.Led.{KeepsEntries, keeps-insert, led-set}
+use Rattle.judy_sl.proofs.Reused.{links-with}
 use Rattle.judy_sl.proofs.Linked.{node_with, inside_of, world-with_place, place-with_arena, fits-insert, insert-some, get-insert_here, get-insert_off}
 
 -- ---- nothing has changed
@@ -66,41 +65,12 @@ place-inside arena (Root piece) is = tt
 place-inside arena (Below at piece) is = is.0
 
 -- A value that is put in leaves the next place.
-free_or-taken : (child : Child) (free end : ℕ) → IsTaken child → free_or (Some child) free end ≡ end
-free_or-taken (Free next) free end is = absurd is
-free_or-taken (Tail rest) free end is = refl
-free_or-taken (Level words) free end is = refl
-
-taken-with : (child : Child) (piece value : ℕ) → IsTaken child → IsTaken (child_with child piece value)
-taken-with (Free next) piece value is = is
-taken-with (Tail rest) piece value is = is
-taken-with (Level words) piece value is = is
-
-pub next-stays : (arena : Arena) (place : Place) (value : ℕ) → IsPlace arena place → next_place (place_with arena place value) ≡ next_place arena
-next-stays arena (Root piece) value is = refl
-next-stays arena (Below at piece) value is =
-    let items = arena.children.items in
+pub next-stays : (arena : Arena) (place : Place) (value : ℕ) → next_place (place_with arena place value) ≡ next_place arena
+next-stays arena (Root piece) value = refl
+next-stays arena (Below at piece) value =
     let child = child_with (child_at arena at) piece value in
-    let len : length (set items at child) ≡ length items = length-set items at child in
-    elim (cases_lt arena.free (length items)) [
-      | inl inside ↦
-          let inside_after : arena.free < length (set items at child) = omega (arith, len) in
-          ap (λ o. free_or o arena.free (length (set items at child))) (slice_get-get_or (set items at child) arena.free (Free 0) inside_after)
-          ∙ ap (free_or (Some (get_or (set items at child) arena.free (Free 0))) arena.free) len
-          ∙ elim (cases_eq arena.free at) [
-            | inl e ↦
-                ap (λ c. free_or (Some c) arena.free (length items)) (ap (λ n. get_or (set items at child) n (Free 0)) e ∙ get_or-set_same items at child (Free 0) is.0)
-                ∙ free_or-taken child arena.free (length items) (taken-with (child_at arena at) piece value is.1)
-                ∙ sym (ap (λ n. free_or (Some (get_or items n (Free 0))) arena.free (length items)) e ∙ free_or-taken (child_at arena at) arena.free (length items) is.1)
-            | inr apart ↦ ap (λ c. free_or (Some c) arena.free (length items)) (get_or-set_other items at arena.free child (Free 0) apart)
-          ]
-          ∙ sym (ap (λ o. free_or o arena.free (length items)) (slice_get-get_or items arena.free (Free 0) inside))
-      | inr past ↦
-          let past_after : length (set items at child) ≤ arena.free = omega (arith, len) in
-          ap (λ o. free_or o arena.free (length (set items at child))) (slice_get_past (set items at child) arena.free past_after)
-          ∙ len
-          ∙ sym (ap (λ o. free_or o arena.free (length items)) (slice_get_past items arena.free past))
-    ]
+    ap (λ links. free_or (get_or links arena.free None) arena.free (length (set arena.children.items at child))) (links-with arena (Below at piece) value)
+    ∙ ap (free_or (get_or (links_of arena) arena.free None) arena.free) (length-set arena.children.items at child)
 
 -- ---- the last piece
 

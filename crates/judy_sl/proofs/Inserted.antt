@@ -21,7 +21,7 @@ use Rattle.judy_sl.specs.declared.arena.Way.TheVariants.{At, Gap, Clash}
 use Rattle.judy_sl.specs.Pieces.{pieces}
 use Rattle.judy_sl.specs.World.{World, lookup}
 use Rattle.judy_sl.specs.Worlds.{AllLed}
-use Rattle.judy_sl.specs.Arenas.{world_of, child_at, map_of, array_of, IsStrings}
+use Rattle.judy_sl.specs.Arenas.{world_of, child_at, map_of, array_of, TakesPlaces, IsStrings}
 use Rattle.judy_sl.specs.Children.{value_at, value_in}
 use Rattle.judy_sl.specs.Places.{place_with, place_value, place_in_value}
 use Rattle.judy_sl.specs.Ways.{IsWay, IsNew, IsFound}
@@ -100,11 +100,12 @@ module _ (limit count : ℕ) (arena : Arena) (is : IsStrings limit count arena) 
     absent-ins = ap (λ (m : FinMap byte_order ℕ). get m key) (ins_absent (map_of arena) key none) ∙ get-insert_itself byte_order_total (map_of arena) key 0
 
     -- The key is added.
-    module _ (after : Arena) (place : Place) (added : IsAdded arena after key place) (room : count ≢ limit) where
+    module _ (after : Arena) (place : Place) (added : IsAdded arena after key place) (room : count ≢ limit) (places : TakesPlaces arena after) where
       pub strings-added : IsStrings limit (count + 1) after
       strings-added = record {
         is_arena = added.is_arena;
         led = added.led is.led;
+        none_lost = places.kept is.none_lost;
         counted = ap (λ n. n + 1) is.counted ∙ sym (ap (λ (m : FinMap byte_order ℕ). len m) (map_written arena after key is_key 0 added.change) ∙ len-added (map_of arena) key 0 none);
         within_limit = (let w = is.within_limit in omega arith);
         holds_some = is.holds_some;
@@ -137,10 +138,11 @@ module _ (limit count : ℕ) (arena : Arena) (is : IsStrings limit count arena) 
     map-same : map_of same ≡ map_of arena
     map-same = ap (λ (w : World). table string_keys (λ k. lookup w 0 (pieces k))) (world-same arena same is_same)
 
-    pub strings-same : IsStrings limit count same
-    strings-same = record {
+    pub strings-same : TakesPlaces arena same → IsStrings limit count same
+    strings-same places = record {
       is_arena = arena-same arena same is_same is.is_arena;
       led = subst AllLed (sym (world-same arena same is_same)) is.led;
+      none_lost = places.kept is.none_lost;
       counted = is.counted ∙ sym (ap (λ (m : FinMap byte_order ℕ). len m) map-same);
       within_limit = is.within_limit;
       holds_some = is.holds_some;

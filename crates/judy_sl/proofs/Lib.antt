@@ -19,6 +19,7 @@ pub mod Lone
 pub mod Written
 pub mod Loose
 pub mod Maps
+pub mod Reused
 pub mod Keeping
 pub mod Filled
 pub mod Cuts

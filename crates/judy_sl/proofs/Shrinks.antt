@@ -4,6 +4,7 @@ use Rattle.std.proofs.lemmas.Bool.{cases_eq}
 use Rattle.std.specs.FinMap.{FinMap, get, remove}
 use Rattle.judy_model.specs.Keys.{word_order}
 use Rattle.judy_model.specs.Arrays.{ArrayOf}
+use Rattle.judy_places.proofs.PlaceLemmas.{then-freed}
 use Rattle.judy_sl.specs.declared.child.Child.{Child}
 use Rattle.judy_sl.specs.declared.child.Child.TheVariants.{Free, Tail, Level}
 use Rattle.judy_sl.specs.declared.arena.Arena.{Arena}
@@ -13,7 +14,7 @@ use Rattle.judy_sl.specs.declared.shrink.Cut.{Cut}
 use Rattle.judy_sl.specs.Pieces.{pieces, piece_of, IsText, ArePieces}
 use Rattle.judy_sl.specs.World.{World, Node, gone, tail, level, lookup, at_entry}
 use Rattle.judy_sl.specs.Worlds.{IsWorld, FitsBehind, AllLed}
-use Rattle.judy_sl.specs.Arenas.{world_of, node_of, child_at, IsArena, HasText, HasLimit}
+use Rattle.judy_sl.specs.Arenas.{world_of, node_of, child_at, links_of, FreesPlaces, IsArena, HasText, HasLimit}
 use Rattle.judy_sl.specs.Places.{IsInside}
 use Rattle.judy_sl.specs.Ways.{seat_of, piece_at, left_of}
 use Rattle.judy_sl.specs.Grown.{IsChange}
@@ -25,6 +26,7 @@ use Rattle.judy_sl.proofs.OnWay.{pieces-head}
 use Rattle.judy_sl.proofs.Linked.{child_at-same, child_at-other, world-with_child, world-with_root, arena-with_child, arena-with_root, inside_of}
 use Rattle.judy_sl.proofs.Filled.{level-place, place-inside}
 use Rattle.judy_sl.proofs.Lone.{lone-found}
+use Rattle.judy_sl.proofs.Reused.{vacated-places}
 use Rattle.judy_sl.proofs.Loose.{freed, freed-world, freed-look, freed-tail, freed-last, freed-on, used-left, fits-here, ends-change, ends-led, on-change, on-loose}
 
 -- ---- a place becomes free
@@ -77,6 +79,7 @@ pub record IsClearing (before now : Arena) (at : ℕ) (rest : List ℕ) : Type 0
   pub text : IsText rest
   pub loose : IsLoose (world_of now) at (pieces rest)
   pub same : (ps : List ℕ) → ArePieces ps → lookup (world_of now) 0 ps ≡ lookup (world_of before) 0 ps
+  pub places : FreesPlaces before now
 
 module _ (before now after : Arena) (at : ℕ) (rest : List ℕ) (is : IsClearing before now at rest) (child : Child) (child_is : child ≡ child_at now at) (after_is : after ≡ vacated now at) where
   inside : at < length now.children.items
@@ -90,6 +93,11 @@ module _ (before now after : Arena) (at : ℕ) (rest : List ℕ) (is : IsClearin
 
   after-same : (ps : List ℕ) → ArePieces ps → lookup (world_of after) 0 ps ≡ lookup (world_of before) 0 ps
   after-same ps are = ap (λ (a : Arena). lookup (world_of a) 0 ps) after_is ∙ vacated-look now at inside (pieces rest) is.loose ps are ∙ is.same ps are
+
+  pub after-places : FreesPlaces before after
+  after-places =
+      then-freed (links_of before) before.free (links_of now) now.free (links_of after) after.free is.places
+      (subst (FreesPlaces now) (sym after_is) (vacated-places now at inside (lone-some (world_of now) at (pieces rest) is.loose.lone)))
 
   cleared : AllLed (freed (world_of now) at) → IsCleared before after
   cleared led = record { is_arena = after-arena; led = subst AllLed (sym after-world) led; same = after-same }
@@ -131,6 +139,7 @@ module _ (before now after : Arena) (at : ℕ) (rest : List ℕ) (is : IsClearin
           text = text;
           loose = subst (λ w. IsLoose w next (pieces (drop 8 rest))) (sym after-world) (freed-on (world_of now) at (pieces rest) is.loose words.map level-is (piece_of rest) lone.0 next (pieces (drop 8 rest)) entry (piece-IsInner rest is.text long) (pieces_are (drop 8 rest) text) (subst (IsLone (world_of now) next) (sym h.1) on));
           same = after-same;
+          places = after-places;
         }
 
     pub clearing-some : 8 ≤ length rest → get words.map (piece_of rest) ≡ None → ⊥

@@ -232,7 +232,7 @@ added-same before same after key at is added = record {
 pub filled-tail : (before reserved entered after : Arena) (key : List ℕ) (place : Place) (left at put_at : ℕ) (rest : Rest) → IsArena before → IsStringKey key → IsGap (world_of before) key place left → 8 ≤ left → IsSame before reserved → at ≡ next_place reserved → entered ≡ place_with reserved place at → put_at ≡ next_place entered → IsPut entered after (Tail rest) put_at → rest.bytes.items ≡ drop 8 (left_of key left) → rest.value ≡ 0 → IsAdded before after key (Below at 0)
 filled-tail before reserved entered after key place left at put_at rest is is_key gap long same at_is entered_is put_at_is put_is bytes value =
     let gap_there : IsGap (world_of reserved) key place left = subst (λ w. IsGap w key place left) (sym (world-same before reserved same)) gap in
-    let here : put_at ≡ at = put_at_is ∙ ap next_place entered_is ∙ next-stays reserved place at (level-place reserved place gap_there.map gap_there.is_level) ∙ sym at_is in
+    let here : put_at ≡ at = put_at_is ∙ ap next_place entered_is ∙ next-stays reserved place at ∙ sym at_is in
     added-same before reserved after key (Below at 0) same (
     fills-tail reserved (arena-same before reserved same is) key is_key place left gap_there long entered after at entered_is rest (subst (IsPut entered after (Tail rest)) here put_is) bytes value (subst IsText (sym bytes) (text-drop 8 (left_of key left) gap_there.text))
     )

@@ -1,9 +1,10 @@
 -- The levels and tails of an array in one list.
-use Rattle.std.specs.Prelude.{◌≡◌, ◌≤◌, ℕ, zero, suc, List, get_or}
+use Rattle.std.specs.Prelude.{◌≡◌, ◌≤◌, ℕ, zero, suc, List, get_or, map, Option, None, Some}
 use Rattle.std.specs.FinMap.{FinMap, len}
 use Rattle.judy_model.specs.Keys.{byte_order}
 use Rattle.judy_model.specs.Arrays.{ArrayOf}
 use Rattle.judy_model.specs.Tables.{table, string_keys}
+use Rattle.judy_places.specs.Places.{Links, NoneLost, AreReused, AreFreed}
 use Rattle.judy_sl.specs.declared.child.Child.{Child}
 use Rattle.judy_sl.specs.declared.child.Child.TheVariants.{Free, Tail, Level}
 use Rattle.judy_sl.specs.declared.arena.Arena.{Arena}
@@ -46,6 +47,24 @@ pub record IsArena (arena : Arena) : Type 0 where
   pub root_limit : arena.root.limit ≡ 18446744073709551615
   pub limits : (at : ℕ) → HasLimit (child_at arena at)
 
+-- What a place is linked to where it is free.
+abbrev pub link_of : Child → Option ℕ
+link_of (Free next) = Some next
+link_of (Tail rest) = None
+link_of (Level words) = None
+
+abbrev pub links_of : Arena → Links
+links_of arena = map link_of arena.children.items
+
+-- Places were taken: no free one was lost, none became free, and the list is no longer than before, unless all its
+-- places are taken.
+abbrev pub TakesPlaces : Arena → Arena → Type 0
+TakesPlaces before after = AreReused (links_of before) before.free (links_of after) after.free
+
+-- Places became free: no free one was lost, and the list is as long as before.
+abbrev pub FreesPlaces : Arena → Arena → Type 0
+FreesPlaces before after = AreFreed (links_of before) before.free (links_of after) after.free
+
 -- The map that they are.
 abbrev pub map_of : Arena → FinMap byte_order ℕ
 map_of arena = table string_keys (λ key. lookup (world_of arena) 0 (pieces key))
@@ -54,10 +73,12 @@ map_of arena = table string_keys (λ key. lookup (world_of arena) 0 (pieces key)
 abbrev pub array_of : ℕ → Arena → ArrayOf byte_order
 array_of limit arena = record { limit = limit; map = map_of arena }
 
--- What always holds of an array: it keeps nothing to which no entry leads, and it counts its keys.
+-- What always holds of an array: it keeps nothing to which no entry leads, it loses no free place, and it counts its
+-- keys.
 pub record IsStrings (limit count : ℕ) (arena : Arena) : Type 0 where
   pub is_arena : IsArena arena
   pub led : AllLed (world_of arena)
+  pub none_lost : NoneLost (links_of arena) arena.free
   pub counted : count ≡ len (map_of arena)
   pub within_limit : count ≤ limit
   pub holds_some : 1 ≤ limit

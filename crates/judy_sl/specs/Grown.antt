@@ -1,13 +1,13 @@
 -- What an arena becomes where it takes something new.
-use Rattle.std.specs.Prelude.{◌≡◌, ◌≢◌, ℕ, List, Option, None, Some, length, slice_get, IsTrue}
+use Rattle.std.specs.Prelude.{◌≡◌, ◌≢◌, ℕ, List, Option, None, Some, length, get_or, IsTrue}
 use Rattle.judy_sl.specs.declared.child.Child.{Child}
-use Rattle.judy_sl.specs.declared.child.Child.TheVariants.{Free, Tail, Level}
+use Rattle.judy_sl.specs.declared.child.Child.TheVariants.{Tail}
 use Rattle.judy_sl.specs.declared.arena.Arena.{Arena}
 use Rattle.judy_sl.specs.declared.arena.Place.{Place}
 use Rattle.judy_sl.specs.Pieces.{pieces, ArePieces}
 use Rattle.judy_sl.specs.World.{World, gone, lookup}
 use Rattle.judy_sl.specs.Worlds.{AllLed}
-use Rattle.judy_sl.specs.Arenas.{world_of, node_of, child_at, IsArena}
+use Rattle.judy_sl.specs.Arenas.{world_of, node_of, child_at, links_of, IsArena}
 use Rattle.std.specs.FinMap.{contains_key}
 use Rattle.judy_model.specs.Keys.{word_order}
 use Rattle.judy_model.specs.Arrays.{ArrayOf}
@@ -23,14 +23,12 @@ pub record IsChange (world other : World) (key : List ℕ) (new : Option ℕ) : 
   pub elsewhere : (ps : List ℕ) → ArePieces ps → ps ≢ key → lookup other 0 ps ≡ lookup world 0 ps
 
 -- The place that the next new child takes: the one that is free first, or else the end.
-abbrev pub free_or : Option Child → ℕ → ℕ → ℕ
+abbrev pub free_or : Option ℕ → ℕ → ℕ → ℕ
 free_or None free end = end
-free_or (Some (Free next)) free end = free
-free_or (Some (Tail rest)) free end = end
-free_or (Some (Level words)) free end = end
+free_or (Some next) free end = free
 
 abbrev pub next_place : Arena → ℕ
-next_place arena = free_or (slice_get arena.children.items arena.free) arena.free (length arena.children.items)
+next_place arena = free_or (get_or (links_of arena) arena.free None) arena.free (length arena.children.items)
 
 -- A child was put at a place where nothing was.
 pub record IsPut (before after : Arena) (child : Child) (at : ℕ) : Type 0 where

@@ -1,12 +1,14 @@
 //! How an arena takes a new key. What is new is built beside the array, and its places are reserved; only then does the
-//! array change, and nothing of that can be refused.
+//! array change, and nothing of that can be refused. A new child takes the place that is free first; the list grows only
+//! where none is free.
 
-ghost use Rattle.std.specs.Prelude.{ℕ, List, ◌≡◌, ◌+◌, ◌<◌, ◌≤◌, None, IfOk, OnOk, IfErr, OnErr, IsTrue, length, vec_len, vec_capacity};
+ghost use Rattle.std.specs.Prelude.{ℕ, List, ◌≡◌, ◌≢◌, ◌+◌, ◌<◌, ◌≤◌, None, IfOk, OnOk, IfErr, OnErr, IsTrue, length, get_or, vec_len, vec_capacity};
 ghost use Rattle.std.specs.FinMap as map;
 ghost use Rattle.judy_word.specs.Writes.{with_value};
 ghost use Rattle.judy_model.specs.Keys.{IsStringKey};
 ghost use Rattle.judy_sl.specs.declared.error.SlError.TheVariants.{NoMemory};
-ghost use Rattle.judy_sl.specs.Arenas.{world_of, map_of, IsArena};
+ghost use Rattle.judy_sl.specs.World.{gone};
+ghost use Rattle.judy_sl.specs.Arenas.{world_of, node_of, child_at, map_of, link_of, links_of, IsArena, TakesPlaces};
 ghost use Rattle.judy_sl.specs.Ways.{IsGap, IsClash, IsWay, IsNew};
 ghost use Rattle.judy_sl.specs.Grown.{IsPut, IsHung, HasTwig, IsSound, IsGraft, IsGrafted, IsAdded, IsSame, next_place};
 
@@ -28,35 +30,47 @@ fn link(level: &mut JudyL, piece: u64, place: usize)
 }
 
 impl Arena {
-    // The place that the next new child takes: one that is free, or the end of the list.
+    // What the first free place is linked to, and none where no place is free.
+    fn first_link(&self) -> Option<usize>
+        ensures { result ≡ get_or (links_of self.now) self.now.free None }
+    {
+        match self.children.get(self.free) {
+            Some(Child::Free(next)) => Some(*next),
+            Some(Child::Tail(_)) => None,
+            Some(Child::Level(_)) => None,
+            None => None,
+        }
+    }
+
+    // The place that the next new child takes: the first free one, or the end of the list.
     fn next_place(&self) -> usize
         ensures { result ≡ next_place self.now }
     {
-        match self.children.get(self.free) {
-            Some(Child::Free(_)) => self.free,
-            Some(Child::Tail(_)) => self.children.len(),
-            Some(Child::Level(_)) => self.children.len(),
+        match self.first_link() {
+            Some(_) => self.free,
             None => self.children.len(),
         }
     }
 
     // Puts a child at the next place, for which there is room.
     fn put(&mut self, child: Child) -> usize
-        requires { vec_len self.old.children < vec_capacity self.old.children }
+        requires room { vec_len self.old.children < vec_capacity self.old.children }
+        requires taken { link_of child ≡ None }
         ensures place { result ≡ next_place self.old }
+        ensures places { TakesPlaces self.old self.new }
         ensures put { IsPut self.old self.new child result }
         ensures room { vec_capacity self.new.children ≡ vec_capacity self.old.children }
         ensures len { vec_len self.new.children ≤ vec_len self.old.children + 1 }
         ensures grows { vec_len self.old.children ≤ vec_len self.new.children }
     {
-        match self.children.get(self.free) {
-            Some(Child::Free(next)) => {
+        match self.first_link() {
+            Some(next) => {
                 let at = self.free;
-                self.free = *next;
+                self.free = next;
                 self.children[at] = child;
                 at
             }
-            _ => {
+            None => {
                 let at = self.children.len();
                 self.children.push_reserved(child);
                 at
@@ -72,6 +86,7 @@ impl Arena {
         requires few { map.len (map_of self.old) ≤ 4294967295 }
         ensures added { IfOk result (λ made. IsAdded self.old self.new key.now made) }
         ensures refused { IfErr result (λ error. IsSame self.old self.new × (error ≡ NoMemory)) }
+        ensures places { TakesPlaces self.old self.new }
     {
         if left < 8 {
             return match self.enter(place, 0) {
@@ -101,6 +116,7 @@ impl Arena {
         requires room { vec_len self.old.children < vec_capacity self.old.children }
         requires there { HasTwig level.old twig }
         ensures hung { IsHung self.old self.new level.old level.new twig }
+        ensures places { TakesPlaces self.old self.new }
         ensures room { vec_capacity self.new.children ≡ vec_capacity self.old.children }
         ensures len { vec_len self.new.children ≤ vec_len self.old.children + 1 }
         ensures grows { vec_len self.old.children ≤ vec_len self.new.children }
@@ -118,9 +134,11 @@ impl Arena {
     fn graft(&mut self, at: usize, branch: Branch)
         requires room { vec_len self.old.children + length branch.upper.items + 2 ≤ vec_capacity self.old.children }
         requires inside { at < vec_len self.old.children }
+        requires taken { node_of (child_at self.old at) ≢ gone }
         requires sound { IsSound branch }
         requires is_arena { IsArena self.old }
         ensures grafted { (key : List ℕ) (left : ℕ) → IsStringKey key → IsGraft self.old key at left branch → IsGrafted self.old self.new key }
+        ensures places { TakesPlaces self.old self.new }
     {
         let Branch {
             mut upper,
@@ -146,6 +164,7 @@ impl Arena {
         requires clash { IsClash (world_of self.old) key.now at left }
         ensures added { IfOk result (λ made. IsAdded self.old self.new key.now made) }
         ensures refused { IfErr result (λ error. IsSame self.old self.new × (error ≡ NoMemory)) }
+        ensures places { TakesPlaces self.old self.new }
     {
         let alloc = *self.children.allocator();
         let rest = &key[key.len() - left..];
@@ -178,6 +197,7 @@ impl Arena {
         requires few { map.len (map_of self.old) ≤ 4294967295 }
         ensures added { IfOk result (λ made. IsAdded self.old self.new key.now made) }
         ensures refused { IfErr result (λ error. IsSame self.old self.new × (error ≡ NoMemory)) }
+        ensures places { TakesPlaces self.old self.new }
     {
         match way {
             Way::At(_) => unreachable!(),

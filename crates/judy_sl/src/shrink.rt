@@ -6,7 +6,7 @@ ghost use Rattle.judy_model.specs.Keys.{IsStringKey};
 ghost use Rattle.judy_sl.specs.Pieces.{pieces, IsText};
 ghost use Rattle.judy_sl.specs.World.{lookup};
 ghost use Rattle.judy_sl.specs.Worlds.{AllLed};
-ghost use Rattle.judy_sl.specs.Arenas.{world_of, child_at, IsArena};
+ghost use Rattle.judy_sl.specs.Arenas.{world_of, child_at, IsArena, FreesPlaces};
 ghost use Rattle.judy_sl.specs.Places.{IsInside};
 ghost use Rattle.judy_sl.specs.Shrunk.{place_without, vacated, IsCut, IsDeeper, IsLoose, IsCleared, IsShrunk};
 
@@ -112,7 +112,8 @@ impl Arena {
         requires is_arena { IsArena self.old }
         requires is_text { IsText key.now }
         requires loose { IsLoose (world_of self.old) at (pieces key.now) }
-        ensures { IsCleared self.old self.new }
+        ensures cleared { IsCleared self.old self.new }
+        ensures places { FreesPlaces self.old self.new }
     {
         let mut at = at;
         let mut rest = key;
@@ -139,6 +140,7 @@ impl Arena {
         requires is_key { IsStringKey key.now }
         ensures answer { result ≡ is_some (lookup (world_of self.old) 0 (pieces key.now)) }
         ensures shrunk { IsShrunk self.old self.new key.now }
+        ensures places { FreesPlaces self.old self.new }
     {
         let Some(cut) = self.find_cut(key) else {
             return false;

@@ -1,18 +1,18 @@
 use Rattle.std.proofs.Common.{◌∙◌, ap, sym}
 use Rattle.std.proofs.lemmas.List.{take_rest}
 use Rattle.std.specs.FinMap.{get}
-use Rattle.judy_sl.proofs.Shrinks.{lone-inside, cleared-tail, cleared-last, clearing-on, clearing-some}
+use Rattle.judy_sl.proofs.Shrinks.{lone-inside, after-places, cleared-tail, cleared-last, clearing-on, clearing-some}
 use Rattle.judy_sl.proofs.arena.Arena.clear.Goals as goal
 
 pub vacate-requires : goal.vacate-requires
 vacate-requires c = lone-inside c.loop-level.self c.loop-level.at _ c.loop-level.invariant.loose.lone
 
-pub returns-in_default : goal.returns-in_default
-returns-in_default c =
+pub returns-in_default-clause-cleared : goal.returns-in_default-clause-cleared
+returns-in_default-clause-cleared c =
     cleared-tail c.args.self.now c.loop-level.self c.vacate.new.self c.loop-level.at c.loop-level.rest.now c.loop-level.invariant c.vacate.result c.vacate.ensures.child c.vacate.ensures.vacated c.in_default.not-Level
 
-pub returns-then-rest-lt8 : goal.returns-then-rest-lt8
-returns-then-rest-lt8 c =
+pub returns-then-rest-lt8-clause-cleared : goal.returns-then-rest-lt8-clause-cleared
+returns-then-rest-lt8-clause-cleared c =
     cleared-last c.args.self.now c.loop-level.self c.vacate.new.self c.loop-level.at c.loop-level.rest.now c.loop-level.invariant c.vacate.result c.vacate.ensures.child c.vacate.ensures.vacated c.in-Level.level c.in-Level.is c.if-rest-lt8.true
 
 pub unreachable-requires : goal.unreachable-requires
@@ -22,3 +22,11 @@ unreachable-requires c =
 pub loop-level-preserved : goal.loop-level-preserved
 loop-level-preserved c =
     rw take_rest (clearing-on c.args.self.now c.loop-level.self c.vacate.new.self c.loop-level.at c.loop-level.rest.now c.loop-level.invariant c.vacate.result c.vacate.ensures.child c.vacate.ensures.vacated c.in-Level.level c.in-Level.is c.if-rest-lt8.false c.in-Some.next (ap (λ p. get c.in-Level.level.map p) (sym c.first_piece.ensures) ∙ sym c.get.ensures ∙ c.in-Some.is))
+
+pub returns-in_default-clause-places : goal.returns-in_default-clause-places
+returns-in_default-clause-places c =
+    after-places c.args.self.now c.loop-level.self c.vacate.new.self c.loop-level.at c.loop-level.rest.now c.loop-level.invariant c.vacate.result c.vacate.ensures.child c.vacate.ensures.vacated
+
+pub returns-then-rest-lt8-clause-places : goal.returns-then-rest-lt8-clause-places
+returns-then-rest-lt8-clause-places c =
+    after-places c.args.self.now c.loop-level.self c.vacate.new.self c.loop-level.at c.loop-level.rest.now c.loop-level.invariant c.vacate.result c.vacate.ensures.child c.vacate.ensures.vacated

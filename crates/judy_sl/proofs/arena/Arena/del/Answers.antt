@@ -1,6 +1,9 @@
-use Rattle.std.proofs.Common.{sym}
+use Rattle.std.proofs.Common.{sym, subst}
 use Rattle.std.proofs.lemmas.List.{take_rest}
 use Rattle.judy_sl.proofs.PieceLemmas.{text_of_key, pieces_are}
+use Rattle.judy_places.proofs.PlaceLemmas.{then-freed}
+use Rattle.judy_sl.specs.Arenas.{links_of, FreesPlaces}
+use Rattle.judy_sl.proofs.Reused.{without-places}
 use Rattle.judy_sl.proofs.Shrinks.{cut-found, shrunk-last, shrunk-on, on-arena, on-is_loose}
 use Rattle.judy_sl.proofs.arena.Arena.del.Goals as goal
 
@@ -17,7 +20,7 @@ returns-in-Some-below-clause-answer c = sym (cut-found c.args.self.now c.require
 
 pub returns-in-Some-below-clause-shrunk : goal.returns-in-Some-below-clause-shrunk
 returns-in-Some-below-clause-shrunk c =
-    shrunk-on c.args.self.now c.requires.is_arena c.requires.led c.args.key.now c.in-Some.cut c.in-Some.ensures c.take_out.new.self c.take_out.ensures c.in-Some-below.at c.in-Some-below.is c.clear.new.self (pieces_are c.args.key.now (text_of_key c.args.key.now c.requires.is_key)) c.clear.ensures
+    shrunk-on c.args.self.now c.requires.is_arena c.requires.led c.args.key.now c.in-Some.cut c.in-Some.ensures c.take_out.new.self c.take_out.ensures c.in-Some-below.at c.in-Some-below.is c.clear.new.self (pieces_are c.args.key.now (text_of_key c.args.key.now c.requires.is_key)) c.clear.ensures.cleared
 
 pub returns-in_default-below-clause-answer : goal.returns-in_default-below-clause-answer
 returns-in_default-below-clause-answer c = sym (cut-found c.args.self.now c.requires.is_arena c.requires.led c.args.key.now c.in-Some.cut c.in-Some.ensures)
@@ -25,3 +28,11 @@ returns-in_default-below-clause-answer c = sym (cut-found c.args.self.now c.requ
 pub returns-in_default-below-clause-shrunk : goal.returns-in_default-below-clause-shrunk
 returns-in_default-below-clause-shrunk c =
     shrunk-last c.args.self.now c.requires.is_arena c.requires.led c.args.key.now c.in-Some.cut c.in-Some.ensures c.take_out.new.self c.take_out.ensures c.in_default-below.is
+
+pub returns-in-Some-below-clause-places : goal.returns-in-Some-below-clause-places
+returns-in-Some-below-clause-places c =
+    then-freed (links_of c.args.self.now) c.args.self.now.free (links_of c.take_out.new.self) c.take_out.new.self.free (links_of c.clear.new.self) c.clear.new.self.free
+    (subst (FreesPlaces c.args.self.now) (sym c.take_out.ensures) (without-places c.args.self.now c.in-Some.cut.place)) c.clear.ensures.places
+
+pub returns-in_default-below-clause-places : goal.returns-in_default-below-clause-places
+returns-in_default-below-clause-places c = subst (FreesPlaces c.args.self.now) (sym c.take_out.ensures) (without-places c.args.self.now c.in-Some.cut.place)

@@ -1,7 +1,9 @@
 use Rattle.std.proofs.Common.{◌∙◌, sym, subst, refl, ◌-◌, ◌+◌, length}
 use Rattle.std.proofs.lemmas.List.{drop-drop, take_rest}
 use Rattle.judy_sl.specs.declared.arena.Arena.{Arena}
+use Rattle.judy_sl.specs.Arenas.{TakesPlaces}
 use Rattle.judy_sl.specs.Grown.{IsAdded}
+use Rattle.judy_sl.proofs.Reused.{written-places, same-places, then-places}
 use Rattle.judy_sl.proofs.Filled.{fills-last}
 use Rattle.judy_sl.proofs.Tailed.{filled-tail}
 use Rattle.judy_sl.proofs.Rooms.{room-gap, room-same}
@@ -21,3 +23,12 @@ enter-requires-clause-room c = room-gap c.args.self.now c.requires.is_arena c.ar
 pub enter-requires-2-clause-room : goal.enter-requires-2-clause-room
 enter-requires-2-clause-room c =
     room-same c.args.self.now (record c.args.self.now { children = c.reserve.new.self }) (record { root = refl; items = c.reserve.ensures.items }) c.args.place (room-gap c.args.self.now c.requires.is_arena c.args.key.now c.args.place c.args.left c.requires.gap c.requires.few)
+
+pub returns-in-Ok-clause-places : goal.returns-in-Ok-clause-places
+returns-in-Ok-clause-places c = subst (TakesPlaces c.args.self.now) (sym c.in-Ok.ensures.entered) (written-places c.args.self.now c.args.place 0)
+
+pub returns-in-Ok-enter-clause-places : goal.returns-in-Ok-enter-clause-places
+returns-in-Ok-enter-clause-places c =
+    let reserved : Arena = record c.args.self.now { children = c.reserve.new.self } in
+    then-places c.args.self.now reserved c.put.new.self (same-places c.args.self.now reserved c.reserve.ensures.items refl)
+    (then-places reserved c.enter-2.new.self c.put.new.self (subst (TakesPlaces reserved) (sym c.in-Ok-enter.ensures.entered) (written-places reserved c.args.place c.next_place-at.result)) c.put.ensures.places)

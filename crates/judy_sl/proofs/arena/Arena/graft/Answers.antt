@@ -4,6 +4,9 @@ use Rattle.judy_model.specs.Arrays.{ArrayOf}
 use Rattle.judy_model.specs.Keys.{word_order}
 use Rattle.judy_sl.specs.Branches.{AreSingle}
 use Rattle.judy_sl.proofs.Grafted.{grafting-start, grafting-up, grafted, singles-front, single-contains, twig-stays, no-items}
+use Rattle.judy_sl.specs.declared.child.Child.TheVariants.{Level}
+use Rattle.judy_sl.specs.Places.{with_child}
+use Rattle.judy_sl.proofs.Reused.{stands-put, stands-hung, then-places, replaced-places}
 use Rattle.judy_sl.proofs.arena.Arena.graft.Goals as goal
 
 pub hang-requires-2-clause-there : goal.hang-requires-2-clause-there
@@ -14,6 +17,8 @@ loop-piece-init c = record {
   room = omega arith;
   inside = omega arith;
   singles = c.requires.sound.singles;
+  stands = stands-hung c.hang.new.self c.hang-2.new.self c.hang.new.level c.hang-2.new.level c.args.branch.new c.hang-2.ensures.hung c.args.at (stands-hung c.args.self.now c.hang.new.self c.args.branch.fork c.hang.new.level c.args.branch.old c.hang.ensures.hung c.args.at c.requires.taken);
+  places = then-places c.args.self.now c.hang.new.self c.hang-2.new.self c.hang.ensures.places c.hang-2.ensures.places;
   grafting = λ key left is_key graft. grafting-start c.args.self.now c.requires.is_arena key is_key c.args.at left c.args.branch graft c.hang.new.self c.hang-2.new.self c.hang.new.level c.hang-2.new.level c.hang.ensures.hung c.hang-2.ensures.hung;
 }
 
@@ -31,6 +36,8 @@ loop-piece-preserved c =
       room = (let r = c.loop-piece.invariant.room in omega (arith, l, a, r));
       inside = (let r = c.loop-piece.invariant.inside in omega (arith, r));
       singles = single.0;
+      stands = stands-put c.loop-piece.self c.put-place.new.self _ c.put-place.result c.put-place.ensures.put c.args.at c.loop-piece.invariant.stands;
+      places = then-places c.args.self.now c.loop-piece.self c.put-place.new.self c.loop-piece.invariant.places c.put-place.ensures.places;
       grafting = λ key left is_key graft. grafting-up c.args.self.now c.loop-piece.self c.put-place.new.self _ _ _ _ c.loop-piece.upper.items c.pop.new.self.items c.loop-piece.level c.in-Some.above c.link.new.level c.in-Some.piece c.put-place.result (c.loop-piece.invariant.grafting key left is_key graft) items single.1 c.put-place.ensures.put c.link.ensures;
     }
 
@@ -40,4 +47,5 @@ returns c = record {
       let inside = c.loop-piece.invariant.inside in
       let sizes = c.loop-piece.self.children.ok.0 in
       grafted c.args.self.now c.loop-piece.self key c.args.at left c.args.branch graft c.loop-piece.upper.items c.loop-piece.level (c.loop-piece.invariant.grafting key left is_key graft) (no-items c.loop-piece.upper.items (sym c.loop-piece.upper.ok.0 ∙ c.in_default.ensures.cases.0)) (omega (arith, inside, sizes));
+  places = then-places c.args.self.now c.loop-piece.self (with_child c.loop-piece.self c.args.at (Level c.loop-piece.level)) c.loop-piece.invariant.places (replaced-places c.loop-piece.self c.args.at c.loop-piece.level c.loop-piece.invariant.stands);
 }

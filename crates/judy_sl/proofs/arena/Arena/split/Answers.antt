@@ -3,6 +3,8 @@ use Rattle.judy_sl.proofs.PieceLemmas.{text_of_key}
 use Rattle.judy_sl.proofs.Grafted.{sound-built}
 use Rattle.judy_sl.proofs.Filled.{arena-same}
 use Rattle.judy_sl.proofs.Splits.{split-arena, split-gap, split-clash, split-added}
+use Rattle.judy_sl.specs.declared.arena.Arena.{Arena}
+use Rattle.judy_sl.proofs.Reused.{clash-stands, same-places, then-places}
 use Rattle.judy_sl.proofs.arena.Arena.split.Goals as goal
 
 pub graft-requires-clause-sound : goal.graft-requires-clause-sound
@@ -26,3 +28,11 @@ unreachable-requires-in-Clash c =
 pub returns-clause-added : goal.returns-clause-added
 returns-clause-added c =
     split-added c.args.self.now _ c.graft.new.self (record { root = refl; items = c.reserve.ensures.items }) c.args.key.now c.args.at c.args.left c.requires.clash c.index.result.now c.index.ensures c.in-Tail.tail c.in-Tail.is c.in-Ok.made c.in-Ok.ensures.built c.requires.is_key c.graft.ensures.grafted c.in-At.place (c.in-At.ensures.way (text_of_key c.args.key.now c.requires.is_key))
+
+pub graft-requires-clause-taken : goal.graft-requires-clause-taken
+graft-requires-clause-taken c = clash-stands c.args.self.now (record c.args.self.now { children = c.reserve.new.self }) c.args.at c.requires.clash.held c.requires.clash.value c.reserve.ensures.items c.requires.clash.is_tail
+
+pub returns-clause-places : goal.returns-clause-places
+returns-clause-places c =
+    let reserved : Arena = record c.args.self.now { children = c.reserve.new.self } in
+    then-places c.args.self.now reserved c.graft.new.self (same-places c.args.self.now reserved c.reserve.ensures.items refl) c.graft.ensures.places

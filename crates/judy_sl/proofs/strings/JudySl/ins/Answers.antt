@@ -35,7 +35,7 @@ returns-then-self c =
 
 pub invariant_of-self-in-Err-1 : goal.invariant_of-self-in-Err-1
 invariant_of-self-in-Err-1 c =
-    strings-same _ _ _ c.self.invariant c.args.key.now (c.is_key.ensures.0 c.if-not-is_key.false) c.add.new.self c.in-Err.ensures.refused.0
+    strings-same _ _ _ c.self.invariant c.args.key.now (c.is_key.ensures.0 c.if-not-is_key.false) c.add.new.self c.in-Err.ensures.refused.0 c.add.ensures.places
 
 pub returns-in-Err : goal.returns-in-Err
 returns-in-Err c =
@@ -49,18 +49,18 @@ pub invariant_of-self-lent-in_default : goal.invariant_of-self-lent-in_default
 invariant_of-self-lent-in_default c _ =
     let key = c.is_key.ensures.0 c.if-not-is_key.false in
     let none = get-map c.self.inside.arena c.args.key.now key ∙ way-none c.self.inside.arena c.args.key.now c.walk.result (c.walk.ensures.way (text_of_key _ key)) (is-new c.walk.result c.in_default.not-At) in
-    let after = strings-added _ _ _ c.self.invariant c.args.key.now key none c.add.new.self c.in-Ok.made c.in-Ok.ensures.added c.if-self.false in
+    let after = strings-added _ _ _ c.self.invariant c.args.key.now key none c.add.new.self c.in-Ok.made c.in-Ok.ensures.added c.if-self.false c.add.ensures.places in
     (λ w. strings-written _ _ _ after c.args.key.now key c.in-Ok.made c.in-Ok.ensures.added.found w, after)
 
 pub returns-in-Ok : goal.returns-in-Ok
 returns-in-Ok c =
     let key = c.is_key.ensures.0 c.if-not-is_key.false in
     let none = get-map c.self.inside.arena c.args.key.now key ∙ way-none c.self.inside.arena c.args.key.now c.walk.result (c.walk.ensures.way (text_of_key _ key)) (is-new c.walk.result c.in_default.not-At) in (
-      lent_ok c.ins-in_default.result c.ins-in_default.ensures.refused (λ e p. added-some _ _ _ c.self.invariant c.args.key.now key none c.add.new.self c.in-Ok.made c.in-Ok.ensures.added c.if-self.false p.0) _ _ _ _ (λ w. array-added _ _ _ c.self.invariant c.args.key.now key none c.add.new.self c.in-Ok.made c.in-Ok.ensures.added c.if-self.false w ∙ ap (λ (s : ArrayOf byte_order). with_value s c.args.key.now w) c.self.view_is),
+      lent_ok c.ins-in_default.result c.ins-in_default.ensures.refused (λ e p. added-some _ _ _ c.self.invariant c.args.key.now key none c.add.new.self c.in-Ok.made c.in-Ok.ensures.added c.if-self.false c.add.ensures.places p.0) _ _ _ _ (λ w. array-added _ _ _ c.self.invariant c.args.key.now key none c.add.new.self c.in-Ok.made c.in-Ok.ensures.added c.if-self.false c.add.ensures.places w ∙ ap (λ (s : ArrayOf byte_order). with_value s c.args.key.now w) c.self.view_is),
       rw (← c.self.view_is) (record {
         writes_back = tt;
-        value = ok-then c.ins-in_default.result c.ins-in_default.ensures.value (λ slot e. e ∙ added-value _ _ _ c.self.invariant c.args.key.now key none c.add.new.self c.in-Ok.made c.in-Ok.ensures.added c.if-self.false);
+        value = ok-then c.ins-in_default.result c.ins-in_default.ensures.value (λ slot e. e ∙ added-value _ _ _ c.self.invariant c.args.key.now key none c.add.new.self c.in-Ok.made c.in-Ok.ensures.added c.if-self.false c.add.ensures.places);
         accepted = on-ok c.ins-in_default.result (key, absent-room _ _ _ c.self.invariant c.args.key.now key none c.if-self.false);
-        refused = no-err _ c.ins-in_default.result c.ins-in_default.ensures.refused (λ e p. added-some _ _ _ c.self.invariant c.args.key.now key none c.add.new.self c.in-Ok.made c.in-Ok.ensures.added c.if-self.false p.0);
+        refused = no-err _ c.ins-in_default.result c.ins-in_default.ensures.refused (λ e p. added-some _ _ _ c.self.invariant c.args.key.now key none c.add.new.self c.in-Ok.made c.in-Ok.ensures.added c.if-self.false c.add.ensures.places p.0);
       }),
     )
