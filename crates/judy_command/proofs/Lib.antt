@@ -1,4 +1,5 @@
 pub mod Numerals
+pub mod DigitLemmas
 pub mod NamedArrays
 pub mod MakeLemmas
 pub mod KeyReadLemmas

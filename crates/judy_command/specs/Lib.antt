@@ -6,3 +6,4 @@ pub mod Refusals
 pub mod Lends
 pub mod Slots
 pub mod KeyReads
+pub mod Digits

@@ -1,10 +1,9 @@
 //! Words as tokens say them and as answers.
 
-ghost use Rattle.std.specs.Prelude.{◌≡◌, ◌<◌, ◌≤◌, ◌+◌, ◌*◌, ◌^◌, ◌&&◌, length, nat_lt, if◌then◌else◌, Some, None, IfSome, IfOk};
+ghost use Rattle.std.specs.Prelude.{◌≡◌, ◌<◌, ◌≤◌, ◌+◌, ◌-◌, ◌*◌, ◌^◌, ◌&&◌, length, nat_lt, if◌then◌else◌, Some, None, IfSome, IfOk};
 ghost use Rattle.std.specs.Char.{is_ascii_digit, digit_value};
-ghost use Rattle.std.specs.List.{list_all};
-ghost use Rattle.std.specs.Str.Parse.{digits_value};
 ghost use Rattle.judy_model.specs.Tokens.{word_of};
+ghost use Rattle.judy_command.specs.Digits.{number_after};
 ghost use Rattle.judy_command.specs.Replies.{checked, answer_of};
 ghost use Rattle.judy_model.specs.Keys.{IsWord};
 ghost use Rattle.judy_model.specs.Commands as model;
@@ -29,12 +28,29 @@ pub(crate) fn word(token: &[u8]) -> Result<u64, Refusal>
     number.ok_or(Refusal::BadWord)
 }
 
-// The number of at most 19 decimal digits.
+// The number of at most 19 decimal digits. Most of them are read by eights: a length that the compiler knows needs no
+// test behind each digit.
 fn short_number(digits: &[u8]) -> Option<u64>
     requires { length digits.now ≤ 19 }
-    ensures { result ≡ (if list_all is_ascii_digit digits.now then Some (digits_value 10 digits.now) else None) }
+    ensures { result ≡ number_after 0 digits.now }
 {
     let mut number = 0;
+    let mut rest = digits;
+    'chunks: while let Some((chunk, after)) = rest.split_first_chunk::<8>() {
+        number = after_digits(number, chunk)?;
+        rest = after;
+    }
+    after_digits(number, rest)
+}
+
+// The number that decimal digits make behind those of a number.
+#[inline(always)]
+fn after_digits(number: u64, digits: &[u8]) -> Option<u64>
+    requires few { length digits.now ≤ 19 }
+    requires small { number < 10 ^ (19 - length digits.now) }
+    ensures { result ≡ number_after number digits.now }
+{
+    let mut number = number;
     for byte in digits {
         let Some(digit) = digit_of(*byte) else {
             return None;

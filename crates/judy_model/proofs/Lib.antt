@@ -38,6 +38,7 @@ pub mod EntryLemmas
 pub mod ContentsLemmas
 pub mod KindLemmas
 pub mod DumpLemmas
+pub mod PlaceLemmas
 pub mod EndLemmas
 pub mod FormLemmas
 pub mod GroupLemmas

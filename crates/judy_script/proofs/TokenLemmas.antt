@@ -3,8 +3,9 @@ use Rattle.std.proofs.Common.{◌≡◌, ℕ, ◌<◌, Bool, true, false, cond, 
 use Rattle.std.specs.Prelude.{filter, unwrap_or}
 use Rattle.std.specs.List.{slice_split, onto_first}
 use Rattle.std.proofs.Common.{◌+◌, add-one, drop-cons}
-use Rattle.std.proofs.Math.Seq.{take-length, drop-length}
-use Rattle.std.proofs.lemmas.List.{length-take-le, length-drop, get_or-drop}
+use Rattle.std.proofs.Math.Seq.{take-length, drop-length, take-add}
+use Rattle.std.proofs.lemmas.List.{length-take-le, length-drop, get_or-drop, drop-drop}
+use Rattle.std.proofs.lemmas.List.Folds.{list_all-append}
 use Rattle.std.proofs.lemmas.Bool.{lt-ltb, ltb-true, ltb-false, eqb-true}
 use Rattle.judy_model.specs.Tokens.{tokens_of}
 use Rattle.judy_script.proofs.CutLemmas.{around_place}
@@ -93,3 +94,16 @@ token_begins text spaces zero inside first end =
     let same : get_or (drop spaces text) 0 0 ≡ get_or text spaces 0 = get_or-drop spaces text 0 0 ∙ ap (λ at. get_or text at 0) (omega arith) in
     absurd (one_of_both (get_or text spaces 0 == 32) first (ap (λ byte. not (byte == 32)) (sym same) ∙ end some))
 token_begins text spaces (suc count) inside first end = omega arith
+
+-- what stands at the front of a text and goes on in the rest behind it
+module _ (spaces : Bool) (text rest : List ℕ) (count : ℕ) (rest_is : rest ≡ drop count text) where
+  pub front_longer : (here : ℕ) → list_all (is_space spaces) (take count text) ≡ true → list_all (is_space spaces) (take here rest) ≡ true → list_all (is_space spaces) (take (count + here) text) ≡ true
+  front_longer here front more =
+      ap (list_all (is_space spaces)) (take-add count here text ∙ ap (λ t. take count text ++ take here t) (sym rest_is))
+      ∙ list_all-append (is_space spaces) (take count text) (take here rest) ∙ (λ t. front t && more t)
+
+  pub rest_at : (here : ℕ) → get_or rest here 0 ≡ get_or text (count + here) 0
+  rest_at here = ap (λ t. get_or t here 0) rest_is ∙ get_or-drop count text here 0
+
+  pub rest_behind : (here : ℕ) → drop here rest ≡ drop (count + here) text
+  rest_behind here = ap (drop here) rest_is ∙ drop-drop here count text

@@ -1,33 +1,50 @@
-use Rattle.std.proofs.Common.{◌≡◌, ℕ, ◌+◌, ◌*◌, ◌<◌, ◌^◌, true, false, length, take, get_or, sym, ap, ◌∙◌, arith, refl}
-use Rattle.std.specs.Char.{is_ascii_digit, digit_value}
-use Rattle.std.proofs.lemmas.List.Folds.{list_all_at}
-use Rattle.judy_command.proofs.Numerals.{failed, passed, one_more, longer_is, next_power, fits_word}
+use Rattle.std.proofs.Common.{◌≡◌, ◌<◌, ◌≤◌, ◌+◌, ◌-◌, ◌^◌, ℕ, List, true, length, take, drop, refl, sym, ap, subst, ◌∙◌, arith}
+use Rattle.std.specs.List.{list_all}
+use Rattle.std.specs.Char.{is_ascii_digit}
+use Rattle.std.specs.Str.Parse.{digits_value_after}
+use Rattle.std.proofs.lemmas.List.{length-take-le}
+use Rattle.std.proofs.Math.Nat.{pow-le-pow_right}
+use Rattle.judy_command.specs.Digits.{number_after}
+use Rattle.judy_command.proofs.Numerals.{failed, passed}
+use Rattle.judy_command.proofs.DigitLemmas.{after_small, parts_read, part_refused}
 use Rattle.judy_command.proofs.words.short_number.Goals as goal
 
-pub overflow_mul-number : goal.overflow_mul-number
-overflow_mul-number c =
-    let fits = fits_word c.loop-byte.number 0 c.loop-byte.byte-index c.loop-byte.invariant.small (omega arith) (omega (arith, c.loop-byte-test.true, c.requires)) in omega arith
+powers : (i j : ℕ) → i ≤ j → 10 ^ i ≤ 10 ^ j
+powers i j h = pow-le-pow_right {n = 10} (omega arith) {i = i} {j = j} h
 
-pub overflow_add-number : goal.overflow_add-number
-overflow_add-number c =
-    let fits = fits_word c.loop-byte.number c.in-Some.digit c.loop-byte.byte-index c.loop-byte.invariant.small c.in-Some.ensures.small (omega (arith, c.loop-byte-test.true, c.requires)) in omega arith
+pub chunks-init : goal.chunks-init
+chunks-init c =
+    let one = powers 0 (19 - length c.args.digits.now) (omega arith) in
+    record { few = c.requires; small = omega arith; same = refl }
 
-pub loop-byte-preserved : goal.loop-byte-preserved
-loop-byte-preserved c =
-    let digits = c.args.digits.now in
-    let i = c.loop-byte.byte-index in
-    let here = c.loop-byte-test.true in
-    let is = passed (is_ascii_digit (get_or digits i 0)) (digit_value (get_or digits i 0)) c.in-Some.digit c.digit_of.result c.digit_of.ensures.value c.in-Some.is in
+pub after_digits-requires-clause-small : goal.after_digits-requires-clause-small
+after_digits-requires-clause-small c =
+    let least = powers (19 - length c.chunks.rest.now) (19 - length c.in-Some.chunk.now) (omega (arith, c.in-Some.ensures.cases.2, ap length c.in-Some.ensures.cases.0, length-take-le 8 c.chunks.rest.now (omega (arith, c.in-Some.ensures.cases.2)))) in
+    let small = c.chunks.invariant.small in omega arith
+
+pub returns-in_err-number : goal.returns-in_err-number
+returns-in_err-number c =
+    let rest = c.chunks.rest.now in
+    let chunk = c.in-Some.chunk.now in
+    let not = failed (list_all is_ascii_digit chunk) (digits_value_after 10 c.chunks.number chunk) c.after_digits.result c.after_digits.ensures c.in_err-number.was in
+    c.from_residual.ensures ∙ sym (part_refused c.chunks.number rest 8 (ap (list_all is_ascii_digit) (sym c.in-Some.ensures.cases.0) ∙ not)) ∙ c.chunks.invariant.same
+
+pub chunks-preserved : goal.chunks-preserved
+chunks-preserved c =
+    let rest = c.chunks.rest.now in
+    let chunk = c.in-Some.chunk.now in
+    let after = c.in-Some.after.now in
+    let cut = c.in-Some.ensures.cases in
+    let eight : length chunk ≡ 8 = ap length cut.0 ∙ length-take-le 8 rest (omega (arith, cut.2)) in
+    let is = passed (list_all is_ascii_digit chunk) (digits_value_after 10 c.chunks.number chunk) c.in_ok-number.number c.after_digits.result c.after_digits.ensures c.in_ok-number.was in
+    let small = after_small c.chunks.number (19 - length rest) chunk c.chunks.invariant.small is.0 in
+    let few = c.chunks.invariant.few in
     record {
-      within = omega arith;
-      digits = one_more digits i here c.loop-byte.invariant.digits is.0;
-      number = rw (c.loop-byte.invariant.number, is.1) (sym (longer_is digits i here));
-      small = next_power c.loop-byte.number c.in-Some.digit i c.loop-byte.invariant.small c.in-Some.ensures.small;
+      few = omega (arith, cut.2);
+      small = rw is.1 (subst (λ n. digits_value_after 10 c.chunks.number chunk < 10 ^ n) (omega (arith, cut.2)) small);
+      same =
+          (λ t. number_after (is.1 t) (cut.1 t))
+          ∙ (λ t. number_after (digits_value_after 10 c.chunks.number (cut.0 t)) (drop 8 rest))
+          ∙ sym (parts_read c.chunks.number rest 8 (ap (list_all is_ascii_digit) (sym cut.0) ∙ is.0))
+          ∙ c.chunks.invariant.same;
     }
-
-pub returns-in_default : goal.returns-in_default
-returns-in_default c =
-    let digits = c.args.digits.now in
-    let i = c.loop-byte.byte-index in
-    let not = failed (is_ascii_digit (get_or digits i 0)) (digit_value (get_or digits i 0)) c.digit_of.result c.digit_of.ensures.value c.in_default.is in
-    rw (list_all_at is_ascii_digit digits i 0 c.loop-byte-test.true not) refl

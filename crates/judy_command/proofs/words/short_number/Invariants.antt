@@ -1,14 +1,14 @@
-use Rattle.std.proofs.Common.{◌≡◌, ◌≤◌, ◌<◌, ◌^◌, true, length, take}
-use Rattle.std.specs.List.{list_all}
-use Rattle.std.specs.Char.{is_ascii_digit}
-use Rattle.std.specs.Str.Parse.{digits_value}
+use Rattle.std.proofs.Common.{◌≡◌, ◌-◌, ◌≤◌, ◌<◌, ◌^◌, length}
+use Rattle.judy_command.specs.Digits.{number_after}
 use Rattle.judy_command.proofs.words.short_number.Given as goal
 
--- the bytes so far are digits, and write the number
-abbrev pub invariant-loop-byte : goal.invariant-loop-byte
-invariant-loop-byte l = record {
-  within : l.byte-index ≤ length l.digits;
-  digits : list_all is_ascii_digit (take l.byte-index l.digits) ≡ true;
-  number : l.number ≡ digits_value 10 (take l.byte-index l.digits);
-  small : l.number < 10 ^ l.byte-index;
+-- the rest behind the number writes what all digits write
+abbrev pub invariant-chunks : goal.invariant-chunks
+invariant-chunks l = record {
+  few : length l.rest ≤ 19;
+  small : l.number < 10 ^ (19 - length l.rest);
+  same : number_after l.number l.rest ≡ number_after 0 l.digits;
 }
+
+abbrev pub decreases-chunks : goal.decreases-chunks
+decreases-chunks l = length l.rest

@@ -1,0 +1,49 @@
+-- Decimal digits, read behind those of a number, one by one and some at once.
+use Rattle.std.proofs.Common.{◌≡◌, ℕ, zero, suc, ◌+◌, ◌-◌, ◌*◌, ◌<◌, ◌≤◌, ◌^◌, Bool, true, false, cond, ◌&&◌, List, [], ◌∷◌, ◌++◌, length, take, drop, get_or, leb, Option, Some, None, refl, sym, ap, subst, ◌∙◌, arith, add-one}
+use Rattle.std.specs.List.{list_all}
+use Rattle.std.specs.Char.{is_ascii_digit, digit_value}
+use Rattle.std.specs.Str.Parse.{digits_value_after}
+use Rattle.std.proofs.lemmas.Bool.{and_parts, leb-true, le-ltb, lt-ltb}
+use Rattle.std.proofs.lemmas.List.{take-append-drop, length-append}
+use Rattle.std.proofs.lemmas.List.Folds.{list_all-append}
+use Rattle.judy_command.specs.Digits.{number_after}
+use Rattle.judy_command.proofs.Numerals.{next_power}
+
+-- Digits in a row are read one part after the other.
+after-append : (number : ℕ) (front back : List ℕ) → digits_value_after 10 number (front ++ back) ≡ digits_value_after 10 (digits_value_after 10 number front) back
+after-append number [] back = refl
+after-append number (byte ∷ front) back = after-append (number * 10 + digit_value byte) front back
+
+-- One digit more.
+pub after_more : (number : ℕ) (bytes : List ℕ) (i : ℕ) → i < length bytes → digits_value_after 10 number (take (i + 1) bytes) ≡ digits_value_after 10 number (take i bytes) * 10 + digit_value (get_or bytes i 0)
+after_more number [] i here = absurd (omega arith)
+after_more number (byte ∷ bytes) zero here = refl
+after_more number (byte ∷ bytes) (suc i) here =
+    ap (λ n. digits_value_after 10 number (take n (byte ∷ bytes))) (add-one (suc i)) ∙ ap (λ n. digits_value_after 10 (number * 10 + digit_value byte) (take n bytes)) (sym (add-one i)) ∙ after_more (number * 10 + digit_value byte) bytes i (omega arith)
+
+-- Digits behind a number below a power of ten.
+digit_is_small : (byte : ℕ) → is_ascii_digit byte ≡ true → digit_value byte < 10
+digit_is_small byte is =
+    let both = and_parts (leb 48 byte) (leb byte 57) is in
+    let least = leb-true 48 byte both.0 in
+    let most = leb-true byte 57 both.1 in
+    rw (le-ltb byte 48 least, lt-ltb byte 58 (omega arith)) (omega arith)
+
+pub after_small : (number places : ℕ) (bytes : List ℕ) → number < 10 ^ places → list_all is_ascii_digit bytes ≡ true → digits_value_after 10 number bytes < 10 ^ (places + length bytes)
+after_small number places [] small digits = subst (λ n. number < 10 ^ n) (omega arith) small
+after_small number places (byte ∷ bytes) small digits =
+    let both = and_parts (is_ascii_digit byte) (list_all is_ascii_digit bytes) digits in
+    subst (λ n. digits_value_after 10 (number * 10 + digit_value byte) bytes < 10 ^ n) (omega arith)
+    (after_small (number * 10 + digit_value byte) (places + 1) bytes (next_power number (digit_value byte) places small (digit_is_small byte both.0)) both.1)
+
+-- The first of the digits were read, or one of them is none.
+module _ (number : ℕ) (bytes : List ℕ) (count : ℕ) where
+  in_parts : list_all is_ascii_digit bytes ≡ (list_all is_ascii_digit (take count bytes) && list_all is_ascii_digit (drop count bytes))
+  in_parts = ap (list_all is_ascii_digit) (sym (take-append-drop count bytes)) ∙ list_all-append is_ascii_digit (take count bytes) (drop count bytes)
+
+  pub parts_read : list_all is_ascii_digit (take count bytes) ≡ true → number_after number bytes ≡ number_after (digits_value_after 10 number (take count bytes)) (drop count bytes)
+  parts_read digits =
+      rw (in_parts, digits, ← after-append number (take count bytes) (drop count bytes), take-append-drop count bytes) refl
+
+  pub part_refused : list_all is_ascii_digit (take count bytes) ≡ false → number_after number bytes ≡ None
+  part_refused not = rw (in_parts, not) refl
