@@ -1,0 +1,3 @@
+pub mod Boxed
+pub mod Holding
+pub mod Handles

@@ -1,0 +1,5 @@
+pub mod Owned
+pub mod MapLends
+pub mod Maps
+pub mod Told
+pub mod SlotLends

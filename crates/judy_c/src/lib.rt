@@ -1,0 +1,7 @@
+//! x
+#![tactic(auto)]
+
+mod judyl;
+mod loose;
+mod map;
+mod told;

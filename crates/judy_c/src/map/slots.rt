@@ -1,0 +1,23 @@
+// The slots of a map handle.
+ghost use Rattle.std.specs.Prelude.{◌≡◌, Some, None, IfOk, IfErr};
+ghost use Rattle.std.specs.Borrow.{sem};
+ghost use Rattle.std.specs.FinMap as map;
+ghost use Rattle.std.specs.Option.{option_copied_mut};
+ghost use Rattle.judy_model.specs.Arrays as array;
+ghost use Rattle.judy_c.specs.Maps.{map_of};
+ghost use Rattle.judy_c.specs.SlotLends.{LendsSlotOf};
+
+use super::Map;
+
+impl Map {
+    // The slot of a key, and `None` where it is absent.
+    pub(crate) fn slot(&mut self, key: u64) -> Option<&mut u64>
+        ensures* writes_back { sem 𝓛 (LendsSlotOf self.entry key result) }
+        ensures value { option_copied_mut result ≡ map.get (map_of self.old) key }
+    {
+        match self.array() {
+            Some(array) => array.slot(key),
+            None => None,
+        }
+    }
+}
