@@ -1,5 +1,6 @@
 -- What a handle that holds an array, or none, stands for.
 use Rattle.std.proofs.Common.{◌≡◌, ℕ, refl, sym, ap, ◌∙◌, Option, Some, None, IfSome, IfNone, MutBor}
+use Rattle.std.specs.Prelude.{IsFalse, is_some}
 use Rattle.std.specs.Option.{option_copied_mut}
 use Rattle.std.specs.FinMap as map
 use Rattle.std.specs.FinMap.{FinMap, get-empty, nat_cmp-IsAntisymmetric}
@@ -25,3 +26,7 @@ null_map m (Some array) none = tt
 -- a map without keys has none to take out
 pub nothing_deleted : (m : FinMap word_order ℕ) (key : ℕ) → m ≡ map.empty → m ≡ array.del m key
 nothing_deleted m key is = sym (remove_absent nat_cmp_total nat_cmp-IsAntisymmetric m key (ap (λ n. map.get n key) is ∙ get-empty word_order key))
+
+-- a handle that holds none stands for no key
+pub null_has_none : (o : Option (ArrayOf word_order)) (key : ℕ) → o ≡ None → IsFalse (map.contains_key (array_of o).map key)
+null_has_none o key is = ap (λ (n : Option (ArrayOf word_order)). map.contains_key (array_of n).map key) is ∙ ap is_some (get-empty word_order key)

@@ -2,7 +2,7 @@
 use Rattle.std.specs.Prelude.{ℕ, Option, Some, None}
 use Rattle.std.specs.FinMap.{FinMap}
 use Rattle.judy_c.specs.declared.map.Map.{Map}
-use Rattle.std.specs.Borrow.{u64}
+use Rattle.judy_c.specs.declared.set.Set.{Set}
 use Rattle.judy_model.specs.Keys.{word_order}
 use Rattle.judy_model.specs.Arrays.{ArrayOf, empty_array}
 
@@ -17,3 +17,7 @@ array_of (Some array) = array
 
 abbrev pub map_of : Map → FinMap word_order ℕ
 map_of handle = (array_of handle.array).map
+
+-- A set is the map whose every value is 0.
+abbrev pub set_of : Set → FinMap word_order ℕ
+set_of handle = (array_of handle.array).map

@@ -1,5 +1,5 @@
 // The array behind a map handle.
-ghost use Rattle.std.specs.Prelude.{◌≡◌, None, Some, IfOk, IfSome, IfNone};
+ghost use Rattle.std.specs.Prelude.{◌≡◌, None, Some, IfOk, OnErr, IfSome, IfNone};
 ghost use Rattle.std.specs.Borrow.{sem};
 ghost use Rattle.std.specs.Option.{option_copied_mut};
 ghost use Rattle.judy_c.specs.MapLends.{lends_if_held, lends_made, with_array};
@@ -40,6 +40,7 @@ impl Map {
     pub(crate) fn array_or_new(&mut self, alloc: Global) -> Result<&mut JudyL, AllocError>
         ensures* writes_back { sem 𝓛 (lends_made self.entry result) }
         ensures value { IfOk result (λ array. array.now ≡ array_of self.old.array) }
+        ensures null { OnErr result (self.old.array ≡ None) }
     {
         if self.is_null() {
             let array = Box::new(alloc, JudyL::unbounded(alloc))?;
