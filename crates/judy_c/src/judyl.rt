@@ -4,14 +4,15 @@
 //! `judy_word::JudyL` of the same name does for that map. A call that may have no answer tells it through its last parameter,
 //! where it answers true, and leaves that alone where it answers false.
 
-ghost use Rattle.std.specs.Prelude.{◌≡◌, None};
+ghost use Rattle.std.specs.Prelude.{◌≡◌, Some, None, IsFalse, MatchOption};
 ghost use Rattle.std.specs.FinMap as map;
 ghost use Rattle.judy_model.specs.Arrays as array;
 ghost use Rattle.judy_model.specs.Counts as counts;
 ghost use Rattle.judy_model.specs.Empties as empties;
 ghost use Rattle.judy_model.specs.Neighbours as neighbours;
 ghost use Rattle.judy_c.specs.Maps.{map_of};
-ghost use Rattle.judy_c.specs.Told.{IsTold};
+ghost use Rattle.judy_c.specs.Told.{IsTold, lent_where};
+ghost use Rattle.std.specs.Option.{option_copied_mut};
 
 use crate::map::Map;
 use crate::told::tell;
@@ -33,6 +34,38 @@ pub extern "C" fn sellumaq_judyl_get(
         Some(array) => tell(array.get(key), value),
         None => tell(JudyL::unbounded(alloc).get(key), value),
     }
+}
+
+/// Hands out the slot of a key, which is put in with the value 0 where it is absent: what is left there is the key's value. False
+/// where the key is absent and there is no memory for it. (Manual: JLI, JudyLIns.)
+#[unsafe(no_mangle)]
+pub extern "C" fn sellumaq_judyl_ins<'a>(
+    alloc: Global,
+    handle: &'a mut Map,
+    key: u64,
+    slot: &mut &'a mut u64,
+) -> bool
+    ensures { MatchOption (lent_where result slot.new) (IsFalse (map.contains_key (map_of handle.old) key)) (λ lent. Some lent.now ≡ map.get (array.ins (map_of handle.old) key) key) }
+{
+    match handle.ins(alloc, key) {
+        Ok(found) => {
+            *slot = found;
+            true
+        }
+        Err(_) => false,
+    }
+}
+
+/// Hands out the slot of a key: what is left there is the key's value. (Manual: JLG, JudyLGet.)
+#[unsafe(no_mangle)]
+pub extern "C" fn sellumaq_judyl_slot<'a>(
+    handle: &'a mut Map,
+    key: u64,
+    slot: &mut &'a mut u64,
+) -> bool
+    ensures { option_copied_mut (lent_where result slot.new) ≡ map.get (map_of handle.old) key }
+{
+    hand_out(handle.slot(key), slot)
 }
 
 /// Takes a key out with its value, and answers whether it was there. It can't fail. (Manual: JLD, JudyLDel.)
@@ -235,4 +268,17 @@ pub extern "C" fn sellumaq_judyl_free(alloc: Global, handle: &mut Map) -> u64
     let count = sellumaq_judyl_len(alloc, handle);
     handle.release(alloc);
     count
+}
+
+// Answers whether there is a slot, and hands it out.
+fn hand_out<'a>(found: Option<&'a mut u64>, slot: &mut &'a mut u64) -> bool
+    ensures { lent_where result slot.new ≡ found.entry }
+{
+    match found {
+        Some(word) => {
+            *slot = word;
+            true
+        }
+        None => false,
+    }
 }
