@@ -1,4 +1,5 @@
-//! held
+//! The handle of a set.
+
 ghost use Rattle.std.specs.Prelude.{Option};
 ghost use Rattle.judy_model.specs.Keys.{word_order};
 ghost use Rattle.judy_model.specs.Arrays.{ArrayOf};
@@ -9,9 +10,11 @@ mod raw;
 
 use std::marker::Model;
 
+/// The handle by which C holds a set: null, or the address of a box of a `Judy1`, which it owns.
 #[repr(C)]
 pub struct Set {
     at: *mut u8,
+    // The array in the box; none where the handle is null.
     pub ghost array: { Option (ArrayOf word_order) } by { set_coded },
 }
 
