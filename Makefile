@@ -1,4 +1,5 @@
-# Sellumaq: what is run from the top of the repository. All of it needs the Rattle kit, whose command is `rt`.
+# Sellumaq: what is run from the top of the repository. All of it needs the Rattle kit, whose command is `rt`; the library for C and
+# its tests need a C compiler too.
 
 PREFIX = /usr/local
 DESTDIR =
@@ -6,12 +7,19 @@ DESTDIR =
 # All that a build of the program reads.
 SOURCES := crates.txt $(shell find crates -path '*/out' -prune -o -type f \( -name '*.rt' -o -name '*.antt' \) -print)
 
-.PHONY: help test fmt kit install uninstall clean
+# Where the library for C is left, and what it is made of besides.
+LIB := out/lib
+C_SOURCES := $(wildcard bindings/c/*.h bindings/c/hp/*)
+C_FLAGS = -std=c11 -O2 -Wall -Wextra
+
+.PHONY: help test lib lib-test bench fmt kit install uninstall clean
 
 help:
 	@echo 'make judystore   proves and builds the program, and leaves it as ./judystore'
 	@echo 'make test        the gate: every proof, must-fail edit, test and program, from nothing'
-	@echo 'make install     puts program and manual page under PREFIX ($(PREFIX)); make uninstall takes them away'
+	@echo 'make lib         proves and builds the library for C, and leaves it in out/lib; make lib-test tries it'
+	@echo 'make bench       measures the word arrays beside libJudy and BTreeMap'
+	@echo 'make install     puts program, manual page, library and headers under PREFIX ($(PREFIX)); make uninstall takes them away'
 	@echo 'make fmt         lays out the sources'
 	@echo 'make clean       takes away what these commands made'
 
@@ -29,13 +37,46 @@ judystore: $(SOURCES) | kit
 test: kit
 	@tools/gate
 
-install: judystore
-	install -d $(DESTDIR)$(PREFIX)/bin $(DESTDIR)$(PREFIX)/share/man/man1
+lib: $(LIB)/libsellumaq.a $(LIB)/libsellumaq.so
+
+# The proved calls, the kit's three functions over malloc that they take memory by, and HP's names.
+$(LIB)/libsellumaq.a: $(SOURCES) $(C_SOURCES) | kit
+	@tools/prove judy_c
+	@rm -rf $(LIB) && mkdir -p out/proofs $(LIB)/objects
+	@(cd crates/judy_c && rt lib) >out/proofs/library.log 2>&1 || { echo 'NOT BUILT: see out/proofs/library.log' >&2; exit 1; }
+	@cd $(LIB)/objects && ar x ../../../crates/judy_c/out/libjudy_c.a && ar x "$$(dirname "$$(rt doc)")/c/liblibc_c.a" heap.pic.o
+	@$(CC) $(C_FLAGS) -fPIC -c bindings/c/hp/judy.c -o $(LIB)/objects/hp.o
+	@ar rcs $@ $(LIB)/objects/*.o
+	@echo 'built $@'
+
+$(LIB)/libsellumaq.so: $(LIB)/libsellumaq.a
+	@$(CC) -shared -Wl,-soname,libsellumaq.so.0 -o $@ $(LIB)/objects/*.o
+	@ln -sf libsellumaq.so $(LIB)/libsellumaq.so.0
+	@echo 'built $@'
+
+# The C tests over the static library and over the shared one, the first under Valgrind where it is there.
+lib-test: lib
+	@tools/try_library $(LIB)
+
+bench: lib
+	@tools/bench $(LIB) --svg docs/bench.svg
+
+install: judystore lib
+	install -d $(DESTDIR)$(PREFIX)/bin $(DESTDIR)$(PREFIX)/share/man/man1 $(DESTDIR)$(PREFIX)/lib/pkgconfig $(DESTDIR)$(PREFIX)/include/sellumaq
 	install -m 755 judystore $(DESTDIR)$(PREFIX)/bin/judystore
 	install -m 644 docs/man/judystore.1 $(DESTDIR)$(PREFIX)/share/man/man1/judystore.1
+	install -m 644 $(LIB)/libsellumaq.a $(DESTDIR)$(PREFIX)/lib/libsellumaq.a
+	install -m 755 $(LIB)/libsellumaq.so $(DESTDIR)$(PREFIX)/lib/libsellumaq.so.0
+	ln -sf libsellumaq.so.0 $(DESTDIR)$(PREFIX)/lib/libsellumaq.so
+	install -m 644 bindings/c/sellumaq.h $(DESTDIR)$(PREFIX)/include/sellumaq.h
+	install -m 644 bindings/c/hp/Judy.h $(DESTDIR)$(PREFIX)/include/sellumaq/Judy.h
+	sed 's|@PREFIX@|$(PREFIX)|' bindings/c/sellumaq.pc.in >$(DESTDIR)$(PREFIX)/lib/pkgconfig/sellumaq.pc
 
 uninstall:
 	rm -f $(DESTDIR)$(PREFIX)/bin/judystore $(DESTDIR)$(PREFIX)/share/man/man1/judystore.1
+	rm -f $(DESTDIR)$(PREFIX)/lib/libsellumaq.a $(DESTDIR)$(PREFIX)/lib/libsellumaq.so $(DESTDIR)$(PREFIX)/lib/libsellumaq.so.0
+	rm -f $(DESTDIR)$(PREFIX)/lib/pkgconfig/sellumaq.pc $(DESTDIR)$(PREFIX)/include/sellumaq.h
+	rm -rf $(DESTDIR)$(PREFIX)/include/sellumaq
 
 fmt: kit
 	@for crate in crates/*/; do (cd $$crate && rt fmt) || exit 1; done

@@ -53,6 +53,15 @@ impl Judy1 {
         }
     }
 
+    /// The empty set with the limit 2^64 - 1, which memory ends before: for what is built of such sets.
+    pub fn unbounded(alloc: Global) -> Judy1
+        ensures { result ≡ array.empty_array u64.MAX }
+    {
+        Judy1 {
+            pairs: SortedPairs::new(alloc, u64::MAX),
+        }
+    }
+
     /// Puts the key `i` in, and answers whether it was absent; a key that is there stays, and is never
     /// refused. (Manual: J1S, Judy1Set.)
     ///

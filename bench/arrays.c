@@ -1,0 +1,240 @@
+/* Measures arrays of words beside each other, in one run and on the same keys: Sellumaq's, libJudy's (twice, which shows the run's
+ * noise) and, where it is linked, Rust's BTreeMap. It prints a line for each measurement,
+ *
+ *     KIND LIBRARY PATTERN KEYS OPERATION NUMBER
+ *
+ * the number being nanoseconds an operation, the least of several repeats, or for `bytes` the bytes that malloc gives for a key.
+ *
+ *     arrays [KEYS ..]       how many keys, 10000 and 1000000 where none is told
+ */
+#define _GNU_SOURCE
+#include <Judy.h>
+#include <malloc.h>
+#include <stdbool.h>
+#include <stdint.h>
+#include <stdio.h>
+#include <stdlib.h>
+#include <time.h>
+
+#include "sellumaq.h"
+
+typedef uint64_t word;
+
+/* ---- keys ---- */
+
+static word seed;
+
+static word any(void) {
+    seed += 0x9e3779b97f4a7c15u;
+    word z = seed;
+    z = (z ^ (z >> 30)) * 0xbf58476d1ce4e5b9u;
+    z = (z ^ (z >> 27)) * 0x94d049bb133111ebu;
+    return z ^ (z >> 31);
+}
+
+static void shuffle(word *keys, size_t n) {
+    for (size_t i = n; i > 1; i--) {
+        size_t j = any() % i;
+        word key = keys[i - 1];
+        keys[i - 1] = keys[j];
+        keys[j] = key;
+    }
+}
+
+static word ascending(size_t i) { return i; }
+static word in_runs(size_t i) { return (i / 100) * 0x9e3779b97f4a7c15u / 65536 * 65536 + i % 100; }
+static word random64(size_t i) { (void)i; return any(); }
+static word random32(size_t i) { (void)i; return any() >> 32; }
+static word multiple(size_t i) { return i * 16; }
+
+/* Words that are no keys, or hardly any of them, and lie where the keys do. */
+static word above_all(size_t i) { return (1u << 24) + i; }
+static word behind_run(size_t i) { return in_runs(i) + 100; }
+static word between(size_t i) { return i * 16 + 1 + i % 15; }
+
+static const struct {
+    const char *name;
+    word (*key)(size_t);
+    word (*no_key)(size_t);
+    bool shuffled;
+} PATTERNS[] = {
+    {"ascending", ascending, above_all, false}, {"shuffled", ascending, above_all, true},
+    {"runs-of-100", in_runs, behind_run, true}, {"random-64", random64, random64, false},
+    {"random-32", random32, random32, false},   {"multiples-of-16", multiple, between, true},
+};
+
+/* The keys of a run as they are put in, in the order in which they are looked for, and as many words that are none; all shuffled but
+ * the first where the pattern says so. */
+struct keys {
+    size_t n;
+    word *in, *order, *out;
+};
+
+static void make(struct keys *keys, size_t pattern) {
+    seed = pattern + 1;
+    for (size_t i = 0; i < keys->n; i++) keys->in[i] = keys->order[i] = PATTERNS[pattern].key(i);
+    if (PATTERNS[pattern].shuffled) shuffle(keys->in, keys->n);
+    shuffle(keys->order, keys->n);
+    for (size_t i = 0; i < keys->n; i++) keys->out[i] = PATTERNS[pattern].no_key(i);
+    shuffle(keys->out, keys->n);
+}
+
+/* ---- measuring ---- */
+
+static word now(void) {
+    struct timespec at;
+    clock_gettime(CLOCK_MONOTONIC, &at);
+    return (word)at.tv_sec * 1000000000u + (word)at.tv_nsec;
+}
+
+enum { INSERT, HIT, MISS, WALK, NEXT, RANK, SELECT, DELETE, BYTES, OPERATIONS };
+
+static const char *const NAMES[] = {"insert", "hit", "miss", "walk", "next", "rank", "select", "delete", "bytes"};
+
+static void least(double *into, double number) {
+    if (*into < 0 || number < *into) *into = number;
+}
+
+/* What a measured loop found goes here, so that no loop can be left out. */
+static volatile word sink;
+
+/* One library's array: `A` is its variable, the other words are statements over it and a key `k`, or expressions. A library
+ * without rank and select has 0 for `ORDERED`. */
+#define MEASURE(NAME, A_TYPE, A_INIT, A_END, PUT, FIND, NEXT_KEY, ORDERED, COUNT_BELOW, NTH, TAKE) \
+    static void NAME(const struct keys *keys, double *told) { \
+        word found = 0; \
+        size_t held = mallinfo2().uordblks; \
+        A_TYPE a = A_INIT; \
+        word begin = now(); \
+        for (size_t i = 0; i < keys->n; i++) { word k = keys->in[i]; PUT; } \
+        least(&told[INSERT], (double)(now() - begin) / keys->n); \
+        told[BYTES] = (double)(mallinfo2().uordblks - held) / keys->n; \
+        begin = now(); \
+        for (size_t i = 0; i < keys->n; i++) { word k = keys->order[i]; found += FIND; } \
+        least(&told[HIT], (double)(now() - begin) / keys->n); \
+        begin = now(); \
+        for (size_t i = 0; i < keys->n; i++) { word k = keys->out[i]; found += FIND; } \
+        least(&told[MISS], (double)(now() - begin) / keys->n); \
+        begin = now(); \
+        for (word k = 0; NEXT_KEY;) found += k; \
+        least(&told[WALK], (double)(now() - begin) / keys->n); \
+        begin = now(); \
+        for (size_t i = 0; i < keys->n; i++) { word k = keys->order[i] ^ i % 16; if (NEXT_KEY) found += k; } \
+        least(&told[NEXT], (double)(now() - begin) / keys->n); \
+        if (ORDERED) { \
+            begin = now(); \
+            for (size_t i = 0; i < keys->n; i++) { word k = keys->order[i]; (void)k; found += COUNT_BELOW; } \
+            least(&told[RANK], (double)(now() - begin) / keys->n); \
+            begin = now(); \
+            for (size_t i = 0; i < keys->n; i++) { word k = keys->order[i] % keys->n + 1; if (NTH) found += k; } \
+            least(&told[SELECT], (double)(now() - begin) / keys->n); \
+        } \
+        begin = now(); \
+        for (size_t i = 0; i < keys->n; i++) { word k = keys->order[i]; TAKE; } \
+        least(&told[DELETE], (double)(now() - begin) / keys->n); \
+        A_END; \
+        sink += found; \
+    }
+
+MEASURE(judy1_sellumaq, sellumaq_judy1, {0}, sellumaq_judy1_free(&a), sellumaq_judy1_set(&a, k), sellumaq_judy1_test(&a, k),
+        sellumaq_judy1_next(&a, k, &k), true, sellumaq_judy1_count(&a, 0, k), sellumaq_judy1_by_count(&a, k, &k), sellumaq_judy1_unset(&a, k))
+
+MEASURE(judy1_libjudy, Pvoid_t, NULL, Judy1FreeArray(&a, PJE0), Judy1Set(&a, k, PJE0), Judy1Test(a, k, PJE0),
+        Judy1Next(a, &k, PJE0), true, Judy1Count(a, 0, k, PJE0), Judy1ByCount(a, k, &k, PJE0), Judy1Unset(&a, k, PJE0))
+
+static word sellumaq_value(sellumaq_judyl *map, word key) {
+    word value = 0;
+    return sellumaq_judyl_get(map, key, &value) ? value : 0;
+}
+
+static bool sellumaq_next_entry(sellumaq_judyl *map, word *key) {
+    word *slot;
+    return sellumaq_judyl_next(map, *key, key) && sellumaq_judyl_slot(map, *key, &slot);
+}
+
+static void sellumaq_put(sellumaq_judyl *map, word key) {
+    word *slot;
+    if (sellumaq_judyl_ins(map, key, &slot)) *slot = key;
+}
+
+static word libjudy_value(Pvoid_t map, word key) {
+    word *slot = (word *)JudyLGet(map, key, PJE0);
+    return slot ? *slot : 0;
+}
+
+MEASURE(judyl_sellumaq, sellumaq_judyl, {0}, sellumaq_judyl_free(&a), sellumaq_put(&a, k), sellumaq_value(&a, k),
+        sellumaq_next_entry(&a, &k), true, sellumaq_judyl_count(&a, 0, k), sellumaq_judyl_by_count(&a, k, &k), sellumaq_judyl_del(&a, k))
+
+MEASURE(judyl_libjudy, Pvoid_t, NULL, JudyLFreeArray(&a, PJE0), *(word *)JudyLIns(&a, k, PJE0) = k, libjudy_value(a, k),
+        JudyLNext(a, (Word_t *)&k, PJE0) != NULL, true, JudyLCount(a, 0, k, PJE0), JudyLByCount(a, k, (Word_t *)&k, PJE0) != NULL,
+        JudyLDel(&a, k, PJE0))
+
+#ifdef WITH_BTREE
+void *btree_set_new(void);
+void btree_set_free(void *set);
+void btree_set_insert(void *set, word key);
+bool btree_set_has(const void *set, word key);
+bool btree_set_next(const void *set, word from, word *key);
+void btree_set_remove(void *set, word key);
+void *btree_map_new(void);
+void btree_map_free(void *map);
+void btree_map_insert(void *map, word key, word value);
+word btree_map_value(const void *map, word key);
+bool btree_map_next(const void *map, word from, word *key);
+void btree_map_remove(void *map, word key);
+
+MEASURE(judy1_btree, void *, btree_set_new(), btree_set_free(a), btree_set_insert(a, k), btree_set_has(a, k), btree_set_next(a, k, &k),
+        false, 0, 0, btree_set_remove(a, k))
+MEASURE(judyl_btree, void *, btree_map_new(), btree_map_free(a), btree_map_insert(a, k, k), btree_map_value(a, k), btree_map_next(a, k, &k),
+        false, 0, 0, btree_map_remove(a, k))
+#endif
+
+static const struct {
+    const char *kind, *library;
+    void (*measure)(const struct keys *, double *);
+} MEASURED[] = {
+    {"judy1", "sellumaq", judy1_sellumaq}, {"judy1", "libjudy", judy1_libjudy}, {"judy1", "again", judy1_libjudy},
+    {"judyl", "sellumaq", judyl_sellumaq}, {"judyl", "libjudy", judyl_libjudy}, {"judyl", "again", judyl_libjudy},
+#ifdef WITH_BTREE
+    {"judy1", "btreemap", judy1_btree},    {"judyl", "btreemap", judyl_btree},
+#endif
+};
+
+#define LIBRARIES (sizeof MEASURED / sizeof *MEASURED)
+
+static void run(struct keys *keys, size_t pattern) {
+    double told[LIBRARIES][OPERATIONS];
+    for (size_t it = 0; it < LIBRARIES; it++)
+        for (size_t op = 0; op < OPERATIONS; op++) told[it][op] = -1;
+    make(keys, pattern);
+    size_t repeats = keys->n < 100000 ? 9 : 3;
+    for (size_t turn = 0; turn < repeats; turn++)
+        for (size_t it = 0; it < LIBRARIES; it++) MEASURED[it].measure(keys, told[it]);
+    for (size_t it = 0; it < LIBRARIES; it++)
+        for (size_t op = 0; op < OPERATIONS; op++)
+            if (told[it][op] >= 0)
+                printf("%s %s %s %zu %s %.2f\n", MEASURED[it].kind, MEASURED[it].library, PATTERNS[pattern].name, keys->n, NAMES[op], told[it][op]);
+    fflush(stdout);
+}
+
+int main(int count, char **words) {
+    size_t usual[] = {10000, 1000000};
+    size_t sizes = count > 1 ? (size_t)count - 1 : 2;
+    mallopt(M_MMAP_THRESHOLD, 1 << 30);
+    for (size_t at = 0; at < sizes; at++) {
+        struct keys keys = {count > 1 ? strtoull(words[at + 1], NULL, 10) : usual[at], NULL, NULL, NULL};
+        if (keys.n == 0) {
+            fprintf(stderr, "arrays: not a number of keys: %s\n", words[at + 1]);
+            return 2;
+        }
+        keys.in = calloc(keys.n, sizeof(word));
+        keys.order = calloc(keys.n, sizeof(word));
+        keys.out = calloc(keys.n, sizeof(word));
+        if (!keys.in || !keys.order || !keys.out) return 1;
+        for (size_t pattern = 0; pattern < sizeof PATTERNS / sizeof *PATTERNS; pattern++) run(&keys, pattern);
+        free(keys.in);
+        free(keys.order);
+        free(keys.out);
+    }
+    return 0;
+}

@@ -1,0 +1,153 @@
+/* HP's names over Sellumaq's calls. Nothing is decided here but what the manual pages say of null pointers and of the errors. */
+#include "Judy.h"
+#include "../sellumaq.h"
+
+#include <stdio.h>
+#include <stdlib.h>
+
+_Static_assert(sizeof(Word_t) == sizeof(uint64_t), "a word has 64 bits");
+
+static void tell(PJError_t error, JU_Errno_t number) {
+    if (error) {
+        error->je_Errno = number;
+        error->je_ErrID = 0;
+    }
+}
+
+static int refuse(PJError_t error, JU_Errno_t number) {
+    tell(error, number);
+    return JERR;
+}
+
+static PPvoid_t refuse_slot(PJError_t error, JU_Errno_t number) {
+    tell(error, number);
+    return PPJERR;
+}
+
+void sellumaq_hp_stop(const char *call, const JError_t *error) {
+    fprintf(stderr, "%s: error %d\n", call, (int)error->je_Errno);
+    exit(1);
+}
+
+/* A change of an array that the caller names by a pointer. */
+#define CHANGES(refused) \
+    if (!array) return refused(error, JU_ERRNO_NULLPPARRAY)
+
+/* A search from a word that the caller names by a pointer, and which the word found replaces. */
+#define SEARCHES(refused) \
+    if (!word) return refused(error, JU_ERRNO_NULLPINDEX)
+
+int Judy1Set(PPvoid_t array, Word_t key, PJError_t error) {
+    CHANGES(refuse);
+    uint32_t done = sellumaq_judy1_set((sellumaq_judy1 *)array, key);
+    return done == SELLUMAQ_NO_MEMORY ? refuse(error, JU_ERRNO_NOMEM) : (int)done;
+}
+
+int Judy1Unset(PPvoid_t array, Word_t key, PJError_t error) {
+    CHANGES(refuse);
+    return sellumaq_judy1_unset((sellumaq_judy1 *)array, key);
+}
+
+Word_t Judy1FreeArray(PPvoid_t array, PJError_t error) {
+    CHANGES(refuse);
+    return sellumaq_judy1_free((sellumaq_judy1 *)array);
+}
+
+PPvoid_t JudyLIns(PPvoid_t array, Word_t key, PJError_t error) {
+    CHANGES(refuse_slot);
+    uint64_t *slot;
+    return sellumaq_judyl_ins((sellumaq_judyl *)array, key, &slot) ? (PPvoid_t)slot : refuse_slot(error, JU_ERRNO_NOMEM);
+}
+
+int JudyLDel(PPvoid_t array, Word_t key, PJError_t error) {
+    CHANGES(refuse);
+    return sellumaq_judyl_del((sellumaq_judyl *)array, key);
+}
+
+Word_t JudyLFreeArray(PPvoid_t array, PJError_t error) {
+    CHANGES(refuse);
+    return sellumaq_judyl_free((sellumaq_judyl *)array);
+}
+
+int Judy1Test(Pcvoid_t array, Word_t key, PJError_t error) {
+    (void)error;
+    sellumaq_judy1 set = {(void *)array};
+    return sellumaq_judy1_test(&set, key);
+}
+
+PPvoid_t JudyLGet(Pcvoid_t array, Word_t key, PJError_t error) {
+    (void)error;
+    sellumaq_judyl map = {(void *)array};
+    uint64_t *slot;
+    return sellumaq_judyl_slot(&map, key, &slot) ? (PPvoid_t)slot : NULL;
+}
+
+#define SET_SEARCH(name, call) \
+    int name(Pcvoid_t array, Word_t *word, PJError_t error) { \
+        SEARCHES(refuse); \
+        sellumaq_judy1 set = {(void *)array}; \
+        return call(&set, *word, word); \
+    }
+
+SET_SEARCH(Judy1First, sellumaq_judy1_first)
+SET_SEARCH(Judy1Next, sellumaq_judy1_next)
+SET_SEARCH(Judy1Last, sellumaq_judy1_last)
+SET_SEARCH(Judy1Prev, sellumaq_judy1_prev)
+SET_SEARCH(Judy1FirstEmpty, sellumaq_judy1_first_empty)
+SET_SEARCH(Judy1NextEmpty, sellumaq_judy1_next_empty)
+SET_SEARCH(Judy1LastEmpty, sellumaq_judy1_last_empty)
+SET_SEARCH(Judy1PrevEmpty, sellumaq_judy1_prev_empty)
+
+#define MAP_SEARCH(name, call) \
+    PPvoid_t name(Pcvoid_t array, Word_t *word, PJError_t error) { \
+        SEARCHES(refuse_slot); \
+        sellumaq_judyl map = {(void *)array}; \
+        return call(&map, *word, word) ? JudyLGet(array, *word, error) : NULL; \
+    }
+
+MAP_SEARCH(JudyLFirst, sellumaq_judyl_first)
+MAP_SEARCH(JudyLNext, sellumaq_judyl_next)
+MAP_SEARCH(JudyLLast, sellumaq_judyl_last)
+MAP_SEARCH(JudyLPrev, sellumaq_judyl_prev)
+
+#define MAP_EMPTIES(name, call) \
+    int name(Pcvoid_t array, Word_t *word, PJError_t error) { \
+        SEARCHES(refuse); \
+        sellumaq_judyl map = {(void *)array}; \
+        return call(&map, *word, word); \
+    }
+
+MAP_EMPTIES(JudyLFirstEmpty, sellumaq_judyl_first_empty)
+MAP_EMPTIES(JudyLNextEmpty, sellumaq_judyl_next_empty)
+MAP_EMPTIES(JudyLLastEmpty, sellumaq_judyl_last_empty)
+MAP_EMPTIES(JudyLPrevEmpty, sellumaq_judyl_prev_empty)
+
+int Judy1ByCount(Pcvoid_t array, Word_t n, Word_t *word, PJError_t error) {
+    SEARCHES(refuse);
+    sellumaq_judy1 set = {(void *)array};
+    return sellumaq_judy1_by_count(&set, n, word);
+}
+
+PPvoid_t JudyLByCount(Pcvoid_t array, Word_t n, Word_t *word, PJError_t error) {
+    SEARCHES(refuse_slot);
+    sellumaq_judyl map = {(void *)array};
+    return sellumaq_judyl_by_count(&map, n, word) ? JudyLGet(array, *word, error) : NULL;
+}
+
+Word_t Judy1Count(Pcvoid_t array, Word_t from, Word_t to, PJError_t error) {
+    sellumaq_judy1 set = {(void *)array};
+    tell(error, JU_ERRNO_NONE);
+    return sellumaq_judy1_count(&set, from, to);
+}
+
+Word_t JudyLCount(Pcvoid_t array, Word_t from, Word_t to, PJError_t error) {
+    sellumaq_judyl map = {(void *)array};
+    tell(error, JU_ERRNO_NONE);
+    return sellumaq_judyl_count(&map, from, to);
+}
+
+/* Bytes aren't counted. */
+Word_t Judy1MemUsed(Pcvoid_t array) { (void)array; return 0; }
+Word_t Judy1MemActive(Pcvoid_t array) { (void)array; return 0; }
+Word_t JudyLMemUsed(Pcvoid_t array) { (void)array; return 0; }
+Word_t JudyLMemActive(Pcvoid_t array) { (void)array; return 0; }

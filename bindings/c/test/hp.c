@@ -1,0 +1,91 @@
+/* The arrays of words by HP's names. Compiled against either header, this project's or libJudy's own, it runs over Sellumaq. */
+#include <Judy.h>
+
+#include "check.h"
+
+static void sets(void) {
+    Pvoid_t set = NULL;
+    Word_t key, count;
+    int found;
+    J1T(found, set, 5); CHECK(found == 0);
+    J1S(found, set, 5); CHECK(found == 1);
+    J1S(found, set, 5); CHECK(found == 0);
+    J1S(found, set, 9); CHECK(found == 1);
+    J1T(found, set, 9); CHECK(found == 1);
+    J1C(count, set, 0, -1); CHECK(count == 2);
+    J1C(count, set, 6, 8); CHECK(count == 0);
+    J1BC(found, set, 2, key); CHECK(found == 1 && key == 9);
+    J1BC(found, set, 3, key); CHECK(found == 0);
+    key = 0; J1F(found, set, key); CHECK(found == 1 && key == 5);
+    J1N(found, set, key); CHECK(found == 1 && key == 9);
+    J1N(found, set, key); CHECK(found == 0); key = 9;
+    key = -1; J1L(found, set, key); CHECK(found == 1 && key == 9);
+    J1P(found, set, key); CHECK(found == 1 && key == 5);
+    J1FE(found, set, key); CHECK(found == 1 && key == 6);
+    J1NE(found, set, key); CHECK(found == 1 && key == 7);
+    key = 9; J1LE(found, set, key); CHECK(found == 1 && key == 8);
+    J1PE(found, set, key); CHECK(found == 1 && key == 7);
+    J1U(found, set, 5); CHECK(found == 1);
+    J1U(found, set, 5); CHECK(found == 0);
+    CHECK(Judy1MemUsed(set) == 0 && Judy1MemActive(set) == 0);
+    J1FA(count, set); CHECK(count == 1 && set == NULL);
+}
+
+static void maps(void) {
+    Pvoid_t map = NULL;
+    Word_t key, count, *slot;
+    int found;
+    JLG(slot, map, 5); CHECK(slot == NULL);
+    JLI(slot, map, 5); CHECK(*slot == 0); *slot = 50;
+    JLI(slot, map, 5); CHECK(*slot == 50);
+    JLI(slot, map, 9); *slot = 90;
+    JLG(slot, map, 5); CHECK(*slot == 50); *slot = 51;
+    JLG(slot, map, 5); CHECK(*slot == 51);
+    JLC(count, map, 0, -1); CHECK(count == 2);
+    JLBC(slot, map, 2, key); CHECK(key == 9 && *slot == 90);
+    JLBC(slot, map, 3, key); CHECK(slot == NULL);
+    key = 0; JLF(slot, map, key); CHECK(key == 5 && *slot == 51);
+    JLN(slot, map, key); CHECK(key == 9 && *slot == 90);
+    JLN(slot, map, key); CHECK(slot == NULL); key = 9;
+    key = -1; JLL(slot, map, key); CHECK(key == 9 && *slot == 90);
+    JLP(slot, map, key); CHECK(key == 5 && *slot == 51);
+    JLFE(found, map, key); CHECK(found == 1 && key == 6);
+    JLNE(found, map, key); CHECK(found == 1 && key == 7);
+    key = 9; JLLE(found, map, key); CHECK(found == 1 && key == 8);
+    JLPE(found, map, key); CHECK(found == 1 && key == 7);
+    JLD(found, map, 5); CHECK(found == 1);
+    JLD(found, map, 5); CHECK(found == 0);
+    CHECK(JudyLMemUsed(map) == 0 && JudyLMemActive(map) == 0);
+    JLFA(count, map); CHECK(count == 1 && map == NULL);
+}
+
+/* What the manual pages say of null pointers. */
+static void refused(void) {
+    JError_t error;
+    Pvoid_t none = NULL;
+    CHECK(Judy1Set(NULL, 1, &error) == JERR && JU_ERRNO(&error) == JU_ERRNO_NULLPPARRAY);
+    CHECK(Judy1Unset(NULL, 1, &error) == JERR && JU_ERRNO(&error) == JU_ERRNO_NULLPPARRAY);
+    CHECK(Judy1FreeArray(NULL, &error) == (Word_t)JERR && JU_ERRNO(&error) == JU_ERRNO_NULLPPARRAY);
+    CHECK(JudyLIns(NULL, 1, &error) == PPJERR && JU_ERRNO(&error) == JU_ERRNO_NULLPPARRAY);
+    CHECK(JudyLDel(NULL, 1, &error) == JERR && JU_ERRNO(&error) == JU_ERRNO_NULLPPARRAY);
+    CHECK(JudyLFreeArray(NULL, PJE0) == (Word_t)JERR);
+    CHECK(Judy1First(none, NULL, &error) == JERR && JU_ERRNO(&error) == JU_ERRNO_NULLPINDEX);
+    CHECK(JudyLNext(none, NULL, &error) == PPJERR && JU_ERRNO(&error) == JU_ERRNO_NULLPINDEX);
+    CHECK(JudyLPrevEmpty(none, NULL, &error) == JERR && JU_ERRNO(&error) == JU_ERRNO_NULLPINDEX);
+    Pvoid_t set = NULL, map = NULL;
+    CHECK(Judy1Set(&set, 3, &error) == 1 && JudyLIns(&map, 3, &error) != PPJERR);
+    CHECK(Judy1ByCount(set, 1, NULL, &error) == JERR && JU_ERRNO(&error) == JU_ERRNO_NULLPINDEX);
+    CHECK(JudyLByCount(map, 1, NULL, &error) == PPJERR && JU_ERRNO(&error) == JU_ERRNO_NULLPINDEX);
+    Judy1FreeArray(&set, PJE0);
+    JudyLFreeArray(&map, PJE0);
+    CHECK(Judy1Count(none, 0, -1, &error) == 0 && JU_ERRNO(&error) == JU_ERRNO_NONE);
+    CHECK(JudyLCount(none, 0, -1, &error) == 0 && JU_ERRNO(&error) == JU_ERRNO_NONE);
+}
+
+int main(void) {
+    sets();
+    maps();
+    refused();
+    puts("hp: ok");
+    return 0;
+}

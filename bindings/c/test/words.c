@@ -1,0 +1,94 @@
+/* The arrays of words by Sellumaq's own names, beside a table of 256 places: keys are drawn from few words, so that each call meets keys
+ * and gaps. */
+#include <string.h>
+
+#include "../sellumaq.h"
+#include "check.h"
+
+enum { WORDS = 256 };
+
+/* The table's place for a word: the words go up in steps, and the last is the greatest word. */
+static uint64_t word_at(unsigned place) { return place == WORDS - 1 ? UINT64_MAX : (uint64_t)place * 3 + ((uint64_t)(place / 64) << 40); }
+
+static bool held[WORDS];
+static uint64_t values[WORDS];
+
+static int next_held(int place) { for (; place < WORDS; place++) if (held[place]) return place; return -1; }
+static int prev_held(int place) { for (; place >= 0; place--) if (held[place]) return place; return -1; }
+
+static uint64_t held_in(int from, int to) {
+    uint64_t count = 0;
+    for (int place = from; place <= to; place++) count += held[place];
+    return count;
+}
+
+/* Whether a search answered the table's place, or that there is none. */
+static bool told(bool answer, const uint64_t *found, int place) { return answer == (place >= 0) && (!answer || *found == word_at((unsigned)place)); }
+
+static void compare(sellumaq_judy1 *set, sellumaq_judyl *map, int place) {
+    uint64_t from = word_at((unsigned)place), found = 0, value = 0, *slot = NULL;
+    CHECK(sellumaq_judy1_test(set, from) == held[place]);
+    CHECK(sellumaq_judyl_get(map, from, &value) == held[place] && (!held[place] || value == values[place]));
+    CHECK(sellumaq_judyl_slot(map, from, &slot) == held[place] && (!held[place] || *slot == values[place]));
+    CHECK(told(sellumaq_judy1_first(set, from, &found), &found, next_held(place)));
+    CHECK(told(sellumaq_judyl_first(map, from, &found), &found, next_held(place)));
+    CHECK(told(sellumaq_judy1_next(set, from, &found), &found, next_held(place + 1)));
+    CHECK(told(sellumaq_judyl_next(map, from, &found), &found, next_held(place + 1)));
+    CHECK(told(sellumaq_judy1_last(set, from, &found), &found, prev_held(place)));
+    CHECK(told(sellumaq_judyl_last(map, from, &found), &found, prev_held(place)));
+    CHECK(told(sellumaq_judy1_prev(set, from, &found), &found, prev_held(place - 1)));
+    CHECK(told(sellumaq_judyl_prev(map, from, &found), &found, prev_held(place - 1)));
+    CHECK(sellumaq_judy1_count(set, 0, from) == held_in(0, place) && sellumaq_judyl_count(map, from, UINT64_MAX) == held_in(place, WORDS - 1));
+    uint64_t n = held_in(0, place);
+    CHECK(told(sellumaq_judy1_by_count(set, n, &found), &found, n ? prev_held(place) : -1));
+    CHECK(told(sellumaq_judyl_by_count(map, n, &found), &found, n ? prev_held(place) : -1));
+    CHECK(sellumaq_judy1_len(set) == held_in(0, WORDS - 1) && sellumaq_judyl_len(map) == held_in(0, WORDS - 1));
+}
+
+static void empties(sellumaq_judy1 *set, sellumaq_judyl *map) {
+    uint64_t found = 7;
+    for (uint64_t key = 0; key < 3; key++) {
+        uint64_t *slot;
+        CHECK(sellumaq_judy1_set(set, key) == SELLUMAQ_ADDED && sellumaq_judyl_ins(map, key, &slot));
+        CHECK(sellumaq_judy1_set(set, UINT64_MAX - key) == SELLUMAQ_ADDED && sellumaq_judyl_ins(map, UINT64_MAX - key, &slot));
+    }
+    CHECK(sellumaq_judy1_first_empty(set, 0, &found) && found == 3);
+    CHECK(sellumaq_judyl_first_empty(map, 0, &found) && found == 3);
+    CHECK(sellumaq_judy1_next_empty(set, 3, &found) && found == 4);
+    CHECK(sellumaq_judyl_next_empty(map, 3, &found) && found == 4);
+    CHECK(sellumaq_judy1_last_empty(set, UINT64_MAX, &found) && found == UINT64_MAX - 3);
+    CHECK(sellumaq_judyl_last_empty(map, UINT64_MAX, &found) && found == UINT64_MAX - 3);
+    CHECK(sellumaq_judy1_prev_empty(set, UINT64_MAX - 3, &found) && found == UINT64_MAX - 4);
+    CHECK(sellumaq_judyl_prev_empty(map, UINT64_MAX - 3, &found) && found == UINT64_MAX - 4);
+    CHECK(!sellumaq_judy1_last_empty(set, 2, &found) && !sellumaq_judyl_prev_empty(map, 2, &found));
+    CHECK(!sellumaq_judyl_first_empty(map, UINT64_MAX - 2, &found) && !sellumaq_judy1_next_empty(set, UINT64_MAX - 2, &found));
+    CHECK(found == UINT64_MAX - 4);
+    CHECK(sellumaq_judy1_free(set) == 6 && sellumaq_judyl_free(map) == 6);
+}
+
+int main(void) {
+    sellumaq_judy1 set = {0};
+    sellumaq_judyl map = {0};
+    empties(&set, &map);
+    compare(&set, &map, 5);
+    CHECK(set.array == NULL && map.array == NULL);
+    for (int turn = 0; turn < 20000; turn++) {
+        unsigned place = any() % WORDS;
+        uint64_t key = word_at(place), *slot = NULL;
+        if (any() % 8 < (turn % 4000 < 2000 ? 5 : 3)) {
+            CHECK(sellumaq_judy1_set(&set, key) == (held[place] ? SELLUMAQ_PRESENT : SELLUMAQ_ADDED));
+            CHECK(sellumaq_judyl_ins(&map, key, &slot) && *slot == (held[place] ? values[place] : 0));
+            held[place] = true;
+            values[place] = *slot = any();
+        } else {
+            CHECK(sellumaq_judy1_unset(&set, key) == held[place] && sellumaq_judyl_del(&map, key) == held[place]);
+            held[place] = false;
+        }
+        compare(&set, &map, (int)(any() % WORDS));
+    }
+    uint64_t left = held_in(0, WORDS - 1);
+    CHECK(sellumaq_judy1_free(&set) == left && sellumaq_judyl_free(&map) == left);
+    CHECK(sellumaq_judy1_free(&set) == 0 && sellumaq_judyl_free(&map) == 0);
+    puts("words: ok");
+    return 0;
+}

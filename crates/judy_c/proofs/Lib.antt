@@ -1,0 +1,5 @@
+pub mod Boxed
+pub mod BoxedSet
+pub mod Holding
+pub mod Handles
+pub mod SetHandles

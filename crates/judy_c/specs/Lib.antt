@@ -1,0 +1,7 @@
+pub mod Owned
+pub mod MapLends
+pub mod SetLends
+pub mod Maps
+pub mod Told
+pub mod SlotLends
+pub mod Puts

@@ -1,0 +1,23 @@
+-- The array that a handle stands for.
+use Rattle.std.specs.Prelude.{ℕ, Option, Some, None}
+use Rattle.std.specs.FinMap.{FinMap}
+use Rattle.judy_c.specs.declared.map.Map.{Map}
+use Rattle.judy_c.specs.declared.set.Set.{Set}
+use Rattle.judy_model.specs.Keys.{word_order}
+use Rattle.judy_model.specs.Arrays.{ArrayOf, empty_array}
+
+-- The empty array that may hold any number of keys.
+abbrev pub unbounded : ArrayOf word_order
+unbounded = empty_array 18446744073709551615
+
+-- A handle that holds none stands for it.
+abbrev pub array_of : Option (ArrayOf word_order) → ArrayOf word_order
+array_of None = unbounded
+array_of (Some array) = array
+
+abbrev pub map_of : Map → FinMap word_order ℕ
+map_of handle = (array_of handle.array).map
+
+-- A set is the map whose every value is 0.
+abbrev pub set_of : Set → FinMap word_order ℕ
+set_of handle = (array_of handle.array).map

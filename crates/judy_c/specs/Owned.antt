@@ -1,0 +1,34 @@
+-- What C holds.
+use Rattle.std.specs.Prelude.{ℕ, Option, Some, None}
+use base.Fml.{Fml, ftrue, ffalse}
+use base.Stored.{Coded}
+use denote.RattleType.{RattleType}
+use denote.RawPtr.{Ptr, block_ptr, null_ptr}
+use Rattle.std.specs.Box.Ownership.{box_owns}
+use Rattle.std.specs.Global.{Global}
+use Rattle.std.specs.Coded.{coded_option}
+use Rattle.std_heap.specs.contracts.GlobalAllocator.TheImpl.{ghosts}
+use Rattle.judy_word.specs.contracts.judy1.Judy1 as judy1
+use Rattle.judy_word.specs.contracts.judyl.JudyL as judyl
+
+abbrev pub heap : Global
+heap = record { memory = record { seal = tt } }
+
+-- A null pointer holds no array; any other is that of a box of one, which the handle owns.
+abbrev pub held : (R : RattleType) → Ptr → Option R.Denot → Fml
+held R null_ptr None = ftrue
+held R null_ptr (Some x) = ffalse
+held R (block_ptr b o) None = ffalse
+held R (block_ptr b o) (Some x) = box_owns (ghosts.dealloc_token heap) R (block_ptr b o) x
+
+abbrev pub held_judyl : Ptr → Option judyl.the_row.Denot → Fml
+held_judyl = held judyl.the_row
+
+abbrev pub map_coded : Coded (Option judyl.the_row.Denot)
+map_coded = coded_option judyl.the_row.coded
+
+abbrev pub held_judy1 : Ptr → Option judy1.the_row.Denot → Fml
+held_judy1 = held judy1.the_row
+
+abbrev pub set_coded : Coded (Option judy1.the_row.Denot)
+set_coded = coded_option judy1.the_row.coded

@@ -1,0 +1,284 @@
+//! The calls of C on maps from words to words.
+//!
+//! C knows a map by its handle, one word (map.rt); a handle of zeros is the map without keys. Each call answers what the call of
+//! `judy_word::JudyL` of the same name does for that map. A call that may have no answer tells it through its last parameter,
+//! where it answers true, and leaves that alone where it answers false.
+
+ghost use Rattle.std.specs.Prelude.{◌≡◌, Some, None, IsFalse, MatchOption};
+ghost use Rattle.std.specs.FinMap as map;
+ghost use Rattle.judy_model.specs.Arrays as array;
+ghost use Rattle.judy_model.specs.Counts as counts;
+ghost use Rattle.judy_model.specs.Empties as empties;
+ghost use Rattle.judy_model.specs.Neighbours as neighbours;
+ghost use Rattle.judy_c.specs.Maps.{map_of};
+ghost use Rattle.judy_c.specs.Told.{IsTold, lent_where};
+ghost use Rattle.std.specs.Option.{option_copied_mut};
+
+use crate::map::Map;
+use crate::told::tell;
+use judy_word::JudyL;
+use std::alloc::Global;
+
+/// The value of a key. (Manual: JLG, JudyLGet.)
+#[unsafe(no_mangle)]
+pub extern "C" fn sellumaq_judyl_get(
+    alloc: Global,
+    handle: &mut Map,
+    key: u64,
+    value: &mut u64,
+) -> bool
+    ensures told { IsTold (map.get (map_of handle.old) key) result value.old value.new }
+    ensures same { handle.new ≡ handle.old }
+{
+    match handle.array() {
+        Some(array) => tell(array.get(key), value),
+        None => tell(JudyL::unbounded(alloc).get(key), value),
+    }
+}
+
+/// Hands out the slot of a key, which is put in with the value 0 where it is absent: what is left there is the key's value. False
+/// where the key is absent and there is no memory for it. (Manual: JLI, JudyLIns.)
+#[unsafe(no_mangle)]
+pub extern "C" fn sellumaq_judyl_ins<'a>(
+    alloc: Global,
+    handle: &'a mut Map,
+    key: u64,
+    slot: &mut &'a mut u64,
+) -> bool
+    ensures { MatchOption (lent_where result slot.new) (IsFalse (map.contains_key (map_of handle.old) key)) (λ lent. Some lent.now ≡ map.get (array.ins (map_of handle.old) key) key) }
+{
+    match handle.ins(alloc, key) {
+        Ok(found) => {
+            *slot = found;
+            true
+        }
+        Err(_) => false,
+    }
+}
+
+/// Hands out the slot of a key: what is left there is the key's value. (Manual: JLG, JudyLGet.)
+#[unsafe(no_mangle)]
+pub extern "C" fn sellumaq_judyl_slot<'a>(
+    handle: &'a mut Map,
+    key: u64,
+    slot: &mut &'a mut u64,
+) -> bool
+    ensures { option_copied_mut (lent_where result slot.new) ≡ map.get (map_of handle.old) key }
+{
+    hand_out(handle.slot(key), slot)
+}
+
+/// Takes a key out with its value, and answers whether it was there. It can't fail. (Manual: JLD, JudyLDel.)
+#[unsafe(no_mangle)]
+pub extern "C" fn sellumaq_judyl_del(alloc: Global, handle: &mut Map, key: u64) -> bool
+    ensures answer { result ≡ map.contains_key (map_of handle.old) key }
+    ensures deleted { map_of handle.new ≡ array.del (map_of handle.old) key }
+{
+    match handle.array() {
+        Some(array) => array.del(key),
+        None => JudyL::unbounded(alloc).del(key),
+    }
+}
+
+/// The least key from a word on. (Manual: JLF, JudyLFirst.)
+#[unsafe(no_mangle)]
+pub extern "C" fn sellumaq_judyl_first(
+    alloc: Global,
+    handle: &mut Map,
+    from: u64,
+    key: &mut u64,
+) -> bool
+    ensures told { IsTold (neighbours.first (map_of handle.old) from) result key.old key.new }
+    ensures same { handle.new ≡ handle.old }
+{
+    match handle.array() {
+        Some(array) => tell(array.first(from), key),
+        None => tell(JudyL::unbounded(alloc).first(from), key),
+    }
+}
+
+/// The least key above a word. (Manual: JLN, JudyLNext.)
+#[unsafe(no_mangle)]
+pub extern "C" fn sellumaq_judyl_next(
+    alloc: Global,
+    handle: &mut Map,
+    from: u64,
+    key: &mut u64,
+) -> bool
+    ensures told { IsTold (neighbours.next (map_of handle.old) from) result key.old key.new }
+    ensures same { handle.new ≡ handle.old }
+{
+    match handle.array() {
+        Some(array) => tell(array.next(from), key),
+        None => tell(JudyL::unbounded(alloc).next(from), key),
+    }
+}
+
+/// The greatest key up to a word. (Manual: JLL, JudyLLast.)
+#[unsafe(no_mangle)]
+pub extern "C" fn sellumaq_judyl_last(
+    alloc: Global,
+    handle: &mut Map,
+    from: u64,
+    key: &mut u64,
+) -> bool
+    ensures told { IsTold (neighbours.last (map_of handle.old) from) result key.old key.new }
+    ensures same { handle.new ≡ handle.old }
+{
+    match handle.array() {
+        Some(array) => tell(array.last(from), key),
+        None => tell(JudyL::unbounded(alloc).last(from), key),
+    }
+}
+
+/// The greatest key below a word. (Manual: JLP, JudyLPrev.)
+#[unsafe(no_mangle)]
+pub extern "C" fn sellumaq_judyl_prev(
+    alloc: Global,
+    handle: &mut Map,
+    from: u64,
+    key: &mut u64,
+) -> bool
+    ensures told { IsTold (neighbours.prev (map_of handle.old) from) result key.old key.new }
+    ensures same { handle.new ≡ handle.old }
+{
+    match handle.array() {
+        Some(array) => tell(array.prev(from), key),
+        None => tell(JudyL::unbounded(alloc).prev(from), key),
+    }
+}
+
+/// The least word from one on that is no key. (Manual: JLFE, JudyLFirstEmpty.)
+#[unsafe(no_mangle)]
+pub extern "C" fn sellumaq_judyl_first_empty(
+    alloc: Global,
+    handle: &mut Map,
+    from: u64,
+    word: &mut u64,
+) -> bool
+    ensures told { IsTold (empties.first_empty (map_of handle.old) from) result word.old word.new }
+    ensures same { handle.new ≡ handle.old }
+{
+    match handle.array() {
+        Some(array) => tell(array.first_empty(from), word),
+        None => tell(JudyL::unbounded(alloc).first_empty(from), word),
+    }
+}
+
+/// The least word above one that is no key. (Manual: JLNE, JudyLNextEmpty.)
+#[unsafe(no_mangle)]
+pub extern "C" fn sellumaq_judyl_next_empty(
+    alloc: Global,
+    handle: &mut Map,
+    from: u64,
+    word: &mut u64,
+) -> bool
+    ensures told { IsTold (empties.next_empty (map_of handle.old) from) result word.old word.new }
+    ensures same { handle.new ≡ handle.old }
+{
+    match handle.array() {
+        Some(array) => tell(array.next_empty(from), word),
+        None => tell(JudyL::unbounded(alloc).next_empty(from), word),
+    }
+}
+
+/// The greatest word up to one that is no key. (Manual: JLLE, JudyLLastEmpty.)
+#[unsafe(no_mangle)]
+pub extern "C" fn sellumaq_judyl_last_empty(
+    alloc: Global,
+    handle: &mut Map,
+    from: u64,
+    word: &mut u64,
+) -> bool
+    ensures told { IsTold (empties.last_empty (map_of handle.old) from) result word.old word.new }
+    ensures same { handle.new ≡ handle.old }
+{
+    match handle.array() {
+        Some(array) => tell(array.last_empty(from), word),
+        None => tell(JudyL::unbounded(alloc).last_empty(from), word),
+    }
+}
+
+/// The greatest word below one that is no key. (Manual: JLPE, JudyLPrevEmpty.)
+#[unsafe(no_mangle)]
+pub extern "C" fn sellumaq_judyl_prev_empty(
+    alloc: Global,
+    handle: &mut Map,
+    from: u64,
+    word: &mut u64,
+) -> bool
+    ensures told { IsTold (empties.prev_empty (map_of handle.old) from) result word.old word.new }
+    ensures same { handle.new ≡ handle.old }
+{
+    match handle.array() {
+        Some(array) => tell(array.prev_empty(from), word),
+        None => tell(JudyL::unbounded(alloc).prev_empty(from), word),
+    }
+}
+
+/// How many keys there are.
+#[unsafe(no_mangle)]
+pub extern "C" fn sellumaq_judyl_len(alloc: Global, handle: &mut Map) -> u64
+    ensures count { result ≡ map.len (map_of handle.old) }
+    ensures same { handle.new ≡ handle.old }
+{
+    match handle.array() {
+        Some(array) => array.len(),
+        None => JudyL::unbounded(alloc).len(),
+    }
+}
+
+/// How many keys there are from one word to another, both included; 0 where the first is above the second. (Manual: JLC,
+/// JudyLCount.)
+#[unsafe(no_mangle)]
+pub extern "C" fn sellumaq_judyl_count(alloc: Global, handle: &mut Map, from: u64, to: u64) -> u64
+    ensures count { result ≡ counts.count (map_of handle.old) from to }
+    ensures same { handle.new ≡ handle.old }
+{
+    match handle.array() {
+        Some(array) => array.count(from, to),
+        None => JudyL::unbounded(alloc).count(from, to),
+    }
+}
+
+/// The n-th key, counted from 1. (Manual: JLBC, JudyLByCount.)
+#[unsafe(no_mangle)]
+pub extern "C" fn sellumaq_judyl_by_count(
+    alloc: Global,
+    handle: &mut Map,
+    n: u64,
+    key: &mut u64,
+) -> bool
+    ensures told { IsTold (counts.by_count (map_of handle.old) n) result key.old key.new }
+    ensures same { handle.new ≡ handle.old }
+{
+    match handle.array() {
+        Some(array) => tell(array.by_count(n), key),
+        None => tell(JudyL::unbounded(alloc).by_count(n), key),
+    }
+}
+
+/// Takes every key out, gives all memory back, and answers how many keys there were. (Manual: JLFA, JudyLFreeArray, which
+/// answers the bytes freed.)
+#[unsafe(no_mangle)]
+pub extern "C" fn sellumaq_judyl_free(alloc: Global, handle: &mut Map) -> u64
+    ensures freed { result ≡ map.len (map_of handle.old) }
+    ensures emptied { handle.new.array ≡ None }
+{
+    let count = sellumaq_judyl_len(alloc, handle);
+    handle.release(alloc);
+    count
+}
+
+// Answers whether there is a slot, and hands it out.
+fn hand_out<'a>(found: Option<&'a mut u64>, slot: &mut &'a mut u64) -> bool
+    ensures { lent_where result slot.new ≡ found.entry }
+{
+    match found {
+        Some(word) => {
+            *slot = word;
+            true
+        }
+        None => false,
+    }
+}
