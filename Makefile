@@ -6,11 +6,12 @@ DESTDIR =
 # All that a build of the program reads.
 SOURCES := crates.txt $(shell find crates -path '*/out' -prune -o -type f \( -name '*.rt' -o -name '*.antt' \) -print)
 
-.PHONY: help test fmt kit install uninstall clean
+.PHONY: help test refusals fmt kit install uninstall clean
 
 help:
 	@echo 'make judystore   proves and builds the program, and leaves it as ./judystore'
 	@echo 'make test        the gate: every proof, must-fail edit, test and program, from nothing'
+	@echo 'make refusals    runs the program with each of its calls for memory refused in turn'
 	@echo 'make install     puts program and manual page under PREFIX ($(PREFIX)); make uninstall takes them away'
 	@echo 'make fmt         lays out the sources'
 	@echo 'make clean       takes away what these commands made'
@@ -28,6 +29,9 @@ judystore: $(SOURCES) | kit
 
 test: kit
 	@tools/gate
+
+refusals: judystore
+	@tools/try_refusals.py ./judystore
 
 install: judystore
 	install -d $(DESTDIR)$(PREFIX)/bin $(DESTDIR)$(PREFIX)/share/man/man1
