@@ -41,47 +41,27 @@ STRING_INSERT = lines("""
     list
     ins s =abcdefghi 4
 """)
-STRING_INSERT_REFUSED = lines("""
-    ok
-    was 0
-    error no-memory
-    3
-    none
-    names s:judysl:1
-    was 0
-""")
+STRING_REFUSED = lines("ok\n was 0\n error no-memory\n 3\n none\n names s:judysl:1\n was 0")
 
-# Row refused-chain-insert, the part of a script: a key of another hash in a group that is there, and one of a new group.
+# Row refused-chain-insert, the part of a script: beside a key one that shares its chain, since FNV-1a is 99368133 for
+# both; one of another hash and the same group; and one of a new group.
 CHAIN_INSERT = lines("""
     make h judyhs
-    ins h =aaaaaaaaa 1
-    ins h =aaaaaaaab 2
-    ins h =aaaaaaaaaa 3
+    ins h =hhuhtvqzb 1
+    ins h =soohcjtgg 2
+    ins h =aaaaaaaaa 3
+    ins h =aaaaaaaaaa 4
+    get h =hhuhtvqzb
+    get h =soohcjtgg
     get h =aaaaaaaaa
-    get h =aaaaaaaab
     get h =aaaaaaaaaa
     list
 """)
-CHAIN_REFUSED = lines("""
-    ok
-    was 0
-    error no-memory
-    was 0
-    1
-    none
-    3
-    names h:judyhs:2
-""")
-GROUP_REFUSED = lines("""
-    ok
-    was 0
-    was 0
-    error no-memory
-    1
-    2
-    none
-    names h:judyhs:2
-""")
+CHAIN_REFUSED = [
+    lines("ok\n was 0\n error no-memory\n was 0\n was 0\n 1\n none\n 3\n 4\n names h:judyhs:3"),
+    lines("ok\n was 0\n was 0\n error no-memory\n was 0\n 1\n 2\n none\n 4\n names h:judyhs:3"),
+    lines("ok\n was 0\n was 0\n was 0\n error no-memory\n 1\n 2\n 3\n none\n names h:judyhs:3"),
+]
 
 
 def keys_that_go(kind):
@@ -123,8 +103,8 @@ ALL_KINDS = lines("""
 
 # Each script, and lists of answers of which each must come up where one call is refused.
 SCRIPTS = [
-    ("refused-string-insert", STRING_INSERT, [STRING_INSERT_REFUSED]),
-    ("refused-chain-insert", CHAIN_INSERT, [CHAIN_REFUSED, GROUP_REFUSED]),
+    ("refused-string-insert", STRING_INSERT, [STRING_REFUSED]),
+    ("refused-chain-insert", CHAIN_INSERT, CHAIN_REFUSED),
     ("keys of a judysl that go", keys_that_go(b"judysl"), []),
     ("keys of a judyhs that go", keys_that_go(b"judyhs"), []),
     ("arrays of all kinds", ALL_KINDS, []),
