@@ -12,11 +12,12 @@ LIB := out/lib
 C_SOURCES := $(wildcard bindings/c/*.h bindings/c/hp/*)
 C_FLAGS = -std=c11 -O2 -Wall -Wextra
 
-.PHONY: help test lib lib-test bench fmt kit install uninstall clean
+.PHONY: help test refusals lib lib-test bench fmt kit install uninstall clean
 
 help:
 	@echo 'make judystore   proves and builds the program, and leaves it as ./judystore'
 	@echo 'make test        the gate: every proof, must-fail edit, test and program, from nothing'
+	@echo 'make refusals    runs the program with each of its calls for memory refused in turn'
 	@echo 'make lib         proves and builds the library for C, and leaves it in out/lib; make lib-test tries it'
 	@echo 'make bench       measures the word arrays beside libJudy and BTreeMap'
 	@echo 'make install     puts program, manual page, library and headers under PREFIX ($(PREFIX)); make uninstall takes them away'
@@ -36,6 +37,9 @@ judystore: $(SOURCES) | kit
 
 test: kit
 	@tools/gate
+
+refusals: judystore
+	@tools/try_refusals.py ./judystore
 
 lib: $(LIB)/libsellumaq.a $(LIB)/libsellumaq.so
 

@@ -1,17 +1,21 @@
 -- Groups by length: what a change of their list makes of them.
-use Rattle.std.proofs.Common.{◌≡◌, ℕ, zero, suc, ◌<◌, List, [], ◌∷◌, length, get_or, set, refl, sym, ap, ◌∙◌, arith}
-use Rattle.std.proofs.lemmas.List.{map-set, get_or-map, length-map}
+use Rattle.std.proofs.Common.{◌≡◌, ◌≢◌, ℕ, zero, suc, ◌<◌, ◌≤◌, inl, inr, List, [], ◌∷◌, length, get_or, set, nat_le, if◌then◌else◌, true, false, None, Some, Result, Ok, Err, IfOk, OnErr, refl, sym, ap, subst, ◌∙◌, arith}
+use Rattle.std.proofs.lemmas.List.{map-set, get_or-map, length-map, get_or_past}
+use Rattle.std.proofs.lemmas.Option.{none-some}
+use Rattle.judy_places.specs.Places.{NoneLost, IsNextPlace}
+use Rattle.judy_places.proofs.PlaceLemmas.{free-inside}
 use Rattle.judy_model.specs.Keys.{word_order}
 use Rattle.judy_model.specs.Arrays.{ArrayOf}
 use Rattle.judy_hs.specs.declared.group.GroupPlace.{GroupPlace}
 use Rattle.judy_hs.specs.declared.group.GroupPlace.TheVariants.{Free, Short, Long}
 use Rattle.judy_hs.specs.declared.group.Inside.{Inside}
 use Rattle.judy_hs.specs.declared.group.Inside.TheVariants.{Word, Chained}
-use Rattle.judy_hs.specs.LongGroups.{put_at}
-use Rattle.judy_hs.specs.Groups.{Group, none, group_with, CanTakeKey}
-use Rattle.judy_hs.specs.GroupPlaces.{group_of, groups_of}
+use Rattle.judy_hs.specs.LongGroups.{put_at, one_word, one_long}
+use Rattle.judy_hs.specs.Groups.{Group, none, short, long, group_with, group_with_key, group_without, one_group, CanTakeKey, IsRemovable}
+use Rattle.judy_hs.specs.GroupPlaces.{group_of, groups_of, link_of, links_of}
 use Rattle.judy_hs.specs.GroupLends.{place_with}
-use Rattle.judy_hs.specs.Keyed.{Keyed, keyed_with}
+use Rattle.judy_hs.specs.Keyed.{Keyed, keyed_with, IsFreeGroup}
+use Rattle.judy_hs.proofs.PlaceSteps.{put-places, end-places, set-places, free-places}
 use Rattle.judy_hs.proofs.ListLemmas.{set-twice, set_same, map-put}
 
 -- The groups that their parts are.
@@ -61,3 +65,109 @@ module _ (lengths : ArrayOf word_order) (places : List GroupPlace) (place : ℕ)
 
   pub keyed-back : keyed_of lengths (set places place held) ≡ keyed_of lengths places
   keyed-back = ap (keyed_of lengths) (set_same places place held is)
+
+-- ---- what the places keep
+
+pub link-group : (place : GroupPlace) → group_of place ≢ none → link_of place ≡ None
+link-group (Free next) some = absurd (some refl)
+link-group (Short words) some = refl
+link-group (Long group) some = refl
+
+some-group : (place : GroupPlace) → link_of place ≡ None → group_of place ≢ none
+some-group (Free next) taken e = absurd (none-some next (sym taken))
+some-group (Short words) taken e = cc
+some-group (Long group) taken e = cc
+
+link-with : (place : GroupPlace) (inside : Inside) (value : ℕ) → link_of (place_with place inside value) ≡ link_of place
+link-with (Free next) inside value = refl
+link-with (Short words) (Word word) value = refl
+link-with (Short words) (Chained place at) value = refl
+link-with (Long group) (Word word) value = refl
+link-with (Long group) (Chained place at) value = refl
+
+pub can-some : (group : Group) (part : ℕ) → CanTakeKey group part → group ≢ none
+can-some group part can e = subst (λ (g : Group). CanTakeKey g part) e can
+
+pub removable-some : (group : Group) (inside : Inside) → IsRemovable group inside → group ≢ none
+removable-some group inside can e = subst (λ (g : Group). IsRemovable g inside) e can
+
+pub without-some : (group : Group) (part : ℕ) (inside : Inside) → group ≢ none → group_without group part inside ≢ none
+without-some none part inside some e = some refl
+without-some (short words) part inside some e = cc
+without-some (long group) part (Word word) some e = cc
+without-some (long group) part (Chained place at) some e = cc
+
+key-some : (group : Group) (part : ℕ) (key : List ℕ) (inside : Inside) → group ≢ none → group_with_key group part key inside ≢ none
+key-some none part key inside some e = some refl
+key-some (short words) part key inside some e = cc
+key-some (long group) part key (Word word) some e = cc
+key-some (long group) part key (Chained place at) some e = cc
+
+pub one-some : (part : ℕ) (key : List ℕ) → one_group part key ≢ none
+one-some part key = elim (nat_le (length key) 8) as (λ b. (if b then short (one_word part 0) else long (one_long part key)) ≢ none) [
+  | true ↦ λ e. cc
+  | false ↦ λ e. cc
+]
+
+-- A group stays one, whether a key was put in or refused.
+pub added-some : {E : Type 0} (result : Result Inside E) (part : ℕ) (key : List ℕ) (before after : Group) → IfOk result (λ inside. after ≡ group_with_key before part key inside) → OnErr result (after ≡ before) → before ≢ none → after ≢ none
+added-some (Ok inside) part key before after added same some e = key-some before part key inside some (sym added ∙ e)
+added-some (Err error) part key before after added same some e = some (sym same ∙ e)
+
+module _ (places : List GroupPlace) (free : ℕ) (lost : NoneLost (links_of places) free) where
+  -- The next place has no group; it is the end only where each place has one.
+  pub groups-free : (place next : ℕ) → IsNextPlace (links_of places) free place next → IsFreeGroup (groups_of places) place
+  groups-free place next is = record {
+    within = free-within place next is;
+    no_group = free-empty place next is;
+    last = λ end at inside.
+        let within : at < length places = omega (arith, inside, two) in
+        let all = end-places link_of places free lost place next is (end ∙ two) at in
+        subst (λ (group : Group). group ≢ none) (sym (get_or-map group_of places at (Free 0) none within))
+        (some-group (get_or places at (Free 0)) (sym (get_or-map link_of places at (Free 0) None within) ∙ all));
+  }
+    where
+      one : length (links_of places) ≡ length places
+      one = length-map places link_of
+
+      two : length (groups_of places) ≡ length places
+      two = length-map places group_of
+
+      free-within : (place next : ℕ) → IsNextPlace (links_of places) free place next → place ≤ length (groups_of places)
+      free-within place next (inl is) =
+          let inside = free-inside (links_of places) free next is.0 in
+          let here = is.1 in
+          omega (arith, inside, one, two, here)
+      free-within place next (inr is) = (let here = is.1 in omega (arith, one, two, here))
+
+      empty-at : (items : List GroupPlace) (at next : ℕ) → get_or (links_of items) at None ≡ Some next → get_or (groups_of items) at none ≡ none
+      empty-at [] at next is = refl
+      empty-at (Free link ∷ rest) zero next is = refl
+      empty-at (Short words ∷ rest) zero next is = absurd (none-some next is)
+      empty-at (Long group ∷ rest) zero next is = absurd (none-some next is)
+      empty-at (first ∷ rest) (suc at) next is = empty-at rest at next is
+
+      free-empty : (place next : ℕ) → IsNextPlace (links_of places) free place next → get_or (groups_of places) place none ≡ none
+      free-empty place next (inl is) = ap (λ at. get_or (groups_of places) at none) is.1 ∙ empty-at places free next is.0
+      free-empty place next (inr is) = (let here = is.1 in get_or_past (groups_of places) place none (omega (arith, one, two, here)))
+
+  -- A group is put at the next place.
+  pub groups-put : (place next : ℕ) (new : GroupPlace) → IsNextPlace (links_of places) free place next → group_of new ≢ none → NoneLost (links_of (put_at places place new)) next
+  groups-put place next new is some = put-places link_of places free lost place next new is (link-group new some)
+
+  module _ (at : ℕ) (held : GroupPlace) (is : held ≡ get_or places at held) where
+    pub groups-back : NoneLost (links_of (set places at held)) free
+    groups-back = subst (λ (items : List GroupPlace). NoneLost (links_of items) free) (sym (set_same places at held is)) lost
+
+    -- A value is written in the group,
+    pub groups-with : (inside : Inside) (value : ℕ) → NoneLost (links_of (set places at (place_with held inside value))) free
+    groups-with inside value = set-places link_of places free lost at held is (place_with held inside value) (link-with held inside value)
+
+    module _ (some : group_of held ≢ none) (new : GroupPlace) where
+      -- the group is another,
+      pub groups-set : group_of new ≢ none → NoneLost (links_of (set places at new)) free
+      groups-set other = set-places link_of places free lost at held is new (link-group new other ∙ sym (link-group held some))
+
+      -- or goes.
+      pub groups-gone : at < length places → NoneLost (links_of (set (set places at new) at (Free free))) at
+      groups-gone inside = free-places link_of places free lost at held is inside (link-group held some) new (Free free) refl

@@ -1,16 +1,22 @@
 -- Groups of long keys: what a change of their lists makes of them.
-use Rattle.std.proofs.Common.{◌≡◌, ◌≢◌, ℕ, zero, suc, ◌<◌, true, false, cond, List, [], ◌∷◌, ◌++◌, length, get_or, set, Option, Some, nat_lt, refl, sym, ap, ◌∙◌, subst, arith}
+use Rattle.std.proofs.Common.{◌≡◌, ◌≢◌, ℕ, zero, suc, ◌<◌, ◌≤◌, inl, inr, true, false, cond, List, [], ◌∷◌, ◌++◌, length, get_or, set, Option, None, Some, nat_lt, Result, Ok, Err, OnOk, OnErr, refl, sym, ap, ◌∙◌, subst, arith}
 use Rattle.std.specs.List as list
 use Rattle.std.specs.FinMap.{get, insert}
-use Rattle.std.proofs.lemmas.List.{map-set, get_or-map, length-map, map-append}
+use Rattle.std.proofs.lemmas.List.{map-set, get_or-map, length-map, map-append, get_or_past, get_or_default, get_or-set_same, get_or-set_other}
+use Rattle.std.proofs.lemmas.Bool.{cases_eq}
+use Rattle.std.proofs.lemmas.Option.{none-some}
+use Rattle.judy_places.specs.Places.{IsNextPlace}
+use Rattle.judy_places.proofs.PlaceLemmas.{free-inside}
 use Rattle.judy_model.specs.Keys.{word_order}
 use Rattle.judy_model.specs.Arrays.{ArrayOf, with_map}
 use Rattle.judy_hs.specs.declared.long_group.ChainPlace.{ChainPlace}
 use Rattle.judy_hs.specs.declared.long_group.ChainPlace.TheVariants.{Free, Taken}
 use Rattle.judy_hs.specs.Chains.{Pairs, with_value_at}
-use Rattle.judy_hs.specs.LongGroups.{Long, long_with, put_at, with_chain, added_long, IsAdded, IsFound, hashes_without, without_key}
-use Rattle.judy_hs.specs.ChainPlaces.{pairs_at, chains_of}
+use Rattle.judy_hs.specs.LongGroups.{Long, long_with, put_at, with_chain, added_long, IsAdded, IsFound, hashes_without, without_key, IsFreePlace}
+use Rattle.judy_hs.specs.ChainPlaces.{pairs_at, chains_of, link_of, links_of, HasKey, AreChainPlaces}
 use Rattle.judy_hs.specs.LongLends.{place_with}
+use Rattle.judy_hs.proofs.TwoLevels.{get_or-put, get_or-put_other}
+use Rattle.judy_hs.proofs.PlaceSteps.{put-places, end-places, set-places, free-places}
 
 -- The group that its parts are.
 abbrev pub long_of : ArrayOf word_order → List ChainPlace → Long
@@ -110,3 +116,133 @@ pub used-within : (places : List ChainPlace) (place : ℕ) → get_or (chains_of
 used-within [] place used = absurd (used refl)
 used-within (first ∷ rest) zero used = omega arith
 used-within (first ∷ rest) (suc place) used = omega (arith, used-within rest place used)
+
+-- ---- what the places keep
+
+link-key : (place : ChainPlace) → pairs_at place ≢ [] → link_of place ≡ None
+link-key (Free next) used = absurd (used refl)
+link-key (Taken chain) used = refl
+
+has-key : (place : ChainPlace) → pairs_at place ≢ [] → HasKey place
+has-key (Free next) used = absurd (used refl)
+has-key (Taken chain) used = used
+
+keys-there : (place : ChainPlace) → link_of place ≡ None → HasKey place → pairs_at place ≢ []
+keys-there (Free next) taken has = absurd (none-some next (sym taken))
+keys-there (Taken chain) taken has = has
+
+link-with : (place : ChainPlace) (at value : ℕ) → link_of (place_with place at value) ≡ link_of place
+link-with (Free next) at value = refl
+link-with (Taken chain) at value = refl
+
+with-some : (pairs : Pairs) (at value : ℕ) → pairs ≢ [] → with_value_at pairs at value ≢ []
+with-some [] at value some e = absurd (some refl)
+with-some (pair ∷ rest) zero value some e = cc
+with-some (pair ∷ rest) (suc at) value some e = cc
+
+has-with : (place : ChainPlace) (at value : ℕ) → HasKey place → HasKey (place_with place at value)
+has-with (Free next) at value has = tt
+has-with (Taken chain) at value has = with-some chain at value has
+
+push-some : (pairs : Pairs) (pair : List ℕ × ℕ) → pairs ++ pair ∷ [] ≢ []
+push-some [] pair e = cc
+push-some (first ∷ rest) pair e = cc
+
+-- A chain keeps a key, whether one was put in or refused.
+pub added-some : {A E : Type 0} (result : Result A E) (key : List ℕ) (before after : ChainPlace) → OnOk result (pairs_at after ≡ pairs_at before ++ (key, 0) ∷ []) → OnErr result (after ≡ before) → pairs_at before ≢ [] → pairs_at after ≢ []
+added-some (Ok at) key before after added same some e = push-some (pairs_at before) (key, 0) (sym added ∙ e)
+added-some (Err error) key before after added same some e = some (sym (ap pairs_at same) ∙ e)
+
+module _ (places : List ChainPlace) (free : ℕ) (are : AreChainPlaces places free) where
+  -- Keys at a place of the list, where another thing is put there, or at the end.
+  have-set : (at : ℕ) (new : ChainPlace) → at < length places → HasKey new → (k : ℕ) → HasKey (get_or (set places at new) k (Free 0))
+  have-set at new inside has k = elim (cases_eq k at) [
+    | inl e ↦ subst HasKey (sym (ap (λ n. get_or (set places at new) n (Free 0)) e ∙ get_or-set_same places at new (Free 0) inside)) has
+    | inr apart ↦ subst HasKey (sym (get_or-set_other places at k new (Free 0) apart)) (are.have_keys k)
+  ]
+
+  -- The end is the next place only where each place has a chain.
+  pub chains-last : (place next : ℕ) → IsNextPlace (links_of places) free place next → place ≡ length (chains_of places) → (at : ℕ) → at < length (chains_of places) → get_or (chains_of places) at [] ≢ []
+  chains-last place next is end at inside =
+      let long : length (chains_of places) ≡ length places = length-map places pairs_at in
+      let within : at < length places = omega (arith, inside, long) in
+      let all = end-places link_of places free are.none_lost place next is (end ∙ long) at in
+      subst (λ (pairs : Pairs). pairs ≢ []) (pairs_at-get places at (Free 0) within)
+      (keys-there (get_or places at (Free 0)) (sym (get_or-map link_of places at (Free 0) None within) ∙ all) (are.have_keys at))
+
+  -- The next place has no chain.
+  pub chains-free : (place next : ℕ) → IsNextPlace (links_of places) free place next → IsFreePlace (chains_of places) place
+  chains-free place next is = record {
+    within = free-within place next is;
+    no_key = free-empty place next is;
+    last = chains-last place next is;
+  }
+    where
+      free-within : (place next : ℕ) → IsNextPlace (links_of places) free place next → place ≤ length (chains_of places)
+      free-within place next (inl is) =
+          let inside = free-inside (links_of places) free next is.0 in
+          let one : length (links_of places) ≡ length places = length-map places link_of in
+          let two : length (chains_of places) ≡ length places = length-map places pairs_at in
+          let here = is.1 in
+          omega (arith, inside, one, two, here)
+      free-within place next (inr is) =
+          let one : length (links_of places) ≡ length places = length-map places link_of in
+          let two : length (chains_of places) ≡ length places = length-map places pairs_at in
+          let here = is.1 in
+          omega (arith, one, two, here)
+
+      empty-at : (items : List ChainPlace) (at next : ℕ) → get_or (links_of items) at None ≡ Some next → get_or (chains_of items) at [] ≡ []
+      empty-at [] at next is = refl
+      empty-at (Free link ∷ rest) zero next is = refl
+      empty-at (Taken chain ∷ rest) zero next is = absurd (none-some next is)
+      empty-at (one ∷ rest) (suc at) next is = empty-at rest at next is
+
+      free-empty : (place next : ℕ) → IsNextPlace (links_of places) free place next → get_or (chains_of places) place [] ≡ []
+      free-empty place next (inl is) = ap (λ at. get_or (chains_of places) at []) is.1 ∙ empty-at places free next is.0
+      free-empty place next (inr is) =
+          let one : length (links_of places) ≡ length places = length-map places link_of in
+          let two : length (chains_of places) ≡ length places = length-map places pairs_at in
+          let here = is.1 in
+          get_or_past (chains_of places) place [] (omega (arith, one, two, here))
+
+  -- A chain of a key is put at the next place.
+  pub places-put : (place next : ℕ) (chain : Pairs) → IsNextPlace (links_of places) free place next → chain ≢ [] → AreChainPlaces (put_at places place (Taken chain)) next
+  places-put place next chain is used = record {
+    none_lost = put-places link_of places free are.none_lost place next (Taken chain) is refl;
+    have_keys = λ k. elim (cases_eq k place) [
+      | inl e ↦ subst HasKey (sym (ap (λ n. get_or (put_at places place (Taken chain)) n (Free 0)) e ∙ get_or-put places place (Taken chain) (Free 0) within)) used
+      | inr apart ↦ subst HasKey (sym (get_or-put_other places place k (Taken chain) (Free 0) within apart)) (are.have_keys k)
+    ];
+  }
+    where
+      within : place ≤ length places
+      within = (let w = (chains-free place next is).within in let two : length (chains_of places) ≡ length places = length-map places pairs_at in omega (arith, w, two))
+
+  module _ (at : ℕ) (held : ChainPlace) (is : held ≡ get_or places at held) (inside : at < length places) where
+    has-held : HasKey held
+    has-held = subst HasKey (sym (is ∙ get_or_default places at held (Free 0) inside)) (are.have_keys at)
+
+    pub places-back : AreChainPlaces (set places at held) free
+    places-back = subst (λ (items : List ChainPlace). AreChainPlaces items free) (sym (set_same places at held is)) are
+
+    -- A value is written in the chain,
+    pub places-with : (place value : ℕ) → AreChainPlaces (set places at (place_with held place value)) free
+    places-with place value = record {
+      none_lost = set-places link_of places free are.none_lost at held is (place_with held place value) (link-with held place value);
+      have_keys = have-set at (place_with held place value) inside (has-with held place value has-held);
+    }
+
+    module _ (used : pairs_at held ≢ []) (new : ChainPlace) where
+      -- the chain keeps a key,
+      pub places-set : pairs_at new ≢ [] → AreChainPlaces (set places at new) free
+      places-set some = record {
+        none_lost = set-places link_of places free are.none_lost at held is new (link-key new some ∙ sym (link-key held used));
+        have_keys = have-set at new inside (has-key new some);
+      }
+
+      -- or goes.
+      pub places-free : AreChainPlaces (set (set places at new) at (Free free)) at
+      places-free = record {
+        none_lost = free-places link_of places free are.none_lost at held is inside (link-key held used) new (Free free) refl;
+        have_keys = λ k. subst (λ (items : List ChainPlace). HasKey (get_or items k (Free 0))) (sym (set-twice places at new (Free free))) (have-set at (Free free) inside tt k);
+      }

@@ -1,5 +1,6 @@
 -- Places for chains.
-use Rattle.std.specs.Prelude.{List, [], map}
+use Rattle.std.specs.Prelude.{◌≢◌, ℕ, List, [], map, get_or, Option, None, Some}
+use Rattle.judy_places.specs.Places.{Links, NoneLost}
 use Rattle.judy_hs.specs.Chains.{Pairs}
 use Rattle.judy_hs.specs.declared.long_group.ChainPlace.{ChainPlace}
 use Rattle.judy_hs.specs.declared.long_group.ChainPlace.TheVariants.{Free, Taken}
@@ -11,3 +12,21 @@ pairs_at (Taken chain) = chain
 
 abbrev pub chains_of : List ChainPlace → List Pairs
 chains_of places = map pairs_at places
+
+-- What a place is linked to where it is free.
+abbrev pub link_of : ChainPlace → Option ℕ
+link_of (Free next) = Some next
+link_of (Taken chain) = None
+
+abbrev pub links_of : List ChainPlace → Links
+links_of places = map link_of places
+
+-- A chain has a key.
+abbrev pub HasKey : ChainPlace → Type 0
+HasKey (Free next) = Unit {0}
+HasKey (Taken chain) = chain ≢ []
+
+-- What always holds of the places: no free one is lost, and each chain has a key.
+pub record AreChainPlaces (places : List ChainPlace) (free : ℕ) : Type 0 where
+  pub none_lost : NoneLost (links_of places) free
+  pub have_keys : (at : ℕ) → HasKey (get_or places at (Free 0))

@@ -1,5 +1,6 @@
 -- Places for groups.
-use Rattle.std.specs.Prelude.{List, map}
+use Rattle.std.specs.Prelude.{ℕ, List, map, Option, None, Some}
+use Rattle.judy_places.specs.Places.{Links}
 use Rattle.judy_hs.specs.Groups.{Group, none, short, long}
 use Rattle.judy_hs.specs.declared.group.GroupPlace.{GroupPlace}
 use Rattle.judy_hs.specs.declared.group.GroupPlace.TheVariants.{Free, Short, Long}
@@ -12,3 +13,12 @@ group_of (Long group) = long group
 
 abbrev pub groups_of : List GroupPlace → List Group
 groups_of places = map group_of places
+
+-- What a place is linked to where it is free.
+abbrev pub link_of : GroupPlace → Option ℕ
+link_of (Free next) = Some next
+link_of (Short words) = None
+link_of (Long group) = None
+
+abbrev pub links_of : List GroupPlace → Links
+links_of places = map link_of places

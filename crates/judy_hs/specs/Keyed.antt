@@ -1,5 +1,5 @@
 -- The groups of an array by the length of their keys.
-use Rattle.std.specs.Prelude.{◌≡◌, ◌≤◌, ◌<◌, ℕ, List, [], length, get_or, slice_set, Option, Some, None, refl}
+use Rattle.std.specs.Prelude.{◌≡◌, ◌≢◌, ◌≤◌, ◌<◌, ℕ, List, [], length, get_or, slice_set, Option, Some, None, refl}
 use Rattle.std.specs.Coded.{Coded, code_by, coded×, coded_list, coded_ℕ}
 use Rattle.std.specs.FinMap.{get, insert, remove}
 use Rattle.judy_model.specs.Keys.{word_order}
@@ -40,10 +40,11 @@ pub record IsSpot (keyed : Keyed) (part : ℕ) (key : List ℕ) (place : ℕ) (i
   pub within : place < length keyed.groups
   pub is_inside : IsInside (group_at keyed place) part key inside
 
--- A place without a group: one of the list, or its end.
+-- A place without a group: one of the list, or its end where each place has a group.
 pub record IsFreeGroup (groups : List Group) (place : ℕ) : Type 0 where
   pub within : place ≤ length groups
   pub no_group : get_or groups place none ≡ none
+  pub last : place ≡ length groups → (at : ℕ) → at < length groups → get_or groups at none ≢ none
 
 -- With a value in the group at a place.
 abbrev pub keyed_with : Keyed → ℕ → Inside → ℕ → Keyed

@@ -1,5 +1,5 @@
 -- The keys of one length above 8 bytes: chains of keys with one hash.
-use Rattle.std.specs.Prelude.{◌≡◌, ◌<◌, ℕ, List, [], ◌∷◌, get_or, length, Option, refl, ◌++◌, ◌≤◌, cond, nat_lt, slice_set, Some, None}
+use Rattle.std.specs.Prelude.{◌≡◌, ◌≢◌, ◌<◌, ℕ, List, [], ◌∷◌, get_or, length, Option, refl, ◌++◌, ◌≤◌, cond, nat_lt, slice_set, Some, None}
 use Rattle.std.specs.Coded.{Coded, code_by, coded×, coded_list, coded_ℕ}
 use Rattle.std.specs.FinMap.{get, insert, empty, remove}
 use Rattle.judy_model.specs.Keys.{word_order}
@@ -54,10 +54,11 @@ one_long hash key = record { hashes = one_word hash 0; chains = ((key, 0) ∷ []
 abbrev pub put_at : {X : Type 0} → List X → ℕ → X → List X
 put_at xs at x = cond (nat_lt at (length xs)) (slice_set xs at x) (xs ++ x ∷ [])
 
--- A place without a chain: one of the list, or its end.
+-- A place without a chain: one of the list, or its end where each place has a chain.
 pub record IsFreePlace (chains : List Pairs) (place : ℕ) : Type 0 where
   pub within : place ≤ length chains
   pub no_key : get_or chains place [] ≡ []
+  pub last : place ≡ length chains → (at : ℕ) → at < length chains → get_or chains at [] ≢ []
 
 -- The group with a chain of one key, at a place under a hash that led nowhere.
 abbrev pub with_chain : Long → ℕ → List ℕ → ℕ → Long

@@ -1,12 +1,14 @@
-//! All groups of an array, by the length of their keys.
+//! All groups of an array, by the length of their keys. A new group takes the place that is free first; the list grows
+//! only where none is free.
 
-ghost use Rattle.std.specs.Prelude.{ℕ, ◌++◌, OnOk, ◌≡◌, ◌≢◌, ◌<◌, ◌≤◌, [], option_copied, IfOk, IsOk, OnErr, IsSome, IfSome, None, Some, MatchOption, length, vec_len, vec_capacity};
+ghost use Rattle.std.specs.Prelude.{ℕ, ◌++◌, OnOk, ◌≡◌, ◌≢◌, ◌<◌, ◌≤◌, [], option_copied, IfOk, IsOk, OnErr, IsSome, IfSome, None, Some, MatchOption, length, get_or, vec_len, vec_capacity};
 ghost use Rattle.std.specs.Borrow.{sem};
 ghost use Rattle.std.specs.FinMap.{get, len as map_len};
 ghost use Rattle.std.specs.Option.{option_copied_mut};
 ghost use Rattle.judy_hs.specs.Groups.{one_group, one_inside};
-ghost use Rattle.judy_hs.specs.GroupPlaces.{group_of, groups_of};
+ghost use Rattle.judy_hs.specs.GroupPlaces.{group_of, groups_of, links_of};
 ghost use Rattle.judy_hs.specs.Keyed.{IsFreeGroup};
+ghost use Rattle.judy_places.specs.Places.{NoneLost, IsNextPlace};
 
 use crate::entry::HsEntry;
 use crate::error::HsError;
@@ -39,9 +41,12 @@ impl Model for Groups {
 
     ghost coded = { keyed_code };
 
-    ghost use Rattle.judy_hs.specs.GroupPlaces.{groups_of};
+    ghost use Rattle.judy_hs.specs.GroupPlaces.{groups_of, links_of};
+    ghost use Rattle.judy_places.specs.Places.{NoneLost};
 
     ghost view = { λ all. record { lengths = all.lengths; groups = groups_of all.groups.items } };
+
+    ghost invariant = { λ all. NoneLost (links_of all.groups.items) all.free };
 }
 
 // The group of one key, with the value 0, and where the key stands in it.
@@ -254,15 +259,32 @@ impl Groups {
     }
 }
 
-// A free place for a group and the place that was free before it, or the end of the list, where room is reserved.
+// What the first free place is linked to, and none where no place is free.
+fn first_link(groups: &[GroupPlace], free: usize) -> Option<usize>
+    ensures { result ≡ get_or (links_of groups.now) free None }
+{
+    match groups.get(free) {
+        Some(GroupPlace::Free(next)) => Some(*next),
+        Some(GroupPlace::Short(_)) => None,
+        Some(GroupPlace::Long(_)) => None,
+        None => None,
+    }
+}
+
+// The place that the next group takes, and the one that is free first then: the first free one, or the end of the list,
+// where room is reserved.
 fn free_place(groups: &mut Vec<GroupPlace>, free: usize) -> Result<(usize, usize), AllocError>
+    requires { NoneLost (links_of groups.old.items) free }
+    ensures next { IfOk result (λ found. IsNextPlace (links_of groups.old.items) free found.0 found.1) }
     ensures found { IfOk result (λ found. IsFreeGroup (groups_of groups.old.items) found.0) }
     ensures room { IfOk result (λ found. found.0 ≡ length groups.new.items → vec_len groups.new < vec_capacity groups.new) }
     ensures same { groups.new.items ≡ groups.old.items }
 {
-    if let Some(GroupPlace::Free(next)) = groups.get(free) {
-        return Ok((free, *next));
+    match first_link(groups, free) {
+        Some(next) => Ok((free, next)),
+        None => {
+            groups.reserve(1)?;
+            Ok((groups.len(), free))
+        }
     }
-    groups.reserve(1)?;
-    Ok((groups.len(), free))
 }

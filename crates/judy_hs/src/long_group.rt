@@ -1,12 +1,14 @@
-//! The keys of one length above 8 bytes, by their hashes.
+//! The keys of one length above 8 bytes, by their hashes. A new chain takes the place that is free first; the list grows
+//! only where none is free.
 
-ghost use Rattle.std.specs.Prelude.{ℕ, ◌≡◌, ◌≢◌, ◌∷◌, [], ◌<◌, ◌≤◌, IfOk, OnOk, OnErr, None, Some, MatchOption, ◌++◌, ◌↔◌, IsTrue, IfSome, length, vec_len, vec_capacity};
+ghost use Rattle.std.specs.Prelude.{ℕ, ◌≡◌, ◌≢◌, ◌∷◌, [], ◌<◌, ◌≤◌, IfOk, OnOk, OnErr, None, Some, MatchOption, ◌++◌, ◌↔◌, IsTrue, IfSome, length, get_or, vec_len, vec_capacity};
 ghost use Rattle.std.specs.FinMap.{get, empty, len as map_len};
 ghost use Rattle.std.specs.Borrow.{sem};
 ghost use Rattle.std.specs.Option.{option_copied_mut};
 ghost use Rattle.std.specs.List.{remove};
 ghost use Rattle.judy_hs.specs.LongGroups.{put_at, IsFreePlace};
-ghost use Rattle.judy_hs.specs.ChainPlaces.{chains_of};
+ghost use Rattle.judy_hs.specs.ChainPlaces.{chains_of, links_of, AreChainPlaces};
+ghost use Rattle.judy_places.specs.Places.{IsNextPlace};
 ghost use Rattle.judy_hs.specs.Listed.{entries_in};
 
 use crate::chain::Chain;
@@ -40,9 +42,11 @@ impl Model for LongGroup {
 
     ghost coded = { long_code };
 
-    ghost use Rattle.judy_hs.specs.ChainPlaces.{chains_of};
+    ghost use Rattle.judy_hs.specs.ChainPlaces.{chains_of, AreChainPlaces};
 
     ghost view = { λ group. record { hashes = group.hashes; chains = chains_of group.chains.items } };
+
+    ghost invariant = { λ group. AreChainPlaces group.chains.items group.free };
 }
 
 // Puts a value at a place of a list, or at its end, where room is reserved.
@@ -58,17 +62,33 @@ pub fn put<T: Drop>(list: &mut Vec<T>, place: usize, value: T)
     }
 }
 
-// A free place for a chain and the place that was free before it, or the end of the list, where room is reserved.
+// What the first free place is linked to, and none where no place is free.
+fn first_link(chains: &[ChainPlace], free: usize) -> Option<usize>
+    ensures { result ≡ get_or (links_of chains.now) free None }
+{
+    match chains.get(free) {
+        Some(ChainPlace::Free(next)) => Some(*next),
+        Some(ChainPlace::Taken(_)) => None,
+        None => None,
+    }
+}
+
+// The place that the next chain takes, and the one that is free first then: the first free one, or the end of the list,
+// where room is reserved.
 fn free_place(chains: &mut Vec<ChainPlace>, free: usize) -> Result<(usize, usize), AllocError>
+    requires { AreChainPlaces chains.old.items free }
+    ensures next { IfOk result (λ found. IsNextPlace (links_of chains.old.items) free found.0 found.1) }
     ensures found { IfOk result (λ found. IsFreePlace (chains_of chains.old.items) found.0) }
     ensures room { IfOk result (λ found. found.0 ≡ length chains.new.items → vec_len chains.new < vec_capacity chains.new) }
     ensures same { chains.new.items ≡ chains.old.items }
 {
-    if let Some(ChainPlace::Free(next)) = chains.get(free) {
-        return Ok((free, *next));
+    match first_link(chains, free) {
+        Some(next) => Ok((free, next)),
+        None => {
+            chains.reserve(1)?;
+            Ok((chains.len(), free))
+        }
     }
-    chains.reserve(1)?;
-    Ok((chains.len(), free))
 }
 
 impl ChainPlace {

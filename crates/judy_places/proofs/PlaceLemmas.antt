@@ -1,8 +1,8 @@
 -- Free places that are taken, and taken ones that become free.
-use Rattle.std.proofs.Common.{◌≡◌, ℕ, zero, suc, ◌<◌, inl, inr, [], ◌∷◌, ◌++◌, length, get_or, set, None, Some, refl, sym, ap, subst, ◌∙◌, arith}
+use Rattle.std.proofs.Common.{◌≡◌, ℕ, zero, suc, ◌<◌, ◌≤◌, inl, inr, [], ◌∷◌, ◌++◌, length, get_or, set, None, Some, refl, sym, ap, subst, ◌∙◌, arith}
 use Rattle.std.proofs.lemmas.Option.{none-some, same_Some}
 use Rattle.std.proofs.lemmas.List.{length-set, get_or-set_same, set-set, set-get_or}
-use Rattle.judy_places.specs.Places.{Links, AllTaken, AreLinked, NoneLost, free_places, IsPlaceTaken, AreReused, AreFreed}
+use Rattle.judy_places.specs.Places.{Links, AllTaken, AreLinked, NoneLost, free_places, taken_places, IsPlaceTaken, AreReused, AreFreed}
 
 -- A taken place more at the end.
 get-longer : (links : Links) (at : ℕ) → get_or (links ++ None ∷ []) at None ≡ get_or links at None
@@ -105,3 +105,10 @@ free-some (Some link ∷ rest) (suc at) next is = ap (λ n. suc n) (free-some re
 pub free-linked : (count : ℕ) (links : Links) (first : ℕ) → AreLinked count links first → count ≡ free_places links
 free-linked zero links first all = sym (free-none links all)
 free-linked (suc count) links first linked = ap (λ n. suc n) (free-linked count (set links first None) linked.0 linked.2) ∙ sym (free-some links first linked.0 linked.1)
+
+-- A list grows only where all its places are taken.
+pub within-most : (before : Links) (first : ℕ) (after : Links) (next most : ℕ) → NoneLost before first → AreReused before first after next → length before ≤ most → taken_places after ≤ most → length after ≤ most
+within-most before first after next most lost reused short taken = elim (reused.tight lost) [
+  | inl same ↦ omega (arith, same, short)
+  | inr all ↦ (let none = free-none after all in omega (arith, none, taken))
+]

@@ -1,6 +1,6 @@
 -- A list of places, some taken and some free. The free ones are linked: the first one is known, and each holds the
 -- place that is first once it is taken.
-use Rattle.std.specs.Prelude.{◌≡◌, ℕ, zero, suc, ◌≤◌, ◌⊎◌, List, [], ◌∷◌, ◌++◌, length, get_or, set, Option, None, Some}
+use Rattle.std.specs.Prelude.{◌≡◌, ℕ, zero, suc, ◌-◌, ◌≤◌, ◌⊎◌, List, [], ◌∷◌, ◌++◌, length, get_or, set, Option, None, Some}
 
 -- What each place holds where it is free, the place that it is linked to, and nothing where it is taken.
 abbrev pub Links : Type 0
@@ -25,6 +25,10 @@ abbrev pub free_places : Links → ℕ
 free_places [] = 0
 free_places (None ∷ rest) = free_places rest
 free_places (Some next ∷ rest) = suc (free_places rest)
+
+-- How many places are taken.
+abbrev pub taken_places : Links → ℕ
+taken_places links = length links - free_places links
 
 -- The place that is taken next, and the one that is first then: the first free one and its link; or, where none is
 -- free, the end.

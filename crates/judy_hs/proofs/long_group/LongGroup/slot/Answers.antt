@@ -2,7 +2,7 @@ use Rattle.std.proofs.Common.{ap, ◌∙◌}
 use Rattle.std.specs.Option.{ghost_name_of}
 use borrow.Follows.Closed.{read_of}
 use Rattle.judy_hs.specs.Chains.{Pairs, value_at}
-use Rattle.judy_hs.proofs.LongLemmas.{within-places, held-is, long-written, long-back}
+use Rattle.judy_hs.proofs.LongLemmas.{within-places, held-is, long-written, long-back, places-with, places-back}
 use Rattle.judy_hs.proofs.long_group.LongGroup.slot.Goals as goal
 
 pub returns : goal.returns
@@ -16,4 +16,11 @@ returns c =
         writes_back = tt;
         value = c.slot.ensures.value ∙ ap (λ (pairs : Pairs). value_at pairs c.args.at) (held-is c.self.inside.hashes c.self.inside.chains.items c.args.place c.args.at c.index_mut-chain.result.now within c.index_mut-chain.ensures.value);
       },
+    )
+
+pub invariant_of-self-lent : goal.invariant_of-self-lent
+invariant_of-self-lent c _ =
+    let within = within-places c.self.inside.hashes c.self.inside.chains.items c.args.self.now c.args.place c.self.view_is c.requires in (
+      λ w. places-with c.self.inside.chains.items c.self.inside.free c.self.invariant c.args.place c.index_mut-chain.result.now c.index_mut-chain.ensures.value within c.args.at w,
+      places-back c.self.inside.chains.items c.self.inside.free c.self.invariant c.args.place c.index_mut-chain.result.now c.index_mut-chain.ensures.value within,
     )

@@ -1,0 +1,82 @@
+/* Refuses calls for memory, to see what a program does without it.
+
+   It stands before the C library's own functions, where it is preloaded, and counts the calls of them all. REFUSE=N in
+   the environment refuses the Nth call, REFUSE=N+ that one and each later one. At the first that it refuses it creates the
+   file that REFUSED names, so that whoever runs the program can tell. It counts for one thread. */
+
+#include <errno.h>
+#include <fcntl.h>
+#include <stddef.h>
+#include <stdlib.h>
+#include <string.h>
+#include <unistd.h>
+
+extern void *__libc_malloc(size_t size);
+extern void *__libc_calloc(size_t count, size_t size);
+extern void *__libc_realloc(void *block, size_t size);
+extern void *__libc_memalign(size_t alignment, size_t size);
+
+static long first; /* 0: nothing is refused */
+static long called;
+static int onward;
+
+__attribute__((constructor)) static void begin(void)
+{
+    const char *refuse = getenv("REFUSE");
+    if (refuse) {
+        onward = strchr(refuse, '+') != NULL;
+        called = 0;
+        first = atol(refuse);
+    }
+}
+
+static int refused(void)
+{
+    if (first == 0)
+        return 0;
+    called++;
+    if (called < first || (called > first && !onward))
+        return 0;
+    if (called == first) {
+        const char *told = getenv("REFUSED");
+        int file = told ? open(told, O_CREAT | O_WRONLY, 0600) : -1;
+        if (file >= 0)
+            close(file);
+    }
+    errno = ENOMEM;
+    return 1;
+}
+
+void *malloc(size_t size)
+{
+    return refused() ? NULL : __libc_malloc(size);
+}
+
+void *calloc(size_t count, size_t size)
+{
+    return refused() ? NULL : __libc_calloc(count, size);
+}
+
+void *realloc(void *block, size_t size)
+{
+    return refused() ? NULL : __libc_realloc(block, size);
+}
+
+void *memalign(size_t alignment, size_t size)
+{
+    return refused() ? NULL : __libc_memalign(alignment, size);
+}
+
+void *aligned_alloc(size_t alignment, size_t size)
+{
+    return refused() ? NULL : __libc_memalign(alignment, size);
+}
+
+int posix_memalign(void **block, size_t alignment, size_t size)
+{
+    void *made = refused() ? NULL : __libc_memalign(alignment, size);
+    if (!made)
+        return ENOMEM;
+    *block = made;
+    return 0;
+}
