@@ -11,12 +11,17 @@ command-line-ends), the files that it writes.
 import os
 import pty
 import select
+import signal
+import socket
+import struct
 import subprocess
 import sys
 import tempfile
+import time
 
 FIRST_SCRIPT = b"make a judyl\nins a 5 7\nins a 5 9\nget a 5\nget a 6\nput a 6 1\n"
 FIRST_ANSWERS = b"ok\nwas 0\nwas 7\n9\nnone\nnone\n"
+READ_FAULT = b"judystore: run: read\n"
 # The dump of a judy1 `a` with the key 1, and of the store that the first script leaves.
 SMALL_DUMP = bytes.fromhex("4a445931 00000001 01 61 01 00000000ffffffff 0000000000000001 0000000000000001")
 FIRST_DUMP = bytes.fromhex("4a445931 00000001 01 61 02 00000000ffffffff 0000000000000001 0000000000000005 0000000000000009")
@@ -55,7 +60,7 @@ def check_ends(checks, program):
     checks.expect("a long script", run(program, script=comments * 2000 + FIRST_SCRIPT), (0, FIRST_ANSWERS, b""))
     checks.expect("no script", run(program, script=b""), (0, b"", b""))
     folder = os.open("/", os.O_RDONLY)
-    checks.expect("a folder as script", run(program, stdin=folder), (1, b"", b"judystore: run: read\n"))
+    checks.expect("a folder as script", run(program, stdin=folder), (1, b"", READ_FAULT))
     os.close(folder)
     with open("/dev/full", "wb") as full, tempfile.TemporaryFile() as script:
         script.write(FIRST_SCRIPT)
@@ -185,6 +190,104 @@ def check_closed(checks, program):
                 checks.expect(f"{name}, {file}", read(os.path.join(folder, file)), content)
 
 
+def state_of(process):
+    """Whether a process runs, sleeps or is stopped, as the system tells it."""
+    with open(f"/proc/{process.pid}/stat", encoding="utf-8") as stat:
+        return stat.read().rpartition(")")[2].split()[0]
+
+
+def wait_for(process, state):
+    """Waits until a process is in a state, or has ended."""
+    end = time.monotonic() + SECONDS
+    while process.poll() is None and state_of(process) != state and time.monotonic() < end:
+        time.sleep(0.0002)
+
+
+def interrupt(process, times):
+    """Interrupts the read that a process waits in, by stopping it and letting it go on, so many times in a row."""
+    for _ in range(times):
+        wait_for(process, "S")
+        process.send_signal(signal.SIGSTOP)
+        wait_for(process, "T")
+        process.send_signal(signal.SIGCONT)
+
+
+def faltering(program, seconds, falter):
+    """The status, the answers and what stands on standard error, where the script comes through a socket that gives
+    at each read what was put in at once, and fails where nothing comes for so long. `falter` puts the script in, and
+    tells the answers that it has read."""
+    ours, script = socket.socketpair(socket.AF_UNIX, socket.SOCK_SEQPACKET)
+    # With a time limit, a read that waits is also interrupted where its process is stopped and goes on.
+    script.setsockopt(socket.SOL_SOCKET, socket.SO_RCVTIMEO, struct.pack("ll", seconds, 0))
+    with ours, subprocess.Popen([program], stdin=script, stdout=subprocess.PIPE, stderr=subprocess.PIPE) as process:
+        script.close()
+        front = falter(ours, process)
+        ours.close()
+        answers, told = process.communicate(timeout=SECONDS)
+        return process.returncode, front + answers, told
+
+
+def bytewise(script, process):
+    """A script that comes a byte at a time."""
+    for byte in FIRST_SCRIPT:
+        script.send(bytes([byte]))
+    return b""
+
+
+def interrupted(times):
+    """A script whose second line is cut within a word, and goes on after so many interruptions in a row."""
+
+    def falter(script, process):
+        script.send(FIRST_SCRIPT[:20])
+        front = answer_of(process.stdout.fileno())
+        interrupt(process, times)
+        if times < 1000:
+            script.send(FIRST_SCRIPT[20:])
+        return front
+
+    return falter
+
+
+def silent(script, process):
+    """A script that stops within its second line, and doesn't end."""
+    script.send(FIRST_SCRIPT[:20])
+    process.wait(SECONDS)
+    return b""
+
+
+def blocked(program, times):
+    """The status, the answers and what stands on standard error, where standard output has no room until a write was
+    interrupted so many times in a row."""
+    ours, output = socket.socketpair(socket.AF_UNIX, socket.SOCK_SEQPACKET)
+    output.setsockopt(socket.SOL_SOCKET, socket.SO_SNDTIMEO, struct.pack("ll", SECONDS, 0))
+    fillers = 0
+    try:
+        while True:
+            fillers += output.send(b" ", socket.MSG_DONTWAIT)
+    except BlockingIOError:
+        pass
+    with ours, tempfile.TemporaryFile() as script:
+        script.write(FIRST_SCRIPT)
+        script.seek(0)
+        with subprocess.Popen([program], stdin=script, stdout=output, stderr=subprocess.PIPE) as process:
+            output.close()
+            interrupt(process, times)
+            answers = b"".join(iter(lambda: ours.recv(4096), b""))
+            told = process.stderr.read()
+        return process.returncode, answers[fillers:], told
+
+
+def check_faltering(checks, program):
+    """A script that comes a byte at a time, whose reads are interrupted, and whose reader fails; and writes that are
+    interrupted."""
+    checks.expect("a byte at a time", faltering(program, SECONDS, bytewise), (0, FIRST_ANSWERS, b""))
+    checks.expect("999 interruptions", faltering(program, SECONDS, interrupted(999)), (0, FIRST_ANSWERS, b""))
+    checks.expect("1,000 interruptions", faltering(program, SECONDS, interrupted(1000)), (1, b"ok\n", READ_FAULT))
+    checks.expect("a reader that fails", faltering(program, 1, silent), (1, b"ok\n", READ_FAULT))
+    checks.expect("999 interrupted writes", blocked(program, 999), (0, FIRST_ANSWERS, b""))
+    checks.expect("1,000 interrupted writes", blocked(program, 1000), (1, b"", b"judystore: run: write\n"))
+
+
 def answer_of(reader):
     """What comes within the time that a check has, up to the end of a line."""
     got = b""
@@ -236,6 +339,7 @@ def main():
     check_command_lines(checks, program)
     check_refused(checks, program)
     check_closed(checks, program)
+    check_faltering(checks, program)
     check_pipes(checks, program)
     check_terminal(checks, program)
     print(f"the program as people use it: {checks.passed} checks passed, {checks.failed} failed")

@@ -1,7 +1,9 @@
 //! Words as tokens say them and as answers.
 
-ghost use Rattle.std.specs.Prelude.{◌≡◌, ◌<◌, ◌≤◌, ◌+◌, ◌-◌, ◌*◌, ◌^◌, ◌&&◌, length, nat_lt, if◌then◌else◌, Some, None, IfSome, IfOk};
+ghost use Rattle.std.specs.Prelude.{◌≡◌, ◌<◌, ◌≤◌, ◌+◌, ◌-◌, ◌*◌, ◌^◌, ◌&&◌, length, nat_lt, if◌then◌else◌, Some, None, IfSome, IfOk, IsTrue};
 ghost use Rattle.std.specs.Char.{is_ascii_digit, digit_value};
+ghost use Rattle.std.specs.List.{list_all};
+ghost use Rattle.std.specs.Str.Parse.{digits_value_after};
 ghost use Rattle.judy_model.specs.Tokens.{word_of};
 ghost use Rattle.judy_command.specs.Digits.{number_after};
 ghost use Rattle.judy_command.specs.Replies.{checked, answer_of};
@@ -29,7 +31,7 @@ pub(crate) fn word(token: &[u8]) -> Result<u64, Refusal>
 }
 
 // The number of at most 19 decimal digits. Most of them are read by eights: a length that the compiler knows needs no
-// test behind each digit.
+// test behind each digit, and it tests eight bytes at once.
 fn short_number(digits: &[u8]) -> Option<u64>
     requires { length digits.now ≤ 19 }
     ensures { result ≡ number_after 0 digits.now }
@@ -37,10 +39,40 @@ fn short_number(digits: &[u8]) -> Option<u64>
     let mut number = 0;
     let mut rest = digits;
     'chunks: while let Some((chunk, after)) = rest.split_first_chunk::<8>() {
-        number = after_digits(number, chunk)?;
+        if !are_digits(chunk) {
+            return None;
+        }
+        number = value_after(number, chunk);
         rest = after;
     }
     after_digits(number, rest)
+}
+
+// Whether all bytes are decimal digits. It leaves at no byte, so that a few can be tested at once.
+#[inline(always)]
+fn are_digits(bytes: &[u8]) -> bool
+    ensures { result ≡ list_all is_ascii_digit bytes.now }
+{
+    let mut are = true;
+    for byte in bytes {
+        are &= byte.is_ascii_digit();
+    }
+    are
+}
+
+// The number that bytes which are decimal digits make behind those of a number.
+#[inline(always)]
+fn value_after(number: u64, digits: &[u8]) -> u64
+    requires few { length digits.now ≤ 19 }
+    requires small { number < 10 ^ (19 - length digits.now) }
+    requires digits { IsTrue (list_all is_ascii_digit digits.now) }
+    ensures { result ≡ digits_value_after 10 number digits.now }
+{
+    let mut number = number;
+    for byte in digits {
+        number = number * 10 + u64::from(*byte - b'0');
+    }
+    number
 }
 
 // The number that decimal digits make behind those of a number.
@@ -83,11 +115,11 @@ fn digit_of(byte: u8) -> Option<u64>
     ensures value { result ≡ (if is_ascii_digit byte then Some (digit_value byte) else None) }
     ensures small { IfSome result (λ digit. digit < 10) }
 {
-    let digit = byte.wrapping_sub(b'0');
+    let digit = u64::from(byte).wrapping_sub(48);
     if digit > 9 {
         return None;
     }
-    Some(u64::from(digit))
+    Some(digit)
 }
 
 /// The number that was found, or `none`.

@@ -14,7 +14,8 @@ ghost use Rattle.judy_script.specs.declared.fault.RunFault.TheVariants.{Write};
 use crate::cut::cut_at;
 use crate::fault::RunFault;
 use crate::line::{LineBuffer, line_reply};
-use crate::print::{Text, print};
+use crate::print::print;
+use crate::text::Text;
 use judy_command::LineReply;
 use judy_pipe::{Sink, write_all};
 use judy_shelf::Shelf;
@@ -193,7 +194,7 @@ fn put_out<W: Sink>(
         (W.tally sink.new).failures ≡ (if is_ok result then before else before + 1) }
 {
     print(reply, shelf, text);
-    match write_all(sink, text) {
+    match write_all(sink, text.as_slice()) {
         Ok(()) => Ok(()),
         Err(_) => Err(RunFault::Write),
     }

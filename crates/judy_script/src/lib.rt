@@ -7,7 +7,7 @@
 //!
 //! The way of a script: `engine` is fed its bytes in pieces and cuts them into lines (`cut`, `line`); a
 //! line's tokens (`tokens`) are carried out by `judy_command` over the shelf, and its reply is printed
-//! (`print`) and written. Fixed buffers serve all lines of a run, so that an answer takes no memory.
+//! (`print`, into a `text`) and written. Fixed buffers serve all lines of a run, so that an answer takes no memory.
 //!
 //! The crate stands on `judy_command` for the commands, `judy_shelf` for the store and `judy_pipe` for what
 //! is written; the program stands on it.
@@ -19,6 +19,7 @@ mod fault;
 mod line;
 mod print;
 mod runs;
+mod text;
 mod tokens;
 
 pub use fault::RunFault;

@@ -6,7 +6,7 @@ ghost use Rattle.judy_model.specs.Steps.{Step};
 ghost use Rattle.judy_shelf.specs.Shelves.{store_of};
 ghost use Rattle.judy_command.specs.Replies.{line_reply_of};
 
-use crate::tokens::split;
+use crate::tokens::{Tokens, split};
 use arrayvec::ArrayVec;
 use judy_command::{LineReply, Refusal, execute};
 use judy_shelf::Shelf;
@@ -28,7 +28,9 @@ pub(crate) fn line_reply<'k>(
     if bytes.len() > MAX_LINE_LEN {
         return LineReply::Said(Err(Refusal::LineTooLong));
     }
-    execute(shelf, &split(without_return(bytes, ended)), key)
+    let mut tokens = Tokens::new();
+    split(without_return(bytes, ended), &mut tokens);
+    execute(shelf, &tokens, key)
 }
 
 // The line's text: its bytes without a CR that stands just before its LF.

@@ -11,11 +11,11 @@ use arrayvec::ArrayVec;
 /// The first tokens of a line, at most one more than the longest command has, so that too many are seen.
 pub(crate) type Tokens<'a> = ArrayVec<&'a [u8], 5>;
 
-/// The first five tokens of a text, all of them where there are fewer.
-pub(crate) fn split(text: &[u8]) -> Tokens<'_>
-    ensures { map (λ token. token.now) result.items ≡ take 5 (tokens_of text.now) }
+/// Puts the first five tokens of a text into an empty list, all of them where there are fewer.
+pub(crate) fn split<'a>(text: &'a [u8], tokens: &mut Tokens<'a>)
+    requires { tokens.old.items ≡ [] }
+    ensures { map (λ token. token.now) tokens.new.items ≡ take 5 (tokens_of text.now) }
 {
-    let mut tokens = ArrayVec::new();
     let mut rest = text;
     while !tokens.is_full() {
         let Some((token, after)) = first_token(rest) else {
@@ -24,7 +24,6 @@ pub(crate) fn split(text: &[u8]) -> Tokens<'_>
         tokens.push(token);
         rest = after;
     }
-    tokens
 }
 
 // The first token of a text, and what stands after it; none where the text has no token.

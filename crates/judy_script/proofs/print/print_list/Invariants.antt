@@ -1,6 +1,5 @@
 use Rattle.std.proofs.Common.{◌≡◌, ◌+◌, ◌*◌, ◌-◌, ◌≤◌, ◌++◌, length}
 use Rattle.std.specs.Prelude.{codes}
-use Rattle.arrayvec.specs.ArrayVec.{array_vec_len}
 use Rattle.judy_script.proofs.Listings.{listed_of}
 use Rattle.judy_script.proofs.print.print_list.Given as goal
 
@@ -8,8 +7,8 @@ use Rattle.judy_script.proofs.print.print_list.Given as goal
 abbrev pub invariant-arrays : goal.invariant-arrays
 invariant-arrays l = record {
   place : l.place ≤ length l.shelf;
-  items : l.text.items ≡ codes "names" ++ listed_of l.place l.shelf;
-  len : array_vec_len l.text ≤ 5 + 61 * l.place;
+  items : l.text ≡ codes "names" ++ listed_of l.place l.shelf;
+  len : length l.text ≤ 5 + 61 * l.place;
 }
 
 abbrev pub decreases-arrays : goal.decreases-arrays
