@@ -120,7 +120,7 @@ view_width words width tree (Leaf list) none is = is.place
 view_width words width tree (BitLeaf skipped list) none is = is.place.0
 view_width words width tree (Branch b) none is = is.place.0
 
-shown : {V : _} (words width : ℕ) (tree : Tree) (view : ViewOf V) → 1 ≤ width → width ≤ 8 → width_of view ≡ width → IsView words width tree view → IsShown words view
+pub shown : {V : _} (words width : ℕ) (tree : Tree) (view : ViewOf V) → 1 ≤ width → width ≤ 8 → width_of view ≡ width → IsView words width tree view → IsShown words view
 shown words width tree view some narrow wide is = record {
   some = omega arith;
   narrow = omega arith;

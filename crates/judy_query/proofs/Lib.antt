@@ -1,7 +1,10 @@
-pub mod Links
 pub mod Parts
 pub mod Splits
 pub mod Finds
 pub mod Links
 pub mod EndFacts
 pub mod Downs
+pub mod Runs
+pub mod Blocks
+pub mod BranchRooms
+pub mod RoomSteps

@@ -1,5 +1,3 @@
-//! Queries.
-#![tactic(auto)]
 //! The queries of a tree of words: what is the value of a key, how many keys are below a word, which key is the n-th, and which is
 //! nearest to a word.
 //!
@@ -12,7 +10,11 @@
 //! alone: it enters nodes and never opens one.
 #![tactic(auto)]
 
+mod absent;
+mod empties;
 mod ends;
+mod rooms;
 mod values;
 
+pub use empties::empty_at_or_after;
 pub use values::lookup;
