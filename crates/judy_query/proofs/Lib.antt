@@ -1,4 +1,3 @@
-pub mod Links
 pub mod Parts
 pub mod Splits
 pub mod Finds
@@ -6,3 +5,7 @@ pub mod RankFacts
 pub mod Links
 pub mod EndFacts
 pub mod Downs
+pub mod Runs
+pub mod Blocks
+pub mod BranchRooms
+pub mod RoomSteps

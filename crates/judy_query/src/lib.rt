@@ -1,5 +1,3 @@
-//! Queries.
-#![tactic(auto)]
 //! The queries of a tree of words: what is the value of a key, how many keys are below a word, which key is the n-th, and which is
 //! nearest to a word.
 //!
@@ -20,4 +18,11 @@ mod values;
 
 pub use counts::rank;
 pub use places::{entry_nth, nth};
+mod absent;
+mod empties;
+mod ends;
+mod rooms;
+mod values;
+
+pub use empties::empty_at_or_after;
 pub use values::lookup;

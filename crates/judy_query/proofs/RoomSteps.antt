@@ -1,0 +1,164 @@
+-- Rooms along the way down a tree.
+use Rattle.std.proofs.Common.{◌≡◌, ◌≢◌, ℕ, ◌+◌, ◌-◌, ◌*◌, ◌<◌, ◌≤◌, ◌^◌, length, get_or, slice_get, Some, sym, refl, ap, ◌∙◌, subst, arith, false}
+use Rattle.std.proofs.lemmas.Option.{slice_get-get_or}
+use Rattle.judy_model.specs.WordBytes.{number_of}
+use Rattle.judy_bits.specs.ByteSets.{has, rank}
+use Rattle.judy_leaf.specs.KeyLists.{keys_of, shift}
+use Rattle.judy_node.specs.Trees.{Pairs, Tree, IsChild, branch_pairs}
+use Rattle.judy_node.specs.Views.{view_pairs}
+use Rattle.judy_node.specs.Steps.{IsStep}
+use Rattle.judy_node.specs.declared.step.Step.TheVariants.{Child}
+use Rattle.judy_node.specs.declared.view.ViewOf.{ViewOf}
+use Rattle.judy_node.specs.declared.view.ViewOf.TheVariants.{Branch}
+use Rattle.judy_node.proofs.Maps.{map-length}
+use Rattle.judy_query.specs.declared.rooms.Room.{Room}
+use Rattle.judy_query.specs.declared.rooms.Room.TheVariants.{Nowhere, At, In}
+use Rattle.judy_query.specs.Parts.{IsDown, width_of}
+use Rattle.judy_query.specs.Rooms.{IsRun, IsWindow, HasRoom, IsFirstAbsent, IsRoomFrom, nearer}
+use Rattle.judy_query.proofs.Downs.{child_inside}
+use Rattle.judy_query.proofs.Runs.{run-full, run-later, window-part, window-window, window-shift, run-join, run-window}
+use Rattle.judy_query.proofs.BranchRooms.{next_start, block_within, bytes_ascend, rank_next, rank_before, kid_window, kid_is}
+
+-- ---- the same words of two lists
+
+-- Two lists have the same keys among the words from one on and below another.
+pub record HasSame (one other : Pairs) (from top : ℕ) : Type 0 where
+  pub same : (word : ℕ) → from ≤ word → word < top → has (keys_of one) word ≡ has (keys_of other) word
+
+same-window : (all pairs : Pairs) (base unit : ℕ) → IsWindow all base unit pairs → HasSame all (shift base pairs) base (base + unit)
+same-window all pairs base unit window = record {
+  same = λ word low high.
+      let inner : word ≡ base + (word - base) = omega arith in
+      ap (has (keys_of all)) inner ∙ window.same (word - base) (omega arith) ∙ sym ((window-shift pairs base unit).same (word - base) (omega arith)) ∙ ap (has (keys_of (shift base pairs))) (sym inner);
+}
+
+run-same : (one other : Pairs) (low top from to : ℕ) → low ≤ from → to ≤ top → HasSame one other low top → IsRun other from to → IsRun one from to
+run-same one other low top from to above below same run = record { rising = run.rising; held = λ word start end. same.same word (omega arith) (omega arith) ∙ run.held word start end }
+
+room-same : (words : ℕ) (one other kid : Pairs) (low top start unit : ℕ) → low ≤ start → start + unit ≤ top → HasSame one other low top → IsWindow other start unit kid → IsWindow one start unit kid
+room-same words one other kid low top start unit above below same window = record { same = λ word within. same.same (start + word) (omega arith) (omega arith) ∙ window.same word within }
+
+-- What a branch's own words tell is told of the tree.
+pub room-window : {V : _} (words : ℕ) (all pairs : Pairs) (base unit from : ℕ) (room : Room V) → base ≤ from → IsWindow all base unit pairs → IsRoomFrom words (shift base pairs) from (base + unit) room → IsRoomFrom words all from (base + unit) room
+room-window words all pairs base unit from Nowhere above window run = run-same all (shift base pairs) base (base + unit) from (base + unit) above (omega arith) (same-window all pairs base unit window) run
+room-window words all pairs base unit from (At word) above window room =
+    let within = room.0 in
+    let low = room.1.rising in
+    let same = same-window all pairs base unit window in
+    (room.0, run-same all (shift base pairs) base (base + unit) from word above (omega arith) same room.1, same.same word (omega arith) within ∙ room.2)
+room-window words all pairs base unit from (In child width start) above window room =
+    let within = room.0 in
+    let low = room.1.rising in
+    let same = same-window all pairs base unit window in
+    let inner = room.2 in (
+      room.0,
+      run-same all (shift base pairs) base (base + unit) from start above (omega arith) same room.1,
+      record { child = inner.child; narrow = inner.narrow; window = room-same words all (shift base pairs) child.now.pairs base (base + unit) start (256 ^ width) (omega arith) within same inner.window; room = inner.room },
+    )
+
+-- ---- one behind the other
+
+-- A room behind a run.
+pub room-behind : {V : _} (words : ℕ) (all : Pairs) (from middle top : ℕ) (room : Room V) → IsRun all from middle → IsRoomFrom words all middle top room → IsRoomFrom words all from top room
+room-behind words all from middle top Nowhere run room = run-join all from middle top run room
+room-behind words all from middle top (At word) run room = (room.0, run-join all from middle word run room.1, room.2)
+room-behind words all from middle top (In child width start) run room = (room.0, run-join all from middle start run room.1, room.2)
+
+-- The nearer of two rooms.
+pub room-nearer : {V : _} (words : ℕ) (all : Pairs) (from middle top : ℕ) (room other : Room V) → middle ≤ top → IsRoomFrom words all from middle room → IsRoomFrom words all middle top other → IsRoomFrom words all from top (nearer room other)
+room-nearer words all from middle top Nowhere other within run later = room-behind words all from middle top other run later
+room-nearer words all from middle top (At word) other within room later = let small = room.0 in (omega arith, room.1, room.2)
+room-nearer words all from middle top (In child width start) other within room later = let small = room.0 in (omega arith, room.1, room.2)
+
+-- The word in a child's room.
+pub word-in : (words : ℕ) (all : Pairs) (from top : ℕ) (kid : Tree) (width start word : ℕ) → start + 256 ^ width ≤ top → IsRun all from start → HasRoom words all kid width start → IsFirstAbsent kid.pairs 0 (256 ^ width) (Some word) → IsFirstAbsent all from top (Some (start + word))
+word-in words all from top kid width start word fits run room told =
+    let small = told.0 in
+    (omega arith, run-join all from start (start + word) run (run-window all kid.pairs start (256 ^ width) 0 word start (start + word) (omega arith) refl (omega arith) room.window told.1), room.window.same word small ∙ told.2)
+
+-- Where all words of a window are keys, all of its own are.
+pub run-back : (all pairs : Pairs) (base unit : ℕ) → IsWindow all base unit pairs → IsRun all base (base + unit) → IsRun pairs 0 unit
+run-back all pairs base unit window run = record { rising = omega arith; held = λ word low high. sym (window.same word high) ∙ run.held (base + word) (omega arith) (omega arith) }
+
+-- The first room of a branch whose skipped bytes are all 0.
+pub least_room : {V : _} (words : ℕ) (all pairs : Pairs) (start unit top number : ℕ) (room : Room V) → number ≡ 0 → IsWindow all start top pairs → IsRun all 0 start
+    → IsRoomFrom words (shift start pairs) (start + (number * 256 + 0) * unit) (start + top) room → IsRoomFrom words all 0 (start + top) room
+least_room words all pairs start unit top number room none window run told =
+    let same : start + (number * 256 + 0) * unit ≡ start = ap (λ n. start + n * unit) (let e : number * 256 + 0 ≡ 0 = omega arith in e) ∙ (let e : start + 0 * unit ≡ start = omega arith in e) in
+    room-behind words all 0 start (start + top) room run (room-window words all pairs start top start room (omega arith) window (subst (λ n. IsRoomFrom words (shift start pairs) n (start + top) room) same told))
+
+-- ---- the way of a key
+
+module _ {V : _} (words : ℕ) (tree : Pairs) (view : ViewOf V) (key left : ℕ) (down : IsDown words tree view key left) where
+  pub down_window : IsWindow tree (key - left) (256 ^ width_of view) (view_pairs view)
+  down_window = window-part words (256 ^ 8) (key - left) (256 ^ width_of view) tree (view_pairs view) down.front down.back down.part
+
+  pub down_absent : has (keys_of (view_pairs view)) left ≡ false → has (keys_of tree) key ≡ false
+  down_absent absent = let above = down.above in ap (has (keys_of tree)) (let e : key ≡ key - left + left = omega arith in e) ∙ down_window.same left down.inside ∙ absent
+
+  -- What a node without children tells.
+  pub down_word : (word : ℕ) → IsFirstAbsent (view_pairs view) left (256 ^ width_of view) (Some word) → IsFirstAbsent tree key (2 ^ 64) (Some (key - left + word))
+  down_word word told =
+      let above = down.above in
+      let fits = down.part.fits in
+      let small = told.0 in
+      (omega arith, run-window tree (view_pairs view) (key - left) (256 ^ width_of view) left word key (key - left + word) (omega arith) refl (omega arith) down_window told.1, down_window.same word small ∙ told.2)
+
+  pub down_run : (to : ℕ) → to ≤ 256 ^ width_of view → IsRun (view_pairs view) left to → IsRun tree key (key - left + to)
+  down_run to fits run = let above = down.above in run-window tree (view_pairs view) (key - left) (256 ^ width_of view) left to key (key - left + to) (omega arith) refl fits down_window run
+
+module _ {V : _} (words : ℕ) (tree : Pairs) (b : _) (key left : ℕ) (down : IsDown {V = V} words tree (Branch b) key left) where
+  module _ (byte place rest : ℕ) (steps : IsStep (256 ^ b.now.width) (number_of b.now.skip * 256) b.now.bytes left (Child byte place rest)) where
+    -- The child is at the place of its byte, and as many bytes are below the next one.
+    pub next_place : place + 1 ≡ rank b.now.bytes (byte + 1)
+    next_place =
+        let ascend = bytes_ascend words b.now.width b.now.skip b.now.bytes b.now.children.items b.now.population down.shown.place.1 in
+        sym (rank_next b.now.bytes ascend byte place (rank_before b.now.bytes byte place ascend steps.1) steps.1)
+
+    -- The nearest room behind the child.
+    pub next_room : (room later : Room V) → IsRoomFrom words (shift (key - left) (branch_pairs b.now.width b.now.skip b.now.bytes b.now.children.items)) (key - left + (number_of b.now.skip * 256 + (byte + 1)) * 256 ^ b.now.width) (key - left + 256 ^ (length b.now.skip + 1 + b.now.width)) room
+        → IsRoomFrom words tree (key - left + 256 ^ (length b.now.skip + 1 + b.now.width)) (2 ^ 64) later → IsRoomFrom words tree (key - rest + 256 ^ b.now.width) (2 ^ 64) (nearer room later)
+    next_room room later told other =
+        let unit = 256 ^ b.now.width in
+        let top = 256 ^ (length b.now.skip + 1 + b.now.width) in
+        let next = next_start words b.now.width b.now.skip b.now.bytes b.now.children.items b.now.population down.shown.place.1 byte in
+        let is_key = steps.0.key_is in
+        let above = down.above in
+        let fits = down.part.fits in
+        let start : key - left + (number_of b.now.skip * 256 + (byte + 1)) * unit ≡ key - rest + unit = omega arith in
+        room-nearer words tree (key - rest + unit) (key - left + top) (2 ^ 64) room later (omega arith)
+        (subst (λ n. IsRoomFrom words tree n (key - left + top) room) start
+        (room-window words tree (branch_pairs b.now.width b.now.skip b.now.bytes b.now.children.items) (key - left) top (key - left + (number_of b.now.skip * 256 + (byte + 1)) * unit) room (omega arith)
+        (down_window words tree (Branch b) key left down) told))
+        other
+
+    module _ (kid : Tree) (is : kid ≡ get_or b.now.children.items place kid) where
+      there : slice_get b.now.children.items place ≡ Some kid
+      there = slice_get-get_or b.now.children.items place kid (child_inside words tree b key left down byte place rest steps) ∙ ap Some (sym is)
+
+      pub child_window : IsWindow tree (key - rest) (256 ^ b.now.width) kid.pairs
+      child_window =
+          let level = down.shown.place.1 in
+          let is_key = steps.0.key_is in
+          let above = down.above in
+          let small = steps.0.byte_is in
+          window-window tree (branch_pairs b.now.width b.now.skip b.now.bytes b.now.children.items) kid.pairs (key - left) (256 ^ (length b.now.skip + 1 + b.now.width)) ((number_of b.now.skip * 256 + byte) * 256 ^ b.now.width) (256 ^ b.now.width) (key - rest) (omega arith)
+          (block_within words b.now.width b.now.skip b.now.bytes b.now.children.items b.now.population level byte small)
+          (down_window words tree (Branch b) key left down)
+          (kid_window words b.now.width b.now.skip b.now.bytes b.now.children.items b.now.population level byte place kid steps.1 there)
+
+      child_ok : IsChild words b.now.width kid
+      child_ok = kid_is words b.now.width b.now.skip b.now.bytes b.now.children.items b.now.population down.shown.place.1 byte place kid steps.1 there
+
+      -- A child that isn't full has fewer keys than words.
+      pub child_room : length kid.pairs ≢ 256 ^ b.now.width → length kid.pairs < 256 ^ b.now.width
+      child_room room = let most = map-length words 0 (256 ^ b.now.width) kid.pairs (omega arith) child_ok.map in omega arith
+
+      -- Of a full one all words are keys.
+      pub full_behind : length kid.pairs ≡ 256 ^ b.now.width → IsRun tree key (key - rest + 256 ^ b.now.width)
+      full_behind full =
+          let below = steps.0.rest_is in
+          let is_key = steps.0.key_is in
+          let above = down.above in
+          run-window tree kid.pairs (key - rest) (256 ^ b.now.width) rest (256 ^ b.now.width) key (key - rest + 256 ^ b.now.width) (omega arith) refl (omega arith) child_window
+          (run-later kid.pairs 0 rest (256 ^ b.now.width) (omega arith) (omega arith) (run-full words 0 (256 ^ b.now.width) kid.pairs (omega arith) child_ok.map (omega arith)))

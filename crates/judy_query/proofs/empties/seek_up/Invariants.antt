@@ -1,0 +1,14 @@
+use Rattle.std.proofs.Common.{◌≡◌, ◌+◌, ◌-◌, ◌^◌, ◌≤◌}
+use Rattle.judy_query.specs.Parts.{IsDown, width_of}
+use Rattle.judy_query.specs.Rooms.{IsRoomFrom}
+use Rattle.judy_query.proofs.empties.seek_up.Given as goal
+
+abbrev pub invariant-down : goal.invariant-down
+invariant-down g l =
+    IsDown g.V.Words.WORDS l.tree.pairs l.view l.key l.left
+    × (l.width ≡ width_of l.view)
+    × IsRoomFrom g.V.Words.WORDS l.tree.pairs (l.key - l.left + 256 ^ width_of l.view) (2 ^ 64) l.later
+    × (l.meter + width_of l.view ≤ l.initial.meter + 8)
+
+abbrev pub decreases-down : goal.decreases-down
+decreases-down g l = width_of l.view

@@ -1,0 +1,106 @@
+//! The nearest words that are no keys of a tree.
+
+ghost use Rattle.std.specs.Prelude.{◌≡◌, ◌+◌, ◌-◌, ◌*◌, ◌^◌, ◌<◌, ◌≤◌, ◌==◌, Some, length, slice_get};
+ghost use Rattle.judy_model.specs.Empties.{first_empty, last_empty};
+ghost use Rattle.judy_node.specs.Trees.{IsMap, IsChild};
+ghost use Rattle.judy_node.specs.Views.{IsView};
+ghost use Rattle.judy_query.specs.Maps.{map_of};
+ghost use Rattle.judy_query.specs.Rooms.{IsFirstAbsent, IsLastAbsent, IsRoomFrom, IsRoomUpTo};
+
+use crate::absent::first_absent;
+use crate::rooms::{Room, is_full, room_from};
+use judy_bits::Meter;
+use judy_leaf::Words;
+use judy_node::{ChildOf, NodeOf, Step, ViewOf};
+
+/// The least word at or above a key that is no key of the tree; `None` where all of these are keys. At most 16 visits; the meter stands at
+/// most at `u64::MAX - 16`.
+pub fn empty_at_or_after<V: Words + Drop>(
+    tree: &NodeOf<V>,
+    key: u64,
+    meter: &mut Meter,
+) -> Option<u64>
+    requires { meter.old ≤ 2 ^ 64 - 17 }
+    ensures word { result ≡ first_empty (map_of tree.now.pairs) key }
+    ensures visits { meter.new ≤ meter.old + 16 }
+{
+    tree.told();
+    match seek_up(tree, key, meter) {
+        Room::Nowhere => None,
+        Room::At(word) => Some(word),
+        Room::In(child, width, start) => Some(start + least_absent(child, width, meter)),
+    }
+}
+
+// Enters a child that isn't full: no other is entered in search of a word that is no key, not even on the key's own way.
+fn enter<'a, V: Words + Drop>(child: &'a ChildOf<V>, width: u8, meter: &mut Meter) -> ViewOf<'a, V>
+    requires below { meter.old < 2 ^ 64 - 1 }
+    requires child { IsChild V.WORDS width child.now }
+    requires room { length child.now.pairs < 256 ^ width }
+    ensures visits { meter.new ≡ meter.old + 1 }
+    ensures view { IsView V.WORDS width child.now result }
+{
+    child.enter(width, meter)
+}
+
+// Goes down the way of a key as far as nodes aren't full, and remembers the nearest room behind it.
+fn seek_up<'a, V: Words + Drop>(tree: &'a NodeOf<V>, key: u64, meter: &mut Meter) -> Room<'a, V>
+    requires { meter.old ≤ 2 ^ 64 - 17 }
+    ensures room { IsRoomFrom V.WORDS tree.now.pairs key (2 ^ 64) result }
+    ensures visits { meter.new ≤ meter.old + 8 }
+{
+    tree.told();
+    let mut view = tree.enter(meter);
+    let mut width = 8;
+    let mut left = key;
+    let mut later = Room::Nowhere;
+    'down: while let ViewOf::Branch(branch) = view {
+        let Step::Child(byte, place, rest) = branch.step(left) else {
+            return Room::At(key);
+        };
+        later = room_from(branch, place + 1, u64::from(byte) + 1, key - left).or(later);
+        let child = &branch.children[place];
+        if is_full(child, branch.width) {
+            return later;
+        }
+        width = branch.width;
+        left = rest;
+        view = enter(child, width, meter);
+    }
+    match first_absent(&view, width, left) {
+        Some(word) => Room::At(key - left + word),
+        None => later,
+    }
+}
+
+// The least word that is no key of a child that isn't full.
+fn least_absent<V: Words + Drop>(child: &ChildOf<V>, width: u8, meter: &mut Meter) -> u64
+    requires below { meter.old ≤ 2 ^ 64 - 9 }
+    requires child { IsChild V.WORDS width child.now }
+    requires narrow { width ≤ 7 }
+    requires room { length child.now.pairs < 256 ^ width }
+    ensures word { IsFirstAbsent child.now.pairs 0 (256 ^ width) (Some result) }
+    ensures visits { meter.new ≤ meter.old + width }
+{
+    let mut view = enter(child, width, meter);
+    let mut wide = width;
+    let mut start = 0;
+    'down: while let ViewOf::Branch(branch) = view {
+        if branch.skip.number() > 0 {
+            return start;
+        }
+        match room_from(branch, 0, 0, start) {
+            Room::At(word) => return word,
+            Room::In(inner, width, from) => {
+                wide = width;
+                start = from;
+                view = enter(inner, width, meter);
+            }
+            Room::Nowhere => unreachable!(),
+        }
+    }
+    match first_absent(&view, wide, 0) {
+        Some(word) => start + word,
+        None => unreachable!(),
+    }
+}

@@ -1,0 +1,114 @@
+//! Where a branch has room: its first and its last word that is no key, from a byte on. Children that are full are passed over by the
+//! number of their keys.
+
+ghost use Rattle.std.specs.Prelude.{◌≡◌, ◌+◌, ◌*◌, ◌^◌, ◌<◌, ◌≤◌, ◌==◌, nat_lt, Some, length, slice_get};
+ghost use Rattle.judy_model.specs.WordBytes.{number_of};
+ghost use Rattle.judy_bits.specs.ByteSets as set;
+ghost use Rattle.judy_leaf.specs.KeyLists.{shift};
+ghost use Rattle.judy_node.specs.Trees.{IsChild, IsBranch, branch_pairs};
+ghost use Rattle.judy_query.specs.Rooms.{HasWidth, IsRoomFrom, IsRoomUpTo, nearer};
+
+use judy_bits::{moved_up, without_low};
+use judy_leaf::Words;
+use judy_node::{BranchOf, ChildOf};
+
+/// Where the nearest word is that is no key.
+#[derive(Drop)]
+pub enum Room<'a, V: Words + Drop> {
+    /// Nowhere: all words are keys.
+    Nowhere,
+    /// At this word.
+    At(u64),
+    /// In this child, which isn't full: how many bytes its keys have, and its least word.
+    In(&'a ChildOf<V>, u8, u64),
+}
+
+impl<'a, V: Words + Drop> Room<'a, V> {
+    /// This room, or the other one where this is nowhere.
+    pub fn or(self, other: Room<'a, V>) -> Room<'a, V>
+        ensures { result ≡ nearer self.entry other.entry }
+    {
+        match self {
+            Room::Nowhere => other,
+            room => room,
+        }
+    }
+}
+
+/// Whether all words of a width are keys of a child.
+pub fn is_full<V: Words + Drop>(child: &ChildOf<V>, width: u8) -> bool
+    requires { width ≤ 7 }
+    ensures { result ≡ (length child.now.pairs == 256 ^ width) }
+{
+    child.pop() == moved_up(1, usize::from(width))
+}
+
+/// The byte of the child at a place.
+fn byte_at<V: Words + Drop>(branch: &BranchOf<V>, place: usize) -> u8
+    requires branch { IsBranch V.WORDS branch.now.width branch.now.skip branch.now.bytes branch.now.children.items branch.now.population }
+    requires place { place < length branch.now.children.items }
+    ensures { slice_get branch.now.bytes place ≡ Some result }
+{
+    if branch.children.len() == 256 {
+        return place as u8;
+    }
+    match branch.bytes.nth(place) {
+        Some(byte) => byte,
+        None => unreachable!(),
+    }
+}
+
+/// The least word of the block of a byte, or behind the block of byte 255.
+fn start_of<V: Words + Drop>(branch: &BranchOf<V>, byte: u64, base: u64) -> u64
+    requires branch { IsBranch V.WORDS branch.now.width branch.now.skip branch.now.bytes branch.now.children.items branch.now.population }
+    requires within { base + (number_of branch.now.skip * 256 + byte) * 256 ^ branch.now.width < 2 ^ 64 }
+    ensures { result ≡ base + (number_of branch.now.skip * 256 + byte) * 256 ^ branch.now.width }
+{
+    base + moved_up(branch.skip.number() * 256 + byte, usize::from(branch.width))
+}
+
+/// Whether a number of so many bytes, at most 7, isn't the greatest one.
+pub fn has_next(number: u64, bytes: usize) -> bool
+    requires { bytes ≤ 7 }
+    ensures { result ≡ nat_lt (number + 1) (256 ^ bytes) }
+{
+    number < without_low(u64::MAX, 8 - bytes)
+}
+
+/// The first room of a branch from a byte on, or from behind them all, which is 256. The branch's words begin at a base, and so many
+/// children as `place` have lesser bytes.
+pub fn room_from<V: Words + Drop>(
+    branch: &BranchOf<V>,
+    place: usize,
+    first: u64,
+    base: u64,
+) -> Room<'_, V>
+    requires branch { IsBranch V.WORDS branch.now.width branch.now.skip branch.now.bytes branch.now.children.items branch.now.population }
+    requires first { first ≤ 256 }
+    requires place { place ≡ set.rank branch.now.bytes first }
+    requires fits { base + 256 ^ (length branch.now.skip + 1 + branch.now.width) ≤ 2 ^ 64 }
+    ensures width { HasWidth branch.now.width result }
+    ensures room { IsRoomFrom V.WORDS (shift base (branch_pairs branch.now.width branch.now.skip branch.now.bytes branch.now.children.items))
+        (base + (number_of branch.now.skip * 256 + first) * 256 ^ branch.now.width) (base + 256 ^ (length branch.now.skip + 1 + branch.now.width)) result }
+{
+    let mut byte = first;
+    for at in place..branch.children.len() {
+        let start = start_of(branch, byte, base);
+        if u64::from(byte_at(branch, at)) != byte {
+            return Room::At(start);
+        }
+        let child = &branch.children[at];
+        if !is_full(child, branch.width) {
+            return Room::In(child, branch.width, start);
+        }
+        byte += 1;
+    }
+    if byte < 256 {
+        return Room::At(start_of(branch, byte, base));
+    }
+    if has_next(branch.skip.number(), branch.skip.len()) {
+        Room::At(start_of(branch, 256, base))
+    } else {
+        Room::Nowhere
+    }
+}
