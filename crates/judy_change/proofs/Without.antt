@@ -35,6 +35,13 @@ without-apart pair pairs key apart = ap (λ b. cond b (without key pairs) (pair 
 same_or : (one other : ℕ) → (one ≡ other) ⊎ (one ≢ other)
 same_or one other = ⊎_elim (λ h. inl h.1) (λ h. inr h.1) (eqb_tells one other)
 
+-- One pair with a key's value.
+pub first_pair : (pair : ℕ × ℕ) (key value : ℕ) → value_in (pair ∷ []) key ≡ Some value → pair ∷ [] ≡ (key, value) ∷ []
+first_pair pair key value some = ⊎_elim
+    (λ (same : pair.0 ≡ key). let told = same_Some pair.1 value (sym (value-same pair [] key same) ∙ some) in λ t. (same t, told t) ∷ [])
+    (λ (apart : pair.0 ≢ key). let none = sym (value-apart pair [] key apart) ∙ some in cc)
+    (same_or pair.0 key)
+
 -- ---- where the key isn't
 
 pub value-below : (words low top key : ℕ) (pairs : Pairs) → key < low → IsMap words low top pairs → value_in pairs key ≡ None
@@ -100,6 +107,14 @@ map-without words low top key (pair ∷ pairs) map =
     by_same (IsMap words low top) pair.0 key (without key pairs) (pair ∷ without key pairs)
     (λ same. map-wider words (pair.0 + 1) top low top (without key pairs) (omega arith) (omega arith) rest)
     (λ apart. (map.0, map.1, map.2, rest))
+
+-- A key that has a value fits.
+pub value-fits : (words low top key value : ℕ) (pairs : Pairs) → IsMap words low top pairs → value_in pairs key ≡ Some value → key < top
+value-fits words low top key value [] map some = cc
+value-fits words low top key value (pair ∷ pairs) map some = ⊎_elim
+    (λ (same : pair.0 ≡ key). let last = map.1 in omega arith)
+    (λ (apart : pair.0 ≢ key). value-fits words (pair.0 + 1) top key value pairs map.3 (sym (value-apart pair pairs key apart) ∙ some))
+    (same_or pair.0 key)
 
 pub length-without : (words low top key value : ℕ) (pairs : Pairs) → IsMap words low top pairs → value_in pairs key ≡ Some value → length (without key pairs) + 1 ≡ length pairs
 length-without words low top key value [] map some = cc

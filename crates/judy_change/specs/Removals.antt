@@ -1,7 +1,7 @@
 -- What it means to take a key out of a tree.
 use Rattle.std.specs.Prelude.{◌≡◌, ℕ, ◌+◌, ◌*◌, ◌/◌, ◌^◌, ◌<◌, ◌≤◌, ◌==◌, if◌then◌else◌, Bool, true, false, Option, Some, None, List, [], ◌∷◌, length}
 use Rattle.judy_model.specs.Forms.{loose_in}
-use Rattle.judy_node.specs.Trees.{Pairs, Tree, IsTight, IsChild, IsBranch, branch_pairs, forms_in}
+use Rattle.judy_node.specs.Trees.{Pairs, Tree, IsTight, IsChild, IsBranch, branch_tree, branch_pairs, forms_in}
 use Rattle.judy_node.specs.declared.child.BranchOf.{BranchOf}
 use Rattle.judy_change.specs.declared.removed.Removed.{Removed}
 use Rattle.judy_change.specs.declared.removed.Taken.{Taken}
@@ -75,6 +75,10 @@ pub record IsSettled (words width : ℕ) (pairs : Pairs) (loose : ℕ) (new : Tr
 -- The pairs below a branch.
 abbrev pub pairs_below : {V : _} → BranchOf V → Pairs
 pairs_below branch = branch_pairs branch.width branch.skip branch.bytes branch.children.items
+
+-- A branch as a tree.
+abbrev pub tree_below : {V : _} → BranchOf V → Tree
+tree_below branch = branch_tree branch.width branch.skip branch.bytes branch.children.items branch.population
 
 -- How many nodes below a branch are loose.
 abbrev pub loose_below : {V : _} → BranchOf V → ℕ

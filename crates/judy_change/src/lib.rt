@@ -1,10 +1,3 @@
-//! Changes of a tree of words: keys are put in and taken out, and a tree that was tight stays tight.
-#![tactic(auto)]
-
-mod removed;
-mod settle;
-
-pub use removed::Removed;
 //! The changes of a tree, which keep it tight.
 //!
 //! A tree is a list of pairs of key and value and a form, as judy_node's contracts see it. A change goes down the way of its key, one
@@ -18,3 +11,8 @@ mod bitmaps;
 mod gap;
 mod immediates;
 mod leaves;
+mod remove_leaf;
+mod removed;
+mod settle;
+
+pub use removed::Removed;

@@ -1,5 +1,7 @@
 //! What a removal answers.
 
+ghost use Rattle.std.specs.Prelude.{◌≡◌, true, false};
+
 /// What a removal found and did.
 #[derive(Clone, Copy, PartialEq, Eq, Debug)]
 pub struct Removed {
@@ -20,4 +22,28 @@ pub enum Taken {
     Only(u64),
     /// The key is gone: its value, and whether the nodes on its way are as small as their keys allow.
     Gone(u64, bool),
+}
+
+impl Removed {
+    // The key wasn't there.
+    pub(crate) fn none() -> Removed
+        ensures { result ≡ record { was = false; value = 0; shrunk = true } }
+    {
+        Removed {
+            was: false,
+            value: 0,
+            shrunk: true,
+        }
+    }
+
+    // The key was there.
+    pub(crate) fn gone(value: u64, shrunk: bool) -> Removed
+        ensures { result ≡ record { was = true; value = value; shrunk = shrunk } }
+    {
+        Removed {
+            was: true,
+            value,
+            shrunk,
+        }
+    }
 }
