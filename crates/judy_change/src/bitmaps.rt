@@ -13,7 +13,7 @@ use judy_node::{Head, KindOf};
 use std::alloc::{AllocError, Global};
 
 // The node of a bitmap leaf behind the bytes that it skips.
-fn bitmap_kind<V: Words + Drop>(head: Head, bits: BitLeafOf<V>) -> KindOf<V>
+pub(crate) fn bitmap_kind<V: Words + Drop>(head: Head, bits: BitLeafOf<V>) -> KindOf<V>
     requires some { 1 ≤ length bits.pairs }
     requires skips { head < 256 ^ (bits.width - 1) }
     ensures level { IsLevel V.WORDS result }

@@ -16,7 +16,7 @@ use judy_node::{KindOf, kind_of_sorted};
 use std::alloc::{AllocError, Global};
 
 // The node of a leaf.
-fn leaf_kind<V: Words + Drop>(leaf: LeafOf<V>) -> KindOf<V>
+pub(crate) fn leaf_kind<V: Words + Drop>(leaf: LeafOf<V>) -> KindOf<V>
     requires { immediate_limit V.WORDS leaf.width < length leaf.pairs }
     ensures level { IsLevel V.WORDS result }
     ensures tree { tree_of V.WORDS result ≡ one_leaf leaf }

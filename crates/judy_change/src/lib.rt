@@ -11,3 +11,4 @@ mod bitmaps;
 mod gap;
 mod immediates;
 mod leaves;
+mod put;
