@@ -17,6 +17,17 @@ use Rattle.judy_change.specs.Inserted.{IsAdded}
 use Rattle.judy_change.proofs.PairPlaces.{length-with_pair}
 use Rattle.judy_change.proofs.ChildSets.{AreAround, IsAt, child-at, child-gap, children-with, join-with, join-without, has-child, with_pair-child, loose-append, loose-with}
 
+-- The parts of a branch together, so that they may be replaced by equal ones at once.
+pub record BranchParts : Type 0 where
+  pub width : ℕ
+  pub skip : List ℕ
+  pub bytes : List ℕ
+  pub kids : List Tree
+  pub count : ℕ
+
+abbrev pub AreOf : ℕ → BranchParts → Type 0
+AreOf words parts = IsBranch words parts.width parts.skip parts.bytes parts.kids parts.count
+
 -- A branch with more keys than one that wasn't loose, and no fewer children, isn't loose either.
 grown_tight : (skipped bytes more : List ℕ) (count : ℕ) (old new : List Tree) → IsTight (branch_tree 0 skipped bytes old count) → length bytes ≤ length more → loose_in (forms_in new) ≤ loose_in (forms_in old)
     → loose_in (branch skipped more (count + 1) ∷ forms_in new) ≡ 0
@@ -154,7 +165,7 @@ module _ (words width : ℕ) (skipped bytes : List ℕ) (kids : List Tree) (coun
           ∙ sym (with_pair-child words width block (take at bytes) (drop at bytes) (take at kids) (drop at kids) byte gap rest fits [] value)
           ∙ ap (with_pair key value) (sym gap_pairs)
 
-      put_long : length (insert bytes at byte) ≡ length bytes + 1
+      pub put_long : length (insert bytes at byte) ≡ length bytes + 1
       put_long = length-insert bytes at byte (rank_within bytes byte)
 
       pub put_branch : IsChild words width new → IsBranch words width skipped (insert bytes at byte) (insert kids at new) (count + 1)
@@ -169,7 +180,7 @@ module _ (words width : ℕ) (skipped bytes : List ℕ) (kids : List Tree) (coun
         holds = let long = put_long in omega arith;
       }
 
-      put_loose : loose_in (forms_in (insert kids at new)) ≡ loose_in (forms_in kids)
+      pub put_loose : loose_in (forms_in (insert kids at new)) ≡ loose_in (forms_in kids)
       put_loose =
           let all = loose-with (take at kids) (drop at kids) new in
           let both = loose-append (take at kids) (drop at kids) in

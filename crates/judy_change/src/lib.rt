@@ -16,3 +16,4 @@ mod removed;
 mod settle;
 
 pub use removed::Removed;
+mod put;

@@ -1,0 +1,94 @@
+//! A child put into a branch.
+
+ghost use Rattle.std.specs.Prelude.{◌≡◌, ◌+◌, ◌-◌, ◌*◌, ◌^◌, ◌<◌, ◌≤◌, false, length, [], ◌∷◌, ◌%◌, vec_len, vec_capacity};
+ghost use Rattle.std.specs.List.{insert};
+ghost use Rattle.judy_model.specs.WordBytes.{number_of};
+ghost use Rattle.judy_model.specs.Forms.{loose_in};
+ghost use Rattle.judy_bits.specs.ByteSets as set;
+ghost use Rattle.judy_node.specs.Trees.{IsTight, IsChild, IsBranch, branch_tree, forms_in};
+ghost use Rattle.judy_change.specs.Inserted.{IsAdded, IsInserted};
+
+use judy_leaf::Words;
+use judy_node::{BranchOf, ChildOf, immediate_of_sorted};
+use std::alloc::AllocError;
+
+// The node of one key, read by its lowest bytes, with its value. It takes no memory.
+pub(crate) fn one_key<V: Words + Drop>(width: u8, key: u64, value: u64) -> ChildOf<V>
+    requires one { V.WORDS ≤ 1 }
+    requires width { (1 ≤ width) × (width ≤ 7) }
+    requires no_value { V.WORDS ≡ 0 → value ≡ 0 }
+    ensures child { IsChild V.WORDS width result }
+    ensures pairs { result.pairs ≡ (key % 256 ^ width, value) ∷ [] }
+    ensures tight { IsTight result }
+{
+    ChildOf::close(immediate_of_sorted(width, &[(key, value)]))
+}
+
+// Puts a child in at the place of its byte, which has none; there is room for it among the children.
+pub(crate) fn add_child<V: Words + Drop>(branch: &mut BranchOf<V>, byte: u8, child: ChildOf<V>)
+    requires place { set.rank branch.old.bytes byte ≤ length branch.old.children.items }
+    requires room { vec_len branch.old.children < vec_capacity branch.old.children }
+    ensures bytes { branch.new.bytes ≡ set.with_byte branch.old.bytes byte }
+    ensures children { branch.new.children.items ≡ insert branch.old.children.items (set.rank branch.old.bytes byte) child }
+    ensures skip { branch.new.skip ≡ branch.old.skip }
+    ensures width { branch.new.width ≡ branch.old.width }
+    ensures population { branch.new.population ≡ branch.old.population }
+{
+    let place = branch.bytes.rank(byte);
+    branch.bytes.add(byte);
+    let Ok(()) = branch.children.insert(place, child) else {
+        unreachable!()
+    };
+}
+
+// Puts the node of a key with its value in as the child of a byte, which has none; there is room for it among the children. The
+// key is given as the byte and what is left of it.
+pub(crate) fn put_key<V: Words + Drop>(branch: &mut BranchOf<V>, byte: u8, rest: u64, value: u64)
+    requires one { V.WORDS ≤ 1 }
+    requires level { IsBranch V.WORDS branch.old.width branch.old.skip branch.old.bytes branch.old.children.items branch.old.population }
+    requires spare { vec_len branch.old.children < vec_capacity branch.old.children }
+    requires absent { set.has branch.old.bytes byte ≡ false }
+    requires fits { rest < 256 ^ branch.old.width }
+    requires no_value { V.WORDS ≡ 0 → value ≡ 0 }
+    requires room { branch.old.population < 2 ^ 64 - 1 }
+    ensures level { IsBranch V.WORDS branch.new.width branch.new.skip branch.new.bytes branch.new.children.items branch.new.population }
+    ensures skip { branch.new.skip ≡ branch.old.skip }
+    ensures width { branch.new.width ≡ branch.old.width }
+    ensures population { branch.new.population ≡ branch.old.population + 1 }
+    ensures wider { length branch.new.bytes ≡ length branch.old.bytes + 1 }
+    ensures loose { loose_in (forms_in branch.new.children.items) ≡ loose_in (forms_in branch.old.children.items) }
+    ensures added { IsAdded ((number_of branch.old.skip * 256 + byte) * 256 ^ branch.old.width + rest) value
+        (branch_tree branch.old.width branch.old.skip branch.old.bytes branch.old.children.items branch.old.population)
+        (branch_tree branch.new.width branch.new.skip branch.new.bytes branch.new.children.items branch.new.population) }
+{
+    let child = one_key(branch.width, rest, value);
+    add_child(branch, byte, child);
+    branch.population += 1;
+}
+
+// The same, with room asked for first. The error is want of memory; the branch is the old one then.
+pub(crate) fn put_child<V: Words + Drop>(
+    branch: &mut BranchOf<V>,
+    byte: u8,
+    rest: u64,
+    value: u64,
+) -> Result<bool, AllocError>
+    requires one { V.WORDS ≤ 1 }
+    requires level { IsBranch V.WORDS branch.old.width branch.old.skip branch.old.bytes branch.old.children.items branch.old.population }
+    requires absent { set.has branch.old.bytes byte ≡ false }
+    requires fits { rest < 256 ^ branch.old.width }
+    requires no_value { V.WORDS ≡ 0 → value ≡ 0 }
+    requires room { branch.old.population < 2 ^ 64 - 1 }
+    ensures level { IsBranch V.WORDS branch.new.width branch.new.skip branch.new.bytes branch.new.children.items branch.new.population }
+    ensures skip { branch.new.skip ≡ branch.old.skip }
+    ensures width { branch.new.width ≡ branch.old.width }
+    ensures inserted { IsInserted ((number_of branch.old.skip * 256 + byte) * 256 ^ branch.old.width + rest) value
+        (branch_tree branch.old.width branch.old.skip branch.old.bytes branch.old.children.items branch.old.population)
+        (branch_tree branch.new.width branch.new.skip branch.new.bytes branch.new.children.items branch.new.population) result }
+{
+    if branch.children.try_reserve(1).is_err() {
+        return Err(AllocError);
+    }
+    put_key(branch, byte, rest, value);
+    Ok(true)
+}
