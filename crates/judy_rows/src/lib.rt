@@ -1,5 +1,5 @@
 //! The worked rows that cross crates, as tests by the rows' names: scripts with the answers that the
-//! specification gives, run over memory. And leaves, bitmap leaves and immediates, which no row reaches yet, beside a plain list.
+//! specification gives, run over memory. And leaves, bitmap leaves, immediates and trees, which no script reaches yet, beside a plain list.
 //!
 //! The crate stands on top of all others and has no code of its own.
 #![tactic(auto)]
@@ -22,6 +22,8 @@ mod keys;
 mod leaves;
 #[cfg(test)]
 mod lines;
+#[cfg(test)]
+mod nodes;
 #[cfg(test)]
 mod refusals;
 #[cfg(test)]

@@ -1,0 +1,229 @@
+//! Trees made of sorted pairs: their shapes by the worked rows and by a plain count of the rule, and what they give back.
+
+ghost use Rattle.std.specs.Prelude.{◌≡◌, ◌<◌, ◌≤◌, ◌^◌, IsTrue};
+ghost use Rattle.judy_node.specs.Trees.{IsMap};
+
+use crate::leaves::{note, value_of};
+use judy_leaf::{Width, Words};
+use judy_node::{NodeOf, Shape};
+use std::alloc::{AllocError, Global};
+use std::process::Abort;
+use std::test::Fail;
+
+// How many immediates, leaves, bitmap leaves, linear, bitmap and full branches there are.
+type Counts = [u128; 6];
+
+// The keys `from + row * by + column`, of so many rows and columns, and one more.
+#[derive(Clone, Copy)]
+struct Grid {
+    from: u64,
+    rows: u64,
+    by: u64,
+    columns: u64,
+    more: Option<u64>,
+}
+
+impl Grid {
+    // The keys from 0 on, so many.
+    fn run(columns: u64, more: Option<u64>) -> Grid {
+        Grid {
+            from: 0,
+            rows: 1,
+            by: 0,
+            columns,
+            more,
+        }
+    }
+
+    // So many rows, each at a distance from the one before.
+    fn rows(rows: u64, by: u64, columns: u64, more: Option<u64>) -> Grid {
+        Grid {
+            from: 0,
+            rows,
+            by,
+            columns,
+            more,
+        }
+    }
+
+    // The pairs of these keys, ascending.
+    fn pairs<V: Words + Drop>(
+        self,
+        rt: &impl Abort,
+        alloc: Global,
+    ) -> Result<Vec<(u64, u64)>, AllocError> {
+        let mut pairs = Vec::new(alloc);
+        for row in 0..self.rows {
+            for column in 0..self.columns {
+                let start = self.from.wrapping_add(row.wrapping_mul(self.by));
+                let key = start.wrapping_add(column);
+                note(rt, &mut pairs, key, value_of::<V>(key))?;
+            }
+        }
+        if let Some(key) = self.more {
+            note(rt, &mut pairs, key, value_of::<V>(key))?;
+        }
+        Ok(pairs)
+    }
+}
+
+// Whether a pair can come next, where the next key is to be at least `low`.
+fn follows<V: Words + Drop>(low: u128, key: u64, value: u64) -> bool
+    ensures { IsTrue result → (low ≤ key) × (key < 256 ^ 8) × (V.WORDS ≡ 0 → value ≡ 0) }
+{
+    if V::WORDS == 0 && value != 0 {
+        return false;
+    }
+    low <= u128::from(key)
+}
+
+// Whether the keys strictly ascend, and each value is 0 where keys have no value.
+fn ascends<V: Words + Drop>(pairs: &[(u64, u64)]) -> bool
+    ensures { IsTrue result → IsMap V.WORDS 0 (256 ^ 8) pairs.now }
+{
+    let mut low = 0;
+    for pair in pairs {
+        if !follows::<V>(low, pair.0, pair.1) {
+            return false;
+        }
+        low = u128::from(pair.0) + 1;
+    }
+    true
+}
+
+// Writes another value into each slot, and finds them all changed.
+fn check_slots<V: Words + Drop>(
+    rt: &impl Abort,
+    alloc: Global,
+    tree: &mut NodeOf<V>,
+    pairs: &[(u64, u64)],
+) -> Result<(), AllocError> {
+    if V::WORDS != 1 {
+        return Ok(());
+    }
+    for pair in pairs {
+        if let Some(slot) = tree.slot(pair.0) {
+            assert_eq!(rt; *slot, pair.1);
+            *slot = !pair.1;
+        }
+    }
+    let changed = tree.gather(alloc)?;
+    assert_eq!(rt; changed.len(), pairs.len());
+    for (new, old) in changed.iter().zip(pairs) {
+        assert_eq!(rt; *new, (old.0, !old.1));
+    }
+    Ok(())
+}
+
+// Makes the tree of pairs, and compares what it tells with them.
+fn check_tree<V: Words + Drop>(
+    rt: &impl Abort,
+    alloc: Global,
+    pairs: &[(u64, u64)],
+    counts: Counts,
+) -> Result<(), AllocError> {
+    assert!(rt; V::WORDS <= 1);
+    let ascending = ascends::<V>(pairs);
+    assert!(rt; ascending);
+    let mut tree: NodeOf<V> = NodeOf::from_sorted(alloc, pairs)?;
+    assert_eq!(rt; tree.pop(), pairs.len() as u64);
+    let [immediates, leaves, bitmap_leaves, linear, bitmap, full] = counts;
+    let shape = Shape {
+        immediates,
+        leaves,
+        bitmap_leaves,
+        linear,
+        bitmap,
+        full,
+    };
+    assert_eq!(rt; tree.shape(), shape);
+    let gathered = tree.gather(alloc)?;
+    assert_eq!(rt; gathered.as_slice(), pairs);
+    check_slots(rt, alloc, &mut tree, pairs)
+}
+
+// Compares the trees of such keys with the counts beside them.
+fn check_table<V: Words + Drop>(
+    rt: &impl Abort,
+    alloc: Global,
+    table: &[(Grid, Counts)],
+) -> Result<(), AllocError> {
+    for (grid, counts) in table {
+        let pairs = grid.pairs::<V>(rt, alloc)?;
+        check_tree::<V>(rt, alloc, &pairs, *counts)?;
+    }
+    Ok(())
+}
+
+#[test]
+fn shape_table(rt: HostRuntime) -> Result<(), Fail> {
+    let five = Grid {
+        from: 5,
+        rows: 1,
+        by: 0,
+        columns: 1,
+        more: None,
+    };
+    let five_and_six = Grid {
+        from: 5,
+        rows: 1,
+        by: 0,
+        columns: 2,
+        more: None,
+    };
+    let both = [
+        (Grid::run(0, None), [0, 0, 0, 0, 0, 0]),
+        (five, [1, 0, 0, 0, 0, 0]),
+        (five_and_six, [0, 1, 0, 0, 0, 0]),
+        (Grid::run(256, None), [0, 0, 1, 0, 0, 0]),
+    ];
+    check_table::<Width<0>>(&rt, rt.alloc(), &both)?;
+    check_table::<Width<1>>(&rt, rt.alloc(), &both)?;
+    let sets = [(Grid::run(257, None), [1, 0, 1, 1, 0, 0])];
+    check_table::<Width<0>>(&rt, rt.alloc(), &sets)?;
+    Ok(())
+}
+
+#[test]
+fn leaf_and_bitmap_leaf(rt: HostRuntime) -> Result<(), Fail> {
+    let sets = [
+        (Grid::run(32, None), [0, 1, 0, 0, 0, 0]),
+        (Grid::run(33, None), [0, 0, 1, 0, 0, 0]),
+    ];
+    check_table::<Width<0>>(&rt, rt.alloc(), &sets)?;
+    Ok(())
+}
+
+#[test]
+fn skip_and_merge(rt: HostRuntime) -> Result<(), Fail> {
+    let sets = [
+        (Grid::run(33, Some(1 << 56)), [1, 0, 1, 1, 0, 0]),
+        (Grid::run(33, None), [0, 0, 1, 0, 0, 0]),
+    ];
+    check_table::<Width<0>>(&rt, rt.alloc(), &sets)?;
+    Ok(())
+}
+
+#[test]
+fn branch_forms(rt: HostRuntime) -> Result<(), Fail> {
+    let far = 1 << 56;
+    let sets = [
+        (Grid::rows(8, far, 5, None), [0, 8, 0, 0, 1, 0]),
+        (Grid::rows(7, far, 5, None), [0, 7, 0, 1, 0, 0]),
+        (Grid::rows(128, far, 1, None), [128, 0, 0, 0, 0, 1]),
+        (Grid::rows(127, far, 1, None), [127, 0, 0, 0, 1, 0]),
+        (Grid::rows(5, 256, 8, None), [5, 0, 0, 1, 0, 0]),
+        (Grid::rows(5, 256, 8, Some(8)), [4, 1, 0, 1, 0, 0]),
+    ];
+    check_table::<Width<0>>(&rt, rt.alloc(), &sets)?;
+    let maps = [(Grid::rows(5, 256, 8, None), [0, 5, 0, 1, 0, 0])];
+    check_table::<Width<1>>(&rt, rt.alloc(), &maps)?;
+    Ok(())
+}
+
+#[test]
+fn full_ranges(rt: HostRuntime) -> Result<(), Fail> {
+    let sets = [(Grid::run(512, None), [0, 0, 2, 1, 0, 0])];
+    check_table::<Width<0>>(&rt, rt.alloc(), &sets)?;
+    Ok(())
+}
