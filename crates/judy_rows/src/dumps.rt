@@ -186,6 +186,7 @@ fn check_changed<R: Abort>(rt: &R, alloc: Global, bytes: &[u8]) {
     }
 }
 
+// With `smallest_dumps` this is also what row refused-dump-load-make gives while there is memory.
 #[test]
 fn dump_and_sorted(rt: HostRuntime) {
     let mut shelf = Shelf::new(rt.alloc());
