@@ -5,3 +5,5 @@ pub mod RankFacts
 pub mod Links
 pub mod EndFacts
 pub mod Downs
+pub mod TurnFacts
+pub mod NearFacts
