@@ -18,7 +18,7 @@ use Rattle.judy_node.specs.declared.view.ViewOf.TheVariants.{Null, One, Imm, Lea
 use Rattle.judy_node.specs.Populations.{population, HoldsNth}
 use Rattle.judy_node.proofs.Maps.{map-wider, map-length, join-map, children-length, length-shift, shift-zero}
 use Rattle.judy_node.proofs.Counts.{population-step, branch_population}
-use Rattle.judy_query.specs.Parts.{IsPart, IsBeside, passed, IsStart, width_of, IsShown, IsDown}
+use Rattle.judy_query.specs.Parts.{IsPart, IsBeside, passed, reached, IsStart, width_of, IsShown, IsDown}
 use Rattle.judy_query.proofs.Parts.{whole_part, part_of_part}
 use Rattle.judy_query.proofs.Splits.{split-at, gap-at, first_of, rest_of, first_long}
 
@@ -139,9 +139,12 @@ module _ (words width : ℕ) (skipped bytes : List ℕ) (kids : List Tree) (coun
       let long = children-length words width 0 bytes kids is.parts.children in
       slice_get-get_or bytes place 0 (omega arith)
 
+  pub kid_is : (place : ℕ) (kid : Tree) → place < length kids → kid ≡ get_or kids place kid → IsChild words width kid
+  kid_is place kid inside same =
+      (split-at words width 0 (number_of skipped * 256) bytes kids (get_or bytes place 0) place kid (omega arith) is.parts.children (byte_there place inside) (slice_get-get_or kids place kid inside ∙ ap Some (sym same))).child
+
   pub kid_some : (place : ℕ) (kid : Tree) → place < length kids → kid ≡ get_or kids place kid → 0 < length kid.pairs
-  kid_some place kid inside same =
-      (split-at words width 0 (number_of skipped * 256) bytes kids (get_or bytes place 0) place kid (omega arith) is.parts.children (byte_there place inside) (slice_get-get_or kids place kid inside ∙ ap Some (sym same))).child.some
+  kid_some place kid inside same = (kid_is place kid inside same).some
 
   -- At either end of the children the one that has a key is known.
   pub holds_first : (n : ℕ) → n ≡ 0 → (kid : Tree) × HoldsNth kids n 0 0 kid
@@ -393,6 +396,22 @@ start_steps words width skipped bytes kids count place start is inside from =
     let is_start = from.2 in
     ((record { byte_is = small; rest_is = some; key_is = omega arith }, from.1), omega arith)
 
+-- The keys of the child at a place fit those of the branch.
+pub start_room : (words width : ℕ) (skipped bytes : List ℕ) (kids : List Tree) (count place start : ℕ) → IsBranch words width skipped bytes kids count → place < length kids
+    → IsStart (256 ^ width) (number_of skipped * 256) bytes place start → start + 256 ^ width ≤ 256 ^ (length skipped + 1 + width)
+start_room words width skipped bytes kids count place start is inside from =
+    let byte = from.0 in
+    let block = number_of skipped * 256 in
+    let unit = 256 ^ width in
+    let default : Tree = record { width = 0; pairs = []; form = [] } in
+    let split = split-at words width 0 block bytes kids byte place (get_or kids place default) (omega arith) is.parts.children from.1 (slice_get-get_or kids place default inside) in
+    let small = split.high_byte in
+    let room = block_within skipped width is.parts.skipped_bytes in
+    let next = next_unit block byte unit in
+    let last : (block + (byte + 1)) * unit ≤ (block + 256) * unit = mul-le (block + (byte + 1)) unit (block + 256) unit (omega arith) (omega arith) in
+    let is_start = from.2 in
+    omega arith
+
 module _ {V : _} (words : ℕ) (tree : Pairs) (b : _) (base : ℕ) (down : IsDown {V = V} words tree (Branch b) base 0) (place start : ℕ) (inside : place < length b.now.children.items)
     (from : IsStart (256 ^ b.now.width) (number_of b.now.skip * 256) b.now.bytes place start) where
   pub steps_there : IsStep (256 ^ b.now.width) (number_of b.now.skip * 256) b.now.bytes start (Child from.0 place 0) × (start < 256 ^ (length b.now.skip + 1 + b.now.width))
@@ -415,3 +434,10 @@ module _ {V : _} (words : ℕ) (tree : Pairs) (b : _) (base : ℕ) (down : IsDow
     start_down next view =
         let stepped = down_child words tree b (base + start) start down_start from.0 place 0 steps_there.0 kid is next view in
         (stepped.down, ap length stepped.front_is ∙ front_long words tree b (base + start) start down_start place, stepped.width_is)
+
+-- Beside a child those that aren't above the key are those before it.
+pub beside_reached : (all : ℕ) (step : Step) → IsBeside step → reached all step ≡ passed all step
+beside_reached all (Child byte place rest) beside = absurd beside
+beside_reached all (Missing byte place rest) beside = refl
+beside_reached all Below beside = refl
+beside_reached all Above beside = refl

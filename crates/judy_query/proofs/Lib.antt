@@ -9,3 +9,5 @@ pub mod Runs
 pub mod Blocks
 pub mod BranchRooms
 pub mod RoomSteps
+pub mod TurnFacts
+pub mod NearFacts

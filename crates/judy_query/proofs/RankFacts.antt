@@ -76,12 +76,12 @@ at-shift by at [] = refl
 at-shift by zero (pair ∷ pairs) = refl
 at-shift by (suc at) (pair ∷ pairs) = at-shift by at pairs
 
-at-append : (at : ℕ) (pairs rest : Pairs) → at < length pairs → slice_get (pairs ++ rest) at ≡ slice_get pairs at
+pub at-append : (at : ℕ) (pairs rest : Pairs) → at < length pairs → slice_get (pairs ++ rest) at ≡ slice_get pairs at
 at-append at [] rest inside = let never : ⊥ = omega arith in absurd never
 at-append zero (pair ∷ pairs) rest inside = refl
 at-append (suc at) (pair ∷ pairs) rest inside = at-append at pairs rest (omega arith)
 
-at-behind : (at place : ℕ) (pairs rest : Pairs) → place ≡ length pairs + at → slice_get (pairs ++ rest) place ≡ slice_get rest at
+pub at-behind : (at place : ℕ) (pairs rest : Pairs) → place ≡ length pairs + at → slice_get (pairs ++ rest) place ≡ slice_get rest at
 at-behind at place [] rest sum = ap (slice_get rest) (let e : place ≡ at = omega arith in e)
 at-behind at zero (pair ∷ pairs) rest sum = let never : ⊥ = omega arith in absurd never
 at-behind at (suc place) (pair ∷ pairs) rest sum = at-behind at place pairs rest (omega arith)

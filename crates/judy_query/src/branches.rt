@@ -4,7 +4,7 @@ ghost use Rattle.std.specs.Prelude.{◌≡◌, ◌+◌, ◌*◌, ◌^◌, ◌<�
 ghost use Rattle.judy_model.specs.WordBytes.{number_of};
 ghost use Rattle.judy_node.specs.Trees.{Tree, IsBranch};
 ghost use Rattle.judy_node.specs.Populations.{HoldsNth};
-ghost use Rattle.judy_query.specs.Parts.{passed, IsStart};
+ghost use Rattle.judy_query.specs.Parts.{passed, reached, IsStart};
 
 use judy_bits::moved_up;
 use judy_leaf::Words;
@@ -16,6 +16,19 @@ pub(crate) fn passed<V: Words + Drop>(branch: &BranchOf<V>, step: Step) -> usize
 {
     match step {
         Step::Child(_, place, _) => place,
+        Step::Missing(_, place, _) => place,
+        Step::Below => 0,
+        Step::Above => branch.children.len(),
+    }
+}
+
+/// How many children aren't above a key, by its step: those before it, and its child.
+pub(crate) fn reached<V: Words + Drop>(branch: &BranchOf<V>, step: Step) -> usize
+    requires { passed (length branch.now.children.items) step ≤ length branch.now.children.items }
+    ensures { result ≡ reached (length branch.now.children.items) step }
+{
+    match step {
+        Step::Child(_, place, _) => place + 1,
         Step::Missing(_, place, _) => place,
         Step::Below => 0,
         Step::Above => branch.children.len(),

@@ -3,6 +3,7 @@
 ghost use Rattle.std.specs.Prelude.{◌≡◌, ◌+◌, ◌<◌, ◌≤◌, length, slice_get, Some};
 ghost use Rattle.judy_bits.specs.ByteSets as set;
 ghost use Rattle.judy_leaf.specs.KeyLists.{keys_of};
+ghost use Rattle.judy_leaf.specs.Nearby.{pair_from, pair_up_to};
 ghost use Rattle.judy_node.specs.Views.{view_pairs};
 ghost use Rattle.judy_query.specs.Parts.{value_of, IsEnd, IsShown};
 
@@ -96,6 +97,57 @@ pub(crate) fn entry_in<V: Words + Drop>(view: &ViewOf<'_, V>, at: u64) -> (u64, 
         ViewOf::Imm(list) => (list.key_at(at), list.value_at(at)),
         ViewOf::Leaf(list) => (list.key_at(at), list.value_at(at)),
         ViewOf::BitLeaf(skipped, list) => (*skipped * 256 + list.key_at(at), list.value_at(at)),
+        ViewOf::Branch(_) => unreachable!(),
+    }
+}
+
+/// The nearest pair at or above a number.
+pub(crate) fn from_in<V: Words + Drop>(view: &ViewOf<'_, V>, key: u64) -> Option<(u64, u64)>
+    requires end { IsEnd view.now }
+    requires shown { IsShown V.WORDS view.now }
+    ensures { result ≡ pair_from (view_pairs view.now) key }
+{
+    match view {
+        ViewOf::Null => None,
+        ViewOf::One(only, value) => if *only >= key {
+            Some((*only, *value))
+        } else {
+            None
+        },
+        ViewOf::Imm(list) => list.at_or_after(key),
+        ViewOf::Leaf(list) => list.at_or_after(key),
+        ViewOf::BitLeaf(skipped, list) => {
+            let start = *skipped * 256;
+            let (byte, value) = list.at_or_after(key.saturating_sub(start))?;
+            Some((start + byte, value))
+        }
+        ViewOf::Branch(_) => unreachable!(),
+    }
+}
+
+/// The nearest pair at or below a number.
+pub(crate) fn up_to_in<V: Words + Drop>(view: &ViewOf<'_, V>, key: u64) -> Option<(u64, u64)>
+    requires end { IsEnd view.now }
+    requires shown { IsShown V.WORDS view.now }
+    ensures { result ≡ pair_up_to (view_pairs view.now) key }
+{
+    match view {
+        ViewOf::Null => None,
+        ViewOf::One(only, value) => if *only <= key {
+            Some((*only, *value))
+        } else {
+            None
+        },
+        ViewOf::Imm(list) => list.at_or_before(key),
+        ViewOf::Leaf(list) => list.at_or_before(key),
+        ViewOf::BitLeaf(skipped, list) => {
+            let start = *skipped * 256;
+            if key < start {
+                return None;
+            }
+            let (byte, value) = list.at_or_before(key - start)?;
+            Some((start + byte, value))
+        }
         ViewOf::Branch(_) => unreachable!(),
     }
 }

@@ -10,12 +10,17 @@
 //! alone: it enters nodes and never opens one.
 #![tactic(auto)]
 
+mod after;
+mod before;
 mod branches;
 mod counts;
 mod ends;
 mod places;
+mod turns;
 mod values;
 
+pub use after::{at_or_after, entry_at_or_after};
+pub use before::{at_or_before, entry_at_or_before};
 pub use counts::rank;
 pub use places::{entry_nth, nth};
 mod absent;

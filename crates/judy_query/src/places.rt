@@ -50,7 +50,7 @@ pub(crate) fn entry_below<V: Words + Drop>(
 ) -> (u64, u64)
     requires shown { IsShown V.WORDS top }
     requires inside { place < length (view_pairs top) }
-    requires room { meter.old ≤ 2 ^ 64 - 9 }
+    requires room { meter.old ≤ 2 ^ 64 - 8 }
     ensures entry { slice_get (view_pairs top.entry) place ≡ Some result }
     ensures visits { meter.new + 1 ≤ meter.old + width_of top.entry }
 {
