@@ -87,6 +87,23 @@ rank_all words width skipped bytes kids count is =
     let small = (split-at words width 0 (number_of skipped * 256) bytes kids x at.0 kid (omega arith) is.parts.children at.1 (slice_get-get_or kids at.0 (record { width = 0; pairs = []; form = [] }) (omega arith))).high_byte in
     lt_word x 256 small)))
 
+-- Where some are below a byte, it isn't 0.
+pub byte_some : (xs : List ℕ) (byte at : ℕ) → rank xs byte ≡ at → 0 < at → 0 < byte
+byte_some xs zero at ranked some = let none = rank_zero xs in let never : ⊥ = omega arith in absurd never
+byte_some xs (suc byte) at ranked some = omega arith
+
+-- Where none are, it isn't 256.
+pub first_small : (words width : ℕ) (skipped bytes : List ℕ) (kids : List Tree) (count byte : ℕ) → IsBranch words width skipped bytes kids count → rank bytes byte ≡ 0 → byte ≤ 256 → byte < 256
+first_small words width skipped bytes kids count byte is none within = ⊎_elim
+    (λ small. small)
+    (λ past.
+    let same : byte ≡ 256 = omega arith in
+    let all = sym (ap (rank bytes) same) ∙ none in
+    let every = rank_all words width skipped bytes kids count is in
+    let some = is.holds in
+    let never : ⊥ = omega arith in absurd never)
+    (cases_lt byte 256)
+
 -- ---- numbers of bytes
 
 pub greatest : (bytes : ℕ) → bytes ≤ 7 → 18446744073709551615 / 256 ^ (8 - bytes) + 1 ≡ 256 ^ bytes

@@ -14,7 +14,7 @@ use Rattle.judy_node.proofs.Maps.{map-length}
 use Rattle.judy_query.specs.declared.rooms.Room.{Room}
 use Rattle.judy_query.specs.declared.rooms.Room.TheVariants.{Nowhere, At, In}
 use Rattle.judy_query.specs.Parts.{IsDown, width_of}
-use Rattle.judy_query.specs.Rooms.{IsRun, IsWindow, HasRoom, IsFirstAbsent, IsRoomFrom, nearer}
+use Rattle.judy_query.specs.Rooms.{IsRun, IsWindow, HasRoom, IsFirstAbsent, IsLastAbsent, IsRoomFrom, IsRoomUpTo, nearer}
 use Rattle.judy_query.proofs.Downs.{child_inside}
 use Rattle.judy_query.proofs.Runs.{run-full, run-later, window-part, window-window, window-shift, run-join, run-window}
 use Rattle.judy_query.proofs.BranchRooms.{next_start, block_within, bytes_ascend, rank_next, rank_before, kid_window, kid_is}
@@ -76,6 +76,50 @@ word-in words all from top kid width start word fits run room told =
     let small = told.0 in
     (omega arith, run-join all from start (start + word) run (run-window all kid.pairs start (256 ^ width) 0 word start (start + word) (omega arith) refl (omega arith) room.window told.1), room.window.same word small ∙ told.2)
 
+-- ---- the same downwards
+
+pub room-window-down : {V : _} (words : ℕ) (all pairs : Pairs) (base unit to : ℕ) (room : Room V) → to ≤ base + unit → IsWindow all base unit pairs → IsRoomUpTo words (shift base pairs) base to room → IsRoomUpTo words all base to room
+room-window-down words all pairs base unit to Nowhere below window run = run-same all (shift base pairs) base (base + unit) base to (omega arith) below (same-window all pairs base unit window) run
+room-window-down words all pairs base unit to (At word) below window room =
+    let low = room.0 in
+    let high = room.1.rising in
+    let same = same-window all pairs base unit window in
+    (low, run-same all (shift base pairs) base (base + unit) (word + 1) to (omega arith) below same room.1, same.same word low (omega arith) ∙ room.2)
+room-window-down words all pairs base unit to (In child width start) below window room =
+    let low = room.0 in
+    let high = room.1.rising in
+    let same = same-window all pairs base unit window in
+    let inner = room.2 in (
+      low,
+      run-same all (shift base pairs) base (base + unit) (start + 256 ^ width) to (omega arith) below same room.1,
+      record { child = inner.child; narrow = inner.narrow; window = room-same words all (shift base pairs) child.now.pairs base (base + unit) start (256 ^ width) low (omega arith) same inner.window; room = inner.room },
+    )
+
+pub room-before : {V : _} (words : ℕ) (all : Pairs) (from middle to : ℕ) (room : Room V) → IsRun all middle to → IsRoomUpTo words all from middle room → IsRoomUpTo words all from to room
+room-before words all from middle to Nowhere run room = run-join all from middle to room run
+room-before words all from middle to (At word) run room = (room.0, run-join all (word + 1) middle to room.1 run, room.2)
+room-before words all from middle to (In child width start) run room = (room.0, run-join all (start + 256 ^ width) middle to room.1 run, room.2)
+
+pub room-nearer-down : {V : _} (words : ℕ) (all : Pairs) (from middle to : ℕ) (room other : Room V) → from ≤ middle → IsRoomUpTo words all middle to room → IsRoomUpTo words all from middle other → IsRoomUpTo words all from to (nearer room other)
+room-nearer-down words all from middle to Nowhere other within run earlier = room-before words all from middle to other run earlier
+room-nearer-down words all from middle to (At word) other within room earlier = let low = room.0 in (omega arith, room.1, room.2)
+room-nearer-down words all from middle to (In child width start) other within room earlier = let low = room.0 in (omega arith, room.1, room.2)
+
+pub word-in-last : (words : ℕ) (all : Pairs) (from to : ℕ) (kid : Tree) (width start word : ℕ) → from ≤ start → IsRun all (start + 256 ^ width) to → HasRoom words all kid width start → IsLastAbsent kid.pairs 0 (256 ^ width) (Some word) → IsLastAbsent all from to (Some (start + word))
+word-in-last words all from to kid width start word low run room told =
+    let high = told.1.rising in (
+      omega arith,
+      run-join all (start + word + 1) (start + 256 ^ width) to (run-window all kid.pairs start (256 ^ width) (word + 1) (256 ^ width) (start + word + 1) (start + 256 ^ width) (omega arith) refl (omega arith) room.window told.1) run,
+      room.window.same word (omega arith) ∙ told.2,
+    )
+
+-- The last room of a branch that has no words behind its bytes.
+pub greatest_room : {V : _} (words : ℕ) (all pairs : Pairs) (start end unit top : ℕ) (room : Room V) → end ≡ unit → IsWindow all start unit pairs → IsRun all (start + unit) top
+    → IsRoomUpTo words (shift start pairs) start (start + end) room → IsRoomUpTo words all start top room
+greatest_room words all pairs start end unit top room same window run told =
+    room-before words all start (start + unit) top room run
+    (room-window-down words all pairs start unit (start + unit) room (omega arith) window (subst (λ n. IsRoomUpTo words (shift start pairs) start (start + n) room) same told))
+
 -- Where all words of a window are keys, all of its own are.
 pub run-back : (all pairs : Pairs) (base unit : ℕ) → IsWindow all base unit pairs → IsRun all base (base + unit) → IsRun pairs 0 unit
 run-back all pairs base unit window run = record { rising = omega arith; held = λ word low high. sym (window.same word high) ∙ run.held (base + word) (omega arith) (omega arith) }
@@ -104,6 +148,19 @@ module _ {V : _} (words : ℕ) (tree : Pairs) (view : ViewOf V) (key left : ℕ)
       let small = told.0 in
       (omega arith, run-window tree (view_pairs view) (key - left) (256 ^ width_of view) left word key (key - left + word) (omega arith) refl (omega arith) down_window told.1, down_window.same word small ∙ told.2)
 
+  pub down_last : (word : ℕ) → IsLastAbsent (view_pairs view) 0 (left + 1) (Some word) → IsLastAbsent tree 0 (key + 1) (Some (key - left + word))
+  down_last word told =
+      let above = down.above in
+      let inside = down.inside in
+      let high = told.1.rising in (
+        omega arith,
+        run-window tree (view_pairs view) (key - left) (256 ^ width_of view) (word + 1) (left + 1) (key - left + word + 1) (key + 1) (omega arith) (omega arith) (omega arith) down_window told.1,
+        down_window.same word (omega arith) ∙ told.2,
+      )
+
+  pub down_run_last : IsRun (view_pairs view) 0 (left + 1) → IsRun tree (key - left) (key + 1)
+  down_run_last run = let above = down.above in let inside = down.inside in run-window tree (view_pairs view) (key - left) (256 ^ width_of view) 0 (left + 1) (key - left) (key + 1) (omega arith) (omega arith) (omega arith) down_window run
+
   pub down_run : (to : ℕ) → to ≤ 256 ^ width_of view → IsRun (view_pairs view) left to → IsRun tree key (key - left + to)
   down_run to fits run = let above = down.above in run-window tree (view_pairs view) (key - left) (256 ^ width_of view) left to key (key - left + to) (omega arith) refl fits down_window run
 
@@ -114,6 +171,25 @@ module _ {V : _} (words : ℕ) (tree : Pairs) (b : _) (key left : ℕ) (down : I
     next_place =
         let ascend = bytes_ascend words b.now.width b.now.skip b.now.bytes b.now.children.items b.now.population down.shown.place.1 in
         sym (rank_next b.now.bytes ascend byte place (rank_before b.now.bytes byte place ascend steps.1) steps.1)
+
+    -- As many bytes are below its byte.
+    pub own_place : place ≡ rank b.now.bytes byte
+    own_place = sym (rank_before b.now.bytes byte place (bytes_ascend words b.now.width b.now.skip b.now.bytes b.now.children.items b.now.population down.shown.place.1) steps.1)
+
+    -- The nearest room before the child.
+    pub previous_room : (room earlier : Room V) → IsRoomUpTo words (shift (key - left) (branch_pairs b.now.width b.now.skip b.now.bytes b.now.children.items)) (key - left) (key - left + (number_of b.now.skip * 256 + byte) * 256 ^ b.now.width) room
+        → IsRoomUpTo words tree 0 (key - left) earlier → IsRoomUpTo words tree 0 (key - rest) (nearer room earlier)
+    previous_room room earlier told other =
+        let top = 256 ^ (length b.now.skip + 1 + b.now.width) in
+        let is_key = steps.0.key_is in
+        let above = down.above in
+        let inside = down.inside in
+        let start : key - left + (number_of b.now.skip * 256 + byte) * 256 ^ b.now.width ≡ key - rest = omega arith in
+        room-nearer-down words tree 0 (key - left) (key - rest) room earlier (omega arith)
+        (subst (λ n. IsRoomUpTo words tree (key - left) n room) start
+        (room-window-down words tree (branch_pairs b.now.width b.now.skip b.now.bytes b.now.children.items) (key - left) top (key - left + (number_of b.now.skip * 256 + byte) * 256 ^ b.now.width) room (omega arith)
+        (down_window words tree (Branch b) key left down) told))
+        other
 
     -- The nearest room behind the child.
     pub next_room : (room later : Room V) → IsRoomFrom words (shift (key - left) (branch_pairs b.now.width b.now.skip b.now.bytes b.now.children.items)) (key - left + (number_of b.now.skip * 256 + (byte + 1)) * 256 ^ b.now.width) (key - left + 256 ^ (length b.now.skip + 1 + b.now.width)) room
@@ -162,3 +238,12 @@ module _ {V : _} (words : ℕ) (tree : Pairs) (b : _) (key left : ℕ) (down : I
           let above = down.above in
           run-window tree kid.pairs (key - rest) (256 ^ b.now.width) rest (256 ^ b.now.width) key (key - rest + 256 ^ b.now.width) (omega arith) refl (omega arith) child_window
           (run-later kid.pairs 0 rest (256 ^ b.now.width) (omega arith) (omega arith) (run-full words 0 (256 ^ b.now.width) kid.pairs (omega arith) child_ok.map (omega arith)))
+
+      pub full_before : length kid.pairs ≡ 256 ^ b.now.width → IsRun tree (key - rest) (key + 1)
+      full_before full =
+          let below = steps.0.rest_is in
+          let is_key = steps.0.key_is in
+          let above = down.above in
+          let run = run-full words 0 (256 ^ b.now.width) kid.pairs (omega arith) child_ok.map (omega arith) in
+          run-window tree kid.pairs (key - rest) (256 ^ b.now.width) 0 (rest + 1) (key - rest) (key + 1) (omega arith) (omega arith) (omega arith) child_window
+          (record { rising = omega arith; held = λ word low high. run.held word low (omega arith) })

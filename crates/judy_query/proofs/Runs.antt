@@ -1,14 +1,14 @@
 -- Runs of words that are all keys, and the words beside them that are none.
-use Rattle.std.proofs.Common.{◌≡◌, ◌≢◌, ℕ, zero, suc, ◌+◌, ◌-◌, ◌*◌, ◌<◌, ◌≤◌, ◌^◌, Bool, true, false, cond, not, ◌&&◌, ◌||◌, ◌==◌, nat_lt, [], ◌∷◌, length, Option, Some, None, is_some, refl, sym, ap, ◌∙◌, arith, is_ge, ◌⊎◌, true≢false, ne_eqb, eq-eqb, ⊎_elim, ltb-true, lt-ltb, leb-true, le-leb}
+use Rattle.std.proofs.Common.{◌≡◌, ◌≢◌, ℕ, zero, suc, ◌+◌, ◌-◌, ◌*◌, ◌<◌, ◌≤◌, ◌^◌, Bool, true, false, cond, not, ◌&&◌, ◌||◌, ◌==◌, nat_lt, [], ◌∷◌, length, Option, Some, None, is_some, refl, sym, ap, ◌∙◌, arith, is_le, is_ge, ◌⊎◌, true≢false, ne_eqb, eq-eqb, ⊎_elim, ltb-true, lt-ltb, leb-true, le-leb}
 use Rattle.std.proofs.Math.Nat.{pow-suc, pow-le-pow_right}
 use Rattle.std.specs.Cmp.{unsigned_tied}
 use Rattle.std.specs.Ordering.{is_eq}
 use Rattle.std.proofs.lemmas.Bool.{and_parts, and_from, not-true, not_from_false, cases_lt, cases_eq, cases_order}
 use Rattle.judy_model.specs.Keys.{word_order}
-use Rattle.judy_model.specs.Nearest.{IsFirst}
-use Rattle.judy_model.specs.Empties.{first_empty}
+use Rattle.judy_model.specs.Nearest.{IsFirst, IsLast}
+use Rattle.judy_model.specs.Empties.{first_empty, last_empty}
 use Rattle.judy_model.proofs.WordOrder.{is_ge_word, is_le_word}
-use Rattle.judy_model.proofs.EmptiesLemmas.{first_empty_run, first_empty_run_none}
+use Rattle.judy_model.proofs.EmptiesLemmas.{first_empty_run, first_empty_run_none, last_empty_run, last_empty_run_none}
 use Rattle.judy_bits.specs.ByteSets.{has}
 use Rattle.judy_leaf.specs.KeyLists.{keys_of, shift}
 use Rattle.judy_leaf.specs.Nearby.{is_absent}
@@ -16,7 +16,7 @@ use Rattle.judy_node.specs.Trees.{Pairs, IsMap}
 use Rattle.judy_node.proofs.Maps.{map-length, map-shift}
 use Rattle.judy_query.specs.Maps.{map_of}
 use Rattle.judy_query.specs.Parts.{value_of, IsPart}
-use Rattle.judy_query.specs.Rooms.{IsRun, IsFirstAbsent, IsWindow}
+use Rattle.judy_query.specs.Rooms.{IsRun, IsFirstAbsent, IsLastAbsent, IsWindow}
 use Rattle.judy_query.proofs.Finds.{part-value}
 use Rattle.judy_query.proofs.Links.{held_is}
 
@@ -168,6 +168,26 @@ module _ (pairs : Pairs) (from bound : ℕ) where
         there.1,
       )
 
+  -- And the last.
+  pub last-absent : (answer : Option ℕ) → from < bound → IsLast word_order (is_absent bound (keys_of pairs)) from answer → IsLastAbsent pairs 0 (from + 1) answer
+  last-absent None within none = record {
+    rising = omega arith;
+    held = λ word low high. true_or (has (keys_of pairs) word) (λ absent. true≢false (sym (and_from _ _ (is_free word (omega arith) absent) (is_le_word word from ∙ le-leb word from (omega arith))) ∙ none word));
+  }
+  last-absent (Some greatest) within some =
+      let parts = and_parts (nat_lt greatest bound && not (has (keys_of pairs) greatest)) (is_le (word_order greatest from)) some.0 in
+      let there = free_is greatest parts.0 in
+      let up_to = leb-true greatest from (sym (is_le_word greatest from) ∙ parts.1) in (
+        omega arith,
+        record {
+          rising = omega arith;
+          held = λ word low high. true_or (has (keys_of pairs) word) (λ absent.
+              let greatest_is = leb-true word greatest (sym (is_le_word word greatest) ∙ some.1 word (and_from _ _ (is_free word (omega arith) absent) (is_le_word word from ∙ le-leb word from (omega arith)))) in
+              let never : ⊥ = omega arith in never);
+        },
+        there.1,
+      )
+
 -- ---- a bitmap leaf
 
 top_unit : (width : ℕ) → 1 ≤ width → 256 ^ width ≡ 256 ^ (width - 1) * 256
@@ -209,3 +229,10 @@ pub first-empty : (words : ℕ) (pairs : Pairs) (from : ℕ) (answer : Option �
 first-empty words pairs from None map run = sym (first_empty_run_none (map_of pairs) from (λ word low high. held_is words (256 ^ 8) pairs map word ∙ run.held word low high))
 first-empty words pairs from (Some least) map some =
     sym (first_empty_run (map_of pairs) from least some.1.rising some.0 (held_is words (256 ^ 8) pairs map least ∙ some.2) (λ word low high. held_is words (256 ^ 8) pairs map word ∙ some.1.held word low high))
+
+-- And the last one.
+pub last-empty : (words : ℕ) (pairs : Pairs) (from : ℕ) (answer : Option ℕ) → IsMap words 0 (256 ^ 8) pairs → from < 2 ^ 64 → IsLastAbsent pairs 0 (from + 1) answer → answer ≡ last_empty (map_of pairs) from
+last-empty words pairs from None map small run = sym (last_empty_run_none (map_of pairs) from (λ word low high. held_is words (256 ^ 8) pairs map word ∙ run.held word (omega arith) (omega arith)))
+last-empty words pairs from (Some greatest) map small some =
+    let rising = some.1.rising in
+    sym (last_empty_run (map_of pairs) from greatest (omega arith) (omega arith) (held_is words (256 ^ 8) pairs map greatest ∙ some.2) (λ word low high within. held_is words (256 ^ 8) pairs map word ∙ some.1.held word (omega arith) (omega arith)))

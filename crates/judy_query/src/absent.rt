@@ -55,3 +55,47 @@ fn first_absent_bit<V: Words + Drop>(
         None => None,
     }
 }
+
+/// The last word up to a key that is no key of the node.
+pub fn last_absent<V: Words + Drop>(end: &ViewOf<'_, V>, width: u8, key: u64) -> Option<u64>
+    requires end { IsEnd end.now }
+    requires shown { IsShown V.WORDS end.now }
+    requires width { width ≡ width_of end.now }
+    requires within { key < 256 ^ width }
+    ensures { IsLastAbsent (view_pairs end.now) 0 (key + 1) result }
+{
+    match end {
+        ViewOf::Null => Some(key),
+        ViewOf::One(only, _) if key != *only => Some(key),
+        ViewOf::One(_, _) if key > 0 => Some(key - 1),
+        ViewOf::One(_, _) => None,
+        ViewOf::Imm(list) => list.absent_at_or_before(key),
+        ViewOf::Leaf(list) => list.absent_at_or_before(key),
+        ViewOf::BitLeaf(skipped, list) => last_absent_bit(*skipped, list, width, key),
+        ViewOf::Branch(_) => unreachable!(),
+    }
+}
+
+/// The same for a bitmap leaf.
+fn last_absent_bit<V: Words + Drop>(
+    skipped: u64,
+    list: &BitRef<'_, V>,
+    width: u8,
+    key: u64,
+) -> Option<u64>
+    requires width { (1 ≤ width) × (width ≤ 8) }
+    requires skipped { skipped < 256 ^ (width - 1) }
+    requires map { IsMap V.WORDS 0 256 list.now.pairs }
+    requires within { key < 256 ^ width }
+    ensures { IsLastAbsent (shift (skipped * 256) list.now.pairs) 0 (key + 1) result }
+{
+    let front = skipped * 256;
+    if key < front || key - front > 255 {
+        return Some(key);
+    }
+    match list.absent_at_or_before(key - front) {
+        Some(byte) => Some(front + byte),
+        None if front > 0 => Some(front - 1),
+        None => None,
+    }
+}

@@ -7,8 +7,8 @@ ghost use Rattle.judy_node.specs.Views.{IsView};
 ghost use Rattle.judy_query.specs.Maps.{map_of};
 ghost use Rattle.judy_query.specs.Rooms.{IsFirstAbsent, IsLastAbsent, IsRoomFrom, IsRoomUpTo};
 
-use crate::absent::first_absent;
-use crate::rooms::{Room, is_full, room_from};
+use crate::absent::{first_absent, last_absent};
+use crate::rooms::{Room, has_next, is_full, last_word, room_from, room_up_to};
 use judy_bits::Meter;
 use judy_leaf::Words;
 use judy_node::{ChildOf, NodeOf, Step, ViewOf};
@@ -100,6 +100,87 @@ fn least_absent<V: Words + Drop>(child: &ChildOf<V>, width: u8, meter: &mut Mete
         }
     }
     match first_absent(&view, wide, 0) {
+        Some(word) => start + word,
+        None => unreachable!(),
+    }
+}
+
+/// The greatest word at or below a key that is no key of the tree; `None` where all of these are keys. At most 16 visits; the meter stands
+/// at most at `u64::MAX - 16`.
+pub fn empty_at_or_before<V: Words + Drop>(
+    tree: &NodeOf<V>,
+    key: u64,
+    meter: &mut Meter,
+) -> Option<u64>
+    requires { meter.old ≤ 2 ^ 64 - 17 }
+    ensures word { result ≡ last_empty (map_of tree.now.pairs) key }
+    ensures visits { meter.new ≤ meter.old + 16 }
+{
+    tree.told();
+    match seek_down(tree, key, meter) {
+        Room::Nowhere => None,
+        Room::At(word) => Some(word),
+        Room::In(child, width, start) => Some(start + greatest_absent(child, width, meter)),
+    }
+}
+
+// Goes down the way of a key as far as nodes aren't full, and remembers the nearest room before it.
+fn seek_down<'a, V: Words + Drop>(tree: &'a NodeOf<V>, key: u64, meter: &mut Meter) -> Room<'a, V>
+    requires { meter.old ≤ 2 ^ 64 - 17 }
+    ensures room { IsRoomUpTo V.WORDS tree.now.pairs 0 (key + 1) result }
+    ensures visits { meter.new ≤ meter.old + 8 }
+{
+    tree.told();
+    let mut view = tree.enter(meter);
+    let mut width = 8;
+    let mut left = key;
+    let mut earlier = Room::Nowhere;
+    'down: while let ViewOf::Branch(branch) = view {
+        let Step::Child(byte, place, rest) = branch.step(left) else {
+            return Room::At(key);
+        };
+        earlier = room_up_to(branch, place, u64::from(byte), key - left).or(earlier);
+        let child = &branch.children[place];
+        if is_full(child, branch.width) {
+            return earlier;
+        }
+        width = branch.width;
+        left = rest;
+        view = enter(child, width, meter);
+    }
+    match last_absent(&view, width, left) {
+        Some(word) => Room::At(key - left + word),
+        None => earlier,
+    }
+}
+
+// The greatest word that is no key of a child that isn't full.
+fn greatest_absent<V: Words + Drop>(child: &ChildOf<V>, width: u8, meter: &mut Meter) -> u64
+    requires below { meter.old ≤ 2 ^ 64 - 9 }
+    requires child { IsChild V.WORDS width child.now }
+    requires narrow { width ≤ 7 }
+    requires room { length child.now.pairs < 256 ^ width }
+    ensures word { IsLastAbsent child.now.pairs 0 (256 ^ width) (Some result) }
+    ensures visits { meter.new ≤ meter.old + width }
+{
+    let mut view = enter(child, width, meter);
+    let mut wide = width;
+    let mut start = 0;
+    'down: while let ViewOf::Branch(branch) = view {
+        if has_next(branch.skip.number(), branch.skip.len()) {
+            return start + last_word(wide);
+        }
+        match room_up_to(branch, branch.children.len(), 256, start) {
+            Room::At(word) => return word,
+            Room::In(inner, width, from) => {
+                wide = width;
+                start = from;
+                view = enter(inner, width, meter);
+            }
+            Room::Nowhere => unreachable!(),
+        }
+    }
+    match last_absent(&view, wide, last_word(wide)) {
         Some(word) => start + word,
         None => unreachable!(),
     }

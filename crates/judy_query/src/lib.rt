@@ -29,5 +29,5 @@ mod ends;
 mod rooms;
 mod values;
 
-pub use empties::empty_at_or_after;
+pub use empties::{empty_at_or_after, empty_at_or_before};
 pub use values::lookup;

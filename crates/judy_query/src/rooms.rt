@@ -1,7 +1,7 @@
 //! Where a branch has room: its first and its last word that is no key, from a byte on. Children that are full are passed over by the
 //! number of their keys.
 
-ghost use Rattle.std.specs.Prelude.{◌≡◌, ◌+◌, ◌*◌, ◌^◌, ◌<◌, ◌≤◌, ◌==◌, nat_lt, Some, length, slice_get};
+ghost use Rattle.std.specs.Prelude.{◌≡◌, ◌+◌, ◌-◌, ◌*◌, ◌^◌, ◌<◌, ◌≤◌, ◌==◌, nat_lt, Some, length, slice_get};
 ghost use Rattle.judy_model.specs.WordBytes.{number_of};
 ghost use Rattle.judy_bits.specs.ByteSets as set;
 ghost use Rattle.judy_leaf.specs.KeyLists.{shift};
@@ -41,6 +41,15 @@ pub fn is_full<V: Words + Drop>(child: &ChildOf<V>, width: u8) -> bool
     ensures { result ≡ (length child.now.pairs == 256 ^ width) }
 {
     child.pop() == moved_up(1, usize::from(width))
+}
+
+/// The greatest word of a width of at most 7 bytes.
+pub fn last_word(width: u8) -> u64
+    requires { width ≤ 7 }
+    ensures value { result ≡ 256 ^ width - 1 }
+    ensures within { result < 256 ^ 7 }
+{
+    moved_up(1, usize::from(width)) - 1
 }
 
 /// The byte of the child at a place.
@@ -108,6 +117,43 @@ pub fn room_from<V: Words + Drop>(
     }
     if has_next(branch.skip.number(), branch.skip.len()) {
         Room::At(start_of(branch, 256, base))
+    } else {
+        Room::Nowhere
+    }
+}
+
+/// The last room of a branch below a byte, which is 256 for all of them. Else as `room_from`.
+pub fn room_up_to<V: Words + Drop>(
+    branch: &BranchOf<V>,
+    place: usize,
+    end: u64,
+    base: u64,
+) -> Room<'_, V>
+    requires branch { IsBranch V.WORDS branch.now.width branch.now.skip branch.now.bytes branch.now.children.items branch.now.population }
+    requires end { end ≤ 256 }
+    requires place { place ≡ set.rank branch.now.bytes end }
+    requires fits { base + 256 ^ (length branch.now.skip + 1 + branch.now.width) ≤ 2 ^ 64 }
+    ensures width { HasWidth branch.now.width result }
+    ensures room { IsRoomUpTo V.WORDS (shift base (branch_pairs branch.now.width branch.now.skip branch.now.bytes branch.now.children.items))
+        base (base + (number_of branch.now.skip * 256 + end) * 256 ^ branch.now.width) result }
+{
+    let mut byte = end;
+    let mut at = place;
+    while at > 0 {
+        at -= 1;
+        byte -= 1;
+        let start = start_of(branch, byte, base);
+        if u64::from(byte_at(branch, at)) != byte {
+            return Room::At(start + last_word(branch.width));
+        }
+        let child = &branch.children[at];
+        if !is_full(child, branch.width) {
+            return Room::In(child, branch.width, start);
+        }
+    }
+    let start = start_of(branch, byte, base);
+    if start > base {
+        Room::At(start - 1)
     } else {
         Room::Nowhere
     }
