@@ -1,5 +1,5 @@
 -- The children of a branch, one of which loses a key or goes.
-use Rattle.std.proofs.Common.{◌≡◌, ◌≢◌, ℕ, zero, suc, ◌+◌, ◌*◌, ◌^◌, ◌<◌, ◌≤◌, Option, Some, None, List, [], ◌∷◌, ◌++◌, length, set, get_or, slice_get, take, drop, sym, refl, ap, ◌∙◌, subst, arith}
+use Rattle.std.proofs.Common.{◌≡◌, ℕ, zero, suc, ◌+◌, ◌*◌, ◌^◌, ◌<◌, ◌≤◌, Some, None, List, [], ◌∷◌, ◌++◌, set, slice_get, sym, refl, ap, ◌∙◌, subst, arith}
 use Rattle.std.specs.List.{remove}
 use Rattle.std.proofs.Math.Nat.{add-mul}
 use Rattle.std.proofs.lemmas.Nat.{mul-le}
@@ -7,7 +7,7 @@ use Rattle.std.proofs.lemmas.Option.{same_Some}
 use Rattle.judy_model.specs.Forms.{loose_in}
 use Rattle.judy_model.proofs.FormLemmas.{loose_in-append}
 use Rattle.judy_leaf.specs.KeyLists.{shift}
-use Rattle.judy_node.specs.Trees.{Pairs, Tree, IsMap, IsTight, join, forms_in, IsChild, AreChildren}
+use Rattle.judy_node.specs.Trees.{Tree, IsMap, IsTight, join, forms_in, IsChild, AreChildren}
 use Rattle.judy_node.proofs.Maps.{map-wider, map-shift, join-map, children-lower}
 use Rattle.judy_change.specs.Removals.{value_in, without}
 use Rattle.judy_change.proofs.Without.{value-below, value-above, value-front, value-back, value-shift, without-absent, without-append, without-shift}
@@ -101,7 +101,7 @@ module _ (words width block rest : ℕ) (rest_is : rest < 256 ^ width) where
       (join-map words width (byte + 1) block bytes kids (omega arith) are)
 
   -- Nor does one before it.
-  none_before : (low byte : ℕ) (kid : Tree) → low < byte → IsChild words width kid → value_in (shift ((block + low) * 256 ^ width) kid.pairs) ((block + byte) * 256 ^ width + rest) ≡ None
+  pub none_before : (low byte : ℕ) (kid : Tree) → low < byte → IsChild words width kid → value_in (shift ((block + low) * 256 ^ width) kid.pairs) ((block + byte) * 256 ^ width + rest) ≡ None
   none_before low byte kid below is =
       let start = part_before (256 ^ width) block low byte below in
       value-above words ((block + low) * 256 ^ width) ((block + low) * 256 ^ width + 256 ^ width) ((block + byte) * 256 ^ width + rest) (shift ((block + low) * 256 ^ width) kid.pairs) (omega arith)

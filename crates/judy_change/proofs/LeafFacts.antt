@@ -1,8 +1,8 @@
 -- Leaves, bitmap leaves and immediates without a key.
-use Rattle.std.proofs.Common.{◌≡◌, ◌≢◌, ℕ, zero, suc, ◌+◌, ◌-◌, ◌*◌, ◌/◌, ◌%◌, ◌^◌, ◌<◌, ◌≤◌, true, false, true≢false, Some, None, List, [], ◌∷◌, ◌++◌, length, get_or, slice_get, sym, refl, ap, ◌∙◌, subst, eqb, Bool, Option, MatchOption, ◌⊎◌, ⊎_elim, arith}
+use Rattle.std.proofs.Common.{◌≡◌, ◌≢◌, ℕ, zero, suc, ◌+◌, ◌-◌, ◌*◌, ◌/◌, ◌%◌, ◌^◌, ◌<◌, ◌≤◌, true, false, true≢false, Some, None, List, [], ◌∷◌, length, get_or, slice_get, sym, refl, ap, ◌∙◌, subst, eqb, Bool, Option, MatchOption, ◌⊎◌, ⊎_elim, arith}
 use Rattle.std.specs.List.{remove}
-use Rattle.std.proofs.lemmas.Nat.{pow-add, le-div}
-use Rattle.std.proofs.lemmas.Option.{same_Some, slice_get_within}
+use Rattle.std.proofs.lemmas.Nat.{le-div}
+use Rattle.std.proofs.lemmas.Option.{slice_get_within}
 use Rattle.std.proofs.lemmas.Bool.{lt-leb, leb-false, cases_order}
 use Rattle.std.proofs.lemmas.Bool.Decides.{eqb_tells}
 use Rattle.judy_model.specs.Forms.{bitmap_leaf, loose_in}
@@ -12,8 +12,8 @@ use Rattle.judy_model.proofs.FormLemmas.{tight-head}
 use Rattle.judy_bits.specs.ByteSets as set
 use Rattle.judy_block.specs.Contents.{Contents}
 use Rattle.judy_leaf.specs.KeyLists.{KeyList, keys_of, values_of, shift}
-use Rattle.judy_leaf.specs.Leaves.{leaf_list, IsLeafParts}
-use Rattle.judy_leaf.specs.BitLeaves.{bit_list, IsBitParts}
+use Rattle.judy_leaf.specs.Leaves.{leaf_list}
+use Rattle.judy_leaf.specs.BitLeaves.{bit_list}
 use Rattle.judy_node.specs.Trees.{Pairs, Tree, IsTight, IsMap, IsChild}
 use Rattle.judy_node.specs.Kinds.{imm_pairs, leaf_tree, IsLeaf, bit_width, bit_tree, IsBit}
 use Rattle.judy_node.proofs.Maps.{map-AllBelow, map-shift, length-shift, length-keys_of}
@@ -23,10 +23,9 @@ use Rattle.judy_node.specs.Kinds.{tree_of, IsLevel}
 use Rattle.judy_node.specs.declared.child.KindOf.{KindOf}
 use Rattle.judy_change.specs.LeafTrees.{one_leaf, one_bitmap}
 use Rattle.judy_node.proofs.Shaped.{tight-parts}
-use Rattle.judy_change.specs.Removals.{value_in, without, Has33, IsTightOf, IsGone, IsSettled}
+use Rattle.judy_change.specs.Removals.{value_in, without, IsTightOf, IsGone, IsSettled}
 use Rattle.judy_change.proofs.Without.{value-fits, value-above, first_pair, place_there, value-at, value-none, value-shift, without-shift, remove-without, map-without, length-without, value-below}
 use Rattle.judy_change.proofs.Sharing.{all-33}
-use Rattle.judy_change.proofs.SettleFacts.{settled-tight}
 
 -- ---- leaves
 

@@ -7,3 +7,5 @@ pub mod ChildSets
 pub mod Added
 pub mod BranchInserts
 pub mod LeafFacts
+pub mod BelowFacts
+pub mod RootFacts

@@ -9,7 +9,7 @@ use Rattle.judy_model.specs.Forms.{Form, immediate, leaf, bitmap_leaf, branch, l
 use Rattle.judy_model.specs.Shapes.{AllBelow}
 use Rattle.judy_model.proofs.FormLemmas.{loose_in-append, branch_tight, tight-head, immediate_limit_small}
 use Rattle.judy_leaf.specs.KeyLists.{keys_of, low_pairs, shift}
-use Rattle.judy_node.specs.Trees.{Pairs, Tree, IsTight, IsMap, join, forms_in, IsChild, AreChildren, branch_pairs, IsBranch, branch_tree}
+use Rattle.judy_node.specs.Trees.{Pairs, Tree, IsTight, IsMap, forms_in, IsChild, branch_pairs, IsBranch, branch_tree}
 use Rattle.judy_node.specs.Kinds.{tree_of, IsLevel, IsDeep, skip_more, behind}
 use Rattle.judy_node.specs.Built.{IsBuilt}
 use Rattle.judy_node.specs.declared.child.KindOf.{KindOf}

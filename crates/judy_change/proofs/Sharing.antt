@@ -1,12 +1,12 @@
 -- How many keys share their leading bytes with a key.
-use Rattle.std.proofs.Common.{◌≡◌, ◌≢◌, ℕ, zero, suc, ◌+◌, ◌-◌, ◌*◌, ◌/◌, ◌%◌, ◌^◌, ◌<◌, ◌≤◌, Bool, true, false, cond, eqb, Some, None, List, [], ◌∷◌, ◌++◌, length, slice_get, sym, refl, ap, ◌∙◌, subst, ◌⊎◌, inl, inr, ⊎_elim, arith}
-use Rattle.std.proofs.Math.Nat.{add-mul, mul_assoc, div-eq_of_lt, pow-le-pow_right}
-use Rattle.std.proofs.lemmas.Nat.{mul-le, pow-add, div-mul-add, div-add-mod', mod_below, le-div, div_below}
+use Rattle.std.proofs.Common.{◌≡◌, ◌≢◌, ℕ, zero, suc, ◌+◌, ◌-◌, ◌*◌, ◌/◌, ◌%◌, ◌^◌, ◌<◌, ◌≤◌, true, false, cond, eqb, Some, List, [], ◌∷◌, ◌++◌, length, slice_get, sym, refl, ap, ◌∙◌, ⊎_elim, arith}
+use Rattle.std.proofs.Math.Nat.{add-mul, mul_assoc, div-eq_of_lt}
+use Rattle.std.proofs.lemmas.Nat.{pow-add, div-mul-add, div-add-mod', mod_below, le-div, div_below}
 use Rattle.std.proofs.lemmas.Bool.{eq-eqb, ne_eqb}
 use Rattle.std.proofs.lemmas.Bool.Decides.{eqb_tells}
 use Rattle.std.proofs.lemmas.Option.{same_Some}
 use Rattle.judy_leaf.specs.KeyLists.{shift}
-use Rattle.judy_node.specs.Trees.{Pairs, Tree, IsMap, join, IsChild, AreChildren}
+use Rattle.judy_node.specs.Trees.{Pairs, Tree, IsMap, join, AreChildren}
 use Rattle.judy_change.specs.Removals.{sharing, Has33}
 use Rattle.judy_model.proofs.ByteLemmas.{unit_pos}
 use Rattle.judy_node.proofs.Maps.{join-map}

@@ -1,8 +1,8 @@
 -- Pairs without a key, and the value that it had.
-use Rattle.std.proofs.Common.{◌≡◌, ◌≢◌, ℕ, zero, suc, ◌+◌, ◌<◌, ◌≤◌, Bool, true, false, ◌||◌, cond, eqb, Option, Some, None, List, [], ◌∷◌, ◌++◌, length, get_or, slice_get, take, drop, sym, refl, ap, ◌∙◌, subst, ◌⊎◌, inl, inr, ⊎_elim, arith}
+use Rattle.std.proofs.Common.{◌≡◌, ◌≢◌, ℕ, zero, suc, ◌+◌, ◌<◌, ◌≤◌, true, false, ◌||◌, cond, eqb, Some, None, List, [], ◌∷◌, ◌++◌, length, get_or, slice_get, sym, refl, ap, ◌∙◌, subst, ◌⊎◌, inl, inr, ⊎_elim, arith}
 use Rattle.std.specs.List.{remove}
 use Rattle.std.specs.List.Sorted.{IsStrictlySortedBy}
-use Rattle.std.proofs.lemmas.Bool.{eqb-true, eqb-false, eq-eqb, ne_eqb}
+use Rattle.std.proofs.lemmas.Bool.{eq-eqb, ne_eqb}
 use Rattle.std.proofs.lemmas.Bool.Decides.{eqb_tells}
 use Rattle.std.proofs.lemmas.Option.{same_Some}
 use Rattle.judy_model.specs.Keys.{word_order}
@@ -20,16 +20,16 @@ by_same P one other here there same apart = ⊎_elim
     (λ (h : (eqb one other ≡ false) × (one ≢ other)). subst (λ b. P (cond b here there)) (sym h.0) (apart h.1))
     (eqb_tells one other)
 
-value-same : (pair : ℕ × ℕ) (pairs : Pairs) (key : ℕ) → pair.0 ≡ key → value_in (pair ∷ pairs) key ≡ Some pair.1
+pub value-same : (pair : ℕ × ℕ) (pairs : Pairs) (key : ℕ) → pair.0 ≡ key → value_in (pair ∷ pairs) key ≡ Some pair.1
 value-same pair pairs key same = ap (λ b. cond b (Some pair.1) (value_in pairs key)) (eq-eqb pair.0 key same)
 
-value-apart : (pair : ℕ × ℕ) (pairs : Pairs) (key : ℕ) → pair.0 ≢ key → value_in (pair ∷ pairs) key ≡ value_in pairs key
+pub value-apart : (pair : ℕ × ℕ) (pairs : Pairs) (key : ℕ) → pair.0 ≢ key → value_in (pair ∷ pairs) key ≡ value_in pairs key
 value-apart pair pairs key apart = ap (λ b. cond b (Some pair.1) (value_in pairs key)) (ne_eqb pair.0 key apart)
 
-without-same : (pair : ℕ × ℕ) (pairs : Pairs) (key : ℕ) → pair.0 ≡ key → without key (pair ∷ pairs) ≡ without key pairs
+pub without-same : (pair : ℕ × ℕ) (pairs : Pairs) (key : ℕ) → pair.0 ≡ key → without key (pair ∷ pairs) ≡ without key pairs
 without-same pair pairs key same = ap (λ b. cond b (without key pairs) (pair ∷ without key pairs)) (eq-eqb pair.0 key same)
 
-without-apart : (pair : ℕ × ℕ) (pairs : Pairs) (key : ℕ) → pair.0 ≢ key → without key (pair ∷ pairs) ≡ pair ∷ without key pairs
+pub without-apart : (pair : ℕ × ℕ) (pairs : Pairs) (key : ℕ) → pair.0 ≢ key → without key (pair ∷ pairs) ≡ pair ∷ without key pairs
 without-apart pair pairs key apart = ap (λ b. cond b (without key pairs) (pair ∷ without key pairs)) (ne_eqb pair.0 key apart)
 
 same_or : (one other : ℕ) → (one ≡ other) ⊎ (one ≢ other)

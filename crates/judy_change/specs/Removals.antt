@@ -1,5 +1,5 @@
 -- What it means to take a key out of a tree.
-use Rattle.std.specs.Prelude.{◌≡◌, ℕ, ◌+◌, ◌*◌, ◌/◌, ◌^◌, ◌<◌, ◌≤◌, ◌==◌, if◌then◌else◌, Bool, true, false, Option, Some, None, List, [], ◌∷◌, length}
+use Rattle.std.specs.Prelude.{◌≡◌, ℕ, ◌+◌, ◌/◌, ◌^◌, ◌≤◌, ◌==◌, if◌then◌else◌, Bool, true, false, Option, Some, None, [], ◌∷◌, length}
 use Rattle.judy_model.specs.Forms.{loose_in}
 use Rattle.judy_node.specs.Trees.{Pairs, Tree, IsTight, IsChild, IsBranch, branch_tree, branch_pairs, forms_in}
 use Rattle.judy_node.specs.declared.child.BranchOf.{BranchOf}
@@ -101,8 +101,13 @@ pub record IsGoneBelow {V : _} (words key : ℕ) (old new : BranchOf V) (value :
   pub tight : loose_below old ≡ 0 → shrunk ≡ true → loose_below new ≡ 0
   pub short : loose_below old ≡ 0 → shrunk ≡ false → Has33 (width_of old) (pairs_below old) key
 
+-- A branch that is the same tree as before.
+pub record IsSame {V : _} (words : ℕ) (old new : BranchOf V) : Type 0 where
+  pub branch : IsWhole words new
+  pub tree : tree_below new ≡ tree_below old
+
 -- What becomes of a branch.
 abbrev pub IsTakenBelow : {V : _} → ℕ → ℕ → BranchOf V → BranchOf V → Taken → Type 0
-IsTakenBelow words key old new Absent = (value_in (pairs_below old) key ≡ None) × (new ≡ old)
-IsTakenBelow words key old new (Only value) = (pairs_below old ≡ (key, value) ∷ []) × (new ≡ old)
+IsTakenBelow words key old new Absent = (value_in (pairs_below old) key ≡ None) × IsSame words old new
+IsTakenBelow words key old new (Only value) = (pairs_below old ≡ (key, value) ∷ []) × IsSame words old new
 IsTakenBelow words key old new (Gone value shrunk) = IsGoneBelow words key old new value shrunk

@@ -11,9 +11,11 @@ mod bitmaps;
 mod gap;
 mod immediates;
 mod leaves;
+mod removals;
 mod remove_leaf;
 mod removed;
 mod settle;
 
+pub use removals::remove;
 pub use removed::Removed;
 mod put;

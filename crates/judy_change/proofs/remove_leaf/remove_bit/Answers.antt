@@ -1,4 +1,4 @@
-use Rattle.std.proofs.Common.{◌≡◌, ◌≢◌, ◌-◌, ◌*◌, ◌%◌, ◌^◌, ◌<◌, ◌≤◌, Some, length, get_or, sym, ap, ◌∙◌, subst, arith}
+use Rattle.std.proofs.Common.{◌≢◌, ◌-◌, ◌*◌, ◌%◌, ◌^◌, ◌<◌, ◌≤◌, Some, length, get_or, sym, ap, ◌∙◌, subst, arith}
 use Rattle.judy_bits.specs.ByteSets as set
 use Rattle.judy_leaf.specs.KeyLists.{KeyList, keys_of, values_of}
 use Rattle.judy_leaf.specs.BitLeaves.{bit_list}

@@ -1,4 +1,4 @@
-use Rattle.std.proofs.Common.{◌≡◌, ◌<◌, Some, length, get_or, sym, ap, ◌∙◌, subst, arith}
+use Rattle.std.proofs.Common.{◌<◌, length, get_or, sym, ap, ◌∙◌, subst, arith}
 use Rattle.judy_model.specs.Shapes.{immediate_limit}
 use Rattle.judy_bits.specs.ByteSets as set
 use Rattle.judy_leaf.specs.KeyLists.{keys_of, values_of}

@@ -1,5 +1,5 @@
-use Rattle.std.proofs.Common.{◌^◌, [], ◌∷◌, length, drop, replicate, IfOk, sym, subst}
-use Rattle.judy_node.specs.Trees.{Pairs, IsMap}
+use Rattle.std.proofs.Common.{◌^◌, IfOk, sym, subst}
+use Rattle.judy_node.specs.Trees.{IsMap}
 use Rattle.judy_change.specs.Removals.{IsTightOf}
 use Rattle.judy_change.proofs.SettleFacts.{word_fits, filled}
 use Rattle.judy_change.proofs.settle.lessened.Goals as goal

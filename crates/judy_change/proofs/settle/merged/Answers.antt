@@ -1,6 +1,6 @@
-use Rattle.std.proofs.Common.{◌≡◌, ◌++◌, [], ◌∷◌, length, sym, ap, ◌∙◌, arith}
+use Rattle.std.proofs.Common.{◌++◌, [], length, sym, ap, ◌∙◌, arith}
 use Rattle.std.specs.Option.{option_to_list}
-use Rattle.judy_node.specs.Kinds.{tree_of, behind}
+use Rattle.judy_node.specs.Kinds.{behind}
 use Rattle.judy_node.proofs.Maps.{children-length}
 use Rattle.judy_change.proofs.SettleFacts.{kid_deep, kid_wide, kid_merged}
 use Rattle.judy_change.proofs.settle.merged.Goals as goal

@@ -1,4 +1,4 @@
-use Rattle.std.proofs.Common.{◌≡◌, ◌<◌, true, true≢false, length, sym, ap, ◌∙◌, subst, arith}
+use Rattle.std.proofs.Common.{◌≡◌, ◌<◌, true≢false, length, sym, ap, ◌∙◌, subst}
 use Rattle.judy_node.specs.Trees.{IsChild, branch_tree}
 use Rattle.judy_node.proofs.Maps.{children-length}
 use Rattle.judy_node.proofs.Shaped.{branch-child}
