@@ -2,3 +2,4 @@ pub mod PairPlaces
 pub mod ChildSets
 pub mod Added
 pub mod BranchInserts
+pub mod Shorter

@@ -1,2 +1,3 @@
 pub mod LeafTrees
 pub mod Inserted
+pub mod Splits

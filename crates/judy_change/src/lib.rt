@@ -12,3 +12,4 @@ mod gap;
 mod immediates;
 mod leaves;
 mod put;
+mod split;

@@ -58,7 +58,7 @@ bit_behind_tree words skipped byte block is below =
 
 -- ---- branches
 
-join-block : (unit more block both : ℕ) (bytes : List ℕ) (kids : List Tree) → both ≡ more + block → join unit both bytes kids ≡ shift (more * unit) (join unit block bytes kids)
+pub join-block : (unit more block both : ℕ) (bytes : List ℕ) (kids : List Tree) → both ≡ more + block → join unit both bytes kids ≡ shift (more * unit) (join unit block bytes kids)
 join-block unit more block both [] kids is = refl
 join-block unit more block both (byte ∷ bytes) [] is = refl
 join-block unit more block both (byte ∷ bytes) (kid ∷ kids) is =

@@ -123,7 +123,7 @@ leaf-child words width count block level at =
           (subst (λ w. immediate_limit words w < length (keys_of pairs)) is_width (omega arith)) (omega arith));
     }
 
-low_bytes-are : (width word : ℕ) → IsByteString (low_bytes width word)
+pub low_bytes-are : (width word : ℕ) → IsByteString (low_bytes width word)
 low_bytes-are zero word = All-nil (λ byte. byte < 256)
 low_bytes-are (suc width) word =
     All-cons (λ byte. byte < 256) (word / 256 ^ width % 256) (low_bytes width word) (mod_below (word / 256 ^ width) 256 (omega arith)) (low_bytes-are width word)
