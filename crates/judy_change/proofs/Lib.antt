@@ -9,3 +9,4 @@ pub mod BranchInserts
 pub mod LeafFacts
 pub mod BelowFacts
 pub mod RootFacts
+pub mod Shorter

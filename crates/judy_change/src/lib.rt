@@ -19,3 +19,4 @@ mod settle;
 pub use removals::remove;
 pub use removed::Removed;
 mod put;
+mod split;
