@@ -17,11 +17,15 @@ mod dumps;
 #[cfg(test)]
 mod faults;
 #[cfg(test)]
+mod immediates;
+#[cfg(test)]
 mod keys;
 #[cfg(test)]
 mod leaves;
 #[cfg(test)]
 mod lines;
+#[cfg(test)]
+mod plain;
 #[cfg(test)]
 mod refusals;
 #[cfg(test)]
