@@ -2,7 +2,8 @@
 
 ghost use Rattle.std.specs.Prelude.{◌≤◌, ◌<◌};
 
-use crate::leaves::{End, beside, check_word, note, value_of};
+use crate::leaves::{End, value_of};
+use crate::plain::{beside, check_nearest, check_word, note};
 use judy_leaf::{BitLeafOf, BitRef, Width, Words};
 use std::alloc::{AllocError, Global};
 use std::process::Abort;
@@ -18,6 +19,14 @@ fn check_bits<V: Words + Drop>(rt: &impl Abort, leaf: BitRef<'_, V>, plain: &[(u
         for word in beside(key) {
             check_word(rt, word, plain, leaf.rank(word), leaf.find(word));
         }
+        let word = key.wrapping_add(1);
+        check_nearest(
+            rt,
+            word,
+            plain,
+            leaf.at_or_after(word),
+            leaf.at_or_before(word),
+        );
     }
 }
 
@@ -67,7 +76,8 @@ fn filled<V: Words + Drop>(
         }
     }
     assert_eq!(rt; leaf.reading().width(), 3);
-    assert_eq!(rt; leaf.reading().next_absent(0), None);
+    assert_eq!(rt; leaf.reading().absent_at_or_after(0), None);
+    assert_eq!(rt; leaf.reading().absent_at_or_before(u64::MAX), None);
     Ok(leaf)
 }
 
@@ -149,24 +159,26 @@ fn neighbours_at_word_borders(rt: HostRuntime) -> Result<(), Fail> {
     let pairs = [(63, 0), (64, 0), (127, 0), (128, 0), (191, 0), (192, 0)];
     let leaf = BitLeafOf::<Width<0>>::from_sorted(rt.alloc(), 1, &pairs)?;
     let leaf = leaf.reading();
-    // A byte, and from it on and down to it the nearest key and the nearest byte that is none.
-    for (byte, next, previous, next_absent, previous_absent) in [
-        (0, Some(63), None, 0, 0),
-        (62, Some(63), None, 62, 62),
-        (63, Some(63), Some(63), 65, 62),
-        (64, Some(64), Some(64), 65, 62),
-        (65, Some(127), Some(64), 65, 65),
-        (127, Some(127), Some(127), 129, 126),
-        (128, Some(128), Some(128), 129, 126),
-        (191, Some(191), Some(191), 193, 190),
-        (192, Some(192), Some(192), 193, 190),
-        (193, None, Some(192), 193, 193),
-        (255, None, Some(192), 255, 255),
+    // A word, and from it on and down to it the nearest key and the nearest byte that is none.
+    for (word, next, previous, next_absent, previous_absent) in [
+        (0, Some(63), None, Some(0), 0),
+        (62, Some(63), None, Some(62), 62),
+        (63, Some(63), Some(63), Some(65), 62),
+        (64, Some(64), Some(64), Some(65), 62),
+        (65, Some(127), Some(64), Some(65), 65),
+        (127, Some(127), Some(127), Some(129), 126),
+        (128, Some(128), Some(128), Some(129), 126),
+        (191, Some(191), Some(191), Some(193), 190),
+        (192, Some(192), Some(192), Some(193), 190),
+        (193, None, Some(192), Some(193), 193),
+        (255, None, Some(192), Some(255), 255),
+        (256, None, Some(192), None, 255),
+        (u64::MAX, None, Some(192), None, 255),
     ] {
-        assert_eq!(rt; leaf.next_from(byte), next);
-        assert_eq!(rt; leaf.prev_from(byte), previous);
-        assert_eq!(rt; leaf.next_absent(byte), Some(next_absent));
-        assert_eq!(rt; leaf.prev_absent(byte), Some(previous_absent));
+        assert_eq!(rt; leaf.at_or_after(word), next.map(|key| (key, 0)));
+        assert_eq!(rt; leaf.at_or_before(word), previous.map(|key| (key, 0)));
+        assert_eq!(rt; leaf.absent_at_or_after(word), next_absent);
+        assert_eq!(rt; leaf.absent_at_or_before(word), Some(previous_absent));
     }
     Ok(())
 }

@@ -4,7 +4,9 @@ ghost use Rattle.std.specs.Prelude.{◌≡◌, ◌<◌, ◌≤◌, ◌^◌, leng
 ghost use Rattle.std.specs.List.{AllByRecursion};
 ghost use Rattle.judy_leaf.specs.KeyLists.{low_pairs, IsKeyList};
 
-use judy_leaf::{ImmOf, LeafOf, LeafRef, Width, Words};
+use crate::immediates::check_immediate;
+use crate::plain::{beside, check_absent, check_nearest, check_word, note};
+use judy_leaf::{LeafOf, LeafRef, Width, Words};
 use std::alloc::{AllocError, Global};
 use std::process::Abort;
 use std::test::Fail;
@@ -30,15 +32,15 @@ impl End {
 
 // In which order keys are put in, from the place `first` on in steps of `by`, and where they are taken out.
 #[derive(Clone, Copy)]
-struct Order {
+pub(crate) struct Order {
     first: u64,
     by: u64,
-    end: End,
+    pub(crate) end: End,
 }
 
 impl Order {
     // The key of one of the 32 steps.
-    fn key(self, step: u64, top: u64) -> u64
+    pub(crate) fn key(self, step: u64, top: u64) -> u64
         ensures { result ≤ top }
     {
         key_of(
@@ -60,24 +62,19 @@ fn key_of(place: u64, top: u64) -> u64
     }
 }
 
+// The greatest key of a width.
+pub(crate) fn top_of(width: u8) -> u64
+    requires some { 1 ≤ width }
+    requires most { width ≤ 8 }
+{
+    u64::MAX >> (64 - 8 * u32::from(width))
+}
+
 // The value that a key has, which tells its bytes from the key's.
 pub(crate) fn value_of<V: Words + Drop>(key: u64) -> u64
     ensures { V.WORDS ≡ 0 → result ≡ 0 }
 {
     if V::WORDS == 0 { 0 } else { u64::MAX - key / 3 }
-}
-
-// Puts a pair into the plain list, at its place.
-pub(crate) fn note(
-    rt: &impl Abort,
-    plain: &mut Vec<(u64, u64)>,
-    key: u64,
-    value: u64,
-) -> Result<(), AllocError> {
-    let at = plain.iter().filter(|pair| pair.0 < key).count();
-    assert!(rt; at <= plain.len());
-    plain.insert(at, (key, value))?;
-    Ok(())
 }
 
 // Puts an absent key in, with its value: at once or through the slot.
@@ -107,18 +104,12 @@ fn put<V: Words + Drop>(
     Ok(())
 }
 
-// A key, the words beside it, and a word that differs from it in its highest bit, which only a key of eight bytes has.
-pub(crate) fn beside(key: u64) -> [u64; 4] {
-    [
-        key,
-        key.wrapping_sub(1),
-        key.wrapping_add(1),
-        key ^ (1 << 63),
-    ]
-}
-
 // Compares what a leaf answers with the plain list.
-fn check_leaf<V: Words + Drop>(rt: &impl Abort, leaf: LeafRef<'_, V>, plain: &[(u64, u64)]) {
+pub(crate) fn check_leaf<V: Words + Drop>(
+    rt: &impl Abort,
+    leaf: LeafRef<'_, V>,
+    plain: &[(u64, u64)],
+) {
     assert_eq!(rt; leaf.len(), plain.len());
     assert_eq!(rt; leaf.is_full(), plain.len() == 32);
     for (at, &(key, value)) in plain.iter().enumerate() {
@@ -134,18 +125,41 @@ fn check_leaf<V: Words + Drop>(rt: &impl Abort, leaf: LeafRef<'_, V>, plain: &[(
     }
 }
 
-// Compares the rank and the place of a word.
-pub(crate) fn check_word(
+// Compares what a leaf answers of what is nearest.
+fn check_neighbours<V: Words + Drop>(rt: &impl Abort, leaf: LeafRef<'_, V>, plain: &[(u64, u64)]) {
+    for &(key, _) in plain {
+        for word in beside(key) {
+            check_leaf_at(rt, &leaf, plain, word);
+        }
+    }
+    for word in [0, u64::MAX] {
+        check_leaf_at(rt, &leaf, plain, word);
+    }
+}
+
+// The same of one word.
+fn check_leaf_at<V: Words + Drop>(
     rt: &impl Abort,
-    word: u64,
+    leaf: &LeafRef<'_, V>,
     plain: &[(u64, u64)],
-    rank: usize,
-    place: Option<usize>,
+    word: u64,
 ) {
-    let below = plain.iter().filter(|pair| pair.0 < word).count();
-    let at = plain.iter().position(|pair| pair.0 == word);
-    assert_eq!(rt; rank, below, "{word}");
-    assert_eq!(rt; place, at, "{word}");
+    check_nearest(
+        rt,
+        word,
+        plain,
+        leaf.at_or_after(word),
+        leaf.at_or_before(word),
+    );
+    let top = top_of(leaf.width());
+    check_absent(
+        rt,
+        word,
+        top,
+        plain,
+        leaf.absent_at_or_after(word),
+        leaf.absent_at_or_before(word),
+    );
 }
 
 // A leaf that is filled to its limit, with the plain list beside it.
@@ -172,6 +186,7 @@ fn filled<V: Words + Drop>(
         check_leaf(rt, leaf.reading(), plain);
     }
     assert!(rt; leaf.reading().is_full());
+    check_neighbours(rt, leaf.reading(), plain);
     Ok(leaf)
 }
 
@@ -190,109 +205,10 @@ fn check_emptying<V: Words + Drop>(
         plain.remove(at);
         leaf.remove(at);
         check_leaf(rt, leaf.reading(), plain);
-    }
-}
-
-// How many keys an immediate holds: one with its value, else as many as fit into a word.
-fn room_of<V: Words + Drop>(width: u8) -> usize
-    requires { 1 ≤ width }
-{
-    if V::WORDS == 1 {
-        1
-    } else {
-        8 / usize::from(width)
-    }
-}
-
-// Compares what an immediate answers with the plain list.
-fn check_imm<V: Words + Drop>(rt: &impl Abort, imm: &ImmOf<V>, plain: &[(u64, u64)], room: usize) {
-    assert_eq!(rt; imm.len(), plain.len());
-    assert_eq!(rt; imm.is_full(), plain.len() == room);
-    for (at, &(key, value)) in plain.iter().enumerate() {
-        assert!(rt; at < imm.len());
-        assert_eq!(rt; imm.key_at(at), key);
-        assert_eq!(rt; imm.value_at(at), value);
-        for word in beside(key) {
-            check_word(rt, word, plain, imm.rank(word), imm.find(word));
+        if plain.len() % 8 == 0 {
+            check_neighbours(rt, leaf.reading(), plain);
         }
     }
-    for word in [0, u64::MAX] {
-        check_word(rt, word, plain, imm.rank(word), imm.find(word));
-    }
-}
-
-// Puts an absent key in, with its value through the slot.
-fn put_imm<V: Words + Drop>(rt: &impl Abort, imm: &mut ImmOf<V>, key: u64)
-    requires some { 1 ≤ imm.old.width }
-    requires below { key < 256 ^ imm.old.width }
-{
-    assert!(rt; imm.find(key).is_none());
-    if V::WORDS == 1 {
-        assert!(rt; imm.len() < 1);
-        imm.insert(key);
-        let at = imm.rank(key);
-        assert!(rt; at < imm.len());
-        let slot = imm.slot_at(at);
-        assert_eq!(rt; *slot, 0);
-        *slot = value_of::<V>(key);
-    } else {
-        assert!(rt; imm.len() < 8 / usize::from(imm.width()));
-        imm.insert(key);
-    }
-}
-
-// Fills an immediate to its limit, with the plain list beside it.
-fn fill_imm<V: Words + Drop>(
-    rt: &impl Abort,
-    imm: &mut ImmOf<V>,
-    plain: &mut Vec<(u64, u64)>,
-    top: u64,
-    order: Order,
-) -> Result<(), AllocError>
-    requires { top < 256 ^ imm.old.width }
-{
-    let width = imm.width();
-    let room = room_of::<V>(width);
-    for step in 0..room as u64 {
-        let key = order.key(step, top);
-        assert!(rt; imm.width() == width);
-        put_imm(rt, imm, key);
-        note(rt, plain, key, value_of::<V>(key))?;
-        check_imm(rt, imm, plain, room);
-    }
-    assert!(rt; imm.is_full());
-    Ok(())
-}
-
-// Fills an immediate, takes it apart and puts it together again, and takes its keys out, one by one.
-fn check_immediate<V: Words + Drop>(
-    rt: &impl Abort,
-    alloc: Global,
-    width: u8,
-    top: u64,
-    order: Order,
-) -> Result<(), AllocError>
-    requires words { V.WORDS ≤ 1 }
-    requires some { 1 ≤ width }
-    requires most { width ≤ 8 }
-    requires top { top < 256 ^ width }
-{
-    let mut plain = Vec::new(alloc);
-    let mut imm = ImmOf::<V>::new(width);
-    let room = room_of::<V>(width);
-    check_imm(rt, &imm, &plain, room);
-    fill_imm(rt, &mut imm, &mut plain, top, order)?;
-    assert!(rt; imm.len() >= 1 && imm.width() == width);
-    let (head, word) = imm.into_parts();
-    let mut imm = ImmOf::<V>::of_parts(width, head, word);
-    for _ in 0..room {
-        let at = order.end.place(plain.len());
-        assert!(rt; at < plain.len() && at < imm.len());
-        plain.remove(at);
-        imm.remove(at);
-        check_imm(rt, &imm, &plain, room);
-    }
-    Ok(())
 }
 
 // Leaves and immediates of a width in ascending, descending and mixed order, emptied from each end and from the middle.

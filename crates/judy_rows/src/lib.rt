@@ -17,6 +17,8 @@ mod dumps;
 #[cfg(test)]
 mod faults;
 #[cfg(test)]
+mod immediates;
+#[cfg(test)]
 mod keys;
 #[cfg(test)]
 mod leaves;
@@ -24,6 +26,7 @@ mod leaves;
 mod lines;
 #[cfg(test)]
 mod nodes;
+mod plain;
 #[cfg(test)]
 mod refusals;
 #[cfg(test)]
