@@ -10,24 +10,21 @@
 //! alone: it enters nodes and never opens one.
 #![tactic(auto)]
 
+mod absent;
 mod after;
 mod before;
 mod branches;
 mod counts;
+mod empties;
 mod ends;
 mod places;
+mod rooms;
 mod turns;
 mod values;
 
 pub use after::{at_or_after, entry_at_or_after};
 pub use before::{at_or_before, entry_at_or_before};
 pub use counts::rank;
-pub use places::{entry_nth, nth};
-mod absent;
-mod empties;
-mod ends;
-mod rooms;
-mod values;
-
 pub use empties::{empty_at_or_after, empty_at_or_before};
+pub use places::{entry_nth, nth};
 pub use values::lookup;
