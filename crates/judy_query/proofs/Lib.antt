@@ -1,6 +1,7 @@
 pub mod Parts
 pub mod Splits
 pub mod Finds
+pub mod RankFacts
 pub mod Links
 pub mod EndFacts
 pub mod Downs
@@ -8,3 +9,5 @@ pub mod Runs
 pub mod Blocks
 pub mod BranchRooms
 pub mod RoomSteps
+pub mod TurnFacts
+pub mod NearFacts

@@ -3,7 +3,7 @@ use Rattle.std.proofs.Common.{◌≡◌, ℕ, zero, suc, ◌+◌, ◌*◌, ◌^�
 use Rattle.std.proofs.Math.Nat.{add-mul}
 use Rattle.std.proofs.lemmas.Nat.{mul-le}
 use Rattle.std.proofs.lemmas.Bool.{cases_order}
-use Rattle.std.proofs.lemmas.List.{append_assoc}
+use Rattle.std.proofs.lemmas.List.{append_assoc, append-nil}
 use Rattle.std.proofs.lemmas.Option.{same_Some}
 use Rattle.std.specs.Ordering.{is_lt}
 use Rattle.judy_model.specs.Keys.{word_order}
@@ -30,7 +30,6 @@ pub record IsSplit (words width low block : ℕ) (bytes : List ℕ) (kids : List
   pub same : join (256 ^ width) block bytes kids ≡ first_of (256 ^ width) block bytes kids place ++ (shift ((block + byte) * 256 ^ width) kid.pairs ++ rest_of (256 ^ width) block bytes kids (suc place))
   pub before : IsMap words ((block + low) * 256 ^ width) ((block + byte) * 256 ^ width) (first_of (256 ^ width) block bytes kids place)
   pub after : IsMap words ((block + (byte + 1)) * 256 ^ width) ((block + 256) * 256 ^ width) (rest_of (256 ^ width) block bytes kids (suc place))
-  pub counted : length (first_of (256 ^ width) block bytes kids place) ≡ population (take place kids)
 
 units : (block less more unit : ℕ) → less ≤ more → (block + less) * unit ≤ (block + more) * unit
 units block less more unit below = mul-le (block + less) unit (block + more) unit (omega arith) (omega arith)
@@ -51,12 +50,6 @@ one_map words width low block byte pairs above map =
     let lower = units block low byte unit above in
     map-wider words (start + 0) (start + unit) ((block + low) * unit) ((block + (byte + 1)) * unit) (shift start pairs) (omega arith) (omega arith) (map-shift words 0 unit start pairs map)
 
-one_more : (by n : ℕ) (pairs rest : Pairs) → length rest ≡ n → length (shift by pairs ++ rest) ≡ length pairs + n
-one_more by n pairs rest same =
-    let both = length-append (shift by pairs) rest in
-    let here = length-shift by pairs in
-    omega arith
-
 pub split-at : (words width low block : ℕ) (bytes : List ℕ) (kids : List Tree) (byte place : ℕ) (kid : Tree) → low ≤ 256 → AreChildren words width low bytes kids
     → slice_get bytes place ≡ Some byte → slice_get kids place ≡ Some kid → IsSplit words width low block bytes kids byte place kid
 split-at words width low block [] kids byte place kid below are at there = cc
@@ -72,7 +65,6 @@ split-at words width low block (b ∷ bytes) (k ∷ kids) byte zero kid below ar
       same = refl;
       before = tt;
       after = join-map words width (b + 1) block bytes kids (omega arith) are.3;
-      counted = refl;
     }))
 split-at words width low block (b ∷ bytes) (k ∷ kids) byte (suc place) kid below are at there =
     let first = are.0 in
@@ -90,7 +82,6 @@ split-at words width low block (b ∷ bytes) (k ∷ kids) byte (suc place) kid b
       before = map-append words ((block + low) * unit) ((block + (b + 1)) * unit) ((block + byte) * unit) (shift start k.pairs) (first_of unit block bytes kids place)
           (units block low (b + 1) unit (omega arith)) (units block (b + 1) byte unit low_byte) (one_map words width low block b k.pairs first are.2.map) rest.before;
       after = rest.after;
-      counted = one_more start (population (take place kids)) k.pairs (first_of unit block bytes kids place) rest.counted;
     }
 
 -- ---- a byte without a child
@@ -100,12 +91,11 @@ pub record IsGap (words width low block : ℕ) (bytes : List ℕ) (kids : List T
   pub same : join (256 ^ width) block bytes kids ≡ first_of (256 ^ width) block bytes kids place ++ rest_of (256 ^ width) block bytes kids place
   pub before : IsMap words ((block + low) * 256 ^ width) ((block + byte) * 256 ^ width) (first_of (256 ^ width) block bytes kids place)
   pub after : IsMap words ((block + (byte + 1)) * 256 ^ width) ((block + 256) * 256 ^ width) (rest_of (256 ^ width) block bytes kids place)
-  pub counted : length (first_of (256 ^ width) block bytes kids place) ≡ population (take place kids)
 
-rank-less : (b byte : ℕ) (bytes : List ℕ) → b < byte → rank (b ∷ bytes) byte ≡ suc (rank bytes byte)
+pub rank-less : (b byte : ℕ) (bytes : List ℕ) → b < byte → rank (b ∷ bytes) byte ≡ suc (rank bytes byte)
 rank-less b byte bytes less = ap (λ t. length (cond t (b ∷ filter (λ member. is_lt (word_order member byte)) bytes) (filter (λ member. is_lt (word_order member byte)) bytes))) (is_below b byte less)
 
-rank-more : (b byte : ℕ) (bytes : List ℕ) → byte ≤ b → rank (b ∷ bytes) byte ≡ rank bytes byte
+pub rank-more : (b byte : ℕ) (bytes : List ℕ) → byte ≤ b → rank (b ∷ bytes) byte ≡ rank bytes byte
 rank-more b byte bytes more = ap (λ t. length (cond t (b ∷ filter (λ member. is_lt (word_order member byte)) bytes) (filter (λ member. is_lt (word_order member byte)) bytes))) (not_below b byte more)
 
 rank_none : (words width low : ℕ) (bytes : List ℕ) (kids : List Tree) (byte : ℕ) → AreChildren words width low bytes kids → byte < low → rank bytes byte ≡ 0
@@ -117,7 +107,7 @@ rank_none words width low (b ∷ bytes) (k ∷ kids) byte are below =
 
 pub gap-at : (words width low block : ℕ) (bytes : List ℕ) (kids : List Tree) (byte : ℕ) → low ≤ 256 → byte < 256 → AreChildren words width low bytes kids
     → has bytes byte ≡ false → IsGap words width low block bytes kids byte (rank bytes byte)
-gap-at words width low block [] [] byte below small are absent = record { within = omega arith; same = refl; before = tt; after = tt; counted = refl }
+gap-at words width low block [] [] byte below small are absent = record { within = omega arith; same = refl; before = tt; after = tt }
 gap-at words width low block [] (k ∷ kids) byte below small are absent = absurd are
 gap-at words width low block (b ∷ bytes) [] byte below small are absent = absurd are
 gap-at words width low block (b ∷ bytes) (k ∷ kids) byte below small are absent =
@@ -138,7 +128,6 @@ gap-at words width low block (b ∷ bytes) (k ∷ kids) byte below small are abs
       before = map-append words ((block + low) * unit) ((block + (b + 1)) * unit) ((block + byte) * unit) (shift start k.pairs) (first_of unit block bytes kids (rank bytes byte))
           (units block low (b + 1) unit (omega arith)) (units block (b + 1) byte unit (omega arith)) (one_map words width low block b k.pairs first are.2.map) rest.before;
       after = rest.after;
-      counted = one_more start (population (take (rank bytes byte) kids)) k.pairs (first_of unit block bytes kids (rank bytes byte)) rest.counted;
     }))
     (λ (more : byte < b).
     subst (λ place. IsGap words width low block (b ∷ bytes) (k ∷ kids) byte place) (sym (rank-more b byte bytes (omega arith) ∙ rank_none words width (b + 1) bytes kids byte are.3 (omega arith)))
@@ -149,7 +138,41 @@ gap-at words width low block (b ∷ bytes) (k ∷ kids) byte below small are abs
       after = map-wider words ((block + b) * unit) ((block + 256) * unit) ((block + (byte + 1)) * unit) ((block + 256) * unit) (join unit block (b ∷ bytes) (k ∷ kids))
           (units block (byte + 1) b unit (omega arith)) (omega arith)
           (join-map words width b block (b ∷ bytes) (k ∷ kids) (omega arith) (omega arith, are.1, are.2, are.3));
-      counted = refl;
     }))
     apart)
     (cases_order b byte)
+
+-- ---- the children before a place, and from one on
+
+-- The pairs of the first children are as many as these have.
+pub first_long : (words width low unit block : ℕ) (bytes : List ℕ) (kids : List Tree) (place : ℕ) → AreChildren words width low bytes kids
+    → length (first_of unit block bytes kids place) ≡ population (take place kids)
+first_long words width low unit block [] [] zero are = refl
+first_long words width low unit block [] [] (suc place) are = refl
+first_long words width low unit block [] (k ∷ kids) place are = absurd are
+first_long words width low unit block (b ∷ bytes) [] place are = absurd are
+first_long words width low unit block (b ∷ bytes) (k ∷ kids) zero are = refl
+first_long words width low unit block (b ∷ bytes) (k ∷ kids) (suc place) are =
+    let both = length-append (shift ((block + b) * unit) k.pairs) (first_of unit block bytes kids place) in
+    let here = length-shift ((block + b) * unit) k.pairs in
+    let rest = first_long words width (b + 1) unit block bytes kids place are.3 in
+    omega arith
+
+-- From a place on stand the pairs of its child, and then the others.
+pub rest_more : (unit block : ℕ) (bytes : List ℕ) (kids : List Tree) (byte place : ℕ) (kid : Tree) → slice_get bytes place ≡ Some byte → slice_get kids place ≡ Some kid
+    → rest_of unit block bytes kids place ≡ shift ((block + byte) * unit) kid.pairs ++ rest_of unit block bytes kids (suc place)
+rest_more unit block [] kids byte place kid at there = cc
+rest_more unit block (b ∷ bytes) [] byte place kid at there = cc
+rest_more unit block (b ∷ bytes) (k ∷ kids) byte zero kid at there = λ t. shift ((block + same_Some b byte at t) * unit) (same_Some k kid there t).pairs ++ join unit block bytes kids
+rest_more unit block (b ∷ bytes) (k ∷ kids) byte (suc place) kid at there = rest_more unit block bytes kids byte place kid at there
+
+-- Up to a place stand the pairs of the children before it, and then its child's.
+pub first_more : (unit block : ℕ) (bytes : List ℕ) (kids : List Tree) (byte place : ℕ) (kid : Tree) → slice_get bytes place ≡ Some byte → slice_get kids place ≡ Some kid
+    → first_of unit block bytes kids (suc place) ≡ first_of unit block bytes kids place ++ shift ((block + byte) * unit) kid.pairs
+first_more unit block [] kids byte place kid at there = cc
+first_more unit block (b ∷ bytes) [] byte place kid at there = cc
+first_more unit block (b ∷ bytes) (k ∷ kids) byte zero kid at there =
+    append-nil (shift ((block + b) * unit) k.pairs) ∙ (λ t. shift ((block + same_Some b byte at t) * unit) (same_Some k kid there t).pairs)
+first_more unit block (b ∷ bytes) (k ∷ kids) byte (suc place) kid at there =
+    ap (λ ps. shift ((block + b) * unit) k.pairs ++ ps) (first_more unit block bytes kids byte place kid at there)
+    ∙ sym (append_assoc (shift ((block + b) * unit) k.pairs) (first_of unit block bytes kids place) (shift ((block + byte) * unit) kid.pairs))

@@ -1,5 +1,5 @@
 -- Where a node stands in the tree above it, as those who go down the tree see it.
-use Rattle.std.specs.Prelude.{◌≡◌, ℕ, ◌+◌, ◌-◌, ◌^◌, ◌<◌, ◌≤◌, ◌++◌, length, Option}
+use Rattle.std.specs.Prelude.{◌≡◌, ℕ, suc, ◌+◌, ◌-◌, ◌*◌, ◌^◌, ◌<◌, ◌≤◌, List, ◌++◌, length, slice_get, Option, Some}
 use Rattle.std.specs.Option.{option_map}
 use Rattle.std.specs.FinMap.Entries.{find}
 use Rattle.judy_model.specs.Keys.{word_order}
@@ -42,6 +42,17 @@ passed all (Child byte place rest) = place
 passed all (Missing byte place rest) = place
 passed all Below = 0
 passed all Above = all
+
+-- How many of them aren't above the key.
+abbrev pub reached : ℕ → Step → ℕ
+reached all (Child byte place rest) = suc place
+reached all (Missing byte place rest) = place
+reached all Below = 0
+reached all Above = all
+
+-- Where the keys of the child at a place begin.
+abbrev pub IsStart : ℕ → ℕ → List ℕ → ℕ → ℕ → Type 0
+IsStart unit block bytes place start = (byte : ℕ) × (slice_get bytes place ≡ Some byte) × (start ≡ (block + byte) * unit)
 
 -- ---- views
 

@@ -1,6 +1,9 @@
 //! What is asked of a node that isn't a branch, where a way down ends.
 
-ghost use Rattle.std.specs.Prelude.{◌≡◌, ◌+◌, ◌<◌, ◌≤◌, length};
+ghost use Rattle.std.specs.Prelude.{◌≡◌, ◌+◌, ◌<◌, ◌≤◌, length, slice_get, Some};
+ghost use Rattle.judy_bits.specs.ByteSets as set;
+ghost use Rattle.judy_leaf.specs.KeyLists.{keys_of};
+ghost use Rattle.judy_leaf.specs.Nearby.{pair_from, pair_up_to};
 ghost use Rattle.judy_node.specs.Views.{view_pairs};
 ghost use Rattle.judy_query.specs.Parts.{value_of, IsEnd, IsShown};
 
@@ -55,4 +58,96 @@ fn value_in_bits<V: Words + Drop>(list: &BitRef<'_, V>, key: u64) -> Option<u64>
     list.told();
     let at = list.find(key)?;
     Some(list.value_at(at))
+}
+
+/// How many keys are below a word.
+pub(crate) fn rank_in<V: Words + Drop>(view: &ViewOf<'_, V>, key: u64) -> u64
+    requires end { IsEnd view.now }
+    requires shown { IsShown V.WORDS view.now }
+    ensures { result ≡ set.rank (keys_of (view_pairs view.now)) key }
+{
+    match view {
+        ViewOf::Null => 0,
+        ViewOf::One(only, _) => if *only < key { 1 } else { 0 },
+        ViewOf::Imm(list) => list.rank(key) as u64,
+        ViewOf::Leaf(list) => list.rank(key) as u64,
+        ViewOf::BitLeaf(skipped, list) => {
+            let start = *skipped * 256;
+            if key < start {
+                0
+            } else {
+                list.rank(key - start) as u64
+            }
+        }
+        ViewOf::Branch(_) => unreachable!(),
+    }
+}
+
+/// The pair at a place, counted from 0.
+pub(crate) fn entry_in<V: Words + Drop>(view: &ViewOf<'_, V>, at: u64) -> (u64, u64)
+    requires end { IsEnd view.now }
+    requires shown { IsShown V.WORDS view.now }
+    requires inside { at < length (view_pairs view.now) }
+    ensures { slice_get (view_pairs view.now) at ≡ Some result }
+{
+    let at = at as usize;
+    match view {
+        ViewOf::Null => unreachable!(),
+        ViewOf::One(key, value) => (*key, *value),
+        ViewOf::Imm(list) => (list.key_at(at), list.value_at(at)),
+        ViewOf::Leaf(list) => (list.key_at(at), list.value_at(at)),
+        ViewOf::BitLeaf(skipped, list) => (*skipped * 256 + list.key_at(at), list.value_at(at)),
+        ViewOf::Branch(_) => unreachable!(),
+    }
+}
+
+/// The nearest pair at or above a number.
+pub(crate) fn from_in<V: Words + Drop>(view: &ViewOf<'_, V>, key: u64) -> Option<(u64, u64)>
+    requires end { IsEnd view.now }
+    requires shown { IsShown V.WORDS view.now }
+    ensures { result ≡ pair_from (view_pairs view.now) key }
+{
+    match view {
+        ViewOf::Null => None,
+        ViewOf::One(only, value) => if *only >= key {
+            Some((*only, *value))
+        } else {
+            None
+        },
+        ViewOf::Imm(list) => list.at_or_after(key),
+        ViewOf::Leaf(list) => list.at_or_after(key),
+        ViewOf::BitLeaf(skipped, list) => {
+            let start = *skipped * 256;
+            let (byte, value) = list.at_or_after(key.saturating_sub(start))?;
+            Some((start + byte, value))
+        }
+        ViewOf::Branch(_) => unreachable!(),
+    }
+}
+
+/// The nearest pair at or below a number.
+pub(crate) fn up_to_in<V: Words + Drop>(view: &ViewOf<'_, V>, key: u64) -> Option<(u64, u64)>
+    requires end { IsEnd view.now }
+    requires shown { IsShown V.WORDS view.now }
+    ensures { result ≡ pair_up_to (view_pairs view.now) key }
+{
+    match view {
+        ViewOf::Null => None,
+        ViewOf::One(only, value) => if *only <= key {
+            Some((*only, *value))
+        } else {
+            None
+        },
+        ViewOf::Imm(list) => list.at_or_before(key),
+        ViewOf::Leaf(list) => list.at_or_before(key),
+        ViewOf::BitLeaf(skipped, list) => {
+            let start = *skipped * 256;
+            if key < start {
+                return None;
+            }
+            let (byte, value) = list.at_or_before(key - start)?;
+            Some((start + byte, value))
+        }
+        ViewOf::Branch(_) => unreachable!(),
+    }
 }

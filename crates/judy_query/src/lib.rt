@@ -8,13 +8,26 @@
 //! To its callers a tree is the map of its pairs (specs/Maps.antt), and each answer is that of judy_model's definitions. The calls whose
 //! names begin with `entry` give the value with the key in the same way down. The crate stands on judy_node's public contracts
 //! alone: it enters nodes and never opens one.
+//!
+//! The words that are no keys are found by the same ways down (empties.rt). There no full node is entered: rooms.rt passes full children
+//! over by the number of their keys.
 #![tactic(auto)]
 
 mod absent;
+mod after;
+mod before;
+mod branches;
+mod counts;
 mod empties;
 mod ends;
+mod places;
 mod rooms;
+mod turns;
 mod values;
 
+pub use after::{at_or_after, entry_at_or_after};
+pub use before::{at_or_before, entry_at_or_before};
+pub use counts::rank;
 pub use empties::{empty_at_or_after, empty_at_or_before};
+pub use places::{entry_nth, nth};
 pub use values::lookup;

@@ -10,7 +10,7 @@ use Rattle.judy_node.specs.declared.step.Step.TheVariants.{Below}
 use Rattle.judy_query.specs.Parts.{IsShown, width_of}
 use Rattle.judy_query.specs.Rooms.{IsRun, IsWindow, HasWidth, IsFirstAbsent, IsRoomFrom}
 use Rattle.judy_query.proofs.Blocks.{block_word}
-use Rattle.judy_query.proofs.Downs.{view_width, shown}
+use Rattle.judy_query.proofs.Downs.{view_width, is_shown}
 use Rattle.judy_query.proofs.Runs.{run-join, run-later, run-window, full-run}
 use Rattle.judy_query.proofs.BranchRooms.{rank_zero, beside_absent}
 use Rattle.judy_query.proofs.RoomSteps.{least_room, run-back}
@@ -105,7 +105,7 @@ down-preserved g c =
     let visits = c.enter-view-in-In.ensures.visits in
     let so_far = c.down.invariant.6 in
     let end = told.0 in (
-      shown words c.in-In.width c.in-In.inner.now c.enter-view-in-In.result kid.child.low_width kid.child.high_width wide c.enter-view-in-In.ensures.view,
+      is_shown words c.in-In.width c.in-In.inner.now c.enter-view-in-In.result kid.child.low_width kid.child.high_width wide c.enter-view-in-In.ensures.view,
       sym wide,
       subst (λ w. IsWindow all c.in-In.from (256 ^ w) (view_pairs c.enter-view-in-In.result)) (sym wide) (subst (IsWindow all c.in-In.from (256 ^ c.in-In.width)) same kid.window),
       told.1,

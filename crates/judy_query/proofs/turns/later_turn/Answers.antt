@@ -1,0 +1,26 @@
+use Rattle.std.proofs.Common.{◌<◌, length, sym, arith}
+use Rattle.judy_query.proofs.TurnFacts.{turn_later_there, turn_none}
+use Rattle.judy_query.proofs.turns.later_turn.Goals as goal
+
+pub returns-then-place-len : goal.returns-then-place-len
+returns-then-place-len g c =
+    let b = c.args.branch.now in
+    let held = b.children.ok.0 in
+    let len = c.len.ensures in
+    let below = c.if-place-len.true in
+    let inside : c.args.place < length b.children.items = omega arith in
+    record {
+      turn = record { branch = c.requires.branch; inside = inside; fits = c.requires.fits };
+      pair = sym (turn_later_there g.V.Words.WORDS b.width b.skip b.bytes b.children.items b.population c.requires.branch c.args.place c.args.base inside _);
+    }
+
+pub returns-else-place-len : goal.returns-else-place-len
+returns-else-place-len g c =
+    let b = c.args.branch.now in
+    let held = b.children.ok.0 in
+    let len = c.len.ensures in
+    let past = c.if-place-len.false in
+    record {
+      turn = c.requires.before;
+      pair = sym (turn_none g.V.Words.WORDS b.width b.skip b.bytes b.children.items b.population c.requires.branch c.args.place c.args.base (omega arith) _);
+    }

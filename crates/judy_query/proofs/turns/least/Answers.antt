@@ -1,0 +1,12 @@
+use Rattle.std.proofs.Common.{subst}
+use Rattle.judy_query.specs.Turns.{IsTurnIfAny}
+use Rattle.judy_query.proofs.TurnFacts.{turn_some}
+use Rattle.judy_query.proofs.turns.least.Goals as goal
+
+pub entry_at-requires-clause-inside : goal.entry_at-requires-clause-inside
+entry_at-requires-clause-inside g c =
+    let words = g.V.Words.WORDS in
+    let turn = c.in_ok-turn.turn in
+    let is = subst (λ turn. IsTurnIfAny words turn) c.in_ok-turn.was c.requires.turn in
+    let b = turn.branch.now in
+    turn_some words b.width b.skip b.bytes b.children.items b.population is.branch turn.place turn.base is.inside

@@ -1,0 +1,54 @@
+//! The key at or before a word.
+
+ghost use Rattle.std.specs.Prelude.{◌≡◌, ◌+◌, ◌-◌, ◌^◌, ◌≤◌};
+ghost use Rattle.judy_model.specs.Neighbours as neighbours;
+ghost use Rattle.judy_leaf.specs.Nearby.{pair_up_to};
+ghost use Rattle.judy_query.specs.Maps.{map_of};
+
+use crate::branches::passed;
+use crate::ends::up_to_in;
+use crate::turns::{earlier_turn, greatest};
+use judy_bits::Meter;
+use judy_leaf::Words;
+use judy_node::{NodeOf, Step, ViewOf};
+
+/// The greatest key that isn't above a word; `None` where all are above. At most 16 visits; the meter stands at most at
+/// `u64::MAX - 16`.
+pub fn at_or_before<V: Words + Drop>(tree: &NodeOf<V>, key: u64, meter: &mut Meter) -> Option<u64>
+    requires { meter.old ≤ 2 ^ 64 - 17 }
+    ensures value { result ≡ neighbours.last (map_of tree.now.pairs) key }
+    ensures visits { meter.new ≤ meter.old + 16 }
+{
+    tree.told();
+    let (found, _) = entry_at_or_before(tree, key, meter)?;
+    Some(found)
+}
+
+/// The same with the key's value, 0 where keys have no value.
+pub fn entry_at_or_before<V: Words + Drop>(
+    tree: &NodeOf<V>,
+    key: u64,
+    meter: &mut Meter,
+) -> Option<(u64, u64)>
+    requires { meter.old ≤ 2 ^ 64 - 17 }
+    ensures entry { result ≡ pair_up_to tree.now.pairs key }
+    ensures visits { meter.new ≤ meter.old + 16 }
+{
+    tree.told();
+    let mut view = tree.enter(meter);
+    let mut left = key;
+    let mut turn = None;
+    'down: while let ViewOf::Branch(branch) = view {
+        let step = branch.step(left);
+        turn = earlier_turn(branch, passed(branch, step), key - left, turn);
+        let Step::Child(_, place, rest) = step else {
+            return greatest(turn, meter);
+        };
+        left = rest;
+        view = branch.children[place].enter(branch.width, meter);
+    }
+    let Some(found) = up_to_in(&view, left) else {
+        return greatest(turn, meter);
+    };
+    Some((key - left + found.0, found.1))
+}

@@ -1,0 +1,33 @@
+//! How many keys are below a word.
+
+ghost use Rattle.std.specs.Prelude.{◌≡◌, ◌+◌, ◌-◌, ◌^◌, ◌≤◌};
+ghost use Rattle.judy_model.specs.Counts as counts;
+ghost use Rattle.judy_query.specs.Maps.{map_of};
+
+use crate::branches::passed;
+use crate::ends::rank_in;
+use judy_bits::Meter;
+use judy_leaf::Words;
+use judy_node::{NodeOf, Step, ViewOf};
+
+/// How many keys are below a word. At most 8 visits; the meter stands at most at `u64::MAX - 16`.
+pub fn rank<V: Words + Drop>(tree: &NodeOf<V>, key: u64, meter: &mut Meter) -> u64
+    requires { meter.old ≤ 2 ^ 64 - 17 }
+    ensures value { result ≡ counts.rank (map_of tree.now.pairs) key }
+    ensures visits { meter.new ≤ meter.old + 8 }
+{
+    tree.told();
+    let mut view = tree.enter(meter);
+    let mut left = key;
+    let mut below = 0;
+    'down: while let ViewOf::Branch(branch) = view {
+        let step = branch.step(left);
+        below += branch.keys_before(passed(branch, step));
+        let Step::Child(_, place, rest) = step else {
+            return below;
+        };
+        left = rest;
+        view = branch.children[place].enter(branch.width, meter);
+    }
+    below + rank_in(&view, left)
+}

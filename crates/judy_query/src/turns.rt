@@ -1,0 +1,124 @@
+//! Where the search for a neighbour turns off the way of its key: to the last child on that side of the way.
+
+ghost use Rattle.std.specs.Prelude.{◌≡◌, ◌+◌, ◌-◌, ◌*◌, ◌^◌, ◌<◌, ◌≤◌, length, take, drop, slice_get, Some};
+ghost use Rattle.std.specs.Option.{option_or};
+ghost use Rattle.judy_model.specs.WordBytes.{number_of};
+ghost use Rattle.judy_leaf.specs.KeyLists.{shift};
+ghost use Rattle.judy_node.specs.Trees.{join, IsBranch};
+ghost use Rattle.judy_query.specs.Turns.{turn_pairs, IsTurn, IsTurnIfAny, last_pair, later_pair, earlier_pair};
+
+use crate::branches::start_of;
+use crate::places::entry_below;
+use judy_bits::Meter;
+use judy_leaf::Words;
+use judy_node::BranchOf;
+
+/// A child beside the way: its branch, its place there, and where the keys of the branch begin.
+#[derive(Drop)]
+pub(crate) struct Turn<'a, V: Words + Drop> {
+    branch: &'a BranchOf<V>,
+    place: usize,
+    base: u64,
+}
+
+/// The turn to the child at a place of a branch whose keys begin at `base`; where there is none, the one before.
+pub(crate) fn later_turn<'a, V: Words + Drop>(
+    branch: &'a BranchOf<V>,
+    place: usize,
+    base: u64,
+    before: Option<Turn<'a, V>>,
+) -> Option<Turn<'a, V>>
+    requires branch { IsBranch V.WORDS branch.now.width branch.now.skip branch.now.bytes branch.now.children.items branch.now.population }
+    requires fits { base + 256 ^ (length branch.now.skip + 1 + branch.now.width) ≤ 256 ^ 8 }
+    requires before { IsTurnIfAny V.WORDS before }
+    ensures turn { IsTurnIfAny V.WORDS result }
+    ensures pair { later_pair result ≡ option_or (slice_get (shift base (join (256 ^ branch.now.width) (number_of branch.now.skip * 256) (drop place branch.now.bytes) (drop place branch.now.children.items))) 0) (later_pair before.entry) }
+{
+    if place < branch.children.len() {
+        Some(Turn {
+            branch,
+            place,
+            base,
+        })
+    } else {
+        before
+    }
+}
+
+/// The same for the child before a place.
+pub(crate) fn earlier_turn<'a, V: Words + Drop>(
+    branch: &'a BranchOf<V>,
+    place: usize,
+    base: u64,
+    before: Option<Turn<'a, V>>,
+) -> Option<Turn<'a, V>>
+    requires branch { IsBranch V.WORDS branch.now.width branch.now.skip branch.now.bytes branch.now.children.items branch.now.population }
+    requires place { place ≤ length branch.now.children.items }
+    requires fits { base + 256 ^ (length branch.now.skip + 1 + branch.now.width) ≤ 256 ^ 8 }
+    requires before { IsTurnIfAny V.WORDS before }
+    ensures turn { IsTurnIfAny V.WORDS result }
+    ensures pair { earlier_pair result ≡ option_or (last_pair (shift base (join (256 ^ branch.now.width) (number_of branch.now.skip * 256) (take place branch.now.bytes) (take place branch.now.children.items)))) (earlier_pair before.entry) }
+{
+    if place > 0 {
+        Some(Turn {
+            branch,
+            place: place - 1,
+            base,
+        })
+    } else {
+        before
+    }
+}
+
+/// The first pair of the child that a turn leads to.
+pub(crate) fn least<V: Words + Drop>(
+    turn: Option<Turn<'_, V>>,
+    meter: &mut Meter,
+) -> Option<(u64, u64)>
+    requires turn { IsTurnIfAny V.WORDS turn }
+    requires room { meter.old ≤ 2 ^ 64 - 9 }
+    ensures entry { result ≡ later_pair turn.entry }
+    ensures visits { meter.new ≤ meter.old + 8 }
+{
+    let turn = turn?;
+    Some(turn.entry_at(0, meter))
+}
+
+/// The last pair of that child.
+pub(crate) fn greatest<V: Words + Drop>(
+    turn: Option<Turn<'_, V>>,
+    meter: &mut Meter,
+) -> Option<(u64, u64)>
+    requires turn { IsTurnIfAny V.WORDS turn }
+    requires room { meter.old ≤ 2 ^ 64 - 9 }
+    ensures entry { result ≡ earlier_pair turn.entry }
+    ensures visits { meter.new ≤ meter.old + 8 }
+{
+    let turn = turn?;
+    Some(turn.entry_at(turn.len() - 1, meter))
+}
+
+impl<'a, V: Words + Drop> Turn<'a, V> {
+    // How many pairs the child has.
+    fn len(&self) -> u64
+        requires { IsTurn V.WORDS self.now }
+        ensures count { result ≡ length (turn_pairs self.now) }
+        ensures some { 1 ≤ result }
+    {
+        self.branch.children[self.place].pop()
+    }
+
+    // One of its pairs, by its place among them.
+    fn entry_at(&self, place: u64, meter: &mut Meter) -> (u64, u64)
+        requires turn { IsTurn V.WORDS self.now }
+        requires inside { place < length (turn_pairs self.now) }
+        requires room { meter.old ≤ 2 ^ 64 - 9 }
+        ensures entry { slice_get (turn_pairs self.now) place ≡ Some result }
+        ensures visits { meter.new ≤ meter.old + 8 }
+    {
+        let view = self.branch.children[self.place].enter(self.branch.width, meter);
+        let start = self.base + start_of(self.branch, self.place);
+        let (key, value) = entry_below(view, place, meter);
+        (start + key, value)
+    }
+}
