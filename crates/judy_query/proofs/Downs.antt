@@ -1,6 +1,6 @@
 -- The way down a tree: its beginning, a step to a child, and its end beside one.
 use Rattle.std.proofs.Common.{◌≡◌, ℕ, zero, suc, ◌+◌, ◌-◌, ◌*◌, ◌^◌, ◌<◌, ◌≤◌, List, [], ◌∷◌, ◌++◌, length, take, drop, get_or, Some, slice_get, sym, refl, ap, ◌∙◌, subst, arith, length-append}
-use Rattle.std.proofs.Math.Nat.{add-mul, pow-le-pow_right}
+use Rattle.std.proofs.Math.Nat.{pow-le-pow_right}
 use Rattle.std.proofs.lemmas.Nat.{mul-le, pow-add}
 use Rattle.std.proofs.lemmas.List.{append-nil, take_all, drop_all}
 use Rattle.std.proofs.lemmas.Option.{slice_get_within, slice_get-get_or}
@@ -20,7 +20,7 @@ use Rattle.judy_node.proofs.Maps.{map-wider, map-length, join-map, children-leng
 use Rattle.judy_node.proofs.Counts.{population-step, branch_population}
 use Rattle.judy_query.specs.Parts.{IsPart, IsBeside, passed, reached, IsStart, width_of, IsShown, IsDown}
 use Rattle.judy_query.proofs.Parts.{whole_part, part_of_part}
-use Rattle.judy_query.proofs.Splits.{split-at, gap-at, first_of, rest_of, first_long}
+use Rattle.judy_query.proofs.Splits.{next_unit, split-at, gap-at, first_of, rest_of, first_long}
 
 -- ---- in a branch
 
@@ -31,12 +31,6 @@ block_within skipped width are =
     pow-add 256 (length skipped + 1) width ∙ ap (λ n. n * 256 ^ width) (pow-add 256 (length skipped) 1) in
     subst (λ n. (number_of skipped * 256 + 256) * 256 ^ width ≤ n) (sym spread)
     (mul-le (number_of skipped * 256 + 256) (256 ^ width) (256 ^ length skipped * 256) (256 ^ width) (omega arith) (omega arith))
-
-next_unit : (block byte unit : ℕ) → (block + (byte + 1)) * unit ≡ (block + byte) * unit + unit
-next_unit block byte unit =
-    ap (λ n. n * unit) (let e : block + (byte + 1) ≡ block + byte + 1 = omega arith in e)
-    ∙ add-mul (block + byte) 1 unit
-    ∙ (let e : (block + byte) * unit + 1 * unit ≡ (block + byte) * unit + unit = omega arith in e)
 
 module _ (words width : ℕ) (skipped bytes : List ℕ) (kids : List Tree) (count : ℕ) (is : IsBranch words width skipped bytes kids count) (key : ℕ) where
   -- The child of a byte is a part of its branch.

@@ -34,7 +34,8 @@ pub record IsSplit (words width low block : ℕ) (bytes : List ℕ) (kids : List
 units : (block less more unit : ℕ) → less ≤ more → (block + less) * unit ≤ (block + more) * unit
 units block less more unit below = mul-le (block + less) unit (block + more) unit (omega arith) (omega arith)
 
-next_unit : (block byte unit : ℕ) → (block + (byte + 1)) * unit ≡ (block + byte) * unit + unit
+-- The end of a byte's keys is where the next byte's begin.
+pub next_unit : (block byte unit : ℕ) → (block + (byte + 1)) * unit ≡ (block + byte) * unit + unit
 next_unit block byte unit =
     ap (λ n. n * unit) (let e : block + (byte + 1) ≡ block + byte + 1 = omega arith in e)
     ∙ add-mul (block + byte) 1 unit

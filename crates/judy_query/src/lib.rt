@@ -5,6 +5,9 @@
 //! 8 nodes, or 16, whatever the tree, loose ones too. Each is a loop over branches and one look at the node below them (ends.rt). None
 //! asks for memory, and none makes a [`judy_bits::Meter`]: the visits are counted on the caller's.
 //!
+//! values.rt has the value of a key, counts.rt how many keys are below a word, places.rt the key at a place, after.rt and before.rt the
+//! nearest keys, turns.rt where the search for one of these turns off the key's way, branches.rt what the ways ask of a branch.
+//!
 //! To its callers a tree is the map of its pairs (specs/Maps.antt), and each answer is that of judy_model's definitions. The calls whose
 //! names begin with `entry` give the value with the key in the same way down. The crate stands on judy_node's public contracts
 //! alone: it enters nodes and never opens one.
