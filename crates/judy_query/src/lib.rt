@@ -11,6 +11,9 @@
 //! To its callers a tree is the map of its pairs (specs/Maps.antt), and each answer is that of judy_model's definitions. The calls whose
 //! names begin with `entry` give the value with the key in the same way down. The crate stands on judy_node's public contracts
 //! alone: it enters nodes and never opens one.
+//!
+//! The words that are no keys are found by the same ways down (empties.rt). There no full node is entered: rooms.rt passes full children
+//! over by the number of their keys.
 #![tactic(auto)]
 
 mod absent;

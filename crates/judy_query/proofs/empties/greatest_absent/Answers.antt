@@ -9,7 +9,7 @@ use Rattle.judy_node.specs.Views.{view_pairs}
 use Rattle.judy_node.specs.declared.step.Step.TheVariants.{Above}
 use Rattle.judy_query.specs.Parts.{IsShown, width_of}
 use Rattle.judy_query.specs.Rooms.{IsRun, IsWindow, HasWidth, IsLastAbsent, IsRoomUpTo}
-use Rattle.judy_query.proofs.Downs.{view_width, shown}
+use Rattle.judy_query.proofs.Downs.{view_width, is_shown}
 use Rattle.judy_query.proofs.Runs.{run-join, run-window, full-run}
 use Rattle.judy_query.proofs.BranchRooms.{rank_all, as_many, beside_absent, words_behind, none_behind, least_top}
 use Rattle.judy_query.proofs.RoomSteps.{greatest_room, run-back}
@@ -145,7 +145,7 @@ down-preserved g c =
     let so_far = c.down.invariant.6 in
     let narrow = c.down.invariant.7 in
     let rise = told.1.rising in (
-      shown words c.in-In.width c.in-In.inner.now c.enter-view-in-In.result kid.child.low_width kid.child.high_width wide c.enter-view-in-In.ensures.view,
+      is_shown words c.in-In.width c.in-In.inner.now c.enter-view-in-In.result kid.child.low_width kid.child.high_width wide c.enter-view-in-In.ensures.view,
       sym wide,
       subst (λ w. IsWindow all c.in-In.from (256 ^ w) (view_pairs c.enter-view-in-In.result)) (sym wide) (subst (IsWindow all c.in-In.from (256 ^ c.in-In.width)) same kid.window),
       subst (λ w. IsRun all (c.in-In.from + 256 ^ w) (256 ^ c.args.width)) (sym wide) told.1,
