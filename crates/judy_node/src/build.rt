@@ -148,9 +148,7 @@ pub fn child_of_sorted<V: Words + Drop>(
     if pairs.len() <= most_in_immediate::<V>(width) {
         return Ok(ChildOf::close(immediate_of_sorted(width, pairs)));
     }
-    let Ok(kind) = kind_of_sorted(alloc, width, pairs) else {
-        return Err(AllocError);
-    };
+    let kind = kind_of_sorted(alloc, width, pairs)?;
     Ok(ChildOf::close(kind))
 }
 
@@ -171,10 +169,8 @@ pub fn kind_of_sorted<V: Words + Drop>(
     if pairs.len() <= 32 {
         return leaf_of_sorted(alloc, width, pairs);
     }
-    match many(alloc, width, pairs) {
-        Ok(kind) => Ok(kind),
-        Err(refused) => Err(refused),
-    }
+    let kind = many(alloc, width, pairs)?;
+    Ok(kind)
 }
 
 // A bitmap leaf or a branch of more than 32 sorted pairs.
@@ -199,10 +195,8 @@ fn many<V: Words + Drop>(
     if group_end(pairs, below, byte) < pairs.len() {
         return split(alloc, below, pairs);
     }
-    match many(alloc, below, pairs) {
-        Ok(kind) => Ok(kind.behind(byte)),
-        Err(refused) => Err(refused),
-    }
+    let kind = many(alloc, below, pairs)?;
+    Ok(kind.behind(byte))
 }
 
 // A branch of sorted pairs that don't all have one byte.

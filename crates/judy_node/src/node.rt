@@ -160,11 +160,9 @@ impl<V: Words + Drop> NodeOf<V> {
                 kind: RootOf::One(key, value),
             });
         }
-        match kind_of_sorted(alloc, 8, pairs) {
-            Ok(kind) => Ok(NodeOf {
-                kind: RootOf::Many(ChildOf::close(kind)),
-            }),
-            Err(refused) => Err(refused),
-        }
+        let kind = kind_of_sorted(alloc, 8, pairs)?;
+        Ok(NodeOf {
+            kind: RootOf::Many(ChildOf::close(kind)),
+        })
     }
 }

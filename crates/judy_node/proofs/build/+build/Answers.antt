@@ -128,15 +128,15 @@ many-many-requires g t c κs within =
       ),
     )
 
-pub many-returns-in-Ok-clause-built : goal.many-returns-in-Ok-clause-built
-many-returns-in-Ok-clause-built g t c =
+pub many-returns-clause-built : goal.many-returns-clause-built
+many-returns-clause-built g t c =
     let words = g.V.Words.WORDS in
     let low = c.requires.width.0 in
     let high = c.requires.width.1 in
     let apart = c.if-width-eq1.false in
     let width : c.args.width ≡ c.args.width - 1 + 1 = omega arith in
     subst (λ w. IsBuilt words w c.args.pairs.now (tree_of words c.behind.result)) (sym width)
-    (behind_built words (c.args.width - 1) c.byte_above-byte.result c.group_end.result c.args.pairs.now c.in-Ok.kind c.behind.result c.in-Ok.ensures.level.0 c.in-Ok.ensures.level.1 c.in-Ok.ensures.built
+    (behind_built words (c.args.width - 1) c.byte_above-byte.result c.group_end.result c.args.pairs.now c.in_ok-kind.kind c.behind.result c.in_ok-kind.ensures.level.0 c.in_ok-kind.ensures.level.1 c.in_ok-kind.ensures.built
     c.behind.ensures.level c.behind.ensures.tree c.group_end.ensures c.if-group_end-pairs.false (omega arith) (omega arith)
     (subst (λ w. IsMap words 0 (256 ^ w) (low_pairs (256 ^ w) c.args.pairs.now)) width c.requires.map))
 
