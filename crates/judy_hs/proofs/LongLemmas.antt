@@ -16,6 +16,7 @@ use Rattle.judy_hs.specs.LongGroups.{Long, long_with, put_at, with_chain, added_
 use Rattle.judy_hs.specs.ChainPlaces.{pairs_at, chains_of, link_of, links_of, HasKey, AreChainPlaces}
 use Rattle.judy_hs.specs.LongLends.{place_with}
 use Rattle.judy_hs.proofs.TwoLevels.{get_or-put, get_or-put_other}
+use Rattle.judy_hs.proofs.ListLemmas.{set-twice, set_same}
 use Rattle.judy_hs.proofs.PlaceSteps.{put-places, end-places, set-places, free-places}
 
 -- The group that its parts are.
@@ -28,11 +29,6 @@ pairs_at-get places place d within = sym (get_or-map pairs_at places place d [] 
 
 pub chains_of-set : (places : List ChainPlace) (place : ℕ) (new : ChainPlace) → chains_of (set places place new) ≡ set (chains_of places) place (pairs_at new)
 chains_of-set places place new = map-set pairs_at places place new
-
-set-twice : {X : Type 0} (xs : List X) (at : ℕ) (x y : X) → set (set xs at x) at y ≡ set xs at y
-set-twice [] at x y = refl
-set-twice (first ∷ rest) zero x y = refl
-set-twice (first ∷ rest) (suc at) x y = ap (λ (more : List _). first ∷ more) (set-twice rest at x y)
 
 -- ---- a key taken out
 
@@ -88,11 +84,6 @@ added-held hashes places hash place at key new leads last is =
 pairs_at-with : (new : ChainPlace) (at value : ℕ) → pairs_at (place_with new at value) ≡ with_value_at (pairs_at new) at value
 pairs_at-with (Free next) at value = refl
 pairs_at-with (Taken chain) at value = refl
-
-set_same : {X : Type 0} (xs : List X) (at : ℕ) (x : X) → x ≡ get_or xs at x → set xs at x ≡ xs
-set_same [] at x is = refl
-set_same (first ∷ rest) zero x is = ap (λ first. first ∷ rest) is
-set_same (first ∷ rest) (suc at) x is = ap (λ rest. first ∷ rest) (set_same rest at x is)
 
 module _ (hashes : ArrayOf word_order) (places : List ChainPlace) (place at : ℕ) (held : ChainPlace) (within : place < length places) (is : held ≡ get_or places place held) where
   pub held-is : pairs_at held ≡ get_or (chains_of places) place []

@@ -86,7 +86,7 @@ impl Groups {
         }
     }
 
-    // The allocator.
+    // The allocator: there is one, so nothing is to be said of it.
     pub fn allocator(&self) -> Global {
         *self.groups.allocator()
     }

@@ -82,7 +82,7 @@ fn sprout(
     }
 }
 
-// The branch of a tail and the rest of another key.
+// The branch of a tail and the rest of another key. When memory is there no contract says; rows try that it succeeds.
 pub fn branch_of(alloc: Global, tail: &Rest, key: &[u8]) -> Result<Branch, SlError>
     requires tail_text { IsText tail.now.bytes.items }
     requires key_text { IsText key.now }
