@@ -3,3 +3,4 @@ pub mod ChildSets
 pub mod Added
 pub mod BranchInserts
 pub mod Shorter
+pub mod SplitFacts
