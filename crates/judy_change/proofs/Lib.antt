@@ -1,6 +1,13 @@
+pub mod Without
+pub mod KidChanges
+pub mod Sharing
+pub mod SettleFacts
 pub mod PairPlaces
 pub mod ChildSets
 pub mod Added
 pub mod BranchInserts
 pub mod Shorter
 pub mod SplitFacts
+pub mod LeafFacts
+pub mod BelowFacts
+pub mod RootFacts

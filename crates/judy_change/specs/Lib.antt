@@ -1,3 +1,4 @@
+pub mod Removals
 pub mod LeafTrees
 pub mod Inserted
 pub mod Splits

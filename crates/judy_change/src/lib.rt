@@ -13,3 +13,10 @@ mod immediates;
 mod leaves;
 mod put;
 mod split;
+mod removals;
+mod remove_leaf;
+mod removed;
+mod settle;
+
+pub use removals::remove;
+pub use removed::Removed;

@@ -1,0 +1,52 @@
+use Rattle.std.proofs.Common.{length, get_or, sym, refl, ap, ◌∙◌, arith}
+use Rattle.judy_node.proofs.Maps.{shift-zero}
+use Rattle.judy_change.proofs.RootFacts.{two_pairs, first_root, second_root, first_gone, second_gone, neither_kept}
+use Rattle.judy_change.proofs.removals.remove_of_two.Goals as goal
+
+pub fill-requires-clause-room : goal.fill-requires-clause-room
+fill-requires-clause-room g c =
+    sym c.requires.two
+
+pub fill-requires-clause-fits : goal.fill-requires-clause-fits
+fill-requires-clause-fits g c =
+    omega arith
+
+pub returns-then-first-key-clause-root : goal.returns-then-first-key-clause-root
+returns-then-first-key-clause-root g c =
+    let out = c.fill.new.out in
+    let is = c.fill.ensures ∙ shift-zero 0 c.args.child.pairs refl in
+    let two = sym is ∙ two_pairs out (ap length is ∙ c.requires.two) in
+    second_root g.V.Words.WORDS c.args.key c.args.child (get_or out 0 (0, 0)) (get_or out 1 (0, 0)) two c.requires.child.map
+
+pub returns-then-first-key-clause-removed : goal.returns-then-first-key-clause-removed
+returns-then-first-key-clause-removed g c =
+    let out = c.fill.new.out in
+    let is = c.fill.ensures ∙ shift-zero 0 c.args.child.pairs refl in
+    let two = sym is ∙ two_pairs out (ap length is ∙ c.requires.two) in
+    first_gone g.V.Words.WORDS c.args.key c.args.child (get_or out 0 (0, 0)) (get_or out 1 (0, 0)) two c.requires.child.map c.gone.result c.if-first-key.true c.gone.ensures
+
+pub returns-then-second-key-clause-root : goal.returns-then-second-key-clause-root
+returns-then-second-key-clause-root g c =
+    let out = c.fill.new.out in
+    let is = c.fill.ensures ∙ shift-zero 0 c.args.child.pairs refl in
+    let two = sym is ∙ two_pairs out (ap length is ∙ c.requires.two) in
+    first_root g.V.Words.WORDS c.args.key c.args.child (get_or out 0 (0, 0)) (get_or out 1 (0, 0)) two c.requires.child.map
+
+pub returns-then-second-key-clause-removed : goal.returns-then-second-key-clause-removed
+returns-then-second-key-clause-removed g c =
+    let out = c.fill.new.out in
+    let is = c.fill.ensures ∙ shift-zero 0 c.args.child.pairs refl in
+    let two = sym is ∙ two_pairs out (ap length is ∙ c.requires.two) in
+    second_gone g.V.Words.WORDS c.args.key c.args.child (get_or out 0 (0, 0)) (get_or out 1 (0, 0)) two c.requires.child.map c.gone-then-second-key.result c.if-first-key.false c.if-second-key.true c.gone-then-second-key.ensures
+
+pub returns-clause-root : goal.returns-clause-root
+returns-clause-root g c =
+    let two = c.requires.two in
+    (c.requires.child, omega arith)
+
+pub returns-clause-removed : goal.returns-clause-removed
+returns-clause-removed g c =
+    let out = c.fill.new.out in
+    let is = c.fill.ensures ∙ shift-zero 0 c.args.child.pairs refl in
+    let two = sym is ∙ two_pairs out (ap length is ∙ c.requires.two) in
+    neither_kept g.V.Words.WORDS c.args.key c.args.child (get_or out 0 (0, 0)) (get_or out 1 (0, 0)) two c.requires.child.map c.none.result c.if-first-key.false c.if-second-key.false c.none.ensures
