@@ -6,6 +6,8 @@ pub mod PairPlaces
 pub mod ChildSets
 pub mod Added
 pub mod BranchInserts
+pub mod Shorter
+pub mod SplitFacts
 pub mod LeafFacts
 pub mod BelowFacts
 pub mod RootFacts

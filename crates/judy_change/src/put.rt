@@ -33,6 +33,8 @@ pub(crate) fn add_child<V: Words + Drop>(branch: &mut BranchOf<V>, byte: u8, chi
     ensures skip { branch.new.skip ≡ branch.old.skip }
     ensures width { branch.new.width ≡ branch.old.width }
     ensures population { branch.new.population ≡ branch.old.population }
+    ensures len { vec_len branch.new.children ≡ vec_len branch.old.children + 1 }
+    ensures capacity { vec_capacity branch.old.children ≤ vec_capacity branch.new.children }
 {
     let place = branch.bytes.rank(byte);
     branch.bytes.add(byte);

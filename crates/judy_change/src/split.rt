@@ -1,14 +1,18 @@
 //! A branch put above a node, for a key that doesn't begin with the bytes that the node skips.
 
-ghost use Rattle.std.specs.Prelude.{◌≡◌, ◌≢◌, ◌+◌, ◌-◌, ◌*◌, ◌/◌, ◌^◌, ◌<◌, ◌≤◌};
+ghost use Rattle.std.specs.Prelude.{◌≡◌, ◌≢◌, ◌+◌, ◌-◌, ◌*◌, ◌/◌, ◌^◌, ◌<◌, ◌≤◌, false, length, IfOk, IfErr, vec_len, vec_capacity};
 ghost use Rattle.judy_model.specs.WordBytes.{low_bytes};
 ghost use Rattle.judy_node.specs.Trees.{IsChild};
 ghost use Rattle.judy_node.specs.Kinds.{tree_of, IsLevel};
-ghost use Rattle.judy_change.specs.Splits.{IsSkipping, IsShorter};
+ghost use Rattle.judy_change.specs.Splits.{IsSkipping, IsShorter, IsAbove};
+ghost use Rattle.judy_change.specs.Inserted.{has_key, IsInserted};
 
-use judy_bits::{Skip, low_part, without_low};
+use crate::put::{add_child, put_key};
+use judy_bits::{ByteSet, Skip, low_part, without_low};
 use judy_leaf::Words;
-use judy_node::{Head, KindOf};
+use judy_node::{BranchOf, ChildOf, Head, KindOf};
+use std::alloc::{AllocError, Global};
+use std::marker::PhantomData;
 
 // The bytes that a node skips.
 #[derive(Clone, Copy)]
@@ -66,5 +70,79 @@ fn shortened<V: Words + Drop>(kind: KindOf<V>, skipped: Skipped, left: u8) -> Ki
             KindOf::Branch(branch)
         }
         _ => unreachable!(),
+    }
+}
+
+// A branch above a node, with room for another child. The node skips `left` bytes then. The error is want of memory and gives
+// the node back.
+fn above<V: Words + Drop>(
+    alloc: Global,
+    kind: KindOf<V>,
+    skipped: Skipped,
+    left: u8,
+) -> Result<Box<BranchOf<V>>, KindOf<V>>
+    requires level { IsLevel V.WORDS kind }
+    requires child { IsChild V.WORDS (skipped.count + skipped.tail) (tree_of V.WORDS kind) }
+    requires skips { IsSkipping skipped.number skipped.count skipped.tail kind }
+    requires left { left < skipped.count }
+    ensures above { IfOk result (λ b. IsAbove V.WORDS skipped.number skipped.count skipped.tail left (tree_of V.WORDS kind) b.value.width b.value.skip b.value.bytes b.value.children.items b.value.population) }
+    ensures room { IfOk result (λ b. vec_len b.value.children < vec_capacity b.value.children) }
+    ensures kept { IfErr result (λ same. same ≡ kind) }
+{
+    let Ok(children) = Vec::with_capacity(alloc, 2) else {
+        return Err(kind);
+    };
+    let branch = BranchOf {
+        children,
+        skip: skip_of(
+            without_low(skipped.number, usize::from(left) + 1),
+            skipped.count - left - 1,
+        ),
+        width: left + skipped.tail,
+        bytes: ByteSet::new(),
+        population: 0,
+        words: PhantomData,
+    };
+    let Ok(mut branch) = Box::new(alloc, branch) else {
+        return Err(kind);
+    };
+    let child = ChildOf::close(shortened(kind, skipped, left));
+    branch.population = child.pop();
+    let byte = low_part(without_low(skipped.number, usize::from(left)), 1) as u8;
+    add_child(&mut branch, byte, child);
+    Ok(branch)
+}
+
+// Puts a key with its value into a node that skips other bytes than the key begins with: a branch for both takes its place.
+pub(crate) fn split<V: Words + Drop>(
+    alloc: Global,
+    kind: KindOf<V>,
+    skipped: Skipped,
+    key: u64,
+    value: u64,
+) -> (KindOf<V>, Result<bool, AllocError>)
+    requires one { V.WORDS ≤ 1 }
+    requires level { IsLevel V.WORDS kind }
+    requires child { IsChild V.WORDS (skipped.count + skipped.tail) (tree_of V.WORDS kind) }
+    requires skips { IsSkipping skipped.number skipped.count skipped.tail kind }
+    requires fits { key < 256 ^ (skipped.count + skipped.tail) }
+    requires apart { key / 256 ^ skipped.tail ≢ skipped.number }
+    requires absent { has_key key (tree_of V.WORDS kind) ≡ false }
+    requires no_value { V.WORDS ≡ 0 → value ≡ 0 }
+    requires room { length (tree_of V.WORDS kind).pairs < 2 ^ 64 - 1 }
+    ensures level { IsLevel V.WORDS result.0 }
+    ensures child { IsChild V.WORDS (skipped.count + skipped.tail) (tree_of V.WORDS result.0) }
+    ensures inserted { IsInserted key value (tree_of V.WORDS kind) (tree_of V.WORDS result.0) result.1 }
+{
+    let other = without_low(key, usize::from(skipped.tail));
+    let left = left_of_apart(skipped.number, other, skipped.count);
+    let width = usize::from(left) + usize::from(skipped.tail);
+    match above(alloc, kind, skipped, left) {
+        Ok(mut branch) => {
+            let byte = low_part(without_low(key, width), 1) as u8;
+            put_key(&mut branch, byte, low_part(key, width), value);
+            (KindOf::Branch(branch), Ok(true))
+        }
+        Err(kind) => (kind, Err(AllocError)),
     }
 }
