@@ -11,4 +11,3 @@ pub mod SplitFacts
 pub mod LeafFacts
 pub mod BelowFacts
 pub mod RootFacts
-pub mod Shorter
