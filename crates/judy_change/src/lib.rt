@@ -12,11 +12,11 @@ mod gap;
 mod immediates;
 mod leaves;
 mod put;
-mod split;
 mod removals;
 mod remove_leaf;
 mod removed;
 mod settle;
+mod split;
 
 pub use removals::remove;
 pub use removed::Removed;
