@@ -4,6 +4,9 @@
 PREFIX = /usr/local
 DESTDIR =
 
+# At how many keys `make bench` measures: while the arrays stand over vectors, whose inserts move half the keys, no more.
+KEYS = 10000
+
 # All that a build of the program reads.
 SOURCES := crates.txt $(shell find crates -path '*/out' -prune -o -type f \( -name '*.rt' -o -name '*.antt' \) -print)
 
@@ -63,7 +66,7 @@ lib-test: lib
 	@tools/try_library $(LIB)
 
 bench: lib
-	@tools/bench $(LIB) --svg docs/bench.svg
+	@tools/bench $(LIB) --svg docs/bench.svg $(KEYS)
 
 install: judystore lib
 	install -d $(DESTDIR)$(PREFIX)/bin $(DESTDIR)$(PREFIX)/share/man/man1 $(DESTDIR)$(PREFIX)/lib/pkgconfig $(DESTDIR)$(PREFIX)/include/sellumaq
