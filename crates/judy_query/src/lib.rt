@@ -25,6 +25,8 @@ mod empties;
 mod ends;
 mod places;
 mod rooms;
+#[cfg(test)]
+mod tests;
 mod turns;
 mod values;
 
