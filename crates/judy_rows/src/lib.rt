@@ -26,6 +26,7 @@ mod leaves;
 mod lines;
 #[cfg(test)]
 mod nodes;
+#[cfg(test)]
 mod plain;
 #[cfg(test)]
 mod refusals;
