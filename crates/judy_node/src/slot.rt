@@ -85,6 +85,21 @@ impl<V: Words + Drop> KindOf<V> {
             KindOf::Branch(branch) => branch.slot_at::<L>(at, rest),
         }
     }
+
+    // The same in a node that has no node below it, where nothing is left of the key.
+    fn slot_in_leaf(&mut self, at: usize, _rest: u64) -> Option<&mut u64>
+        requires words { V.WORDS ≡ 1 }
+        requires seat { HasSeat V.WORDS 0 self.old at }
+        ensures* changes { sem 𝓛 (LendsIf (the_row V.row V.Words) word self.entry result (kind_written self.entry.now at _rest) self.entry.now) }
+        ensures value { option_copied_mut result ≡ value_at self.old at _rest }
+    {
+        match self {
+            KindOf::Imm(_, value) => Some(value),
+            KindOf::Leaf(_, block) => Some(block.slot(at)),
+            KindOf::Bit(_, block) => Some(block.slot(at)),
+            KindOf::Branch(_) => unreachable!(),
+        }
+    }
 }
 
 impl<V: Words + Drop> BranchOf<V> {
@@ -131,6 +146,18 @@ impl<V: Words + Drop> ChildOf<V> {
         let seat = self.kind.seat(width, key)?;
         self.kind.slot_at::<L>(seat.at, seat.rest)
     }
+
+    // The same of a node whose keys have one byte, which has no node below it.
+    fn slot_of_byte(&mut self, width: u8, key: u64) -> Option<&mut u64>
+        requires words { V.WORDS ≡ 1 }
+        requires child { IsChild V.WORDS width self.old }
+        requires depth { width ≤ 1 }
+        ensures* changes { sem 𝓛 (LendsIf (the_row V.row V.Words) word self.entry result (with_value self.entry.now key) self.entry.now) }
+        ensures value { option_copied_mut result ≡ value_of key self.old.pairs }
+    {
+        let seat = self.kind.seat(width, key)?;
+        self.kind.slot_in_leaf(seat.at, seat.rest)
+    }
 }
 
 // A level of the tree: it lends the slots of nodes that are no deeper than it.
@@ -149,14 +176,14 @@ pub trait Level {
         ensures value { option_copied_mut result ≡ value_of key node.old.pairs };
 }
 
-// The level below all nodes.
+// The lowest level, that of nodes whose keys have one byte.
 pub struct Bottom;
 
 impl Level for Bottom {
-    ghost DEPTH = { 0 };
+    ghost DEPTH = { 1 };
 
-    fn slot<V: Words + Drop>(_node: &mut ChildOf<V>, _width: u8, _key: u64) -> Option<&mut u64> {
-        None
+    fn slot<V: Words + Drop>(node: &mut ChildOf<V>, width: u8, key: u64) -> Option<&mut u64> {
+        node.slot_of_byte(width, key)
     }
 }
 
@@ -171,8 +198,8 @@ impl<L: Level> Level for Above<L> {
     }
 }
 
-// The level above the deepest nodes, whose keys have eight bytes.
-type Deepest = Above<Above<Above<Above<Above<Above<Above<Above<Bottom>>>>>>>>;
+// The level of the nodes whose keys have eight bytes.
+type Deepest = Above<Above<Above<Above<Above<Above<Above<Bottom>>>>>>>;
 
 impl<V: Words + Drop> RootOf<V> {
     ghost use Rattle.std.specs.Borrow.{sem, LendsIf, u64 as word};
