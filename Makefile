@@ -75,9 +75,10 @@ bench: lib
 	@tools/bench $(LIB) --svg docs/bench.svg $(KEYS)
 
 install: judystore lib
-	install -d $(DESTDIR)$(PREFIX)/bin $(DESTDIR)$(PREFIX)/share/man/man1 $(DESTDIR)$(PREFIX)/lib/pkgconfig $(DESTDIR)$(PREFIX)/include/sellumaq
+	install -d $(DESTDIR)$(PREFIX)/bin $(DESTDIR)$(PREFIX)/share/man/man1 $(DESTDIR)$(PREFIX)/share/man/man3 $(DESTDIR)$(PREFIX)/lib/pkgconfig $(DESTDIR)$(PREFIX)/include/sellumaq
 	install -m 755 judystore $(DESTDIR)$(PREFIX)/bin/judystore
 	install -m 644 docs/man/judystore.1 $(DESTDIR)$(PREFIX)/share/man/man1/judystore.1
+	install -m 644 docs/man/judy1.3 docs/man/judyl.3 $(DESTDIR)$(PREFIX)/share/man/man3
 	install -m 644 $(LIB)/libsellumaq.a $(DESTDIR)$(PREFIX)/lib/libsellumaq.a
 	install -m 755 $(LIB)/libsellumaq.so $(DESTDIR)$(PREFIX)/lib/libsellumaq.so.0
 	ln -sf libsellumaq.so.0 $(DESTDIR)$(PREFIX)/lib/libsellumaq.so
@@ -87,6 +88,7 @@ install: judystore lib
 
 uninstall:
 	rm -f $(DESTDIR)$(PREFIX)/bin/judystore $(DESTDIR)$(PREFIX)/share/man/man1/judystore.1
+	rm -f $(DESTDIR)$(PREFIX)/share/man/man3/judy1.3 $(DESTDIR)$(PREFIX)/share/man/man3/judyl.3
 	rm -f $(DESTDIR)$(PREFIX)/lib/libsellumaq.a $(DESTDIR)$(PREFIX)/lib/libsellumaq.so $(DESTDIR)$(PREFIX)/lib/libsellumaq.so.0
 	rm -f $(DESTDIR)$(PREFIX)/lib/pkgconfig/sellumaq.pc $(DESTDIR)$(PREFIX)/include/sellumaq.h
 	rm -rf $(DESTDIR)$(PREFIX)/include/sellumaq
