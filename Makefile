@@ -15,13 +15,14 @@ LIB := out/lib
 C_SOURCES := $(wildcard bindings/c/*.h bindings/c/hp/*)
 C_FLAGS = -std=c11 -O2 -Wall -Wextra
 
-.PHONY: help test refusals lib lib-test bench fmt kit install uninstall clean
+.PHONY: help test refusals lib lib-test bindings-test bench fmt kit install uninstall clean
 
 help:
 	@echo 'make judystore   proves and builds the program, and leaves it as ./judystore'
 	@echo 'make test        the gate: every proof, must-fail edit, test and program, from nothing'
 	@echo 'make refusals    runs the program with each of its calls for memory refused in turn'
 	@echo 'make lib         proves and builds the library for C, and leaves it in out/lib; make lib-test tries it'
+	@echo 'make bindings-test  tries it from C, Rust and Python'
 	@echo 'make bench       measures the word arrays beside libJudy and BTreeMap'
 	@echo 'make install     puts program, manual page, library and headers under PREFIX ($(PREFIX)); make uninstall takes them away'
 	@echo 'make fmt         lays out the sources'
@@ -65,13 +66,19 @@ $(LIB)/libsellumaq.so: $(LIB)/libsellumaq.a
 lib-test: lib
 	@tools/try_library $(LIB)
 
+# The tests of the three languages over the library: those of Rust where cargo is there.
+bindings-test: lib-test
+	@if command -v cargo >/dev/null 2>&1; then cd bindings/rust && SELLUMAQ_LIB=$(abspath $(LIB)) cargo test --offline; else echo 'no cargo here: the Rust binding is not tried'; fi
+	@cd bindings/python && SELLUMAQ_LIBRARY=$(abspath $(LIB))/libsellumaq.so python3 -m unittest test_sellumaq
+
 bench: lib
 	@tools/bench $(LIB) --svg docs/bench.svg $(KEYS)
 
 install: judystore lib
-	install -d $(DESTDIR)$(PREFIX)/bin $(DESTDIR)$(PREFIX)/share/man/man1 $(DESTDIR)$(PREFIX)/lib/pkgconfig $(DESTDIR)$(PREFIX)/include/sellumaq
+	install -d $(DESTDIR)$(PREFIX)/bin $(DESTDIR)$(PREFIX)/share/man/man1 $(DESTDIR)$(PREFIX)/share/man/man3 $(DESTDIR)$(PREFIX)/lib/pkgconfig $(DESTDIR)$(PREFIX)/include/sellumaq
 	install -m 755 judystore $(DESTDIR)$(PREFIX)/bin/judystore
 	install -m 644 docs/man/judystore.1 $(DESTDIR)$(PREFIX)/share/man/man1/judystore.1
+	install -m 644 docs/man/judy1.3 docs/man/judyl.3 $(DESTDIR)$(PREFIX)/share/man/man3
 	install -m 644 $(LIB)/libsellumaq.a $(DESTDIR)$(PREFIX)/lib/libsellumaq.a
 	install -m 755 $(LIB)/libsellumaq.so $(DESTDIR)$(PREFIX)/lib/libsellumaq.so.0
 	ln -sf libsellumaq.so.0 $(DESTDIR)$(PREFIX)/lib/libsellumaq.so
@@ -81,6 +88,7 @@ install: judystore lib
 
 uninstall:
 	rm -f $(DESTDIR)$(PREFIX)/bin/judystore $(DESTDIR)$(PREFIX)/share/man/man1/judystore.1
+	rm -f $(DESTDIR)$(PREFIX)/share/man/man3/judy1.3 $(DESTDIR)$(PREFIX)/share/man/man3/judyl.3
 	rm -f $(DESTDIR)$(PREFIX)/lib/libsellumaq.a $(DESTDIR)$(PREFIX)/lib/libsellumaq.so $(DESTDIR)$(PREFIX)/lib/libsellumaq.so.0
 	rm -f $(DESTDIR)$(PREFIX)/lib/pkgconfig/sellumaq.pc $(DESTDIR)$(PREFIX)/include/sellumaq.h
 	rm -rf $(DESTDIR)$(PREFIX)/include/sellumaq

@@ -1,0 +1,103 @@
+//! Sets and maps of words beside std's, over random changes of few and of many words.
+use sellumaq::{Judy1, JudyL};
+use std::collections::{BTreeMap, BTreeSet};
+
+/// Words that look random: those of a small range, or of all, so that keys come again and stand at both ends.
+struct Words(u64);
+
+impl Words {
+    fn any(&mut self) -> u64 {
+        self.0 ^= self.0 << 13;
+        self.0 ^= self.0 >> 7;
+        self.0 ^= self.0 << 17;
+        self.0
+    }
+
+    fn key(&mut self) -> u64 {
+        match self.any() % 4 {
+            0 => self.any() % 64,
+            1 => u64::MAX - self.any() % 64,
+            2 => self.any() % 4096 * 16,
+            _ => self.any() >> (self.any() % 64),
+        }
+    }
+}
+
+#[test]
+fn a_set_is_a_set() {
+    let (mut words, mut set, mut plain) = (Words(1), Judy1::new(), BTreeSet::new());
+    for turn in 0..4000 {
+        let key = words.key();
+        if words.any() % 3 > 0 {
+            assert_eq!(set.insert(key), plain.insert(key));
+        } else {
+            let held = plain.iter().nth((words.any() % (plain.len() as u64 + 1)) as usize).copied().unwrap_or(key);
+            assert_eq!(set.remove(held), plain.remove(&held));
+        }
+        let (from, to) = (words.key().min(key), words.key().max(key));
+        assert_eq!(set.contains(from), plain.contains(&from));
+        assert_eq!(set.len(), plain.len() as u64);
+        assert_eq!((set.first(), set.last()), (plain.first().copied(), plain.last().copied()));
+        assert_eq!(set.at_or_after(from), plain.range(from..).next().copied());
+        assert_eq!(set.at_or_before(to), plain.range(..=to).next_back().copied());
+        assert_eq!(set.count(from..to), plain.range(from..to).count() as u64);
+        let n = words.any() % (plain.len() as u64 + 2);
+        assert_eq!(set.nth(n), plain.iter().nth(n as usize).copied());
+        if turn % 100 == 0 {
+            assert!(set.iter().eq(plain.iter().copied()));
+            assert!(set.range(from..=to).rev().eq(plain.range(from..=to).rev().copied()));
+            assert_eq!(format!("{set:?}"), format!("{plain:?}"));
+            assert_eq!(set.clone(), set);
+        }
+    }
+    let absent = (0..).find(|word| !plain.contains(word));
+    assert_eq!(set.absent_at_or_after(0), absent);
+    assert_eq!(set.absent_at_or_before(u64::MAX), (0..=u64::MAX).rev().find(|word| !plain.contains(word)));
+    set.clear();
+    assert!(set.is_empty() && set.iter().next().is_none());
+}
+
+#[test]
+fn a_map_is_a_map() {
+    let (mut words, mut map, mut plain) = (Words(2), JudyL::new(), BTreeMap::new());
+    for turn in 0..4000 {
+        let (key, value) = (words.key(), words.any());
+        match words.any() % 4 {
+            0 => assert_eq!(map.remove(key), plain.remove(&key)),
+            1 => {
+                let slot = map.slot(key).unwrap();
+                assert_eq!(*slot, plain.get(&key).copied().unwrap_or(0));
+                *slot = value;
+                plain.insert(key, value);
+            }
+            2 => assert_eq!(map.get_mut(key).map(|it| std::mem::replace(it, value)), plain.get_mut(&key).map(|it| std::mem::replace(it, value))),
+            _ => assert_eq!(map.insert(key, value), plain.insert(key, value)),
+        }
+        let (from, to) = (words.key().min(key), words.key().max(key));
+        assert_eq!(map.get(from), plain.get(&from).copied());
+        assert_eq!(map.contains_key(to), plain.contains_key(&to));
+        assert_eq!(map.len(), plain.len() as u64);
+        assert_eq!(map.at_or_after(from), plain.range(from..).next().map(|it| (*it.0, *it.1)));
+        assert_eq!(map.at_or_before(to), plain.range(..=to).next_back().map(|it| (*it.0, *it.1)));
+        assert_eq!(map.count(from..to), plain.range(from..to).count() as u64);
+        if turn % 100 == 0 {
+            assert!(map.iter().eq(plain.iter().map(|it| (*it.0, *it.1))));
+            assert!(map.keys().rev().eq(plain.keys().rev().copied()));
+            assert!(map.values().eq(plain.values().copied()));
+            assert_eq!(format!("{map:?}"), format!("{plain:?}"));
+            assert_eq!(map.first_key_value(), plain.first_key_value().map(|it| (*it.0, *it.1)));
+            assert_eq!(map.last_key_value(), plain.last_key_value().map(|it| (*it.0, *it.1)));
+            assert_eq!(map.clone(), map);
+        }
+    }
+    assert_eq!(map.nth(7), plain.iter().nth(7).map(|it| (*it.0, *it.1)));
+}
+
+#[test]
+fn both_ends_meet() {
+    let set: Judy1 = [0, 5, u64::MAX].into_iter().collect();
+    let mut keys = set.iter();
+    assert_eq!((keys.next(), keys.next_back(), keys.next(), keys.next(), keys.next_back()), (Some(0), Some(u64::MAX), Some(5), None, None));
+    assert_eq!(set.range(6..6).next(), None);
+    assert_eq!(set.range(1..=4).next_back(), None);
+}
