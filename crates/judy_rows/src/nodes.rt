@@ -3,7 +3,8 @@
 ghost use Rattle.std.specs.Prelude.{◌≡◌, ◌<◌, ◌≤◌, ◌^◌, IsTrue};
 ghost use Rattle.judy_node.specs.Trees.{IsMap};
 
-use crate::leaves::{note, value_of};
+use crate::leaves::value_of;
+use crate::plain::note;
 use judy_leaf::{Width, Words};
 use judy_node::{NodeOf, Shape};
 use std::alloc::{AllocError, Global};
