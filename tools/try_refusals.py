@@ -24,6 +24,7 @@ NO_MEMORY = b"error no-memory"
 GROWING = (b"make", b"set", b"ins")
 # How the program may end where no line is to blame: before the script without an answer, and after it with them all.
 BEFORE = b"judystore: no-memory\n"
+LOAD = b"judystore: load: no-memory\n"
 AFTER = b"judystore: dump: no-memory\n"
 
 
@@ -130,7 +131,7 @@ class Refusals:
             self.failed += 1
             print(f"{name}: {told!r}")
 
-    def run(self, script, refuse=None):
+    def run(self, script, refuse=None, load=()):
         """The status, the answers, standard error and the dump of one run, and whether memory was refused."""
         dump = os.path.join(self.folder, "dump")
         told = os.path.join(self.folder, "refused")
@@ -139,7 +140,7 @@ class Refusals:
                 os.remove(path)
         environment = {"LD_PRELOAD": self.library, "REFUSE": refuse, "REFUSED": told} if refuse else {}
         script = b"".join(line + b"\n" for line in script)
-        ran = subprocess.run([self.program, "--dump", dump], input=script, capture_output=True, env=environment, timeout=SECONDS)
+        ran = subprocess.run([self.program, *load, "--dump", dump], input=script, capture_output=True, env=environment, timeout=SECONDS)
         left = None
         if os.path.exists(dump):
             with open(dump, "rb") as file:
@@ -186,12 +187,37 @@ class Refusals:
         for row in rows:
             self.expect(f"{name}, a row that must come up", row in seen, row)
 
+    def check_load(self, name, script):
+        """All runs that load what a script leaves and list it: the load is refused whole, or the store is there whole."""
+        _, dump = self.with_ample(script)
+        kept = os.path.join(self.folder, "kept")
+        with open(kept, "wb") as file:
+            file.write(dump)
+        load = ["--load", kept]
+        _, answers, _, again, _ = self.run([b"list"], load=load)
+        self.expect(f"{name}, loaded with ample memory", again == dump, again)
+        ends = set()
+        for onward in ("", "+"):
+            for call in count(1):
+                status, told, error, left, refused = self.run([b"list"], f"{call}{onward}", load)
+                if not refused:
+                    break
+                ends.add(error)
+                if error in (BEFORE, LOAD):
+                    self.expect(f"{name}, {call}{onward}, loaded not", (status, told, left) == (1, [], None), (status, told, left))
+                elif error == AFTER:
+                    self.expect(f"{name}, {call}{onward}, dumped not", (status, told, left) == (1, answers, b""), (status, told, left))
+                else:
+                    self.expect(f"{name}, {call}{onward}, loaded", (status, told, error, left) == (0, answers, b"", dump), (status, told, error, left))
+        self.expect(f"{name}, a load that is refused", LOAD in ends, ends)
+
 
 def main():
     with tempfile.TemporaryDirectory() as folder:
         refusals = Refusals(os.path.abspath(sys.argv[1]), folder)
         for name, script, rows in SCRIPTS:
             refusals.check_script(name, script, rows)
+        refusals.check_load("refused-dump-load-make", ALL_KINDS)
     print(f"the program without memory: {refusals.passed} checks passed, {refusals.failed} failed")
     return 1 if refusals.failed else 0
 
