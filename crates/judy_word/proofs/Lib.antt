@@ -4,3 +4,4 @@ mod KeyTests
 mod Edits
 mod Sets
 mod SeenWords
+mod HeldFacts

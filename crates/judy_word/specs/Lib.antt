@@ -5,3 +5,4 @@ pub mod Writes
 pub mod Sets
 pub mod PairSlots
 pub mod Slots
+pub mod Held

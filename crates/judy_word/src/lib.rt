@@ -22,6 +22,7 @@ mod places;
 mod sorted;
 #[cfg(test)]
 mod tests;
+pub mod tree_array;
 
 pub use error::InsertError;
 pub use judy1::Judy1;

@@ -1,0 +1,10 @@
+use Rattle.std.proofs.Common.{sym, ◌∙◌, ap, arith}
+use Rattle.judy_model.proofs.FollowingLemmas.{prev-zero}
+use Rattle.judy_word.proofs.HeldFacts.{prev_less}
+use Rattle.judy_word.proofs.tree_array.TreeArray.prev.Goals as goal
+
+pub returns-then-from-eq0 : goal.returns-then-from-eq0
+returns-then-from-eq0 g c = rw c.if-from-eq0.true (sym (prev-zero _))
+
+pub returns-else-from-eq0 : goal.returns-else-from-eq0
+returns-else-from-eq0 g c = c.last.ensures ∙ sym (prev_less _ c.args.from (omega (arith, c.if-from-eq0.false)))

@@ -1,0 +1,115 @@
+//! An array of words over a tree: what the public arrays are made of.
+
+ghost use Rattle.std.specs.Prelude.{◌≡◌, ◌≢◌, ◌≤◌, ◌↔◌, false, length, IsTrue, IsFalse, OnOk, OnErr, IsOk};
+ghost use Rattle.std.specs.FinMap as map;
+ghost use Rattle.judy_model.specs.Forms.{shape_in};
+ghost use Rattle.judy_node.specs.ShapeSums.{shape_as};
+ghost use Rattle.judy_word.specs.Held.{map_in, nothing_held, IsHeld};
+
+use judy_leaf::Words;
+use judy_node::{NodeOf, Shape};
+use std::alloc::Global;
+use std::marker::Model;
+
+mod counts;
+mod empties;
+mod neighbours;
+
+/// An array of words over a tree, with `V` words of value a key: a set or a map. It holds at most as many keys as its limit. To its
+/// callers it is that limit, its tree with all nodes, and whether the tree may have a node that is larger than its keys need.
+#[derive(Drop)]
+pub struct TreeArray<V: Words + Drop> {
+    limit: u64,
+    root: NodeOf<V>,
+    loose: bool,
+    alloc: Global,
+}
+
+impl<V: Words + Drop> Model for TreeArray<V> {
+    ghost use Rattle.judy_word.specs.Held.{Held, IsBounded};
+
+    ghost Value = { Held };
+
+    ghost view = { λ a. record { limit = a.limit; tree = a.root; loose = a.loose } };
+
+    ghost invariant = { λ a. IsBounded a.limit a.root a.loose };
+}
+
+impl<V: Words + Drop> TreeArray<V> {
+    /// The array without keys, with that limit, which is at least 1. It asks for no memory.
+    pub fn new(alloc: Global, limit: u64) -> TreeArray<V>
+        requires { 1 ≤ limit }
+        ensures { result ≡ nothing_held limit }
+    {
+        TreeArray {
+            limit,
+            root: NodeOf::empty(),
+            loose: false,
+            alloc,
+        }
+    }
+
+    /// A law without a body, what every array keeps: its tree is one of words, it holds no more keys than its limit, and where it
+    /// isn't loose, no node of its tree is.
+    pub fn told(&self)
+        ensures { IsHeld V.WORDS self.now }
+    {
+        self.root.told();
+    }
+
+    /// How many keys it may hold: at least 1.
+    pub fn limit(&self) -> u64
+        ensures value { result ≡ self.now.limit }
+        ensures some { 1 ≤ result }
+    {
+        self.limit
+    }
+
+    /// How many keys it holds.
+    pub fn len(&self) -> u64
+        ensures count { result ≡ map.len (map_in self.now) }
+        ensures within { result ≤ self.now.limit }
+    {
+        self.root.told();
+        self.root.pop()
+    }
+
+    /// Whether it holds no key.
+    pub fn is_empty(&self) -> bool
+        ensures { IsTrue result ↔ (map_in self.now ≡ map.empty) }
+    {
+        self.len() == 0
+    }
+
+    /// The tree.
+    pub fn root(&self) -> &NodeOf<V>
+        ensures { result.now ≡ self.now.tree }
+    {
+        &self.root
+    }
+
+    /// Whether a node may be larger than its keys need, since memory for a smaller one was refused to a removal.
+    pub fn is_loose(&self) -> bool
+        ensures { result ≡ self.now.loose }
+    {
+        self.loose
+    }
+
+    /// How many nodes of each kind there are.
+    pub fn shape(&self) -> Shape
+        ensures { shape_as result ≡ shape_in self.now.tree.form }
+    {
+        self.root.shape()
+    }
+
+    /// Takes every key out, gives their memory back, and answers how many they were. The limit stays.
+    pub fn free_array(&mut self) -> u64
+        ensures freed { result ≡ map.len (map_in self.old) }
+        ensures emptied { self.new ≡ nothing_held self.old.limit }
+    {
+        let freed = self.len();
+        self.root = NodeOf::empty();
+        self.loose = false;
+        freed
+    }
+}

@@ -1,0 +1,64 @@
+//! What is asked of a key, how many keys stand where, and which key is the n-th.
+
+ghost use Rattle.std.specs.Prelude.{◌≡◌};
+ghost use Rattle.std.specs.FinMap as map;
+ghost use Rattle.judy_model.specs.Counts as counts;
+ghost use Rattle.judy_word.specs.Held.{map_in};
+
+use crate::tree_array::TreeArray;
+use judy_bits::Meter;
+use judy_leaf::Words;
+use judy_query::{lookup, nth, rank};
+
+impl<V: Words + Drop> TreeArray<V> {
+    /// The value of a key, 0 where keys have no value; `None` where it is absent.
+    pub fn get(&self, key: u64) -> Option<u64>
+        ensures { result ≡ map.get (map_in self.now) key }
+    {
+        lookup(&self.root, key, &mut Meter::new())
+    }
+
+    /// Whether a key is there.
+    pub fn has(&self, key: u64) -> bool
+        ensures { result ≡ map.contains_key (map_in self.now) key }
+    {
+        self.get(key).is_some()
+    }
+
+    // How many keys are below a word.
+    fn rank(&self, key: u64) -> u64
+        ensures { result ≡ counts.rank (map_in self.now) key }
+    {
+        rank(&self.root, key, &mut Meter::new())
+    }
+
+    // How many keys are at or below a word.
+    fn count_up_to(&self, key: u64) -> u64
+        ensures { result ≡ counts.count_up_to (map_in self.now) key }
+    {
+        self.told();
+        if key == u64::MAX {
+            self.len()
+        } else {
+            self.rank(key + 1)
+        }
+    }
+
+    /// How many keys there are from one word to another, both included; 0 where the first is above the second.
+    pub fn count(&self, from: u64, to: u64) -> u64
+        ensures { result ≡ counts.count (map_in self.now) from to }
+    {
+        self.count_up_to(to).saturating_sub(self.rank(from))
+    }
+
+    /// The n-th key by ascending order, counted from 1; `None` for 0, and above the number of keys.
+    pub fn by_count(&self, n: u64) -> Option<u64>
+        ensures { result ≡ counts.by_count (map_in self.now) n }
+    {
+        if n == 0 {
+            None
+        } else {
+            nth(&self.root, n - 1, &mut Meter::new())
+        }
+    }
+}

@@ -1,0 +1,45 @@
+//! The nearest keys.
+
+ghost use Rattle.std.specs.Prelude.{◌≡◌};
+ghost use Rattle.judy_model.specs.Neighbours as neighbours;
+ghost use Rattle.judy_word.specs.Held.{map_in};
+
+use crate::tree_array::TreeArray;
+use judy_bits::Meter;
+use judy_leaf::Words;
+use judy_query::{at_or_after, at_or_before};
+
+impl<V: Words + Drop> TreeArray<V> {
+    /// The least key that isn't below a word.
+    pub fn first(&self, from: u64) -> Option<u64>
+        ensures { result ≡ neighbours.first (map_in self.now) from }
+    {
+        at_or_after(&self.root, from, &mut Meter::new())
+    }
+
+    /// The least key above it.
+    pub fn next(&self, from: u64) -> Option<u64>
+        ensures { result ≡ neighbours.next (map_in self.now) from }
+    {
+        self.told();
+        if from == u64::MAX {
+            None
+        } else {
+            self.first(from + 1)
+        }
+    }
+
+    /// The greatest key that isn't above it.
+    pub fn last(&self, from: u64) -> Option<u64>
+        ensures { result ≡ neighbours.last (map_in self.now) from }
+    {
+        at_or_before(&self.root, from, &mut Meter::new())
+    }
+
+    /// The greatest key below it.
+    pub fn prev(&self, from: u64) -> Option<u64>
+        ensures { result ≡ neighbours.prev (map_in self.now) from }
+    {
+        if from == 0 { None } else { self.last(from - 1) }
+    }
+}
