@@ -5,3 +5,5 @@ mod Edits
 mod Sets
 mod SeenWords
 mod HeldFacts
+mod MapFacts
+mod RemovalFacts

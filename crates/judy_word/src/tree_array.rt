@@ -11,9 +11,11 @@ use judy_node::{NodeOf, Shape};
 use std::alloc::Global;
 use std::marker::Model;
 
+mod changes;
 mod counts;
 mod empties;
 mod neighbours;
+mod slots;
 
 /// An array of words over a tree, with `V` words of value a key: a set or a map. It holds at most as many keys as its limit. To its
 /// callers it is that limit, its tree with all nodes, and whether the tree may have a node that is larger than its keys need.

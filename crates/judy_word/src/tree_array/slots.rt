@@ -1,0 +1,26 @@
+//! Slots: where a value is read and written.
+
+ghost use Rattle.std.specs.Prelude.{◌≡◌};
+ghost use Rattle.std.specs.FinMap as map;
+ghost use Rattle.std.specs.Option.{option_copied_mut};
+ghost use Rattle.judy_word.specs.Held.{map_in};
+
+use crate::tree_array::TreeArray;
+use judy_leaf::Words;
+
+impl<V: Words + Drop> TreeArray<V> {
+    ghost use Rattle.std.specs.Borrow.{sem, LendsIf, u64 as word};
+    ghost use Rattle.judy_word.specs.Held.{with_value};
+    ghost use Rattle.judy_word.specs.contracts.tree_array.TreeArray.{the_row};
+
+    /// Lends the value of a key, of an array whose keys have values; `None` where the key is absent. The array becomes the one with
+    /// the value that is left in the slot, and nothing else changes, its nodes neither.
+    pub fn slot(&mut self, key: u64) -> Option<&mut u64>
+        requires words { V.WORDS ≡ 1 }
+        ensures* changes { sem 𝓛 (LendsIf (the_row V.row V.Words) word self.entry result (with_value self.entry.now key) self.entry.now) }
+        ensures value { option_copied_mut result ≡ map.get (map_in self.old) key }
+    {
+        self.root.told();
+        self.root.slot(key)
+    }
+}
