@@ -10,6 +10,7 @@
 mod bitmaps;
 mod gap;
 mod immediates;
+mod insert;
 mod leaves;
 mod put;
 mod removals;
