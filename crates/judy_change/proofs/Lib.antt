@@ -11,3 +11,4 @@ pub mod SplitFacts
 pub mod LeafFacts
 pub mod BelowFacts
 pub mod RootFacts
+pub mod KidInserts

@@ -1,5 +1,5 @@
 use Rattle.std.proofs.Common.{◌+◌, ◌*◌, length}
-use Rattle.judy_change.proofs.insert.+insert.Given as goal
+use Rattle.judy_change.proofs.way_down.+insert.Given as goal
 
 abbrev pub decreases-insert_in : goal.decreases-insert_in
 decreases-insert_in g l = 3 * l.width + 2
