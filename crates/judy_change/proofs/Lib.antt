@@ -10,4 +10,5 @@ pub mod Shorter
 pub mod SplitFacts
 pub mod LeafFacts
 pub mod BelowFacts
+pub mod InsertFacts
 pub mod RootFacts

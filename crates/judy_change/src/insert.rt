@@ -1,6 +1,6 @@
 //! A key put into a tree.
 
-ghost use Rattle.std.specs.Prelude.{◌≡◌, ◌+◌, ◌-◌, ◌*◌, ◌^◌, ◌<◌, ◌≤◌, false, length, Some, slice_get};
+ghost use Rattle.std.specs.Prelude.{◌≡◌, ◌≢◌, ◌+◌, ◌-◌, ◌*◌, ◌/◌, ◌^◌, ◌<◌, ◌≤◌, false, length, Some, slice_get};
 ghost use Rattle.judy_model.specs.WordBytes.{number_of};
 ghost use Rattle.judy_node.specs.Trees.{IsChild, IsBranch, branch_tree};
 ghost use Rattle.judy_node.specs.Kinds.{tree_of, bit_tree, IsLevel, IsBit};
