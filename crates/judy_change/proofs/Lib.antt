@@ -10,5 +10,6 @@ pub mod Shorter
 pub mod SplitFacts
 pub mod LeafFacts
 pub mod BelowFacts
+pub mod InsertFacts
 pub mod RootFacts
 pub mod KidInserts

@@ -1,10 +1,10 @@
 //! A key put into a tree.
 
-ghost use Rattle.std.specs.Prelude.{◌≡◌, ◌+◌, ◌-◌, ◌*◌, ◌^◌, ◌<◌, ◌≤◌, false, length, Some, slice_get};
+ghost use Rattle.std.specs.Prelude.{◌≡◌, ◌≢◌, ◌+◌, ◌-◌, ◌*◌, ◌/◌, ◌^◌, ◌<◌, ◌≤◌, false, length, Some, slice_get};
 ghost use Rattle.judy_model.specs.WordBytes.{number_of};
 ghost use Rattle.judy_node.specs.Trees.{IsChild, IsBranch, branch_tree};
-ghost use Rattle.judy_node.specs.Kinds.{tree_of, IsLevel};
-ghost use Rattle.judy_node.specs.declared.child.KindOf.TheVariants.{Branch};
+ghost use Rattle.judy_node.specs.Kinds.{tree_of, bit_tree, IsLevel, IsBit};
+ghost use Rattle.judy_change.specs.Removals.{IsWhole, width_of, tree_below};
 ghost use Rattle.judy_change.specs.Inserted.{has_key, IsInserted};
 
 use crate::bitmaps::into_bitmap;
@@ -13,8 +13,9 @@ use crate::leaves::into_leaf;
 use crate::put::put_child;
 use crate::split::{Skipped, split};
 use judy_bits::without_low;
+use judy_block::Block;
 use judy_leaf::Words;
-use judy_node::{BranchOf, ChildOf, KindOf, Step};
+use judy_node::{BranchOf, ChildOf, Head, KindOf, Step};
 use std::alloc::{AllocError, Global};
 use std::mem;
 
@@ -36,25 +37,66 @@ pub(crate) fn insert_in<V: Words + Drop>(
     ensures inserted { IsInserted key value child.old child.new result }
 {
     let kind = mem::replace(child, ChildOf::vacant()).open();
-    let (kind, answer) = match kind {
-        KindOf::Imm(head, word) => into_immediate(alloc, head, word, width, key, value),
-        KindOf::Leaf(count, block) => into_leaf(alloc, count, block, width, key, value),
-        KindOf::Bit(head, block) => {
-            if without_low(key, 1) == head.number() {
-                into_bitmap(alloc, head, block, width, key, value)
-            } else {
-                let skipped = Skipped {
-                    number: head.number(),
-                    count: width - 1,
-                    tail: 1,
-                };
-                split(alloc, KindOf::Bit(head, block), skipped, key, value)
-            }
-        }
-        KindOf::Branch(branch) => into_branch(alloc, branch, key, value),
-    };
+    let (kind, answer) = into_kind(alloc, kind, width, key, value);
     *child = ChildOf::close(kind);
     answer
+}
+
+// The same for a node taken out of its place.
+#[cycle(insert)]
+fn into_kind<V: Words + Drop>(
+    alloc: Global,
+    kind: KindOf<V>,
+    width: u8,
+    key: u64,
+    value: u64,
+) -> (KindOf<V>, Result<bool, AllocError>)
+    requires one { V.WORDS ≤ 1 }
+    requires level { IsLevel V.WORDS kind }
+    requires child { IsChild V.WORDS width (tree_of V.WORDS kind) }
+    requires fits { key < 256 ^ width }
+    requires no_value { V.WORDS ≡ 0 → value ≡ 0 }
+    requires room { has_key key (tree_of V.WORDS kind) ≡ false → length (tree_of V.WORDS kind).pairs < 2 ^ 64 - 1 }
+    ensures level { IsLevel V.WORDS result.0 }
+    ensures child { IsChild V.WORDS width (tree_of V.WORDS result.0) }
+    ensures inserted { IsInserted key value (tree_of V.WORDS kind) (tree_of V.WORDS result.0) result.1 }
+{
+    match kind {
+        KindOf::Imm(head, word) => into_immediate(alloc, head, word, width, key, value),
+        KindOf::Leaf(count, block) => into_leaf(alloc, count, block, width, key, value),
+        KindOf::Bit(head, block) => into_bit(alloc, head, block, width, key, value),
+        KindOf::Branch(branch) => into_branch(alloc, branch, key, value),
+    }
+}
+
+// The same for a bitmap leaf, or for a branch above it where the key doesn't begin with the bytes that it skips.
+fn into_bit<V: Words + Drop>(
+    alloc: Global,
+    head: Head,
+    block: Block,
+    width: u8,
+    key: u64,
+    value: u64,
+) -> (KindOf<V>, Result<bool, AllocError>)
+    requires one { V.WORDS ≤ 1 }
+    requires level { IsBit V.WORDS head block }
+    requires child { IsChild V.WORDS width (bit_tree V.WORDS head block) }
+    requires fits { key < 256 ^ width }
+    requires no_value { V.WORDS ≡ 0 → value ≡ 0 }
+    requires room { has_key key (bit_tree V.WORDS head block) ≡ false → length (bit_tree V.WORDS head block).pairs < 2 ^ 64 - 1 }
+    ensures level { IsLevel V.WORDS result.0 }
+    ensures child { IsChild V.WORDS width (tree_of V.WORDS result.0) }
+    ensures inserted { IsInserted key value (bit_tree V.WORDS head block) (tree_of V.WORDS result.0) result.1 }
+{
+    if without_low(key, 1) == head.number() {
+        return into_bitmap(alloc, head, block, width, key, value);
+    }
+    let skipped = Skipped {
+        number: head.number(),
+        count: width - 1,
+        tail: 1,
+    };
+    split(alloc, KindOf::Bit(head, block), skipped, key, value)
 }
 
 // The same for a branch.
@@ -66,13 +108,13 @@ fn into_branch<V: Words + Drop>(
     value: u64,
 ) -> (KindOf<V>, Result<bool, AllocError>)
     requires one { V.WORDS ≤ 1 }
-    requires level { IsLevel V.WORDS (Branch branch) }
-    requires fits { key < 256 ^ (length branch.value.skip + 1 + branch.value.width) }
+    requires level { IsWhole V.WORDS branch.value }
+    requires fits { key < 256 ^ width_of branch.value }
     requires no_value { V.WORDS ≡ 0 → value ≡ 0 }
-    requires room { has_key key (tree_of V.WORDS (Branch branch)) ≡ false → branch.value.population < 2 ^ 64 - 1 }
+    requires room { has_key key (tree_below branch.value) ≡ false → branch.value.population < 2 ^ 64 - 1 }
     ensures level { IsLevel V.WORDS result.0 }
-    ensures child { IsChild V.WORDS (length branch.value.skip + 1 + branch.value.width) (tree_of V.WORDS result.0) }
-    ensures inserted { IsInserted key value (tree_of V.WORDS (Branch branch)) (tree_of V.WORDS result.0) result.1 }
+    ensures child { IsChild V.WORDS (width_of branch.value) (tree_of V.WORDS result.0) }
+    ensures inserted { IsInserted key value (tree_below branch.value) (tree_of V.WORDS result.0) result.1 }
 {
     match branch.step(key) {
         Step::Child(byte, place, rest) => {
@@ -83,15 +125,35 @@ fn into_branch<V: Words + Drop>(
             let answer = put_child(&mut branch, byte, rest, value);
             (KindOf::Branch(branch), answer)
         }
-        Step::Below => {
-            let skipped = skipped_by(&branch);
-            split(alloc, KindOf::Branch(branch), skipped, key, value)
-        }
-        Step::Above => {
-            let skipped = skipped_by(&branch);
-            split(alloc, KindOf::Branch(branch), skipped, key, value)
-        }
+        Step::Below => past_branch(alloc, branch, key, value),
+        Step::Above => past_branch(alloc, branch, key, value),
     }
+}
+
+// Puts a key with its value beside a branch that skips other bytes than the key begins with.
+fn past_branch<V: Words + Drop>(
+    alloc: Global,
+    branch: Box<BranchOf<V>>,
+    key: u64,
+    value: u64,
+) -> (KindOf<V>, Result<bool, AllocError>)
+    requires one { V.WORDS ≤ 1 }
+    requires level { IsWhole V.WORDS branch.value }
+    requires fits { key < 256 ^ width_of branch.value }
+    requires apart { key / 256 ^ (1 + branch.value.width) ≢ number_of branch.value.skip }
+    requires absent { has_key key (tree_below branch.value) ≡ false }
+    requires no_value { V.WORDS ≡ 0 → value ≡ 0 }
+    requires room { branch.value.population < 2 ^ 64 - 1 }
+    ensures level { IsLevel V.WORDS result.0 }
+    ensures child { IsChild V.WORDS (width_of branch.value) (tree_of V.WORDS result.0) }
+    ensures inserted { IsInserted key value (tree_below branch.value) (tree_of V.WORDS result.0) result.1 }
+{
+    let skipped = Skipped {
+        number: branch.skip.number(),
+        count: branch.skip.len() as u8,
+        tail: 1 + branch.width,
+    };
+    split(alloc, KindOf::Branch(branch), skipped, key, value)
 }
 
 // The same for the child of a branch at a place, whose byte is given with what is left of the key.
@@ -124,19 +186,5 @@ fn into_child<V: Words + Drop>(
         }
         Ok(false) => Ok(false),
         Err(refused) => Err(refused),
-    }
-}
-
-// The bytes that a branch skips.
-fn skipped_by<V: Words + Drop>(branch: &BranchOf<V>) -> Skipped
-    requires { length branch.now.skip + 1 + branch.now.width ≤ 8 }
-    ensures number { result.number ≡ number_of branch.now.skip }
-    ensures count { result.count ≡ length branch.now.skip }
-    ensures tail { result.tail ≡ 1 + branch.now.width }
-{
-    Skipped {
-        number: branch.skip.number(),
-        count: branch.skip.len() as u8,
-        tail: 1 + branch.width,
     }
 }
