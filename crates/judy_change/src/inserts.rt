@@ -1,8 +1,9 @@
 //! A key put into a tree.
 
-ghost use Rattle.std.specs.Prelude.{◌≡◌, ◌-◌, ◌^◌, ◌<◌, ◌≤◌, false, true, [], length, Ok};
+ghost use Rattle.std.specs.Prelude.{◌≡◌, ◌≢◌, ◌-◌, ◌^◌, ◌<◌, ◌≤◌, false, true, [], ◌∷◌, length, Ok};
 ghost use Rattle.std.specs.Borrow.{sem, LendsIf, u64 as word};
 ghost use Rattle.std.specs.Option.{option_copied_mut};
+ghost use Rattle.judy_leaf.specs.KeyLists.{with_pair};
 ghost use Rattle.judy_node.specs.Roots.{root_tree, one_tree, IsRoot};
 ghost use Rattle.judy_node.specs.Slots.{value_of, with_value};
 ghost use Rattle.judy_node.specs.contracts.node.NodeOf.{the_row};
@@ -100,13 +101,21 @@ fn beside_one<V: Words + Drop>(
     if only == key {
         return (RootOf::One(only, there), Ok(false));
     }
-    let pairs = if only < key {
-        [(only, there), (key, value)]
-    } else {
-        [(key, value), (only, there)]
-    };
+    let pairs = in_order((only, there), (key, value));
     match kind_of_sorted(alloc, 8, &pairs) {
         Ok(kind) => (RootOf::Many(ChildOf::close(kind)), Ok(true)),
         Err(refused) => (RootOf::One(only, there), Err(refused)),
+    }
+}
+
+// Two pairs by ascending key.
+fn in_order(one: (u64, u64), other: (u64, u64)) -> [(u64, u64); 2]
+    requires { one.0 ≢ other.0 }
+    ensures { result ≡ with_pair other.0 other.1 (one ∷ []) }
+{
+    if one.0 < other.0 {
+        [one, other]
+    } else {
+        [other, one]
     }
 }
