@@ -10,7 +10,6 @@
 mod bitmaps;
 mod gap;
 mod immediates;
-mod insert;
 mod leaves;
 mod put;
 mod removals;
@@ -18,6 +17,7 @@ mod remove_leaf;
 mod removed;
 mod settle;
 mod split;
+mod way_down;
 
 pub use removals::remove;
 pub use removed::Removed;

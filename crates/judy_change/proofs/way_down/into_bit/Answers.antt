@@ -1,6 +1,6 @@
 use Rattle.std.proofs.Common.{◌∙◌, sym}
 use Rattle.judy_change.proofs.InsertFacts.{bit_absent}
-use Rattle.judy_change.proofs.insert.into_bit.Goals as goal
+use Rattle.judy_change.proofs.way_down.into_bit.Goals as goal
 
 pub split-requires-clause-absent : goal.split-requires-clause-absent
 split-requires-clause-absent g c =

@@ -1,6 +1,6 @@
 use Rattle.std.proofs.Common.{◌+◌, ◌*◌, length}
 use Rattle.judy_change.specs.Removals.{width_of}
-use Rattle.judy_change.proofs.insert.+insert.Given as goal
+use Rattle.judy_change.proofs.way_down.+insert.Given as goal
 
 abbrev pub decreases-insert_in : goal.decreases-insert_in
 decreases-insert_in g l = 4 * l.width + 3
