@@ -12,3 +12,4 @@ pub mod LeafFacts
 pub mod BelowFacts
 pub mod InsertFacts
 pub mod RootFacts
+pub mod KidInserts
