@@ -70,3 +70,6 @@ module _ {V : _} (words key : ℕ) (old : BranchOf V) (whole : IsWhole words old
       let spread = add-mul (number * 256) 256 (256 ^ old.width) in
       let never : ⊥ = omega arith in
       never
+
+  pub missing_absent : (byte place rest : ℕ) → IsStep (256 ^ old.width) (number * 256) old.bytes key (Missing byte place rest) → has_key key (tree_below old) ≡ false
+  missing_absent byte place rest is = none_has (tree_below old).pairs key (step-absent words key old (Missing byte place rest) whole is (λ byte place rest never. cc))
