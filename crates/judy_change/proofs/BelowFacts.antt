@@ -26,7 +26,7 @@ use Rattle.judy_change.proofs.Sharing.{has-33, all-33}
 
 -- ---- lists
 
-set-there : {A : Type 0} (xs : List A) (at : ℕ) (x : A) → slice_get xs at ≡ Some x → set xs at x ≡ xs
+pub set-there : {A : Type 0} (xs : List A) (at : ℕ) (x : A) → slice_get xs at ≡ Some x → set xs at x ≡ xs
 set-there [] at x is = refl
 set-there (first ∷ xs) zero x is = ap (λ y. y ∷ xs) (sym (same_Some first x is))
 set-there (first ∷ xs) (suc at) x is = ap (λ rest. first ∷ rest) (set-there xs at x is)

@@ -139,7 +139,7 @@ bit_wide words width skipped block level child =
     child.wide (λ (none : bit_width block ≡ 0). let never : ⊥ = omega arith in never)
 
 -- No key but those behind the skipped bytes is there.
-other_key : (words skipped key : ℕ) (pairs : Pairs) → IsMap words 0 256 pairs → key / 256 ≢ skipped → value_in (shift (skipped * 256) pairs) key ≡ None
+pub other_key : (words skipped key : ℕ) (pairs : Pairs) → IsMap words 0 256 pairs → key / 256 ≢ skipped → value_in (shift (skipped * 256) pairs) key ≡ None
 other_key words skipped key pairs map apart = ⊎_elim
     (λ (below : key / 256 < skipped). value-below words (skipped * 256 + 0) (skipped * 256 + 256) key (shift (skipped * 256) pairs) (omega arith) (map-shift words 0 256 (skipped * 256) pairs map))
     (λ (above : skipped < key / 256). value-above words (skipped * 256 + 0) (skipped * 256 + 256) key (shift (skipped * 256) pairs) (omega arith) (map-shift words 0 256 (skipped * 256) pairs map))

@@ -10,4 +10,7 @@ pub mod Shorter
 pub mod SplitFacts
 pub mod LeafFacts
 pub mod BelowFacts
+pub mod InsertFacts
 pub mod RootFacts
+pub mod KidInserts
+pub mod RootInserts

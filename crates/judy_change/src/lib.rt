@@ -10,6 +10,7 @@
 mod bitmaps;
 mod gap;
 mod immediates;
+mod inserts;
 mod leaves;
 mod put;
 mod removals;
@@ -17,6 +18,8 @@ mod remove_leaf;
 mod removed;
 mod settle;
 mod split;
+mod way_down;
 
+pub use inserts::{insert, insert_with, slot};
 pub use removals::remove;
 pub use removed::Removed;

@@ -1,0 +1,75 @@
+-- Keys that a node hasn't, on the way down of an insert.
+use Rattle.std.proofs.Common.{◌≡◌, ◌≢◌, ℕ, ◌+◌, ◌*◌, ◌/◌, ◌%◌, ◌^◌, ◌<◌, ◌≤◌, Bool, true, false, Some, None, Option, cond, eqb, [], ◌∷◌, ◌||◌, sym, refl, ap, ◌∙◌, subst, arith}
+use Rattle.std.proofs.Math.Nat.{add-mul, mul_assoc, mul_comm}
+use Rattle.std.proofs.lemmas.Nat.{div-add-mod', mod_below}
+use Rattle.judy_model.specs.WordBytes.{number_of}
+use Rattle.judy_model.proofs.ByteLemmas.{unit_pos}
+use Rattle.judy_bits.specs.ByteSets.{has}
+use Rattle.judy_block.specs.Contents.{Contents}
+use Rattle.judy_leaf.specs.KeyLists.{keys_of, shift}
+use Rattle.judy_leaf.specs.BitLeaves.{bit_list}
+use Rattle.judy_node.specs.Trees.{Pairs}
+use Rattle.judy_node.specs.Kinds.{bit_tree}
+use Rattle.judy_node.specs.Steps.{IsStep}
+use Rattle.judy_node.specs.declared.child.BranchOf.{BranchOf}
+use Rattle.judy_node.specs.declared.step.Step.{Step}
+use Rattle.judy_node.specs.declared.step.Step.TheVariants.{Child, Missing, Below, Above}
+use Rattle.judy_node.proofs.Leaves.{bit_map}
+use Rattle.judy_node.proofs.MadeFacts.{unit_above}
+use Rattle.judy_change.specs.Inserted.{has_key}
+use Rattle.judy_change.specs.Removals.{value_in, IsWhole, tree_below}
+use Rattle.judy_change.proofs.LeafFacts.{other_key}
+use Rattle.judy_change.proofs.BelowFacts.{step-absent}
+
+-- A key without a value isn't there.
+pub none_has : (pairs : Pairs) (key : ℕ) → value_in pairs key ≡ None → has (keys_of pairs) key ≡ false
+none_has [] key none = refl
+none_has (pair ∷ pairs) key none =
+    first (eqb pair.0 key) (has (keys_of pairs) key) (none_has pairs key) none
+  where
+    first : (same others : Bool) → (value_in pairs key ≡ None → others ≡ false) → cond same (Some pair.1) (value_in pairs key) ≡ None → (same || others) ≡ false
+    first true others rest never = cc
+    first false others rest none = rest none
+
+-- A bitmap leaf hasn't a key that begins with other bytes than it skips.
+pub bit_absent : (words skipped key : ℕ) (block : Contents) → key / 256 ≢ skipped → has_key key (bit_tree words skipped block) ≡ false
+bit_absent words skipped key block apart = none_has (bit_tree words skipped block).pairs key (other_key words skipped key (bit_list words block).pairs (bit_map words block) apart)
+
+-- What a branch skips and the bytes behind it, as a number.
+whole_unit : (number width : ℕ) → number * 256 * 256 ^ width ≡ number * 256 ^ (1 + width)
+whole_unit number width =
+    mul_assoc number 256 (256 ^ width) ∙ ap (λ n. number * n) (mul_comm 256 (256 ^ width) ∙ sym (unit_above width) ∙ ap (λ w. 256 ^ w) (let e : width + 1 ≡ 1 + width = omega arith in e))
+
+-- A branch hasn't a key that goes past it, and such a key doesn't begin with the bytes that it skips.
+module _ {V : _} (words key : ℕ) (old : BranchOf V) (whole : IsWhole words old) where
+  abbrev unit : ℕ
+  unit = 256 ^ (1 + old.width)
+
+  abbrev number : ℕ
+  number = number_of old.skip
+
+  pub below_absent : IsStep (256 ^ old.width) (number * 256) old.bytes key Below → has_key key (tree_below old) ≡ false
+  below_absent is = none_has (tree_below old).pairs key (step-absent words key old Below whole is (λ byte place rest never. cc))
+
+  pub above_absent : IsStep (256 ^ old.width) (number * 256) old.bytes key Above → has_key key (tree_below old) ≡ false
+  above_absent is = none_has (tree_below old).pairs key (step-absent words key old Above whole is (λ byte place rest never. cc))
+
+  pub below_apart : IsStep (256 ^ old.width) (number * 256) old.bytes key Below → key / unit ≢ number
+  below_apart is same =
+      let split = div-add-mod' key unit in
+      let start : number * 256 * 256 ^ old.width ≡ key / unit * unit = whole_unit number old.width ∙ ap (λ n. n * unit) (sym same) in
+      let never : ⊥ = omega arith in
+      never
+
+  pub above_apart : IsStep (256 ^ old.width) (number * 256) old.bytes key Above → key / unit ≢ number
+  above_apart is same =
+      let split = div-add-mod' key unit in
+      let rest = mod_below key unit (unit_pos (1 + old.width)) in
+      let start : number * 256 * 256 ^ old.width ≡ key / unit * unit = whole_unit number old.width ∙ ap (λ n. n * unit) (sym same) in
+      let last : 1 * 256 * 256 ^ old.width ≡ 1 * unit = whole_unit 1 old.width in
+      let spread = add-mul (number * 256) 256 (256 ^ old.width) in
+      let never : ⊥ = omega arith in
+      never
+
+  pub missing_absent : (byte place rest : ℕ) → IsStep (256 ^ old.width) (number * 256) old.bytes key (Missing byte place rest) → has_key key (tree_below old) ≡ false
+  missing_absent byte place rest is = none_has (tree_below old).pairs key (step-absent words key old (Missing byte place rest) whole is (λ byte place rest never. cc))

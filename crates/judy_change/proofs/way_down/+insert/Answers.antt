@@ -1,0 +1,112 @@
+use Rattle.std.proofs.Common.{◌≡◌, ◌+◌, ◌*◌, ◌^◌, ◌<◌, length, Ok, sym, ap, ◌∙◌, subst, arith}
+use Rattle.std.proofs.lemmas.Option.{slice_get_within}
+use Rattle.std.specs.declared.alloc.AllocError.{AllocError}
+use Rattle.judy_model.specs.WordBytes.{number_of}
+use Rattle.judy_node.specs.Trees.{IsChild}
+use Rattle.judy_node.specs.Steps.{IsStep}
+use Rattle.judy_node.specs.declared.step.Step.TheVariants.{Missing, Below, Above}
+use Rattle.judy_node.proofs.Maps.{children-length}
+use Rattle.judy_node.proofs.Shaped.{branch-child}
+use Rattle.judy_change.specs.Inserted.{IsInserted}
+use Rattle.judy_change.specs.Removals.{width_of, tree_below}
+use Rattle.judy_change.proofs.InsertFacts.{missing_absent, below_absent, above_absent, below_apart, above_apart}
+use Rattle.judy_change.proofs.KidInserts.{kid_child, kid_has, kid_room, kid_same, kid_branch, kid_added}
+use Rattle.judy_change.proofs.way_down.+insert.Goals as goal
+
+pub into_branch-put_child-answer-requires-clause-room : goal.into_branch-put_child-answer-requires-clause-room
+into_branch-put_child-answer-requires-clause-room g t c =
+    let told = subst (λ b. IsStep (256 ^ b.width) (number_of b.skip * 256) b.bytes c.args.key (Missing c.in-Missing.byte c.in-Missing.field-1 c.in-Missing.rest)) c.deref.ensures c.in-Missing.ensures in
+    let room = c.requires.room (missing_absent g.V.Words.WORDS c.args.key c.args.branch.value c.requires.level c.in-Missing.byte c.in-Missing.field-1 c.in-Missing.rest told) in
+    subst (λ b. b.population < 18446744073709551615) (sym c.deref_mut-in-Missing.ensures.value) room
+
+pub into_branch-past_branch-requires-clause-apart : goal.into_branch-past_branch-requires-clause-apart
+into_branch-past_branch-requires-clause-apart g t c =
+    below_apart g.V.Words.WORDS c.args.key c.args.branch.value c.requires.level (subst (λ b. IsStep (256 ^ b.width) (number_of b.skip * 256) b.bytes c.args.key Below) c.deref.ensures c.in-Below.ensures)
+
+pub into_branch-past_branch-requires-clause-absent : goal.into_branch-past_branch-requires-clause-absent
+into_branch-past_branch-requires-clause-absent g t c =
+    below_absent g.V.Words.WORDS c.args.key c.args.branch.value c.requires.level (subst (λ b. IsStep (256 ^ b.width) (number_of b.skip * 256) b.bytes c.args.key Below) c.deref.ensures c.in-Below.ensures)
+
+pub into_branch-past_branch-requires-clause-room : goal.into_branch-past_branch-requires-clause-room
+into_branch-past_branch-requires-clause-room g t c =
+    c.requires.room (below_absent g.V.Words.WORDS c.args.key c.args.branch.value c.requires.level (subst (λ b. IsStep (256 ^ b.width) (number_of b.skip * 256) b.bytes c.args.key Below) c.deref.ensures c.in-Below.ensures))
+
+pub into_branch-past_branch-requires-in-Above-clause-apart : goal.into_branch-past_branch-requires-in-Above-clause-apart
+into_branch-past_branch-requires-in-Above-clause-apart g t c =
+    above_apart g.V.Words.WORDS c.args.key c.args.branch.value c.requires.level (subst (λ b. IsStep (256 ^ b.width) (number_of b.skip * 256) b.bytes c.args.key Above) c.deref.ensures c.in-Above.ensures)
+
+pub into_branch-past_branch-requires-in-Above-clause-absent : goal.into_branch-past_branch-requires-in-Above-clause-absent
+into_branch-past_branch-requires-in-Above-clause-absent g t c =
+    above_absent g.V.Words.WORDS c.args.key c.args.branch.value c.requires.level (subst (λ b. IsStep (256 ^ b.width) (number_of b.skip * 256) b.bytes c.args.key Above) c.deref.ensures c.in-Above.ensures)
+
+pub into_branch-past_branch-requires-in-Above-clause-room : goal.into_branch-past_branch-requires-in-Above-clause-room
+into_branch-past_branch-requires-in-Above-clause-room g t c =
+    c.requires.room (above_absent g.V.Words.WORDS c.args.key c.args.branch.value c.requires.level (subst (λ b. IsStep (256 ^ b.width) (number_of b.skip * 256) b.bytes c.args.key Above) c.deref.ensures c.in-Above.ensures))
+
+pub into_branch-returns-in-Child-clause-child : goal.into_branch-returns-in-Child-clause-child
+into_branch-returns-in-Child-clause-child g t c =
+    let n = c.into_child-answer.new.branch in
+    let wide : width_of n ≡ width_of c.args.branch.value = (λ t. length (c.into_child-answer.ensures.skip t) + 1 + c.into_child-answer.ensures.width t) ∙ ap width_of c.deref_mut.ensures.value in
+    subst (λ w. IsChild g.V.Words.WORDS w (tree_below n)) wide (branch-child g.V.Words.WORDS n.width n.skip n.bytes n.children.items n.population c.into_child-answer.ensures.level)
+
+pub into_branch-returns-in-Missing-clause-child : goal.into_branch-returns-in-Missing-clause-child
+into_branch-returns-in-Missing-clause-child g t c =
+    let n = c.put_child-answer.new.branch in
+    let wide : width_of n ≡ width_of c.args.branch.value = (λ t. length (c.put_child-answer.ensures.skip t) + 1 + c.put_child-answer.ensures.width t) ∙ ap width_of c.deref_mut-in-Missing.ensures.value in
+    subst (λ w. IsChild g.V.Words.WORDS w (tree_below n)) wide (branch-child g.V.Words.WORDS n.width n.skip n.bytes n.children.items n.population c.put_child-answer.ensures.level)
+
+pub into_child-index_mut-requires : goal.into_child-index_mut-requires
+into_child-index_mut-requires g t c =
+    let b = c.args.branch.now in
+    let within = slice_get_within b.bytes c.args.place c.args.byte c.requires.here in
+    let long = children-length g.V.Words.WORDS b.width 0 b.bytes b.children.items c.requires.level.parts.children in
+    let held = b.children.ok.0 in
+    omega arith
+
+pub into_child-insert_in-requires : goal.into_child-insert_in-requires
+into_child-insert_in-requires g t c κs within =
+    let b = c.args.branch.now in
+    let falls = c.decreases in (
+      omega arith,
+      (
+        within,
+        (
+          c.requires.one,
+          (
+            kid_child g.V.Words.WORDS b.width b.skip b.bytes b.children.items b.population c.requires.level c.args.byte c.args.rest c.requires.fits c.args.place c.index_mut.result.now c.requires.here c.index_mut.ensures.value,
+            (c.requires.fits, (c.requires.no_value, kid_room g.V.Words.WORDS b.width b.skip b.bytes b.children.items b.population c.requires.level c.args.byte c.args.rest c.requires.fits c.args.place c.index_mut.result.now c.requires.here c.index_mut.ensures.value c.requires.room)),
+          ),
+        ),
+      ),
+    )
+
+pub into_child-overflow_add-branch : goal.into_child-overflow_add-branch
+into_child-overflow_add-branch g t c =
+    let b = c.args.branch.now in
+    let added = subst (λ answer. IsInserted {E = AllocError} c.args.rest c.args.value c.index_mut.result.now c.insert_in.new.child (Ok answer)) c.in-Ok-true.field-0-test c.in-Ok-true.ensures.inserted in
+    let spare = c.requires.room (kid_has g.V.Words.WORDS b.width b.skip b.bytes b.children.items b.population c.requires.level c.args.byte c.args.rest c.requires.fits c.args.place c.index_mut.result.now c.requires.here c.index_mut.ensures.value ∙ added.absent) in
+    omega arith
+
+pub into_child-returns-in-Ok-true-clause-level : goal.into_child-returns-in-Ok-true-clause-level
+into_child-returns-in-Ok-true-clause-level g t c =
+    let b = c.args.branch.now in
+    let added = subst (λ answer. IsInserted {E = AllocError} c.args.rest c.args.value c.index_mut.result.now c.insert_in.new.child (Ok answer)) c.in-Ok-true.field-0-test c.in-Ok-true.ensures.inserted in
+    kid_branch g.V.Words.WORDS b.width b.skip b.bytes b.children.items b.population c.requires.level c.args.byte c.args.rest c.requires.fits c.args.place c.index_mut.result.now c.requires.here c.index_mut.ensures.value c.args.value c.insert_in.new.child added c.in-Ok-true.ensures.child
+
+pub into_child-returns-in-Ok-true-clause-inserted : goal.into_child-returns-in-Ok-true-clause-inserted
+into_child-returns-in-Ok-true-clause-inserted g t c =
+    let b = c.args.branch.now in
+    let added = subst (λ answer. IsInserted {E = AllocError} c.args.rest c.args.value c.index_mut.result.now c.insert_in.new.child (Ok answer)) c.in-Ok-true.field-0-test c.in-Ok-true.ensures.inserted in
+    kid_added g.V.Words.WORDS b.width b.skip b.bytes b.children.items b.population c.requires.level c.args.byte c.args.rest c.requires.fits c.args.place c.index_mut.result.now c.requires.here c.index_mut.ensures.value c.args.value c.insert_in.new.child added
+
+pub into_child-returns-in-Ok-false-clause-inserted : goal.into_child-returns-in-Ok-false-clause-inserted
+into_child-returns-in-Ok-false-clause-inserted g t c =
+    let b = c.args.branch.now in
+    let kept = subst (λ answer. IsInserted {E = AllocError} c.args.rest c.args.value c.index_mut.result.now c.insert_in.new.child (Ok answer)) c.in-Ok-false.field-0-test c.in-Ok-false.ensures.inserted in
+    (kid_has g.V.Words.WORDS b.width b.skip b.bytes b.children.items b.population c.requires.level c.args.byte c.args.rest c.requires.fits c.args.place c.index_mut.result.now c.requires.here c.index_mut.ensures.value ∙ kept.0, kid_same g.V.Words.WORDS b.width b.skip b.bytes b.children.items b.population c.requires.level c.args.byte c.args.rest c.requires.fits c.args.place c.index_mut.result.now c.requires.here c.index_mut.ensures.value c.insert_in.new.child kept.1)
+
+pub into_child-returns-in-Err-clause-inserted : goal.into_child-returns-in-Err-clause-inserted
+into_child-returns-in-Err-clause-inserted g t c =
+    let b = c.args.branch.now in
+    let kept = c.in-Err.ensures.inserted in
+    (kid_has g.V.Words.WORDS b.width b.skip b.bytes b.children.items b.population c.requires.level c.args.byte c.args.rest c.requires.fits c.args.place c.index_mut.result.now c.requires.here c.index_mut.ensures.value ∙ kept.0, kid_same g.V.Words.WORDS b.width b.skip b.bytes b.children.items b.population c.requires.level c.args.byte c.args.rest c.requires.fits c.args.place c.index_mut.result.now c.requires.here c.index_mut.ensures.value c.insert_in.new.child kept.1)

@@ -1,0 +1,11 @@
+use Rattle.std.proofs.Common.{◌∙◌, sym}
+use Rattle.judy_change.proofs.InsertFacts.{bit_absent}
+use Rattle.judy_change.proofs.way_down.into_bit.Goals as goal
+
+pub split-requires-clause-absent : goal.split-requires-clause-absent
+split-requires-clause-absent g c =
+    bit_absent g.V.Words.WORDS c.args.head c.args.key c.args.block (λ same. c.if-without_low-number.false (c.without_low.ensures ∙ same ∙ sym c.number.ensures.value))
+
+pub split-requires-clause-room : goal.split-requires-clause-room
+split-requires-clause-room g c =
+    c.requires.room (bit_absent g.V.Words.WORDS c.args.head c.args.key c.args.block (λ same. c.if-without_low-number.false (c.without_low.ensures ∙ same ∙ sym c.number.ensures.value)))

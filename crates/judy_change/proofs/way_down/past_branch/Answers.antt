@@ -1,0 +1,13 @@
+use Rattle.std.proofs.Common.{◌≡◌, ◌+◌, length, ap, ◌∙◌, subst, arith}
+use Rattle.judy_node.specs.Trees.{IsChild}
+use Rattle.judy_node.proofs.Shaped.{branch-child}
+use Rattle.judy_change.specs.Removals.{width_of, tree_below}
+use Rattle.judy_change.proofs.way_down.past_branch.Goals as goal
+
+pub split-requires-clause-child : goal.split-requires-clause-child
+split-requires-clause-child g c =
+    let b = c.args.branch.value in
+    let long = c.len.ensures.count ∙ ap (λ b. length b.skip) c.deref-2.ensures in
+    let low = ap (λ b. b.width) c.deref-3.ensures in
+    let wide : width_of b ≡ c.len.result + (1 + c.deref-3.result.now.width) = omega arith in
+    subst (λ w. IsChild g.V.Words.WORDS w (tree_below b)) wide (branch-child g.V.Words.WORDS b.width b.skip b.bytes b.children.items b.population c.requires.level)

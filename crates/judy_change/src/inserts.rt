@@ -1,0 +1,121 @@
+//! A key put into a tree.
+
+ghost use Rattle.std.specs.Prelude.{◌≡◌, ◌≢◌, ◌-◌, ◌^◌, ◌<◌, ◌≤◌, false, true, [], ◌∷◌, length, Ok};
+ghost use Rattle.std.specs.Borrow.{sem, LendsIf, u64 as word};
+ghost use Rattle.std.specs.Option.{option_copied_mut};
+ghost use Rattle.judy_leaf.specs.KeyLists.{with_pair};
+ghost use Rattle.judy_node.specs.Roots.{root_tree, one_tree, IsRoot};
+ghost use Rattle.judy_node.specs.Slots.{value_of, with_value};
+ghost use Rattle.judy_node.specs.contracts.node.NodeOf.{the_row};
+ghost use Rattle.judy_change.specs.Inserted.{has_key, IsInserted};
+
+use crate::way_down::insert_in;
+use judy_leaf::Words;
+use judy_node::{ChildOf, NodeOf, RootOf, kind_of_sorted};
+use std::alloc::{AllocError, Global};
+use std::mem;
+
+/// Puts a key into a tree. True: it was absent, and stands there now with the value 0. False: it was there, with its value, and
+/// nothing has changed; no memory is asked for. The error is want of memory, for an absent key alone; the tree is the old one then,
+/// its form included. A tree without keys is never refused a key, and a tight tree stays tight.
+pub fn insert<V: Words + Drop>(
+    alloc: Global,
+    node: &mut NodeOf<V>,
+    key: u64,
+) -> Result<bool, AllocError>
+    requires one { V.WORDS ≤ 1 }
+    requires room { has_key key node.old ≡ false → length node.old.pairs < 2 ^ 64 - 1 }
+    ensures inserted { IsInserted key 0 node.old node.new result }
+    ensures first { node.old.pairs ≡ [] → result ≡ Ok true }
+{
+    insert_with(alloc, node, key, 0)
+}
+
+/// The same with the value that an absent key is to have, 0 where keys have no values. A key that is there keeps its value.
+pub fn insert_with<V: Words + Drop>(
+    alloc: Global,
+    node: &mut NodeOf<V>,
+    key: u64,
+    value: u64,
+) -> Result<bool, AllocError>
+    requires one { V.WORDS ≤ 1 }
+    requires no_value { V.WORDS ≡ 0 → value ≡ 0 }
+    requires room { has_key key node.old ≡ false → length node.old.pairs < 2 ^ 64 - 1 }
+    ensures inserted { IsInserted key value node.old node.new result }
+    ensures first { node.old.pairs ≡ [] → result ≡ Ok true }
+{
+    let root = mem::replace(node, NodeOf::empty()).open();
+    let (root, answer) = into_root(alloc, root, key, value);
+    *node = NodeOf::close(root);
+    answer
+}
+
+/// Lends the value of a key, of a tree whose keys have values; none where the key is absent. The tree becomes the one with the
+/// value that is left in the slot, and nothing else changes, its form neither.
+pub fn slot<V: Words + Drop>(node: &mut NodeOf<V>, key: u64) -> Option<&mut u64>
+    requires words { V.WORDS ≡ 1 }
+    ensures* changes { sem 𝓛 (LendsIf (the_row V.row V.Words) word node.entry result (with_value node.entry.now key) node.entry.now) }
+    ensures value { option_copied_mut result ≡ value_of key node.old.pairs }
+{
+    node.slot(key)
+}
+
+// Into a root taken out of its place.
+fn into_root<V: Words + Drop>(
+    alloc: Global,
+    root: RootOf<V>,
+    key: u64,
+    value: u64,
+) -> (RootOf<V>, Result<bool, AllocError>)
+    requires one { V.WORDS ≤ 1 }
+    requires root { IsRoot V.WORDS root }
+    requires no_value { V.WORDS ≡ 0 → value ≡ 0 }
+    requires room { has_key key (root_tree root) ≡ false → length (root_tree root).pairs < 2 ^ 64 - 1 }
+    ensures root { IsRoot V.WORDS result.0 }
+    ensures inserted { IsInserted key value (root_tree root) (root_tree result.0) result.1 }
+    ensures first { (root_tree root).pairs ≡ [] → result.1 ≡ Ok true }
+{
+    match root {
+        RootOf::Empty => (RootOf::One(key, value), Ok(true)),
+        RootOf::One(only, there) => beside_one(alloc, only, there, key, value),
+        RootOf::Many(mut child) => {
+            let answer = insert_in(alloc, &mut child, 8, key, value);
+            (RootOf::Many(child), answer)
+        }
+    }
+}
+
+// Beside the one pair of a root.
+fn beside_one<V: Words + Drop>(
+    alloc: Global,
+    only: u64,
+    there: u64,
+    key: u64,
+    value: u64,
+) -> (RootOf<V>, Result<bool, AllocError>)
+    requires one { V.WORDS ≤ 1 }
+    requires no_value { V.WORDS ≡ 0 → (there ≡ 0) × (value ≡ 0) }
+    ensures root { IsRoot V.WORDS result.0 }
+    ensures inserted { IsInserted key value (one_tree only there) (root_tree result.0) result.1 }
+{
+    if only == key {
+        return (RootOf::One(only, there), Ok(false));
+    }
+    let pairs = in_order((only, there), (key, value));
+    match kind_of_sorted(alloc, 8, &pairs) {
+        Ok(kind) => (RootOf::Many(ChildOf::close(kind)), Ok(true)),
+        Err(refused) => (RootOf::One(only, there), Err(refused)),
+    }
+}
+
+// Two pairs by ascending key.
+fn in_order(one: (u64, u64), other: (u64, u64)) -> [(u64, u64); 2]
+    requires { one.0 ≢ other.0 }
+    ensures { result ≡ with_pair other.0 other.1 (one ∷ []) }
+{
+    if one.0 < other.0 {
+        [one, other]
+    } else {
+        [other, one]
+    }
+}

@@ -1,0 +1,190 @@
+//! A key put into a tree.
+
+ghost use Rattle.std.specs.Prelude.{◌≡◌, ◌≢◌, ◌+◌, ◌-◌, ◌*◌, ◌/◌, ◌^◌, ◌<◌, ◌≤◌, false, length, Some, slice_get};
+ghost use Rattle.judy_model.specs.WordBytes.{number_of};
+ghost use Rattle.judy_node.specs.Trees.{IsChild, IsBranch, branch_tree};
+ghost use Rattle.judy_node.specs.Kinds.{tree_of, bit_tree, IsLevel, IsBit};
+ghost use Rattle.judy_change.specs.Removals.{IsWhole, width_of, tree_below};
+ghost use Rattle.judy_change.specs.Inserted.{has_key, IsInserted};
+
+use crate::bitmaps::into_bitmap;
+use crate::immediates::into_immediate;
+use crate::leaves::into_leaf;
+use crate::put::put_child;
+use crate::split::{Skipped, split};
+use judy_bits::without_low;
+use judy_block::Block;
+use judy_leaf::Words;
+use judy_node::{BranchOf, ChildOf, Head, KindOf, Step};
+use std::alloc::{AllocError, Global};
+use std::mem;
+
+// Puts a key with its value into a node below the root, whose keys have `width` bytes.
+#[cycle(insert)]
+pub(crate) fn insert_in<V: Words + Drop>(
+    alloc: Global,
+    child: &mut ChildOf<V>,
+    width: u8,
+    key: u64,
+    value: u64,
+) -> Result<bool, AllocError>
+    requires one { V.WORDS ≤ 1 }
+    requires child { IsChild V.WORDS width child.old }
+    requires fits { key < 256 ^ width }
+    requires no_value { V.WORDS ≡ 0 → value ≡ 0 }
+    requires room { has_key key child.old ≡ false → length child.old.pairs < 2 ^ 64 - 1 }
+    ensures child { IsChild V.WORDS width child.new }
+    ensures inserted { IsInserted key value child.old child.new result }
+{
+    let kind = mem::replace(child, ChildOf::vacant()).open();
+    let (kind, answer) = into_kind(alloc, kind, width, key, value);
+    *child = ChildOf::close(kind);
+    answer
+}
+
+// The same for a node taken out of its place.
+#[cycle(insert)]
+fn into_kind<V: Words + Drop>(
+    alloc: Global,
+    kind: KindOf<V>,
+    width: u8,
+    key: u64,
+    value: u64,
+) -> (KindOf<V>, Result<bool, AllocError>)
+    requires one { V.WORDS ≤ 1 }
+    requires level { IsLevel V.WORDS kind }
+    requires child { IsChild V.WORDS width (tree_of V.WORDS kind) }
+    requires fits { key < 256 ^ width }
+    requires no_value { V.WORDS ≡ 0 → value ≡ 0 }
+    requires room { has_key key (tree_of V.WORDS kind) ≡ false → length (tree_of V.WORDS kind).pairs < 2 ^ 64 - 1 }
+    ensures level { IsLevel V.WORDS result.0 }
+    ensures child { IsChild V.WORDS width (tree_of V.WORDS result.0) }
+    ensures inserted { IsInserted key value (tree_of V.WORDS kind) (tree_of V.WORDS result.0) result.1 }
+{
+    match kind {
+        KindOf::Imm(head, word) => into_immediate(alloc, head, word, width, key, value),
+        KindOf::Leaf(count, block) => into_leaf(alloc, count, block, width, key, value),
+        KindOf::Bit(head, block) => into_bit(alloc, head, block, width, key, value),
+        KindOf::Branch(branch) => into_branch(alloc, branch, key, value),
+    }
+}
+
+// The same for a bitmap leaf, or for a branch above it where the key doesn't begin with the bytes that it skips.
+fn into_bit<V: Words + Drop>(
+    alloc: Global,
+    head: Head,
+    block: Block,
+    width: u8,
+    key: u64,
+    value: u64,
+) -> (KindOf<V>, Result<bool, AllocError>)
+    requires one { V.WORDS ≤ 1 }
+    requires level { IsBit V.WORDS head block }
+    requires child { IsChild V.WORDS width (bit_tree V.WORDS head block) }
+    requires fits { key < 256 ^ width }
+    requires no_value { V.WORDS ≡ 0 → value ≡ 0 }
+    requires room { has_key key (bit_tree V.WORDS head block) ≡ false → length (bit_tree V.WORDS head block).pairs < 2 ^ 64 - 1 }
+    ensures level { IsLevel V.WORDS result.0 }
+    ensures child { IsChild V.WORDS width (tree_of V.WORDS result.0) }
+    ensures inserted { IsInserted key value (bit_tree V.WORDS head block) (tree_of V.WORDS result.0) result.1 }
+{
+    if without_low(key, 1) == head.number() {
+        return into_bitmap(alloc, head, block, width, key, value);
+    }
+    let skipped = Skipped {
+        number: head.number(),
+        count: width - 1,
+        tail: 1,
+    };
+    split(alloc, KindOf::Bit(head, block), skipped, key, value)
+}
+
+// The same for a branch.
+#[cycle(insert)]
+fn into_branch<V: Words + Drop>(
+    alloc: Global,
+    mut branch: Box<BranchOf<V>>,
+    key: u64,
+    value: u64,
+) -> (KindOf<V>, Result<bool, AllocError>)
+    requires one { V.WORDS ≤ 1 }
+    requires level { IsWhole V.WORDS branch.value }
+    requires fits { key < 256 ^ width_of branch.value }
+    requires no_value { V.WORDS ≡ 0 → value ≡ 0 }
+    requires room { has_key key (tree_below branch.value) ≡ false → branch.value.population < 2 ^ 64 - 1 }
+    ensures level { IsLevel V.WORDS result.0 }
+    ensures child { IsChild V.WORDS (width_of branch.value) (tree_of V.WORDS result.0) }
+    ensures inserted { IsInserted key value (tree_below branch.value) (tree_of V.WORDS result.0) result.1 }
+{
+    match branch.step(key) {
+        Step::Child(byte, place, rest) => {
+            let answer = into_child(alloc, &mut branch, byte, place, rest, value);
+            (KindOf::Branch(branch), answer)
+        }
+        Step::Missing(byte, _, rest) => {
+            let answer = put_child(&mut branch, byte, rest, value);
+            (KindOf::Branch(branch), answer)
+        }
+        Step::Below => past_branch(alloc, branch, key, value),
+        Step::Above => past_branch(alloc, branch, key, value),
+    }
+}
+
+// Puts a key with its value beside a branch that skips other bytes than the key begins with.
+fn past_branch<V: Words + Drop>(
+    alloc: Global,
+    branch: Box<BranchOf<V>>,
+    key: u64,
+    value: u64,
+) -> (KindOf<V>, Result<bool, AllocError>)
+    requires one { V.WORDS ≤ 1 }
+    requires level { IsWhole V.WORDS branch.value }
+    requires fits { key < 256 ^ width_of branch.value }
+    requires apart { key / 256 ^ (1 + branch.value.width) ≢ number_of branch.value.skip }
+    requires absent { has_key key (tree_below branch.value) ≡ false }
+    requires no_value { V.WORDS ≡ 0 → value ≡ 0 }
+    requires room { branch.value.population < 2 ^ 64 - 1 }
+    ensures level { IsLevel V.WORDS result.0 }
+    ensures child { IsChild V.WORDS (width_of branch.value) (tree_of V.WORDS result.0) }
+    ensures inserted { IsInserted key value (tree_below branch.value) (tree_of V.WORDS result.0) result.1 }
+{
+    let skipped = Skipped {
+        number: branch.skip.number(),
+        count: branch.skip.len() as u8,
+        tail: 1 + branch.width,
+    };
+    split(alloc, KindOf::Branch(branch), skipped, key, value)
+}
+
+// The same for the child of a branch at a place, whose byte is given with what is left of the key.
+#[cycle(insert)]
+fn into_child<V: Words + Drop>(
+    alloc: Global,
+    branch: &mut BranchOf<V>,
+    byte: u8,
+    place: usize,
+    rest: u64,
+    value: u64,
+) -> Result<bool, AllocError>
+    requires one { V.WORDS ≤ 1 }
+    requires level { IsBranch V.WORDS branch.old.width branch.old.skip branch.old.bytes branch.old.children.items branch.old.population }
+    requires here { slice_get branch.old.bytes place ≡ Some byte }
+    requires fits { rest < 256 ^ branch.old.width }
+    requires no_value { V.WORDS ≡ 0 → value ≡ 0 }
+    requires room { has_key ((number_of branch.old.skip * 256 + byte) * 256 ^ branch.old.width + rest) (branch_tree branch.old.width branch.old.skip branch.old.bytes branch.old.children.items branch.old.population) ≡ false → branch.old.population < 2 ^ 64 - 1 }
+    ensures level { IsBranch V.WORDS branch.new.width branch.new.skip branch.new.bytes branch.new.children.items branch.new.population }
+    ensures skip { branch.new.skip ≡ branch.old.skip }
+    ensures width { branch.new.width ≡ branch.old.width }
+    ensures inserted { IsInserted ((number_of branch.old.skip * 256 + byte) * 256 ^ branch.old.width + rest) value
+        (branch_tree branch.old.width branch.old.skip branch.old.bytes branch.old.children.items branch.old.population)
+        (branch_tree branch.new.width branch.new.skip branch.new.bytes branch.new.children.items branch.new.population) result }
+{
+    match insert_in(alloc, &mut branch.children[place], branch.width, rest, value) {
+        Ok(true) => {
+            branch.population += 1;
+            Ok(true)
+        }
+        Ok(false) => Ok(false),
+        Err(refused) => Err(refused),
+    }
+}
