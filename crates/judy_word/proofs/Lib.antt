@@ -7,3 +7,4 @@ mod SeenWords
 mod HeldFacts
 mod MapFacts
 mod RemovalFacts
+mod InsertionFacts

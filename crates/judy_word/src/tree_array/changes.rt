@@ -1,19 +1,53 @@
-//! Keys taken out, and nodes made as small as their keys allow.
+//! Keys put in and taken out, and nodes made as small as their keys allow.
 
-ghost use Rattle.std.specs.Prelude.{◌≡◌, ◌≤◌, ◌||◌, true, false, OnOk, OnErr, IfOk, IsOk};
+ghost use Rattle.std.specs.Prelude.{◌≡◌, ◌≤◌, not, true, false, [], Ok, OnOk, OnErr, IfOk, IfErr, IsOk, IsFalse};
 ghost use Rattle.std.specs.FinMap as map;
 ghost use Rattle.judy_model.specs.Arrays as array;
-ghost use Rattle.judy_node.specs.Trees.{IsTight};
 ghost use Rattle.judy_change.specs.Removals.{Has33};
 ghost use Rattle.judy_word.specs.Held.{map_in, array_in};
+ghost use Rattle.judy_word.specs.Refusals.{IsRefusal};
 
+use crate::error::InsertError;
 use crate::tree_array::TreeArray;
-use judy_change::remove;
+use judy_change::{insert, remove};
 use judy_leaf::Words;
 use judy_node::NodeOf;
 use std::alloc::AllocError;
 
 impl<V: Words + Drop> TreeArray<V> {
+    // Whether a key is absent and there is no room for it.
+    fn is_full(&self, key: u64) -> bool
+        ensures { result ≡ array.is_full (array_in self.now) key }
+    {
+        self.len() == self.limit && !self.has(key)
+    }
+
+    /// Puts a key in, with the value 0 where keys have values, and answers whether it was absent; a key that is there stays as it
+    /// is, and is never refused. An array never becomes loose by it.
+    ///
+    /// `Full` where the key is absent and there are as many keys as the limit. `NoMemory` only where it is absent and the array
+    /// isn't full, and never where it is empty. Either leaves the array as it was, its nodes too.
+    pub fn set(&mut self, key: u64) -> Result<bool, InsertError>
+        requires one { V.WORDS ≤ 1 }
+        ensures answer { IfOk result (λ added. added ≡ not (map.contains_key (map_in self.old) key)) }
+        ensures set { OnOk result (array_in self.new ≡ array.with_map (array_in self.old) (array.ins (map_in self.old) key)) }
+        ensures accepted { OnOk result (IsFalse (array.is_full (array_in self.old) key)) }
+        ensures refused { IfErr result (IsRefusal (array_in self.old) key) }
+        ensures unchanged { OnErr result (self.new ≡ self.old) }
+        ensures present { IfOk result (λ added. added ≡ false → self.new ≡ self.old) }
+        ensures loose { self.new.loose ≡ self.old.loose }
+        ensures first { self.old.tree.pairs ≡ [] → IsOk result }
+    {
+        self.root.told();
+        if self.is_full(key) {
+            return Err(InsertError::Full);
+        }
+        let Ok(added) = insert(self.alloc, &mut self.root, key) else {
+            return Err(InsertError::NoMemory);
+        };
+        Ok(added)
+    }
+
     /// Takes a key out, and answers whether it was there. It can't fail. The array becomes loose only where memory for a smaller
     /// node was refused, and so only where a node on the key's way held 33 keys.
     pub fn remove(&mut self, key: u64) -> bool
