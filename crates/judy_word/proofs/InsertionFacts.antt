@@ -1,19 +1,17 @@
 -- What an array keeps where a key was put into its tree.
-use Rattle.std.proofs.Common.{◌≡◌, ◌≢◌, ℕ, ◌+◌, ◌<◌, ◌≤◌, ◌^◌, ◌==◌, Bool, true, false, not, ◌&&◌, [], length, Result, Ok, Err, None, IsTrue, IsFalse, IfOk, OnOk, OnErr, refl, sym, ap, ◌∙◌, subst, eqb-true, eq-eqb, arith}
-use Rattle.std.specs.FinMap.{FinMap, get, contains_key, insert, len}
+use Rattle.std.proofs.Common.{◌≡◌, ◌≢◌, ℕ, ◌<◌, ◌≤◌, ◌^◌, ◌==◌, Bool, true, false, not, ◌&&◌, [], ◌∷◌, length, Ok, None, refl, sym, ap, ◌∙◌, subst, eq-eqb, arith}
+use Rattle.std.specs.FinMap.{get, contains_key, empty, len, len-empty}
 use Rattle.std.proofs.lemmas.Bool.{ne_eqb}
 use Rattle.judy_model.specs.Keys.{word_order}
 use Rattle.judy_model.specs.Arrays.{ins, is_full}
 use Rattle.judy_model.proofs.ChangesLemmas.{ins_present, ins_absent}
-use Rattle.judy_bits.specs.ByteSets.{has}
-use Rattle.judy_leaf.specs.KeyLists.{keys_of}
-use Rattle.judy_node.specs.Trees.{Tree, IsNode, IsTight}
+use Rattle.judy_node.specs.Trees.{Pairs, Tree, IsNode}
 use Rattle.judy_node.proofs.SlotFacts.{value-has}
-use Rattle.judy_change.specs.Inserted.{IsAdded, IsInserted, has_key}
+use Rattle.judy_change.specs.Inserted.{IsInserted, has_key}
 use Rattle.judy_change.proofs.PairPlaces.{length-with_pair}
 use Rattle.judy_query.specs.Maps.{map_of}
 use Rattle.judy_query.proofs.Links.{len_is}
-use Rattle.judy_word.specs.Held.{Held, array_in, map_in, IsBounded}
+use Rattle.judy_word.specs.Held.{Held, array_in, IsBounded}
 use Rattle.judy_word.proofs.MapFacts.{get-value, has-key, value_in-is, map_of-with_pair}
 
 module _ (words limit key : ℕ) (old : Tree) (loose : Bool) (node : IsNode words old) (bounded : IsBounded limit old loose) where
@@ -31,13 +29,21 @@ module _ (words limit key : ℕ) (old : Tree) (loose : Bool) (node : IsNode word
   pub room-left : is_full (array_in held) key ≡ false → has_key key old ≡ false → length old.pairs < limit
   room-left free absent =
       let differs : (length old.pairs == limit) ≡ false =
-        sym (ap (λ b. not b && (length old.pairs == limit)) (contains-has ∙ absent)) ∙ ap (λ n. not (contains_key (map_of old.pairs) key) && (n == limit)) (sym len-held) ∙ free in
+      sym (ap (λ b. not b && (length old.pairs == limit)) (contains-has ∙ absent)) ∙ ap (λ n. not (contains_key (map_of old.pairs) key) && (n == limit)) (sym len-held) ∙ free in
       below (length old.pairs) differs bounded.within_limit
     where
       below : (n : ℕ) → (n == limit) ≡ false → n ≤ limit → n < limit
       below n differs within =
           let apart : n ≢ limit = λ same. let never : true ≡ false = sym (eq-eqb n limit same) ∙ differs in cc in
           omega (arith, apart, within)
+
+  -- The empty map has no pairs.
+  pub no_pairs : map_of old.pairs ≡ empty → old.pairs ≡ []
+  no_pairs none = nothing old.pairs (sym len-held ∙ ap len none ∙ len-empty word_order ℕ)
+    where
+      nothing : (pairs : Pairs) → length pairs ≡ 0 → pairs ≡ []
+      nothing [] long = refl
+      nothing (pair ∷ pairs) long = absurd (omega (arith, long))
 
   -- An empty array isn't full.
   pub empty-free : old.pairs ≡ [] → is_full (array_in held) key ≡ false

@@ -1,10 +1,7 @@
-mod Searches
-mod Ranks
-mod KeyTests
-mod Edits
 mod Sets
 mod SeenWords
 mod HeldFacts
 mod MapFacts
 mod RemovalFacts
 mod InsertionFacts
+mod ArrayFacts

@@ -1,8 +1,8 @@
 -- What a tree's pairs become by a change, as what the map that they are becomes.
-use Rattle.std.proofs.Common.{◌≡◌, ◌≢◌, ℕ, zero, suc, ◌<◌, ◌≤◌, ◌^◌, true, false, cond, List, [], ◌∷◌, length, Option, Some, None, is_some, eqb, ◌⊎◌, inl, inr, ⊎_elim, refl, sym, ap, ◌∙◌, arith}
+use Rattle.std.proofs.Common.{◌≡◌, ◌≢◌, ℕ, zero, suc, ◌<◌, ◌≤◌, true, false, cond, [], ◌∷◌, length, Some, None, is_some, eqb, ◌⊎◌, inl, inr, ⊎_elim, refl, sym, ap, ◌∙◌, arith}
 use Rattle.std.specs.Cmp.{nat_cmp_total, unsigned_tied}
 use Rattle.std.specs.List as list
-use Rattle.std.specs.FinMap.{FinMap, get, contains_key, insert, remove, find, same_map, nat_cmp-IsAntisymmetric}
+use Rattle.std.specs.FinMap.{get, contains_key, insert, remove, find, same_map, nat_cmp-IsAntisymmetric}
 use Rattle.std.proofs.lemmas.Bool.{eq-eqb, ne_eqb}
 use Rattle.std.proofs.lemmas.Bool.Decides.{eqb_tells}
 use Rattle.judy_model.specs.Keys.{word_order}
@@ -18,7 +18,7 @@ use Rattle.judy_change.proofs.PairPlaces.{map-with_pair, rank-most}
 use Rattle.judy_query.specs.Maps.{map_of}
 use Rattle.judy_query.proofs.Links.{get_is, held_is}
 
-same_or : (one other : ℕ) → (one ≡ other) ⊎ (one ≢ other)
+pub same_or : (one other : ℕ) → (one ≡ other) ⊎ (one ≢ other)
 same_or one other = ⊎_elim (λ h. inl h.1) (λ h. inr h.1) (eqb_tells one other)
 
 either_way : (one other : ℕ) → eqb one other ≡ eqb other one

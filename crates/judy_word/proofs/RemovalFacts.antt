@@ -1,15 +1,14 @@
 -- What an array keeps where a key was taken out of its tree, or a value written.
-use Rattle.std.proofs.Common.{◌≡◌, ℕ, ◌+◌, ◌≤◌, ◌^◌, Bool, true, false, not, ◌||◌, cond, [], ◌∷◌, length, Some, None, is_some, refl, sym, ap, ◌∙◌, subst, arith}
+use Rattle.std.proofs.Common.{◌≡◌, ℕ, ◌≤◌, ◌^◌, Bool, true, false, not, ◌||◌, cond, [], ◌∷◌, length, Some, None, is_some, refl, sym, ap, ◌∙◌, subst, arith}
 use Rattle.std.specs.FinMap.{contains_key, remove}
-use Rattle.judy_model.specs.Arrays.{with_map, del}
-use Rattle.judy_node.specs.Trees.{Pairs, Tree, IsNode, IsTight}
+use Rattle.judy_node.specs.Trees.{Pairs, Tree, IsNode}
 use Rattle.judy_node.specs.Slots.{with_value}
 use Rattle.judy_node.proofs.SlotFacts.{written-length}
 use Rattle.judy_change.specs.declared.removed.Removed.{Removed}
-use Rattle.judy_change.specs.Removals.{value_in, without, IsRemoved}
+use Rattle.judy_change.specs.Removals.{without, IsRemoved}
 use Rattle.judy_change.proofs.Without.{by_same}
 use Rattle.judy_query.specs.Maps.{map_of}
-use Rattle.judy_word.specs.Held.{Held, array_in, IsBounded}
+use Rattle.judy_word.specs.Held.{IsBounded}
 use Rattle.judy_word.proofs.MapFacts.{get-value, map_of-without}
 
 no_more : (key : ℕ) (pairs : Pairs) → length (without key pairs) ≤ length pairs

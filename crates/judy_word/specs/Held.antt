@@ -1,5 +1,5 @@
 -- What an array over a tree holds, and what it always keeps.
-use Rattle.std.specs.Prelude.{◌≡◌, ℕ, ◌≤◌, Bool, true, false, length}
+use Rattle.std.specs.Prelude.{◌≡◌, ℕ, ◌≤◌, Bool, false, length}
 use Rattle.std.specs.FinMap.{FinMap}
 use Rattle.judy_model.specs.Keys.{word_order}
 use Rattle.judy_model.specs.Arrays.{ArrayOf}

@@ -9,35 +9,32 @@ ghost use Rattle.judy_word.specs.Refusals.{IsRefusal};
 ghost use Rattle.judy_word.specs.Sets.{IsSet};
 
 use crate::error::InsertError;
-use crate::sorted::SortedPairs;
-use std::alloc::Global;
+use crate::tree_array::TreeArray;
+use judy_leaf::Width;
+use judy_node::{Node, Shape};
+use std::alloc::{AllocError, Global};
 use std::marker::Model;
 
 /// A set of words: each from 0 to 2^64 - 1 is a key or none. It holds at most as many keys as its limit
 /// (limit: this project's own).
 ///
 /// Contracts see it as the array whose every value is 0, and `test` and `len` say so.
-//
-// It is kept as an array of words to words is, so that both kinds have one search and one set of proofs. That
-// spends a word a key on a value that is always 0.
 #[derive(Drop)]
 pub struct Judy1 {
-    pairs: SortedPairs,
+    tree: TreeArray<Width<0>>,
 }
 
 impl Model for Judy1 {
     ghost use Rattle.std.specs.Coded.{coded_ℕ};
     ghost use Rattle.judy_model.specs.Keys.{word_order};
     ghost use Rattle.judy_model.specs.Arrays.{ArrayOf, array_code};
-    ghost use Rattle.judy_word.specs.Sets.{IsSet};
+    ghost use Rattle.judy_word.specs.Held.{array_in};
 
     ghost Value = { ArrayOf word_order };
 
     ghost coded = { array_code coded_ℕ };
 
-    ghost view = { λ a. a.pairs };
-
-    ghost invariant = { λ a. IsSet a.pairs };
+    ghost view = { λ a. array_in a.tree };
 }
 
 impl Judy1 {
@@ -49,7 +46,7 @@ impl Judy1 {
         ensures { result ≡ array.empty_array limit }
     {
         Judy1 {
-            pairs: SortedPairs::new(alloc, limit),
+            tree: TreeArray::new(alloc, limit),
         }
     }
 
@@ -58,7 +55,7 @@ impl Judy1 {
         ensures { result ≡ array.empty_array u64.MAX }
     {
         Judy1 {
-            pairs: SortedPairs::new(alloc, u64::MAX),
+            tree: TreeArray::new(alloc, u64::MAX),
         }
     }
 
@@ -74,7 +71,7 @@ impl Judy1 {
         ensures refused { IfErr result (IsRefusal self.old i) }
         ensures unchanged { OnErr result (self.new ≡ self.old) }
     {
-        self.pairs.set(i)
+        self.tree.set(i)
     }
 
     /// Takes the key `i` out, and answers whether it was there. It can't fail.
@@ -83,7 +80,7 @@ impl Judy1 {
         ensures answer { result ≡ map.contains_key self.old.map i }
         ensures unset { self.new ≡ array.with_map self.old (array.del self.old.map i) }
     {
-        self.pairs.remove(i)
+        self.tree.remove(i)
     }
 
     /// Whether the key `i` is there. (Manual: J1T, Judy1Test.)
@@ -91,7 +88,8 @@ impl Judy1 {
         ensures answer { result ≡ map.contains_key self.now.map i }
         ensures zeros { IsSet self.now }
     {
-        self.pairs.get(i).is_some()
+        self.tree.told();
+        self.tree.has(i)
     }
 
     /// How many keys the set holds from `a` to `b`, both included; 0 where `a` is above `b` (that corner is
@@ -99,7 +97,7 @@ impl Judy1 {
     pub fn count(&self, a: u64, b: u64) -> u64
         ensures { result ≡ counts.count self.now.map a b }
     {
-        self.pairs.count(a, b)
+        self.tree.count(a, b)
     }
 
     /// The `n`-th key in ascending order, counted from 1; `None` for 0, and for an `n` above the number of
@@ -107,7 +105,7 @@ impl Judy1 {
     pub fn by_count(&self, n: u64) -> Option<u64>
         ensures { result ≡ counts.by_count self.now.map n }
     {
-        self.pairs.by_count(n)
+        self.tree.by_count(n)
     }
 
     /// The least key from `i` on: `i` itself where it is there. `None` where no key is left.
@@ -115,7 +113,7 @@ impl Judy1 {
     pub fn first(&self, i: u64) -> Option<u64>
         ensures { result ≡ neighbours.first self.now.map i }
     {
-        self.pairs.first(i)
+        self.tree.first(i)
     }
 
     /// The least key above `i`; `None` where no key is above it, so always above the word 2^64 - 1.
@@ -123,7 +121,7 @@ impl Judy1 {
     pub fn next(&self, i: u64) -> Option<u64>
         ensures { result ≡ neighbours.next self.now.map i }
     {
-        self.pairs.next(i)
+        self.tree.next(i)
     }
 
     /// The greatest key up to `i`: `i` itself where it is there. `None` where each key is above it.
@@ -131,7 +129,7 @@ impl Judy1 {
     pub fn last(&self, i: u64) -> Option<u64>
         ensures { result ≡ neighbours.last self.now.map i }
     {
-        self.pairs.last(i)
+        self.tree.last(i)
     }
 
     /// The greatest key below `i`; `None` where no key is below it, so always below 0.
@@ -139,7 +137,7 @@ impl Judy1 {
     pub fn prev(&self, i: u64) -> Option<u64>
         ensures { result ≡ neighbours.prev self.now.map i }
     {
-        self.pairs.prev(i)
+        self.tree.prev(i)
     }
 
     /// The least word from `i` on that is no key: `i` itself where it is absent. `None` where each word from
@@ -147,7 +145,7 @@ impl Judy1 {
     pub fn first_empty(&self, i: u64) -> Option<u64>
         ensures { result ≡ empties.first_empty self.now.map i }
     {
-        self.pairs.first_empty(i)
+        self.tree.first_empty(i)
     }
 
     /// The least word above `i` that is no key; `None` where each word above it is a key, so always above
@@ -155,7 +153,7 @@ impl Judy1 {
     pub fn next_empty(&self, i: u64) -> Option<u64>
         ensures { result ≡ empties.next_empty self.now.map i }
     {
-        self.pairs.next_empty(i)
+        self.tree.next_empty(i)
     }
 
     /// The greatest word up to `i` that is no key: `i` itself where it is absent. `None` where each word from
@@ -163,7 +161,7 @@ impl Judy1 {
     pub fn last_empty(&self, i: u64) -> Option<u64>
         ensures { result ≡ empties.last_empty self.now.map i }
     {
-        self.pairs.last_empty(i)
+        self.tree.last_empty(i)
     }
 
     /// The greatest word below `i` that is no key; `None` where each word below it is a key, so always below
@@ -171,7 +169,7 @@ impl Judy1 {
     pub fn prev_empty(&self, i: u64) -> Option<u64>
         ensures { result ≡ empties.prev_empty self.now.map i }
     {
-        self.pairs.prev_empty(i)
+        self.tree.prev_empty(i)
     }
 
     /// How many keys the set holds: at most its limit. (Manual: J1C, Judy1Count, over all keys.)
@@ -180,14 +178,15 @@ impl Judy1 {
         ensures within { result ≤ self.now.limit }
         ensures zeros { IsSet self.now }
     {
-        self.pairs.len()
+        self.tree.told();
+        self.tree.len()
     }
 
     /// Whether the set holds no key.
     pub fn is_empty(&self) -> bool
         ensures { IsTrue result ↔ (self.now.map ≡ map.empty) }
     {
-        self.pairs.is_empty()
+        self.tree.is_empty()
     }
 
     /// How many keys the set may hold: at least 1 (limit: this project's own).
@@ -195,7 +194,7 @@ impl Judy1 {
         ensures value { result ≡ self.now.limit }
         ensures some { 1 ≤ result }
     {
-        self.pairs.limit()
+        self.tree.limit()
     }
 
     /// Takes every key out, gives their memory back, and answers how many they were. The set keeps its
@@ -204,7 +203,7 @@ impl Judy1 {
         ensures freed { result ≡ map.len self.old.map }
         ensures emptied { self.new ≡ array.empty_array self.old.limit }
     {
-        self.pairs.clear()
+        self.tree.free_array()
     }
 
     /// A law of every set that a program holds: its limit and keys are words, and it holds at most as many
@@ -212,6 +211,7 @@ impl Judy1 {
     pub fn is_array(&self)
         ensures { array.IsArray (array.judy1 self.now) }
     {
-        self.pairs.are_an_array();
+        self.tree.told();
+        self.tree.is_array();
     }
 }

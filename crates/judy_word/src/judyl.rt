@@ -12,15 +12,17 @@ ghost use Rattle.judy_word.specs.Refusals.{IsRefusal};
 ghost use Rattle.judy_word.specs.Slots.{LendsSlot, LendsIns};
 
 use crate::error::InsertError;
-use crate::sorted::SortedPairs;
-use std::alloc::Global;
+use crate::tree_array::TreeArray;
+use judy_leaf::Width;
+use judy_node::{Node, Shape};
+use std::alloc::{AllocError, Global};
 use std::marker::Model;
 
 /// An array that maps words to words: each key from 0 to 2^64 - 1 has at most one value, a word too.
 /// It holds at most as many keys as its limit (limit: this project's own).
 #[derive(Drop)]
 pub struct JudyL {
-    pairs: SortedPairs,
+    tree: TreeArray<Width<1>>,
 }
 
 impl Model for JudyL {
@@ -32,7 +34,9 @@ impl Model for JudyL {
 
     ghost coded = { array_code coded_ℕ };
 
-    ghost view = { λ a. a.pairs };
+    ghost use Rattle.judy_word.specs.Held.{array_in};
+
+    ghost view = { λ a. array_in a.tree };
 }
 
 impl JudyL {
@@ -44,7 +48,7 @@ impl JudyL {
         ensures { result ≡ array.empty_array limit }
     {
         JudyL {
-            pairs: SortedPairs::new(alloc, limit),
+            tree: TreeArray::new(alloc, limit),
         }
     }
 
@@ -53,7 +57,7 @@ impl JudyL {
         ensures { result ≡ array.empty_array u64.MAX }
     {
         JudyL {
-            pairs: SortedPairs::new(alloc, u64::MAX),
+            tree: TreeArray::new(alloc, u64::MAX),
         }
     }
 
@@ -69,14 +73,16 @@ impl JudyL {
         ensures accepted { OnOk result (IsFalse (array.is_full self.old i)) }
         ensures refused { IfErr result (IsRefusal self.old i) }
     {
-        self.pairs.ins(i)
+        self.tree.set(i)?;
+        self.tree.told();
+        Ok(self.tree.slot_of(i))
     }
 
     /// The value of the key `i`, and `None` where it is absent. (Manual: JLG, JudyLGet.)
     pub fn get(&self, i: u64) -> Option<u64>
         ensures { result ≡ map.get self.now.map i }
     {
-        self.pairs.get(i)
+        self.tree.get(i)
     }
 
     /// The slot of the key `i`, and `None` where it is absent. What the caller leaves in the slot is then the
@@ -85,7 +91,8 @@ impl JudyL {
         ensures* writes_back { sem 𝓛 (LendsSlot self.entry i result) }
         ensures value { option_copied_mut result ≡ map.get self.old.map i }
     {
-        self.pairs.slot(i)
+        self.tree.told();
+        self.tree.slot(i)
     }
 
     /// Takes the key `i` out, and answers whether it was there. It can't fail. (Manual: JLD, JudyLDel.)
@@ -93,7 +100,7 @@ impl JudyL {
         ensures answer { result ≡ map.contains_key self.old.map i }
         ensures deleted { self.new ≡ array.with_map self.old (array.del self.old.map i) }
     {
-        self.pairs.remove(i)
+        self.tree.remove(i)
     }
 
     /// How many keys the array holds from `a` to `b`, both included; 0 where `a` is above `b` (that corner is
@@ -101,7 +108,7 @@ impl JudyL {
     pub fn count(&self, a: u64, b: u64) -> u64
         ensures { result ≡ counts.count self.now.map a b }
     {
-        self.pairs.count(a, b)
+        self.tree.count(a, b)
     }
 
     /// The `n`-th key in ascending order, counted from 1; `None` for 0, and for an `n` above the number of
@@ -109,7 +116,7 @@ impl JudyL {
     pub fn by_count(&self, n: u64) -> Option<u64>
         ensures { result ≡ counts.by_count self.now.map n }
     {
-        self.pairs.by_count(n)
+        self.tree.by_count(n)
     }
 
     /// The least key from `i` on: `i` itself where it is there. `None` where no key is left.
@@ -117,7 +124,7 @@ impl JudyL {
     pub fn first(&self, i: u64) -> Option<u64>
         ensures { result ≡ neighbours.first self.now.map i }
     {
-        self.pairs.first(i)
+        self.tree.first(i)
     }
 
     /// The least key above `i`; `None` where no key is above it, so always above the word 2^64 - 1.
@@ -125,7 +132,7 @@ impl JudyL {
     pub fn next(&self, i: u64) -> Option<u64>
         ensures { result ≡ neighbours.next self.now.map i }
     {
-        self.pairs.next(i)
+        self.tree.next(i)
     }
 
     /// The greatest key up to `i`: `i` itself where it is there. `None` where each key is above it.
@@ -133,7 +140,7 @@ impl JudyL {
     pub fn last(&self, i: u64) -> Option<u64>
         ensures { result ≡ neighbours.last self.now.map i }
     {
-        self.pairs.last(i)
+        self.tree.last(i)
     }
 
     /// The greatest key below `i`; `None` where no key is below it, so always below 0.
@@ -141,7 +148,7 @@ impl JudyL {
     pub fn prev(&self, i: u64) -> Option<u64>
         ensures { result ≡ neighbours.prev self.now.map i }
     {
-        self.pairs.prev(i)
+        self.tree.prev(i)
     }
 
     /// The least word from `i` on that is no key: `i` itself where it is absent. `None` where each word from
@@ -149,7 +156,7 @@ impl JudyL {
     pub fn first_empty(&self, i: u64) -> Option<u64>
         ensures { result ≡ empties.first_empty self.now.map i }
     {
-        self.pairs.first_empty(i)
+        self.tree.first_empty(i)
     }
 
     /// The least word above `i` that is no key; `None` where each word above it is a key, so always above
@@ -157,7 +164,7 @@ impl JudyL {
     pub fn next_empty(&self, i: u64) -> Option<u64>
         ensures { result ≡ empties.next_empty self.now.map i }
     {
-        self.pairs.next_empty(i)
+        self.tree.next_empty(i)
     }
 
     /// The greatest word up to `i` that is no key: `i` itself where it is absent. `None` where each word from
@@ -165,7 +172,7 @@ impl JudyL {
     pub fn last_empty(&self, i: u64) -> Option<u64>
         ensures { result ≡ empties.last_empty self.now.map i }
     {
-        self.pairs.last_empty(i)
+        self.tree.last_empty(i)
     }
 
     /// The greatest word below `i` that is no key; `None` where each word below it is a key, so always below
@@ -173,7 +180,7 @@ impl JudyL {
     pub fn prev_empty(&self, i: u64) -> Option<u64>
         ensures { result ≡ empties.prev_empty self.now.map i }
     {
-        self.pairs.prev_empty(i)
+        self.tree.prev_empty(i)
     }
 
     /// How many keys the array holds: at most its limit. (Manual: JLC, JudyLCount, over all keys.)
@@ -181,14 +188,14 @@ impl JudyL {
         ensures count { result ≡ map.len self.now.map }
         ensures within { result ≤ self.now.limit }
     {
-        self.pairs.len()
+        self.tree.len()
     }
 
     /// Whether the array holds no key.
     pub fn is_empty(&self) -> bool
         ensures { IsTrue result ↔ (self.now.map ≡ map.empty) }
     {
-        self.pairs.is_empty()
+        self.tree.is_empty()
     }
 
     /// How many keys the array may hold: at least 1 (limit: this project's own).
@@ -196,7 +203,7 @@ impl JudyL {
         ensures value { result ≡ self.now.limit }
         ensures some { 1 ≤ result }
     {
-        self.pairs.limit()
+        self.tree.limit()
     }
 
     /// Takes every key out, gives their memory back, and answers how many they were. The array keeps its
@@ -205,7 +212,7 @@ impl JudyL {
         ensures freed { result ≡ map.len self.old.map }
         ensures emptied { self.new ≡ array.empty_array self.old.limit }
     {
-        self.pairs.clear()
+        self.tree.free_array()
     }
 
     /// A law of every array that a program holds, whatever was left in its slots: its limit, keys and values
@@ -214,6 +221,6 @@ impl JudyL {
     pub fn is_array(&self)
         ensures { array.IsArray (array.judyl self.now) }
     {
-        self.pairs.are_an_array();
+        self.tree.is_array();
     }
 }

@@ -4,26 +4,19 @@
 // its contracts cite: both are the model's array, a limit and a finite map from words to words, and in a
 // `Judy1` each value is 0. The kinds over byte strings and the script layer stand on this crate.
 //
-// What lies below the two public types, one sorted vector of pairs, shows in no contract. Each public call hands
-// on to a method of `SortedPairs`: sorted.rt has the vector, the search in it and its changes, and on these
-// stand counts.rt, neighbours.rt, empties.rt and kept.rt. The proof of `SortedPairs::first` is in
-// proofs/sorted/SortedPairs/first, and so of each method, whichever of these files has it; a public call
-// that has no folder in proofs/ needs none.
+// What lies below both is a `TreeArray`, which is a limit, a tree of judy_node and whether that may be loose, and whose contracts say
+// what becomes of the nodes too: each public call hands on to one of its calls. tree_array.rt has it, and in the folder of that name
+// stand what is asked of a key (counts.rt), neighbours and empties, changes and slots, each over judy_query or judy_change.
 #![tactic(auto)]
 
-mod counts;
-mod empties;
 mod error;
 mod judy1;
 mod judyl;
-mod kept;
-mod neighbours;
-mod places;
-mod sorted;
 #[cfg(test)]
 mod tests;
-pub mod tree_array;
+mod tree_array;
 
 pub use error::InsertError;
 pub use judy1::Judy1;
 pub use judyl::JudyL;
+pub use tree_array::TreeArray;

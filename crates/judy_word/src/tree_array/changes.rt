@@ -1,6 +1,6 @@
 //! Keys put in and taken out, and nodes made as small as their keys allow.
 
-ghost use Rattle.std.specs.Prelude.{◌≡◌, ◌≤◌, not, true, false, [], Ok, OnOk, OnErr, IfOk, IfErr, IsOk, IsFalse};
+ghost use Rattle.std.specs.Prelude.{◌≡◌, ◌≤◌, not, true, false, OnOk, OnErr, IfOk, IfErr, IsOk, IsFalse};
 ghost use Rattle.std.specs.FinMap as map;
 ghost use Rattle.judy_model.specs.Arrays as array;
 ghost use Rattle.judy_change.specs.Removals.{Has33};
@@ -36,7 +36,7 @@ impl<V: Words + Drop> TreeArray<V> {
         ensures unchanged { OnErr result (self.new ≡ self.old) }
         ensures present { IfOk result (λ added. added ≡ false → self.new ≡ self.old) }
         ensures loose { self.new.loose ≡ self.old.loose }
-        ensures first { self.old.tree.pairs ≡ [] → IsOk result }
+        ensures first { map_in self.old ≡ map.empty → IsOk result }
     {
         self.root.told();
         if self.is_full(key) {

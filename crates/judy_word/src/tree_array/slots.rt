@@ -1,6 +1,6 @@
 //! Slots: where a value is read and written.
 
-ghost use Rattle.std.specs.Prelude.{◌≡◌};
+ghost use Rattle.std.specs.Prelude.{◌≡◌, Some, IsTrue};
 ghost use Rattle.std.specs.FinMap as map;
 ghost use Rattle.std.specs.Option.{option_copied_mut};
 ghost use Rattle.judy_word.specs.Held.{map_in};
@@ -9,7 +9,7 @@ use crate::tree_array::TreeArray;
 use judy_leaf::Words;
 
 impl<V: Words + Drop> TreeArray<V> {
-    ghost use Rattle.std.specs.Borrow.{sem, LendsIf, u64 as word};
+    ghost use Rattle.std.specs.Borrow.{sem, Lends, LendsIf, u64 as word};
     ghost use Rattle.judy_word.specs.Held.{with_value};
     ghost use Rattle.judy_word.specs.contracts.tree_array.TreeArray.{the_row};
 
@@ -22,5 +22,18 @@ impl<V: Words + Drop> TreeArray<V> {
     {
         self.root.told();
         self.root.slot(key)
+    }
+
+    // Lends the value of a key that is there.
+    pub(crate) fn slot_of(&mut self, key: u64) -> &mut u64
+        requires words { V.WORDS ≡ 1 }
+        requires present { IsTrue (map.contains_key (map_in self.old) key) }
+        ensures* changes { sem 𝓛 (Lends (the_row V.row V.Words) word self.entry result (with_value self.entry.now key)) }
+        ensures value { Some result.now ≡ map.get (map_in self.old) key }
+    {
+        match self.slot(key) {
+            Some(slot) => slot,
+            None => unreachable!(),
+        }
     }
 }

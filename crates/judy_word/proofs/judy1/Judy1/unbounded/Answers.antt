@@ -1,7 +1,7 @@
-use Rattle.std.proofs.Common.{sym, subst}
-use Rattle.judy_word.specs.Sets.{IsSet}
-use Rattle.judy_word.proofs.Sets.{IsSet-empty}
+use Rattle.std.proofs.Common.{ap, ◌∙◌}
+use Rattle.judy_word.specs.Held.{array_in}
+use Rattle.judy_word.proofs.ArrayFacts.{nothing-empty}
 use Rattle.judy_word.proofs.judy1.Judy1.unbounded.Goals as goal
 
-pub invariant_of-result : goal.invariant_of-result
-invariant_of-result c = subst IsSet (sym c.new.ensures) (IsSet-empty 18446744073709551615)
+pub returns : goal.returns
+returns c = ap array_in c.new.ensures ∙ nothing-empty 18446744073709551615

@@ -1,4 +1,4 @@
-use Rattle.std.proofs.Common.{sym, ◌∙◌, ap, ◌^◌}
+use Rattle.std.proofs.Common.{sym, ◌∙◌, ◌^◌}
 use Rattle.judy_model.proofs.FollowingLemmas.{rank-following}
 use Rattle.judy_query.proofs.Links.{len_is}
 use Rattle.judy_word.proofs.HeldFacts.{count_up_to_most}

@@ -1,5 +1,4 @@
-use Rattle.std.proofs.Common.{sym, ◌∙◌, ap}
-use Rattle.judy_model.specs.Neighbours.{next}
+use Rattle.std.proofs.Common.{sym, ◌∙◌}
 use Rattle.judy_model.proofs.FollowingLemmas.{next-first}
 use Rattle.judy_word.proofs.HeldFacts.{next_most}
 use Rattle.judy_word.proofs.tree_array.TreeArray.next.Goals as goal

@@ -1,4 +1,4 @@
-use Rattle.std.proofs.Common.{sym, ◌∙◌, ap, arith}
+use Rattle.std.proofs.Common.{sym, ◌∙◌, arith}
 use Rattle.judy_model.proofs.FollowingLemmas.{prev-zero}
 use Rattle.judy_word.proofs.HeldFacts.{prev_less}
 use Rattle.judy_word.proofs.tree_array.TreeArray.prev.Goals as goal

@@ -1,6 +1,5 @@
 use Rattle.std.proofs.Common.{ap}
 use Rattle.judy_model.specs.Keys.{word_order}
-use Rattle.judy_model.specs.Arrays.{ArrayOf}
 use Rattle.std.proofs.Common.{ℕ}
 use Rattle.std.specs.FinMap.{FinMap}
 use Rattle.judy_word.proofs.RemovalFacts.{bounded-removed, was-held, map-removed}

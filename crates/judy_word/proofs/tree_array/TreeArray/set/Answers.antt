@@ -1,15 +1,21 @@
-use Rattle.std.proofs.Common.{ℕ, ◌<◌, ◌^◌, ◌≡◌, true, false, ap, sym, ◌∙◌, arith}
+use Rattle.std.proofs.Common.{ℕ, ◌<◌, ◌^◌, ap, sym, ◌∙◌, arith}
 use Rattle.std.specs.FinMap.{FinMap}
 use Rattle.judy_model.specs.Keys.{word_order}
-use Rattle.judy_word.proofs.InsertionFacts.{room-left, empty-free, bounded-inserted, added-is, map-inserted, get-absent}
+use Rattle.judy_word.proofs.InsertionFacts.{room-left, no_pairs, empty-free, bounded-inserted, added-is, map-inserted, get-absent}
 use Rattle.judy_word.proofs.tree_array.TreeArray.set.Goals as goal
 
 pub returns-then-is_full-clause-first : goal.returns-then-is_full-clause-first
 returns-then-is_full-clause-first g c =
     rw (← c.self.view_is) (λ none.
-      let full = sym c.is_full.ensures ∙ c.if-is_full.true in
-      let taken = rw (← c.self.view_is) at full in
-      sym (empty-free g.V.Words.WORDS _ c.args.key _ _ c.told.ensures c.self.invariant none) ∙ taken)
+    let full = sym c.is_full.ensures ∙ c.if-is_full.true in
+    let taken = rw (← c.self.view_is) at full in
+    sym (empty-free g.V.Words.WORDS _ c.args.key _ _ c.told.ensures c.self.invariant (no_pairs g.V.Words.WORDS _ c.args.key _ _ c.told.ensures c.self.invariant none)) ∙ taken)
+
+pub returns-in_default-clause-first : goal.returns-in_default-clause-first
+returns-in_default-clause-first g c =
+    rw (← c.self.view_is) (λ none.
+    let told = c.in_default.ensures.first (no_pairs g.V.Words.WORDS _ c.args.key _ _ c.told.ensures c.self.invariant none) in
+    cc)
 
 pub insert-requires-clause-room : goal.insert-requires-clause-room
 insert-requires-clause-room g c = λ absent.

@@ -1,0 +1,46 @@
+-- Arrays over a tree as arrays of the model: the empty one, and one with a value written through a slot.
+use Rattle.std.proofs.Common.{◌≡◌, ℕ, ◌^◌, true, Option, Some, None, is_some, MutBor, refl, sym, ap, ◌∙◌}
+use Rattle.std.specs.Cmp.{nat_cmp_total}
+use Rattle.std.specs.Option.{option_copied_mut, ghost_name_of}
+use Rattle.std.specs.FinMap.{FinMap, get, contains_key, nat_cmp-IsAntisymmetric}
+use borrow.Follows.Closed.{read_of}
+use Rattle.judy_model.specs.Keys.{word_order}
+use Rattle.judy_model.specs.Arrays.{ArrayOf, empty_array, with_map, ins}
+use Rattle.judy_model.proofs.SortedMaps.{from_sorted-nil}
+use Rattle.judy_model.proofs.ChangesLemmas.{write-ins, get-ins_same}
+use Rattle.judy_word.specs.Held.{Held, map_in, array_in, nothing_held, IsHeld}
+use Rattle.judy_word.specs.Held as held
+use Rattle.judy_word.specs.Writes.{with_value}
+use Rattle.judy_word.proofs.MapFacts.{get-value, map_of-written}
+
+-- No tree is the empty array.
+pub nothing-empty : (limit : ℕ) → array_in (nothing_held limit) ≡ empty_array limit
+nothing-empty limit = ap (λ (map : FinMap word_order ℕ). record { limit = limit; map = map }) (from_sorted-nil word_order)
+
+module _ (array : Held) (is : IsHeld 1 array) (key : ℕ) (present : is_some (get (map_in array) key) ≡ true) where
+  -- A value that is written in the tree is written in the array.
+  pub array-written : (value : ℕ) → array_in (held.with_value array key value) ≡ with_value (array_in array) key value
+  array-written value =
+      ap (λ (map : FinMap word_order ℕ). record { limit = array.limit; map = map })
+      (map_of-written 1 (256 ^ 8) key value array.tree.pairs refl is.node.map (ap is_some (sym (get-value 1 (256 ^ 8) array.tree.pairs is.node.map key)) ∙ present))
+
+-- Where the key was put in before.
+module _ (old new : Held) (is : IsHeld 1 new) (key : ℕ) (inserted : array_in new ≡ with_map (array_in old) (ins (map_in old) key)) where
+  pub inserted-value : get (map_in new) key ≡ get (ins (map_in old) key) key
+  inserted-value = ap (λ (array : ArrayOf word_order). get array.map key) inserted
+
+  -- It is there.
+  pub inserted-there : contains_key (map_in new) key ≡ true
+  inserted-there = ap is_some (inserted-value ∙ get-ins_same nat_cmp_total (map_in old) key)
+
+  -- The value that is written then is that of the insert.
+  pub inserted-written : (value : ℕ) → array_in (held.with_value new key value) ≡ with_value (array_in old) key value
+  inserted-written value =
+      array-written new is key inserted-there value
+      ∙ ap (λ (array : ArrayOf word_order). with_value array key value) inserted
+      ∙ ap (λ (map : FinMap word_order ℕ). record { limit = old.limit; map = map }) (write-ins nat_cmp_total (map_in old) key nat_cmp-IsAntisymmetric value)
+
+-- Two loans that may be none are equal where they end alike for each value that may be left.
+pub lent_if : {D : Type 0} (result : Option (MutBor ℕ)) (first second : ℕ → D) (none : D) → ((before : ℕ) → option_copied_mut result ≡ Some before → (left : ℕ) → first left ≡ second left) → read_of (ghost_name_of result) first none ≡ read_of (ghost_name_of result) second none
+lent_if None first second none same = refl
+lent_if (Some slot) first second none same = λ t. read_of (ghost_name_of (Some slot)) (λ left. same slot.now refl left t) none

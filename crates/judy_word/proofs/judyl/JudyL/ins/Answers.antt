@@ -1,0 +1,19 @@
+use Rattle.std.proofs.Common.{◌∙◌}
+use Rattle.judy_model.proofs.Lent.{lent}
+use Rattle.judy_word.proofs.ArrayFacts.{inserted-value, inserted-there, inserted-written}
+use Rattle.judy_word.proofs.judyl.JudyL.ins.Goals as goal
+
+pub slot_of-requires-clause-present : goal.slot_of-requires-clause-present
+slot_of-requires-clause-present c = inserted-there c.self.inside.tree c.set.new.self c.told.ensures c.args.i c.in_ok-set.ensures.set
+
+pub returns : goal.returns
+returns c =
+    rw (← c.self.view_is) (
+      lent (inserted-written c.self.inside.tree c.set.new.self c.told.ensures c.args.i c.in_ok-set.ensures.set),
+      record {
+        writes_back = tt;
+        value = c.slot_of.ensures.value ∙ inserted-value c.self.inside.tree c.set.new.self c.told.ensures c.args.i c.in_ok-set.ensures.set;
+        accepted = c.in_ok-set.ensures.accepted;
+        refused = tt;
+      },
+    )

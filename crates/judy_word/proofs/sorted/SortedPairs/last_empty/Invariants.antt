@@ -1,6 +1,0 @@
-use Rattle.std.proofs.Common.{◌<◌, ◌^◌}
-use Rattle.judy_model.proofs.FullRunLemmas.{IsRunDown}
-use Rattle.judy_word.proofs.sorted.SortedPairs.last_empty.Given as goal
-
-abbrev pub invariant-loop-place : goal.invariant-loop-place
-invariant-loop-place l = record { run : IsRunDown l.self.map l.from l.word l.place; small : l.word < 2 ^ 64 }
