@@ -5,3 +5,4 @@ mod MapFacts
 mod RemovalFacts
 mod InsertionFacts
 mod ArrayFacts
+mod EntryFacts

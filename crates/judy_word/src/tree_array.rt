@@ -14,6 +14,7 @@ use std::marker::Model;
 mod changes;
 mod counts;
 mod empties;
+mod entries;
 mod kept;
 mod neighbours;
 mod slots;

@@ -1,0 +1,71 @@
+//! The nearest keys and the n-th with their values, each in one way down the tree.
+
+ghost use Rattle.std.specs.Prelude.{◌≡◌, Some, IfSome};
+ghost use Rattle.std.specs.FinMap as map;
+ghost use Rattle.std.specs.Option.{option_map};
+ghost use Rattle.judy_model.specs.Counts as counts;
+ghost use Rattle.judy_model.specs.Neighbours as neighbours;
+ghost use Rattle.judy_word.specs.Held.{map_in};
+
+use crate::tree_array::TreeArray;
+use judy_bits::Meter;
+use judy_leaf::Words;
+use judy_query::{entry_at_or_after, entry_at_or_before, entry_nth};
+
+impl<V: Words + Drop> TreeArray<V> {
+    /// The least key that isn't below a word, with its value, 0 where keys have no value.
+    pub fn first_entry(&self, from: u64) -> Option<(u64, u64)>
+        ensures key { option_map (λ entry. entry.0) result ≡ neighbours.first (map_in self.now) from }
+        ensures value { IfSome result (λ entry. map.get (map_in self.now) entry.0 ≡ Some entry.1) }
+    {
+        self.root.told();
+        entry_at_or_after(&self.root, from, &mut Meter::new())
+    }
+
+    /// The least key above it, with its value.
+    pub fn next_entry(&self, from: u64) -> Option<(u64, u64)>
+        ensures key { option_map (λ entry. entry.0) result ≡ neighbours.next (map_in self.now) from }
+        ensures value { IfSome result (λ entry. map.get (map_in self.now) entry.0 ≡ Some entry.1) }
+    {
+        self.told();
+        if from == u64::MAX {
+            None
+        } else {
+            self.first_entry(from + 1)
+        }
+    }
+
+    /// The greatest key that isn't above it, with its value.
+    pub fn last_entry(&self, from: u64) -> Option<(u64, u64)>
+        ensures key { option_map (λ entry. entry.0) result ≡ neighbours.last (map_in self.now) from }
+        ensures value { IfSome result (λ entry. map.get (map_in self.now) entry.0 ≡ Some entry.1) }
+    {
+        self.root.told();
+        entry_at_or_before(&self.root, from, &mut Meter::new())
+    }
+
+    /// The greatest key below it, with its value.
+    pub fn prev_entry(&self, from: u64) -> Option<(u64, u64)>
+        ensures key { option_map (λ entry. entry.0) result ≡ neighbours.prev (map_in self.now) from }
+        ensures value { IfSome result (λ entry. map.get (map_in self.now) entry.0 ≡ Some entry.1) }
+    {
+        if from == 0 {
+            None
+        } else {
+            self.last_entry(from - 1)
+        }
+    }
+
+    /// The n-th key by ascending order, counted from 1, with its value; `None` for 0, and above the number of keys.
+    pub fn by_count_entry(&self, n: u64) -> Option<(u64, u64)>
+        ensures key { option_map (λ entry. entry.0) result ≡ counts.by_count (map_in self.now) n }
+        ensures value { IfSome result (λ entry. map.get (map_in self.now) entry.0 ≡ Some entry.1) }
+    {
+        self.root.told();
+        if n == 0 {
+            None
+        } else {
+            entry_nth(&self.root, n - 1, &mut Meter::new())
+        }
+    }
+}
