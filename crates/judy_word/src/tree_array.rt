@@ -21,7 +21,6 @@ mod slots;
 
 /// An array of words over a tree, with `V` words of value a key: a set or a map. It holds at most as many keys as its limit. To its
 /// callers it is that limit, its tree with all nodes, and whether the tree may have a node that is larger than its keys need.
-#[derive(Drop)]
 pub struct TreeArray<V: Words + Drop> {
     limit: u64,
     root: NodeOf<V>,
@@ -37,6 +36,18 @@ impl<V: Words + Drop> Model for TreeArray<V> {
     ghost view = { λ a. record { limit = a.limit; tree = a.root; loose = a.loose } };
 
     ghost invariant = { λ a. IsBounded a.limit a.root a.loose };
+}
+
+// Written out, so that whoever lets an array go makes one call, whatever its root is.
+impl<V: Words + Drop> Drop for TreeArray<V> {
+    fn drop(self) {
+        let TreeArray {
+            limit: _,
+            root: _root,
+            loose: _,
+            alloc: _,
+        } = self;
+    }
 }
 
 impl<V: Words + Drop> TreeArray<V> {
