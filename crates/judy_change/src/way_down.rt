@@ -179,7 +179,13 @@ fn into_child<V: Words + Drop>(
         (branch_tree branch.old.width branch.old.skip branch.old.bytes branch.old.children.items branch.old.population)
         (branch_tree branch.new.width branch.new.skip branch.new.bytes branch.new.children.items branch.new.population) result }
 {
-    match insert_in(alloc, &mut branch.children[place], branch.width, rest, value) {
+    match insert_in(
+        alloc,
+        &mut branch.children[place],
+        branch.width,
+        rest,
+        value,
+    ) {
         Ok(true) => {
             branch.population += 1;
             Ok(true)
