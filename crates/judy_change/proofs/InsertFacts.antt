@@ -1,5 +1,5 @@
 -- Keys that a node hasn't, on the way down of an insert.
-use Rattle.std.proofs.Common.{◌≡◌, ◌≢◌, ℕ, ◌+◌, ◌*◌, ◌/◌, ◌%◌, ◌^◌, ◌<◌, ◌≤◌, Bool, true, false, Some, None, Option, cond, eqb, [], ◌∷◌, ◌||◌, sym, refl, ap, ◌∙◌, subst, ◌⊎◌, ⊎_elim, arith}
+use Rattle.std.proofs.Common.{◌≡◌, ◌≢◌, ℕ, ◌+◌, ◌*◌, ◌/◌, ◌^◌, ◌<◌, ◌≤◌, Bool, true, false, Some, None, cond, eqb, [], ◌∷◌, ◌||◌, sym, refl, ap, ◌∙◌, subst, ◌⊎◌, ⊎_elim, arith}
 use Rattle.std.proofs.Math.Nat.{add-mul, mul_assoc, mul_comm, div-mul-le_self}
 use Rattle.std.proofs.lemmas.Bool.{cases_order}
 use Rattle.std.proofs.lemmas.Nat.{div-add-mod', mod_below, mul-le}
@@ -7,7 +7,7 @@ use Rattle.judy_model.specs.WordBytes.{number_of}
 use Rattle.judy_model.proofs.ByteLemmas.{unit_pos}
 use Rattle.judy_bits.specs.ByteSets.{has}
 use Rattle.judy_block.specs.Contents.{Contents}
-use Rattle.judy_leaf.specs.KeyLists.{keys_of, shift}
+use Rattle.judy_leaf.specs.KeyLists.{keys_of}
 use Rattle.judy_leaf.specs.BitLeaves.{bit_list}
 use Rattle.judy_node.specs.Trees.{Pairs, IsChild}
 use Rattle.judy_node.specs.Kinds.{bit_tree}
@@ -59,14 +59,14 @@ module _ {V : _} (words key : ℕ) (old : BranchOf V) (whole : IsWhole words old
       let other = add-mul number 1 unit in
       omega arith
 
-  pub below_apart : IsStep (256 ^ old.width) (number * 256) old.bytes key Below → key / unit ≢ number
+  below_apart : IsStep (256 ^ old.width) (number * 256) old.bytes key Below → key / unit ≢ number
   below_apart is same =
       let least = div-mul-le_self key unit in
       let start : number * 256 * 256 ^ old.width ≡ key / unit * unit = whole_unit number old.width ∙ ap (λ n. n * unit) (sym same) in
       let never : ⊥ = omega arith in
       never
 
-  pub above_apart : IsStep (256 ^ old.width) (number * 256) old.bytes key Above → key / unit ≢ number
+  above_apart : IsStep (256 ^ old.width) (number * 256) old.bytes key Above → key / unit ≢ number
   above_apart is same =
       let split = div-add-mod' key unit in
       let rest = mod_below key unit (unit_pos (1 + old.width)) in
@@ -74,6 +74,12 @@ module _ {V : _} (words key : ℕ) (old : BranchOf V) (whole : IsWhole words old
       let spread = add-mul (key / unit) 1 unit in
       let never : ⊥ = omega arith in
       never
+
+  pub past_apart : (step : Step) → IsStep (256 ^ old.width) (number * 256) old.bytes key step → (step ≡ Below) ⊎ (step ≡ Above) → key / unit ≢ number
+  past_apart step is past = ⊎_elim
+      (λ (below : step ≡ Below). below_apart (subst (IsStep (256 ^ old.width) (number * 256) old.bytes key) below is))
+      (λ (above : step ≡ Above). above_apart (subst (IsStep (256 ^ old.width) (number * 256) old.bytes key) above is))
+      past
 
   none_at : (step : Step) → IsStep (256 ^ old.width) (number * 256) old.bytes key step → ((byte place rest : ℕ) → step ≡ Child byte place rest → ⊥) → has_key key (tree_below old) ≡ false
   none_at step is other = none_has (tree_below old).pairs key (step-absent words key old step whole is other)

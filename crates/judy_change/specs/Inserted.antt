@@ -1,5 +1,5 @@
 -- A pair put into a tree.
-use Rattle.std.specs.Prelude.{◌≡◌, ◌≢◌, ℕ, ◌+◌, ◌/◌, ◌^◌, Bool, true, false, IsFalse, IsTrue, Result, Ok, Err}
+use Rattle.std.specs.Prelude.{◌≡◌, ◌≢◌, ℕ, ◌+◌, ◌/◌, ◌^◌, Bool, true, false, Result, Ok, Err}
 use Rattle.judy_bits.specs.ByteSets.{has}
 use Rattle.judy_leaf.specs.KeyLists.{keys_of, with_pair}
 use Rattle.judy_model.specs.WordBytes.{number_of}

@@ -58,17 +58,14 @@ fn into_kind<V: Words + Drop>(
     ensures child { IsChild V.WORDS width (tree_of V.WORDS kind.new) }
     ensures inserted { IsInserted key value (tree_of V.WORDS kind.old) (tree_of V.WORDS kind.new) result }
 {
-    if let KindOf::Branch(branch) = kind {
-        match branch.step(key) {
-            Step::Child(byte, place, rest) => {
-                return into_child(alloc, branch, byte, place, rest, value);
-            }
-            Step::Missing(byte, _, rest) => return put_child(branch, byte, rest, value),
-            Step::Below => return replaced(alloc, kind, width, key, value),
-            Step::Above => return replaced(alloc, kind, width, key, value),
-        }
+    match kind {
+        KindOf::Branch(branch) => match branch.step(key) {
+            Step::Child(byte, place, rest) => into_child(alloc, branch, byte, place, rest, value),
+            Step::Missing(byte, _, rest) => put_child(branch, byte, rest, value),
+            Step::Below | Step::Above => replaced(alloc, kind, width, key, value),
+        },
+        _ => replaced(alloc, kind, width, key, value),
     }
-    replaced(alloc, kind, width, key, value)
 }
 
 // The same for a node that may become one of another kind. If it is a branch, it skips other bytes than the key begins with.
@@ -201,7 +198,13 @@ fn into_child<V: Words + Drop>(
         (branch_tree branch.old.width branch.old.skip branch.old.bytes branch.old.children.items branch.old.population)
         (branch_tree branch.new.width branch.new.skip branch.new.bytes branch.new.children.items branch.new.population) result }
 {
-    match insert_in(alloc, &mut branch.children[place], branch.width, rest, value) {
+    match insert_in(
+        alloc,
+        &mut branch.children[place],
+        branch.width,
+        rest,
+        value,
+    ) {
         Ok(true) => {
             branch.population += 1;
             Ok(true)

@@ -5,12 +5,12 @@ use Rattle.judy_model.specs.WordBytes.{number_of}
 use Rattle.judy_node.specs.Trees.{IsChild}
 use Rattle.judy_node.specs.Kinds.{tree_of, IsLevel}
 use Rattle.judy_node.specs.Steps.{IsStep}
-use Rattle.judy_node.specs.declared.step.Step.TheVariants.{Missing, Below, Above}
+use Rattle.judy_node.specs.declared.step.Step.TheVariants.{Missing}
 use Rattle.judy_node.proofs.Maps.{children-length}
 use Rattle.judy_node.proofs.Shaped.{branch-child}
 use Rattle.judy_change.specs.Inserted.{has_key, IsInserted}
 use Rattle.judy_change.specs.Removals.{width_of, tree_below}
-use Rattle.judy_change.proofs.InsertFacts.{missing_absent, below_apart, above_apart, branch_wide}
+use Rattle.judy_change.proofs.InsertFacts.{missing_absent, past_apart, branch_wide}
 use Rattle.judy_change.proofs.KidInserts.{kid_child, kid_has, kid_room, kid_same, kid_branch, kid_added}
 use Rattle.judy_change.proofs.way_down.+insert.Goals as goal
 
@@ -26,13 +26,8 @@ into_kind-put_child-requires-clause-room g t c =
 
 pub into_kind-replaced-requires-clause-past : goal.into_kind-replaced-requires-clause-past
 into_kind-replaced-requires-clause-past g t c =
-    below_apart g.V.Words.WORDS c.args.key c.in-Branch.branch.value (subst (IsLevel g.V.Words.WORDS) c.in-Branch.is c.requires.level)
-    (subst (λ b. IsStep (256 ^ b.width) (number_of b.skip * 256) b.bytes c.args.key Below) c.deref.ensures c.in-Below.ensures)
-
-pub into_kind-replaced-requires-in-Above-clause-past : goal.into_kind-replaced-requires-in-Above-clause-past
-into_kind-replaced-requires-in-Above-clause-past g t c =
-    above_apart g.V.Words.WORDS c.args.key c.in-Branch.branch.value (subst (IsLevel g.V.Words.WORDS) c.in-Branch.is c.requires.level)
-    (subst (λ b. IsStep (256 ^ b.width) (number_of b.skip * 256) b.bytes c.args.key Above) c.deref.ensures c.in-Above.ensures)
+    past_apart g.V.Words.WORDS c.args.key c.in-Branch.branch.value (subst (IsLevel g.V.Words.WORDS) c.in-Branch.is c.requires.level)
+    c.step.result (subst (λ b. IsStep (256 ^ b.width) (number_of b.skip * 256) b.bytes c.args.key c.step.result) c.deref.ensures c.step.ensures) c.in-Below.is
 
 pub into_kind-returns-in-Child-clause-child : goal.into_kind-returns-in-Child-clause-child
 into_kind-returns-in-Child-clause-child g t c =
