@@ -21,7 +21,7 @@ use std::marker::{Model, PhantomData};
 #[cycle(node)]
 #[derive(Drop)]
 pub struct ChildOf<V: Words + Drop> {
-    /// Which node it is.
+    /// The node by its kind, to be changed where it stands.
     pub kind: KindOf<V>,
 }
 
