@@ -21,7 +21,8 @@ use std::marker::{Model, PhantomData};
 #[cycle(node)]
 #[derive(Drop)]
 pub struct ChildOf<V: Words + Drop> {
-    pub(crate) kind: KindOf<V>,
+    /// The node by its kind, to be changed where it stands.
+    pub kind: KindOf<V>,
 }
 
 /// A node below the root of a tree whose keys have `W` words of value each, 0 or 1.
