@@ -36,7 +36,7 @@ pub(crate) fn insert_in<V: Words + Drop>(
     ensures child { IsChild V.WORDS width child.new }
     ensures inserted { IsInserted key value child.old child.new result }
 {
-    into_kind(alloc, &mut child.kind, width, key, value)
+    into_kind(alloc, child.place.kind_mut(), width, key, value)
 }
 
 // The same by the node's kind. A branch on the key's way is changed where it stands.
