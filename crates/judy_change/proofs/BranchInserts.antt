@@ -1,5 +1,5 @@
 -- A branch one of whose children has one key more, or that has one child more.
-use Rattle.std.proofs.Common.{◌≡◌, ◌≢◌, ℕ, suc, ◌+◌, ◌-◌, ◌*◌, ◌^◌, ◌<◌, ◌≤◌, false, List, [], ◌∷◌, ◌++◌, length, take, drop, get_or, set, Some, slice_get, sym, refl, ap, ◌∙◌, subst, arith, length-append}
+use Rattle.std.proofs.Common.{◌≡◌, ℕ, suc, ◌+◌, ◌*◌, ◌^◌, ◌<◌, ◌≤◌, false, List, [], ◌∷◌, ◌++◌, length, take, drop, set, Some, slice_get, sym, ap, ◌∙◌, subst, arith, length-append}
 use Rattle.std.specs.List.{insert}
 use Rattle.std.proofs.lemmas.List.{set_split, take-append-drop}
 use Rattle.std.proofs.lemmas.List.Edits.{length-insert}
@@ -10,7 +10,7 @@ use Rattle.judy_model.proofs.FormLemmas.{branch_tight, tight-head}
 use Rattle.judy_bits.specs.ByteSets.{has, rank}
 use Rattle.judy_leaf.specs.KeyLists.{keys_of, with_pair, shift}
 use Rattle.judy_leaf.proofs.LeafLists.{rank_within}
-use Rattle.judy_node.specs.Trees.{Pairs, Tree, IsTight, join, forms_in, IsChild, AreChildren, branch_pairs, AreParts, IsBranch, branch_tree}
+use Rattle.judy_node.specs.Trees.{Pairs, Tree, IsTight, join, forms_in, IsChild, AreChildren, branch_pairs, IsBranch, branch_tree}
 use Rattle.judy_node.proofs.Maps.{length-shift}
 use Rattle.judy_node.proofs.Shaped.{branch_needed, tight-parts}
 use Rattle.judy_change.specs.Inserted.{IsAdded}

@@ -1,14 +1,15 @@
 -- Keys that a node hasn't, on the way down of an insert.
-use Rattle.std.proofs.Common.{◌≡◌, ◌≢◌, ℕ, ◌+◌, ◌*◌, ◌/◌, ◌%◌, ◌^◌, ◌<◌, ◌≤◌, Bool, true, false, Some, None, Option, cond, eqb, [], ◌∷◌, ◌||◌, sym, refl, ap, ◌∙◌, subst, arith}
-use Rattle.std.proofs.Math.Nat.{add-mul, mul_assoc, mul_comm}
-use Rattle.std.proofs.lemmas.Nat.{div-add-mod', mod_below}
+use Rattle.std.proofs.Common.{◌≡◌, ◌≢◌, ℕ, ◌+◌, ◌*◌, ◌/◌, ◌^◌, ◌<◌, ◌≤◌, Bool, true, false, Some, None, cond, eqb, [], ◌∷◌, ◌||◌, sym, refl, ap, ◌∙◌, subst, ◌⊎◌, ⊎_elim, arith}
+use Rattle.std.proofs.Math.Nat.{add-mul, mul_assoc, mul_comm, div-mul-le_self}
+use Rattle.std.proofs.lemmas.Bool.{cases_order}
+use Rattle.std.proofs.lemmas.Nat.{div-add-mod', mod_below, mul-le}
 use Rattle.judy_model.specs.WordBytes.{number_of}
 use Rattle.judy_model.proofs.ByteLemmas.{unit_pos}
 use Rattle.judy_bits.specs.ByteSets.{has}
 use Rattle.judy_block.specs.Contents.{Contents}
-use Rattle.judy_leaf.specs.KeyLists.{keys_of, shift}
+use Rattle.judy_leaf.specs.KeyLists.{keys_of}
 use Rattle.judy_leaf.specs.BitLeaves.{bit_list}
-use Rattle.judy_node.specs.Trees.{Pairs}
+use Rattle.judy_node.specs.Trees.{Pairs, IsChild}
 use Rattle.judy_node.specs.Kinds.{bit_tree}
 use Rattle.judy_node.specs.Steps.{IsStep}
 use Rattle.judy_node.specs.declared.child.BranchOf.{BranchOf}
@@ -16,8 +17,9 @@ use Rattle.judy_node.specs.declared.step.Step.{Step}
 use Rattle.judy_node.specs.declared.step.Step.TheVariants.{Child, Missing, Below, Above}
 use Rattle.judy_node.proofs.Leaves.{bit_map}
 use Rattle.judy_node.proofs.MadeFacts.{unit_above}
+use Rattle.judy_node.proofs.StepFacts.{below_block}
 use Rattle.judy_change.specs.Inserted.{has_key}
-use Rattle.judy_change.specs.Removals.{value_in, IsWhole, tree_below}
+use Rattle.judy_change.specs.Removals.{value_in, IsWhole, tree_below, width_of}
 use Rattle.judy_change.proofs.LeafFacts.{other_key}
 use Rattle.judy_change.proofs.BelowFacts.{step-absent}
 
@@ -48,28 +50,59 @@ module _ {V : _} (words key : ℕ) (old : BranchOf V) (whole : IsWhole words old
   abbrev number : ℕ
   number = number_of old.skip
 
-  pub below_absent : IsStep (256 ^ old.width) (number * 256) old.bytes key Below → has_key key (tree_below old) ≡ false
-  below_absent is = none_has (tree_below old).pairs key (step-absent words key old Below whole is (λ byte place rest never. cc))
+  -- Where the keys end that begin with those bytes.
+  above_start : (number * 256 + 256) * 256 ^ old.width ≡ (number + 1) * unit
+  above_start =
+      let start = whole_unit number old.width in
+      let last = whole_unit 1 old.width in
+      let one = add-mul (number * 256) 256 (256 ^ old.width) in
+      let other = add-mul number 1 unit in
+      omega arith
 
-  pub above_absent : IsStep (256 ^ old.width) (number * 256) old.bytes key Above → has_key key (tree_below old) ≡ false
-  above_absent is = none_has (tree_below old).pairs key (step-absent words key old Above whole is (λ byte place rest never. cc))
-
-  pub below_apart : IsStep (256 ^ old.width) (number * 256) old.bytes key Below → key / unit ≢ number
+  below_apart : IsStep (256 ^ old.width) (number * 256) old.bytes key Below → key / unit ≢ number
   below_apart is same =
-      let split = div-add-mod' key unit in
+      let least = div-mul-le_self key unit in
       let start : number * 256 * 256 ^ old.width ≡ key / unit * unit = whole_unit number old.width ∙ ap (λ n. n * unit) (sym same) in
       let never : ⊥ = omega arith in
       never
 
-  pub above_apart : IsStep (256 ^ old.width) (number * 256) old.bytes key Above → key / unit ≢ number
+  above_apart : IsStep (256 ^ old.width) (number * 256) old.bytes key Above → key / unit ≢ number
   above_apart is same =
       let split = div-add-mod' key unit in
       let rest = mod_below key unit (unit_pos (1 + old.width)) in
-      let start : number * 256 * 256 ^ old.width ≡ key / unit * unit = whole_unit number old.width ∙ ap (λ n. n * unit) (sym same) in
-      let last : 1 * 256 * 256 ^ old.width ≡ 1 * unit = whole_unit 1 old.width in
-      let spread = add-mul (number * 256) 256 (256 ^ old.width) in
+      let start : (number * 256 + 256) * 256 ^ old.width ≡ (key / unit + 1) * unit = above_start ∙ ap (λ n. (n + 1) * unit) (sym same) in
+      let spread = add-mul (key / unit) 1 unit in
       let never : ⊥ = omega arith in
       never
 
+  pub past_apart : (step : Step) → IsStep (256 ^ old.width) (number * 256) old.bytes key step → (step ≡ Below) ⊎ (step ≡ Above) → key / unit ≢ number
+  past_apart step is past = ⊎_elim
+      (λ (below : step ≡ Below). below_apart (subst (IsStep (256 ^ old.width) (number * 256) old.bytes key) below is))
+      (λ (above : step ≡ Above). above_apart (subst (IsStep (256 ^ old.width) (number * 256) old.bytes key) above is))
+      past
+
+  none_at : (step : Step) → IsStep (256 ^ old.width) (number * 256) old.bytes key step → ((byte place rest : ℕ) → step ≡ Child byte place rest → ⊥) → has_key key (tree_below old) ≡ false
+  none_at step is other = none_has (tree_below old).pairs key (step-absent words key old step whole is other)
+
   pub missing_absent : (byte place rest : ℕ) → IsStep (256 ^ old.width) (number * 256) old.bytes key (Missing byte place rest) → has_key key (tree_below old) ≡ false
-  missing_absent byte place rest is = none_has (tree_below old).pairs key (step-absent words key old (Missing byte place rest) whole is (λ byte place rest never. cc))
+  missing_absent byte place rest is = none_at (Missing byte place rest) is (λ byte place rest never. cc)
+
+  pub apart_absent : key / unit ≢ number → has_key key (tree_below old) ≡ false
+  apart_absent apart = ⊎_elim
+      (λ same. absurd (apart same))
+      (λ order. ⊎_elim
+      (λ (below : key / unit < number). none_at Below (subst (λ n. key < n) (sym (whole_unit number old.width)) (below_block key unit number (unit_pos (1 + old.width)) below)) (λ byte place rest never. cc))
+      (λ (above : number < key / unit). none_at Above (last above) (λ byte place rest never. cc))
+      order)
+      (cases_order (key / unit) number)
+    where
+      last : number < key / unit → (number * 256 + 256) * 256 ^ old.width ≤ key
+      last above =
+          let least = div-mul-le_self key unit in
+          let whole : (number + 1) * unit ≤ key / unit * unit = mul-le (number + 1) unit (key / unit) unit (omega arith) (omega arith) in
+          let end = above_start in
+          omega arith
+
+-- A branch among children of a width has keys of that width.
+pub branch_wide : {V : _} (words width : ℕ) (old : BranchOf V) → IsChild words width (tree_below old) → width_of old ≡ width
+branch_wide words width old child = child.wide (λ (none : width_of old ≡ 0). let never : ⊥ = omega arith in never)

@@ -1,5 +1,5 @@
 -- A child of a branch into which a key is put, found by the place of its byte.
-use Rattle.std.proofs.Common.{◌≡◌, ℕ, ◌-◌, ◌+◌, ◌*◌, ◌^◌, ◌<◌, ◌≤◌, Bool, false, List, length, set, get_or, Some, slice_get, sym, refl, ap, ◌∙◌, arith}
+use Rattle.std.proofs.Common.{◌≡◌, ℕ, ◌-◌, ◌+◌, ◌*◌, ◌^◌, ◌<◌, false, List, length, set, get_or, Some, slice_get, ap, ◌∙◌, arith}
 use Rattle.std.proofs.lemmas.Option.{slice_get_within}
 use Rattle.judy_model.specs.WordBytes.{number_of}
 use Rattle.judy_node.specs.Trees.{Tree, IsChild, IsBranch, branch_tree}

@@ -13,4 +13,3 @@ pub mod BelowFacts
 pub mod InsertFacts
 pub mod RootFacts
 pub mod KidInserts
-pub mod RootInserts

@@ -1,19 +1,18 @@
 -- Nodes that skip fewer bytes, and a branch above one.
-use Rattle.std.proofs.Common.{◌≡◌, ◌≢◌, ℕ, zero, suc, ◌+◌, ◌-◌, ◌*◌, ◌/◌, ◌%◌, ◌^◌, ◌<◌, ◌≤◌, List, [], ◌∷◌, ◌++◌, length, sym, refl, ap, ◌∙◌, subst, arith}
-use Rattle.std.proofs.Math.Nat.{add-mul, mul_assoc, mul_comm, pow-suc, mod-eq_of_lt, div-div-eq-div-mul}
-use Rattle.std.proofs.lemmas.Nat.{div-add-mod', mod_below, div_below, mul-le, pow-add}
+use Rattle.std.proofs.Common.{◌≡◌, ℕ, suc, ◌+◌, ◌-◌, ◌*◌, ◌/◌, ◌%◌, ◌^◌, ◌<◌, ◌≤◌, List, [], ◌∷◌, length, sym, refl, ap, ◌∙◌, subst, arith}
+use Rattle.std.proofs.Math.Nat.{add-mul, mul_assoc, pow-suc, mod-eq_of_lt, div-div-eq-div-mul}
+use Rattle.std.proofs.lemmas.Nat.{div-add-mod', mod_below, div_below, pow-add}
 use Rattle.std.proofs.lemmas.List.{append-nil}
 use Rattle.std.proofs.lemmas.Bool.{leb-false}
 use Rattle.judy_model.specs.Keys.{IsByteString}
 use Rattle.judy_model.specs.WordBytes.{low_bytes, number_of}
 use Rattle.judy_model.specs.Forms.{bitmap_leaf, branch, loose_in}
-use Rattle.judy_model.specs.Shapes.{AllBelow}
 use Rattle.judy_model.proofs.ByteLemmas.{unit_pos, number_of-low_bytes, number_of-lt, length-low_bytes}
 use Rattle.judy_block.specs.Contents.{Contents}
 use Rattle.judy_leaf.specs.KeyLists.{keys_of, shift}
 use Rattle.judy_leaf.specs.BitLeaves.{bit_list}
-use Rattle.judy_node.specs.Trees.{Pairs, Tree, IsTight, IsMap, join, forms_in, IsChild, branch_pairs, IsBranch, branch_tree}
-use Rattle.judy_node.specs.Kinds.{tree_of, IsLevel, bit_tree, bit_width, IsBit}
+use Rattle.judy_node.specs.Trees.{Tree, forms_in, IsChild, branch_pairs, IsBranch, branch_tree}
+use Rattle.judy_node.specs.Kinds.{IsLevel, bit_tree, bit_width, IsBit}
 use Rattle.judy_node.specs.declared.child.KindOf.{KindOf}
 use Rattle.judy_node.specs.declared.child.KindOf.TheVariants.{Imm, Leaf, Bit, Branch}
 use Rattle.judy_node.proofs.Maps.{map-wider, map-shift, map-AllBelow, shift-shift, length-shift, length-keys_of}

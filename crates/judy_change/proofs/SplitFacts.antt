@@ -1,15 +1,14 @@
 -- A key that doesn't begin with the bytes that a node skips, and the branch for both.
-use Rattle.std.proofs.Common.{◌≡◌, ◌≢◌, ℕ, suc, ◌+◌, ◌-◌, ◌*◌, ◌/◌, ◌%◌, ◌^◌, ◌<◌, ◌≤◌, ◌||◌, false, List, [], ◌∷◌, length, sym, refl, ap, ◌∙◌, subst, arith, ne_eqb}
+use Rattle.std.proofs.Common.{◌≡◌, ◌≢◌, ℕ, ◌+◌, ◌-◌, ◌*◌, ◌/◌, ◌%◌, ◌^◌, ◌<◌, ◌||◌, false, List, [], ◌∷◌, length, sym, ap, ◌∙◌, subst, arith, ne_eqb}
 use Rattle.std.proofs.Math.Nat.{mul_comm, div-div-eq-div-mul, mod-eq_of_lt}
 use Rattle.std.proofs.lemmas.Nat.{div-add-mod', div_below, pow-add}
 use Rattle.judy_model.specs.WordBytes.{low_bytes, number_of}
 use Rattle.judy_model.specs.Forms.{branch, loose_in}
-use Rattle.judy_model.proofs.ByteLemmas.{unit_pos, number_of-low_bytes, length-low_bytes}
+use Rattle.judy_model.proofs.ByteLemmas.{unit_pos, number_of-low_bytes}
 use Rattle.judy_model.proofs.FormLemmas.{branch_tight, tight-head}
 use Rattle.judy_bits.specs.ByteSets.{has}
 use Rattle.judy_leaf.specs.KeyLists.{keys_of, with_pair}
-use Rattle.judy_node.specs.Trees.{Tree, IsTight, forms_in, IsChild, IsBranch, branch_tree}
-use Rattle.judy_node.proofs.Shaped.{branch-child}
+use Rattle.judy_node.specs.Trees.{Tree, forms_in, branch_tree}
 use Rattle.judy_node.proofs.MadeFacts.{unit_above}
 use Rattle.judy_change.specs.Inserted.{IsAdded}
 use Rattle.judy_change.specs.Splits.{IsAbove}

@@ -1,8 +1,11 @@
 -- A pair put into a tree.
-use Rattle.std.specs.Prelude.{◌≡◌, ℕ, Bool, true, false, IsFalse, IsTrue, Result, Ok, Err}
+use Rattle.std.specs.Prelude.{◌≡◌, ◌≢◌, ℕ, ◌+◌, ◌/◌, ◌^◌, Bool, true, false, Result, Ok, Err}
 use Rattle.judy_bits.specs.ByteSets.{has}
 use Rattle.judy_leaf.specs.KeyLists.{keys_of, with_pair}
+use Rattle.judy_model.specs.WordBytes.{number_of}
 use Rattle.judy_node.specs.Trees.{Tree, IsTight}
+use Rattle.judy_node.specs.declared.child.KindOf.{KindOf}
+use Rattle.judy_node.specs.declared.child.KindOf.TheVariants.{Imm, Leaf, Bit, Branch}
 
 -- The tree has the key.
 abbrev pub has_key : ℕ → Tree → Bool
@@ -20,3 +23,10 @@ abbrev pub IsInserted : {E : Type 0} → ℕ → ℕ → Tree → Tree → Resul
 IsInserted key value old new (Ok true) = IsAdded key value old new
 IsInserted key value old new (Ok false) = (has_key key old ≡ true) × (new ≡ old)
 IsInserted key value old new (Err refused) = (has_key key old ≡ false) × (new ≡ old)
+
+-- A key doesn't belong below a node that is a branch: it doesn't begin with the bytes that the branch skips.
+abbrev pub IsPast : {V : _} → ℕ → KindOf V → Type 0
+IsPast key (Imm head word) = Unit {0}
+IsPast key (Leaf count block) = Unit {0}
+IsPast key (Bit skipped block) = Unit {0}
+IsPast key (Branch b) = key / 256 ^ (1 + b.value.width) ≢ number_of b.value.skip

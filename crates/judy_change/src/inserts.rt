@@ -79,8 +79,8 @@ fn into_root<V: Words + Drop>(
         RootOf::Empty => (RootOf::One(key, value), Ok(true)),
         RootOf::One(only, there) => beside_one(alloc, only, there, key, value),
         RootOf::Many(mut child) => {
-            let answer = insert_in(alloc, &mut child, 8, key, value);
-            (RootOf::Many(child), answer)
+            let done = insert_in(alloc, &mut child, 8, key, value);
+            (RootOf::Many(child), done)
         }
     }
 }
@@ -101,21 +101,21 @@ fn beside_one<V: Words + Drop>(
     if only == key {
         return (RootOf::One(only, there), Ok(false));
     }
-    let pairs = in_order((only, there), (key, value));
-    match kind_of_sorted(alloc, 8, &pairs) {
+    let both = in_order((only, there), (key, value));
+    match kind_of_sorted(alloc, 8, &both) {
         Ok(kind) => (RootOf::Many(ChildOf::close(kind)), Ok(true)),
         Err(refused) => (RootOf::One(only, there), Err(refused)),
     }
 }
 
 // Two pairs by ascending key.
-fn in_order(one: (u64, u64), other: (u64, u64)) -> [(u64, u64); 2]
-    requires { one.0 ≢ other.0 }
-    ensures { result ≡ with_pair other.0 other.1 (one ∷ []) }
+fn in_order(one: (u64, u64), more: (u64, u64)) -> [(u64, u64); 2]
+    requires { one.0 ≢ more.0 }
+    ensures { result ≡ with_pair more.0 more.1 (one ∷ []) }
 {
-    if one.0 < other.0 {
-        [one, other]
+    if one.0 < more.0 {
+        [one, more]
     } else {
-        [other, one]
+        [more, one]
     }
 }

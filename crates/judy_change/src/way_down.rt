@@ -5,7 +5,7 @@ ghost use Rattle.judy_model.specs.WordBytes.{number_of};
 ghost use Rattle.judy_node.specs.Trees.{IsChild, IsBranch, branch_tree};
 ghost use Rattle.judy_node.specs.Kinds.{tree_of, bit_tree, IsLevel, IsBit};
 ghost use Rattle.judy_change.specs.Removals.{IsWhole, width_of, tree_below};
-ghost use Rattle.judy_change.specs.Inserted.{has_key, IsInserted};
+ghost use Rattle.judy_change.specs.Inserted.{has_key, IsInserted, IsPast};
 
 use crate::bitmaps::into_bitmap;
 use crate::immediates::into_immediate;
@@ -36,15 +36,65 @@ pub(crate) fn insert_in<V: Words + Drop>(
     ensures child { IsChild V.WORDS width child.new }
     ensures inserted { IsInserted key value child.old child.new result }
 {
-    let kind = mem::replace(child, ChildOf::vacant()).open();
-    let (kind, answer) = into_kind(alloc, kind, width, key, value);
-    *child = ChildOf::close(kind);
+    into_kind(alloc, child.place.kind_mut(), width, key, value)
+}
+
+// The same by the node's kind. A branch on the key's way is changed where it stands.
+#[cycle(insert)]
+fn into_kind<V: Words + Drop>(
+    alloc: Global,
+    kind: &mut KindOf<V>,
+    width: u8,
+    key: u64,
+    value: u64,
+) -> Result<bool, AllocError>
+    requires one { V.WORDS ≤ 1 }
+    requires level { IsLevel V.WORDS kind.old }
+    requires child { IsChild V.WORDS width (tree_of V.WORDS kind.old) }
+    requires fits { key < 256 ^ width }
+    requires no_value { V.WORDS ≡ 0 → value ≡ 0 }
+    requires room { has_key key (tree_of V.WORDS kind.old) ≡ false → length (tree_of V.WORDS kind.old).pairs < 2 ^ 64 - 1 }
+    ensures level { IsLevel V.WORDS kind.new }
+    ensures child { IsChild V.WORDS width (tree_of V.WORDS kind.new) }
+    ensures inserted { IsInserted key value (tree_of V.WORDS kind.old) (tree_of V.WORDS kind.new) result }
+{
+    match kind {
+        KindOf::Branch(branch) => match branch.step(key) {
+            Step::Child(byte, place, rest) => into_child(alloc, branch, byte, place, rest, value),
+            Step::Missing(byte, _, rest) => put_child(branch, byte, rest, value),
+            Step::Below | Step::Above => replaced(alloc, kind, width, key, value),
+        },
+        _ => replaced(alloc, kind, width, key, value),
+    }
+}
+
+// The same for a node that may become one of another kind. If it is a branch, it skips other bytes than the key begins with.
+fn replaced<V: Words + Drop>(
+    alloc: Global,
+    kind: &mut KindOf<V>,
+    width: u8,
+    key: u64,
+    value: u64,
+) -> Result<bool, AllocError>
+    requires one { V.WORDS ≤ 1 }
+    requires level { IsLevel V.WORDS kind.old }
+    requires child { IsChild V.WORDS width (tree_of V.WORDS kind.old) }
+    requires past { IsPast key kind.old }
+    requires fits { key < 256 ^ width }
+    requires no_value { V.WORDS ≡ 0 → value ≡ 0 }
+    requires room { has_key key (tree_of V.WORDS kind.old) ≡ false → length (tree_of V.WORDS kind.old).pairs < 2 ^ 64 - 1 }
+    ensures level { IsLevel V.WORDS kind.new }
+    ensures child { IsChild V.WORDS width (tree_of V.WORDS kind.new) }
+    ensures inserted { IsInserted key value (tree_of V.WORDS kind.old) (tree_of V.WORDS kind.new) result }
+{
+    let old = mem::replace(kind, KindOf::Imm(Head::new(0), 0));
+    let (new, answer) = replacement(alloc, old, width, key, value);
+    *kind = new;
     answer
 }
 
-// The same for a node taken out of its place.
-#[cycle(insert)]
-fn into_kind<V: Words + Drop>(
+// The same for such a node taken out of its place.
+fn replacement<V: Words + Drop>(
     alloc: Global,
     kind: KindOf<V>,
     width: u8,
@@ -54,6 +104,7 @@ fn into_kind<V: Words + Drop>(
     requires one { V.WORDS ≤ 1 }
     requires level { IsLevel V.WORDS kind }
     requires child { IsChild V.WORDS width (tree_of V.WORDS kind) }
+    requires past { IsPast key kind }
     requires fits { key < 256 ^ width }
     requires no_value { V.WORDS ≡ 0 → value ≡ 0 }
     requires room { has_key key (tree_of V.WORDS kind) ≡ false → length (tree_of V.WORDS kind).pairs < 2 ^ 64 - 1 }
@@ -65,7 +116,7 @@ fn into_kind<V: Words + Drop>(
         KindOf::Imm(head, word) => into_immediate(alloc, head, word, width, key, value),
         KindOf::Leaf(count, block) => into_leaf(alloc, count, block, width, key, value),
         KindOf::Bit(head, block) => into_bit(alloc, head, block, width, key, value),
-        KindOf::Branch(branch) => into_branch(alloc, branch, key, value),
+        KindOf::Branch(branch) => past_branch(alloc, branch, key, value),
     }
 }
 
@@ -99,37 +150,6 @@ fn into_bit<V: Words + Drop>(
     split(alloc, KindOf::Bit(head, block), skipped, key, value)
 }
 
-// The same for a branch.
-#[cycle(insert)]
-fn into_branch<V: Words + Drop>(
-    alloc: Global,
-    mut branch: Box<BranchOf<V>>,
-    key: u64,
-    value: u64,
-) -> (KindOf<V>, Result<bool, AllocError>)
-    requires one { V.WORDS ≤ 1 }
-    requires level { IsWhole V.WORDS branch.value }
-    requires fits { key < 256 ^ width_of branch.value }
-    requires no_value { V.WORDS ≡ 0 → value ≡ 0 }
-    requires room { has_key key (tree_below branch.value) ≡ false → branch.value.population < 2 ^ 64 - 1 }
-    ensures level { IsLevel V.WORDS result.0 }
-    ensures child { IsChild V.WORDS (width_of branch.value) (tree_of V.WORDS result.0) }
-    ensures inserted { IsInserted key value (tree_below branch.value) (tree_of V.WORDS result.0) result.1 }
-{
-    match branch.step(key) {
-        Step::Child(byte, place, rest) => {
-            let answer = into_child(alloc, &mut branch, byte, place, rest, value);
-            (KindOf::Branch(branch), answer)
-        }
-        Step::Missing(byte, _, rest) => {
-            let answer = put_child(&mut branch, byte, rest, value);
-            (KindOf::Branch(branch), answer)
-        }
-        Step::Below => past_branch(alloc, branch, key, value),
-        Step::Above => past_branch(alloc, branch, key, value),
-    }
-}
-
 // Puts a key with its value beside a branch that skips other bytes than the key begins with.
 fn past_branch<V: Words + Drop>(
     alloc: Global,
@@ -141,9 +161,8 @@ fn past_branch<V: Words + Drop>(
     requires level { IsWhole V.WORDS branch.value }
     requires fits { key < 256 ^ width_of branch.value }
     requires apart { key / 256 ^ (1 + branch.value.width) ≢ number_of branch.value.skip }
-    requires absent { has_key key (tree_below branch.value) ≡ false }
     requires no_value { V.WORDS ≡ 0 → value ≡ 0 }
-    requires room { branch.value.population < 2 ^ 64 - 1 }
+    requires room { has_key key (tree_below branch.value) ≡ false → branch.value.population < 2 ^ 64 - 1 }
     ensures level { IsLevel V.WORDS result.0 }
     ensures child { IsChild V.WORDS (width_of branch.value) (tree_of V.WORDS result.0) }
     ensures inserted { IsInserted key value (tree_below branch.value) (tree_of V.WORDS result.0) result.1 }
@@ -179,7 +198,13 @@ fn into_child<V: Words + Drop>(
         (branch_tree branch.old.width branch.old.skip branch.old.bytes branch.old.children.items branch.old.population)
         (branch_tree branch.new.width branch.new.skip branch.new.bytes branch.new.children.items branch.new.population) result }
 {
-    match insert_in(alloc, &mut branch.children[place], branch.width, rest, value) {
+    match insert_in(
+        alloc,
+        &mut branch.children[place],
+        branch.width,
+        rest,
+        value,
+    ) {
         Ok(true) => {
             branch.population += 1;
             Ok(true)

@@ -12,7 +12,7 @@ pub most_le : (kids : List Tree) → most (λ kid. length kid.form + 1) kids ≤
 most_le [] = omega arith
 most_le (kid ∷ kids) = omega (arith, most_le kids, length-append kid.form (forms_in kids))
 
-pub falls : {V : _} (g : _) (words : ℕ) (kind : KindOf V) → max (deep-KindOf V g kind) 0 ≤ length (tree_of words kind).form
+pub falls : {V : _} (g : _) (words : ℕ) (kind : KindOf V) → max (max (deep-KindOf V g kind) 0) 0 ≤ length (tree_of words kind).form
 falls g words (Imm head word) = omega arith
 falls g words (Leaf count block) = omega arith
 falls g words (Bit skipped block) = omega arith

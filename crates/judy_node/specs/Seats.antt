@@ -11,6 +11,7 @@ use Rattle.judy_node.specs.Steps.{IsKeyOf}
 use Rattle.judy_node.specs.Slots.{value_of, with_value}
 use Rattle.judy_node.specs.declared.child.BranchOf.{BranchOf}
 use Rattle.judy_node.specs.declared.child.KindOf.{KindOf}
+use Rattle.judy_node.specs.declared.child.PlaceOf.{PlaceOf}
 use Rattle.judy_node.specs.declared.node.RootOf.{RootOf}
 use Rattle.judy_node.specs.declared.node.RootOf.TheVariants.{Empty, One, Many}
 use Rattle.judy_node.specs.declared.child.KindOf.TheVariants.{Imm, Leaf, Bit, Branch}
@@ -22,6 +23,10 @@ IsSeat words (Imm head word) key at rest = key ≡ head
 IsSeat words (Leaf count block) key at rest = slice_get (keys_of (leaf_list words count block).pairs) at ≡ Some key
 IsSeat words (Bit skipped block) key at rest = (place : ℕ) × (low : ℕ) × (at ≡ 4 + place) × (key ≡ skipped * 256 + low) × (slice_get (keys_of (bit_list words block).pairs) place ≡ Some low)
 IsSeat words (Branch b) key at rest = (byte : ℕ) × IsKeyOf (256 ^ b.value.width) (number_of b.value.skip * 256) key byte rest × (slice_get b.value.bytes at ≡ Some byte)
+
+-- The place of a node of a kind.
+abbrev pub placed : {V : _} → KindOf V → PlaceOf V
+placed kind = record { kind = kind }
 
 -- A branch with another child at a place.
 abbrev pub with_child : {V : _} → BranchOf V → ℕ → Tree → BranchOf V

@@ -21,6 +21,14 @@ use std::marker::{Model, PhantomData};
 #[cycle(node)]
 #[derive(Drop)]
 pub struct ChildOf<V: Words + Drop> {
+    /// Where the node stands, to be changed there.
+    pub place: PlaceOf<V>,
+}
+
+/// The place of a node, which is written there, and read by none who may not write it: a reader has to enter the node.
+#[cycle(node)]
+#[derive(Drop)]
+pub struct PlaceOf<V: Words + Drop> {
     pub(crate) kind: KindOf<V>,
 }
 
@@ -72,15 +80,15 @@ impl<V: Words + Drop> Model for ChildOf<V> {
     ghost use Rattle.std.specs.Prelude.{length};
     ghost use Rattle.judy_node.specs.Kinds.{tree_of, IsLevel};
 
-    ghost view = { λ a. tree_of V.WORDS a.kind };
+    ghost view = { λ a. tree_of V.WORDS a.place.kind };
 
-    ghost invariant = { λ a. IsLevel V.WORDS a.kind };
+    ghost invariant = { λ a. IsLevel V.WORDS a.place.kind };
 
     ghost size = { λ tree. length tree.form };
 
     ghost use Rattle.judy_node.specs.Falls.{falls};
 
-    ghost size_decreases = { λ a h. falls (record { WORDS = V.WORDS }) V.WORDS a.kind };
+    ghost size_decreases = { λ a h. falls (record { WORDS = V.WORDS }) V.WORDS a.place.kind };
 }
 
 impl<V: Words + Drop> ChildOf<V> {
@@ -88,7 +96,7 @@ impl<V: Words + Drop> ChildOf<V> {
     pub fn pop(&self) -> u64
         ensures { result ≡ length self.now.pairs }
     {
-        match &self.kind {
+        match &self.place.kind {
             KindOf::Imm(head, _) => imm_len::<V>(head),
             KindOf::Leaf(count, _) => u64::from(*count),
             KindOf::Bit(_, block) => u64::from(block.tag() % 65_536),
@@ -104,7 +112,7 @@ impl<V: Words + Drop> ChildOf<V> {
         ensures view { IsView V.WORDS width self.now result }
     {
         meter.tick();
-        match &self.kind {
+        match &self.place.kind {
             KindOf::Imm(head, word) => ViewOf::Imm(imm_of(width, head.number(), *word)),
             KindOf::Leaf(count, block) => ViewOf::Leaf(LeafRef::new(*count, width, block)),
             KindOf::Bit(head, block) => ViewOf::BitLeaf(head.number(), BitRef::new(block)),
@@ -117,7 +125,7 @@ impl<V: Words + Drop> ChildOf<V> {
         ensures tree { self ≡ tree_of V.WORDS result }
         ensures level { IsLevel V.WORDS result }
     {
-        self.kind
+        self.place.kind
     }
 
     /// The node of a kind.
@@ -125,7 +133,9 @@ impl<V: Words + Drop> ChildOf<V> {
         requires { IsLevel V.WORDS kind }
         ensures { result ≡ tree_of V.WORDS kind }
     {
-        ChildOf { kind }
+        ChildOf {
+            place: PlaceOf { kind },
+        }
     }
 
     /// A child without memory, to stand for a moment in the place of one that is changed. It has one key.
@@ -134,6 +144,21 @@ impl<V: Words + Drop> ChildOf<V> {
         ensures { length result.pairs ≡ 1 }
     {
         ChildOf::close(KindOf::Imm(Head::new(257), 0))
+    }
+}
+
+impl<V: Words + Drop> PlaceOf<V> {
+    ghost use Rattle.std.specs.Borrow.{sem, Lends};
+    ghost use Rattle.judy_node.specs.contracts.child.PlaceOf.{the_row};
+    ghost use Rattle.judy_node.specs.contracts.child.KindOf.{the_row as kind};
+    ghost use Rattle.judy_node.specs.Seats.{placed};
+
+    /// Lends the node by its kind, to be changed where it stands.
+    pub fn kind_mut(&mut self) -> &mut KindOf<V>
+        ensures* changes { sem 𝓛 (Lends (the_row V.row V.Words) (kind V.row V.Words) self.entry result placed) }
+        ensures value { placed result.now ≡ self.old }
+    {
+        &mut self.kind
     }
 }
 

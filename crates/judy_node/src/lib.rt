@@ -28,7 +28,7 @@ mod view;
 pub use build::{
     child_of_sorted, immediate_of_sorted, kind_of_sorted, leaf_of_sorted, most_in_immediate,
 };
-pub use child::{BranchOf, Child, ChildOf, KindOf, imm_of};
+pub use child::{BranchOf, Child, ChildOf, KindOf, PlaceOf, imm_of};
 pub use head::Head;
 pub use node::{Node, NodeOf, RootOf};
 pub use shape::Shape;

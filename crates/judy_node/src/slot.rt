@@ -143,8 +143,8 @@ impl<V: Words + Drop> ChildOf<V> {
         ensures* changes { sem 𝓛 (LendsIf (the_row V.row V.Words) word self.entry result (with_value self.entry.now key) self.entry.now) }
         ensures value { option_copied_mut result ≡ value_of key self.old.pairs }
     {
-        let seat = self.kind.seat(width, key)?;
-        self.kind.slot_at::<L>(seat.at, seat.rest)
+        let seat = self.place.kind.seat(width, key)?;
+        self.place.kind.slot_at::<L>(seat.at, seat.rest)
     }
 
     // The same of a node whose keys have one byte, which has no node below it.
@@ -155,8 +155,8 @@ impl<V: Words + Drop> ChildOf<V> {
         ensures* changes { sem 𝓛 (LendsIf (the_row V.row V.Words) word self.entry result (with_value self.entry.now key) self.entry.now) }
         ensures value { option_copied_mut result ≡ value_of key self.old.pairs }
     {
-        let seat = self.kind.seat(width, key)?;
-        self.kind.slot_in_leaf(seat.at, seat.rest)
+        let seat = self.place.kind.seat(width, key)?;
+        self.place.kind.slot_in_leaf(seat.at, seat.rest)
     }
 }
 

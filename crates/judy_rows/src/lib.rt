@@ -11,7 +11,11 @@ mod bit_leaves;
 #[cfg(test)]
 mod bytes;
 #[cfg(test)]
+mod changes;
+#[cfg(test)]
 mod check;
+#[cfg(test)]
+mod draws;
 #[cfg(test)]
 mod dumps;
 #[cfg(test)]

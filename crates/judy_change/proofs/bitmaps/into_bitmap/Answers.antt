@@ -1,7 +1,7 @@
 use Rattle.std.proofs.Common.{◌≡◌, ◌+◌, ◌*◌, sym, ap, ◌∙◌, arith}
 use Rattle.judy_model.specs.Forms.{loose_in}
 use Rattle.judy_bits.specs.ByteSets.{place}
-use Rattle.judy_leaf.specs.KeyLists.{KeyList, keys_of, with_pair, shift}
+use Rattle.judy_leaf.specs.KeyLists.{KeyList, keys_of, with_pair}
 use Rattle.judy_leaf.specs.BitLeaves.{bit_list}
 use Rattle.judy_node.specs.Kinds.{bit_tree}
 use Rattle.judy_change.specs.LeafTrees.{one_bitmap}

@@ -1,4 +1,4 @@
-use Rattle.std.proofs.Common.{◌≡◌, ◌+◌, ◌^◌, ◌<◌, ◌≤◌, ℕ, [], ◌∷◌, ◌++◌, length, take, drop, refl, sym, ap, ◌∙◌, subst, arith, IfOk}
+use Rattle.std.proofs.Common.{◌+◌, ◌^◌, [], ◌∷◌, ◌++◌, take, drop, refl, sym, subst, arith, IfOk}
 use Rattle.judy_leaf.specs.KeyLists.{with_pair, low_pairs}
 use Rattle.judy_node.specs.Trees.{Pairs, IsMap}
 use Rattle.judy_node.specs.Kinds.{tree_of}

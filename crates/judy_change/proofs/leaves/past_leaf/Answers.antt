@@ -1,5 +1,5 @@
-use Rattle.std.proofs.Common.{◌≡◌, ◌≢◌, ◌+◌, ◌^◌, ◌<◌, ◌≤◌, false, length, sym, ap, ◌∙◌, subst, arith}
-use Rattle.judy_bits.specs.ByteSets.{has, rank}
+use Rattle.std.proofs.Common.{sym, ap, ◌∙◌, arith}
+use Rattle.judy_bits.specs.ByteSets.{rank}
 use Rattle.judy_leaf.specs.KeyLists.{keys_of, shift}
 use Rattle.judy_node.specs.Kinds.{tree_of}
 use Rattle.judy_node.proofs.Leaves.{leaf_width}

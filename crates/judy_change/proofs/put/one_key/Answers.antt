@@ -1,4 +1,4 @@
-use Rattle.std.proofs.Common.{◌^◌, ◌≤◌, arith}
+use Rattle.std.proofs.Common.{◌^◌, arith}
 use Rattle.std.proofs.lemmas.Nat.{mod_below}
 use Rattle.judy_model.proofs.ByteLemmas.{unit_pos}
 use Rattle.judy_change.proofs.put.one_key.Goals as goal

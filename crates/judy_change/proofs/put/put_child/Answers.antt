@@ -1,4 +1,4 @@
-use Rattle.std.proofs.Common.{◌≡◌, ◌+◌, ◌*◌, ◌^◌, ◌<◌, ◌≤◌, sym, ap, ◌∙◌, subst, arith}
+use Rattle.std.proofs.Common.{◌+◌, ◌*◌, ◌^◌, ◌<◌, sym, subst, arith}
 use Rattle.judy_model.specs.WordBytes.{number_of}
 use Rattle.judy_node.specs.Trees.{IsBranch, branch_tree}
 use Rattle.judy_change.specs.Inserted.{IsAdded}

@@ -1,4 +1,4 @@
-use Rattle.std.proofs.Common.{◌≡◌, ◌+◌, ◌-◌, ◌*◌, ◌/◌, ◌%◌, ◌^◌, ◌<◌, ◌≤◌, [], ◌∷◌, length, sym, ap, ◌∙◌, subst, arith, vec_len, vec_capacity}
+use Rattle.std.proofs.Common.{◌≡◌, ◌+◌, ◌-◌, ◌/◌, ◌%◌, ◌^◌, [], ◌∷◌, length, sym, ap, ◌∙◌, subst, arith, vec_len, vec_capacity}
 use Rattle.std.specs.List.{insert}
 use Rattle.judy_model.specs.WordBytes.{low_bytes}
 use Rattle.judy_bits.specs.ByteSets.{rank, with_byte}

@@ -1,59 +1,49 @@
-use Rattle.std.proofs.Common.{◌≡◌, ◌+◌, ◌*◌, ◌^◌, ◌<◌, length, Ok, sym, ap, ◌∙◌, subst, arith}
+use Rattle.std.proofs.Common.{◌≡◌, ◌+◌, ◌*◌, ◌^◌, ◌<◌, false, length, Ok, sym, ap, ◌∙◌, subst, arith}
 use Rattle.std.proofs.lemmas.Option.{slice_get_within}
 use Rattle.std.specs.declared.alloc.AllocError.{AllocError}
 use Rattle.judy_model.specs.WordBytes.{number_of}
 use Rattle.judy_node.specs.Trees.{IsChild}
+use Rattle.judy_node.specs.Kinds.{tree_of, IsLevel}
 use Rattle.judy_node.specs.Steps.{IsStep}
-use Rattle.judy_node.specs.declared.step.Step.TheVariants.{Missing, Below, Above}
+use Rattle.judy_node.specs.declared.step.Step.TheVariants.{Missing}
 use Rattle.judy_node.proofs.Maps.{children-length}
 use Rattle.judy_node.proofs.Shaped.{branch-child}
-use Rattle.judy_change.specs.Inserted.{IsInserted}
+use Rattle.judy_change.specs.Inserted.{has_key, IsInserted}
 use Rattle.judy_change.specs.Removals.{width_of, tree_below}
-use Rattle.judy_change.proofs.InsertFacts.{missing_absent, below_absent, above_absent, below_apart, above_apart}
+use Rattle.judy_change.proofs.InsertFacts.{missing_absent, past_apart, branch_wide}
 use Rattle.judy_change.proofs.KidInserts.{kid_child, kid_has, kid_room, kid_same, kid_branch, kid_added}
 use Rattle.judy_change.proofs.way_down.+insert.Goals as goal
 
-pub into_branch-put_child-answer-requires-clause-room : goal.into_branch-put_child-answer-requires-clause-room
-into_branch-put_child-answer-requires-clause-room g t c =
-    let told = subst (λ b. IsStep (256 ^ b.width) (number_of b.skip * 256) b.bytes c.args.key (Missing c.in-Missing.byte c.in-Missing.field-1 c.in-Missing.rest)) c.deref.ensures c.in-Missing.ensures in
-    let room = c.requires.room (missing_absent g.V.Words.WORDS c.args.key c.args.branch.value c.requires.level c.in-Missing.byte c.in-Missing.field-1 c.in-Missing.rest told) in
-    subst (λ b. b.population < 18446744073709551615) (sym c.deref_mut-in-Missing.ensures.value) room
+pub into_kind-put_child-requires-clause-room : goal.into_kind-put_child-requires-clause-room
+into_kind-put_child-requires-clause-room g t c =
+    let words = g.V.Words.WORDS in
+    let branch = c.in-Branch.branch.value in
+    let level = subst (IsLevel words) c.in-Branch.is c.requires.level in
+    let step = subst (λ b. IsStep (256 ^ b.width) (number_of b.skip * 256) b.bytes c.args.key (Missing c.in-Missing.byte c.in-Missing.field-1 c.in-Missing.rest)) c.deref.ensures c.in-Missing.ensures in
+    let absent = missing_absent words c.args.key branch level c.in-Missing.byte c.in-Missing.field-1 c.in-Missing.rest step in
+    let room = subst (λ kind. has_key c.args.key (tree_of words kind) ≡ false → length (tree_of words kind).pairs < 18446744073709551615) c.in-Branch.is c.requires.room absent in
+    subst (λ b. b.population < 18446744073709551615) (sym c.deref_mut-in-Missing.ensures.value) (subst (λ n. n < 18446744073709551615) (sym level.parts.counted) room)
 
-pub into_branch-past_branch-requires-clause-apart : goal.into_branch-past_branch-requires-clause-apart
-into_branch-past_branch-requires-clause-apart g t c =
-    below_apart g.V.Words.WORDS c.args.key c.args.branch.value c.requires.level (subst (λ b. IsStep (256 ^ b.width) (number_of b.skip * 256) b.bytes c.args.key Below) c.deref.ensures c.in-Below.ensures)
+pub into_kind-replaced-requires-clause-past : goal.into_kind-replaced-requires-clause-past
+into_kind-replaced-requires-clause-past g t c =
+    past_apart g.V.Words.WORDS c.args.key c.in-Branch.branch.value (subst (IsLevel g.V.Words.WORDS) c.in-Branch.is c.requires.level)
+    c.step.result (subst (λ b. IsStep (256 ^ b.width) (number_of b.skip * 256) b.bytes c.args.key c.step.result) c.deref.ensures c.step.ensures) c.in-Below.is
 
-pub into_branch-past_branch-requires-clause-absent : goal.into_branch-past_branch-requires-clause-absent
-into_branch-past_branch-requires-clause-absent g t c =
-    below_absent g.V.Words.WORDS c.args.key c.args.branch.value c.requires.level (subst (λ b. IsStep (256 ^ b.width) (number_of b.skip * 256) b.bytes c.args.key Below) c.deref.ensures c.in-Below.ensures)
+pub into_kind-returns-in-Child-clause-child : goal.into_kind-returns-in-Child-clause-child
+into_kind-returns-in-Child-clause-child g t c =
+    let words = g.V.Words.WORDS in
+    let n = c.into_child.new.branch in
+    let child = subst (λ kind. IsChild words c.args.width (tree_of words kind)) c.in-Branch.is c.requires.child in
+    let same : width_of n ≡ width_of c.in-Branch.branch.value = (λ t. length (c.into_child.ensures.skip t) + 1 + c.into_child.ensures.width t) ∙ ap width_of c.deref_mut.ensures.value in
+    subst (λ w. IsChild words w (tree_below n)) (same ∙ branch_wide words c.args.width c.in-Branch.branch.value child) (branch-child words n.width n.skip n.bytes n.children.items n.population c.into_child.ensures.level)
 
-pub into_branch-past_branch-requires-clause-room : goal.into_branch-past_branch-requires-clause-room
-into_branch-past_branch-requires-clause-room g t c =
-    c.requires.room (below_absent g.V.Words.WORDS c.args.key c.args.branch.value c.requires.level (subst (λ b. IsStep (256 ^ b.width) (number_of b.skip * 256) b.bytes c.args.key Below) c.deref.ensures c.in-Below.ensures))
-
-pub into_branch-past_branch-requires-in-Above-clause-apart : goal.into_branch-past_branch-requires-in-Above-clause-apart
-into_branch-past_branch-requires-in-Above-clause-apart g t c =
-    above_apart g.V.Words.WORDS c.args.key c.args.branch.value c.requires.level (subst (λ b. IsStep (256 ^ b.width) (number_of b.skip * 256) b.bytes c.args.key Above) c.deref.ensures c.in-Above.ensures)
-
-pub into_branch-past_branch-requires-in-Above-clause-absent : goal.into_branch-past_branch-requires-in-Above-clause-absent
-into_branch-past_branch-requires-in-Above-clause-absent g t c =
-    above_absent g.V.Words.WORDS c.args.key c.args.branch.value c.requires.level (subst (λ b. IsStep (256 ^ b.width) (number_of b.skip * 256) b.bytes c.args.key Above) c.deref.ensures c.in-Above.ensures)
-
-pub into_branch-past_branch-requires-in-Above-clause-room : goal.into_branch-past_branch-requires-in-Above-clause-room
-into_branch-past_branch-requires-in-Above-clause-room g t c =
-    c.requires.room (above_absent g.V.Words.WORDS c.args.key c.args.branch.value c.requires.level (subst (λ b. IsStep (256 ^ b.width) (number_of b.skip * 256) b.bytes c.args.key Above) c.deref.ensures c.in-Above.ensures))
-
-pub into_branch-returns-in-Child-clause-child : goal.into_branch-returns-in-Child-clause-child
-into_branch-returns-in-Child-clause-child g t c =
-    let n = c.into_child-answer.new.branch in
-    let wide : width_of n ≡ width_of c.args.branch.value = (λ t. length (c.into_child-answer.ensures.skip t) + 1 + c.into_child-answer.ensures.width t) ∙ ap width_of c.deref_mut.ensures.value in
-    subst (λ w. IsChild g.V.Words.WORDS w (tree_below n)) wide (branch-child g.V.Words.WORDS n.width n.skip n.bytes n.children.items n.population c.into_child-answer.ensures.level)
-
-pub into_branch-returns-in-Missing-clause-child : goal.into_branch-returns-in-Missing-clause-child
-into_branch-returns-in-Missing-clause-child g t c =
-    let n = c.put_child-answer.new.branch in
-    let wide : width_of n ≡ width_of c.args.branch.value = (λ t. length (c.put_child-answer.ensures.skip t) + 1 + c.put_child-answer.ensures.width t) ∙ ap width_of c.deref_mut-in-Missing.ensures.value in
-    subst (λ w. IsChild g.V.Words.WORDS w (tree_below n)) wide (branch-child g.V.Words.WORDS n.width n.skip n.bytes n.children.items n.population c.put_child-answer.ensures.level)
+pub into_kind-returns-in-Missing-clause-child : goal.into_kind-returns-in-Missing-clause-child
+into_kind-returns-in-Missing-clause-child g t c =
+    let words = g.V.Words.WORDS in
+    let n = c.put_child.new.branch in
+    let child = subst (λ kind. IsChild words c.args.width (tree_of words kind)) c.in-Branch.is c.requires.child in
+    let same : width_of n ≡ width_of c.in-Branch.branch.value = (λ t. length (c.put_child.ensures.skip t) + 1 + c.put_child.ensures.width t) ∙ ap width_of c.deref_mut-in-Missing.ensures.value in
+    subst (λ w. IsChild words w (tree_below n)) (same ∙ branch_wide words c.args.width c.in-Branch.branch.value child) (branch-child words n.width n.skip n.bytes n.children.items n.population c.put_child.ensures.level)
 
 pub into_child-index_mut-requires : goal.into_child-index_mut-requires
 into_child-index_mut-requires g t c =

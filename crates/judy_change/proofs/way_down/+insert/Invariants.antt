@@ -1,5 +1,4 @@
-use Rattle.std.proofs.Common.{◌+◌, ◌*◌, length}
-use Rattle.judy_change.specs.Removals.{width_of}
+use Rattle.std.proofs.Common.{◌+◌, ◌*◌}
 use Rattle.judy_change.proofs.way_down.+insert.Given as goal
 
 abbrev pub decreases-insert_in : goal.decreases-insert_in
@@ -7,9 +6,6 @@ decreases-insert_in g l = 4 * l.width + 3
 
 abbrev pub decreases-into_kind : goal.decreases-into_kind
 decreases-into_kind g l = 4 * l.width + 2
-
-abbrev pub decreases-into_branch : goal.decreases-into_branch
-decreases-into_branch g l = 4 * width_of l.branch.value + 1
 
 abbrev pub decreases-into_child : goal.decreases-into_child
 decreases-into_child g l = 4 * (l.branch.now.width + 1)
