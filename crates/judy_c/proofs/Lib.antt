@@ -3,3 +3,4 @@ pub mod BoxedSet
 pub mod Holding
 pub mod Handles
 pub mod SetHandles
+pub mod HandsOut

@@ -1,5 +1,5 @@
 -- What C holds.
-use Rattle.std.specs.Prelude.{ℕ, Option, Some, None}
+use Rattle.std.specs.Prelude.{Option, Some, None}
 use base.Fml.{Fml, ftrue, ffalse}
 use base.Stored.{Coded}
 use denote.RattleType.{RattleType}

@@ -1,4 +1,4 @@
-//! How a call of C answers a word that may not be there.
+//! How a call of C answers a word or a slot that may not be there.
 
 ghost use Rattle.judy_c.specs.Told.{IsTold};
 
@@ -9,6 +9,19 @@ pub(crate) fn tell(found: Option<u64>, told: &mut u64) -> bool
     match found {
         Some(word) => {
             *told = word;
+            true
+        }
+        None => false,
+    }
+}
+
+// Answers whether there is a slot, and hands it out where there is.
+pub(crate) fn hand_out<'a>(found: Option<&'a mut u64>, slot: &mut &'a mut u64) -> bool
+    ensures { IsTold found.entry result slot.old slot.new }
+{
+    match found {
+        Some(word) => {
+            *slot = word;
             true
         }
         None => false,
