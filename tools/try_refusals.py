@@ -24,8 +24,10 @@ from typing import NamedTuple, Optional
 LIBRARY = os.path.join(os.path.dirname(os.path.abspath(__file__)), "refuse_alloc.c")
 SECONDS = 10
 NO_MEMORY = b"error no-memory"
-# The commands of a line that may want memory.
+# The commands of a line that may want memory, and what a line answers with ample memory that adds an array or a key. No script here
+# writes 0, so `was 0` tells of a key that was absent.
 GROWING = (b"make", b"set", b"ins")
+GREW = (b"ok", b"1", b"was 0")
 # How the program may end where no line is to blame: before the script without an answer, and after it with them all.
 BEFORE = b"judystore: no-memory\n"
 LOAD = b"judystore: load: no-memory\n"
@@ -242,6 +244,9 @@ class Refusals:
         pairs = list(zip(script, ran.answers))
         refused = [line for line, answer in pairs if answer == NO_MEMORY]
         self.expect(f"{name}, lines refused", all(line.startswith(GROWING) for line in refused), refused)
+        if refused:
+            first = ran.answers.index(NO_MEMORY)
+            self.expect(f"{name}, the first line refused", self.with_ample(script)[0][first] in GREW, script[first])
         kept = [(line, answer) for line, answer in pairs if answer != NO_MEMORY]
         wanted, wanted_dump = self.with_ample([line for line, _ in kept])
         self.expect(f"{name}, the rest", [answer for _, answer in kept] == wanted, (ran.answers, wanted))
