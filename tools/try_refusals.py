@@ -4,9 +4,12 @@
 usage: tools/try_refusals.py PROGRAM
 
 Whatever is refused, a line that adds a key or an array may answer `error no-memory`, and no other line may; the answers
-of the rest, and the dump, are those of the script without these lines. Where the program ends before the script it says
-so by its own rule, and where it can't dump for want of memory all answers are out. The rows of refused inserts name
-answers that must come up besides. It needs a C compiler, `cc`, for the library that refuses (tools/refuse_alloc.c).
+of the rest, and the dump, are those of the script without these lines (the law `refused_lines_drop_out`). Where the program
+ends before the script it says so by its own rule, and where it can't dump for want of memory all answers are out. With
+ample memory no line answers want of it. In the scripts of rows each call that a line or the dump makes is seen to be
+refused, by a line's answer or by the program's end, and the answers that a row names must come up besides.
+
+It needs a C compiler, `cc`, for the library that refuses (tools/refuse_alloc.c).
 
 Prints a line for each check that fails, and how many passed; the status is 0 where all did.
 """
@@ -16,12 +19,15 @@ import subprocess
 import sys
 import tempfile
 from itertools import count
+from typing import NamedTuple, Optional
 
 LIBRARY = os.path.join(os.path.dirname(os.path.abspath(__file__)), "refuse_alloc.c")
 SECONDS = 10
 NO_MEMORY = b"error no-memory"
-# The commands of a line that may want memory.
+# The commands of a line that may want memory, and what a line answers with ample memory that adds an array or a key. No script here
+# writes 0, so `was 0` tells of a key that was absent.
 GROWING = (b"make", b"set", b"ins")
+GREW = (b"ok", b"1", b"was 0")
 # How the program may end where no line is to blame: before the script without an answer, and after it with them all.
 BEFORE = b"judystore: no-memory\n"
 LOAD = b"judystore: load: no-memory\n"
@@ -32,16 +38,15 @@ def lines(text):
     return [line.strip().encode() for line in text.strip().splitlines()]
 
 
-# Row refused-string-insert: the second key meets the tail of the first.
-STRING_INSERT = lines("""
-    make s judysl
-    ins s =abcdefgh 3
-    ins s =abcdefghi 4
-    get s =abcdefgh
-    get s =abcdefghi
-    list
-    ins s =abcdefghi 4
-""")
+def string_insert(first, second):
+    """A key that meets the tail of another one, and is put in once more where that was refused."""
+    ins = b"ins s " + second + b" 4"
+    return [b"make s judysl", b"ins s " + first + b" 3", ins, b"get s " + first, b"get s " + second, b"list", ins]
+
+
+# Row refused-string-insert, and two keys that share so many pieces that the list of levels has no room for theirs.
+STRING_INSERT = string_insert(b"=abcdefgh", b"=abcdefghi")
+DEEP_STRING_INSERT = string_insert(b"=" + b"abcdefgh" * 8 + b"i", b"=" + b"abcdefgh" * 8 + b"j")
 STRING_REFUSED = lines("ok\n was 0\n error no-memory\n 3\n none\n names s:judysl:1\n was 0")
 
 # Row refused-chain-insert, the part of a script: beside a key one that shares its chain, since FNV-1a is 99368133 for
@@ -64,9 +69,46 @@ CHAIN_REFUSED = [
     lines("ok\n was 0\n was 0\n was 0\n error no-memory\n 1\n 2\n 3\n none\n names h:judyhs:3"),
 ]
 
+# Vector store-of-three: the store's script, and its dump.
+STORE_OF_THREE = lines("""
+    make l judyl
+    ins l 5 9
+    make s judysl 3
+    ins s =ab 2
+    ins s = 1
+    make h judyhs
+    ins h =b 8
+    ins h #00 7
+    ins h # 9
+""")
+STORE_OF_THREE_DUMP = bytes.fromhex("""
+    4a445931 00000003
+    01 6c 02 00000000ffffffff 0000000000000001 0000000000000005 0000000000000009
+    01 73 03 0000000000000003 0000000000000002 0000 0000000000000001 0002 6162 0000000000000002
+    01 68 04 00000000ffffffff 0000000000000003
+    0000 0000000000000009 0001 00 0000000000000007 0001 62 0000000000000008
+""")
+
+# Row smallest-dumps: a store without a judyhs array, whose dump asks for no memory.
+SMALLEST = lines("""
+    make a judy1
+    set a 1
+""")
+EMPTY_DUMP = bytes.fromhex("4a445931 00000000")
+SMALLEST_DUMP = bytes.fromhex("4a445931 00000001 01 61 01 00000000ffffffff 0000000000000001 0000000000000001")
+
+# Row refused-dump-load-make, its `make`: the table of arrays asks for memory at its first array and at its tenth.
+NAMES = [b"%c" % letter for letter in b"abcdefghiz"]
+MAKES = [*(b"make " + name + b" judyl" for name in NAMES), b"list"]
+MAKE_REFUSED = [*[b"ok"] * 9, NO_MEMORY, b"names" + b"".join(b" " + name + b":judyl:0" for name in NAMES[:9])]
+
+# Row skip-and-merge's `set` of 2^56, beside the 33 keys of a full leaf and one more. A vector of 33 keys has room for it already, so no
+# answers must come up.
+SKIP_AND_MERGE = [b"make a judy1", *(b"set a %d" % key for key in range(33)), b"set a 72057594037927936", b"list"]
+
 
 def keys_that_go(kind):
-    """The 33 keys of one byte from 0x21 to 0x41 are put into an array and taken out."""
+    """The 33 keys of one byte from 0x21 to 0x41 are put into an array and taken out, row refused-string-insert's last part."""
     keys = [b"#%02x" % byte for byte in range(0x21, 0x42)]
     return [b"make a " + kind, *(b"ins a %s 7" % key for key in keys), *(b"del a " + key for key in keys), b"list"]
 
@@ -102,14 +144,33 @@ ALL_KINDS = lines("""
     list
 """)
 
-# Each script, and lists of answers of which each must come up where one call is refused.
-SCRIPTS = [
-    ("refused-string-insert", STRING_INSERT, [STRING_REFUSED]),
-    ("refused-chain-insert", CHAIN_INSERT, CHAIN_REFUSED),
-    ("keys of a judysl that go", keys_that_go(b"judysl"), []),
-    ("keys of a judyhs that go", keys_that_go(b"judyhs"), []),
-    ("arrays of all kinds", ALL_KINDS, []),
+# The scripts of rows, whose lines delete nothing: the dump, where the row names it, and answers of which each must come up where
+# one call is refused.
+ROWS = [
+    ("refused-string-insert", STRING_INSERT, None, [STRING_REFUSED]),
+    ("refused-string-insert, deep", DEEP_STRING_INSERT, None, [STRING_REFUSED]),
+    ("refused-chain-insert", CHAIN_INSERT, None, CHAIN_REFUSED),
+    ("store-of-three", STORE_OF_THREE, STORE_OF_THREE_DUMP, []),
+    ("smallest-dumps", SMALLEST, SMALLEST_DUMP, []),
+    ("make in a store", MAKES, None, [MAKE_REFUSED]),
+    ("skip-and-merge", SKIP_AND_MERGE, None, []),
 ]
+# Scripts that delete: a delete may be refused memory and shows nothing of it.
+SCRIPTS = [
+    ("keys of a judysl that go", keys_that_go(b"judysl")),
+    ("keys of a judyhs that go", keys_that_go(b"judyhs")),
+    ("arrays of all kinds", ALL_KINDS),
+]
+
+
+class Ran(NamedTuple):
+    """One run: its status, its answers, standard error, the dump that it left, and whether it was refused memory."""
+
+    status: int
+    answers: list
+    error: bytes
+    dump: Optional[bytes]
+    refused: bool
 
 
 class Refusals:
@@ -123,6 +184,7 @@ class Refusals:
         self.failed = 0
         self.ample = {}
         subprocess.run(["cc", "-O1", "-shared", "-fPIC", "-o", self.library, LIBRARY], check=True)
+        self.before = self.calls_of_nothing()
 
     def expect(self, name, holds, told):
         if holds:
@@ -131,93 +193,116 @@ class Refusals:
             self.failed += 1
             print(f"{name}: {told!r}")
 
-    def run(self, script, refuse=None, load=()):
-        """The status, the answers, standard error and the dump of one run, and whether memory was refused."""
-        dump = os.path.join(self.folder, "dump")
-        told = os.path.join(self.folder, "refused")
+    def run(self, script, refuse=None, load=None):
+        """One run of a script, behind a load of these bytes where there are some."""
+        dump, told, kept = (os.path.join(self.folder, name) for name in ("dump", "refused", "kept"))
         for path in (dump, told):
             if os.path.exists(path):
                 os.remove(path)
+        words = [self.program, "--dump", dump]
+        if load is not None:
+            with open(kept, "wb") as file:
+                file.write(load)
+            words += ["--load", kept]
         environment = {"LD_PRELOAD": self.library, "REFUSE": refuse, "REFUSED": told} if refuse else {}
         script = b"".join(line + b"\n" for line in script)
-        ran = subprocess.run([self.program, *load, "--dump", dump], input=script, capture_output=True, env=environment, timeout=SECONDS)
+        ran = subprocess.run(words, input=script, capture_output=True, env=environment, timeout=SECONDS)
         left = None
         if os.path.exists(dump):
             with open(dump, "rb") as file:
                 left = file.read()
-        return ran.returncode, ran.stdout.splitlines(), ran.stderr, left, os.path.exists(told)
+        return Ran(ran.returncode, ran.stdout.splitlines(), ran.stderr, left, os.path.exists(told))
+
+    def refused_runs(self, script, load=None):
+        """All runs that are refused a call for memory, alone or with all after it, and which call: its number, and the way."""
+        for onward in ("", "+"):
+            for call in count(1):
+                ran = self.run(script, f"{call}{onward}", load)
+                if not ran.refused:
+                    break
+                yield call, onward, ran
+
+    def calls_of_nothing(self, load=None):
+        """How many calls for memory the program makes that loads an empty store, or none, runs no line and dumps."""
+        return max((call for call, _, _ in self.refused_runs([], load)), default=0)
 
     def with_ample(self, script):
         """The answers and the dump of a script with ample memory."""
         key = tuple(script)
         if key not in self.ample:
-            status, answers, told, dump, _ = self.run(script)
-            self.expect("with ample memory", status == 0 and told == b"", (script, status, told))
-            self.ample[key] = answers, dump
+            ran = self.run(script)
+            self.expect("with ample memory", ran.status == 0 and ran.error == b"" and NO_MEMORY not in ran.answers, (script, ran))
+            self.ample[key] = ran.answers, ran.dump
         return self.ample[key]
 
     def check_run(self, name, script, ran):
         """That a run left out the lines that it refused, and nothing else."""
-        status, answers, told, dump, _ = ran
-        if (status, answers, told) == (1, [], BEFORE):
+        if (ran.status, ran.answers, ran.error) == (1, [], BEFORE):
             self.passed += 1
             return
-        self.expect(f"{name}, answers", len(answers) == len(script), answers)
-        pairs = list(zip(script, answers))
+        self.expect(f"{name}, answers", len(ran.answers) == len(script), ran.answers)
+        pairs = list(zip(script, ran.answers))
         refused = [line for line, answer in pairs if answer == NO_MEMORY]
         self.expect(f"{name}, lines refused", all(line.startswith(GROWING) for line in refused), refused)
+        if refused:
+            first = ran.answers.index(NO_MEMORY)
+            self.expect(f"{name}, the first line refused", self.with_ample(script)[0][first] in GREW, script[first])
         kept = [(line, answer) for line, answer in pairs if answer != NO_MEMORY]
         wanted, wanted_dump = self.with_ample([line for line, _ in kept])
-        self.expect(f"{name}, the rest", [answer for _, answer in kept] == wanted, (answers, wanted))
-        if (status, told) == (1, AFTER):
-            self.expect(f"{name}, no dump", dump == b"", dump)
+        self.expect(f"{name}, the rest", [answer for _, answer in kept] == wanted, (ran.answers, wanted))
+        if (ran.status, ran.error) == (1, AFTER):
+            self.expect(f"{name}, no dump", ran.dump == b"", ran.dump)
+            self.expect(f"{name}, keys to sort", any(line.endswith(b"judyhs") for line, _ in kept), kept)
         else:
-            self.expect(f"{name}, the dump", (status, told, dump) == (0, b"", wanted_dump), (status, told, dump))
+            self.expect(f"{name}, the dump", (ran.status, ran.error, ran.dump) == (0, b"", wanted_dump), ran)
 
-    def check_script(self, name, script, rows):
-        """All runs of a script, one for each call that it makes for memory, in both ways."""
+    def check_script(self, name, script, shows=False):
+        """All runs of a script, one for each call that it makes for memory, in both ways: their answers. Where it shows its
+        calls, a line that makes one is seen to be refused it, and so is the dump."""
+        self.with_ample(script)
         seen = []
-        for onward in ("", "+"):
-            for call in count(1):
-                ran = self.run(script, f"{call}{onward}")
-                if not ran[4]:
-                    break
-                self.check_run(f"{name}, {call}{onward}", script, ran)
-                seen.append(ran[1])
+        for call, onward, ran in self.refused_runs(script):
+            self.check_run(f"{name}, {call}{onward}", script, ran)
+            if shows and not onward and call > self.before:
+                self.expect(f"{name}, {call}, seen", NO_MEMORY in ran.answers or ran.error == AFTER, ran)
+            seen.append(ran.answers)
+        return seen
+
+    def check_row(self, name, script, dump, rows):
+        """All runs of the script of a row, whose lines delete nothing and so show each call."""
+        if dump is not None:
+            self.expect(f"{name}, its dump", self.with_ample(script)[1] == dump, self.with_ample(script))
+        seen = self.check_script(name, script, shows=True)
         for row in rows:
             self.expect(f"{name}, a row that must come up", row in seen, row)
 
-    def check_load(self, name, script):
-        """All runs that load what a script leaves and list it: the load is refused whole, or the store is there whole."""
-        _, dump = self.with_ample(script)
-        kept = os.path.join(self.folder, "kept")
-        with open(kept, "wb") as file:
-            file.write(dump)
-        load = ["--load", kept]
-        _, answers, _, again, _ = self.run([b"list"], load=load)
-        self.expect(f"{name}, loaded with ample memory", again == dump, again)
+    def check_load(self, name, dump):
+        """All runs that load a dump and list it: the load is refused whole, or the store is there whole."""
+        ample = self.run([b"list"], load=dump)
+        self.expect(f"{name}, loaded with ample memory", (ample.status, ample.dump) == (0, dump), ample)
+        before = self.calls_of_nothing(EMPTY_DUMP)
         ends = set()
-        for onward in ("", "+"):
-            for call in count(1):
-                status, told, error, left, refused = self.run([b"list"], f"{call}{onward}", load)
-                if not refused:
-                    break
-                ends.add(error)
-                if error in (BEFORE, LOAD):
-                    self.expect(f"{name}, {call}{onward}, loaded not", (status, told, left) == (1, [], None), (status, told, left))
-                elif error == AFTER:
-                    self.expect(f"{name}, {call}{onward}, dumped not", (status, told, left) == (1, answers, b""), (status, told, left))
-                else:
-                    self.expect(f"{name}, {call}{onward}, loaded", (status, told, error, left) == (0, answers, b"", dump), (status, told, error, left))
+        for call, onward, ran in self.refused_runs([b"list"], dump):
+            ends.add(ran.error)
+            if ran.error in (BEFORE, LOAD):
+                holds = (ran.status, ran.answers, ran.dump) == (1, [], None)
+            elif ran.error == AFTER:
+                holds = (ran.status, ran.answers, ran.dump) == (1, ample.answers, b"")
+            else:
+                holds = ran[:4] == ample[:4] and call <= before
+            self.expect(f"{name}, {call}{onward}, loaded whole or not at all", holds, ran)
         self.expect(f"{name}, a load that is refused", LOAD in ends, ends)
 
 
 def main():
     with tempfile.TemporaryDirectory() as folder:
         refusals = Refusals(os.path.abspath(sys.argv[1]), folder)
-        for name, script, rows in SCRIPTS:
-            refusals.check_script(name, script, rows)
-        refusals.check_load("refused-dump-load-make", ALL_KINDS)
+        for row in ROWS:
+            refusals.check_row(*row)
+        for name, script in SCRIPTS:
+            refusals.check_script(name, script)
+        refusals.check_load("refused-dump-load-make", STORE_OF_THREE_DUMP)
+        refusals.check_load("smallest-dumps, loaded", SMALLEST_DUMP)
     print(f"the program without memory: {refusals.passed} checks passed, {refusals.failed} failed")
     return 1 if refusals.failed else 0
 

@@ -29,6 +29,7 @@ pub mod StoresKept
 pub mod ReadingLemmas
 pub mod SizeLemmas
 pub mod RunLaws
+pub mod RemainingLemmas
 pub mod StringLemmas
 pub mod WholeLines
 pub mod KeptLemmas

@@ -116,7 +116,7 @@ abbrev HasMemory : Reply → Type 0
 HasMemory reply = reply ≢ Err no_memory
 
 -- a line that isn't answered want of memory is answered as `step` says
-Step-ample : (before after : Store) (line : Line) (reply : Reply) → Step before line reply after → HasMemory reply → (reply, after) ≡ step before line
+pub Step-ample : (before after : Store) (line : Line) (reply : Reply) → Step before line reply after → HasMemory reply → (reply, after) ≡ step before line
 Step-ample before after line reply (inl is) has = is
 Step-ample before after line reply (inr (grown, short, same)) has = absurd (has short)
 

@@ -28,6 +28,7 @@ pub mod Shapes
 pub mod Examples
 pub mod Sizes
 pub mod AmpleRuns
+pub mod Remaining
 pub mod CutRuns
 pub mod StringOrder
 pub mod RunEnds

@@ -11,6 +11,7 @@ pub mod kept;
 pub mod keys;
 pub mod lines;
 pub mod neighbours;
+pub mod remaining;
 pub mod run_ends;
 pub mod runs;
 pub mod shapes;
