@@ -3,3 +3,6 @@ pub mod BoxedSet
 pub mod Holding
 pub mod Handles
 pub mod SetHandles
+pub mod BoxedStrings
+pub mod StringHandles
+pub mod ScanFacts

@@ -1,5 +1,5 @@
 -- What C holds.
-use Rattle.std.specs.Prelude.{ℕ, Option, Some, None}
+use Rattle.std.specs.Prelude.{Option, Some, None}
 use base.Fml.{Fml, ftrue, ffalse}
 use base.Stored.{Coded}
 use denote.RattleType.{RattleType}
@@ -10,6 +10,7 @@ use Rattle.std.specs.Coded.{coded_option}
 use Rattle.std_heap.specs.contracts.GlobalAllocator.TheImpl.{ghosts}
 use Rattle.judy_word.specs.contracts.judy1.Judy1 as judy1
 use Rattle.judy_word.specs.contracts.judyl.JudyL as judyl
+use Rattle.judy_sl.specs.contracts.strings.JudySl as judysl
 
 abbrev pub heap : Global
 heap = record { memory = record { seal = tt } }
@@ -32,3 +33,9 @@ held_judy1 = held judy1.the_row
 
 abbrev pub set_coded : Coded (Option judy1.the_row.Denot)
 set_coded = coded_option judy1.the_row.coded
+
+abbrev pub held_judysl : Ptr → Option judysl.the_row.Denot → Fml
+held_judysl = held judysl.the_row
+
+abbrev pub strings_coded : Coded (Option judysl.the_row.Denot)
+strings_coded = coded_option judysl.the_row.coded

@@ -15,7 +15,7 @@ ghost use Rattle.judy_c.specs.Told.{IsTold, lent_where};
 ghost use Rattle.std.specs.Option.{option_copied_mut};
 
 use crate::map::Map;
-use crate::told::tell;
+use crate::told::{hand_out, tell};
 use judy_word::JudyL;
 use std::alloc::Global;
 
@@ -268,17 +268,4 @@ pub extern "C" fn sellumaq_judyl_free(alloc: Global, handle: &mut Map) -> u64
     let count = sellumaq_judyl_len(alloc, handle);
     handle.release(alloc);
     count
-}
-
-// Answers whether there is a slot, and hands it out.
-fn hand_out<'a>(found: Option<&'a mut u64>, slot: &mut &'a mut u64) -> bool
-    ensures { lent_where result slot.new ≡ found.entry }
-{
-    match found {
-        Some(word) => {
-            *slot = word;
-            true
-        }
-        None => false,
-    }
 }

@@ -13,9 +13,13 @@
 //! loose.rt a box as its pointer. The crate is a static library, and no other stands on it.
 #![tactic(auto)]
 
+mod answers;
 mod judy1;
 mod judyl;
+mod judysl;
 mod loose;
 mod map;
+mod scans;
 mod set;
+mod strings;
 mod told;

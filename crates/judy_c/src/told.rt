@@ -1,6 +1,7 @@
-//! How a call of C answers a word that may not be there.
+//! How a call of C answers a word that may not be there, and its slot.
 
-ghost use Rattle.judy_c.specs.Told.{IsTold};
+ghost use Rattle.std.specs.Prelude.{◌≡◌};
+ghost use Rattle.judy_c.specs.Told.{IsTold, lent_where};
 
 // Answers whether there is a word, and writes it where it is to be told.
 pub(crate) fn tell(found: Option<u64>, told: &mut u64) -> bool
@@ -9,6 +10,19 @@ pub(crate) fn tell(found: Option<u64>, told: &mut u64) -> bool
     match found {
         Some(word) => {
             *told = word;
+            true
+        }
+        None => false,
+    }
+}
+
+// Answers whether there is a slot, and hands it out where there is.
+pub(crate) fn hand_out<'a>(found: Option<&'a mut u64>, slot: &mut &'a mut u64) -> bool
+    ensures { lent_where result slot.new ≡ found.entry }
+{
+    match found {
+        Some(word) => {
+            *slot = word;
             true
         }
         None => false,
