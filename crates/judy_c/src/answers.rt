@@ -1,7 +1,7 @@
 //! The numbers by which the calls of C on arrays over strings answer, as sellumaq.h names them.
 
 /// There is no such key.
-pub(crate) const ABSENT: u32 = 0;
+pub(crate) const NONE: u32 = 0;
 
 /// The key is there, and what was asked of it is told.
 pub(crate) const FOUND: u32 = 1;

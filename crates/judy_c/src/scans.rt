@@ -7,7 +7,7 @@ ghost use Rattle.judy_c.specs.Answers.{IsSaid};
 ghost use Rattle.judy_c.specs.KeyScans.{neighbour, scan_says, entry_says};
 ghost use Rattle.judy_c.specs.StringMaps.{array_in};
 
-use crate::answers::{ABSENT, BAD_KEY, FOUND, TOO_SMALL};
+use crate::answers::{BAD_KEY, FOUND, NONE, TOO_SMALL};
 use crate::strings::Strings;
 use judy_sl::{JudySl, KeyBuf, is_key};
 
@@ -41,7 +41,7 @@ impl Scan {
                 let found = self.find(array, &mut key);
                 tell_entry(found, key.as_slice(), buffer, count, value)
             }
-            None => ABSENT,
+            None => NONE,
         }
     }
 
@@ -83,7 +83,7 @@ fn tell_entry(
     ensures { IsSaid (entry_says found key.now (record { buffer = buffer.old; count = count.old; value = value.old }) (record { buffer = buffer.new; count = count.new; value = value.new })) result }
 {
     let Some(word) = found else {
-        return ABSENT;
+        return NONE;
     };
     if buffer.len() < key.len() {
         return TOO_SMALL;
