@@ -1,12 +1,11 @@
 -- What a handle owns, by cases: nothing behind a null pointer, else a box. Assumes `Logic`.
-use Rattle.std.proofs.Common.{◌≡◌, ℕ, refl, sym, ap, subst, true≢false, lit<, ◌<◌, ◌^◌}
+use Rattle.std.proofs.Common.{◌≡◌, refl, sym, true≢false, lit<}
 use Rattle.std.specs.Prelude.{Option, Some, None, is_none, IsSome, Bool, true, false}
 use seplogic.Ra.Ura.{Ura}
-use base.Logic.{ent, id⊢, never, never_e, guard, guard_i, via, snd∗, emp}
-use base.Fml.{Fml}
+use base.Logic.{ent, id⊢, never, never_e, guard, guard_i, via, snd∗}
 use mir.Syntax.{ptr_eq}
-use mir.Val.{Val, vbool, op2_val, vnull}
-use contract.Monad.{fact, fact_use, fact_i}
+use mir.Val.{vbool, op2_val, vnull}
+use contract.Monad.{fact_use}
 use denote.RattleType.{RattleType}
 use denote.RawPtr.{Ptr, block_ptr, null_ptr, ptr_val, Testable, lies_at}
 use base.Fraction.{full_share}

@@ -8,3 +8,5 @@ pub mod StringHandles
 pub mod ScanFacts
 pub mod BoxedBytes
 pub mod ByteHandles
+pub mod HandsOut
+pub mod AnswersInsert

@@ -1,5 +1,5 @@
 -- What a handle that holds an array, or none, stands for.
-use Rattle.std.proofs.Common.{◌≡◌, ℕ, refl, sym, ap, ◌∙◌, Option, Some, None, IfSome, IfNone, MutBor}
+use Rattle.std.proofs.Common.{◌≡◌, sym, ap, Option, Some, None, IfSome, IfNone, MutBor}
 use Rattle.std.specs.Option.{option_copied_mut}
 use Rattle.std.specs.FinMap as map
 use Rattle.judy_model.specs.Keys.{word_order}

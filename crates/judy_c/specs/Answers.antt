@@ -1,5 +1,5 @@
 -- The numbers by which calls of C on arrays over strings, or over byte strings, answer.
-use Rattle.std.specs.Prelude.{ℕ, zero, suc, Option, Some, None, Result, Ok, Err}
+use Rattle.std.specs.Prelude.{◌≡◌, ℕ, zero, suc, Option, Some, None, Result, Ok, Err}
 use Rattle.std.specs.Borrow.{MutBor}
 use Rattle.judy_c.specs.declared.answers.Refusal.{Refusal}
 use Rattle.judy_c.specs.declared.answers.Refusal.TheVariants.{NoMemory, Full, BadKey}
@@ -29,3 +29,9 @@ answered (suc (suc zero)) slot = Some (Err NoMemory)
 answered (suc (suc (suc zero))) slot = Some (Err Full)
 answered (suc (suc (suc (suc zero)))) slot = Some (Err BadKey)
 answered (suc (suc (suc (suc (suc n))))) slot = None
+
+-- What stands then where the caller is told: the slot, where there is one, and else what stood there.
+abbrev pub IsHanded : Option (Result (MutBor ℕ) Refusal) → MutBor ℕ → MutBor ℕ → Type 0
+IsHanded None before after = ⊥
+IsHanded (Some (Ok slot)) before after = after ≡ slot
+IsHanded (Some (Err refusal)) before after = after ≡ before

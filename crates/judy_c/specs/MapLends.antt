@@ -1,4 +1,4 @@
-use Rattle.std.specs.Prelude.{◌≡◌, ℕ, Option, Some, None, Result}
+use Rattle.std.specs.Prelude.{◌≡◌, Option, Some, Result}
 use Rattle.std.specs.Borrow.{Fml, MutBor, Lends, LendsIf, LendsSoOk}
 use Rattle.std.specs.declared.alloc.AllocError.{AllocError}
 use Rattle.judy_c.specs.declared.map.Map.{Map}

@@ -1,7 +1,7 @@
 //! How the calls of C on arrays over strings, and over byte strings, answer.
 
 ghost use Rattle.std.specs.Prelude.{◌≡◌, Some};
-ghost use Rattle.judy_c.specs.Answers.{answered};
+ghost use Rattle.judy_c.specs.Answers.{answered, IsHanded};
 
 // There is no such key.
 pub(crate) const NONE: u32 = 0;
@@ -31,7 +31,7 @@ pub(crate) enum Refusal {
 
 // Answers an insert by its number, and hands the slot out where there is one.
 pub(crate) fn answer_insert<'a>(made: Result<&'a mut u64, Refusal>, slot: &mut &'a mut u64) -> u32
-    ensures { answered result slot.new ≡ Some made.entry }
+    ensures { (answered result slot.new ≡ Some made.entry) × IsHanded (Some made.entry) slot.old slot.new }
 {
     match made {
         Ok(word) => {

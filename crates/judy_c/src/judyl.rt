@@ -4,14 +4,17 @@
 //! `judy_word::JudyL` of the same name does for that map. A call that may have no answer tells it through its last parameter,
 //! where it answers true, and leaves that alone where it answers false.
 
-ghost use Rattle.std.specs.Prelude.{◌≡◌, Some, None, IsFalse, MatchOption};
+ghost use Rattle.std.specs.Prelude.{◌≡◌, None};
 ghost use Rattle.std.specs.FinMap as map;
 ghost use Rattle.judy_model.specs.Arrays as array;
 ghost use Rattle.judy_model.specs.Counts as counts;
 ghost use Rattle.judy_model.specs.Empties as empties;
 ghost use Rattle.judy_model.specs.Neighbours as neighbours;
 ghost use Rattle.judy_c.specs.Maps.{map_of};
+ghost use Rattle.judy_c.specs.Puts.{IsMade};
+ghost use Rattle.judy_c.specs.SlotLends.{LendsSlotOf};
 ghost use Rattle.judy_c.specs.Told.{IsTold, lent_where};
+ghost use Rattle.std.specs.Borrow.{sem};
 ghost use Rattle.std.specs.Option.{option_copied_mut};
 
 use crate::map::Map;
@@ -45,15 +48,11 @@ pub extern "C" fn sellumaq_judyl_ins<'a>(
     key: u64,
     slot: &mut &'a mut u64,
 ) -> bool
-    ensures { MatchOption (lent_where result slot.new) (IsFalse (map.contains_key (map_of handle.old) key)) (λ lent. Some lent.now ≡ map.get (array.ins (map_of handle.old) key) key) }
+    ensures* writes_back { sem 𝓛 (LendsSlotOf handle.entry key (lent_where result slot.new)) }
+    ensures value { IsMade (map_of handle.old) key (lent_where result slot.new) }
+    ensures told { IsTold (lent_where result slot.new) result slot.old slot.new }
 {
-    match handle.ins(alloc, key) {
-        Ok(found) => {
-            *slot = found;
-            true
-        }
-        Err(_) => false,
-    }
+    hand_out(handle.ins(alloc, key), slot)
 }
 
 /// Hands out the slot of a key: what is left there is the key's value. (Manual: JLG, JudyLGet.)
@@ -63,7 +62,9 @@ pub extern "C" fn sellumaq_judyl_slot<'a>(
     key: u64,
     slot: &mut &'a mut u64,
 ) -> bool
-    ensures { option_copied_mut (lent_where result slot.new) ≡ map.get (map_of handle.old) key }
+    ensures* writes_back { sem 𝓛 (LendsSlotOf handle.entry key (lent_where result slot.new)) }
+    ensures value { option_copied_mut (lent_where result slot.new) ≡ map.get (map_of handle.old) key }
+    ensures told { IsTold (lent_where result slot.new) result slot.old slot.new }
 {
     hand_out(handle.slot(key), slot)
 }

@@ -9,11 +9,13 @@ ghost use Rattle.std.specs.Option.{option_copied_mut};
 ghost use Rattle.judy_model.specs.Arrays as array;
 ghost use Rattle.judy_model.specs.Keys.{IsStringKey};
 ghost use Rattle.judy_model.specs.Neighbours as neighbours;
-ghost use Rattle.judy_c.specs.Answers.{IsSaid, answered};
+ghost use Rattle.judy_c.specs.Answers.{IsSaid, answered, IsHanded};
 ghost use Rattle.judy_c.specs.KeyInserts.{IsMadeAs};
 ghost use Rattle.judy_c.specs.KeyScans.{scan_says};
 ghost use Rattle.judy_c.specs.StringMaps.{array_in};
+ghost use Rattle.judy_c.specs.StringSlots.{LendsSlotOf, LendsAnswered};
 ghost use Rattle.judy_c.specs.Told.{IsTold, lent_where};
+ghost use Rattle.std.specs.Borrow.{sem};
 
 use crate::answers::answer_insert;
 use crate::scans::Scan;
@@ -48,7 +50,9 @@ pub extern "C" fn sellumaq_judysl_ins<'a>(
     key: &[u8],
     slot: &mut &'a mut u64,
 ) -> u32
-    ensures { IsMadeAs IsStringKey (array_in handle.old) key.now (answered result slot.new) }
+    ensures* writes_back { sem 𝓛 (LendsAnswered handle.entry key.now (answered result slot.new)) }
+    ensures made { IsMadeAs IsStringKey (array_in handle.old) key.now (answered result slot.new) }
+    ensures told { IsHanded (answered result slot.new) slot.old slot.new }
 {
     answer_insert(handle.ins(alloc, key), slot)
 }
@@ -60,7 +64,9 @@ pub extern "C" fn sellumaq_judysl_slot<'a>(
     key: &[u8],
     slot: &mut &'a mut u64,
 ) -> bool
-    ensures { option_copied_mut (lent_where result slot.new) ≡ map.get (array_in handle.old).map key.now }
+    ensures* writes_back { sem 𝓛 (LendsSlotOf handle.entry key.now (lent_where result slot.new)) }
+    ensures value { option_copied_mut (lent_where result slot.new) ≡ map.get (array_in handle.old).map key.now }
+    ensures told { IsTold (lent_where result slot.new) result slot.old slot.new }
 {
     hand_out(handle.slot(key), slot)
 }

@@ -1,7 +1,6 @@
-//! How a call of C answers a word that may not be there, and its slot.
+//! How a call of C answers a word or a slot that may not be there.
 
-ghost use Rattle.std.specs.Prelude.{◌≡◌};
-ghost use Rattle.judy_c.specs.Told.{IsTold, lent_where};
+ghost use Rattle.judy_c.specs.Told.{IsTold};
 
 // Answers whether there is a word, and writes it where it is to be told.
 pub(crate) fn tell(found: Option<u64>, told: &mut u64) -> bool
@@ -18,7 +17,7 @@ pub(crate) fn tell(found: Option<u64>, told: &mut u64) -> bool
 
 // Answers whether there is a slot, and hands it out where there is.
 pub(crate) fn hand_out<'a>(found: Option<&'a mut u64>, slot: &mut &'a mut u64) -> bool
-    ensures { lent_where result slot.new ≡ found.entry }
+    ensures { IsTold found.entry result slot.old slot.new }
 {
     match found {
         Some(word) => {

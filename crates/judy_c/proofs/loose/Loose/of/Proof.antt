@@ -1,22 +1,21 @@
 -- `of` keeps what `into_raw_with_allocator` hands out. How to read it: Lib.antt. Assumes `Logic`.
 use Rattle.std.proofs.Common.{◌≡◌, List, [], ◌∷◌, ◌++◌, refl, sym, ap, ◌∙◌, subst}
 use mir.Syntax.{a_type, dcons, dnil}
-use mir.Val.{Val, vptr, vstruct, of_list}
+use mir.Val.{Val, vstruct, of_list}
 use mir.MapTy.{inst_fn}
-use lib.Dec.{T}
 use base.Logic.{SProp, ent, id⊢, never, fst∗, emp}
 use base.Fml.{ftrue, fsep, flft}
 use prog.Wp.{WpFn}
-use types.Kit.{Item, ‵, raw, ◌⊛◌, some, later, at_ret, ◌$◌, ◌∵◌, !, qed, by, move, keep, drop, use0, split, split3, join, fsplit, fjoin, pick, suffices, use1, await, rewrite, feq_i, feq_l, fpick}
-use types.Run.{stop, fld, of_opd, no_more, and_then, first, blocks, exec, returns, enter}
+use types.Kit.{Item, ‵, raw, ◌⊛◌, some, later, ◌$◌, ◌∵◌, !, qed, by, move, keep, drop, use0, split, split3, join, fsplit, fjoin, pick, suffices, use1, await, rewrite, feq_l, fpick}
+use types.Run.{stop, fld, of_opd, no_more, and_then, returns, enter}
 use types.ByLocal.{alloc_all, pass_all, free_all, look_at, get, get_in, sets, lands_as}
 use types.Part.{agg, sub, whole}
 use contract.Monad.{fact, fact_i}
 use contract.BorrowLft.{◌⊑◌}
 use contract.Running.{tables}
 use denote.Exit.{no}
-use denote.RattleType.{RattleType, owns}
-use denote.Signature.{types_at, plain}
+use denote.RattleType.{RattleType}
+use denote.Signature.{plain}
 use denote.Builtin.{RawPtr}
 use denote.Struct.Tuple.{Tuple}
 use Rattle.std_alloc.specs.Box.Ownership.{box_owns}
@@ -29,8 +28,7 @@ use denote.Triple.Clauses.{Lasts, lasts}
 use denote.Triple.Spec.{triple_of}
 use denote.Triple.Call.{calls_at}
 use denote.Triple.Walked.{Stays, stay_dropped, walk_of}
-use Rattle.core.proofs.alloc.Calls.{token, Goes-blank, handle_tells}
-use Rattle.core.proofs.alloc.Shapes.{after}
+use Rattle.core.proofs.alloc.Calls.{Goes-blank, handle_tells}
 use Rattle.core.proofs.atomic.Steps.{fm}
 use Rattle.std_alloc.proofs.BoxSteps.Form as box
 use Rattle.std_alloc.proofs.BoxSteps.Steps.{box_out, box_in}

@@ -1,37 +1,32 @@
 -- `fill` moves a pointer into the handle, and what it owns goes with it. Assumes `Logic`.
-use Rattle.std.proofs.Common.{◌≡◌, ℕ, ◌∙◌, List, [], ◌∷◌, ◌++◌, refl, sym, ap, subst, Option, Some, None}
-use Rattle.std.proofs.raw_atomic.Walks.{proved_at, leaves}
-use seplogic.Ra.Ura.{Ura}
+use Rattle.std.proofs.Common.{◌≡◌, List, [], ◌∷◌, ◌++◌, refl, sym, subst, Some, None}
+use Rattle.std.proofs.raw_atomic.Walks.{proved_at}
 use base.Fraction.{full_share}
-use base.Logic.{SProp, ent, id⊢, emp}
-use base.Fml.{ftrue, flft, fsep}
-use mir.Syntax.{named}
+use base.Logic.{SProp, ent, id⊢}
+use base.Fml.{ftrue, flft}
 use mir.Val.{Val, vptr, vstruct, vcons, vnil, vunit}
 use prog.Wp.{WpFn}
 use contract.Monad.{fact}
 use contract.Running.{tables}
-use types.Logic.{Logic, sem}
-use types.Kit.{Item, ‵, raw, ◌⊛◌, at_ret, ◌$◌, ◌∵◌, !, qed, by, done, move, keep, drop, use1, join, split, split3, fsplit, fsplit3, fjoin, fjoin3, feq_i, feq_l, fpack, rewrite, suffices, frame}
+use types.Kit.{‵, raw, ◌⊛◌, ◌$◌, ◌∵◌, !, qed, done, move, keep, drop, join, split, fsplit, fsplit3, fjoin, fjoin3, feq_i, feq_l, fpack, rewrite, suffices, frame}
 use types.Part.{whole, sub, store_in}
-use types.Run.{enter, of_opd, load, fld, stop, returns, assigns, unit_lit}
-use types.ByLocal.{alloc_all, pass_all, free_all, look_at, get, get_in, through, sets, sets_last, env}
-use denote.Exit.{yes, no}
+use types.Run.{enter, of_opd, fld, stop, returns, assigns, unit_lit}
+use types.ByLocal.{alloc_all, pass_all, free_all, look_at, get, get_in, through, sets}
+use denote.Exit.{yes}
 use denote.Laws.{shows}
-use denote.Memory.{mem, cell_at}
+use denote.Memory.{cell_at}
 use denote.RattleType.{RattleType, Valss, owns}
-use denote.RawPtr.{Ptr, ptr_val, block_ptr}
+use denote.RawPtr.{block_ptr}
 use denote.Builtin.{RawPtr}
 use denote.Signature.{types_at, plain}
 use denote.Steps.{nothing, heard, opens, closes, peeks}
 use denote.Struct.Owning.{shape}
-use denote.Struct.Struct.{Struct, within}
+use denote.Struct.Struct.{within}
 use denote.Triple.Walked.{Stays, walk_of, says, stay_ref, stay_dropped, Goes-ref, Goes-dropped, ends_at}
-use Rattle.core.proofs.alloc.Calls.{Goes-blank}
 use Rattle.std_alloc.proofs.BoxSteps.Form as box
-use Rattle.std_alloc.proofs.BoxSteps.Steps.{box_out, box_in}
+use Rattle.std_alloc.proofs.BoxSteps.Steps.{box_out}
 use Rattle.judy_word.specs.contracts.judyl.JudyL as judyl
 use Rattle.judy_c.proofs.Boxed.{E, LooseJudyL}
-use Rattle.judy_c.specs.Owned.{held}
 use Rattle.judy_c.specs.declared.map.Map.{Map}
 use Rattle.judy_c.specs.contracts.map.Map as C
 use Rattle.judy_c.specs.contracts.map.Map.fill as f

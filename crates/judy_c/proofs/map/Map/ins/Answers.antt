@@ -8,4 +8,4 @@ use Rattle.judy_c.proofs.map.Map.ins.Goals as goal
 pub returns-in-Err : goal.returns-in-Err
 returns-in-Err c =
     let same : c.array_or_new.follows.lender-at-none ≡ c.args.self.now = subst (λ r. OnErr r (c.array_or_new.follows.lender-at-none ≡ c.args.self.now)) c.in-Err.is c.array_or_new.follows.holds-at-none in
-    ((refl, (λ w is. absurd (true≢false (sym is))), ap map_of same), record { writes_back = tt; value = tt; absent = null_has_none _ c.args.key c.in-Err.ensures.null })
+    ((refl, (λ w is. absurd (true≢false (sym is))), ap map_of same), record { writes_back = tt; value = null_has_none _ c.args.key c.in-Err.ensures.null })

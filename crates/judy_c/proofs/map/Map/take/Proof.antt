@@ -1,38 +1,35 @@
 -- `take` moves the pointer out of the handle, with what it owns, and leaves null there. Assumes `Logic`.
-use Rattle.std.proofs.Common.{◌≡◌, ℕ, ◌∙◌, List, [], ◌∷◌, ◌++◌, refl, sym, ap, subst, Option, Some, None, IsSome, lit<}
-use Rattle.std.proofs.raw_atomic.Walks.{proved_at, leaves}
-use seplogic.Ra.Ura.{Ura}
+use Rattle.std.proofs.Common.{◌∙◌, List, [], ◌∷◌, ◌++◌, refl, sym, ap, subst, Option, None, IsSome, lit<}
+use Rattle.std.proofs.raw_atomic.Walks.{proved_at}
 use base.Fraction.{full_share}
-use base.Logic.{SProp, ent, id⊢, emp}
-use base.Fml.{ftrue, flft, fsep}
-use mir.Syntax.{named}
+use base.Logic.{SProp, ent, id⊢}
+use base.Fml.{ftrue, flft}
 use mir.Val.{Val, vptr, vstruct, vcons, vnil, vnull}
 use prog.Wp.{WpFn}
 use contract.Monad.{fact}
 use contract.Running.{tables}
-use types.Logic.{Logic, sem}
-use types.Kit.{Item, ‵, raw, ◌⊛◌, at_ret, ◌$◌, ◌∵◌, !, qed, by, done, move, keep, drop, use1, join, split, split3, fsplit, fsplit3, fjoin, fjoin3, feq_i, feq_l, fpack, rewrite, suffices, frame}
+use types.Kit.{‵, raw, ◌⊛◌, ◌$◌, ◌∵◌, !, qed, done, move, keep, drop, join, split, fsplit, fsplit3, fjoin, fjoin3, feq_i, feq_l, fpack, rewrite, suffices, frame}
 use types.Part.{whole, sub, agg, look_in, store_in}
 use types.Run.{enter, of_opd, load, fld, stop, returns, assigns, lit, no_more, and_then}
-use types.ByLocal.{alloc_all, pass_all, free_all, look_at, get, get_in, through, sets, sets_last, env}
-use denote.Exit.{yes, no}
+use types.ByLocal.{alloc_all, pass_all, free_all, look_at, get, through, sets}
+use denote.Exit.{yes}
 use denote.Laws.{shows}
-use denote.Memory.{mem, cell_at}
+use denote.Memory.{cell_at}
 use denote.RattleType.{RattleType, Valss, owns}
 use denote.RawPtr.{Ptr, block_ptr, null_ptr, in_a_block}
 use denote.Builtin.{RawPtr}
 use denote.Signature.{types_at, plain}
 use denote.Steps.{nothing, heard, opens, closes, peeks}
 use denote.Struct.Owning.{shape}
-use denote.Struct.Struct.{Struct, within}
+use denote.Struct.Struct.{within}
 use denote.Triple.Walked.{Stays, walk_of, says, stay_ref, stay_dropped, Goes-ref, Goes-dropped, ends_at}
 use Rattle.core.proofs.alloc.Calls.{handle_tells}
 use Rattle.std_heap.specs.contracts.Global as heap
 use Rattle.judy_c.proofs.Holding.{null_holds_none, is_some_of, the_some}
 use Rattle.std_alloc.proofs.BoxSteps.Form as box
-use Rattle.std_alloc.proofs.BoxSteps.Steps.{box_out, box_in}
+use Rattle.std_alloc.proofs.BoxSteps.Steps.{box_in}
 use Rattle.judy_word.specs.contracts.judyl.JudyL as judyl
-use Rattle.judy_c.proofs.Boxed.{E, LooseJudyL}
+use Rattle.judy_c.proofs.Boxed.{E}
 use Rattle.judy_c.specs.Owned.{held}
 use Rattle.judy_c.specs.declared.map.Map.{Map}
 use Rattle.judy_c.specs.contracts.map.Map as C

@@ -1,30 +1,24 @@
 -- `is_null` reads the pointer, and what is owned behind it tells whether it is null. Assumes `Logic`.
-use Rattle.std.proofs.Common.{◌≡◌, ℕ, ◌∙◌, List, [], ◌∷◌, refl, sym, ap, Option, None, Bool, lit<}
+use Rattle.std.proofs.Common.{List, [], ◌∷◌, refl, sym, Bool, lit<}
 use Rattle.std.proofs.raw_atomic.Walks.{proved}
-use seplogic.Ra.Ura.{Ura}
 use base.Fraction.{full_share}
 use base.Logic.{emp}
 use base.Fml.{ftrue, flft}
 use mir.Syntax.{named, ty_ptr}
 use mir.Val.{Val, vptr, vbool, has_ty, WT}
 use lib.Dec.{T}
-use contract.Monad.{fact}
 use contract.Running.{tables}
-use types.Logic.{Logic, sem}
-use types.Kit.{‵, raw, ◌⊛◌, given, at_ret, ◌$◌, ◌∵◌, !, qed, done, move, keep, drop as skip, use1, learn, join, split, fsplit, fsplit3, fjoin, fjoin3, feq_i, rewrite, suffices, frame}
+use types.Kit.{‵, raw, ◌⊛◌, given, ◌$◌, ◌∵◌, !, qed, done, move, keep, drop as skip, use1, learn, join, split, fsplit, fsplit3, fjoin, fjoin3, feq_i, rewrite, suffices, frame}
 use types.Part.{whole, sub, look_in}
 use types.Run.{enter, of_opd, bin, lit, load, fld, stop, returns}
 use types.ByLocal.{alloc_all, pass_all, free_all, look_at, get, through, sets, is}
-use denote.Exit.{yes}
 use denote.Laws.{shows}
-use denote.Memory.{mem, cell_at}
+use denote.Memory.{cell_at}
 use denote.RattleType.{RattleType, owns}
 use denote.RawPtr.{Ptr, block_ptr, null_ptr, ptr_val, tests_null}
 use denote.Ref.{MutRef, mut_vals, mut_Tells}
-use denote.Signature.{Slot, plain, mut_ref_to}
+use denote.Signature.{plain}
 use denote.Steps.{nothing, opens, closes, peeks}
-use denote.Struct.Owning.{shape}
-use denote.Struct.Struct.{Struct}
 use denote.Triple.Walked.{Stays, walk_of, says, stay_ref, Goes-ref, ends_at}
 use Rattle.judy_word.specs.contracts.judy1.Judy1 as judy1
 use Rattle.judy_c.proofs.Holding.{tells, Tells}

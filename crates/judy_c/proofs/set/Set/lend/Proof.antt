@@ -1,10 +1,10 @@
 -- `lend` lends the array behind the pointer, and the handle follows it. Assumes `Logic`.
-use Rattle.std.proofs.Common.{◌≡◌, ℕ, ◌+◌, ◌∙◌, List, [], ◌∷◌, refl, sym, ap, true≢false}
-use Rattle.std.specs.Prelude.{Option, Some, None, IsSome}
+use Rattle.std.proofs.Common.{◌≡◌, ℕ, ◌∙◌, List, [], ◌∷◌, refl, sym, ap}
+use Rattle.std.specs.Prelude.{Option, Some, IsSome}
 use Rattle.std.proofs.raw_atomic.Walks.{proved}
 use seplogic.Ra.Ura.{Ura}
 use base.Fraction.{full_share}
-use base.Logic.{ent, sep, id⊢, never}
+use base.Logic.{ent, sep, id⊢}
 use base.Fml.{GName, Fml, ftrue, fsep, flft}
 use mir.Syntax.{named}
 use mir.Val.{Val, vptr}
@@ -18,9 +18,9 @@ use types.ByLocal.{alloc_all, pass_all, free_all, look_at, get, through, sets, s
 use denote.Exit.{no}
 use denote.Follow.{follows, Part, lends_Part}
 use denote.Laws.{shows}
-use denote.Memory.{mem, cell_at, part_at, part_of, lone}
+use denote.Memory.{mem, cell_at, part_of, lone}
 use denote.RattleType.{RattleType, owns}
-use denote.RawPtr.{Ptr, block_ptr, null_ptr, in_a_block}
+use denote.RawPtr.{Ptr, block_ptr, in_a_block}
 use denote.Ref.{MutBor, MutRef, mut_vals, mut_Tells}
 use denote.Signature.{Slot, plain, mut_ref_to}
 use denote.Steps.{nothing, heard, opens, peeks}
