@@ -1,6 +1,6 @@
 -- The call of `answer_insert`, for a walk of a call of C that inserts a key. The machine has what an insert made in one value of the type `Made`.
 -- Assumes `Logic`.
-use Rattle.std.proofs.Common.{◌≡◌, ℕ, ◌<◌, ◌^◌, Option, Some, List, [], ◌∷◌, Result, refl, ap, w32, MutBor}
+use Rattle.std.proofs.Common.{◌≡◌, ℕ, ◌<◌, ◌^◌, Some, List, [], ◌∷◌, Result, refl, ap, w32, MutBor}
 use lib.Dec.{T}
 use base.Logic.{SProp, id⊢}
 use base.Fml.{Lft, Share, ftrue, flft}
