@@ -1,7 +1,8 @@
 /* Sellumaq: Judy arrays for C, with the answers of finite sets and maps.
  *
- * Two kinds of arrays, whose keys are 64-bit words: a set (`sellumaq_judy1`), and a map from words to words
- * (`sellumaq_judyl`). Both keep their keys in order, and take no memory while they hold none.
+ * Four kinds of arrays: a set of 64-bit words (`sellumaq_judy1`), and maps to 64-bit words from words (`sellumaq_judyl`), from strings
+ * (`sellumaq_judysl`) and from byte strings (`sellumaq_judyhs`). All but the last keep their keys in order. None takes memory before its
+ * first insert.
  *
  * An array is one word, the handle. A handle of zeros is the empty array, so `sellumaq_judyl map = {0};` is all that making one
  * takes; `sellumaq_judyl_free` gives all its memory back, and leaves the empty array. Each call is proved to answer as a plain
@@ -11,7 +12,8 @@
  *     not be used.
  *   - A slot, the pointer to the value of a key, may be read and written until the next call that is handed the array to change
  *     it: `ins`, `del` or `free`.
- *   - A pointer through which a call answers points to a word of the caller's.
+ *   - A pointer through which a call answers points to a word of the caller's, and a pointer to a key or a buffer to as many bytes as
+ *     are told beside it; it isn't NULL, also where these are none. No two of one call overlap.
  *   - No call is made from within a signal handler.
  *
  * Calls that answer through a pointer write there only where they answer true.
@@ -20,6 +22,7 @@
 #define SELLUMAQ_H
 
 #include <stdbool.h>
+#include <stddef.h>
 #include <stdint.h>
 
 #ifdef __cplusplus
@@ -112,6 +115,84 @@ bool sellumaq_judyl_by_count(sellumaq_judyl *map, uint64_t n, uint64_t *key);
 
 /* Gives all memory back, and answers how many keys there were. The handle is the empty array then. */
 uint64_t sellumaq_judyl_free(sellumaq_judyl *map);
+
+/* ---- maps from strings and from byte strings: what both have ---- */
+
+/* The most bytes of a key. */
+#define SELLUMAQ_KEY_BYTES 1024
+
+/* What their calls answer where there is more to tell than yes and no. */
+enum {
+    SELLUMAQ_NONE = 0,     /* there is no such key */
+    SELLUMAQ_FOUND = 1,    /* the key is there, and what was asked of it is told */
+    /* SELLUMAQ_NO_MEMORY = 2: the key is absent, and there is no memory for it */
+    SELLUMAQ_FULL = 3,     /* the key is absent, and the map holds 4,294,967,295 keys */
+    SELLUMAQ_BAD_KEY = 4,  /* the bytes are no key */
+    SELLUMAQ_TOO_SMALL = 5 /* the key found doesn't fit the caller's buffer */
+};
+
+/* ---- maps from strings to words ----
+ *
+ * A key is a string of 0 to 1,024 bytes of which none is zero, without the zero byte that ends it in C. The order is that of its
+ * bytes as unsigned numbers, a string before those that go on behind it. */
+
+typedef struct { void *array; } sellumaq_judysl;
+
+/* Hands out the slot of a key, which is put in with the value 0 where it is absent; the value of a key that is there stays.
+ * SELLUMAQ_FOUND; or, and then nothing changed and nothing is handed out, the first that applies of SELLUMAQ_BAD_KEY,
+ * SELLUMAQ_FULL and SELLUMAQ_NO_MEMORY. A key that is there is never refused. */
+uint32_t sellumaq_judysl_ins(sellumaq_judysl *map, const uint8_t *key, size_t length, uint64_t **slot);
+
+/* The value of a key; false where the key is absent, as bytes that are no key always are. */
+bool sellumaq_judysl_get(sellumaq_judysl *map, const uint8_t *key, size_t length, uint64_t *value);
+
+/* The slot of a key; false where the key is absent. */
+bool sellumaq_judysl_slot(sellumaq_judysl *map, const uint8_t *key, size_t length, uint64_t **slot);
+
+/* Takes a key out with its value; true where it was there. Never refused. */
+bool sellumaq_judysl_del(sellumaq_judysl *map, const uint8_t *key, size_t length);
+
+/* The nearest keys: the least from a string on, the least above it, the greatest up to it, the greatest below it. The string is the
+ * first `*length` bytes of the caller's buffer of `capacity` bytes, and needn't be a key of the map. SELLUMAQ_FOUND: the key
+ * found has taken its place, `*length` is the key's length and `*value` its value. Else nothing is written: SELLUMAQ_NONE where
+ * there is none; SELLUMAQ_TOO_SMALL where it doesn't fit the buffer (SELLUMAQ_KEY_BYTES are enough for each); SELLUMAQ_BAD_KEY
+ * where a map can't hold the string, or `*length` is above `capacity`. */
+uint32_t sellumaq_judysl_first(sellumaq_judysl *map, uint8_t *buffer, size_t capacity, size_t *length, uint64_t *value);
+uint32_t sellumaq_judysl_next(sellumaq_judysl *map, uint8_t *buffer, size_t capacity, size_t *length, uint64_t *value);
+uint32_t sellumaq_judysl_last(sellumaq_judysl *map, uint8_t *buffer, size_t capacity, size_t *length, uint64_t *value);
+uint32_t sellumaq_judysl_prev(sellumaq_judysl *map, uint8_t *buffer, size_t capacity, size_t *length, uint64_t *value);
+
+/* How many keys there are. */
+uint64_t sellumaq_judysl_len(sellumaq_judysl *map);
+
+/* Gives all memory back, and answers how many keys there were. The handle is the empty array then. */
+uint64_t sellumaq_judysl_free(sellumaq_judysl *map);
+
+/* ---- maps from byte strings to words ----
+ *
+ * A key is 0 to 1,024 bytes of any value. The keys are in no order. */
+
+typedef struct { void *array; } sellumaq_judyhs;
+
+/* Hands out the slot of a key, which is put in with the value 0 where it is absent; the value of a key that is there stays.
+ * SELLUMAQ_FOUND; or, and then nothing changed and nothing is handed out, the first that applies of SELLUMAQ_BAD_KEY,
+ * SELLUMAQ_FULL and SELLUMAQ_NO_MEMORY. A key that is there is never refused. */
+uint32_t sellumaq_judyhs_ins(sellumaq_judyhs *map, const uint8_t *key, size_t length, uint64_t **slot);
+
+/* The value of a key; false where the key is absent, as longer ones always are. */
+bool sellumaq_judyhs_get(sellumaq_judyhs *map, const uint8_t *key, size_t length, uint64_t *value);
+
+/* The slot of a key; false where the key is absent. */
+bool sellumaq_judyhs_slot(sellumaq_judyhs *map, const uint8_t *key, size_t length, uint64_t **slot);
+
+/* Takes a key out with its value; true where it was there. Never refused. */
+bool sellumaq_judyhs_del(sellumaq_judyhs *map, const uint8_t *key, size_t length);
+
+/* How many keys there are. */
+uint64_t sellumaq_judyhs_len(sellumaq_judyhs *map);
+
+/* Gives all memory back, and answers how many keys there were. The handle is the empty array then. */
+uint64_t sellumaq_judyhs_free(sellumaq_judyhs *map);
 
 #ifdef __cplusplus
 }

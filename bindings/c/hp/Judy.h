@@ -1,9 +1,11 @@
-/* HP's names for Judy arrays, over Sellumaq: what the manual pages Judy1(3) and JudyL(3) say of the functions of the word arrays,
+/* HP's names for Judy arrays, over Sellumaq: what the manual pages Judy1(3), JudyL(3), JudySL(3) and JudyHS(3) say of their functions,
  * so that a program written for libJudy compiles and links unchanged. Its functions are in libsellumaq.
  *
  * What differs from HP's library:
- *   - `Judy1FreeArray` and `JudyLFreeArray` answer how many keys the array held, not how many bytes it took, and `Judy1MemUsed`,
- *     `JudyLMemUsed` and their `MemActive` answer 0: bytes aren't counted.
+ *   - The four `FreeArray` answer how many keys the array held, not how many bytes it took, and `Judy1MemUsed`, `JudyLMemUsed` and their
+ *     `MemActive` answer 0: bytes aren't counted.
+ *   - A string or byte string that is a key has at most 1,024 bytes, and their arrays hold at most 4,294,967,295 keys. An insert beyond
+ *     either is refused with JU_ERRNO_FULL, and so is a search from a longer string. A longer one is found absent, and never deleted.
  *   - An array is found corrupt or of another kind by no call, so of the error numbers only those below come.
  */
 #ifndef SELLUMAQ_HP_JUDY_H
@@ -22,7 +24,7 @@ typedef const void *Pcvoid_t;
 /* Why a call answered JERR or PPJERR. */
 typedef enum {
     JU_ERRNO_NONE = 0,
-    JU_ERRNO_FULL = 1,         /* every word is a key, so their number doesn't fit into the answer 0 */
+    JU_ERRNO_FULL = 1,         /* every word is a key, so their number doesn't fit into the answer 0; or see above */
     JU_ERRNO_NFMAX = JU_ERRNO_FULL,
     JU_ERRNO_NOMEM = 2,        /* no memory for a new key; nothing changed */
     JU_ERRNO_NULLPPARRAY = 3,  /* no pointer to an array where one is to be changed */
@@ -84,6 +86,20 @@ int JudyLNextEmpty(Pcvoid_t array, Word_t *word, PJError_t error);
 int JudyLLastEmpty(Pcvoid_t array, Word_t *word, PJError_t error);
 int JudyLPrevEmpty(Pcvoid_t array, Word_t *word, PJError_t error);
 
+PPvoid_t JudySLGet(Pcvoid_t array, const uint8_t *string, PJError_t error);
+PPvoid_t JudySLIns(PPvoid_t array, const uint8_t *string, PJError_t error);
+int JudySLDel(PPvoid_t array, const uint8_t *string, PJError_t error);
+Word_t JudySLFreeArray(PPvoid_t array, PJError_t error);
+PPvoid_t JudySLFirst(Pcvoid_t array, uint8_t *string, PJError_t error);
+PPvoid_t JudySLNext(Pcvoid_t array, uint8_t *string, PJError_t error);
+PPvoid_t JudySLLast(Pcvoid_t array, uint8_t *string, PJError_t error);
+PPvoid_t JudySLPrev(Pcvoid_t array, uint8_t *string, PJError_t error);
+
+PPvoid_t JudyHSGet(Pcvoid_t array, void *bytes, Word_t length);
+PPvoid_t JudyHSIns(PPvoid_t array, void *bytes, Word_t length, PJError_t error);
+int JudyHSDel(PPvoid_t array, void *bytes, Word_t length, PJError_t error);
+Word_t JudyHSFreeArray(PPvoid_t array, PJError_t error);
+
 /* The short forms: the answer goes into the first word named; on an error the program is told on standard error and ends, as
  * the manual pages say. The array is named as the variable that holds it. */
 void sellumaq_hp_stop(const char *call, const JError_t *error);
@@ -124,6 +140,20 @@ void sellumaq_hp_stop(const char *call, const JError_t *error);
 #define JLNE(found, array, word) SELLUMAQ_HP_TRY("JudyLNextEmpty", found, JERR, JudyLNextEmpty((Pvoid_t)(array), &(word), je))
 #define JLLE(found, array, word) SELLUMAQ_HP_TRY("JudyLLastEmpty", found, JERR, JudyLLastEmpty((Pvoid_t)(array), &(word), je))
 #define JLPE(found, array, word) SELLUMAQ_HP_TRY("JudyLPrevEmpty", found, JERR, JudyLPrevEmpty((Pvoid_t)(array), &(word), je))
+
+#define JSLG(slot, array, string) SELLUMAQ_HP_TRY_SLOT("JudySLGet", slot, JudySLGet((Pvoid_t)(array), string, je))
+#define JSLI(slot, array, string) SELLUMAQ_HP_TRY_SLOT("JudySLIns", slot, JudySLIns((PPvoid_t)(&(array)), string, je))
+#define JSLD(found, array, string) SELLUMAQ_HP_TRY("JudySLDel", found, JERR, JudySLDel((PPvoid_t)(&(array)), string, je))
+#define JSLFA(count, array) ((count) = JudySLFreeArray((PPvoid_t)(&(array)), PJE0))
+#define JSLF(slot, array, string) SELLUMAQ_HP_TRY_SLOT("JudySLFirst", slot, JudySLFirst((Pvoid_t)(array), string, je))
+#define JSLN(slot, array, string) SELLUMAQ_HP_TRY_SLOT("JudySLNext", slot, JudySLNext((Pvoid_t)(array), string, je))
+#define JSLL(slot, array, string) SELLUMAQ_HP_TRY_SLOT("JudySLLast", slot, JudySLLast((Pvoid_t)(array), string, je))
+#define JSLP(slot, array, string) SELLUMAQ_HP_TRY_SLOT("JudySLPrev", slot, JudySLPrev((Pvoid_t)(array), string, je))
+
+#define JHSG(slot, array, bytes, length) ((slot) = (PWord_t)JudyHSGet((Pvoid_t)(array), (void *)(bytes), length))
+#define JHSI(slot, array, bytes, length) SELLUMAQ_HP_TRY_SLOT("JudyHSIns", slot, JudyHSIns((PPvoid_t)(&(array)), (void *)(bytes), length, je))
+#define JHSD(found, array, bytes, length) SELLUMAQ_HP_TRY("JudyHSDel", found, JERR, JudyHSDel((PPvoid_t)(&(array)), (void *)(bytes), length, je))
+#define JHSFA(count, array) ((count) = JudyHSFreeArray((PPvoid_t)(&(array)), PJE0))
 
 #ifdef __cplusplus
 }

@@ -4,6 +4,7 @@
 
 #include <stdio.h>
 #include <stdlib.h>
+#include <string.h>
 
 _Static_assert(sizeof(Word_t) == sizeof(uint64_t), "a word has 64 bits");
 
@@ -36,6 +37,14 @@ void sellumaq_hp_stop(const char *call, const JError_t *error) {
 /* A search from a word that the caller names by a pointer, and which the word found replaces. */
 #define SEARCHES(refused) \
     if (!word) return refused(error, JU_ERRNO_NULLPINDEX)
+
+/* A call on a string, which the caller names by a pointer. */
+#define READS(refused) \
+    if (!string) return refused(error, JU_ERRNO_NULLPINDEX)
+
+/* A call on bytes, which the caller names by a pointer; where there are none, that may be null. */
+#define READS_BYTES(refused) \
+    if (!bytes && length) return refused(error, JU_ERRNO_NULLPINDEX)
 
 int Judy1Set(PPvoid_t array, Word_t key, PJError_t error) {
     CHANGES(refuse);
@@ -144,6 +153,88 @@ Word_t JudyLCount(Pcvoid_t array, Word_t from, Word_t to, PJError_t error) {
     sellumaq_judyl map = {(void *)array};
     tell(error, JU_ERRNO_NONE);
     return sellumaq_judyl_count(&map, from, to);
+}
+
+/* Why an insert of a string handed out no slot. */
+static PPvoid_t refuse_insert(PJError_t error, uint32_t answer) {
+    return refuse_slot(error, answer == SELLUMAQ_NO_MEMORY ? JU_ERRNO_NOMEM : JU_ERRNO_FULL);
+}
+
+PPvoid_t JudySLIns(PPvoid_t array, const uint8_t *string, PJError_t error) {
+    CHANGES(refuse_slot);
+    READS(refuse_slot);
+    uint64_t *slot;
+    uint32_t answer = sellumaq_judysl_ins((sellumaq_judysl *)array, string, strlen((const char *)string), &slot);
+    return answer == SELLUMAQ_FOUND ? (PPvoid_t)slot : refuse_insert(error, answer);
+}
+
+int JudySLDel(PPvoid_t array, const uint8_t *string, PJError_t error) {
+    CHANGES(refuse);
+    READS(refuse);
+    return sellumaq_judysl_del((sellumaq_judysl *)array, string, strlen((const char *)string));
+}
+
+Word_t JudySLFreeArray(PPvoid_t array, PJError_t error) {
+    CHANGES(refuse);
+    return sellumaq_judysl_free((sellumaq_judysl *)array);
+}
+
+PPvoid_t JudySLGet(Pcvoid_t array, const uint8_t *string, PJError_t error) {
+    READS(refuse_slot);
+    sellumaq_judysl map = {(void *)array};
+    uint64_t *slot;
+    return sellumaq_judysl_slot(&map, string, strlen((const char *)string), &slot) ? (PPvoid_t)slot : NULL;
+}
+
+typedef uint32_t scan(sellumaq_judysl *map, uint8_t *buffer, size_t capacity, size_t *length, uint64_t *value);
+
+/* A search from a string, which the string found replaces. How much room the caller has for that isn't told, so it is found in a buffer
+ * of this call's. */
+static PPvoid_t search(scan *call, Pcvoid_t array, uint8_t *string, PJError_t error) {
+    READS(refuse_slot);
+    sellumaq_judysl map = {(void *)array};
+    uint8_t buffer[SELLUMAQ_KEY_BYTES];
+    uint64_t value;
+    size_t length = strlen((const char *)string);
+    if (length > sizeof buffer) return refuse_slot(error, JU_ERRNO_FULL);
+    memcpy(buffer, string, length);
+    if (call(&map, buffer, sizeof buffer, &length, &value) != SELLUMAQ_FOUND) return NULL;
+    memcpy(string, buffer, length);
+    string[length] = 0;
+    return JudySLGet(array, string, error);
+}
+
+PPvoid_t JudySLFirst(Pcvoid_t array, uint8_t *string, PJError_t error) { return search(sellumaq_judysl_first, array, string, error); }
+PPvoid_t JudySLNext(Pcvoid_t array, uint8_t *string, PJError_t error) { return search(sellumaq_judysl_next, array, string, error); }
+PPvoid_t JudySLLast(Pcvoid_t array, uint8_t *string, PJError_t error) { return search(sellumaq_judysl_last, array, string, error); }
+PPvoid_t JudySLPrev(Pcvoid_t array, uint8_t *string, PJError_t error) { return search(sellumaq_judysl_prev, array, string, error); }
+
+/* A pointer to no bytes that isn't null. */
+static const uint8_t *bytes_at(const void *bytes) { return bytes ? bytes : (const uint8_t *)""; }
+
+PPvoid_t JudyHSIns(PPvoid_t array, void *bytes, Word_t length, PJError_t error) {
+    CHANGES(refuse_slot);
+    READS_BYTES(refuse_slot);
+    uint64_t *slot;
+    uint32_t answer = sellumaq_judyhs_ins((sellumaq_judyhs *)array, bytes_at(bytes), length, &slot);
+    return answer == SELLUMAQ_FOUND ? (PPvoid_t)slot : refuse_insert(error, answer);
+}
+
+int JudyHSDel(PPvoid_t array, void *bytes, Word_t length, PJError_t error) {
+    CHANGES(refuse);
+    READS_BYTES(refuse);
+    return sellumaq_judyhs_del((sellumaq_judyhs *)array, bytes_at(bytes), length);
+}
+
+Word_t JudyHSFreeArray(PPvoid_t array, PJError_t error) {
+    CHANGES(refuse);
+    return sellumaq_judyhs_free((sellumaq_judyhs *)array);
+}
+
+PPvoid_t JudyHSGet(Pcvoid_t array, void *bytes, Word_t length) {
+    sellumaq_judyhs map = {(void *)array};
+    uint64_t *slot;
+    return sellumaq_judyhs_slot(&map, bytes_at(bytes), length, &slot) ? (PPvoid_t)slot : NULL;
 }
 
 /* Bytes aren't counted. */

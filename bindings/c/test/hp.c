@@ -1,5 +1,7 @@
-/* The arrays of words by HP's names. Compiled against either header, this project's or libJudy's own, it runs over Sellumaq. */
+/* The arrays by HP's names. Compiled against either header, this project's or libJudy's own, it runs over Sellumaq. */
 #include <Judy.h>
+
+#include <string.h>
 
 #include "check.h"
 
@@ -59,6 +61,58 @@ static void maps(void) {
     JLFA(count, map); CHECK(count == 1 && map == NULL);
 }
 
+static int reads(const uint8_t *string, const char *wanted) { return strcmp((const char *)string, wanted) == 0; }
+
+static void strings(void) {
+    Pvoid_t map = NULL;
+    Word_t count, *slot;
+    int found;
+    uint8_t string[16] = "pear", longer[1026];
+    JSLG(slot, map, string); CHECK(slot == NULL);
+    JSLI(slot, map, string); CHECK(*slot == 0); *slot = 1;
+    JSLI(slot, map, string); CHECK(*slot == 1);
+    JSLI(slot, map, (const uint8_t *)"pears of autumn"); *slot = 2;
+    JSLI(slot, map, (const uint8_t *)"fig"); *slot = 3;
+    JSLI(slot, map, (const uint8_t *)""); *slot = 4;
+    JSLG(slot, map, string); CHECK(*slot == 1);
+    string[0] = 0; JSLF(slot, map, string); CHECK(*slot == 4 && reads(string, ""));
+    JSLN(slot, map, string); CHECK(*slot == 3 && reads(string, "fig"));
+    JSLN(slot, map, string); CHECK(*slot == 1 && reads(string, "pear"));
+    JSLN(slot, map, string); CHECK(*slot == 2 && reads(string, "pears of autumn"));
+    JSLN(slot, map, string); CHECK(slot == NULL);
+    strcpy((char *)string, "pears"); JSLL(slot, map, string); CHECK(*slot == 1 && reads(string, "pear"));
+    JSLP(slot, map, string); CHECK(*slot == 3 && reads(string, "fig"));
+    memset(longer, 'a', 1025), longer[1025] = 0;
+    CHECK(JudySLIns(&map, longer, PJE0) == PPJERR && JudySLFirst(map, longer, PJE0) == PPJERR);
+    JSLG(slot, map, longer); CHECK(slot == NULL);
+    JSLD(found, map, longer); CHECK(found == 0);
+    longer[1024] = 0; JSLI(slot, map, longer); CHECK(*slot == 0);
+    JSLD(found, map, longer); CHECK(found == 1);
+    JSLD(found, map, string); CHECK(found == 1);
+    JSLD(found, map, string); CHECK(found == 0);
+    JSLFA(count, map); CHECK(count == 3 && map == NULL);
+}
+
+static void byte_strings(void) {
+    Pvoid_t map = NULL;
+    Word_t count, *slot;
+    int found;
+    uint8_t bytes[1025] = "pear";
+    JHSG(slot, map, bytes, 4); CHECK(slot == NULL);
+    JHSI(slot, map, bytes, 4); CHECK(*slot == 0); *slot = 1;
+    JHSI(slot, map, bytes, 4); CHECK(*slot == 1);
+    JHSI(slot, map, bytes, 1024); CHECK(*slot == 0); *slot = 2;
+    JHSI(slot, map, bytes, 0); *slot = 3;
+    CHECK(JudyHSIns(&map, bytes, 1025, PJE0) == PPJERR);
+    JHSG(slot, map, bytes, 1024); CHECK(*slot == 2);
+    JHSG(slot, map, NULL, 0); CHECK(*slot == 3);
+    JHSG(slot, map, bytes, 1025); CHECK(slot == NULL);
+    JHSD(found, map, bytes, 1025); CHECK(found == 0);
+    JHSD(found, map, bytes, 4); CHECK(found == 1);
+    JHSD(found, map, bytes, 4); CHECK(found == 0);
+    JHSFA(count, map); CHECK(count == 2 && map == NULL);
+}
+
 /* What the manual pages say of null pointers. */
 static void refused(void) {
     JError_t error;
@@ -69,6 +123,18 @@ static void refused(void) {
     CHECK(JudyLIns(NULL, 1, &error) == PPJERR && JU_ERRNO(&error) == JU_ERRNO_NULLPPARRAY);
     CHECK(JudyLDel(NULL, 1, &error) == JERR && JU_ERRNO(&error) == JU_ERRNO_NULLPPARRAY);
     CHECK(JudyLFreeArray(NULL, PJE0) == (Word_t)JERR);
+    CHECK(JudySLIns(NULL, (const uint8_t *)"a", &error) == PPJERR && JU_ERRNO(&error) == JU_ERRNO_NULLPPARRAY);
+    CHECK(JudySLDel(NULL, (const uint8_t *)"a", &error) == JERR && JU_ERRNO(&error) == JU_ERRNO_NULLPPARRAY);
+    CHECK(JudySLFreeArray(NULL, &error) == (Word_t)JERR && JU_ERRNO(&error) == JU_ERRNO_NULLPPARRAY);
+    CHECK(JudySLIns(&none, NULL, &error) == PPJERR && JU_ERRNO(&error) == JU_ERRNO_NULLPINDEX);
+    CHECK(JudySLDel(&none, NULL, &error) == JERR && JU_ERRNO(&error) == JU_ERRNO_NULLPINDEX);
+    CHECK(JudySLGet(none, NULL, &error) == PPJERR && JU_ERRNO(&error) == JU_ERRNO_NULLPINDEX);
+    CHECK(JudySLPrev(none, NULL, &error) == PPJERR && JU_ERRNO(&error) == JU_ERRNO_NULLPINDEX);
+    CHECK(JudyHSIns(NULL, "a", 1, &error) == PPJERR && JU_ERRNO(&error) == JU_ERRNO_NULLPPARRAY);
+    CHECK(JudyHSDel(NULL, "a", 1, &error) == JERR && JU_ERRNO(&error) == JU_ERRNO_NULLPPARRAY);
+    CHECK(JudyHSFreeArray(NULL, &error) == (Word_t)JERR && JU_ERRNO(&error) == JU_ERRNO_NULLPPARRAY);
+    CHECK(JudyHSIns(&none, NULL, 1, &error) == PPJERR && JU_ERRNO(&error) == JU_ERRNO_NULLPINDEX);
+    CHECK(JudyHSDel(&none, NULL, 1, &error) == JERR && JU_ERRNO(&error) == JU_ERRNO_NULLPINDEX);
     CHECK(Judy1First(none, NULL, &error) == JERR && JU_ERRNO(&error) == JU_ERRNO_NULLPINDEX);
     CHECK(JudyLNext(none, NULL, &error) == PPJERR && JU_ERRNO(&error) == JU_ERRNO_NULLPINDEX);
     CHECK(JudyLPrevEmpty(none, NULL, &error) == JERR && JU_ERRNO(&error) == JU_ERRNO_NULLPINDEX);
@@ -85,6 +151,8 @@ static void refused(void) {
 int main(void) {
     sets();
     maps();
+    strings();
+    byte_strings();
     refused();
     puts("hp: ok");
     return 0;

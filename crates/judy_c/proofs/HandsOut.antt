@@ -57,7 +57,7 @@ pub handed : (found : Option (MutBor ℕ)) (told : Bool) (before after : MutBor 
 handed None told before after is = ap (λ (b : Bool). lent_where b after) is.0
 handed (Some slot) told before after is = ap (λ (b : Bool). lent_where b after) is.0 ∙ ap Some is.1
 
-lent_laws : (κ : Lft) → Loose (row_field (Lent κ))
+pub lent_laws : (κ : Lft) → Loose (row_field (Lent κ))
 lent_laws κ =
     let a : NamedLft = record { mir = named 0; lft = κ } in let L = loosen (mut_ref_field a u64 tt) (mut_ref_laws a u64 tt) in
     record { single = L.single; lawful = λ 𝓛. L.lawful 𝓛; drops = λ 𝓛. L.drops 𝓛 }

@@ -3,4 +3,10 @@ pub mod BoxedSet
 pub mod Holding
 pub mod Handles
 pub mod SetHandles
+pub mod BoxedStrings
+pub mod StringHandles
+pub mod ScanFacts
+pub mod BoxedBytes
+pub mod ByteHandles
 pub mod HandsOut
+pub mod AnswersInsert

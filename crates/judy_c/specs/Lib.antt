@@ -5,3 +5,12 @@ pub mod Maps
 pub mod Told
 pub mod SlotLends
 pub mod Puts
+pub mod StringMaps
+pub mod StringLends
+pub mod Answers
+pub mod KeyInserts
+pub mod KeyScans
+pub mod StringSlots
+pub mod ByteMaps
+pub mod ByteLends
+pub mod ByteSlots

@@ -1,20 +1,29 @@
-//! The arrays of words for C: the calls that `bindings/c/sellumaq.h` declares.
+//! The arrays for C: the calls that `bindings/c/sellumaq.h` declares.
 //!
 //! C holds an array by a handle, one word: null is the array without keys, and any other is the address of a box that holds a
-//! [`judy_word::Judy1`] or a [`judy_word::JudyL`], which the handle owns. To contracts a handle is that array or none
-//! (specs/Maps.antt), and each call's contract says by it what the call answers and what the handle is then. Where a call hands
-//! out a slot the contract says what value is behind it, and that what is left there is the key's value, and no other's.
+//! [`judy_word::Judy1`], a [`judy_word::JudyL`], a [`judy_sl::JudySl`] or a [`judy_hs::JudyHs`], which the handle owns. To contracts
+//! a handle is that array or none (specs/Maps.antt, StringMaps.antt, ByteMaps.antt), and each call's contract says by it what the
+//! call answers and what the handle is then. Where a call hands out a slot the contract says what value is behind it, and that what
+//! is left there is the key's value, and no other's.
 //!
 //! What C owes, and nothing checks: a handle is in one call at a time, a slot is used only up to the next call that may change its
-//! array, and the pointers that a call is given are to words of the caller's.
+//! array, and the pointers that a call is given are to words of the caller's, or to as many bytes as are told beside them, and not
+//! null; no two of one call overlap.
 //!
-//! map.rt and set.rt have the handles, judyl.rt and judy1.rt the calls, told.rt how a call answers a word or a slot that may not be there,
-//! and loose.rt a box as its pointer. The crate is a static library, and no other stands on it.
+//! set.rt, map.rt, strings.rt and bytes.rt have the handles, judy1.rt, judyl.rt, judysl.rt and judyhs.rt the calls, told.rt how a call
+//! answers a word or a slot that may not be there, answers.rt how one answers by a number, scans.rt the scans over strings, and
+//! loose.rt a box as its pointer. The crate is a static library, and no other stands on it.
 #![tactic(auto)]
 
+mod answers;
+mod bytes;
 mod judy1;
+mod judyhs;
 mod judyl;
+mod judysl;
 mod loose;
 mod map;
+mod scans;
 mod set;
+mod strings;
 mod told;

@@ -1,0 +1,112 @@
+/* The arrays over strings by Sellumaq's own names, beside a table of sorted strings, many of which begin alike. */
+#include <string.h>
+
+#include "../sellumaq.h"
+#include "check.h"
+
+enum { STRINGS = 256, LONGEST = 128 };
+
+/* The table's strings, in the order of their bytes. */
+static uint8_t strings[STRINGS][LONGEST];
+static bool held[STRINGS];
+static uint64_t values[STRINGS];
+
+static int before(const void *one, const void *other) { return strcmp(one, other); }
+
+/* Each is four parts of four kinds, so that strings part at each depth. */
+static void make_strings(void) {
+    static const char *const parts[4] = {"", "a", "a common part", "\xff\xfe of more than a few bytes"};
+    for (int place = 0; place < STRINGS; place++)
+        for (int level = 0, rest = place; level < 4; level++, rest /= 4) strcat(strcat((char *)strings[place], level ? "-" : ""), parts[rest % 4]);
+    qsort(strings, STRINGS, sizeof *strings, before);
+}
+
+static size_t length_of(int place) { return strlen((char *)strings[place]); }
+static int next_held(int place) { for (; place < STRINGS; place++) if (held[place]) return place; return -1; }
+static int prev_held(int place) { for (; place >= 0; place--) if (held[place]) return place; return -1; }
+
+static uint64_t count_held(void) {
+    uint64_t count = 0;
+    for (int place = 0; place < STRINGS; place++) count += held[place];
+    return count;
+}
+
+typedef uint32_t scan(sellumaq_judysl *map, uint8_t *buffer, size_t capacity, size_t *length, uint64_t *value);
+
+/* Whether a scan from a string of the table answers another one, or, for -1, that there is none; and writes nothing but that. */
+static bool told(scan *call, sellumaq_judysl *map, int from, int place) {
+    uint8_t buffer[LONGEST + 1];
+    size_t length = length_of(from), found = place < 0 ? length : length_of(place);
+    uint64_t value = 77;
+    memset(buffer, '~', sizeof buffer);
+    memcpy(buffer, strings[from], length);
+    uint32_t answer = call(map, buffer, LONGEST, &length, &value);
+    const uint8_t *wanted = strings[place < 0 ? from : place];
+    if (answer != (place < 0 ? SELLUMAQ_NONE : SELLUMAQ_FOUND) || length != found || memcmp(buffer, wanted, length)) return false;
+    if (buffer[LONGEST] != '~' || value != (place < 0 ? 77 : values[place])) return false;
+    if (place < 0 || length_of(place) <= length_of(from)) return true;
+    memcpy(buffer, strings[from], length = length_of(from));
+    return call(map, buffer, found - 1, &length, &value) == SELLUMAQ_TOO_SMALL && length == length_of(from) && !memcmp(buffer, strings[from], length);
+}
+
+static void compare(sellumaq_judysl *map, int place) {
+    uint64_t value = 0, *slot = NULL;
+    CHECK(sellumaq_judysl_get(map, strings[place], length_of(place), &value) == held[place] && (!held[place] || value == values[place]));
+    CHECK(sellumaq_judysl_slot(map, strings[place], length_of(place), &slot) == held[place] && (!held[place] || *slot == values[place]));
+    CHECK(told(sellumaq_judysl_first, map, place, next_held(place)));
+    CHECK(told(sellumaq_judysl_next, map, place, next_held(place + 1)));
+    CHECK(told(sellumaq_judysl_last, map, place, prev_held(place)));
+    CHECK(told(sellumaq_judysl_prev, map, place, prev_held(place - 1)));
+    CHECK(sellumaq_judysl_len(map) == count_held());
+}
+
+/* Bytes that are no key, the longest keys, and an empty map. */
+static void edges(sellumaq_judysl *map) {
+    uint8_t longest[SELLUMAQ_KEY_BYTES + 1], zero[3] = {'a', 0, 'b'};
+    uint64_t value = 7, *slot = NULL;
+    size_t length = 0;
+    memset(longest, 0xff, sizeof longest);
+    CHECK(sellumaq_judysl_ins(map, longest, sizeof longest, &slot) == SELLUMAQ_BAD_KEY && sellumaq_judysl_ins(map, zero, 3, &slot) == SELLUMAQ_BAD_KEY);
+    CHECK(slot == NULL && map->array == NULL);
+    CHECK(sellumaq_judysl_next(map, longest, sizeof longest, &length, &value) == SELLUMAQ_NONE);
+    CHECK(sellumaq_judysl_ins(map, longest, SELLUMAQ_KEY_BYTES, &slot) == SELLUMAQ_FOUND && *slot == 0);
+    *slot = 5;
+    CHECK(sellumaq_judysl_ins(map, zero, 0, &slot) == SELLUMAQ_FOUND && sellumaq_judysl_ins(map, zero, 3, &slot) == SELLUMAQ_BAD_KEY);
+    CHECK(!sellumaq_judysl_get(map, zero, 3, &value) && !sellumaq_judysl_slot(map, longest, sizeof longest, &slot) && !sellumaq_judysl_del(map, zero, 3));
+    length = 3;
+    CHECK(sellumaq_judysl_first(map, zero, 3, &length, &value) == SELLUMAQ_BAD_KEY);
+    length = 4;
+    CHECK(sellumaq_judysl_first(map, zero, 3, &length, &value) == SELLUMAQ_BAD_KEY && length == 4);
+    length = sizeof longest;
+    CHECK(sellumaq_judysl_last(map, longest, sizeof longest, &length, &value) == SELLUMAQ_BAD_KEY && length == sizeof longest && value == 7);
+    length = SELLUMAQ_KEY_BYTES;
+    CHECK(sellumaq_judysl_last(map, longest, sizeof longest, &length, &value) == SELLUMAQ_FOUND && length == SELLUMAQ_KEY_BYTES && value == 5);
+    CHECK(sellumaq_judysl_prev(map, longest, sizeof longest, &length, &value) == SELLUMAQ_FOUND && length == 0 && value == 0);
+    CHECK(sellumaq_judysl_free(map) == 2);
+}
+
+int main(void) {
+    sellumaq_judysl map = {0};
+    make_strings();
+    edges(&map);
+    compare(&map, 5);
+    CHECK(map.array == NULL && !sellumaq_judysl_del(&map, strings[3], length_of(3)));
+    for (int turn = 0; turn < 20000; turn++) {
+        int place = (int)(any() % STRINGS);
+        size_t length = length_of(place);
+        uint64_t *slot = NULL;
+        if (any() % 8 < (turn % 4000 < 2000 ? 5 : 3)) {
+            CHECK(sellumaq_judysl_ins(&map, strings[place], length, &slot) == SELLUMAQ_FOUND && *slot == (held[place] ? values[place] : 0));
+            held[place] = true;
+            values[place] = *slot = any();
+        } else {
+            CHECK(sellumaq_judysl_del(&map, strings[place], length) == held[place]);
+            held[place] = false;
+        }
+        compare(&map, (int)(any() % STRINGS));
+    }
+    uint64_t left = count_held();
+    CHECK(sellumaq_judysl_free(&map) == left && sellumaq_judysl_free(&map) == 0);
+    puts("strings: ok");
+    return 0;
+}

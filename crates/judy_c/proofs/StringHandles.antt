@@ -1,0 +1,38 @@
+-- What a handle that holds an array of strings, or none, stands for.
+use Rattle.std.proofs.Common.{◌≡◌, ℕ, List, sym, ap, ◌∙◌, Option, Some, None, IfSome, IfNone, MutBor, IsFalse, not, ◌&&◌, ◌==◌}
+use Rattle.std.specs.Prelude.{is_some}
+use Rattle.std.specs.FinMap.{FinMap, get, len, empty, get-empty, len-empty}
+use Rattle.std.specs.Option.{option_copied_mut}
+use Rattle.judy_model.specs.Keys.{byte_order}
+use Rattle.judy_model.specs.Arrays.{ArrayOf, empty_array, with_map, del, is_full}
+use Rattle.judy_model.proofs.SortedMaps.{remove_absent}
+use Rattle.judy_model.proofs.TableLemmas.{byte_order_total, byte_order_same}
+use Rattle.judy_c.specs.declared.strings.Strings.{Strings}
+use Rattle.judy_c.specs.StringLends.{with_array}
+use Rattle.judy_c.specs.StringMaps.{array_in, array_of}
+
+-- the handle with the array that it holds is the handle
+pub held_again : (m : Strings) (lent : Option (MutBor (ArrayOf byte_order))) → option_copied_mut lent ≡ m.array → IfSome lent (λ array. with_array m array.now ≡ m)
+held_again m None held = tt
+held_again m (Some array) held = ap (λ (o : Option (ArrayOf byte_order)). record m { array = o }) held
+
+-- a handle that holds none stands for the empty array
+pub null_strings : (m : Strings) (lent : Option (MutBor (ArrayOf byte_order))) → option_copied_mut lent ≡ m.array → IfNone lent (array_in m ≡ empty_array 4294967295)
+null_strings m None none = ap array_of (sym none)
+null_strings m (Some array) none = tt
+
+-- an empty array has no key to take out
+pub nothing_deleted : (array : ArrayOf byte_order) (key : List ℕ) → array ≡ empty_array 4294967295 → array ≡ with_map array (del array.map key)
+nothing_deleted array key is = ap (with_map array) (sym (remove_absent byte_order_total byte_order_same array.map key (ap (λ (a : ArrayOf byte_order). get a.map key) is ∙ get-empty byte_order key)))
+
+-- it holds no key
+pub nothing_held : (array : ArrayOf byte_order) (key : List ℕ) → array ≡ empty_array 4294967295 → get array.map key ≡ None
+nothing_held array key is = ap (λ (a : ArrayOf byte_order). get a.map key) is ∙ get-empty byte_order key
+
+-- and there is room in it
+pub room_in_null : (array : ArrayOf byte_order) (key : List ℕ) → array ≡ empty_array 4294967295 → IsFalse (is_full array key)
+room_in_null array key is =
+    let none : FinMap byte_order ℕ = empty in
+    ap (λ (a : ArrayOf byte_order). is_full a key) is
+    ∙ ap (λ (found : Option ℕ). not (is_some found) && (len none == 4294967295)) (get-empty byte_order key)
+    ∙ ap (λ n. n == 4294967295) (len-empty byte_order ℕ)

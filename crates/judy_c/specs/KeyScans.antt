@@ -1,0 +1,52 @@
+-- What a scan of C answers, and what it leaves where the caller is told.
+use Rattle.std.specs.Prelude.{◌≡◌, ◌≤◌, ◌<◌, ◌++◌, List, ℕ, length, take, drop, Option, Some, None, IsSome}
+use Rattle.std.specs.FinMap.{FinMap, get}
+use Rattle.judy_model.specs.Keys.{byte_order, IsStringKey}
+use Rattle.judy_model.specs.Neighbours as neighbours
+use Rattle.judy_c.specs.declared.scans.Scan.{Scan}
+use Rattle.judy_c.specs.declared.scans.Scan.TheVariants.{First, Next, Last, Prev}
+use Rattle.judy_c.specs.Answers.{Says}
+
+-- What each scan looks for.
+abbrev pub neighbour : Scan → FinMap byte_order ℕ → List ℕ → Option (List ℕ)
+neighbour First = neighbours.first
+neighbour Next = neighbours.next
+neighbour Last = neighbours.last
+neighbour Prev = neighbours.prev
+
+-- A buffer of the caller's, the length of the string at its beginning, and the word for a value.
+pub record Room : Type 0 where
+  pub buffer : List ℕ
+  pub count : ℕ
+  pub value : ℕ
+
+abbrev pub start : Room → List ℕ
+start room = take room.count room.buffer
+
+-- The buffer begins with a string that a scan may begin at.
+abbrev pub IsStart : Room → Type 0
+IsStart room = (room.count ≤ length room.buffer) × IsStringKey (start room)
+
+-- The buffer with a key at its beginning, and the key's length and value.
+abbrev pub IsEntry : FinMap byte_order ℕ → List ℕ → Room → Room → Type 0
+IsEntry map key before after =
+    (after.buffer ≡ key ++ drop (length key) before.buffer) × (after.count ≡ length key) × (get map key ≡ Some after.value)
+
+-- The key that is looked for from the string in the buffer is told with its value; or there is none, or it doesn't fit the
+-- buffer, or the buffer holds no such string, and then everything stays.
+abbrev pub scan_says : FinMap byte_order ℕ → (List ℕ → Option (List ℕ)) → Room → Room → Says
+scan_says map look before after = record {
+  none = IsStart before × (look (start before) ≡ None) × (after ≡ before);
+  found = IsStart before × ((key : List ℕ) × (look (start before) ≡ Some key) × (length key ≤ length before.buffer) × IsEntry map key before after);
+  bad_key = (IsStart before → ⊥) × (after ≡ before);
+  too_small = IsStart before × ((key : List ℕ) × (look (start before) ≡ Some key) × (length before.buffer < length key)) × (after ≡ before);
+}
+
+-- What is told of a key that was found with its value, or wasn't.
+abbrev pub entry_says : Option ℕ → List ℕ → Room → Room → Says
+entry_says found key before after = record {
+  none = (found ≡ None) × (after ≡ before);
+  found = (length key ≤ length before.buffer) × (after.buffer ≡ key ++ drop (length key) before.buffer) × (after.count ≡ length key) × (found ≡ Some after.value);
+  bad_key = ⊥;
+  too_small = IsSome found × (length before.buffer < length key) × (after ≡ before);
+}

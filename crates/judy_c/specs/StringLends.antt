@@ -1,0 +1,18 @@
+use Rattle.std.specs.Prelude.{◌≡◌, Option, Some, Result}
+use Rattle.std.specs.Borrow.{Fml, MutBor, Lends, LendsIf, LendsSoOk}
+use Rattle.std.specs.declared.alloc.AllocError.{AllocError}
+use Rattle.judy_c.specs.declared.strings.Strings.{Strings}
+use Rattle.judy_c.specs.contracts.strings.Strings.{the_row}
+use Rattle.judy_sl.specs.contracts.strings.JudySl as judysl
+
+abbrev pub with_array : Strings → judysl.the_row.Denot → Strings
+with_array m a = record m { array = Some a }
+
+abbrev pub lends_array : MutBor Strings → MutBor judysl.the_row.Denot → Fml
+lends_array strings array = Lends the_row judysl.the_row strings array (λ a. with_array strings.now a)
+
+abbrev pub lends_if_held : MutBor Strings → Option (MutBor judysl.the_row.Denot) → Fml
+lends_if_held strings array = LendsIf the_row judysl.the_row strings array (with_array strings.now) strings.now
+
+abbrev pub lends_made : MutBor Strings → Result (MutBor judysl.the_row.Denot) AllocError → Fml
+lends_made strings array = LendsSoOk the_row judysl.the_row strings array (λ after a. after.array ≡ Some a) (λ after. after ≡ strings.now)
