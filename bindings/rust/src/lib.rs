@@ -14,10 +14,14 @@
 //!
 //! An array may be sent to another thread, but isn't shared between threads: the library's proofs speak of one call at a time.
 
-mod bounds;
+mod array;
 mod map;
 mod set;
+mod span;
 mod sys;
+mod words;
+
+use std::alloc::{handle_alloc_error, Layout};
 
 pub use map::{JudyL, Pairs};
 pub use set::{Judy1, Keys};
@@ -33,3 +37,8 @@ impl std::fmt::Display for NoMemory {
 }
 
 impl std::error::Error for NoMemory {}
+
+/// Ends the program for want of memory, as std's collections do.
+fn no_room<T>(_: NoMemory) -> T {
+    handle_alloc_error(Layout::new::<u64>())
+}
