@@ -1,8 +1,8 @@
-//! Judy arrays: ordered sets and maps of 64-bit words, kept by libsellumaq, whose every call is proved to answer as a plain finite
-//! set or map does.
+//! Judy arrays: sets and maps of 64-bit words and strings, kept by libsellumaq, whose every call is proved to answer as a plain finite set
+//! or map does.
 //!
 //! [`Judy1`] is a set of words and [`JudyL`] a map from words to words. Both hold their keys in order, count how many lie
-//! between two words, find the n-th, and find the nearest word that is no key.
+//! between two words, find the n-th, and find the nearest word that is no key. [`JudySl`] is an ordered map from strings to words.
 //!
 //! ```
 //! use sellumaq::JudyL;
@@ -15,16 +15,21 @@
 //! An array may be sent to another thread, but isn't shared between threads: the library's proofs speak of one call at a time.
 
 mod array;
+mod edge;
+mod keyed;
 mod map;
 mod set;
 mod span;
+mod strings;
 mod sys;
 mod words;
 
 use std::alloc::{handle_alloc_error, Layout};
 
+pub use keyed::{InsertError, MAX_KEY};
 pub use map::{JudyL, Pairs};
 pub use set::{Judy1, Keys};
+pub use strings::{Entries, JudySl};
 
 /// There was no memory for a new key; the array is as it was.
 #[derive(Clone, Copy, PartialEq, Eq, Debug)]

@@ -17,11 +17,17 @@ impl Handle {
     }
 }
 
+// What calls answer that have more than yes and no to tell.
 pub const ADDED: u32 = 1;
+pub const FOUND: u32 = 1;
 pub const NO_MEMORY: u32 = 2;
+pub const FULL: u32 = 3;
 
 /// A search from a word.
 pub type Search = unsafe extern "C" fn(*mut Handle, u64, *mut u64) -> bool;
+
+/// A scan from the string in a buffer of the capacity given, whose length and the value of the key found stand behind pointers.
+pub type Scan = unsafe extern "C" fn(*mut Handle, *mut u8, usize, *mut usize, *mut u64) -> u32;
 
 macro_rules! calls {
     ($kind:ident { $($call:ident($($name:ident: $type:ty),*) -> $answer:ty;)* }) => {
@@ -65,4 +71,25 @@ calls!(judyl {
     len() -> u64;
     count(from: u64, to: u64) -> u64;
     free() -> u64;
+});
+
+macro_rules! string_calls {
+    ($kind:ident { $($more:tt)* }) => {
+        calls!($kind {
+            ins(key: *const u8, length: usize, slot: *mut *mut u64) -> u32;
+            get(key: *const u8, length: usize, value: *mut u64) -> bool;
+            slot(key: *const u8, length: usize, slot: *mut *mut u64) -> bool;
+            del(key: *const u8, length: usize) -> bool;
+            len() -> u64;
+            free() -> u64;
+            $($more)*
+        });
+    };
+}
+
+string_calls!(judysl {
+    first(key: *mut u8, capacity: usize, length: *mut usize, value: *mut u64) -> u32;
+    next(key: *mut u8, capacity: usize, length: *mut usize, value: *mut u64) -> u32;
+    last(key: *mut u8, capacity: usize, length: *mut usize, value: *mut u64) -> u32;
+    prev(key: *mut u8, capacity: usize, length: *mut usize, value: *mut u64) -> u32;
 });
