@@ -27,7 +27,7 @@ help:
 	@echo 'make refusals    runs the program with each of its calls for memory refused in turn'
 	@echo 'make lib         proves and builds the library for C, and leaves it in out/lib; make lib-test tries it'
 	@echo 'make bindings-test  tries it from C, Rust and Python'
-	@echo 'make bench       measures the word arrays beside libJudy and BTreeMap'
+	@echo 'make bench       measures the arrays beside libJudy, BTreeMap and HashMap'
 	@echo 'make install     puts the program and the library for C, Rust and Python under PREFIX ($(PREFIX)); make uninstall takes them away'
 	@echo 'make install-test  runs the programs of the README over a library that was installed'
 	@echo 'make fmt         lays out the sources'

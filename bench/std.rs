@@ -1,6 +1,7 @@
 // Rust's BTreeSet and BTreeMap behind calls of C, to be measured beside the arrays.
 use std::collections::{BTreeMap, BTreeSet};
 use std::ops::Bound::{Excluded, Unbounded};
+use std::slice::{from_raw_parts, from_raw_parts_mut};
 
 type Set = BTreeSet<u64>;
 type Map = BTreeMap<u64, u64>;
@@ -65,4 +66,48 @@ pub unsafe extern "C" fn btree_map_next(map: *const Map, from: u64, key: *mut u6
 #[no_mangle]
 pub unsafe extern "C" fn btree_map_remove(map: *mut Map, key: u64) {
     (*map).remove(&key);
+}
+
+macro_rules! text_map {
+    ($map:ty, $new:ident, $free:ident, $insert:ident, $value:ident, $remove:ident) => {
+        #[no_mangle]
+        pub extern "C" fn $new() -> *mut $map {
+            Box::into_raw(Box::default())
+        }
+
+        #[no_mangle]
+        pub unsafe extern "C" fn $free(map: *mut $map) {
+            drop(Box::from_raw(map));
+        }
+
+        #[no_mangle]
+        pub unsafe extern "C" fn $insert(map: *mut $map, key: *const u8, length: usize, value: u64) {
+            (*map).insert(from_raw_parts(key, length).to_vec(), value);
+        }
+
+        #[no_mangle]
+        pub unsafe extern "C" fn $value(map: *const $map, key: *const u8, length: usize) -> u64 {
+            (*map).get(from_raw_parts(key, length)).copied().unwrap_or(0)
+        }
+
+        #[no_mangle]
+        pub unsafe extern "C" fn $remove(map: *mut $map, key: *const u8, length: usize) {
+            (*map).remove(from_raw_parts(key, length));
+        }
+    };
+}
+
+type Ordered = BTreeMap<Vec<u8>, u64>;
+
+text_map!(Ordered, btree_text_new, btree_text_free, btree_text_insert, btree_text_value, btree_text_remove);
+
+#[no_mangle]
+pub unsafe extern "C" fn btree_text_next(map: *const Ordered, key: *mut u8, length: *mut usize) -> bool {
+    let from = from_raw_parts(key, *length);
+    let Some((found, _)) = (*map).range::<[u8], _>((Excluded(from), Unbounded)).next() else {
+        return false;
+    };
+    from_raw_parts_mut(key, found.len()).copy_from_slice(found);
+    *length = found.len();
+    true
 }
