@@ -168,6 +168,32 @@ uint64_t sellumaq_judysl_len(sellumaq_judysl *map);
 /* Gives all memory back, and answers how many keys there were. The handle is the empty array then. */
 uint64_t sellumaq_judysl_free(sellumaq_judysl *map);
 
+/* ---- maps from byte strings to words ----
+ *
+ * A key is 0 to 1,024 bytes of any value. The keys are in no order. */
+
+typedef struct { void *array; } sellumaq_judyhs;
+
+/* Hands out the slot of a key, which is put in with the value 0 where it is absent; the value of a key that is there stays.
+ * SELLUMAQ_FOUND; or, and then nothing changed and nothing is handed out, the first that applies of SELLUMAQ_BAD_KEY,
+ * SELLUMAQ_FULL and SELLUMAQ_NO_MEMORY. A key that is there is never refused. */
+uint32_t sellumaq_judyhs_ins(sellumaq_judyhs *map, const uint8_t *key, size_t length, uint64_t **slot);
+
+/* The value of a key; false where the key is absent, as longer ones always are. */
+bool sellumaq_judyhs_get(sellumaq_judyhs *map, const uint8_t *key, size_t length, uint64_t *value);
+
+/* The slot of a key; false where the key is absent. */
+bool sellumaq_judyhs_slot(sellumaq_judyhs *map, const uint8_t *key, size_t length, uint64_t **slot);
+
+/* Takes a key out with its value; true where it was there. Never refused. */
+bool sellumaq_judyhs_del(sellumaq_judyhs *map, const uint8_t *key, size_t length);
+
+/* How many keys there are. */
+uint64_t sellumaq_judyhs_len(sellumaq_judyhs *map);
+
+/* Gives all memory back, and answers how many keys there were. The handle is the empty array then. */
+uint64_t sellumaq_judyhs_free(sellumaq_judyhs *map);
+
 #ifdef __cplusplus
 }
 #endif

@@ -95,6 +95,11 @@ PPvoid_t JudySLNext(Pcvoid_t array, uint8_t *string, PJError_t error);
 PPvoid_t JudySLLast(Pcvoid_t array, uint8_t *string, PJError_t error);
 PPvoid_t JudySLPrev(Pcvoid_t array, uint8_t *string, PJError_t error);
 
+PPvoid_t JudyHSGet(Pcvoid_t array, void *bytes, Word_t length);
+PPvoid_t JudyHSIns(PPvoid_t array, void *bytes, Word_t length, PJError_t error);
+int JudyHSDel(PPvoid_t array, void *bytes, Word_t length, PJError_t error);
+Word_t JudyHSFreeArray(PPvoid_t array, PJError_t error);
+
 /* The short forms: the answer goes into the first word named; on an error the program is told on standard error and ends, as
  * the manual pages say. The array is named as the variable that holds it. */
 void sellumaq_hp_stop(const char *call, const JError_t *error);
@@ -144,6 +149,11 @@ void sellumaq_hp_stop(const char *call, const JError_t *error);
 #define JSLN(slot, array, string) SELLUMAQ_HP_TRY_SLOT("JudySLNext", slot, JudySLNext((Pvoid_t)(array), string, je))
 #define JSLL(slot, array, string) SELLUMAQ_HP_TRY_SLOT("JudySLLast", slot, JudySLLast((Pvoid_t)(array), string, je))
 #define JSLP(slot, array, string) SELLUMAQ_HP_TRY_SLOT("JudySLPrev", slot, JudySLPrev((Pvoid_t)(array), string, je))
+
+#define JHSG(slot, array, bytes, length) ((slot) = (PWord_t)JudyHSGet((Pvoid_t)(array), (void *)(bytes), length))
+#define JHSI(slot, array, bytes, length) SELLUMAQ_HP_TRY_SLOT("JudyHSIns", slot, JudyHSIns((PPvoid_t)(&(array)), (void *)(bytes), length, je))
+#define JHSD(found, array, bytes, length) SELLUMAQ_HP_TRY("JudyHSDel", found, JERR, JudyHSDel((PPvoid_t)(&(array)), (void *)(bytes), length, je))
+#define JHSFA(count, array) ((count) = JudyHSFreeArray((PPvoid_t)(&(array)), PJE0))
 
 #ifdef __cplusplus
 }

@@ -42,6 +42,10 @@ void sellumaq_hp_stop(const char *call, const JError_t *error) {
 #define READS(refused) \
     if (!string) return refused(error, JU_ERRNO_NULLPINDEX)
 
+/* A call on bytes, which the caller names by a pointer; where there are none, that may be null. */
+#define READS_BYTES(refused) \
+    if (!bytes && length) return refused(error, JU_ERRNO_NULLPINDEX)
+
 int Judy1Set(PPvoid_t array, Word_t key, PJError_t error) {
     CHANGES(refuse);
     uint32_t done = sellumaq_judy1_set((sellumaq_judy1 *)array, key);
@@ -204,6 +208,34 @@ PPvoid_t JudySLFirst(Pcvoid_t array, uint8_t *string, PJError_t error) { return 
 PPvoid_t JudySLNext(Pcvoid_t array, uint8_t *string, PJError_t error) { return search(sellumaq_judysl_next, array, string, error); }
 PPvoid_t JudySLLast(Pcvoid_t array, uint8_t *string, PJError_t error) { return search(sellumaq_judysl_last, array, string, error); }
 PPvoid_t JudySLPrev(Pcvoid_t array, uint8_t *string, PJError_t error) { return search(sellumaq_judysl_prev, array, string, error); }
+
+/* A pointer to no bytes that isn't null. */
+static const uint8_t *bytes_at(const void *bytes) { return bytes ? bytes : (const uint8_t *)""; }
+
+PPvoid_t JudyHSIns(PPvoid_t array, void *bytes, Word_t length, PJError_t error) {
+    CHANGES(refuse_slot);
+    READS_BYTES(refuse_slot);
+    uint64_t *slot;
+    uint32_t answer = sellumaq_judyhs_ins((sellumaq_judyhs *)array, bytes_at(bytes), length, &slot);
+    return answer == SELLUMAQ_FOUND ? (PPvoid_t)slot : refuse_insert(error, answer);
+}
+
+int JudyHSDel(PPvoid_t array, void *bytes, Word_t length, PJError_t error) {
+    CHANGES(refuse);
+    READS_BYTES(refuse);
+    return sellumaq_judyhs_del((sellumaq_judyhs *)array, bytes_at(bytes), length);
+}
+
+Word_t JudyHSFreeArray(PPvoid_t array, PJError_t error) {
+    CHANGES(refuse);
+    return sellumaq_judyhs_free((sellumaq_judyhs *)array);
+}
+
+PPvoid_t JudyHSGet(Pcvoid_t array, void *bytes, Word_t length) {
+    sellumaq_judyhs map = {(void *)array};
+    uint64_t *slot;
+    return sellumaq_judyhs_slot(&map, bytes_at(bytes), length, &slot) ? (PPvoid_t)slot : NULL;
+}
 
 /* Bytes aren't counted. */
 Word_t Judy1MemUsed(Pcvoid_t array) { (void)array; return 0; }

@@ -93,6 +93,26 @@ static void strings(void) {
     JSLFA(count, map); CHECK(count == 3 && map == NULL);
 }
 
+static void byte_strings(void) {
+    Pvoid_t map = NULL;
+    Word_t count, *slot;
+    int found;
+    uint8_t bytes[1025] = "pear";
+    JHSG(slot, map, bytes, 4); CHECK(slot == NULL);
+    JHSI(slot, map, bytes, 4); CHECK(*slot == 0); *slot = 1;
+    JHSI(slot, map, bytes, 4); CHECK(*slot == 1);
+    JHSI(slot, map, bytes, 1024); CHECK(*slot == 0); *slot = 2;
+    JHSI(slot, map, bytes, 0); *slot = 3;
+    CHECK(JudyHSIns(&map, bytes, 1025, PJE0) == PPJERR);
+    JHSG(slot, map, bytes, 1024); CHECK(*slot == 2);
+    JHSG(slot, map, NULL, 0); CHECK(*slot == 3);
+    JHSG(slot, map, bytes, 1025); CHECK(slot == NULL);
+    JHSD(found, map, bytes, 1025); CHECK(found == 0);
+    JHSD(found, map, bytes, 4); CHECK(found == 1);
+    JHSD(found, map, bytes, 4); CHECK(found == 0);
+    JHSFA(count, map); CHECK(count == 2 && map == NULL);
+}
+
 /* What the manual pages say of null pointers. */
 static void refused(void) {
     JError_t error;
@@ -110,6 +130,11 @@ static void refused(void) {
     CHECK(JudySLDel(&none, NULL, &error) == JERR && JU_ERRNO(&error) == JU_ERRNO_NULLPINDEX);
     CHECK(JudySLGet(none, NULL, &error) == PPJERR && JU_ERRNO(&error) == JU_ERRNO_NULLPINDEX);
     CHECK(JudySLPrev(none, NULL, &error) == PPJERR && JU_ERRNO(&error) == JU_ERRNO_NULLPINDEX);
+    CHECK(JudyHSIns(NULL, "a", 1, &error) == PPJERR && JU_ERRNO(&error) == JU_ERRNO_NULLPPARRAY);
+    CHECK(JudyHSDel(NULL, "a", 1, &error) == JERR && JU_ERRNO(&error) == JU_ERRNO_NULLPPARRAY);
+    CHECK(JudyHSFreeArray(NULL, &error) == (Word_t)JERR && JU_ERRNO(&error) == JU_ERRNO_NULLPPARRAY);
+    CHECK(JudyHSIns(&none, NULL, 1, &error) == PPJERR && JU_ERRNO(&error) == JU_ERRNO_NULLPINDEX);
+    CHECK(JudyHSDel(&none, NULL, 1, &error) == JERR && JU_ERRNO(&error) == JU_ERRNO_NULLPINDEX);
     CHECK(Judy1First(none, NULL, &error) == JERR && JU_ERRNO(&error) == JU_ERRNO_NULLPINDEX);
     CHECK(JudyLNext(none, NULL, &error) == PPJERR && JU_ERRNO(&error) == JU_ERRNO_NULLPINDEX);
     CHECK(JudyLPrevEmpty(none, NULL, &error) == JERR && JU_ERRNO(&error) == JU_ERRNO_NULLPINDEX);
@@ -127,6 +152,7 @@ int main(void) {
     sets();
     maps();
     strings();
+    byte_strings();
     refused();
     puts("hp: ok");
     return 0;

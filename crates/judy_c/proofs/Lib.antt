@@ -6,3 +6,5 @@ pub mod SetHandles
 pub mod BoxedStrings
 pub mod StringHandles
 pub mod ScanFacts
+pub mod BoxedBytes
+pub mod ByteHandles

@@ -36,10 +36,8 @@ IsEntry map key before after =
 -- buffer, or the buffer holds no such string, and then everything stays.
 abbrev pub scan_says : FinMap byte_order ℕ → (List ℕ → Option (List ℕ)) → Room → Room → Says
 scan_says map look before after = record {
-  absent = IsStart before × (look (start before) ≡ None) × (after ≡ before);
+  none = IsStart before × (look (start before) ≡ None) × (after ≡ before);
   found = IsStart before × ((key : List ℕ) × (look (start before) ≡ Some key) × (length key ≤ length before.buffer) × IsEntry map key before after);
-  no_memory = ⊥;
-  full = ⊥;
   bad_key = (IsStart before → ⊥) × (after ≡ before);
   too_small = IsStart before × ((key : List ℕ) × (look (start before) ≡ Some key) × (length before.buffer < length key)) × (after ≡ before);
 }
@@ -47,10 +45,8 @@ scan_says map look before after = record {
 -- What is told of a key that was found with its value, or wasn't.
 abbrev pub entry_says : Option ℕ → List ℕ → Room → Room → Says
 entry_says found key before after = record {
-  absent = (found ≡ None) × (after ≡ before);
+  none = (found ≡ None) × (after ≡ before);
   found = (length key ≤ length before.buffer) × (after.buffer ≡ key ++ drop (length key) before.buffer) × (after.count ≡ length key) × (found ≡ Some after.value);
-  no_memory = ⊥;
-  full = ⊥;
   bad_key = ⊥;
   too_small = IsSome found × (length before.buffer < length key) × (after ≡ before);
 }

@@ -11,3 +11,6 @@ pub mod Answers
 pub mod KeyInserts
 pub mod KeyScans
 pub mod StringSlots
+pub mod ByteMaps
+pub mod ByteLends
+pub mod ByteSlots

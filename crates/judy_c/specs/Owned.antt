@@ -11,6 +11,9 @@ use Rattle.std_heap.specs.contracts.GlobalAllocator.TheImpl.{ghosts}
 use Rattle.judy_word.specs.contracts.judy1.Judy1 as judy1
 use Rattle.judy_word.specs.contracts.judyl.JudyL as judyl
 use Rattle.judy_sl.specs.contracts.strings.JudySl as judysl
+use Rattle.judy_hs.specs.contracts.bytes.JudyHs as judyhs
+use Rattle.judy_hs.specs.contracts.hash.Fnv1a as fnv
+use Rattle.judy_hs.specs.contracts.hash.Fnv1aByteHash.TheImpl as hash
 
 abbrev pub heap : Global
 heap = record { memory = record { seal = tt } }
@@ -39,3 +42,13 @@ held_judysl = held judysl.the_row
 
 abbrev pub strings_coded : Coded (Option judysl.the_row.Denot)
 strings_coded = coded_option judysl.the_row.coded
+
+-- An array over byte strings, under the hash FNV-1a.
+abbrev pub judyhs_row : RattleType
+judyhs_row = judyhs.the_row fnv.the_row hash.ghosts
+
+abbrev pub held_judyhs : Ptr → Option judyhs_row.Denot → Fml
+held_judyhs = held judyhs_row
+
+abbrev pub bytes_coded : Coded (Option judyhs_row.Denot)
+bytes_coded = coded_option judyhs_row.coded

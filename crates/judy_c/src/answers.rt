@@ -1,19 +1,45 @@
-//! The numbers by which the calls of C on arrays over strings answer, as sellumaq.h names them.
+//! How the calls of C on arrays over strings, and over byte strings, answer.
 
-/// There is no such key.
+ghost use Rattle.std.specs.Prelude.{◌≡◌, Some};
+ghost use Rattle.judy_c.specs.Answers.{answered};
+
+// There is no such key.
 pub(crate) const NONE: u32 = 0;
 
-/// The key is there, and what was asked of it is told.
+// The key is there, and what was asked of it is told.
 pub(crate) const FOUND: u32 = 1;
 
-/// The key is absent, and there is no memory for it.
+// The key is absent, and there is no memory for it.
 pub(crate) const NO_MEMORY: u32 = 2;
 
-/// The key is absent, and the array holds as many keys as it may.
+// The key is absent, and the array holds as many keys as it may.
 pub(crate) const FULL: u32 = 3;
 
-/// The bytes are no key.
+// The bytes are no key.
 pub(crate) const BAD_KEY: u32 = 4;
 
-/// The key found doesn't fit the caller's buffer.
+// The key found doesn't fit the caller's buffer.
 pub(crate) const TOO_SMALL: u32 = 5;
+
+// Why an insert hands out no slot.
+#[derive(Clone, Copy)]
+pub(crate) enum Refusal {
+    NoMemory,
+    Full,
+    BadKey,
+}
+
+// Answers an insert by its number, and hands the slot out where there is one.
+pub(crate) fn answer_insert<'a>(made: Result<&'a mut u64, Refusal>, slot: &mut &'a mut u64) -> u32
+    ensures { answered result slot.new ≡ Some made.entry }
+{
+    match made {
+        Ok(word) => {
+            *slot = word;
+            FOUND
+        }
+        Err(Refusal::NoMemory) => NO_MEMORY,
+        Err(Refusal::Full) => FULL,
+        Err(Refusal::BadKey) => BAD_KEY,
+    }
+}

@@ -3,23 +3,23 @@
 //! C knows a map by its handle, one word (strings.rt); a handle of zeros is the map without keys. Each call answers what the
 //! call of `judy_sl::JudySl` of the same name does for that map. A key is a pointer and a length.
 
-ghost use Rattle.std.specs.Prelude.{◌≡◌, None, Some, IfSome};
+ghost use Rattle.std.specs.Prelude.{◌≡◌, None};
 ghost use Rattle.std.specs.FinMap as map;
 ghost use Rattle.std.specs.Option.{option_copied_mut};
 ghost use Rattle.judy_model.specs.Arrays as array;
 ghost use Rattle.judy_model.specs.Keys.{IsStringKey};
 ghost use Rattle.judy_model.specs.Neighbours as neighbours;
-ghost use Rattle.judy_c.specs.Answers.{IsSaid, lent_at};
-ghost use Rattle.judy_c.specs.KeyInserts.{ins_says};
+ghost use Rattle.judy_c.specs.Answers.{IsSaid, answered};
+ghost use Rattle.judy_c.specs.KeyInserts.{IsMadeAs};
 ghost use Rattle.judy_c.specs.KeyScans.{scan_says};
 ghost use Rattle.judy_c.specs.StringMaps.{array_in};
 ghost use Rattle.judy_c.specs.Told.{IsTold, lent_where};
 
-use crate::answers::{BAD_KEY, FOUND, FULL, NO_MEMORY};
+use crate::answers::answer_insert;
 use crate::scans::Scan;
 use crate::strings::{MOST_KEYS, Strings};
 use crate::told::{hand_out, tell};
-use judy_sl::{JudySl, SlError};
+use judy_sl::JudySl;
 use std::alloc::Global;
 
 /// The value of a key; bytes that are no key are absent. (Manual: JSLG, JudySLGet.)
@@ -48,18 +48,9 @@ pub extern "C" fn sellumaq_judysl_ins<'a>(
     key: &[u8],
     slot: &mut &'a mut u64,
 ) -> u32
-    ensures said { IsSaid (ins_says IsStringKey (array_in handle.old) key.now) result }
-    ensures value { IfSome (lent_at result slot.new) (λ lent. Some lent.now ≡ map.get (array.ins (array_in handle.old).map key.now) key.now) }
+    ensures { IsMadeAs IsStringKey (array_in handle.old) key.now (answered result slot.new) }
 {
-    match handle.ins(alloc, key) {
-        Ok(found) => {
-            *slot = found;
-            FOUND
-        }
-        Err(SlError::BadKey) => BAD_KEY,
-        Err(SlError::Full) => FULL,
-        Err(SlError::NoMemory) => NO_MEMORY,
-    }
+    answer_insert(handle.ins(alloc, key), slot)
 }
 
 /// Hands out the slot of a key: what is left there is the key's value. (Manual: JSLG, JudySLGet.)

@@ -14,7 +14,9 @@
 #![tactic(auto)]
 
 mod answers;
+mod bytes;
 mod judy1;
+mod judyhs;
 mod judyl;
 mod judysl;
 mod loose;

@@ -1,15 +1,15 @@
 // The slots of a strings handle.
-ghost use Rattle.std.specs.Prelude.{◌≡◌, Some, IfOk, OnOk, IfErr, IsFalse};
+ghost use Rattle.std.specs.Prelude.{◌≡◌};
 ghost use Rattle.std.specs.Borrow.{sem};
 ghost use Rattle.std.specs.FinMap as map;
 ghost use Rattle.std.specs.Option.{option_copied_mut};
-ghost use Rattle.judy_model.specs.Arrays as array;
 ghost use Rattle.judy_model.specs.Keys.{IsStringKey};
-ghost use Rattle.judy_sl.specs.Lends.{IsRefusal};
+ghost use Rattle.judy_c.specs.KeyInserts.{IsMade};
 ghost use Rattle.judy_c.specs.StringMaps.{array_in};
 ghost use Rattle.judy_c.specs.StringSlots.{LendsSlotOf, LendsInsOf};
 
 use super::Strings;
+use crate::answers::Refusal;
 use judy_sl::{SlError, is_key};
 use std::alloc::Global;
 
@@ -25,20 +25,22 @@ impl Strings {
         }
     }
 
-    // The slot of a key, which is put in with the value 0 where it is absent. The errors are those of `JudySl::ins`; for
-    // bytes that are no key no array is made.
-    pub(crate) fn ins(&mut self, alloc: Global, key: &[u8]) -> Result<&mut u64, SlError>
+    // The slot of a key, which is put in with the value 0 where it is absent. For bytes that are no key no array is made.
+    pub(crate) fn ins(&mut self, alloc: Global, key: &[u8]) -> Result<&mut u64, Refusal>
         ensures* writes_back { sem 𝓛 (LendsInsOf self.entry key.now result) }
-        ensures value { IfOk result (λ slot. Some slot.now ≡ map.get (array.ins (array_in self.old).map key.now) key.now) }
-        ensures accepted { OnOk result (IsStringKey key.now × IsFalse (array.is_full (array_in self.old) key.now)) }
-        ensures refused { IfErr result (IsRefusal (array_in self.old) key.now) }
+        ensures made { IsMade IsStringKey (array_in self.old) key.now result }
     {
         if self.is_null() && !is_key(key) {
-            return Err(SlError::BadKey);
+            return Err(Refusal::BadKey);
         }
         match self.array_or_new(alloc) {
-            Ok(array) => array.ins(key),
-            Err(_) => Err(SlError::NoMemory),
+            Ok(array) => match array.ins(key) {
+                Ok(slot) => Ok(slot),
+                Err(SlError::BadKey) => Err(Refusal::BadKey),
+                Err(SlError::Full) => Err(Refusal::Full),
+                Err(SlError::NoMemory) => Err(Refusal::NoMemory),
+            },
+            Err(_) => Err(Refusal::NoMemory),
         }
     }
 }

@@ -17,5 +17,5 @@ returns-in-Err c =
       | else-is_null-via-else-is_null w ↦ absurd (true≢false (sym (c.is_null.ensures.0 ∙ ap is_none null) ∙ w.if-is_null.false))
     ] in (
       (refl, (λ w is. absurd (true≢false (sym is))), ap array_in (same ∙ c.is_null.ensures.1)),
-      record { writes_back = tt; value = tt; accepted = tt; refused = (key, nothing_held _ c.args.key.now (ap array_of null), room_in_null _ c.args.key.now (ap array_of null)) },
+      record { writes_back = tt; made = (key, nothing_held _ c.args.key.now (ap array_of null), room_in_null _ c.args.key.now (ap array_of null)) },
     )
