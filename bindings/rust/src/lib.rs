@@ -1,8 +1,9 @@
-//! Judy arrays: sets and maps of 64-bit words and strings, kept by libsellumaq, whose every call is proved to answer as a plain finite set
-//! or map does.
+//! Judy arrays: sets and maps of 64-bit words, strings and byte strings, kept by libsellumaq, whose every call is proved to answer as a
+//! plain finite set or map does.
 //!
 //! [`Judy1`] is a set of words and [`JudyL`] a map from words to words. Both hold their keys in order, count how many lie
-//! between two words, find the n-th, and find the nearest word that is no key. [`JudySl`] is an ordered map from strings to words.
+//! between two words, find the n-th, and find the nearest word that is no key. [`JudySl`] is an ordered map from strings to words, and
+//! [`JudyHs`] one from byte strings, which has no order.
 //!
 //! ```
 //! use sellumaq::JudyL;
@@ -15,6 +16,7 @@
 //! An array may be sent to another thread, but isn't shared between threads: the library's proofs speak of one call at a time.
 
 mod array;
+mod bytes;
 mod edge;
 mod keyed;
 mod map;
@@ -26,6 +28,7 @@ mod words;
 
 use std::alloc::{handle_alloc_error, Layout};
 
+pub use bytes::JudyHs;
 pub use keyed::{InsertError, MAX_KEY};
 pub use map::{JudyL, Pairs};
 pub use set::{Judy1, Keys};

@@ -93,3 +93,5 @@ string_calls!(judysl {
     last(key: *mut u8, capacity: usize, length: *mut usize, value: *mut u64) -> u32;
     prev(key: *mut u8, capacity: usize, length: *mut usize, value: *mut u64) -> u32;
 });
+
+string_calls!(judyhs {});

@@ -1,6 +1,6 @@
-//! Maps from strings beside std's, over random changes of keys that share their beginnings.
-use sellumaq::{InsertError, JudySl, MAX_KEY};
-use std::collections::BTreeMap;
+//! Maps from strings and byte strings beside std's, over random changes of keys that share their beginnings.
+use sellumaq::{InsertError, JudyHs, JudySl, MAX_KEY};
+use std::collections::{BTreeMap, HashMap};
 use std::mem::replace;
 use std::ops::Bound::{Excluded, Included, Unbounded};
 
@@ -77,14 +77,35 @@ fn a_map_of_strings_is_a_map() {
 }
 
 #[test]
+fn a_map_of_byte_strings_is_a_map() {
+    let (mut strings, mut map, mut plain) = (Strings(2), JudyHs::new(), HashMap::new());
+    for _ in 0..8000 {
+        let (key, value) = (strings.of(b"a\0z\xff"), strings.any());
+        match strings.any() % 4 {
+            0 => assert_eq!(map.remove(&key), plain.remove(&key)),
+            1 => assert_eq!(replace(map.slot(&key).unwrap(), value), plain.insert(key.clone(), value).unwrap_or(0)),
+            2 => assert_eq!(map.get_mut(&key).map(|it| replace(it, value)), plain.get_mut(&key).map(|it| replace(it, value))),
+            _ => assert_eq!(map.insert(&key, value), plain.insert(key.clone(), value)),
+        }
+        let other = strings.of(b"a\0z\xff");
+        assert_eq!((map.get(&other), map.contains_key(&other)), (plain.get(&other).copied(), plain.contains_key(&other)));
+        assert_eq!((map.len(), map.is_empty()), (plain.len() as u64, plain.is_empty()));
+    }
+    assert_eq!(format!("{map:?}"), format!("JudyHs {{ len: {}, .. }}", plain.len()));
+    let copied: JudyHs = plain.iter().map(|(key, value)| (key, *value)).collect();
+    assert!(plain.iter().all(|(key, value)| copied.get(key) == Some(*value)));
+}
+
+#[test]
 fn bytes_that_are_no_key() {
     let (longest, longer) = ([0xff; MAX_KEY], [0xff; MAX_KEY + 1]);
-    let mut strings = JudySl::new();
-    assert_eq!((strings.insert(longest, 1), strings.insert("", 2)), (None, None));
+    let (mut strings, mut bytes) = (JudySl::new(), JudyHs::new());
+    assert_eq!((strings.insert(longest, 1), bytes.insert(longest, 1), strings.insert("", 2)), (None, None, None));
     assert_eq!(strings.try_insert(longer, 3), Err(InsertError::BadKey));
+    assert_eq!(bytes.try_insert(longer, 3), Err(InsertError::BadKey));
     assert_eq!(strings.try_insert("a\0b", 3), Err(InsertError::BadKey));
-    assert_eq!((strings.get(longer), strings.get("\0")), (None, None));
-    assert_eq!(strings.len(), 2);
+    assert_eq!((strings.get(longer), bytes.get(longer), strings.get("\0")), (None, None, None));
+    assert_eq!((strings.len(), bytes.len()), (2, 1));
     assert_eq!(strings.range::<[u8]>((Included(&longer[..]), Unbounded)).next(), None);
     assert_eq!(strings.at_or_before(longer), Some((longest.to_vec(), 1)));
     assert_eq!(strings.range(.."\0").collect::<Vec<_>>(), [(vec![], 2)]);
