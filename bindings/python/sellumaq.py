@@ -1,4 +1,4 @@
-"""Judy arrays: sets and dicts of 64-bit words, and dicts from strings to words, kept by libsellumaq, whose every call is
+"""Judy arrays: sets and dicts of 64-bit words, and dicts from strings and byte strings to words, kept by libsellumaq, whose every call is
 proved to answer as a plain finite set or map does.
 
     >>> squares = JudyL({n * n: n for n in range(1, 6)})
@@ -11,8 +11,8 @@ proved to answer as a plain finite set or map does.
     ['Grace']
 
 `Judy1` is used as a set is, `JudyL` as a dict is, whose keys and values are ints from 0 to 2**64 - 1; both hold their keys in order.
-`JudySL` is an ordered dict from strings to such ints: a key is a str without "\\0" of at most 1,024 bytes in UTF-8. `JudySLBytes`
-is the same with bytes as keys.
+`JudySL` is an ordered dict from strings to such ints: a key is a str without "\\0" of at most 1,024 bytes in UTF-8. `JudyHS` has no order
+and no walk through its keys, which are any str of at most 1,024 bytes. `JudySLBytes` and `JudyHSBytes` are the same with bytes as keys.
 The library is found as libsellumaq.so.0, or where the environment's SELLUMAQ_LIBRARY names its file. An array isn't shared between threads.
 """
 
@@ -21,7 +21,7 @@ import os
 from collections.abc import ItemsView, MutableMapping, MutableSet, ValuesView
 from itertools import takewhile
 
-__all__ = ["Judy1", "JudyL", "JudySL", "JudySLBytes", "MAX", "MAX_KEY"]
+__all__ = ["Judy1", "JudyL", "JudySL", "JudySLBytes", "JudyHS", "JudyHSBytes", "MAX", "MAX_KEY"]
 
 MAX = 2**64 - 1
 MAX_KEY = 1024
@@ -358,3 +358,24 @@ class JudySL(_Text, _OrderedStrings):
 
 class JudySLBytes(_Bytes, _OrderedStrings):
     """An ordered dict from bytes to words."""
+
+
+class _Unordered(_Strings, MutableMapping):
+    """What both kinds of JudyHS have alike. What would need a walk through the keys is a TypeError."""
+
+    _calls = _string_calls("judyhs")
+    __iter__ = None
+
+    def __reduce__(self):
+        raise TypeError(f"a {type(self).__name__} can't be copied: there is no walk through its keys")
+
+    def __repr__(self):
+        return f"<{type(self).__name__} of {len(self)} keys>"
+
+
+class JudyHS(_Text, _Unordered):
+    """A dict from str to words, in no order."""
+
+
+class JudyHSBytes(_Bytes, _Unordered):
+    """A dict from bytes to words, in no order."""

@@ -6,7 +6,7 @@ import random
 import unittest
 
 import sellumaq
-from sellumaq import MAX, MAX_KEY, Judy1, JudyL, JudySL, JudySLBytes
+from sellumaq import MAX, MAX_KEY, Judy1, JudyHS, JudyHSBytes, JudyL, JudySL, JudySLBytes
 
 
 def key(words):
@@ -79,6 +79,7 @@ class Words(unittest.TestCase):
                 self.assertEqual(other, array)
                 other.clear()
                 self.assertEqual(len(array), 1)
+        self.assertRaises(TypeError, copy.copy, JudyHS(five=6))
 
 
 def string(words, letters):
@@ -114,8 +115,24 @@ class Strings(unittest.TestCase):
     def test_a_dict_of_bytes_is_a_dict(self):
         self.ordered(JudySLBytes(), b"az\x01\xff")
 
+    def test_a_dict_without_order(self):
+        for array, letters in ((JudyHS(), "az\0\u00e4"), (JudyHSBytes(), b"az\0\xff")):
+            words, plain = random.Random(4), {}
+            for _ in range(3000):
+                it, value = string(words, letters), words.getrandbits(64)
+                if words.random() < 0.7:
+                    array[it] = plain[it] = value
+                else:
+                    self.assertEqual(array.pop(it, None), plain.pop(it, None))
+                other = string(words, letters)
+                self.assertEqual((len(array), other in array, array.get(other)), (len(plain), other in plain, plain.get(other)))
+            self.assertTrue(all(array[key] == plain[key] for key in plain))
+            self.assertRaises(TypeError, iter, array)
+            array.clear()
+            self.assertFalse(array)
+
     def test_what_is_no_key(self):
-        for array in (JudySL(),):
+        for array in (JudySL(), JudyHS()):
             for wrong, error in ((5, TypeError), (b"bytes", TypeError), ("a" * (MAX_KEY + 1), ValueError)):
                 self.assertNotIn(wrong, array)
                 self.assertRaises(KeyError, array.__getitem__, wrong)
