@@ -1,5 +1,5 @@
-// Rust's BTreeSet and BTreeMap behind calls of C, to be measured beside the arrays.
-use std::collections::{BTreeMap, BTreeSet};
+// Rust's BTreeSet, BTreeMap and HashMap behind calls of C, to be measured beside the arrays.
+use std::collections::{BTreeMap, BTreeSet, HashMap};
 use std::ops::Bound::{Excluded, Unbounded};
 use std::slice::{from_raw_parts, from_raw_parts_mut};
 
@@ -98,8 +98,10 @@ macro_rules! text_map {
 }
 
 type Ordered = BTreeMap<Vec<u8>, u64>;
+type Hashed = HashMap<Vec<u8>, u64>;
 
 text_map!(Ordered, btree_text_new, btree_text_free, btree_text_insert, btree_text_value, btree_text_remove);
+text_map!(Hashed, hash_text_new, hash_text_free, hash_text_insert, hash_text_value, hash_text_remove);
 
 #[no_mangle]
 pub unsafe extern "C" fn btree_text_next(map: *const Ordered, key: *mut u8, length: *mut usize) -> bool {

@@ -1,5 +1,5 @@
-/* Measures maps from strings beside each other, in one run and on the same keys: Sellumaq's, libJudy's (twice, which shows
- * the run's noise) and, where it is linked, Rust's BTreeMap of byte vectors. measure.h says what it prints.
+/* Measures maps from strings and byte strings beside each other, in one run and on the same keys: Sellumaq's, libJudy's (twice, which shows
+ * the run's noise) and, where they are linked, Rust's BTreeMap and HashMap of byte vectors. measure.h says what it prints.
  *
  *     strings [KEYS ..]       how many keys, 10000 and 1000000 where none is told
  */
@@ -118,12 +118,26 @@ static bool judysl_go_on(sellumaq_judysl *map) {
     return sellumaq_judysl_next(map, at.bytes, SELLUMAQ_KEY_BYTES, &at.length, &value) == SELLUMAQ_FOUND;
 }
 
+static void judyhs_put(sellumaq_judyhs *map, const text *key) {
+    word *slot;
+    if (sellumaq_judyhs_ins(map, key->bytes, key->length, &slot) == SELLUMAQ_FOUND) *slot = key->length;
+}
+
+static word judyhs_value(sellumaq_judyhs *map, const text *key) {
+    word value;
+    return sellumaq_judyhs_get(map, key->bytes, key->length, &value) ? value : 0;
+}
+
 static word behind(PPvoid_t slot) { return slot ? *(word *)slot : 0; }
 
 MEASURE(judysl_sellumaq, sellumaq_judysl, {0}, sellumaq_judysl_free(&a), judysl_put(&a, k), judysl_value(&a, k), true, judysl_go_on(&a),
         sellumaq_judysl_del(&a, k->bytes, k->length))
 MEASURE(judysl_libjudy, Pvoid_t, NULL, JudySLFreeArray(&a, PJE0), *(word *)JudySLIns(&a, k->bytes, PJE0) = k->length,
         behind(JudySLGet(a, k->bytes, PJE0)), true, JudySLNext(a, at.bytes, PJE0) != NULL, JudySLDel(&a, k->bytes, PJE0))
+MEASURE(judyhs_sellumaq, sellumaq_judyhs, {0}, sellumaq_judyhs_free(&a), judyhs_put(&a, k), judyhs_value(&a, k), false, false,
+        sellumaq_judyhs_del(&a, k->bytes, k->length))
+MEASURE(judyhs_libjudy, Pvoid_t, NULL, JudyHSFreeArray(&a, PJE0), *(word *)JudyHSIns(&a, (void *)k->bytes, k->length, PJE0) = k->length,
+        behind(JudyHSGet(a, (void *)k->bytes, k->length)), false, false, JudyHSDel(&a, (void *)k->bytes, k->length, PJE0))
 
 #ifdef WITH_STD
 #define DECLARE(MAP) \
@@ -133,10 +147,13 @@ MEASURE(judysl_libjudy, Pvoid_t, NULL, JudySLFreeArray(&a, PJE0), *(word *)JudyS
     word MAP##_value(const void *map, const uint8_t *key, size_t length); \
     void MAP##_remove(void *map, const uint8_t *key, size_t length);
 DECLARE(btree_text)
+DECLARE(hash_text)
 bool btree_text_next(const void *map, uint8_t *key, size_t *length);
 
 MEASURE(judysl_std, void *, btree_text_new(), btree_text_free(a), btree_text_insert(a, k->bytes, k->length, k->length),
         btree_text_value(a, k->bytes, k->length), true, btree_text_next(a, at.bytes, &at.length), btree_text_remove(a, k->bytes, k->length))
+MEASURE(judyhs_std, void *, hash_text_new(), hash_text_free(a), hash_text_insert(a, k->bytes, k->length, k->length),
+        hash_text_value(a, k->bytes, k->length), false, false, hash_text_remove(a, k->bytes, k->length))
 #endif
 
 static const struct {
@@ -144,8 +161,9 @@ static const struct {
     void (*measure)(const struct keys *, double *);
 } MEASURED[] = {
     {"judysl", "sellumaq", judysl_sellumaq}, {"judysl", "libjudy", judysl_libjudy}, {"judysl", "again", judysl_libjudy},
+    {"judyhs", "sellumaq", judyhs_sellumaq}, {"judyhs", "libjudy", judyhs_libjudy}, {"judyhs", "again", judyhs_libjudy},
 #ifdef WITH_STD
-    {"judysl", "btreemap", judysl_std},
+    {"judysl", "btreemap", judysl_std},      {"judyhs", "hashmap", judyhs_std},
 #endif
 };
 
