@@ -5,8 +5,8 @@ PREFIX = /usr/local
 DESTDIR =
 AT = $(DESTDIR)$(PREFIX)
 
-# Where Python finds modules under PREFIX, by its own word.
-PYTHON_DIR = $(shell tools/python_dir $(PREFIX))
+# Where Python finds modules under PREFIX, by its own word; a folder of our own where there is no Python.
+PYTHON_DIR = $(or $(shell tools/python_dir $(PREFIX) 2>/dev/null),$(PREFIX)/share/sellumaq/python)
 
 # At how many keys `make bench` measures: while the arrays stand over vectors, whose inserts move half the keys, no more.
 KEYS = 10000
