@@ -3,6 +3,10 @@
 
 PREFIX = /usr/local
 DESTDIR =
+AT = $(DESTDIR)$(PREFIX)
+
+# Where Python finds modules under PREFIX, by its own word; a folder of our own where there is no Python.
+PYTHON_DIR = $(or $(shell tools/python_dir $(PREFIX) 2>/dev/null),$(PREFIX)/share/sellumaq/python)
 
 # At how many keys `make bench` measures: while the arrays stand over vectors, whose inserts move half the keys, no more.
 KEYS = 10000
@@ -15,7 +19,7 @@ LIB := out/lib
 C_SOURCES := $(wildcard bindings/c/*.h bindings/c/hp/*)
 C_FLAGS = -std=c11 -O2 -Wall -Wextra
 
-.PHONY: help test refusals lib lib-test bindings-test bench fmt kit install uninstall clean
+.PHONY: help test refusals lib lib-test bindings-test bench fmt kit install install-program install-library install-test uninstall clean
 
 help:
 	@echo 'make judystore   proves and builds the program, and leaves it as ./judystore'
@@ -23,8 +27,9 @@ help:
 	@echo 'make refusals    runs the program with each of its calls for memory refused in turn'
 	@echo 'make lib         proves and builds the library for C, and leaves it in out/lib; make lib-test tries it'
 	@echo 'make bindings-test  tries it from C, Rust and Python'
-	@echo 'make bench       measures the word arrays beside libJudy and BTreeMap'
-	@echo 'make install     puts program, manual page, library and headers under PREFIX ($(PREFIX)); make uninstall takes them away'
+	@echo 'make bench       measures the arrays beside libJudy, BTreeMap and HashMap'
+	@echo 'make install     puts the program and the library for C, Rust and Python under PREFIX ($(PREFIX)); make uninstall takes them away'
+	@echo 'make install-test  runs the programs of the README over a library that was installed'
 	@echo 'make fmt         lays out the sources'
 	@echo 'make clean       takes away what these commands made'
 
@@ -74,24 +79,36 @@ bindings-test: lib-test
 bench: lib
 	@tools/bench $(LIB) --svg docs/bench.svg $(KEYS)
 
-install: judystore lib
-	install -d $(DESTDIR)$(PREFIX)/bin $(DESTDIR)$(PREFIX)/share/man/man1 $(DESTDIR)$(PREFIX)/share/man/man3 $(DESTDIR)$(PREFIX)/lib/pkgconfig $(DESTDIR)$(PREFIX)/include/sellumaq
-	install -m 755 judystore $(DESTDIR)$(PREFIX)/bin/judystore
-	install -m 644 docs/man/judystore.1 $(DESTDIR)$(PREFIX)/share/man/man1/judystore.1
-	install -m 644 docs/man/judy1.3 docs/man/judyl.3 $(DESTDIR)$(PREFIX)/share/man/man3
-	install -m 644 $(LIB)/libsellumaq.a $(DESTDIR)$(PREFIX)/lib/libsellumaq.a
-	install -m 755 $(LIB)/libsellumaq.so $(DESTDIR)$(PREFIX)/lib/libsellumaq.so.0
-	ln -sf libsellumaq.so.0 $(DESTDIR)$(PREFIX)/lib/libsellumaq.so
-	install -m 644 bindings/c/sellumaq.h $(DESTDIR)$(PREFIX)/include/sellumaq.h
-	install -m 644 bindings/c/hp/Judy.h $(DESTDIR)$(PREFIX)/include/sellumaq/Judy.h
-	sed 's|@PREFIX@|$(PREFIX)|' bindings/c/sellumaq.pc.in >$(DESTDIR)$(PREFIX)/lib/pkgconfig/sellumaq.pc
+# Under DESTDIR, which is for those who pack: the program with its page, and the library with what each language needs to use it.
+install: install-program install-library
+
+install-program: judystore
+	install -d $(AT)/bin $(AT)/share/man/man1
+	install -m 755 judystore $(AT)/bin/judystore
+	install -m 644 docs/man/judystore.1 $(AT)/share/man/man1
+
+install-library: lib
+	install -d $(AT)/lib/pkgconfig $(AT)/include/sellumaq $(AT)/share/man/man3 $(AT)/share/sellumaq/rust/src $(DESTDIR)$(PYTHON_DIR)
+	install -m 644 $(LIB)/libsellumaq.a $(AT)/lib/libsellumaq.a
+	install -m 755 $(LIB)/libsellumaq.so $(AT)/lib/libsellumaq.so.0
+	ln -sf libsellumaq.so.0 $(AT)/lib/libsellumaq.so
+	sed 's|@PREFIX@|$(PREFIX)|' bindings/c/sellumaq.pc.in >$(AT)/lib/pkgconfig/sellumaq.pc
+	install -m 644 bindings/c/sellumaq.h $(AT)/include/sellumaq.h
+	install -m 644 bindings/c/hp/Judy.h $(AT)/include/sellumaq/Judy.h
+	install -m 644 docs/man/*.3 $(AT)/share/man/man3
+	install -m 644 bindings/rust/Cargo.toml bindings/rust/build.rs $(AT)/share/sellumaq/rust
+	install -m 644 bindings/rust/src/*.rs $(AT)/share/sellumaq/rust/src
+	install -m 644 bindings/python/sellumaq.py $(DESTDIR)$(PYTHON_DIR)/sellumaq.py
+
+# The programs of the README, built and run over a library that was installed.
+install-test:
+	@tools/try_install
 
 uninstall:
-	rm -f $(DESTDIR)$(PREFIX)/bin/judystore $(DESTDIR)$(PREFIX)/share/man/man1/judystore.1
-	rm -f $(DESTDIR)$(PREFIX)/share/man/man3/judy1.3 $(DESTDIR)$(PREFIX)/share/man/man3/judyl.3
-	rm -f $(DESTDIR)$(PREFIX)/lib/libsellumaq.a $(DESTDIR)$(PREFIX)/lib/libsellumaq.so $(DESTDIR)$(PREFIX)/lib/libsellumaq.so.0
-	rm -f $(DESTDIR)$(PREFIX)/lib/pkgconfig/sellumaq.pc $(DESTDIR)$(PREFIX)/include/sellumaq.h
-	rm -rf $(DESTDIR)$(PREFIX)/include/sellumaq
+	rm -f $(AT)/bin/judystore $(AT)/share/man/man1/judystore.1 $(patsubst docs/man/%,$(AT)/share/man/man3/%,$(wildcard docs/man/*.3))
+	rm -f $(AT)/lib/libsellumaq.a $(AT)/lib/libsellumaq.so $(AT)/lib/libsellumaq.so.0 $(AT)/lib/pkgconfig/sellumaq.pc
+	rm -f $(AT)/include/sellumaq.h $(DESTDIR)$(PYTHON_DIR)/sellumaq.py
+	rm -rf $(AT)/include/sellumaq $(AT)/share/sellumaq
 
 fmt: kit
 	@for crate in crates/*/; do (cd $$crate && rt fmt) || exit 1; done

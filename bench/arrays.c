@@ -1,36 +1,15 @@
 /* Measures arrays of words beside each other, in one run and on the same keys: Sellumaq's, libJudy's (twice, which shows the run's
- * noise) and, where it is linked, Rust's BTreeMap. It prints a line for each measurement,
- *
- *     KIND LIBRARY PATTERN KEYS OPERATION NUMBER
- *
- * the number being nanoseconds an operation, the least of several repeats, or for `bytes` the bytes that malloc gives for a key.
+ * noise) and, where it is linked, Rust's BTreeMap. measure.h says what it prints.
  *
  *     arrays [KEYS ..]       how many keys, 10000 and 1000000 where none is told
  */
 #define _GNU_SOURCE
 #include <Judy.h>
-#include <malloc.h>
-#include <stdbool.h>
-#include <stdint.h>
-#include <stdio.h>
-#include <stdlib.h>
-#include <time.h>
 
+#include "measure.h"
 #include "sellumaq.h"
 
-typedef uint64_t word;
-
 /* ---- keys ---- */
-
-static word seed;
-
-static word any(void) {
-    seed += 0x9e3779b97f4a7c15u;
-    word z = seed;
-    z = (z ^ (z >> 30)) * 0xbf58476d1ce4e5b9u;
-    z = (z ^ (z >> 27)) * 0x94d049bb133111ebu;
-    return z ^ (z >> 31);
-}
 
 static void shuffle(word *keys, size_t n) {
     for (size_t i = n; i > 1; i--) {
@@ -80,23 +59,6 @@ static void make(struct keys *keys, size_t pattern) {
 }
 
 /* ---- measuring ---- */
-
-static word now(void) {
-    struct timespec at;
-    clock_gettime(CLOCK_MONOTONIC, &at);
-    return (word)at.tv_sec * 1000000000u + (word)at.tv_nsec;
-}
-
-enum { INSERT, HIT, MISS, WALK, NEXT, RANK, SELECT, DELETE, BYTES, OPERATIONS };
-
-static const char *const NAMES[] = {"insert", "hit", "miss", "walk", "next", "rank", "select", "delete", "bytes"};
-
-static void least(double *into, double number) {
-    if (*into < 0 || number < *into) *into = number;
-}
-
-/* What a measured loop found goes here, so that no loop can be left out. */
-static volatile word sink;
 
 /* One library's array: `A` is its variable, the other words are statements over it and a key `k`, or expressions. A library
  * without rank and select has 0 for `ORDERED`. */
@@ -169,7 +131,7 @@ MEASURE(judyl_libjudy, Pvoid_t, NULL, JudyLFreeArray(&a, PJE0), *(word *)JudyLIn
         JudyLNext(a, (Word_t *)&k, PJE0) != NULL, true, JudyLCount(a, 0, k, PJE0), JudyLByCount(a, k, (Word_t *)&k, PJE0) != NULL,
         JudyLDel(&a, k, PJE0))
 
-#ifdef WITH_BTREE
+#ifdef WITH_STD
 void *btree_set_new(void);
 void btree_set_free(void *set);
 void btree_set_insert(void *set, word key);
@@ -195,46 +157,31 @@ static const struct {
 } MEASURED[] = {
     {"judy1", "sellumaq", judy1_sellumaq}, {"judy1", "libjudy", judy1_libjudy}, {"judy1", "again", judy1_libjudy},
     {"judyl", "sellumaq", judyl_sellumaq}, {"judyl", "libjudy", judyl_libjudy}, {"judyl", "again", judyl_libjudy},
-#ifdef WITH_BTREE
+#ifdef WITH_STD
     {"judy1", "btreemap", judy1_btree},    {"judyl", "btreemap", judyl_btree},
 #endif
 };
 
 #define LIBRARIES (sizeof MEASURED / sizeof *MEASURED)
 
-static void run(struct keys *keys, size_t pattern) {
+static void measure(struct keys *keys, size_t pattern) {
     double told[LIBRARIES][OPERATIONS];
-    for (size_t it = 0; it < LIBRARIES; it++)
-        for (size_t op = 0; op < OPERATIONS; op++) told[it][op] = -1;
+    for (size_t it = 0; it < LIBRARIES; it++) none_yet(told[it]);
     make(keys, pattern);
     size_t repeats = keys->n < 100000 ? 9 : 3;
     for (size_t turn = 0; turn < repeats; turn++)
         for (size_t it = 0; it < LIBRARIES; it++) MEASURED[it].measure(keys, told[it]);
-    for (size_t it = 0; it < LIBRARIES; it++)
-        for (size_t op = 0; op < OPERATIONS; op++)
-            if (told[it][op] >= 0)
-                printf("%s %s %s %zu %s %.2f\n", MEASURED[it].kind, MEASURED[it].library, PATTERNS[pattern].name, keys->n, NAMES[op], told[it][op]);
-    fflush(stdout);
+    for (size_t it = 0; it < LIBRARIES; it++) print(MEASURED[it].kind, MEASURED[it].library, PATTERNS[pattern].name, keys->n, told[it]);
 }
 
-int main(int count, char **words) {
-    size_t usual[] = {10000, 1000000};
-    size_t sizes = count > 1 ? (size_t)count - 1 : 2;
-    mallopt(M_MMAP_THRESHOLD, 1 << 30);
-    for (size_t at = 0; at < sizes; at++) {
-        struct keys keys = {count > 1 ? strtoull(words[at + 1], NULL, 10) : usual[at], NULL, NULL, NULL};
-        if (keys.n == 0) {
-            fprintf(stderr, "arrays: not a number of keys: %s\n", words[at + 1]);
-            return 2;
-        }
-        keys.in = calloc(keys.n, sizeof(word));
-        keys.order = calloc(keys.n, sizeof(word));
-        keys.out = calloc(keys.n, sizeof(word));
-        if (!keys.in || !keys.order || !keys.out) return 1;
-        for (size_t pattern = 0; pattern < sizeof PATTERNS / sizeof *PATTERNS; pattern++) run(&keys, pattern);
-        free(keys.in);
-        free(keys.order);
-        free(keys.out);
-    }
+static int run(size_t n) {
+    struct keys keys = {n, calloc(n, sizeof(word)), calloc(n, sizeof(word)), calloc(n, sizeof(word))};
+    if (!keys.in || !keys.order || !keys.out) return 1;
+    for (size_t pattern = 0; pattern < sizeof PATTERNS / sizeof *PATTERNS; pattern++) measure(&keys, pattern);
+    free(keys.in);
+    free(keys.order);
+    free(keys.out);
     return 0;
 }
+
+int main(int count, char **words) { return for_each_size(count, words, run); }

@@ -1,27 +1,40 @@
-"""Judy arrays: ordered sets and dicts of 64-bit words, kept by libsellumaq, whose every call is proved to answer as a plain finite set
-or map does.
+"""Judy arrays: sets and dicts of 64-bit words, and dicts from strings and byte strings to words, kept by libsellumaq, whose every call is
+proved to answer as a plain finite set or map does.
 
     >>> squares = JudyL({n * n: n for n in range(1, 6)})
     >>> squares[16]
     4
     >>> list(squares.range(10))
     [16, 25]
+    >>> ages = JudySL(Grace=85, Alan=41, Ada=36)
+    >>> list(ages.range("B"))
+    ['Grace']
 
-`Judy1` is used as a set is, and `JudyL` as a dict is, whose keys and values are ints from 0 to 2**64 - 1; both hold their keys in order.
+`Judy1` is used as a set is, `JudyL` as a dict is, whose keys and values are ints from 0 to 2**64 - 1; both hold their keys in order.
+`JudySL` is an ordered dict from strings to such ints: a key is a str without "\\0" of at most 1,024 bytes in UTF-8. `JudyHS` has no order
+and no walk through its keys, which are any str of at most 1,024 bytes. `JudySLBytes` and `JudyHSBytes` are the same with bytes as keys.
 The library is found as libsellumaq.so.0, or where the environment's SELLUMAQ_LIBRARY names its file. An array isn't shared between threads.
 """
 
 import ctypes
 import os
-from collections.abc import MutableMapping, MutableSet
+from collections.abc import ItemsView, MutableMapping, MutableSet, ValuesView
+from itertools import takewhile
 
-__all__ = ["Judy1", "JudyL", "MAX"]
+__all__ = ["Judy1", "JudyL", "JudySL", "JudySLBytes", "JudyHS", "JudyHSBytes", "MAX", "MAX_KEY"]
 
 MAX = 2**64 - 1
+MAX_KEY = 1024
+"""How many bytes a string has at most that is a key."""
 
 _library = ctypes.CDLL(os.environ.get("SELLUMAQ_LIBRARY", "libsellumaq.so.0"))
 _word = ctypes.c_uint64
 _slot = ctypes.POINTER(_word)
+_key = (ctypes.c_char_p, ctypes.c_size_t)
+_buffer = (*_key, ctypes.POINTER(ctypes.c_size_t), _slot)
+
+# What calls answer that have more than yes and no to tell; a yes is 1 too.
+_FOUND, _NO_MEMORY, _FULL, _BAD_KEY = 1, 2, 3, 4
 
 
 class _Handle(ctypes.Structure):
@@ -35,17 +48,20 @@ def _call(name, result, *words):
     return call
 
 
-def _calls(kind):
-    """The calls that both kinds have."""
-    calls = {name: _call(f"{kind}_{name}", _word) for name in ("len", "free")}
-    calls["count"] = _call(f"{kind}_count", _word, _word, _word)
-    for name in ("first", "last", "first_empty", "last_empty", "by_count"):
-        calls[name] = _call(f"{kind}_{name}", ctypes.c_bool, _word, _slot)
-    return calls
+def _calls(kind, result, **calls):
+    """The calls of a kind that answer alike, by what they are given, and those that all kinds have."""
+    told = {name: _call(f"{kind}_{name}", result, *words) for name, words in calls.items()}
+    return told | {name: _call(f"{kind}_{name}", _word) for name in ("len", "free")}
 
 
-def _is_word(key):
-    return isinstance(key, int) and 0 <= key <= MAX
+def _word_calls(kind, **calls):
+    searches = dict.fromkeys(("first", "last", "first_empty", "last_empty", "by_count"), (_word, _slot))
+    return _calls(kind, ctypes.c_bool, **searches, **calls) | {"count": _call(f"{kind}_count", _word, _word, _word)}
+
+
+def _string_calls(kind, *scans):
+    found = _calls(kind, ctypes.c_bool, get=(*_key, _slot), **{"del": _key})
+    return found | _calls(kind, ctypes.c_uint32, ins=(*_key, ctypes.POINTER(_slot)), **dict.fromkeys(scans, _buffer))
 
 
 def _checked(word):
@@ -56,8 +72,15 @@ def _checked(word):
     return word
 
 
-class _Ordered:
-    """What sets and dicts of words share: their keys in order."""
+def _refusal(told, key):
+    """Why a key wasn't put into a dict, which is as it was then."""
+    if told == _BAD_KEY:
+        return ValueError(f"more than {MAX_KEY} bytes, or with a zero byte: {key!r}")
+    return OverflowError("the dict is full") if told == _FULL else MemoryError()
+
+
+class _Array:
+    """What all kinds have alike. `_passed` is what C is given for a key; it is a TypeError or a ValueError where there can't be such a key."""
 
     def __init__(self):
         self._handle = _Handle()
@@ -69,12 +92,61 @@ class _Ordered:
     def __len__(self):
         return self._calls["len"](self._handle)
 
-    def __bool__(self):
-        return len(self) > 0
-
     def clear(self):
         """Takes every key out and gives the memory back."""
         self._calls["free"](self._handle)
+
+    def _has(self, call, key, *more):
+        """What a call answers for a key; what can be none isn't there."""
+        try:
+            passed = self._passed(key)
+        except (TypeError, ValueError):
+            return False
+        return self._calls[call](self._handle, *passed, *more)
+
+
+class _Map(_Array):
+    """What dicts have alike."""
+
+    def __setitem__(self, key, value):
+        slot = _slot()
+        _checked(value)
+        told = self._calls["ins"](self._handle, *self._passed(key), slot)
+        if told != _FOUND:
+            raise _refusal(told, key)
+        slot[0] = value
+
+    def __getitem__(self, key):
+        value = _word()
+        if self._has("get", key, value):
+            return value.value
+        raise KeyError(key)
+
+    def __delitem__(self, key):
+        if not self._has("del", key):
+            raise KeyError(key)
+
+
+class _Ordered(_Array):
+    """What arrays have alike whose keys are in order."""
+
+    def copy(self):
+        """Another array of the same keys."""
+        return type(self)(self)
+
+    def __copy__(self):
+        return self.copy()
+
+    def __deepcopy__(self, _):
+        return self.copy()
+
+
+class _Words(_Ordered):
+    """What sets and dicts of words have alike."""
+
+    @staticmethod
+    def _passed(key):
+        return (_checked(key),)
 
     def _found(self, name, word):
         found = _word()
@@ -134,13 +206,10 @@ class _Ordered:
             key = self.at_or_before(key - 1)
 
 
-class Judy1(_Ordered, MutableSet):
+class Judy1(_Words, MutableSet):
     """An ordered set of words."""
 
-    _calls = _calls("judy1")
-    _set = _call("judy1_set", ctypes.c_uint32, _word)
-    _unset = _call("judy1_unset", ctypes.c_bool, _word)
-    _test = _call("judy1_test", ctypes.c_bool, _word)
+    _calls = _word_calls("judy1", unset=(_word,), test=(_word,)) | {"set": _call("judy1_set", ctypes.c_uint32, _word)}
 
     def __init__(self, keys=()):
         super().__init__()
@@ -149,49 +218,164 @@ class Judy1(_Ordered, MutableSet):
 
     def add(self, key):
         """Puts a key in. MemoryError where there is no memory for it; the set is as it was then."""
-        if Judy1._set(self._handle, _checked(key)) == 2:
+        if self._calls["set"](self._handle, _checked(key)) == _NO_MEMORY:
             raise MemoryError
 
     def discard(self, key):
         """Takes a key out, where it is there."""
-        if _is_word(key):
-            Judy1._unset(self._handle, key)
+        self._has("unset", key)
 
     def __contains__(self, key):
-        return _is_word(key) and Judy1._test(self._handle, key)
+        return self._has("test", key)
 
     def __repr__(self):
         return f"Judy1({list(self)})" if self else "Judy1()"
 
 
-class JudyL(_Ordered, MutableMapping):
+class JudyL(_Words, _Map, MutableMapping):
     """An ordered dict from words to words."""
 
-    _calls = _calls("judyl")
-    _ins = _call("judyl_ins", ctypes.c_bool, _word, ctypes.POINTER(_slot))
-    _get = _call("judyl_get", ctypes.c_bool, _word, _slot)
-    _del = _call("judyl_del", ctypes.c_bool, _word)
+    _calls = _word_calls("judyl", ins=(_word, ctypes.POINTER(_slot)), get=(_word, _slot), **{"del": (_word,)})
 
     def __init__(self, *pairs, **none):
         super().__init__()
         self.update(*pairs, **none)
 
-    def __setitem__(self, key, value):
-        slot = _slot()
-        _checked(value)
-        if not JudyL._ins(self._handle, _checked(key), slot):
-            raise MemoryError
-        slot[0] = value
-
-    def __getitem__(self, key):
-        value = _word()
-        if _is_word(key) and JudyL._get(self._handle, key, value):
-            return value.value
-        raise KeyError(key)
-
-    def __delitem__(self, key):
-        if not (_is_word(key) and JudyL._del(self._handle, key)):
-            raise KeyError(key)
-
     def __repr__(self):
         return "JudyL({" + ", ".join(f"{key}: {value}" for key, value in self.items()) + "})"
+
+
+class _Text:
+    """Keys that are str. C sees them in UTF-8, surrogates too, so that each has bytes of its own and these are in the order of the strings."""
+
+    @staticmethod
+    def _encoded(key):
+        if not isinstance(key, str):
+            raise TypeError(f"not a str: {key!r}")
+        return key.encode("utf-8", "surrogatepass")
+
+    @staticmethod
+    def _decoded(key):
+        return key.decode("utf-8", "surrogatepass")
+
+
+class _Bytes:
+    """Keys that are bytes."""
+
+    @staticmethod
+    def _encoded(key):
+        if not isinstance(key, bytes):
+            raise TypeError(f"not bytes: {key!r}")
+        return key
+
+    @staticmethod
+    def _decoded(key):
+        return key
+
+
+class _Strings(_Map):
+    """What dicts from strings and byte strings have alike."""
+
+    def __init__(self, *pairs, **more):
+        super().__init__()
+        self.update(*pairs, **more)
+
+    def _passed(self, key):
+        key = self._encoded(key)
+        return key, len(key)
+
+
+class _Items(ItemsView):
+    def __iter__(self):
+        return self._mapping._walk("first")
+
+
+class _Values(ValuesView):
+    def __iter__(self):
+        return (value for _, value in self._mapping._walk("first"))
+
+
+def _could_be_key(string):
+    """The longest beginning of bytes that can be a key of a JudySL, and whether it is all of them. Where it isn't, no key lies between the
+    two: the bytes go on with a zero, or are more than a key has."""
+    key = string[:MAX_KEY].partition(b"\0")[0]
+    return key, len(key) == len(string)
+
+
+class _OrderedStrings(_Strings, _Ordered, MutableMapping):
+    """What both kinds of JudySL have alike."""
+
+    _calls = _string_calls("judysl", "first", "next", "last", "prev")
+
+    def _walk(self, scan, start=b""):
+        """The pairs from bytes on, or down, by a scan that begins there and then by the one that goes on."""
+        beyond = "prev" if scan == "last" else "next"
+        key, length, value = ctypes.create_string_buffer(start, MAX_KEY), ctypes.c_size_t(len(start)), _word()
+        while self._calls[scan](self._handle, key, MAX_KEY, length, value) == _FOUND:
+            yield self._decoded(ctypes.string_at(key, length.value)), value.value
+            scan = beyond
+
+    def _from(self, string):
+        """The pairs from a string on, which may be any."""
+        start, whole = _could_be_key(self._encoded(string))
+        return self._walk("first" if whole else "next", start)
+
+    def at_or_after(self, string):
+        """The least key from a string on, or None."""
+        return next((key for key, _ in self._from(string)), None)
+
+    def at_or_before(self, string):
+        """The greatest key up to a string, or None."""
+        return next((key for key, _ in self._walk("last", _could_be_key(self._encoded(string))[0])), None)
+
+    def range(self, start=None, stop=None):
+        """The keys from start on and below stop, in ascending order; both may be any strings."""
+        pairs = self._walk("first") if start is None else self._from(start)
+        if stop is not None:
+            self._encoded(stop)
+            pairs = takewhile(lambda pair: pair[0] < stop, pairs)
+        return (key for key, _ in pairs)
+
+    def __iter__(self):
+        return self.range()
+
+    def __reversed__(self):
+        return (key for key, _ in self._walk("last", b"\xff" * MAX_KEY))
+
+    def items(self):
+        return _Items(self)
+
+    def values(self):
+        return _Values(self)
+
+    def __repr__(self):
+        return type(self).__name__ + "({" + ", ".join(f"{key!r}: {value}" for key, value in self.items()) + "})"
+
+
+class JudySL(_Text, _OrderedStrings):
+    """An ordered dict from str to words."""
+
+
+class JudySLBytes(_Bytes, _OrderedStrings):
+    """An ordered dict from bytes to words."""
+
+
+class _Unordered(_Strings, MutableMapping):
+    """What both kinds of JudyHS have alike. What would need a walk through the keys is a TypeError."""
+
+    _calls = _string_calls("judyhs")
+    __iter__ = None
+
+    def __reduce__(self):
+        raise TypeError(f"a {type(self).__name__} can't be copied: there is no walk through its keys")
+
+    def __repr__(self):
+        return f"<{type(self).__name__} of {len(self)} keys>"
+
+
+class JudyHS(_Text, _Unordered):
+    """A dict from str to words, in no order."""
+
+
+class JudyHSBytes(_Bytes, _Unordered):
+    """A dict from bytes to words, in no order."""

@@ -1,11 +1,12 @@
-"""Sets and dicts of words beside Python's own."""
+"""Sets and dicts beside Python's own."""
 
+import copy
 import doctest
 import random
 import unittest
 
 import sellumaq
-from sellumaq import MAX, Judy1, JudyL
+from sellumaq import MAX, MAX_KEY, Judy1, JudyHS, JudyHSBytes, JudyL, JudySL, JudySLBytes
 
 
 def key(words):
@@ -71,6 +72,78 @@ class Words(unittest.TestCase):
             array[0] = "no word"
         with self.assertRaises(IndexError):
             array.nth(len(plain))
+
+    def test_a_copy_is_another_array(self):
+        for array in (Judy1({5}), JudyL({5: 6}), JudySL(five=6)):
+            for other in (array.copy(), copy.copy(array), copy.deepcopy(array)):
+                self.assertEqual(other, array)
+                other.clear()
+                self.assertEqual(len(array), 1)
+        self.assertRaises(TypeError, copy.copy, JudyHS(five=6))
+
+
+def string(words, letters):
+    """A string whose beginning others share, and which comes again."""
+    each = [letters[at : at + 1] for at in range(len(letters))]
+    return each[0] * words.choice([0, 0, 7, 8, 9, 40]) + letters[:0].join(words.choices(each, k=words.randrange(4)))
+
+
+class Strings(unittest.TestCase):
+    def ordered(self, array, letters):
+        words, plain, zero = random.Random(3), {}, "a\0" if isinstance(letters, str) else b"a\0"
+        for _ in range(1500):
+            it, value = string(words, letters), words.getrandbits(64)
+            if words.random() < 0.7:
+                array[it] = plain[it] = value
+            else:
+                self.assertEqual(array.pop(it, None), plain.pop(it, None))
+            # the ends of a range need be no keys
+            low, high = sorted([string(words, letters), string(words, zero)])
+            self.assertEqual((len(array), low in array, array.get(it)), (len(plain), low in plain, plain.get(it)))
+            self.assertEqual(array.at_or_after(low), min((key for key in plain if key >= low), default=None))
+            self.assertEqual(array.at_or_before(high), max((key for key in plain if key <= high), default=None))
+            self.assertEqual(list(array.range(low, high)), sorted(key for key in plain if low <= key < high))
+        self.assertEqual(list(array.items()), sorted(plain.items()))
+        self.assertEqual(list(array.values()), [value for _, value in sorted(plain.items())])
+        self.assertEqual(list(reversed(array)), sorted(plain, reverse=True))
+        self.assertEqual(array, plain)
+        self.assertEqual(repr(array), f"{type(array).__name__}({dict(sorted(plain.items()))})")
+
+    def test_a_dict_of_text_is_a_dict(self):
+        self.ordered(JudySL(), "az\x01\u00e4\ud800\uffff\U0001f600")
+
+    def test_a_dict_of_bytes_is_a_dict(self):
+        self.ordered(JudySLBytes(), b"az\x01\xff")
+
+    def test_a_dict_without_order(self):
+        for array, letters in ((JudyHS(), "az\0\u00e4"), (JudyHSBytes(), b"az\0\xff")):
+            words, plain = random.Random(4), {}
+            for _ in range(3000):
+                it, value = string(words, letters), words.getrandbits(64)
+                if words.random() < 0.7:
+                    array[it] = plain[it] = value
+                else:
+                    self.assertEqual(array.pop(it, None), plain.pop(it, None))
+                other = string(words, letters)
+                self.assertEqual((len(array), other in array, array.get(other)), (len(plain), other in plain, plain.get(other)))
+            self.assertTrue(all(array[key] == plain[key] for key in plain))
+            self.assertRaises(TypeError, iter, array)
+            array.clear()
+            self.assertFalse(array)
+
+    def test_what_is_no_key(self):
+        for array in (JudySL(), JudyHS()):
+            for wrong, error in ((5, TypeError), (b"bytes", TypeError), ("a" * (MAX_KEY + 1), ValueError)):
+                self.assertNotIn(wrong, array)
+                self.assertRaises(KeyError, array.__getitem__, wrong)
+                self.assertRaises(error, array.__setitem__, wrong, 1)
+            self.assertEqual(len(array), 0)
+            array["\u00e4" * (MAX_KEY // 2)] = 1
+        self.assertRaises(ValueError, JudySL().__setitem__, "a\0", 1)
+        self.assertRaises(TypeError, JudySLBytes().__setitem__, "text", 1)
+        longest = JudySLBytes({b"\xff" * MAX_KEY: 1})
+        self.assertEqual(longest.at_or_before(b"\xff" * (MAX_KEY + 1)), b"\xff" * MAX_KEY)
+        self.assertIsNone(longest.at_or_after(b"\xff" * (MAX_KEY + 1)))
 
 
 def load_tests(_loader, tests, _pattern):

@@ -1,4 +1,4 @@
-//! The calls of libsellumaq, as sellumaq.h declares them.
+//! The calls of libsellumaq, as sellumaq.h declares them: those of a kind of array in a module of its name.
 use std::ffi::c_void;
 
 /// The word by which C holds an array; null is the array without keys.
@@ -8,44 +8,90 @@ pub struct Handle(pub *mut c_void);
 
 impl Handle {
     pub const EMPTY: Handle = Handle(std::ptr::null_mut());
+
+    /// The word that a search from another finds.
+    pub fn search(mut self, search: Search, from: u64) -> Option<u64> {
+        let mut word = 0;
+        // SAFETY: the handle is a copy of an array's, which is lent; both pointers are to words of this function.
+        unsafe { search(&mut self, from, &mut word) }.then_some(word)
+    }
 }
 
+// What calls answer that have more than yes and no to tell.
 pub const ADDED: u32 = 1;
+pub const FOUND: u32 = 1;
 pub const NO_MEMORY: u32 = 2;
+pub const FULL: u32 = 3;
 
 /// A search from a word.
 pub type Search = unsafe extern "C" fn(*mut Handle, u64, *mut u64) -> bool;
 
-extern "C" {
-    pub fn sellumaq_judy1_set(set: *mut Handle, key: u64) -> u32;
-    pub fn sellumaq_judy1_unset(set: *mut Handle, key: u64) -> bool;
-    pub fn sellumaq_judy1_test(set: *mut Handle, key: u64) -> bool;
-    pub fn sellumaq_judy1_first(set: *mut Handle, from: u64, key: *mut u64) -> bool;
-    pub fn sellumaq_judy1_last(set: *mut Handle, from: u64, key: *mut u64) -> bool;
-    pub fn sellumaq_judy1_first_empty(set: *mut Handle, from: u64, word: *mut u64) -> bool;
-    pub fn sellumaq_judy1_last_empty(set: *mut Handle, from: u64, word: *mut u64) -> bool;
-    pub fn sellumaq_judy1_by_count(set: *mut Handle, n: u64, key: *mut u64) -> bool;
-    pub fn sellumaq_judy1_len(set: *mut Handle) -> u64;
-    pub fn sellumaq_judy1_count(set: *mut Handle, from: u64, to: u64) -> u64;
-    pub fn sellumaq_judy1_free(set: *mut Handle) -> u64;
+/// A scan from the string in a buffer of the capacity given, whose length and the value of the key found stand behind pointers.
+pub type Scan = unsafe extern "C" fn(*mut Handle, *mut u8, usize, *mut usize, *mut u64) -> u32;
 
-    pub fn sellumaq_judyl_ins(map: *mut Handle, key: u64, slot: *mut *mut u64) -> bool;
-    pub fn sellumaq_judyl_get(map: *mut Handle, key: u64, value: *mut u64) -> bool;
-    pub fn sellumaq_judyl_slot(map: *mut Handle, key: u64, slot: *mut *mut u64) -> bool;
-    pub fn sellumaq_judyl_del(map: *mut Handle, key: u64) -> bool;
-    pub fn sellumaq_judyl_first(map: *mut Handle, from: u64, key: *mut u64) -> bool;
-    pub fn sellumaq_judyl_last(map: *mut Handle, from: u64, key: *mut u64) -> bool;
-    pub fn sellumaq_judyl_first_empty(map: *mut Handle, from: u64, word: *mut u64) -> bool;
-    pub fn sellumaq_judyl_last_empty(map: *mut Handle, from: u64, word: *mut u64) -> bool;
-    pub fn sellumaq_judyl_by_count(map: *mut Handle, n: u64, key: *mut u64) -> bool;
-    pub fn sellumaq_judyl_len(map: *mut Handle) -> u64;
-    pub fn sellumaq_judyl_count(map: *mut Handle, from: u64, to: u64) -> u64;
-    pub fn sellumaq_judyl_free(map: *mut Handle) -> u64;
+macro_rules! calls {
+    ($kind:ident { $($call:ident($($name:ident: $type:ty),*) -> $answer:ty;)* }) => {
+        pub mod $kind {
+            use super::Handle;
+
+            extern "C" {
+                $(
+                    #[link_name = concat!("sellumaq_", stringify!($kind), "_", stringify!($call))]
+                    pub fn $call(array: *mut Handle, $($name: $type),*) -> $answer;
+                )*
+            }
+        }
+    };
 }
 
-/// The word that a search finds. A call that only reads leaves the handle as it is, so it is given a copy of its word.
-pub fn found(search: Search, handle: Handle, from: u64) -> Option<u64> {
-    let (mut copy, mut word) = (handle, 0);
-    // SAFETY: the handle is an array's, which its owner lends for this call; both pointers are to words of this function.
-    unsafe { search(&mut copy, from, &mut word) }.then_some(word)
+calls!(judy1 {
+    set(key: u64) -> u32;
+    unset(key: u64) -> bool;
+    test(key: u64) -> bool;
+    first(from: u64, key: *mut u64) -> bool;
+    last(from: u64, key: *mut u64) -> bool;
+    first_empty(from: u64, word: *mut u64) -> bool;
+    last_empty(from: u64, word: *mut u64) -> bool;
+    by_count(n: u64, key: *mut u64) -> bool;
+    len() -> u64;
+    count(from: u64, to: u64) -> u64;
+    free() -> u64;
+});
+
+calls!(judyl {
+    ins(key: u64, slot: *mut *mut u64) -> bool;
+    get(key: u64, value: *mut u64) -> bool;
+    slot(key: u64, slot: *mut *mut u64) -> bool;
+    del(key: u64) -> bool;
+    first(from: u64, key: *mut u64) -> bool;
+    last(from: u64, key: *mut u64) -> bool;
+    first_empty(from: u64, word: *mut u64) -> bool;
+    last_empty(from: u64, word: *mut u64) -> bool;
+    by_count(n: u64, key: *mut u64) -> bool;
+    len() -> u64;
+    count(from: u64, to: u64) -> u64;
+    free() -> u64;
+});
+
+macro_rules! string_calls {
+    ($kind:ident { $($more:tt)* }) => {
+        calls!($kind {
+            ins(key: *const u8, length: usize, slot: *mut *mut u64) -> u32;
+            get(key: *const u8, length: usize, value: *mut u64) -> bool;
+            slot(key: *const u8, length: usize, slot: *mut *mut u64) -> bool;
+            del(key: *const u8, length: usize) -> bool;
+            len() -> u64;
+            free() -> u64;
+            $($more)*
+        });
+    };
 }
+
+string_calls!(judysl {
+    first(key: *mut u8, capacity: usize, length: *mut usize, value: *mut u64) -> u32;
+    next(key: *mut u8, capacity: usize, length: *mut usize, value: *mut u64) -> u32;
+    last(key: *mut u8, capacity: usize, length: *mut usize, value: *mut u64) -> u32;
+    prev(key: *mut u8, capacity: usize, length: *mut usize, value: *mut u64) -> u32;
+});
+
+string_calls!(judyhs {});

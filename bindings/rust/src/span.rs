@@ -1,5 +1,5 @@
 //! The words of a range, and a way through the keys among them from both ends.
-use crate::sys::{found, Handle, Search};
+use crate::sys::{Handle, Search};
 use std::ops::{Bound, RangeBounds};
 
 /// The words from one to another, both included, whose keys are still to come; none is left of no words.
@@ -29,7 +29,7 @@ impl Span {
     /// The least key left, by the search for the least from a word on.
     pub fn next(&mut self, first: Search, handle: Handle) -> Option<u64> {
         let (from, to) = self.0.take()?;
-        let key = found(first, handle, from).filter(|key| *key <= to)?;
+        let key = handle.search(first, from).filter(|key| *key <= to)?;
         self.0 = key.checked_add(1).filter(|next| *next <= to).map(|next| (next, to));
         Some(key)
     }
@@ -37,7 +37,7 @@ impl Span {
     /// The greatest key left, by the search for the greatest up to a word.
     pub fn next_back(&mut self, last: Search, handle: Handle) -> Option<u64> {
         let (from, to) = self.0.take()?;
-        let key = found(last, handle, to).filter(|key| *key >= from)?;
+        let key = handle.search(last, to).filter(|key| *key >= from)?;
         self.0 = key.checked_sub(1).filter(|next| *next >= from).map(|next| (from, next));
         Some(key)
     }

@@ -1,0 +1,115 @@
+// Rust's BTreeSet, BTreeMap and HashMap behind calls of C, to be measured beside the arrays.
+use std::collections::{BTreeMap, BTreeSet, HashMap};
+use std::ops::Bound::{Excluded, Unbounded};
+use std::slice::{from_raw_parts, from_raw_parts_mut};
+
+type Set = BTreeSet<u64>;
+type Map = BTreeMap<u64, u64>;
+
+#[no_mangle]
+pub extern "C" fn btree_set_new() -> *mut Set {
+    Box::into_raw(Box::default())
+}
+
+#[no_mangle]
+pub unsafe extern "C" fn btree_set_free(set: *mut Set) {
+    drop(Box::from_raw(set));
+}
+
+#[no_mangle]
+pub unsafe extern "C" fn btree_set_insert(set: *mut Set, key: u64) {
+    (*set).insert(key);
+}
+
+#[no_mangle]
+pub unsafe extern "C" fn btree_set_has(set: *const Set, key: u64) -> bool {
+    (*set).contains(&key)
+}
+
+#[no_mangle]
+pub unsafe extern "C" fn btree_set_next(set: *const Set, from: u64, key: *mut u64) -> bool {
+    let found = (*set).range((Excluded(from), Unbounded)).next();
+    found.map(|it| *key = *it).is_some()
+}
+
+#[no_mangle]
+pub unsafe extern "C" fn btree_set_remove(set: *mut Set, key: u64) {
+    (*set).remove(&key);
+}
+
+#[no_mangle]
+pub extern "C" fn btree_map_new() -> *mut Map {
+    Box::into_raw(Box::default())
+}
+
+#[no_mangle]
+pub unsafe extern "C" fn btree_map_free(map: *mut Map) {
+    drop(Box::from_raw(map));
+}
+
+#[no_mangle]
+pub unsafe extern "C" fn btree_map_insert(map: *mut Map, key: u64, value: u64) {
+    (*map).insert(key, value);
+}
+
+#[no_mangle]
+pub unsafe extern "C" fn btree_map_value(map: *const Map, key: u64) -> u64 {
+    (*map).get(&key).copied().unwrap_or(0)
+}
+
+#[no_mangle]
+pub unsafe extern "C" fn btree_map_next(map: *const Map, from: u64, key: *mut u64) -> bool {
+    let found = (*map).range((Excluded(from), Unbounded)).next();
+    found.map(|it| *key = *it.0).is_some()
+}
+
+#[no_mangle]
+pub unsafe extern "C" fn btree_map_remove(map: *mut Map, key: u64) {
+    (*map).remove(&key);
+}
+
+macro_rules! text_map {
+    ($map:ty, $new:ident, $free:ident, $insert:ident, $value:ident, $remove:ident) => {
+        #[no_mangle]
+        pub extern "C" fn $new() -> *mut $map {
+            Box::into_raw(Box::default())
+        }
+
+        #[no_mangle]
+        pub unsafe extern "C" fn $free(map: *mut $map) {
+            drop(Box::from_raw(map));
+        }
+
+        #[no_mangle]
+        pub unsafe extern "C" fn $insert(map: *mut $map, key: *const u8, length: usize, value: u64) {
+            (*map).insert(from_raw_parts(key, length).to_vec(), value);
+        }
+
+        #[no_mangle]
+        pub unsafe extern "C" fn $value(map: *const $map, key: *const u8, length: usize) -> u64 {
+            (*map).get(from_raw_parts(key, length)).copied().unwrap_or(0)
+        }
+
+        #[no_mangle]
+        pub unsafe extern "C" fn $remove(map: *mut $map, key: *const u8, length: usize) {
+            (*map).remove(from_raw_parts(key, length));
+        }
+    };
+}
+
+type Ordered = BTreeMap<Vec<u8>, u64>;
+type Hashed = HashMap<Vec<u8>, u64>;
+
+text_map!(Ordered, btree_text_new, btree_text_free, btree_text_insert, btree_text_value, btree_text_remove);
+text_map!(Hashed, hash_text_new, hash_text_free, hash_text_insert, hash_text_value, hash_text_remove);
+
+#[no_mangle]
+pub unsafe extern "C" fn btree_text_next(map: *const Ordered, key: *mut u8, length: *mut usize) -> bool {
+    let from = from_raw_parts(key, *length);
+    let Some((found, _)) = (*map).range::<[u8], _>((Excluded(from), Unbounded)).next() else {
+        return false;
+    };
+    from_raw_parts_mut(key, found.len()).copy_from_slice(found);
+    *length = found.len();
+    true
+}

@@ -1,0 +1,192 @@
+/* Measures maps from strings and byte strings beside each other, in one run and on the same keys: Sellumaq's, libJudy's (twice, which shows
+ * the run's noise) and, where they are linked, Rust's BTreeMap and HashMap of byte vectors. measure.h says what it prints.
+ *
+ *     strings [KEYS ..]       how many keys, 10000 and 1000000 where none is told
+ */
+#define _GNU_SOURCE
+#include <Judy.h>
+
+#include "measure.h"
+#include "sellumaq.h"
+
+/* ---- keys ---- */
+
+/* A string of at most so many bytes, with a zero byte behind it that its length doesn't count. */
+enum { LONGEST = 100 };
+typedef struct { uint8_t bytes[LONGEST + 1]; size_t length; } text;
+
+static void letter(text *it) { it->bytes[it->length++] = 'a' + any() % 26; }
+
+/* Five syllables, a consonant and a vowel each: words that share their beginnings as those of a language do. */
+static void word_of_10(text *it) {
+    while (it->length < 10) {
+        it->bytes[it->length++] = "bcdfghjklmnprstvwxyz"[any() % 20];
+        it->bytes[it->length++] = "aeiou"[any() % 5];
+    }
+}
+
+static void url_of_100(text *it) {
+    int length = sprintf((char *)it->bytes, "https://www.site-%03u.example/section-%04u/page-", (unsigned)(any() % 200), (unsigned)(any() % 1000));
+    for (it->length = (size_t)length; it->length < 100;) letter(it);
+}
+
+static void random_bytes(text *it) {
+    for (size_t length = 8 + any() % 33; it->length < length;) it->bytes[it->length++] = 1 + any() % 255;
+}
+
+static const struct {
+    const char *name;
+    void (*make)(text *);
+} PATTERNS[] = {{"words-of-10", word_of_10}, {"urls-of-100", url_of_100}, {"random-8-to-40", random_bytes}};
+
+/* The keys of a run as they are put in, the order in which they are looked for, and as many strings that are none, or hardly any of
+ * them. */
+struct keys {
+    size_t n;
+    text *in, *out;
+    size_t *order;
+};
+
+static void make(struct keys *keys, size_t pattern) {
+    seed = pattern + 1;
+    memset(keys->in, 0, keys->n * sizeof *keys->in);
+    memset(keys->out, 0, keys->n * sizeof *keys->out);
+    for (size_t i = 0; i < keys->n; i++) {
+        PATTERNS[pattern].make(&keys->in[i]);
+        PATTERNS[pattern].make(&keys->out[i]);
+        size_t j = any() % (i + 1);
+        keys->order[i] = keys->order[j];
+        keys->order[j] = i;
+    }
+}
+
+/* ---- measuring ---- */
+
+/* Where a walk has come to, with room for every key and a zero byte. */
+static struct { uint8_t bytes[1025]; size_t length; } at;
+
+static void begin_at(const text *it) {
+    memcpy(at.bytes, it->bytes, it->length + 1);
+    at.length = it->length;
+}
+
+/* One library's map: `A` is its variable, the other words are statements over it and a key `k`, or expressions; `NEXT_KEY` goes on to
+ * the next key above `at`. A library without order has false for `ORDERED`. */
+#define MEASURE(NAME, A_TYPE, A_INIT, A_END, PUT, FIND, ORDERED, NEXT_KEY, TAKE) \
+    static void NAME(const struct keys *keys, double *told) { \
+        word found = 0; \
+        size_t held = mallinfo2().uordblks; \
+        A_TYPE a = A_INIT; \
+        word begin = now(); \
+        for (size_t i = 0; i < keys->n; i++) { const text *k = &keys->in[i]; PUT; } \
+        least(&told[INSERT], (double)(now() - begin) / keys->n); \
+        told[BYTES] = (double)(mallinfo2().uordblks - held) / keys->n; \
+        begin = now(); \
+        for (size_t i = 0; i < keys->n; i++) { const text *k = &keys->in[keys->order[i]]; found += FIND; } \
+        least(&told[HIT], (double)(now() - begin) / keys->n); \
+        begin = now(); \
+        for (size_t i = 0; i < keys->n; i++) { const text *k = &keys->out[i]; found += FIND; } \
+        least(&told[MISS], (double)(now() - begin) / keys->n); \
+        if (ORDERED) { \
+            begin_at(&(text){{0}, 0}); \
+            begin = now(); \
+            while (NEXT_KEY) found += at.bytes[0]; \
+            least(&told[WALK], (double)(now() - begin) / keys->n); \
+            begin = now(); \
+            for (size_t i = 0; i < keys->n; i++) { begin_at(&keys->out[i]); if (NEXT_KEY) found += at.bytes[0]; } \
+            least(&told[NEXT], (double)(now() - begin) / keys->n); \
+        } \
+        begin = now(); \
+        for (size_t i = 0; i < keys->n; i++) { const text *k = &keys->in[keys->order[i]]; TAKE; } \
+        least(&told[DELETE], (double)(now() - begin) / keys->n); \
+        A_END; \
+        sink += found; \
+    }
+
+static void judysl_put(sellumaq_judysl *map, const text *key) {
+    word *slot;
+    if (sellumaq_judysl_ins(map, key->bytes, key->length, &slot) == SELLUMAQ_FOUND) *slot = key->length;
+}
+
+static word judysl_value(sellumaq_judysl *map, const text *key) {
+    word value;
+    return sellumaq_judysl_get(map, key->bytes, key->length, &value) ? value : 0;
+}
+
+static bool judysl_go_on(sellumaq_judysl *map) {
+    word value;
+    return sellumaq_judysl_next(map, at.bytes, SELLUMAQ_KEY_BYTES, &at.length, &value) == SELLUMAQ_FOUND;
+}
+
+static void judyhs_put(sellumaq_judyhs *map, const text *key) {
+    word *slot;
+    if (sellumaq_judyhs_ins(map, key->bytes, key->length, &slot) == SELLUMAQ_FOUND) *slot = key->length;
+}
+
+static word judyhs_value(sellumaq_judyhs *map, const text *key) {
+    word value;
+    return sellumaq_judyhs_get(map, key->bytes, key->length, &value) ? value : 0;
+}
+
+static word behind(PPvoid_t slot) { return slot ? *(word *)slot : 0; }
+
+MEASURE(judysl_sellumaq, sellumaq_judysl, {0}, sellumaq_judysl_free(&a), judysl_put(&a, k), judysl_value(&a, k), true, judysl_go_on(&a),
+        sellumaq_judysl_del(&a, k->bytes, k->length))
+MEASURE(judysl_libjudy, Pvoid_t, NULL, JudySLFreeArray(&a, PJE0), *(word *)JudySLIns(&a, k->bytes, PJE0) = k->length,
+        behind(JudySLGet(a, k->bytes, PJE0)), true, JudySLNext(a, at.bytes, PJE0) != NULL, JudySLDel(&a, k->bytes, PJE0))
+MEASURE(judyhs_sellumaq, sellumaq_judyhs, {0}, sellumaq_judyhs_free(&a), judyhs_put(&a, k), judyhs_value(&a, k), false, false,
+        sellumaq_judyhs_del(&a, k->bytes, k->length))
+MEASURE(judyhs_libjudy, Pvoid_t, NULL, JudyHSFreeArray(&a, PJE0), *(word *)JudyHSIns(&a, (void *)k->bytes, k->length, PJE0) = k->length,
+        behind(JudyHSGet(a, (void *)k->bytes, k->length)), false, false, JudyHSDel(&a, (void *)k->bytes, k->length, PJE0))
+
+#ifdef WITH_STD
+#define DECLARE(MAP) \
+    void *MAP##_new(void); \
+    void MAP##_free(void *map); \
+    void MAP##_insert(void *map, const uint8_t *key, size_t length, word value); \
+    word MAP##_value(const void *map, const uint8_t *key, size_t length); \
+    void MAP##_remove(void *map, const uint8_t *key, size_t length);
+DECLARE(btree_text)
+DECLARE(hash_text)
+bool btree_text_next(const void *map, uint8_t *key, size_t *length);
+
+MEASURE(judysl_std, void *, btree_text_new(), btree_text_free(a), btree_text_insert(a, k->bytes, k->length, k->length),
+        btree_text_value(a, k->bytes, k->length), true, btree_text_next(a, at.bytes, &at.length), btree_text_remove(a, k->bytes, k->length))
+MEASURE(judyhs_std, void *, hash_text_new(), hash_text_free(a), hash_text_insert(a, k->bytes, k->length, k->length),
+        hash_text_value(a, k->bytes, k->length), false, false, hash_text_remove(a, k->bytes, k->length))
+#endif
+
+static const struct {
+    const char *kind, *library;
+    void (*measure)(const struct keys *, double *);
+} MEASURED[] = {
+    {"judysl", "sellumaq", judysl_sellumaq}, {"judysl", "libjudy", judysl_libjudy}, {"judysl", "again", judysl_libjudy},
+    {"judyhs", "sellumaq", judyhs_sellumaq}, {"judyhs", "libjudy", judyhs_libjudy}, {"judyhs", "again", judyhs_libjudy},
+#ifdef WITH_STD
+    {"judysl", "btreemap", judysl_std},      {"judyhs", "hashmap", judyhs_std},
+#endif
+};
+
+#define LIBRARIES (sizeof MEASURED / sizeof *MEASURED)
+
+static void measure(struct keys *keys, size_t pattern) {
+    double told[LIBRARIES][OPERATIONS];
+    for (size_t it = 0; it < LIBRARIES; it++) none_yet(told[it]);
+    make(keys, pattern);
+    size_t repeats = keys->n < 100000 ? 9 : 3;
+    for (size_t turn = 0; turn < repeats; turn++)
+        for (size_t it = 0; it < LIBRARIES; it++) MEASURED[it].measure(keys, told[it]);
+    for (size_t it = 0; it < LIBRARIES; it++) print(MEASURED[it].kind, MEASURED[it].library, PATTERNS[pattern].name, keys->n, told[it]);
+}
+
+static int run(size_t n) {
+    struct keys keys = {n, calloc(n, sizeof(text)), calloc(n, sizeof(text)), calloc(n, sizeof(size_t))};
+    if (!keys.in || !keys.out || !keys.order) return 1;
+    for (size_t pattern = 0; pattern < sizeof PATTERNS / sizeof *PATTERNS; pattern++) measure(&keys, pattern);
+    free(keys.in);
+    free(keys.out);
+    free(keys.order);
+    return 0;
+}
+
+int main(int count, char **words) { return for_each_size(count, words, run); }

@@ -1,0 +1,124 @@
+//! Maps from strings and byte strings beside std's, over random changes of keys that share their beginnings.
+use sellumaq::{InsertError, JudyHs, JudySl, MAX_KEY};
+use std::collections::{BTreeMap, HashMap};
+use std::mem::replace;
+use std::ops::Bound::{Excluded, Included, Unbounded};
+
+struct Strings(u64);
+
+impl Strings {
+    fn any(&mut self) -> u64 {
+        self.0 ^= self.0 << 13;
+        self.0 ^= self.0 >> 7;
+        self.0 ^= self.0 << 17;
+        self.0
+    }
+
+    /// A string over a few bytes, so that keys come again, begin one another, and are cut anywhere in their pieces of eight bytes.
+    fn of(&mut self, bytes: &[u8]) -> Vec<u8> {
+        let shared = [0, 0, 7, 8, 9, 40][self.any() as usize % 6];
+        let own = self.any() % 4;
+        let mut string = vec![bytes[0]; shared];
+        string.extend((0..own).map(|_| bytes[self.any() as usize % bytes.len()]));
+        string
+    }
+}
+
+type Plain = BTreeMap<Vec<u8>, u64>;
+
+fn pair(it: (&Vec<u8>, &u64)) -> (Vec<u8>, u64) {
+    (it.0.clone(), *it.1)
+}
+
+fn same(map: &JudySl, plain: &Plain) {
+    assert!(map.iter().eq(plain.iter().map(pair)));
+    assert!(map.iter().rev().eq(plain.iter().rev().map(pair)));
+    assert!(map.keys().eq(plain.keys().cloned()));
+    assert!(map.values().eq(plain.values().copied()));
+    assert_eq!(map.first_key_value(), plain.first_key_value().map(pair));
+    assert_eq!(map.last_key_value(), plain.last_key_value().map(pair));
+    assert_eq!(&map.clone(), map);
+    assert_eq!(&plain.iter().map(|(key, value)| (key, *value)).collect::<JudySl>(), map);
+}
+
+#[test]
+fn a_map_of_strings_is_a_map() {
+    let (mut strings, mut map, mut plain) = (Strings(1), JudySl::new(), Plain::new());
+    for turn in 0..4000 {
+        let (key, value) = (strings.of(b"a\x01z\xff"), strings.any());
+        match strings.any() % 4 {
+            0 => assert_eq!(map.remove(&key), plain.remove(&key)),
+            1 => {
+                let slot = map.slot(&key).unwrap();
+                assert_eq!(*slot, plain.get(&key).copied().unwrap_or(0));
+                *slot = value;
+                plain.insert(key.clone(), value);
+            }
+            2 => assert_eq!(map.get_mut(&key).map(|it| replace(it, value)), plain.get_mut(&key).map(|it| replace(it, value))),
+            _ => assert_eq!(map.insert(&key, value), plain.insert(key.clone(), value)),
+        }
+        // the ends of a range need be no keys
+        let (one, other) = (strings.of(b"az\0"), strings.of(b"a\xff\0"));
+        let (from, to) = (one.clone().min(other.clone()), one.max(other));
+        assert_eq!((map.get(&key), map.contains_key(&from)), (plain.get(&key).copied(), plain.contains_key(&from)));
+        assert_eq!(map.len(), plain.len() as u64);
+        assert_eq!(map.at_or_after(&from), plain.range(from.clone()..).next().map(pair));
+        assert_eq!(map.at_or_before(&to), plain.range(..=to.clone()).next_back().map(pair));
+        assert!(map.range::<Vec<u8>>(from.clone()..=to.clone()).eq(plain.range(from.clone()..=to.clone()).map(pair)));
+        assert!(map.range::<Vec<u8>>((Excluded(&from), Unbounded)).eq(plain.range((Excluded(from.clone()), Unbounded)).map(pair)));
+        assert!(map.range::<Vec<u8>>(from.clone()..to.clone()).rev().eq(plain.range(from..to).rev().map(pair)));
+        if turn % 100 == 0 {
+            same(&map, &plain);
+        }
+    }
+    same(&map, &plain);
+    map.clear();
+    assert!(map.is_empty() && map.iter().next().is_none());
+}
+
+#[test]
+fn a_map_of_byte_strings_is_a_map() {
+    let (mut strings, mut map, mut plain) = (Strings(2), JudyHs::new(), HashMap::new());
+    for _ in 0..8000 {
+        let (key, value) = (strings.of(b"a\0z\xff"), strings.any());
+        match strings.any() % 4 {
+            0 => assert_eq!(map.remove(&key), plain.remove(&key)),
+            1 => assert_eq!(replace(map.slot(&key).unwrap(), value), plain.insert(key.clone(), value).unwrap_or(0)),
+            2 => assert_eq!(map.get_mut(&key).map(|it| replace(it, value)), plain.get_mut(&key).map(|it| replace(it, value))),
+            _ => assert_eq!(map.insert(&key, value), plain.insert(key.clone(), value)),
+        }
+        let other = strings.of(b"a\0z\xff");
+        assert_eq!((map.get(&other), map.contains_key(&other)), (plain.get(&other).copied(), plain.contains_key(&other)));
+        assert_eq!((map.len(), map.is_empty()), (plain.len() as u64, plain.is_empty()));
+    }
+    assert_eq!(format!("{map:?}"), format!("JudyHs {{ len: {}, .. }}", plain.len()));
+    let copied: JudyHs = plain.iter().map(|(key, value)| (key, *value)).collect();
+    assert!(plain.iter().all(|(key, value)| copied.get(key) == Some(*value)));
+}
+
+#[test]
+fn bytes_that_are_no_key() {
+    let (longest, longer) = ([0xff; MAX_KEY], [0xff; MAX_KEY + 1]);
+    let (mut strings, mut bytes) = (JudySl::new(), JudyHs::new());
+    assert_eq!((strings.insert(longest, 1), bytes.insert(longest, 1), strings.insert("", 2)), (None, None, None));
+    assert_eq!(strings.try_insert(longer, 3), Err(InsertError::BadKey));
+    assert_eq!(bytes.try_insert(longer, 3), Err(InsertError::BadKey));
+    assert_eq!(strings.try_insert("a\0b", 3), Err(InsertError::BadKey));
+    assert_eq!((strings.get(longer), bytes.get(longer), strings.get("\0")), (None, None, None));
+    assert_eq!((strings.len(), bytes.len()), (2, 1));
+    assert_eq!(strings.range::<[u8]>((Included(&longer[..]), Unbounded)).next(), None);
+    assert_eq!(strings.at_or_before(longer), Some((longest.to_vec(), 1)));
+    assert_eq!(strings.range(.."\0").collect::<Vec<_>>(), [(vec![], 2)]);
+}
+
+#[test]
+fn both_ends_meet() {
+    let map: JudySl = ["", "b", "bc"].into_iter().zip(1..).collect();
+    let mut entries = map.iter();
+    assert_eq!(entries.next_entry(), Some((&b""[..], 1)));
+    assert_eq!(entries.next_back_entry(), Some((&b"bc"[..], 3)));
+    assert_eq!(entries.next_entry(), Some((&b"b"[..], 2)));
+    assert_eq!((entries.next(), entries.next_back(), entries.next()), (None, None, None));
+    assert_eq!(map.range("c".."b").next(), None);
+    assert_eq!(format!("{map:?}"), r#"{"": 1, "b": 2, "bc": 3}"#);
+}
