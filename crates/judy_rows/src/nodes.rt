@@ -12,11 +12,11 @@ use std::process::Abort;
 use std::test::Fail;
 
 // How many immediates, leaves, bitmap leaves, linear, bitmap and full branches there are.
-type Counts = [u128; 6];
+pub(crate) type Counts = [u128; 6];
 
 // The keys `from + row * by + column`, of so many rows and columns, and one more.
 #[derive(Clone, Copy)]
-struct Grid {
+pub(crate) struct Grid {
     from: u64,
     rows: u64,
     by: u64,
@@ -26,7 +26,7 @@ struct Grid {
 
 impl Grid {
     // The keys from 0 on, so many.
-    fn run(columns: u64, more: Option<u64>) -> Grid {
+    pub(crate) fn run(columns: u64, more: Option<u64>) -> Grid {
         Grid {
             from: 0,
             rows: 1,
@@ -37,7 +37,7 @@ impl Grid {
     }
 
     // So many rows, each at a distance from the one before.
-    fn rows(rows: u64, by: u64, columns: u64, more: Option<u64>) -> Grid {
+    pub(crate) fn rows(rows: u64, by: u64, columns: u64, more: Option<u64>) -> Grid {
         Grid {
             from: 0,
             rows,
@@ -48,7 +48,7 @@ impl Grid {
     }
 
     // The pairs of these keys, ascending.
-    fn pairs<V: Words + Drop>(
+    pub(crate) fn pairs<V: Words + Drop>(
         self,
         rt: &impl Abort,
         alloc: Global,
@@ -116,17 +116,26 @@ fn check_slots<V: Words + Drop>(
     Ok(())
 }
 
+// The tree of pairs.
+pub(crate) fn tree_of<V: Words + Drop>(
+    rt: &impl Abort,
+    alloc: Global,
+    pairs: &[(u64, u64)],
+) -> Result<NodeOf<V>, AllocError> {
+    assert!(rt; V::WORDS <= 1);
+    let ascending = ascends::<V>(pairs);
+    assert!(rt; ascending);
+    NodeOf::from_sorted(alloc, pairs)
+}
+
 // Makes the tree of pairs, and compares what it tells with them.
-fn check_tree<V: Words + Drop>(
+pub(crate) fn check_tree<V: Words + Drop>(
     rt: &impl Abort,
     alloc: Global,
     pairs: &[(u64, u64)],
     counts: Counts,
 ) -> Result<(), AllocError> {
-    assert!(rt; V::WORDS <= 1);
-    let ascending = ascends::<V>(pairs);
-    assert!(rt; ascending);
-    let mut tree: NodeOf<V> = NodeOf::from_sorted(alloc, pairs)?;
+    let mut tree = tree_of::<V>(rt, alloc, pairs)?;
     assert_eq!(rt; tree.pop(), pairs.len() as u64);
     let [immediates, leaves, bitmap_leaves, linear, bitmap, full] = counts;
     let shape = Shape {
