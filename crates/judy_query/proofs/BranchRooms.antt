@@ -1,7 +1,6 @@
 -- The rooms of a branch.
 use Rattle.std.proofs.Common.{◌≡◌, ◌≢◌, ℕ, zero, suc, ◌+◌, ◌-◌, ◌*◌, ◌/◌, ◌<◌, ◌≤◌, ◌^◌, true, false, List, [], length, get_or, slice_get, Some, refl, sym, ap, ◌∙◌, subst, arith, nat_lt, lt-ltb, is_lt, ⊎_elim, Bool, ◌==◌, true≢false, eq-eqb, eqb-true}
-use Rattle.std.proofs.Math.Nat.{add-mul}
-use Rattle.std.proofs.lemmas.Nat.{mul-le, pow-add}
+use Rattle.std.proofs.lemmas.Nat.{mul-le}
 use Rattle.std.proofs.lemmas.Bool.{cases_lt, false_from_ne_true}
 use Rattle.std.proofs.lemmas.Bool.Decides.{nat_tests}
 use Rattle.std.proofs.lemmas.Option.{slice_get-get_or, slice_get_within, same_Some}
@@ -24,8 +23,8 @@ use Rattle.judy_node.proofs.Maps.{children-length, map-length}
 use Rattle.judy_node.proofs.StepFacts.{children-IsByteSet}
 use Rattle.judy_query.specs.Parts.{IsBeside}
 use Rattle.judy_query.specs.Rooms.{IsRun, IsWindow, HasRoom}
-use Rattle.judy_query.proofs.Splits.{split-at}
-use Rattle.judy_query.proofs.Downs.{child_part, gap_part}
+use Rattle.judy_query.proofs.Splits.{split-at, next_unit, units}
+use Rattle.judy_query.proofs.Downs.{spread, blocks_within, child_part, gap_part}
 use Rattle.judy_query.proofs.Runs.{window-part, window-window, window-shift, run-window, run-full}
 
 -- ---- places
@@ -138,41 +137,22 @@ module _ (words width : ℕ) (skipped bytes : List ℕ) (kids : List Tree) (coun
   pub as_many : length kids ≡ length bytes
   as_many = children-length words width 0 bytes kids is.parts.children
 
-  -- The block of a byte begins where the one before it ends.
-  pub next_start : (byte : ℕ) → (number_of skipped * 256 + (byte + 1)) * 256 ^ width ≡ (number_of skipped * 256 + byte) * 256 ^ width + 256 ^ width
-  next_start byte =
-      let unit = 256 ^ width in
-      let block = number_of skipped * 256 in
-      ap (λ n. n * unit) (let e : block + (byte + 1) ≡ block + byte + 1 = omega arith in e) ∙ add-mul (block + byte) 1 unit ∙ (let e : (block + byte) * unit + 1 * unit ≡ (block + byte) * unit + unit = omega arith in e)
-
-  whole : 256 ^ (length skipped + 1 + width) ≡ 256 ^ length skipped * 256 * 256 ^ width
-  whole = pow-add 256 (length skipped + 1) width ∙ ap (λ n. n * 256 ^ width) (pow-add 256 (length skipped) 1)
-
-  pub starts_rise : (byte other : ℕ) → byte ≤ other → (number_of skipped * 256 + byte) * 256 ^ width ≤ (number_of skipped * 256 + other) * 256 ^ width
-  starts_rise byte other below = mul-le (number_of skipped * 256 + byte) (256 ^ width) (number_of skipped * 256 + other) (256 ^ width) (omega arith) (omega arith)
-
-  -- The blocks of all bytes are among the words of the branch's width.
-  pub blocks_within : (number_of skipped * 256 + 256) * 256 ^ width ≤ 256 ^ (length skipped + 1 + width)
-  blocks_within =
-      let below = number_of-lt skipped is.parts.skipped_bytes in
-      subst (λ n. (number_of skipped * 256 + 256) * 256 ^ width ≤ n) (sym whole) (mul-le (number_of skipped * 256 + 256) (256 ^ width) (256 ^ length skipped * 256) (256 ^ width) (omega arith) (omega arith))
-
   pub block_within : (byte : ℕ) → byte < 256 → (number_of skipped * 256 + byte) * 256 ^ width + 256 ^ width ≤ 256 ^ (length skipped + 1 + width)
-  block_within byte small = let next = next_start byte in let most = starts_rise (byte + 1) 256 (omega arith) in let all = blocks_within in omega arith
+  block_within byte small = let next = next_unit (number_of skipped * 256) byte (256 ^ width) in let most = units (number_of skipped * 256) (byte + 1) 256 (256 ^ width) (omega arith) in let all = blocks_within skipped width is.parts.skipped_bytes in omega arith
 
   -- Behind them there is a word just where the skipped bytes aren't the greatest ones.
   pub words_behind : number_of skipped + 1 < 256 ^ length skipped → (number_of skipped * 256 + 256) * 256 ^ width < 256 ^ (length skipped + 1 + width)
   words_behind less =
       let some = unit_pos width in
-      let next = next_start 256 in
+      let next = next_unit (number_of skipped * 256) 256 (256 ^ width) in
       let most : (number_of skipped * 256 + (256 + 1)) * 256 ^ width ≤ 256 ^ length skipped * 256 * 256 ^ width = mul-le (number_of skipped * 256 + (256 + 1)) (256 ^ width) (256 ^ length skipped * 256) (256 ^ width) (omega arith) (omega arith) in
-      let same = whole in
+      let same = spread skipped width in
       omega arith
 
   pub none_behind : 256 ^ length skipped ≤ number_of skipped + 1 → (number_of skipped * 256 + 256) * 256 ^ width ≡ 256 ^ (length skipped + 1 + width)
   none_behind most =
       let below = number_of-lt skipped is.parts.skipped_bytes in
-      ap (λ n. n * 256 ^ width) (let e : number_of skipped * 256 + 256 ≡ 256 ^ length skipped * 256 = omega arith in e) ∙ sym whole
+      ap (λ n. n * 256 ^ width) (let e : number_of skipped * 256 + 256 ≡ 256 ^ length skipped * 256 = omega arith in e) ∙ sym (spread skipped width)
 
   -- Where as many bytes are below one as a child's place says, it is a byte.
   pub byte_small : (byte at : ℕ) → rank bytes byte ≡ at → at < length kids → byte < 256
@@ -253,12 +233,12 @@ module _ (words width : ℕ) (skipped bytes : List ℕ) (kids : List Tree) (coun
         → has (keys_of (shift base (branch_pairs width skipped bytes kids))) (start - 1) ≡ false
     before_absent zero start is_start above small absent =
         let same : (number_of skipped * 256 + 0) * 256 ^ width ≡ number_of skipped * 256 * 256 ^ width = ap (λ n. n * 256 ^ width) (let e : number_of skipped * 256 + 0 ≡ number_of skipped * 256 = omega arith in e) in
-        let all = blocks_within in
-        let rise = starts_rise 0 256 (omega arith) in
+        let all = blocks_within skipped width is.parts.skipped_bytes in
+        let rise = units (number_of skipped * 256) 0 256 (256 ^ width) (omega arith) in
         raised_absent (start - 1) ((number_of skipped * 256 + 0) * 256 ^ width - 1) (omega arith) (beside_absent Below _ tt (omega arith) (omega arith))
     before_absent (suc byte) start is_start above small absent =
         let some = unit_pos width in
-        let next = ap (λ n. (number_of skipped * 256 + n) * 256 ^ width) (let e : suc byte ≡ byte + 1 = omega arith in e) ∙ next_start byte in
+        let next = ap (λ n. (number_of skipped * 256 + n) * 256 ^ width) (let e : suc byte ≡ byte + 1 = omega arith in e) ∙ next_unit (number_of skipped * 256) byte (256 ^ width) in
         raised_absent (start - 1) ((number_of skipped * 256 + byte) * 256 ^ width + (256 ^ width - 1)) (omega arith) (missing_absent byte (256 ^ width - 1) _ (omega arith) (omega arith) refl (absent byte (omega arith)))
 
     module _ (byte place : ℕ) (kid : Tree) (at : slice_get bytes place ≡ Some byte) (there : slice_get kids place ≡ Some kid) (start : ℕ) (is_start : start ≡ base + (number_of skipped * 256 + byte) * 256 ^ width) where

@@ -24,12 +24,15 @@ use Rattle.judy_query.proofs.Splits.{next_unit, split-at, gap-at, first_of, rest
 
 -- ---- in a branch
 
-block_within : (skipped : List ℕ) (width : ℕ) → IsByteString skipped → (number_of skipped * 256 + 256) * 256 ^ width ≤ 256 ^ (length skipped + 1 + width)
-block_within skipped width are =
+-- The words of a branch's width are as many as those of its skipped bytes, a byte and a child.
+pub spread : (skipped : List ℕ) (width : ℕ) → 256 ^ (length skipped + 1 + width) ≡ 256 ^ length skipped * 256 * 256 ^ width
+spread skipped width = pow-add 256 (length skipped + 1) width ∙ ap (λ n. n * 256 ^ width) (pow-add 256 (length skipped) 1)
+
+-- The blocks of all bytes are among the words of a branch's width.
+pub blocks_within : (skipped : List ℕ) (width : ℕ) → IsByteString skipped → (number_of skipped * 256 + 256) * 256 ^ width ≤ 256 ^ (length skipped + 1 + width)
+blocks_within skipped width are =
     let below = number_of-lt skipped are in
-    let spread : 256 ^ (length skipped + 1 + width) ≡ 256 ^ length skipped * 256 * 256 ^ width =
-    pow-add 256 (length skipped + 1) width ∙ ap (λ n. n * 256 ^ width) (pow-add 256 (length skipped) 1) in
-    subst (λ n. (number_of skipped * 256 + 256) * 256 ^ width ≤ n) (sym spread)
+    subst (λ n. (number_of skipped * 256 + 256) * 256 ^ width ≤ n) (sym (spread skipped width))
     (mul-le (number_of skipped * 256 + 256) (256 ^ width) (256 ^ length skipped * 256) (256 ^ width) (omega arith) (omega arith))
 
 module _ (words width : ℕ) (skipped bytes : List ℕ) (kids : List Tree) (count : ℕ) (is : IsBranch words width skipped bytes kids count) (key : ℕ) where
@@ -42,7 +45,7 @@ module _ (words width : ℕ) (skipped bytes : List ℕ) (kids : List Tree) (coun
       let block = number_of skipped * 256 in
       let top = 256 ^ (length skipped + 1 + width) in
       let split = split-at words width 0 block bytes kids byte place kid (omega arith) is.parts.children at there in
-      let room = block_within skipped width is.parts.skipped_bytes in
+      let room = blocks_within skipped width is.parts.skipped_bytes in
       let next = next_unit block byte unit in
       let is_key = of.key_is in
       let start : key - rest ≡ (block + byte) * unit = omega arith in
@@ -66,7 +69,7 @@ module _ (words width : ℕ) (skipped bytes : List ℕ) (kids : List Tree) (coun
       let top = 256 ^ (length skipped + 1 + width) in
       let of = steps.0 in
       let gap = gap-at words width 0 block bytes kids byte (omega arith) of.byte_is is.parts.children steps.1 in
-      let room = block_within skipped width is.parts.skipped_bytes in
+      let room = blocks_within skipped width is.parts.skipped_bytes in
       let next = next_unit block byte unit in
       let is_key = of.key_is in
       let is_rest = of.rest_is in
@@ -81,7 +84,7 @@ module _ (words width : ℕ) (skipped bytes : List ℕ) (kids : List Tree) (coun
       let unit = 256 ^ width in
       let block = number_of skipped * 256 in
       let top = 256 ^ (length skipped + 1 + width) in
-      let room = block_within skipped width is.parts.skipped_bytes in
+      let room = blocks_within skipped width is.parts.skipped_bytes in
       let start : (block + 0) * unit ≡ block * unit = ap (λ n. n * unit) (let e : block + 0 ≡ block = omega arith in e) in
       record {
         fits = omega arith;
@@ -119,7 +122,7 @@ module _ (words width : ℕ) (skipped bytes : List ℕ) (kids : List Tree) (coun
       let block = number_of skipped * 256 in
       let split = split-at words width 0 block bytes kids byte place (get_or kids place no_tree) (omega arith) is.parts.children at (there_is place inside) in
       let small = split.high_byte in
-      let room = block_within skipped width is.parts.skipped_bytes in
+      let room = blocks_within skipped width is.parts.skipped_bytes in
       let next = next_unit block byte unit in
       let some = unit_pos width in
       let narrow = is.parts.within in
@@ -384,7 +387,7 @@ start_steps words width skipped bytes kids count place start is inside from =
     let split = split-at words width 0 block bytes kids byte place (get_or kids place default) (omega arith) is.parts.children from.1 (slice_get-get_or kids place default inside) in
     let small = split.high_byte in
     let some = unit_pos width in
-    let room = block_within skipped width is.parts.skipped_bytes in
+    let room = blocks_within skipped width is.parts.skipped_bytes in
     let next = next_unit block byte unit in
     let last : (block + (byte + 1)) * unit ≤ (block + 256) * unit = mul-le (block + (byte + 1)) unit (block + 256) unit (omega arith) (omega arith) in
     let is_start = from.2 in
@@ -400,7 +403,7 @@ start_room words width skipped bytes kids count place start is inside from =
     let default : Tree = record { width = 0; pairs = []; form = [] } in
     let split = split-at words width 0 block bytes kids byte place (get_or kids place default) (omega arith) is.parts.children from.1 (slice_get-get_or kids place default inside) in
     let small = split.high_byte in
-    let room = block_within skipped width is.parts.skipped_bytes in
+    let room = blocks_within skipped width is.parts.skipped_bytes in
     let next = next_unit block byte unit in
     let last : (block + (byte + 1)) * unit ≤ (block + 256) * unit = mul-le (block + (byte + 1)) unit (block + 256) unit (omega arith) (omega arith) in
     let is_start = from.2 in

@@ -17,7 +17,8 @@ use Rattle.judy_query.specs.Parts.{IsDown, width_of}
 use Rattle.judy_query.specs.Rooms.{IsRun, IsWindow, HasRoom, IsFirstAbsent, IsLastAbsent, IsRoomFrom, IsRoomUpTo, nearer}
 use Rattle.judy_query.proofs.Downs.{child_inside}
 use Rattle.judy_query.proofs.Runs.{run-full, run-later, window-part, window-window, window-shift, run-join, run-window}
-use Rattle.judy_query.proofs.BranchRooms.{next_start, block_within, bytes_ascend, rank_next, rank_before, kid_window, kid_is}
+use Rattle.judy_query.proofs.Splits.{next_unit}
+use Rattle.judy_query.proofs.BranchRooms.{block_within, bytes_ascend, rank_next, rank_before, kid_window, kid_is}
 
 -- ---- the same words of two lists
 
@@ -197,7 +198,7 @@ module _ {V : _} (words : ℕ) (tree : Pairs) (b : _) (key left : ℕ) (down : I
     next_room room later told other =
         let unit = 256 ^ b.now.width in
         let top = 256 ^ (length b.now.skip + 1 + b.now.width) in
-        let next = next_start words b.now.width b.now.skip b.now.bytes b.now.children.items b.now.population down.shown.place.1 byte in
+        let next = next_unit (number_of b.now.skip * 256) byte (256 ^ b.now.width) in
         let is_key = steps.0.key_is in
         let above = down.above in
         let fits = down.part.fits in

@@ -31,7 +31,8 @@ pub record IsSplit (words width low block : ℕ) (bytes : List ℕ) (kids : List
   pub before : IsMap words ((block + low) * 256 ^ width) ((block + byte) * 256 ^ width) (first_of (256 ^ width) block bytes kids place)
   pub after : IsMap words ((block + (byte + 1)) * 256 ^ width) ((block + 256) * 256 ^ width) (rest_of (256 ^ width) block bytes kids (suc place))
 
-units : (block less more unit : ℕ) → less ≤ more → (block + less) * unit ≤ (block + more) * unit
+-- A byte's keys begin no later than a greater byte's.
+pub units : (block less more unit : ℕ) → less ≤ more → (block + less) * unit ≤ (block + more) * unit
 units block less more unit below = mul-le (block + less) unit (block + more) unit (omega arith) (omega arith)
 
 -- The end of a byte's keys is where the next byte's begin.

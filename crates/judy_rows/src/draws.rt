@@ -26,28 +26,30 @@ impl Numbers {
     }
 }
 
-// Some keys.
+// A pattern of keys: the bits that each of them has, the bits that any of them may have besides, and how many are drawn; one that was
+// drawn before doesn't count.
 #[derive(Clone, Copy)]
-pub(crate) struct Draw {
-    // The bits that each key has.
-    pub(crate) fixed: u64,
-    // The bits that any key may have besides.
-    pub(crate) free: u64,
-    // How many are drawn; one that was drawn before doesn't count.
-    pub(crate) times: u64,
+pub(crate) struct Pattern {
+    fixed: u64,
+    free: u64,
+    times: u64,
 }
 
-// The pairs of the keys drawn, ascending.
+pub(crate) fn draw(fixed: u64, free: u64, times: u64) -> Pattern {
+    Pattern { fixed, free, times }
+}
+
+// The pairs of keys drawn by patterns, ascending.
 pub(crate) fn drawn<V: Words + Drop>(
     rt: &impl Abort,
     alloc: Global,
     numbers: &mut Numbers,
-    draws: &[Draw],
+    patterns: &[Pattern],
 ) -> Result<Vec<(u64, u64)>, AllocError> {
     let mut pairs = Vec::new(alloc);
-    for draw in draws {
-        for _ in 0..draw.times {
-            let key = draw.fixed | (numbers.next() & draw.free);
+    for &Pattern { fixed, free, times } in patterns {
+        for _ in 0..times {
+            let key = fixed | (numbers.next() & free);
             if pairs.iter().all(|pair: &(u64, u64)| pair.0 != key) {
                 note(rt, &mut pairs, key, value_of::<V>(key))?;
             }

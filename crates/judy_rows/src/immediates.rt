@@ -9,7 +9,7 @@ use std::alloc::{AllocError, Global};
 use std::process::Abort;
 
 // How many keys an immediate holds: one with its value, else as many as fit into a word.
-fn room_of<V: Words + Drop>(width: u8) -> usize
+pub(crate) fn room_of<V: Words + Drop>(width: u8) -> usize
     requires { 1 ≤ width }
 {
     if V::WORDS == 1 {

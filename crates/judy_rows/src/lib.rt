@@ -1,5 +1,6 @@
 //! The worked rows that cross crates, as tests by the rows' names: scripts with the answers that the
-//! specification gives, run over memory. And leaves, bitmap leaves, immediates and trees, which no script reaches yet, beside a plain list.
+//! specification gives, run over memory. And leaves, bitmap leaves, immediates, trees and their queries, which no script reaches yet, beside a
+//! plain list.
 //!
 //! The crate stands on top of all others and has no code of its own.
 #![tactic(auto)]
@@ -9,7 +10,11 @@ mod arrays;
 #[cfg(test)]
 mod bit_leaves;
 #[cfg(test)]
+mod by_rule;
+#[cfg(test)]
 mod bytes;
+#[cfg(test)]
+mod calls;
 #[cfg(test)]
 mod changes;
 #[cfg(test)]
@@ -32,6 +37,10 @@ mod lines;
 mod nodes;
 #[cfg(test)]
 mod plain;
+#[cfg(test)]
+mod queries;
+#[cfg(test)]
+mod random_trees;
 #[cfg(test)]
 mod refusals;
 #[cfg(test)]

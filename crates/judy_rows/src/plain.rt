@@ -1,4 +1,4 @@
-//! A plain list of pairs by ascending key, which the tests of leaves keep beside a leaf, and what it answers.
+//! A plain list of pairs by ascending key, which the tests of leaves and trees keep beside them, and what it answers.
 
 use std::alloc::AllocError;
 use std::process::Abort;
@@ -10,7 +10,7 @@ pub(crate) fn note(
     key: u64,
     value: u64,
 ) -> Result<(), AllocError> {
-    let at = plain.iter().filter(|pair| pair.0 < key).count();
+    let at = rank(plain, key);
     assert!(rt; at <= plain.len());
     plain.insert(at, (key, value))?;
     Ok(())
@@ -26,17 +26,53 @@ pub(crate) fn beside(key: u64) -> [u64; 4] {
     ]
 }
 
+// How many keys are below a word.
+pub(crate) fn rank(plain: &[(u64, u64)], word: u64) -> usize {
+    plain.iter().filter(|pair| pair.0 < word).count()
+}
+
+// The nearest pair at or above a word.
+pub(crate) fn pair_from(plain: &[(u64, u64)], word: u64) -> Option<(u64, u64)> {
+    plain.iter().copied().find(|pair| pair.0 >= word)
+}
+
+// The nearest pair at or below a word.
+pub(crate) fn pair_up_to(plain: &[(u64, u64)], word: u64) -> Option<(u64, u64)> {
+    plain.iter().copied().rev().find(|pair| pair.0 <= word)
+}
+
+// The nearest number at or above a word that is no key, of all up to a greatest.
+pub(crate) fn absent_from(plain: &[(u64, u64)], word: u64, top: u64) -> Option<u64> {
+    let mut number = word;
+    for pair in plain {
+        if pair.0 == number {
+            number = number.checked_add(1)?;
+        }
+    }
+    (number <= top).then_some(number)
+}
+
+// The nearest number at or below a word that is no key, of all up to a greatest.
+pub(crate) fn absent_up_to(plain: &[(u64, u64)], word: u64, top: u64) -> Option<u64> {
+    let mut number = word.min(top);
+    for pair in plain.iter().rev() {
+        if pair.0 == number {
+            number = number.checked_sub(1)?;
+        }
+    }
+    Some(number)
+}
+
 // Compares the rank and the place of a word.
 pub(crate) fn check_word(
     rt: &impl Abort,
     word: u64,
     plain: &[(u64, u64)],
-    rank: usize,
+    found: usize,
     place: Option<usize>,
 ) {
-    let below = plain.iter().filter(|pair| pair.0 < word).count();
     let at = plain.iter().position(|pair| pair.0 == word);
-    assert_eq!(rt; rank, below, "{word}");
+    assert_eq!(rt; found, rank(plain, word), "{word}");
     assert_eq!(rt; place, at, "{word}");
 }
 
@@ -48,10 +84,8 @@ pub(crate) fn check_nearest(
     after: Option<(u64, u64)>,
     before: Option<(u64, u64)>,
 ) {
-    let next = plain.iter().copied().find(|pair| pair.0 >= word);
-    let previous = plain.iter().copied().rev().find(|pair| pair.0 <= word);
-    assert_eq!(rt; after, next, "{word}");
-    assert_eq!(rt; before, previous, "{word}");
+    assert_eq!(rt; after, pair_from(plain, word), "{word}");
+    assert_eq!(rt; before, pair_up_to(plain, word), "{word}");
 }
 
 // Compares the nearest numbers at or above a word and at or below it that are no keys, of all up to the greatest key of a width.
@@ -63,10 +97,6 @@ pub(crate) fn check_absent(
     after: Option<u64>,
     before: Option<u64>,
 ) {
-    let next = (word..=top).find(|number| plain.iter().all(|pair| pair.0 != *number));
-    let previous = (0..=word.min(top))
-        .rev()
-        .find(|number| plain.iter().all(|pair| pair.0 != *number));
-    assert_eq!(rt; after, next, "{word}");
-    assert_eq!(rt; before, previous, "{word}");
+    assert_eq!(rt; after, absent_from(plain, word, top), "{word}");
+    assert_eq!(rt; before, absent_up_to(plain, word, top), "{word}");
 }

@@ -6,7 +6,8 @@ use Rattle.judy_leaf.specs.KeyLists.{shift}
 use Rattle.judy_node.specs.Trees.{branch_pairs}
 use Rattle.judy_query.specs.Rooms.{IsRun}
 use Rattle.judy_query.proofs.Runs.{run-join}
-use Rattle.judy_query.proofs.BranchRooms.{missing_there, missing_end, rank_next, least_top, not_full, all_full, words_behind, bytes_ascend, as_many, byte_small, word_fits, next_start, none_behind, start_absent, behind_absent, kid_room, kid_run}
+use Rattle.judy_query.proofs.Splits.{next_unit}
+use Rattle.judy_query.proofs.BranchRooms.{missing_there, missing_end, rank_next, least_top, not_full, all_full, words_behind, bytes_ascend, as_many, byte_small, word_fits, none_behind, start_absent, behind_absent, kid_room, kid_run}
 use Rattle.judy_query.proofs.rooms.room_from.Goals as goal
 
 pub start_of-start-requires-clause-within : goal.start_of-start-requires-clause-within
@@ -45,7 +46,7 @@ loop-at-preserved g c =
     let there = slice_get-get_or b.children.items c.loop-at.at c.index-child.result.now inside ∙ ap Some (sym c.index-child.ensures) in
     let small = byte_small words b.width b.skip b.bytes b.children.items b.population c.requires.branch c.loop-at.byte c.loop-at.at c.loop-at.invariant.1 inside in
     let run = kid_run words b.width b.skip b.bytes b.children.items b.population c.requires.branch c.args.base c.loop-at.byte c.loop-at.at c.index-child.result.now at there c.start_of-start.result c.start_of-start.ensures (all_full (length c.index-child.result.now.pairs) (256 ^ b.width) c.is_full.result c.is_full.ensures c.if-not-is_full.false) in
-    let next = next_start words b.width b.skip b.bytes b.children.items b.population c.requires.branch c.loop-at.byte in
+    let next = next_unit (number_of b.skip * 256) c.loop-at.byte (256 ^ b.width) in
     let start = c.start_of-start.ensures in
     let end : c.start_of-start.result + 256 ^ b.width ≡ c.args.base + (number_of b.skip * 256 + (c.loop-at.byte + 1)) * 256 ^ b.width = omega arith in (
       omega arith,

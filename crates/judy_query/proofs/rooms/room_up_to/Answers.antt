@@ -8,7 +8,8 @@ use Rattle.judy_leaf.proofs.LeafLists.{rank_within}
 use Rattle.judy_node.specs.Trees.{branch_pairs}
 use Rattle.judy_query.specs.Rooms.{IsRun}
 use Rattle.judy_query.proofs.Runs.{run-join}
-use Rattle.judy_query.proofs.BranchRooms.{missing_before, missing_first, rank_before, byte_some, first_small, not_full, all_full, bytes_ascend, as_many, next_start, word_fits, block_within, last_absent, before_absent, kid_room, kid_run}
+use Rattle.judy_query.proofs.Splits.{next_unit}
+use Rattle.judy_query.proofs.BranchRooms.{missing_before, missing_first, rank_before, byte_some, first_small, not_full, all_full, bytes_ascend, as_many, word_fits, block_within, last_absent, before_absent, kid_room, kid_run}
 use Rattle.judy_query.proofs.rooms.room_up_to.Goals as goal
 
 pub overflow_sub-byte : goal.overflow_sub-byte
@@ -86,7 +87,7 @@ returns-then-from-byte-clause-room g c =
     let most = c.loop-at.invariant.0 in
     let some = byte_some b.bytes c.loop-at.byte c.loop-at.at c.loop-at.invariant.1 (omega arith) in
     let next : n + 1 ≡ byte = omega arith in
-    let step = next_start words b.width b.skip b.bytes b.children.items b.population c.requires.branch n in
+    let step = next_unit (number_of b.skip * 256) n (256 ^ b.width) in
     let start = c.start_of-start.ensures in
     let same : c.args.base + (number_of b.skip * 256 + byte) * 256 ^ b.width ≡ c.start_of-start.result + 256 ^ b.width = ap (λ m. c.args.base + (number_of b.skip * 256 + m) * 256 ^ b.width) (sym next) ∙ omega arith in
     let run = subst (λ m. IsRun (shift c.args.base (branch_pairs b.width b.skip b.bytes b.children.items)) m (c.args.base + (number_of b.skip * 256 + c.args.end) * 256 ^ b.width)) same c.loop-at.invariant.2 in
@@ -129,7 +130,7 @@ returns-then-not-is_full-clause-room g c =
     let next : n + 1 ≡ byte = omega arith in
     let long = as_many words b.width b.skip b.bytes b.children.items b.population c.requires.branch in
     let within = rank_within b.bytes c.loop-at.byte in
-    let step = next_start words b.width b.skip b.bytes b.children.items b.population c.requires.branch n in
+    let step = next_unit (number_of b.skip * 256) n (256 ^ b.width) in
     let start = c.start_of-start.ensures in
     let same : c.args.base + (number_of b.skip * 256 + byte) * 256 ^ b.width ≡ c.start_of-start.result + 256 ^ b.width = ap (λ m. c.args.base + (number_of b.skip * 256 + m) * 256 ^ b.width) (sym next) ∙ omega arith in
     let run = subst (λ m. IsRun (shift c.args.base (branch_pairs b.width b.skip b.bytes b.children.items)) m (c.args.base + (number_of b.skip * 256 + c.args.end) * 256 ^ b.width)) same c.loop-at.invariant.2 in
@@ -152,7 +153,7 @@ loop-at-preserved g c =
     let next : n + 1 ≡ byte = omega arith in
     let long = as_many words b.width b.skip b.bytes b.children.items b.population c.requires.branch in
     let within = rank_within b.bytes c.loop-at.byte in
-    let step = next_start words b.width b.skip b.bytes b.children.items b.population c.requires.branch n in
+    let step = next_unit (number_of b.skip * 256) n (256 ^ b.width) in
     let start = c.start_of-start.ensures in
     let same : c.args.base + (number_of b.skip * 256 + byte) * 256 ^ b.width ≡ c.start_of-start.result + 256 ^ b.width = ap (λ m. c.args.base + (number_of b.skip * 256 + m) * 256 ^ b.width) (sym next) ∙ omega arith in
     let run = subst (λ m. IsRun (shift c.args.base (branch_pairs b.width b.skip b.bytes b.children.items)) m (c.args.base + (number_of b.skip * 256 + c.args.end) * 256 ^ b.width)) same c.loop-at.invariant.2 in
