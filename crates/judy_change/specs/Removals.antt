@@ -137,4 +137,5 @@ abbrev pub IsNeeded : {V : _} → KindOf V → Bool → Type 0
 IsNeeded (Imm head word) needed = ⊥
 IsNeeded (Leaf count block) needed = ⊥
 IsNeeded (Bit skipped block) needed = ⊥
-IsNeeded (Branch b) needed = needed ≡ true → (32 < b.value.population) × (length b.value.children.items ≢ 1)
+IsNeeded (Branch b) true = (32 < b.value.population) × (length b.value.children.items ≢ 1)
+IsNeeded (Branch b) false = 32 < b.value.population → length b.value.children.items ≡ 1

@@ -6,7 +6,7 @@ ghost use Rattle.judy_bits.specs.ByteSets as set;
 ghost use Rattle.judy_node.specs.Trees.{IsChild};
 ghost use Rattle.judy_node.specs.Kinds.{tree_of, IsLevel};
 ghost use Rattle.judy_node.specs.Roots.{root_tree, one_tree, IsRoot};
-ghost use Rattle.judy_change.specs.Removals.{IsRemoved, IsTaken, IsTakenBelow, IsWhole, IsSettled, IsChildless, IsParent, IsNeeded, loose_under, width_of, tree_below};
+ghost use Rattle.judy_change.specs.Removals.{IsRemoved, IsTaken, IsTakenBelow, IsWhole, IsChildless, width_of, tree_below};
 
 use crate::remove_leaf::{remove_bit, remove_immediate, remove_leaf};
 use crate::removed::{Removed, Taken};
@@ -128,7 +128,7 @@ fn remove_kind<V: Words + Drop>(alloc: Global, width: u8, kind: &mut KindOf<V>, 
             Taken::Absent => Taken::Absent,
             Taken::Only(value) => Taken::Only(value),
             Taken::Gone(value, shrunk) => {
-                let settled = settle_in(alloc, width, kind);
+                let settled = settle(alloc, width, kind);
                 Taken::Gone(value, both(shrunk, settled))
             }
         },
@@ -138,29 +138,6 @@ fn remove_kind<V: Words + Drop>(alloc: Global, width: u8, kind: &mut KindOf<V>, 
             *kind = child.open();
             taken
         }
-    }
-}
-
-// Makes the smallest node of a branch, which is moved only where it gets smaller, as `settle` does.
-fn settle_in<V: Words + Drop>(alloc: Global, width: u8, kind: &mut KindOf<V>) -> bool
-    requires one { V.WORDS ≤ 1 }
-    requires parent { IsParent kind.old }
-    requires level { IsLevel V.WORDS kind.old }
-    requires child { IsChild V.WORDS width (tree_of V.WORDS kind.old) }
-    requires two { width ≡ 8 → 2 ≤ length (tree_of V.WORDS kind.old).pairs }
-    ensures level { IsLevel V.WORDS kind.new }
-    ensures settled { IsSettled V.WORDS width (tree_of V.WORDS kind.old).pairs (loose_under kind.old) (tree_of V.WORDS kind.new) result }
-{
-    if is_needed(kind) {
-        return true;
-    }
-    match mem::replace(kind, KindOf::Imm(Head::new(0), 0)) {
-        KindOf::Branch(branch) => {
-            let (child, settled) = settle(alloc, width, branch);
-            *kind = child.open();
-            settled
-        }
-        _ => unreachable!(),
     }
 }
 
@@ -183,17 +160,6 @@ fn remove_childless<V: Words + Drop>(
         KindOf::Leaf(count, block) => remove_leaf(width, count, block, key),
         KindOf::Bit(head, block) => remove_bit(alloc, width, head, block, key),
         KindOf::Branch(_) => unreachable!(),
-    }
-}
-
-// Whether no smaller node would do for a branch.
-fn is_needed<V: Words + Drop>(kind: &KindOf<V>) -> bool
-    requires { IsParent kind.now }
-    ensures { IsNeeded kind.now result }
-{
-    match kind {
-        KindOf::Branch(branch) => branch.population > 32 && branch.children.len() != 1,
-        _ => unreachable!(),
     }
 }
 

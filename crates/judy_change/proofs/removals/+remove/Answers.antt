@@ -64,16 +64,16 @@ remove_below-returns-in-Gone g t c =
     let some = below_some g.V.Words.WORDS c.args.key c.in-Child.byte c.in-Child.place c.in-Child.rest c.args.branch.now c.index_mut.result.now c.requires.branch c.in-Child.ensures.0 c.in-Child.ensures.1 c.index_mut.ensures.value c.in-Gone.value c.in-Gone.ensures.found in
     below_gone g.V.Words.WORDS c.args.key c.in-Child.byte c.in-Child.place c.in-Child.rest c.args.branch.now c.index_mut.result.now c.requires.branch c.in-Child.ensures.0 c.in-Child.ensures.1 c.index_mut.ensures.value _ c.remove_in.new.child c.in-Gone.value c.in-Gone.shrunk c.in-Gone.ensures refl refl refl refl (omega arith)
 
-pub remove_kind-settle_in-settled-requires-clause-child : goal.remove_kind-settle_in-settled-requires-clause-child
-remove_kind-settle_in-settled-requires-clause-child g t c =
+pub remove_kind-settle-settled-requires-clause-child : goal.remove_kind-settle-settled-requires-clause-child
+remove_kind-settle-settled-requires-clause-child g t c =
     let words = g.V.Words.WORDS in
     let n = c.remove_below.new.branch in
     let child = subst (λ kind. IsChild words c.args.width (tree_of words kind)) c.in-Branch.is c.requires.child in
     let wide = c.in-Gone.ensures.width ∙ ap width_of c.deref_mut.ensures.value ∙ branch_wide words c.args.width c.in-Branch.branch.value child in
     subst (λ w. IsChild words w (tree_below n)) wide (branch-child words n.width n.skip n.bytes n.children.items n.population c.in-Gone.ensures.branch)
 
-pub remove_kind-settle_in-settled-requires-clause-two : goal.remove_kind-settle_in-settled-requires-clause-two
-remove_kind-settle_in-settled-requires-clause-two g t c =
+pub remove_kind-settle-settled-requires-clause-two : goal.remove_kind-settle-settled-requires-clause-two
+remove_kind-settle-settled-requires-clause-two g t c =
     λ wide.
     let words = g.V.Words.WORDS in
     let level = subst (IsLevel words) c.in-Branch.is c.requires.level in
@@ -89,9 +89,9 @@ remove_kind-returns-in-Gone-clause-taken g t c =
     let words = g.V.Words.WORDS in
     let level = subst (IsLevel words) c.in-Branch.is c.requires.level in
     let child = subst (λ kind. IsChild words c.args.width (tree_of words kind)) c.in-Branch.is c.requires.child in
-    let new = tree_of words c.settle_in-settled.new.kind in
+    let new = tree_of words c.settle-settled.new.kind in
     subst (λ kind. IsGone words c.args.width c.args.key (tree_of words kind) new c.in-Gone.value c.both.result) (sym c.in-Branch.is)
     (subst (λ b. IsGone words c.args.width c.args.key (tree_below b) new c.in-Gone.value c.both.result) c.deref_mut.ensures.value
-    (branch_gone words c.args.width c.args.key c.deref_mut.result.now c.remove_below.new.branch c.in-Gone.value c.in-Gone.shrunk c.settle_in-settled.result c.both.result new
+    (branch_gone words c.args.width c.args.key c.deref_mut.result.now c.remove_below.new.branch c.in-Gone.value c.in-Gone.shrunk c.settle-settled.result c.both.result new
     (subst (IsWhole words) (sym c.deref_mut.ensures.value) level) (ap width_of c.deref_mut.ensures.value ∙ branch_wide words c.args.width c.in-Branch.branch.value child)
-    c.in-Gone.ensures c.settle_in-settled.ensures.settled c.both.ensures))
+    c.in-Gone.ensures c.settle-settled.ensures.settled c.both.ensures))
