@@ -202,6 +202,10 @@ module _ {V : _} (words key byte place rest : ℕ) (old : BranchOf V) (kid : Tre
 
 -- ---- the branch as a node
 
+-- A branch among children of a width has keys of that width.
+pub branch_wide : {V : _} (words width : ℕ) (old : BranchOf V) → IsChild words width (tree_below old) → width_of old ≡ width
+branch_wide words width old child = child.wide (λ (none : width_of old ≡ 0). let never : ⊥ = omega arith in never)
+
 or_false : (one other : Bool) → (one && other) ≡ false → (one ≡ false) ⊎ (other ≡ false)
 or_false true other is = inr is
 or_false false other is = inl refl

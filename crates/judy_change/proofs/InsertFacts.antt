@@ -9,7 +9,7 @@ use Rattle.judy_bits.specs.ByteSets.{has}
 use Rattle.judy_block.specs.Contents.{Contents}
 use Rattle.judy_leaf.specs.KeyLists.{keys_of}
 use Rattle.judy_leaf.specs.BitLeaves.{bit_list}
-use Rattle.judy_node.specs.Trees.{Pairs, IsChild}
+use Rattle.judy_node.specs.Trees.{Pairs}
 use Rattle.judy_node.specs.Kinds.{bit_tree}
 use Rattle.judy_node.specs.Steps.{IsStep}
 use Rattle.judy_node.specs.declared.child.BranchOf.{BranchOf}
@@ -19,7 +19,7 @@ use Rattle.judy_node.proofs.Leaves.{bit_map}
 use Rattle.judy_node.proofs.MadeFacts.{unit_above}
 use Rattle.judy_node.proofs.StepFacts.{below_block}
 use Rattle.judy_change.specs.Inserted.{has_key}
-use Rattle.judy_change.specs.Removals.{value_in, IsWhole, tree_below, width_of}
+use Rattle.judy_change.specs.Removals.{value_in, IsWhole, tree_below}
 use Rattle.judy_change.proofs.LeafFacts.{other_key}
 use Rattle.judy_change.proofs.BelowFacts.{step-absent}
 
@@ -102,7 +102,3 @@ module _ {V : _} (words key : ℕ) (old : BranchOf V) (whole : IsWhole words old
           let whole : (number + 1) * unit ≤ key / unit * unit = mul-le (number + 1) unit (key / unit) unit (omega arith) (omega arith) in
           let end = above_start in
           omega arith
-
--- A branch among children of a width has keys of that width.
-pub branch_wide : {V : _} (words width : ℕ) (old : BranchOf V) → IsChild words width (tree_below old) → width_of old ≡ width
-branch_wide words width old child = child.wide (λ (none : width_of old ≡ 0). let never : ⊥ = omega arith in never)

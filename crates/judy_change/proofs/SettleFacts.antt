@@ -19,7 +19,7 @@ use Rattle.judy_node.proofs.Shaped.{branch-child, branch-map}
 use Rattle.judy_node.proofs.KindFacts.{level-child}
 use Rattle.judy_node.proofs.Leaves.{leaf_long, imm_length, imm_some}
 use Rattle.judy_node.proofs.MadeFacts.{low_pairs_same}
-use Rattle.judy_change.specs.Removals.{IsTightOf, IsSettled}
+use Rattle.judy_change.specs.Removals.{IsTightOf, IsSettled, IsNeeded, loose_under, width_of, tree_below}
 
 -- ---- few keys
 
@@ -222,3 +222,14 @@ module _ {V : _} (words width : ℕ) (skip bytes : List ℕ) (kids rest : List T
       subst (λ bs. IsMerged words (length skip + 1 + width) (loose_in (forms_in kids)) (branch_pairs width skip bs kids) new) (sym bytes_are)
       (subst (λ ks. IsMerged words (length skip + 1 + width) (loose_in (forms_in ks)) (branch_pairs width skip (byte ∷ []) ks) new) (sym kids_are)
       (merged-is words width skip byte count (tree_of words kind) new last alone_is kid_wide level_last tree close))
+
+-- A branch that no smaller node could replace is settled as it stands.
+pub needed_settled : {V : _} (words width : ℕ) (kind : KindOf V) → IsLevel words kind → IsChild words width (tree_of words kind) → IsNeeded kind true
+    → IsSettled words width (tree_of words kind).pairs (loose_under kind) (tree_of words kind) true
+needed_settled words width (Imm head word) level child never = absurd never
+needed_settled words width (Leaf count block) level child never = absurd never
+needed_settled words width (Bit skipped block) level child never = absurd never
+needed_settled words width (Branch b) level child needed =
+    let own = b.value in
+    let wide : width_of own ≡ width = child.wide (λ (none : width_of own ≡ 0). let never : ⊥ = omega arith in never) in
+    settled-branch words own.width width own.skip own.bytes own.children.items own.population (tree_below own) level wide needed.0 needed.1 refl

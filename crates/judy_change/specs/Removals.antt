@@ -1,8 +1,10 @@
 -- What it means to take a key out of a tree.
-use Rattle.std.specs.Prelude.{◌≡◌, ℕ, ◌+◌, ◌/◌, ◌^◌, ◌≤◌, ◌==◌, if◌then◌else◌, Bool, true, false, Option, Some, None, [], ◌∷◌, length}
+use Rattle.std.specs.Prelude.{◌≡◌, ◌≢◌, ℕ, ◌+◌, ◌/◌, ◌^◌, ◌<◌, ◌≤◌, ◌==◌, if◌then◌else◌, Bool, true, false, Option, Some, None, [], ◌∷◌, length}
 use Rattle.judy_model.specs.Forms.{loose_in}
 use Rattle.judy_node.specs.Trees.{Pairs, Tree, IsTight, IsChild, IsBranch, branch_tree, branch_pairs, forms_in}
 use Rattle.judy_node.specs.declared.child.BranchOf.{BranchOf}
+use Rattle.judy_node.specs.declared.child.KindOf.{KindOf}
+use Rattle.judy_node.specs.declared.child.KindOf.TheVariants.{Imm, Leaf, Bit, Branch}
 use Rattle.judy_change.specs.declared.removed.Removed.{Removed}
 use Rattle.judy_change.specs.declared.removed.Taken.{Taken}
 use Rattle.judy_change.specs.declared.removed.Taken.TheVariants.{Absent, Only, Gone}
@@ -111,3 +113,29 @@ abbrev pub IsTakenBelow : {V : _} → ℕ → ℕ → BranchOf V → BranchOf V 
 IsTakenBelow words key old new Absent = (value_in (pairs_below old) key ≡ None) × IsSame words old new
 IsTakenBelow words key old new (Only value) = (pairs_below old ≡ (key, value) ∷ []) × IsSame words old new
 IsTakenBelow words key old new (Gone value shrunk) = IsGoneBelow words key old new value shrunk
+
+-- The node has no children.
+abbrev pub IsChildless : {V : _} → KindOf V → Type 0
+IsChildless (Imm head word) = Unit {0}
+IsChildless (Leaf count block) = Unit {0}
+IsChildless (Bit skipped block) = Unit {0}
+IsChildless (Branch b) = ⊥
+
+-- The node has children.
+abbrev pub IsParent : {V : _} → KindOf V → Type 0
+IsParent kind = IsChildless kind → ⊥
+
+-- How many nodes below a node are loose.
+abbrev pub loose_under : {V : _} → KindOf V → ℕ
+loose_under (Imm head word) = 0
+loose_under (Leaf count block) = 0
+loose_under (Bit skipped block) = 0
+loose_under (Branch b) = loose_below b.value
+
+-- Whether a branch has more than 32 keys and not just one child.
+abbrev pub IsNeeded : {V : _} → KindOf V → Bool → Type 0
+IsNeeded (Imm head word) needed = ⊥
+IsNeeded (Leaf count block) needed = ⊥
+IsNeeded (Bit skipped block) needed = ⊥
+IsNeeded (Branch b) true = (32 < b.value.population) × (length b.value.children.items ≢ 1)
+IsNeeded (Branch b) false = 32 < b.value.population → length b.value.children.items ≡ 1

@@ -6,13 +6,13 @@ ghost use Rattle.judy_bits.specs.ByteSets as set;
 ghost use Rattle.judy_node.specs.Trees.{IsChild};
 ghost use Rattle.judy_node.specs.Kinds.{tree_of, IsLevel};
 ghost use Rattle.judy_node.specs.Roots.{root_tree, one_tree, IsRoot};
-ghost use Rattle.judy_change.specs.Removals.{IsRemoved, IsTaken, IsTakenBelow, IsWhole, width_of, tree_below};
+ghost use Rattle.judy_change.specs.Removals.{IsRemoved, IsTaken, IsTakenBelow, IsWhole, IsChildless, width_of, tree_below};
 
 use crate::remove_leaf::{remove_bit, remove_immediate, remove_leaf};
 use crate::removed::{Removed, Taken};
 use crate::settle::settle;
 use judy_leaf::Words;
-use judy_node::{BranchOf, ChildOf, KindOf, NodeOf, RootOf, Step};
+use judy_node::{BranchOf, ChildOf, Head, KindOf, NodeOf, RootOf, Step};
 use std::alloc::Global;
 use std::mem;
 
@@ -110,21 +110,46 @@ fn remove_in<V: Words + Drop>(alloc: Global, child: &mut ChildOf<V>, width: u8, 
     requires three { width ≡ 8 → 3 ≤ length child.old.pairs }
     ensures { IsTaken V.WORDS width key child.old child.new result }
 {
-    let kind = mem::replace(child, ChildOf::vacant()).open();
-    let (left, taken) = remove_kind(alloc, width, kind, key);
-    *child = left;
-    taken
+    remove_kind(alloc, width, child.place.kind_mut(), key)
 }
 
-// From a node taken out of its place.
+// The same by the node's kind. A branch is changed where it stands, and moved only where it gets smaller.
 #[cycle(remove)]
-fn remove_kind<V: Words + Drop>(
+fn remove_kind<V: Words + Drop>(alloc: Global, width: u8, kind: &mut KindOf<V>, key: u64) -> Taken
+    requires one { V.WORDS ≤ 1 }
+    requires level { IsLevel V.WORDS kind.old }
+    requires child { IsChild V.WORDS width (tree_of V.WORDS kind.old) }
+    requires three { width ≡ 8 → 3 ≤ length (tree_of V.WORDS kind.old).pairs }
+    ensures level { IsLevel V.WORDS kind.new }
+    ensures taken { IsTaken V.WORDS width key (tree_of V.WORDS kind.old) (tree_of V.WORDS kind.new) result }
+{
+    match kind {
+        KindOf::Branch(branch) => match remove_below(alloc, branch, key) {
+            Taken::Absent => Taken::Absent,
+            Taken::Only(value) => Taken::Only(value),
+            Taken::Gone(value, shrunk) => {
+                let settled = settle(alloc, width, kind);
+                Taken::Gone(value, both(shrunk, settled))
+            }
+        },
+        _ => {
+            let old = mem::replace(kind, KindOf::Imm(Head::new(0), 0));
+            let (child, taken) = remove_childless(alloc, width, old, key);
+            *kind = child.open();
+            taken
+        }
+    }
+}
+
+// From a node without children, taken out of its place.
+fn remove_childless<V: Words + Drop>(
     alloc: Global,
     width: u8,
     kind: KindOf<V>,
     key: u64,
 ) -> (ChildOf<V>, Taken)
     requires one { V.WORDS ≤ 1 }
+    requires childless { IsChildless kind }
     requires level { IsLevel V.WORDS kind }
     requires child { IsChild V.WORDS width (tree_of V.WORDS kind) }
     requires three { width ≡ 8 → 3 ≤ length (tree_of V.WORDS kind).pairs }
@@ -134,31 +159,7 @@ fn remove_kind<V: Words + Drop>(
         KindOf::Imm(head, word) => remove_immediate(width, head, word, key),
         KindOf::Leaf(count, block) => remove_leaf(width, count, block, key),
         KindOf::Bit(head, block) => remove_bit(alloc, width, head, block, key),
-        KindOf::Branch(branch) => remove_branch(alloc, width, branch, key),
-    }
-}
-
-// From a branch, which then gets as small as its keys allow.
-#[cycle(remove)]
-fn remove_branch<V: Words + Drop>(
-    alloc: Global,
-    width: u8,
-    mut branch: Box<BranchOf<V>>,
-    key: u64,
-) -> (ChildOf<V>, Taken)
-    requires one { V.WORDS ≤ 1 }
-    requires branch { IsWhole V.WORDS branch.value }
-    requires width { width_of branch.value ≡ width }
-    requires three { width ≡ 8 → 3 ≤ branch.value.population }
-    ensures { IsTaken V.WORDS width key (tree_below branch.value) result.0 result.1 }
-{
-    match remove_below(alloc, &mut branch, key) {
-        Taken::Absent => (ChildOf::close(KindOf::Branch(branch)), Taken::Absent),
-        Taken::Only(value) => (ChildOf::close(KindOf::Branch(branch)), Taken::Only(value)),
-        Taken::Gone(value, shrunk) => {
-            let (child, settled) = settle(alloc, width, branch);
-            (child, Taken::Gone(value, both(shrunk, settled)))
-        }
+        KindOf::Branch(_) => unreachable!(),
     }
 }
 

@@ -3,13 +3,14 @@
 ghost use Rattle.std.specs.Prelude.{◌≡◌, ℕ, ◌+◌, ◌^◌, ◌<◌, ◌≤◌, length, IfOk};
 ghost use Rattle.judy_node.specs.Trees.{IsMap, IsTight, IsChild};
 ghost use Rattle.judy_node.specs.Kinds.{tree_of, IsLevel, IsDeep, behind};
-ghost use Rattle.judy_change.specs.Removals.{IsTightOf, IsSettled, IsWhole, pairs_below, loose_below, width_of};
+ghost use Rattle.judy_change.specs.Removals.{IsTightOf, IsSettled, IsWhole, IsParent, IsNeeded, pairs_below, loose_below, loose_under, width_of};
 
 use judy_leaf::Words;
 use judy_node::{
-    BranchOf, ChildOf, KindOf, immediate_of_sorted, leaf_of_sorted, most_in_immediate,
+    BranchOf, ChildOf, Head, KindOf, immediate_of_sorted, leaf_of_sorted, most_in_immediate,
 };
 use std::alloc::{AllocError, Global};
+use std::mem;
 
 // The immediate or the leaf of at most 32 pairs. The error is want of memory.
 fn small_node<V: Words + Drop>(
@@ -106,9 +107,43 @@ fn merged<V: Words + Drop>(branch: &mut BranchOf<V>) -> ChildOf<V>
 }
 
 /// Makes the smallest node of a branch whose keys have `width` bytes, two of them at least at width 8: an immediate or a leaf of at
-/// most 32 keys; the child of a branch with one child; else the branch. Where there is no memory for a leaf, the branch stays,
-/// and the answer is `false`.
-pub(crate) fn settle<V: Words + Drop>(
+/// most 32 keys; the child of a branch with one child; else the branch, which isn't moved. Where there is no memory for a leaf,
+/// the branch stays, and the answer is `false`.
+pub(crate) fn settle<V: Words + Drop>(alloc: Global, width: u8, kind: &mut KindOf<V>) -> bool
+    requires one { V.WORDS ≤ 1 }
+    requires parent { IsParent kind.old }
+    requires level { IsLevel V.WORDS kind.old }
+    requires child { IsChild V.WORDS width (tree_of V.WORDS kind.old) }
+    requires two { width ≡ 8 → 2 ≤ length (tree_of V.WORDS kind.old).pairs }
+    ensures level { IsLevel V.WORDS kind.new }
+    ensures settled { IsSettled V.WORDS width (tree_of V.WORDS kind.old).pairs (loose_under kind.old) (tree_of V.WORDS kind.new) result }
+{
+    if is_needed(kind) {
+        return true;
+    }
+    match mem::replace(kind, KindOf::Imm(Head::new(0), 0)) {
+        KindOf::Branch(branch) => {
+            let (child, settled) = smaller(alloc, width, branch);
+            *kind = child.open();
+            settled
+        }
+        _ => unreachable!(),
+    }
+}
+
+// Whether no smaller node would do for a branch.
+fn is_needed<V: Words + Drop>(kind: &KindOf<V>) -> bool
+    requires { IsParent kind.now }
+    ensures { IsNeeded kind.now result }
+{
+    match kind {
+        KindOf::Branch(branch) => branch.population > 32 && branch.children.len() != 1,
+        _ => unreachable!(),
+    }
+}
+
+// The smallest node of a branch of at most 32 keys or with one child.
+fn smaller<V: Words + Drop>(
     alloc: Global,
     width: u8,
     mut branch: Box<BranchOf<V>>,
@@ -117,13 +152,11 @@ pub(crate) fn settle<V: Words + Drop>(
     requires branch { IsWhole V.WORDS branch.value }
     requires width { width_of branch.value ≡ width }
     requires two { width ≡ 8 → 2 ≤ branch.value.population }
+    requires loose { 32 < branch.value.population → length branch.value.children.items ≡ 1 }
     ensures { IsSettled V.WORDS width (pairs_below branch.value) (loose_below branch.value) result.0 result.1 }
 {
     if branch.population <= 32 {
         return lessen(alloc, width, ChildOf::close(KindOf::Branch(branch)));
     }
-    if branch.children.len() == 1 {
-        return (merged(&mut branch), true);
-    }
-    (ChildOf::close(KindOf::Branch(branch)), true)
+    (merged(&mut branch), true)
 }

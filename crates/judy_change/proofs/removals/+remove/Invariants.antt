@@ -7,8 +7,5 @@ decreases-remove_in g l = 4 * l.width + 3
 abbrev pub decreases-remove_kind : goal.decreases-remove_kind
 decreases-remove_kind g l = 4 * l.width + 2
 
-abbrev pub decreases-remove_branch : goal.decreases-remove_branch
-decreases-remove_branch g l = 4 * l.width + 1
-
 abbrev pub decreases-remove_below : goal.decreases-remove_below
 decreases-remove_below g l = 4 * l.branch.now.width + 4

@@ -1,49 +1,8 @@
-use Rattle.std.proofs.Common.{◌≡◌, ◌<◌, true≢false, length, sym, ap, ◌∙◌, subst}
-use Rattle.judy_node.specs.Trees.{IsChild, branch_tree}
-use Rattle.judy_node.proofs.Maps.{children-length}
-use Rattle.judy_node.proofs.Shaped.{branch-child}
-use Rattle.judy_change.specs.Removals.{IsSettled, pairs_below, loose_below, width_of}
-use Rattle.judy_change.proofs.SettleFacts.{settled-branch}
+use Rattle.std.proofs.Common.{subst}
+use Rattle.judy_change.specs.Removals.{IsNeeded}
+use Rattle.judy_change.proofs.SettleFacts.{needed_settled}
 use Rattle.judy_change.proofs.settle.settle.Goals as goal
 
-pub lessen-requires-clause-child : goal.lessen-requires-clause-child
-lessen-requires-clause-child g c =
-    let words = g.V.Words.WORDS in
-    let branch = c.args.branch.value in
-    subst (IsChild words c.args.width) (sym c.close.ensures)
-    (subst (λ w. IsChild words w (branch_tree branch.width branch.skip branch.bytes branch.children.items branch.population)) c.requires.width
-    (branch-child words branch.width branch.skip branch.bytes branch.children.items branch.population c.requires.branch))
-
-pub returns-then-deref-le32 : goal.returns-then-deref-le32
-returns-then-deref-le32 g c =
-    subst (λ pairs. IsSettled g.V.Words.WORDS c.args.width pairs (loose_below c.args.branch.value) c.lessen.result.0 c.lessen.result.1) (ap (λ tree. tree.pairs) c.close.ensures) (c.lessen.ensures (loose_below c.args.branch.value))
-
-pub merged-requires-clause-one : goal.merged-requires-clause-one
-merged-requires-clause-one g c =
-    let branch = c.args.branch.value in
-    let long = children-length g.V.Words.WORDS branch.width 0 branch.bytes branch.children.items c.requires.branch.parts.children in
-    let one = c.if-len-eq1.true in
-    let len = c.len.ensures in
-    let held = branch.children.ok.0 in
-    ap (λ b. length b.bytes) c.deref_mut.ensures.value ∙ (let e : length branch.bytes ≡ 1 = sym long ∙ sym held ∙ (λ t. sym (ap (λ b. b.children.len) c.deref-2.ensures) t) ∙ sym len ∙ one in e)
-
-pub returns-then-len-eq1 : goal.returns-then-len-eq1
-returns-then-len-eq1 g c =
-    let words = g.V.Words.WORDS in
-    let same = c.deref_mut.ensures.value in
-    record {
-      child = subst (λ w. IsChild words w c.merged.result) (ap width_of same ∙ c.requires.width) c.merged.ensures.child;
-      same = c.merged.ensures.same ∙ ap pairs_below same;
-      tight = λ none _. c.merged.ensures.tight (ap loose_below same ∙ none);
-      short = λ never. absurd (true≢false never);
-    }
-
-pub returns : goal.returns
-returns g c =
-    let words = g.V.Words.WORDS in
-    let branch = c.args.branch.value in
-    let many : 32 < branch.population = subst (λ b. 32 < b.population) c.deref.ensures c.if-deref-le32.false in
-    let held = branch.children.ok.0 in
-    settled-branch words branch.width c.args.width branch.skip branch.bytes branch.children.items branch.population c.close-2.result c.requires.branch c.requires.width many
-    (λ one. let len : c.len.result ≡ 1 = c.len.ensures ∙ ap (λ b. b.children.len) c.deref-2.ensures ∙ held ∙ one in c.if-len-eq1.false len)
-    c.close-2.ensures
+pub returns-then-is_needed-clause-settled : goal.returns-then-is_needed-clause-settled
+returns-then-is_needed-clause-settled g c =
+    needed_settled g.V.Words.WORDS c.args.width c.args.kind.now c.requires.level c.requires.child (subst (IsNeeded c.args.kind.now) c.if-is_needed.true c.is_needed.ensures)

@@ -10,7 +10,8 @@ use Rattle.judy_node.proofs.Maps.{children-length}
 use Rattle.judy_node.proofs.Shaped.{branch-child}
 use Rattle.judy_change.specs.Inserted.{has_key, IsInserted}
 use Rattle.judy_change.specs.Removals.{width_of, tree_below}
-use Rattle.judy_change.proofs.InsertFacts.{missing_absent, past_apart, branch_wide}
+use Rattle.judy_change.proofs.InsertFacts.{missing_absent, past_apart}
+use Rattle.judy_change.proofs.BelowFacts.{branch_wide}
 use Rattle.judy_change.proofs.KidInserts.{kid_child, kid_has, kid_room, kid_same, kid_branch, kid_added}
 use Rattle.judy_change.proofs.way_down.+insert.Goals as goal
 
