@@ -1,10 +1,12 @@
 // The array that is a set of words.
-ghost use Rattle.std.specs.Prelude.{◌≡◌, ◌≤◌, ◌↔◌, not, IfOk, OnOk, IfErr, OnErr, IsTrue, IsFalse};
+ghost use Rattle.std.specs.Prelude.{◌≡◌, ◌≤◌, ◌↔◌, not, IfOk, IsOk, OnOk, IfErr, OnErr, IsTrue, IsFalse};
 ghost use Rattle.std.specs.FinMap as map;
 ghost use Rattle.judy_model.specs.Arrays as array;
 ghost use Rattle.judy_model.specs.Counts as counts;
 ghost use Rattle.judy_model.specs.Neighbours as neighbours;
 ghost use Rattle.judy_model.specs.Empties as empties;
+ghost use Rattle.judy_query.specs.Maps.{map_of};
+ghost use Rattle.judy_word.specs.Held.{array_in};
 ghost use Rattle.judy_word.specs.Refusals.{IsRefusal};
 ghost use Rattle.judy_word.specs.Sets.{IsSet};
 
@@ -63,13 +65,14 @@ impl Judy1 {
     /// refused. (Manual: J1S, Judy1Set.)
     ///
     /// `Full` where the key is absent and the set holds as many keys as its limit (limit: this project's
-    /// own). `NoMemory` only where it is absent and the set isn't full. Either leaves the set as it was.
+    /// own). `NoMemory` only where it is absent and the set isn't full, and never where it is empty. Either leaves the set as it was.
     pub fn set(&mut self, i: u64) -> Result<bool, InsertError>
         ensures answer { IfOk result (λ added. added ≡ not (map.contains_key self.old.map i)) }
         ensures set { OnOk result (self.new ≡ array.with_map self.old (array.ins self.old.map i)) }
         ensures accepted { OnOk result (IsFalse (array.is_full self.old i)) }
         ensures refused { IfErr result (IsRefusal self.old i) }
         ensures unchanged { OnErr result (self.new ≡ self.old) }
+        ensures empty { self.old.map ≡ map.empty → IsOk result }
     {
         self.tree.set(i)
     }
@@ -213,5 +216,47 @@ impl Judy1 {
     {
         self.tree.told();
         self.tree.is_array();
+    }
+
+    /// The set with its nodes: the calls of [`TreeArray`] say what becomes of these too.
+    pub fn tree(&self) -> &TreeArray<Width<0>>
+        ensures { self.now ≡ array_in result.now }
+    {
+        &self.tree
+    }
+
+    /// The root of the tree, which holds the keys, loose or not.
+    pub fn root(&self) -> &Node<0>
+        ensures { map_of result.now.pairs ≡ self.now.map }
+    {
+        self.tree.root()
+    }
+
+    /// Whether a node may be larger than its keys need, since memory for a smaller one was refused to `unset`. Where it is false the
+    /// nodes are a function of the keys. (`tree` is for contracts that speak of it.)
+    pub fn is_loose(&self) -> bool {
+        self.tree.is_loose()
+    }
+
+    /// How many nodes of each kind there are. (`tree` is for contracts that speak of them.)
+    pub fn shape(&self) -> Shape {
+        self.tree.shape()
+    }
+
+    /// Makes each node as small as its keys allow, so that the set isn't loose from there on. The error is want of memory, which
+    /// comes only where it is loose; it is as it was then. Keys and limit stay.
+    pub fn tidy(&mut self) -> Result<(), AllocError>
+        ensures { self.new ≡ self.old }
+    {
+        self.tree.tidy()
+    }
+
+    /// A set of its own with the same limit and keys, each node as small as these allow. The error is want of memory.
+    pub fn try_clone(&self) -> Result<Judy1, AllocError>
+        ensures { IfOk result (λ copy. copy ≡ self.now) }
+    {
+        Ok(Judy1 {
+            tree: self.tree.try_clone()?,
+        })
     }
 }

@@ -1,13 +1,15 @@
 // The array that maps words to words.
-ghost use Rattle.std.specs.Prelude.{◌≡◌, ◌≤◌, ◌↔◌, Some, IfOk, OnOk, IfErr, IsTrue, IsFalse};
+ghost use Rattle.std.specs.Prelude.{◌≡◌, ◌≤◌, ◌↔◌, Some, IfOk, IsOk, IfSome, OnOk, IfErr, IsTrue, IsFalse};
 ghost use Rattle.std.specs.Borrow.{sem};
 ghost use Rattle.std.specs.FinMap as map;
-ghost use Rattle.std.specs.Option.{option_copied_mut};
+ghost use Rattle.std.specs.Option.{option_copied_mut, option_map};
 ghost use Rattle.judy_model.specs.Arrays as array;
 ghost use Rattle.judy_model.specs.Keys.{IsWord};
 ghost use Rattle.judy_model.specs.Counts as counts;
 ghost use Rattle.judy_model.specs.Neighbours as neighbours;
 ghost use Rattle.judy_model.specs.Empties as empties;
+ghost use Rattle.judy_query.specs.Maps.{map_of};
+ghost use Rattle.judy_word.specs.Held.{array_in};
 ghost use Rattle.judy_word.specs.Refusals.{IsRefusal};
 ghost use Rattle.judy_word.specs.Slots.{LendsSlot, LendsIns};
 
@@ -66,12 +68,13 @@ impl JudyL {
     /// (Manual: JLI, JudyLIns.)
     ///
     /// `Full` where the key is absent and the array holds as many keys as its limit (limit: this project's
-    /// own). `NoMemory` only where it is absent and the array isn't full. Either leaves the array as it was.
+    /// own). `NoMemory` only where it is absent and the array isn't full, and never where it is empty. Either leaves the array as it was.
     pub fn ins(&mut self, i: u64) -> Result<&mut u64, InsertError>
         ensures* writes_back { sem 𝓛 (LendsIns self.entry i result) }
         ensures value { IfOk result (λ slot. Some slot.now ≡ map.get (array.ins self.old.map i) i) }
         ensures accepted { OnOk result (IsFalse (array.is_full self.old i)) }
         ensures refused { IfErr result (IsRefusal self.old i) }
+        ensures empty { self.old.map ≡ map.empty → IsOk result }
     {
         self.tree.set(i)?;
         self.tree.told();
@@ -222,5 +225,87 @@ impl JudyL {
         ensures { array.IsArray (array.judyl self.now) }
     {
         self.tree.is_array();
+    }
+
+    /// The least key from `i` on with its value, in one way down the tree. `None` where no key is left.
+    pub fn first_entry(&self, i: u64) -> Option<(u64, u64)>
+        ensures key { option_map (λ entry. entry.0) result ≡ neighbours.first self.now.map i }
+        ensures value { IfSome result (λ entry. map.get self.now.map entry.0 ≡ Some entry.1) }
+    {
+        self.tree.first_entry(i)
+    }
+
+    /// The least key above `i` with its value; `None` where no key is above it.
+    pub fn next_entry(&self, i: u64) -> Option<(u64, u64)>
+        ensures key { option_map (λ entry. entry.0) result ≡ neighbours.next self.now.map i }
+        ensures value { IfSome result (λ entry. map.get self.now.map entry.0 ≡ Some entry.1) }
+    {
+        self.tree.next_entry(i)
+    }
+
+    /// The greatest key up to `i` with its value; `None` where each key is above it.
+    pub fn last_entry(&self, i: u64) -> Option<(u64, u64)>
+        ensures key { option_map (λ entry. entry.0) result ≡ neighbours.last self.now.map i }
+        ensures value { IfSome result (λ entry. map.get self.now.map entry.0 ≡ Some entry.1) }
+    {
+        self.tree.last_entry(i)
+    }
+
+    /// The greatest key below `i` with its value; `None` where no key is below it.
+    pub fn prev_entry(&self, i: u64) -> Option<(u64, u64)>
+        ensures key { option_map (λ entry. entry.0) result ≡ neighbours.prev self.now.map i }
+        ensures value { IfSome result (λ entry. map.get self.now.map entry.0 ≡ Some entry.1) }
+    {
+        self.tree.prev_entry(i)
+    }
+
+    /// The `n`-th key in ascending order, counted from 1, with its value; `None` for 0, and for an `n` above the number of keys.
+    pub fn by_count_entry(&self, n: u64) -> Option<(u64, u64)>
+        ensures key { option_map (λ entry. entry.0) result ≡ counts.by_count self.now.map n }
+        ensures value { IfSome result (λ entry. map.get self.now.map entry.0 ≡ Some entry.1) }
+    {
+        self.tree.by_count_entry(n)
+    }
+
+    /// The array with its nodes: the calls of [`TreeArray`] say what becomes of these too.
+    pub fn tree(&self) -> &TreeArray<Width<1>>
+        ensures { self.now ≡ array_in result.now }
+    {
+        &self.tree
+    }
+
+    /// The root of the tree, which holds the keys, loose or not.
+    pub fn root(&self) -> &Node<1>
+        ensures { map_of result.now.pairs ≡ self.now.map }
+    {
+        self.tree.root()
+    }
+
+    /// Whether a node may be larger than its keys need, since memory for a smaller one was refused to `del`. Where it is false the
+    /// nodes are a function of the keys. (`tree` is for contracts that speak of it.)
+    pub fn is_loose(&self) -> bool {
+        self.tree.is_loose()
+    }
+
+    /// How many nodes of each kind there are. (`tree` is for contracts that speak of them.)
+    pub fn shape(&self) -> Shape {
+        self.tree.shape()
+    }
+
+    /// Makes each node as small as its keys allow, so that the array isn't loose from there on. The error is want of memory, which
+    /// comes only where it is loose; it is as it was then. Keys and limit stay.
+    pub fn tidy(&mut self) -> Result<(), AllocError>
+        ensures { self.new ≡ self.old }
+    {
+        self.tree.tidy()
+    }
+
+    /// An array of its own with the same limit and keys with their values, each node as small as these allow. The error is want of memory.
+    pub fn try_clone(&self) -> Result<JudyL, AllocError>
+        ensures { IfOk result (λ copy. copy ≡ self.now) }
+    {
+        Ok(JudyL {
+            tree: self.tree.try_clone()?,
+        })
     }
 }

@@ -5,6 +5,7 @@ ghost use Rattle.std.specs.FinMap as map;
 ghost use Rattle.judy_model.specs.Arrays as array;
 
 use crate::{InsertError, Judy1, JudyL};
+use std::alloc::AllocError;
 use std::test::Fail;
 
 // Inserts a key and writes its value.
@@ -155,5 +156,47 @@ fn set_and_unset(rt: HostRuntime) -> Result<(), InsertError> {
     assert!(rt; !set.test(5));
     assert_eq!(rt; set.free_array(), 1);
     assert!(rt; set.is_empty());
+    Ok(())
+}
+
+// The calls that tell of the tree, each once.
+#[test]
+fn tree_of_a_set(rt: HostRuntime) -> Result<(), AllocError> {
+    let mut set = Judy1::new(rt.alloc(), 1000);
+    for word in 0..33 {
+        assert_eq!(rt; set.set(word), Ok(true));
+    }
+    assert_eq!(rt; set.shape().bitmap_leaves, 1);
+    assert!(rt; set.unset(32));
+    assert_eq!(rt; (set.shape().leaves, set.shape().bitmap_leaves), (1, 0));
+    assert!(rt; !set.is_loose());
+    assert!(rt; set.tidy().is_ok());
+    assert_eq!(rt; set.root().pop(), 32);
+    let copy = set.try_clone()?;
+    assert!(rt; set.unset(0));
+    assert_eq!(rt; (copy.len(), set.len()), (32, 31));
+    Ok(())
+}
+
+// Keys with their values.
+#[test]
+fn entries(rt: HostRuntime) -> Result<(), AllocError> {
+    let mut pairs = JudyL::new(rt.alloc(), 1000);
+    for (key, value) in [(3, 30), (5, 50), (18446744073709551615, 9)] {
+        assert_eq!(rt; put(&mut pairs, key, value), Ok(()));
+    }
+    for (entry, expected) in [
+        (pairs.first_entry(4), Some((5, 50))),
+        (pairs.next_entry(5), Some((18446744073709551615, 9))),
+        (pairs.next_entry(18446744073709551615), None),
+        (pairs.last_entry(4), Some((3, 30))),
+        (pairs.prev_entry(3), None),
+        (pairs.by_count_entry(2), Some((5, 50))),
+        (pairs.by_count_entry(0), None),
+    ] {
+        assert_eq!(rt; entry, expected);
+    }
+    let copy = pairs.try_clone()?;
+    assert_eq!(rt; copy.get(5), Some(50));
     Ok(())
 }

@@ -84,4 +84,21 @@ impl<V: Words + Drop> TreeArray<V> {
         self.loose = false;
         Ok(())
     }
+
+    /// An array of its own with the same limit, keys and values, each node as small as its keys allow. The error is want of memory.
+    pub fn try_clone(&self) -> Result<TreeArray<V>, AllocError>
+        requires one { V.WORDS ≤ 1 }
+        ensures same { IfOk result (λ copy. array_in copy ≡ array_in self.now) }
+        ensures tight { IfOk result (λ copy. copy.loose ≡ false) }
+    {
+        self.root.told();
+        let pairs = self.root.gather(self.alloc)?;
+        let root = NodeOf::from_sorted(self.alloc, &pairs)?;
+        Ok(TreeArray {
+            limit: self.limit,
+            root,
+            loose: false,
+            alloc: self.alloc,
+        })
+    }
 }

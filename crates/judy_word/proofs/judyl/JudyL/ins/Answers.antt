@@ -1,4 +1,4 @@
-use Rattle.std.proofs.Common.{◌∙◌}
+use Rattle.std.proofs.Common.{refl, ◌∙◌}
 use Rattle.judy_model.proofs.Lent.{lent}
 use Rattle.judy_word.proofs.ArrayFacts.{inserted-value, inserted-there, inserted-written}
 use Rattle.judy_word.proofs.judyl.JudyL.ins.Goals as goal
@@ -15,5 +15,6 @@ returns c =
         value = c.slot_of.ensures.value ∙ inserted-value c.self.inside.tree c.set.new.self c.told.ensures c.args.i c.in_ok-set.ensures.set;
         accepted = c.in_ok-set.ensures.accepted;
         refused = tt;
+        empty = λ _. refl;
       },
     )
