@@ -148,7 +148,19 @@ static void refused(void) {
     CHECK(JudyLCount(none, 0, -1, &error) == 0 && JU_ERRNO(&error) == JU_ERRNO_NONE);
 }
 
-int main(void) {
+/* The short forms end the program where a call is refused. */
+static void stop(void) {
+    Pvoid_t map = NULL;
+    Word_t *slot;
+    static uint8_t longer[1026];
+    memset(longer, 'a', 1025);
+    JSLI(slot, map, longer);
+    (void)slot;
+}
+
+int main(int argc, char **argv) {
+    (void)argv;
+    if (argc > 1) return stop(), 0;
     sets();
     maps();
     strings();
