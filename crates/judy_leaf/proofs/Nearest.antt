@@ -1,10 +1,10 @@
 -- The nearest among ascending keys and pairs, by rank.
-use Rattle.std.proofs.Common.{◌≡◌, ◌≢◌, ℕ, zero, suc, ◌+◌, ◌<◌, ⊎_elim, Bool, true, false, cond, nat_lt, nat_le, List, [], ◌∷◌, length, filter, get_or, slice_get, Some, None, refl, ap, sym, ◌∙◌, subst, arith, true≢false, is_lt, is_le, Less, Ordering, ltb-true, leb-true, lt-ltb, le-leb}
+use Rattle.std.proofs.Common.{◌≡◌, ◌≢◌, ℕ, zero, suc, ◌+◌, ◌<◌, ◌≤◌, ⊎_elim, Bool, true, false, cond, nat_lt, nat_le, List, [], ◌∷◌, length, filter, get_or, slice_get, Some, None, refl, ap, sym, ◌∙◌, subst, arith, true≢false, is_lt, is_le, Less, Ordering, ltb-true, leb-true, lt-ltb, le-leb}
 use Rattle.std.specs.List.{AllByRecursion}
 use Rattle.std.specs.List.Sorted.{IsStrictlySortedBy}
 use Rattle.std.specs.Cmp.{nat_cmp_total}
 use Rattle.std.proofs.lemmas.Bool.{false_from_ne_true, cases_order}
-use Rattle.std.proofs.lemmas.Option.{slice_get-get_or, slice_get_within, slice_get_past, same_Some}
+use Rattle.std.proofs.lemmas.Option.{none-some, slice_get-get_or, slice_get_cases, slice_get_within, slice_get_past, same_Some}
 use Rattle.judy_model.specs.Keys.{word_order}
 use Rattle.judy_model.proofs.Orders.{ge_is_not_lt}
 use Rattle.judy_model.proofs.WordOrder.{is_lt_word, is_le_word}
@@ -116,6 +116,32 @@ module _ (pairs : List (ℕ × ℕ)) (ascending : IsStrictlySortedBy word_order 
 
   pub previous_none : set.count_up_to (keys_of pairs) number ≡ 0 → None ≡ pair_up_to pairs number
   previous_none none = sym (up_to-count ∙ ap (before_place pairs) none)
+
+  -- The nearest key, as a set of bytes finds it.
+  next_place : set.next_from (keys_of pairs) number ≡ slice_get (keys_of pairs) (set.rank (keys_of pairs) number)
+  next_place =
+      find_agree (λ key. ge_is_not_lt (word_order key number)) (keys_of pairs)
+      ∙ find_at_count word_order (λ key. is_lt (word_order key number)) (λ x y less passes. lt-IsDownward nat_cmp_total number x y less passes) (keys_of pairs) ascending
+
+  pub next_inside : (key : ℕ) → Some key ≡ set.next_from (keys_of pairs) number → set.rank (keys_of pairs) number < length pairs
+  next_inside key is =
+      let there = slice_get_within (keys_of pairs) (set.rank (keys_of pairs) number) key (sym (is ∙ next_place)) in
+      subst (λ n. set.rank (keys_of pairs) number < n) (length-keys_of pairs) there
+
+  pub next_member : (key value : ℕ) → Some key ≡ set.next_from (keys_of pairs) number → value ≡ get_or (values_of pairs) (set.rank (keys_of pairs) number) 0 → Some (key, value) ≡ pair_from pairs number
+  next_member key value is is_value =
+      let at = set.rank (keys_of pairs) number in
+      let there = slice_get_within (keys_of pairs) at key (sym (is ∙ next_place)) in
+      next_found at key value refl (next_inside key is) (same_Some key (get_or (keys_of pairs) at 0) (is ∙ next_place ∙ slice_get-get_or (keys_of pairs) at 0 there)) is_value
+
+  pub no_next_member : None ≡ set.next_from (keys_of pairs) number → None ≡ pair_from pairs number
+  no_next_member none = sym (from-rank ∙ slice_get_past pairs at (subst (λ n. n ≤ at) (length-keys_of pairs) past))
+    where
+      at : ℕ
+      at = set.rank (keys_of pairs) number
+
+      past : length (keys_of pairs) ≤ at
+      past = ⊎_elim (λ found. absurd (none-some found.0 (none ∙ next_place ∙ found.2))) (λ past. past.0) (slice_get_cases (keys_of pairs) at).1
 
 -- ---- the same from the keys as they stand
 

@@ -146,11 +146,13 @@ impl<'a, V: Words + Drop> BitRef<'a, V> {
     pub fn at_or_after(&self, number: u64) -> Option<(u64, u64)>
         ensures { result ≡ pair_from self.now.pairs number }
     {
-        let at = self.rank(number);
-        if at < self.len() {
-            Some((self.key_at(at), self.value_at(at)))
-        } else {
-            None
+        self.told();
+        if number > 255 {
+            return None;
+        }
+        match self.bits().next_from(number as u8) {
+            Some(key) => Some((u64::from(key), self.value_at(self.rank(number)))),
+            None => None,
         }
     }
 
