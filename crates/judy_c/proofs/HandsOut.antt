@@ -45,17 +45,17 @@ Lent κ = MutRef (named 0) κ u64
 abbrev pub Found : Lft → RattleType
 Found κ = option.the_row (Lent κ)
 
-abbrev pub Told : Lft → Lft → RattleType
-Told κ κ' = MutRef (named 1) κ' (Lent κ)
+abbrev pub Pointer : Lft → Lft → RattleType
+Pointer κ κ' = MutRef (named 1) κ' (Lent κ)
 
 -- what is left of the pointer once it was given to `hand_out`, which left `last` behind it
-abbrev pub Gave : Lft → Lft → MutBor (MutBor ℕ) → MutBor ℕ → Fml
-Gave κ κ' slot last = fsep (fres slot.ghost_name ((Lent κ).coded.code last)) (fbor κ' (Held (mem (Lent κ)) slot.ref_ptr.0 slot.ref_ptr.1 slot.ghost_name))
+abbrev pub Given : Lft → Lft → MutBor (MutBor ℕ) → MutBor ℕ → Fml
+Given κ κ' slot last = fsep (fres slot.ghost_name ((Lent κ).coded.code last)) (fbor κ' (Held (mem (Lent κ)) slot.ref_ptr.0 slot.ref_ptr.1 slot.ghost_name))
 
--- what a call told is what it found
-pub told_slot : (found : Option (MutBor ℕ)) (told : Bool) (before after : MutBor ℕ) → IsTold found told before after → lent_where told after ≡ found
-told_slot None told before after is = ap (λ (b : Bool). lent_where b after) is.0
-told_slot (Some slot) told before after is = ap (λ (b : Bool). lent_where b after) is.0 ∙ ap Some is.1
+-- what was handed out is what was found
+pub handed : (found : Option (MutBor ℕ)) (told : Bool) (before after : MutBor ℕ) → IsTold found told before after → lent_where told after ≡ found
+handed None told before after is = ap (λ (b : Bool). lent_where b after) is.0
+handed (Some slot) told before after is = ap (λ (b : Bool). lent_where b after) is.0 ∙ ap Some is.1
 
 pub lent_laws : (κ : Lft) → Loose (row_field (Lent κ))
 lent_laws κ =
@@ -85,8 +85,8 @@ module _ {M : Type 1} {𝓤 : Ura M} (𝓛 : Logic 𝓤) (at_mem : Memory → SP
     -- the pointer is given for good, and the slot that was found stands behind it then, where there is one
     pub hands_out : {K : Type 0} → K → {Γ : List (Item 𝓤)} {C : Calls 𝓤 H} {Λ : Loops 𝓤 H} {E : Env 𝓤 H} {post : Post 𝓤 H} {rest : Body} {xs : List Operand} {d : Place}
         → FmC 𝓤 H 𝓛.laws C → Triple 𝓤 (C f.Key.name) Teller → Opds K 𝓛 (raw (Teller.pre asked) ∷ Γ) E xs (Teller.args asked)
-        → ((told : Bool) (last : MutBor ℕ) → IsTold found told slot.now last → Seq K 𝓛 (‵ (Gave κ κ' slot last) ∷ tokens ∷ Γ) (lands C Λ E d (vbool told) rest post))
-        → Seq K 𝓛 (‵ ((Found κ).own_val found (v ∷ [])) ∷ ‵ ((Told κ κ').own_val slot (mut_vals slot)) ∷ tokens ∷ Γ) (runs C Λ E (seq (call f.Key.name xs d) rest) post)
+        → ((told : Bool) (last : MutBor ℕ) → IsTold found told slot.now last → Seq K 𝓛 (‵ (Given κ κ' slot last) ∷ tokens ∷ Γ) (lands C Λ E d (vbool told) rest post))
+        → Seq K 𝓛 (‵ ((Found κ).own_val found (v ∷ [])) ∷ ‵ ((Pointer κ κ').own_val slot (mut_vals slot)) ∷ tokens ∷ Γ) (runs C Λ E (seq (call f.Key.name xs d) rest) post)
     hands_out t {C = C} {Λ = Λ} {E = E} {post = post} {rest = rest} {d = d} framing met operands k =
         nothing t $ move t (1 ∷ 2 ∷ 0 ∷ []) $ group t 3 $ move t (1 ∷ 0 ∷ []) $ join t $ nothing t $ move t (1 ∷ 0 ∷ []) $
         use2 𝓛 (raw (Teller.pre asked)) (id⊢ 𝓤 _) $

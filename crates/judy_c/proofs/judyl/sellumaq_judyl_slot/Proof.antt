@@ -31,7 +31,7 @@ use Rattle.judy_c.specs.contracts.map.Map.{the_row as R}
 use Rattle.judy_c.specs.contracts.map.Map.slot as lender
 use Rattle.judy_c.proofs.map.Map.slot.Met.{met as lender_met}
 use Rattle.judy_c.proofs.told.hand_out.Met.{met as teller_met}
-use Rattle.judy_c.proofs.HandsOut.{Found, Lent, Told, found_typed, hands_out, told_slot}
+use Rattle.judy_c.proofs.HandsOut.{Found, Lent, Pointer, found_typed, hands_out, handed}
 use Rattle.judy_c.specs.contracts.judyl.sellumaq_judyl_slot as f
 use Rattle.judy_c.proofs.judyl.sellumaq_judyl_slot.Statement.{statement}
 use Rattle.judy_c.proofs.judyl.sellumaq_judyl_slot.Code as code
@@ -55,7 +55,7 @@ sellumaq_judyl_slot_spec 𝓤 𝓛 𝓜 𝓡 wired =
     let y : W.Ghost = ((κs, qs, bounds, a, (mut_vals handle, (uint_vals w64 key, (mut_vals slot, tt)))), tt) in
     let token = ‵ (flft κ q) in
     qed 𝓛 (((token ⊛ ‵ (flft κ' q') ⊛ ‵ ftrue) ⊛ ‵ ((MutRef (named 0) κ R).own_val handle (mut_vals handle)) ⊛ ‵ (u64.own_val key (uint_vals w64 key))
-    ⊛ ‵ ((Told κ κ').own_val slot (mut_vals slot)) ⊛ ‵ ftrue) ∷ ‵ ftrue ∷ []) ∵
+    ⊛ ‵ ((Pointer κ κ').own_val slot (mut_vals slot)) ⊛ ‵ ftrue) ∷ ‵ ftrue ∷ []) ∵
     split ! $ split3 ! $ move ! (3 ∷ []) $ split3 ! $ move ! (2 ∷ []) $ split ! $ keep ! (4 ∷ 2 ∷ 3 ∷ 5 ∷ 0 ∷ []) $
     -- [the handle's token; the handle; the key; the pointer's token; the pointer]
     enter ! _ _ _ _ _ $ alloc_all ! (λ l. pass_all ! refl ((tt, tt), ((tt, record { fits = are.1.0.1 }), ((tt, tt), tt))) $
@@ -69,14 +69,14 @@ sellumaq_judyl_slot_spec 𝓤 𝓛 𝓜 𝓡 wired =
     ‵ (lasts lender.ended z.0.0 z.0.3 ws) ⊛ (‵ (LendsSlotOf handle key found) ⊛ raw (fact 𝓤 (option_copied_mut found ≡ map.get (map_of handle.now) key))))))) (id⊢ 𝓤 _) $
     await ! tt $ pick ! (λ found. split ! $ split ! $ split ! $ move ! (3 ∷ []) $ pick ! (λ _. split ! $ drop ! $ split ! $ move ! (1 ∷ []) $ heard ! _ (λ value.
     -- [what the handle becomes; its token; nothing; the slot or none; the pointer's token; the pointer]
-    move ! (3 ∷ []) $ peeks ! (Found κ) (Is (Found κ)) (shows 𝓛 (Found κ)) found (v ∷ []) (λ is. lands_as ! refl refl (found_typed 𝓛 κ found v is) $
+    move ! (3 ∷ []) $ peeks ! (Found κ) (Is (Found κ)) (shows 𝓛 (Found κ)) found (v ∷ []) (λ typed. lands_as ! refl refl (found_typed 𝓛 κ found v typed) $
     sets ! (addr ! (through ! refl (stop !))) refl (tt, tt) $
     move ! (2 ∷ 4 ∷ 3 ∷ []) $ group ! 3 $ move ! (1 ∷ 3 ∷ 0 ∷ []) $
     hands_out 𝓛 𝓜.mem 𝓡.returns κ κ' q q' bounds.0 found v slot ! framing (teller_met 𝓤 𝓛 𝓜 𝓡 (code.calls-judy_c::told::hand_out 𝓡.env wired)) (and_then ! (get ! refl) (and_then ! (get ! refl) (no_more !))) (λ told last is_told.
-    let handed = told_slot found told slot.now last is_told in lands_as ! refl refl (tt, tt) $ returns ! (look_at ! 0 refl) $ free_all ! refl $
+    let is = handed found told slot.now last is_told in lands_as ! refl refl (tt, tt) $ returns ! (look_at ! 0 refl) $ free_all ! refl $
     -- [what is left of the pointer; the tokens; what the handle becomes]
-    rewrite ! 2 (λ (o : Option (MutBor ℕ)). ‵ (LendsSlotOf handle key o)) (sym handed) refl $
+    rewrite ! 2 (λ (o : Option (MutBor ℕ)). ‵ (LendsSlotOf handle key o)) (sym is) refl $
     suffices ! _ (ends_at 𝓛 f.ended stayed c y (vbool told) told (tt, (tt, (last, tt))) (tt, (tt, (tt, tt)))) $
     nothing ! $ move ! (1 ∷ 0 ∷ []) $ fjoin ! $ nothing ! $ fjoin ! $ nothing ! $ fjoin ! $ feq_i ! (List Val) (vbool told ∷ []) (vbool told ∷ []) refl $ move ! (2 ∷ 1 ∷ 0 ∷ []) $
-    group ! 3 $ frame ! $ frame ! $ says ! (subst (λ (o : Option (MutBor ℕ)). IsTold o told slot.now last) (sym handed) is_told) $
-    use0 𝓛 (raw (fact 𝓤 (option_copied_mut (lent_where told last) ≡ map.get (map_of handle.now) key))) (fact_i 𝓤 _ (emp 𝓤) (ap option_copied_mut handed ∙ value)) $ done !))))))))
+    group ! 3 $ frame ! $ frame ! $ says ! (subst (λ (o : Option (MutBor ℕ)). IsTold o told slot.now last) (sym is) is_told) $
+    use0 𝓛 (raw (fact 𝓤 (option_copied_mut (lent_where told last) ≡ map.get (map_of handle.now) key))) (fact_i 𝓤 _ (emp 𝓤) (ap option_copied_mut is ∙ value)) $ done !))))))))
