@@ -34,7 +34,7 @@ use Rattle.judy_c.specs.declared.answers.Refusal.{Refusal}
 use Rattle.judy_c.specs.contracts.answers.Refusal.{the_row as Refused}
 use Rattle.judy_c.proofs.answers.Refusal.TheLaws.{the_row_laws as refused_laws}
 use Rattle.judy_c.specs.contracts.answers.answer_insert as f
-use Rattle.judy_c.proofs.HandsOut.{Lent, Told, Gave, lent_laws}
+use Rattle.judy_c.proofs.HandsOut.{Lent, Pointer, Given, lent_laws}
 
 -- a slot that is lent for κ, or why there is none
 abbrev pub Made : Lft → RattleType
@@ -60,8 +60,8 @@ module _ {M : Type 1} {𝓤 : Ura M} (𝓛 : Logic 𝓤) (at_mem : Memory → SP
     -- the pointer is given for good, and the slot stands behind it then, where there is one
     pub answers_insert : {K : Type 0} → K → {Γ : List (Item 𝓤)} {C : Calls 𝓤 H} {Λ : Loops 𝓤 H} {E : Env 𝓤 H} {post : Post 𝓤 H} {rest : Body} {xs : List Operand} {d : Place}
         → FmC 𝓤 H 𝓛.laws C → Triple 𝓤 (C f.Key.name) Teller → Opds K 𝓛 (raw (Teller.pre asked) ∷ Γ) E xs (Teller.args asked)
-        → ((told : ℕ) (last : MutBor ℕ) → told < 2 ^ 32 → (answered told last ≡ Some made) × IsHanded (Some made) slot.now last → Seq K 𝓛 (‵ (Gave κ κ' slot last) ∷ tokens ∷ Γ) (lands C Λ E d (vint w32 told) rest post))
-        → Seq K 𝓛 (‵ ((Made κ).own_val made (v ∷ [])) ∷ ‵ ((Told κ κ').own_val slot (mut_vals slot)) ∷ tokens ∷ Γ) (runs C Λ E (seq (call f.Key.name xs d) rest) post)
+        → ((told : ℕ) (last : MutBor ℕ) → told < 2 ^ 32 → (answered told last ≡ Some made) × IsHanded (Some made) slot.now last → Seq K 𝓛 (‵ (Given κ κ' slot last) ∷ tokens ∷ Γ) (lands C Λ E d (vint w32 told) rest post))
+        → Seq K 𝓛 (‵ ((Made κ).own_val made (v ∷ [])) ∷ ‵ ((Pointer κ κ').own_val slot (mut_vals slot)) ∷ tokens ∷ Γ) (runs C Λ E (seq (call f.Key.name xs d) rest) post)
     answers_insert t {C = C} {Λ = Λ} {E = E} {post = post} {rest = rest} {d = d} framing met operands k =
         nothing t $ move t (1 ∷ 2 ∷ 0 ∷ []) $ group t 3 $ move t (1 ∷ 0 ∷ []) $ join t $ nothing t $ move t (1 ∷ 0 ∷ []) $
         use2 𝓛 (raw (Teller.pre asked)) (id⊢ 𝓤 _) $

@@ -34,7 +34,7 @@ use Rattle.judy_c.specs.contracts.strings.Strings.{the_row as R}
 use Rattle.judy_c.specs.contracts.strings.Strings.ins as lender
 use Rattle.judy_c.proofs.strings.Strings.ins.Met.{met as lender_met}
 use Rattle.judy_c.proofs.answers.answer_insert.Met.{met as teller_met}
-use Rattle.judy_c.proofs.HandsOut.{Lent, Told, heap_typed}
+use Rattle.judy_c.proofs.HandsOut.{Lent, Pointer, heap_typed}
 use Rattle.judy_c.proofs.AnswersInsert.{Made, made_typed, answers_insert}
 use Rattle.judy_c.specs.contracts.judysl.sellumaq_judysl_ins as f
 use Rattle.judy_c.proofs.judysl.sellumaq_judysl_ins.Statement.{statement}
@@ -62,7 +62,7 @@ sellumaq_judysl_ins_spec 𝓤 𝓛 𝓜 𝓡 wired =
     let y : W.Ghost = ((κs, qs, bounds, a, (heap_val ∷ [], (mut_vals handle, (shr_slice_vals key, (mut_vals slot, tt))))), tt) in
     let token = ‵ (flft κ q) in let read = ‵ (flft κs.1.0 qs.1.0) in
     qed 𝓛 (((token ⊛ read ⊛ ‵ (flft κ' q') ⊛ ‵ ftrue) ⊛ ‵ (Heap.own_val alloc (heap_val ∷ [])) ⊛ ‵ ((MutRef (named 0) κ R).own_val handle (mut_vals handle)) ⊛ ‵ ((ShrSlice (named 1) κs.1.0 u8).own_val key (shr_slice_vals key))
-    ⊛ ‵ ((Told κ κ').own_val slot (mut_vals slot)) ⊛ ‵ ftrue) ∷ ‵ ftrue ∷ []) ∵
+    ⊛ ‵ ((Pointer κ κ').own_val slot (mut_vals slot)) ⊛ ‵ ftrue) ∷ ‵ ftrue ∷ []) ∵
     split ! $ split3 ! $ move ! (2 ∷ []) $ split ! $ move ! (4 ∷ []) $ split3 ! $ move ! (2 ∷ []) $ split3 ! $ keep ! (7 ∷ 8 ∷ 3 ∷ 4 ∷ 0 ∷ 5 ∷ 1 ∷ []) $
     -- [the handle's token; the key's token; the allocator; the handle; the key; the pointer's token; the pointer]
     enter ! _ _ _ _ _ $ alloc_all ! (λ l. pass_all ! refl ((heap_typed 𝓛 alloc are.0, ((tt, tt), ((tt, (tt, (record { fits = are.1.1.0.0.1.0 }, tt))), ((tt, tt), tt))))) $

@@ -31,7 +31,7 @@ use Rattle.judy_c.specs.contracts.strings.Strings.{the_row as R}
 use Rattle.judy_c.specs.contracts.strings.Strings.slot as lender
 use Rattle.judy_c.proofs.strings.Strings.slot.Met.{met as lender_met}
 use Rattle.judy_c.proofs.told.hand_out.Met.{met as teller_met}
-use Rattle.judy_c.proofs.HandsOut.{Found, Lent, Told, found_typed, hands_out, told_slot}
+use Rattle.judy_c.proofs.HandsOut.{Found, Lent, Pointer, found_typed, hands_out, handed}
 use Rattle.judy_c.specs.contracts.judysl.sellumaq_judysl_slot as f
 use Rattle.judy_c.proofs.judysl.sellumaq_judysl_slot.Statement.{statement}
 use Rattle.judy_c.proofs.judysl.sellumaq_judysl_slot.Code as code
@@ -58,7 +58,7 @@ sellumaq_judysl_slot_spec 𝓤 𝓛 𝓜 𝓡 wired =
     let y : W.Ghost = ((κs, qs, bounds, a, (mut_vals handle, (shr_slice_vals key, (mut_vals slot, tt)))), tt) in
     let token = ‵ (flft κ q) in let read = ‵ (flft κs.1.0 qs.1.0) in
     qed 𝓛 (((token ⊛ read ⊛ ‵ (flft κ' q') ⊛ ‵ ftrue) ⊛ ‵ ((MutRef (named 0) κ R).own_val handle (mut_vals handle)) ⊛ ‵ ((ShrSlice (named 1) κs.1.0 u8).own_val key (shr_slice_vals key))
-    ⊛ ‵ ((Told κ κ').own_val slot (mut_vals slot)) ⊛ ‵ ftrue) ∷ ‵ ftrue ∷ []) ∵
+    ⊛ ‵ ((Pointer κ κ').own_val slot (mut_vals slot)) ⊛ ‵ ftrue) ∷ ‵ ftrue ∷ []) ∵
     split ! $ split3 ! $ move ! (2 ∷ []) $ split ! $ move ! (4 ∷ []) $ split3 ! $ move ! (2 ∷ []) $ split ! $ keep ! (6 ∷ 7 ∷ 2 ∷ 3 ∷ 4 ∷ 0 ∷ []) $
     -- [the handle's token; the key's token; the handle; the key; the pointer's token; the pointer]
     enter ! _ _ _ _ _ $ alloc_all ! (λ l. pass_all ! refl ((tt, tt), ((tt, (tt, (record { fits = are.1.0.0.1.0 }, tt))), ((tt, tt), tt))) $
@@ -76,11 +76,11 @@ sellumaq_judysl_slot_spec 𝓤 𝓛 𝓜 𝓡 wired =
     sets ! (addr ! (through ! refl (stop !))) refl (tt, tt) $
     move ! (2 ∷ 5 ∷ 4 ∷ []) $ group ! 3 $ move ! (1 ∷ 4 ∷ 0 ∷ []) $
     hands_out 𝓛 𝓜.mem 𝓡.returns κ κ' q q' bounds.0 found v slot ! framing (teller_met 𝓤 𝓛 𝓜 𝓡 (code.calls-judy_c::told::hand_out 𝓡.env wired)) (and_then ! (get ! refl) (and_then ! (get ! refl) (no_more !))) (λ told last is_told.
-    let handed = told_slot found told slot.now last is_told in lands_as ! refl refl (tt, tt) $ returns ! (look_at ! 0 refl) $ free_all ! refl $
+    let lent = handed found told slot.now last is_told in lands_as ! refl refl (tt, tt) $ returns ! (look_at ! 0 refl) $ free_all ! refl $
     -- [what is left of the pointer; the tokens; what the handle becomes; the key's token]
-    rewrite ! 2 (λ (o : Option (MutBor ℕ)). ‵ (LendsSlotOf handle key.now o)) (sym handed) refl $
+    rewrite ! 2 (λ (o : Option (MutBor ℕ)). ‵ (LendsSlotOf handle key.now o)) (sym lent) refl $
     move ! (1 ∷ []) $ split3 ! $ move ! (0 ∷ 5 ∷ 1 ∷ 2 ∷ []) $ group ! 4 $ move ! (1 ∷ 0 ∷ []) $
     suffices ! _ (ends_at 𝓛 f.ended stayed c y (vbool told) told (tt, (tt, (last, tt))) (tt, (tt, (tt, tt)))) $
     nothing ! $ move ! (1 ∷ 0 ∷ []) $ fjoin ! $ nothing ! $ fjoin ! $ nothing ! $ fjoin ! $ feq_i ! (List Val) (vbool told ∷ []) (vbool told ∷ []) refl $ move ! (2 ∷ 1 ∷ 0 ∷ []) $
-    group ! 3 $ frame ! $ frame ! $ says ! (subst (λ (o : Option (MutBor ℕ)). IsTold o told slot.now last) (sym handed) is_told) $
-    use0 𝓛 (raw (fact 𝓤 (option_copied_mut (lent_where told last) ≡ map.get (array_in handle.now).map key.now))) (fact_i 𝓤 _ (emp 𝓤) (ap option_copied_mut handed ∙ value)) $ done !))))))))
+    group ! 3 $ frame ! $ frame ! $ says ! (subst (λ (o : Option (MutBor ℕ)). IsTold o told slot.now last) (sym lent) is_told) $
+    use0 𝓛 (raw (fact 𝓤 (option_copied_mut (lent_where told last) ≡ map.get (array_in handle.now).map key.now))) (fact_i 𝓤 _ (emp 𝓤) (ap option_copied_mut lent ∙ value)) $ done !))))))))
