@@ -8,7 +8,8 @@ ghost use Rattle.judy_node.specs.Trees.{Tree, IsBranch};
 ghost use Rattle.judy_node.specs.Steps.{IsStep};
 ghost use Rattle.judy_node.specs.Populations.{population, keys_before, HoldsNth};
 
-use crate::child::{BranchOf, ChildOf};
+use crate::child::BranchOf;
+use crate::populations::{child_holding, population_of};
 use crate::step::Step;
 use judy_bits::{low_part, without_low};
 use judy_leaf::Words;
@@ -70,34 +71,13 @@ impl<V: Words + Drop> BranchOf<V> {
         }
     }
 
-    /// The child that has the n-th of the keys below, counted from 0, and which of its own keys it is.
+    /// The child that has the n-th of the keys below, counted from 0, and which of its own keys it is. It is looked for from the nearer
+    /// end.
     pub fn holding(&self, n: u64) -> (usize, u64)
         requires branch { IsBranch V.WORDS self.now.width self.now.skip self.now.bytes self.now.children.items self.now.population }
         requires within { n < self.now.population }
         ensures { (kid : Tree) × HoldsNth self.now.children.items n result.0 result.1 kid }
     {
-        let mut left = n;
-        let mut place = 0;
-        for child in &self.children {
-            let count = child.pop();
-            if left < count {
-                return (place, left);
-            }
-            left -= count;
-            place += 1;
-        }
-        unreachable!()
+        child_holding(&self.children, self.keys(), n)
     }
-}
-
-// How many keys there are below children.
-fn population_of<V: Words + Drop>(children: &[ChildOf<V>]) -> u64
-    requires { population children.now < 2 ^ 64 }
-    ensures { result ≡ population children.now }
-{
-    let mut sum = 0;
-    for child in children {
-        sum += child.pop();
-    }
-    sum
 }
