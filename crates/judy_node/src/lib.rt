@@ -24,6 +24,7 @@ mod populations;
 mod shape;
 mod slot;
 mod step;
+mod sums;
 mod view;
 
 pub use build::{
@@ -34,4 +35,5 @@ pub use head::Head;
 pub use node::{Node, NodeOf, RootOf};
 pub use shape::Shape;
 pub use step::Step;
+pub use sums::Sums;
 pub use view::{View, ViewOf};
