@@ -1,11 +1,12 @@
 -- Sums of children by sixteens.
-use Rattle.std.proofs.Common.{◌≡◌, ℕ, ◌+◌, ◌-◌, ◌*◌, ◌/◌, ◌<◌, ◌≤◌, List, [], ◌∷◌, ◌++◌, length, take, drop, set, get_or, sum, sum_by, Some, ⊎_elim, sym, refl, ap, ◌∙◌, subst, arith, length-take, length-drop, length-set}
-use Rattle.std.proofs.lemmas.List.{take_all, take-take, drop-take, take-set-le, take_more_set, take_rest, drop-set-lt, get_or-take, get_or-drop}
+use Rattle.std.proofs.Common.{◌≡◌, ℕ, ◌+◌, ◌-◌, ◌*◌, ◌/◌, ◌<◌, ◌≤◌, List, [], ◌∷◌, ◌++◌, length, take, drop, set, get_or, sum, sum_by, Option, Some, None, IfSome, ⊎_elim, sym, refl, ap, ◌∙◌, subst, arith, length-take, length-drop, length-set}
+use Rattle.std.proofs.lemmas.List.{take_all, take-take, drop-take, take-set-le, take_more_set, take_rest, drop-set-lt, get_or-take, get_or-drop, set-get_or}
 use Rattle.std.proofs.lemmas.List.Sums.{sum_by-cons, sum_by-set, sum_by-take-drop, sum_by_more, sum_by_push, get_or-le-sum_by}
 use Rattle.std.proofs.lemmas.Bool.{cases_lt}
 use Rattle.std.proofs.lemmas.Option.{same_Some, slice_get-get_or, slice_get_within}
 use Rattle.judy_node.specs.Trees.{Tree}
-use Rattle.judy_node.specs.Populations.{population, keys_before, AreGroups, HoldsNth}
+use Rattle.judy_node.specs.Populations.{population, keys_before, AreGroups, AreSums, HoldsNth}
+use Rattle.judy_node.specs.declared.sums.Sums.{Sums}
 use Rattle.judy_node.proofs.Counts.{population-take}
 
 -- ---- populations
@@ -163,3 +164,15 @@ holds-span kids from count own place left kid holds =
         inside = holds.inside;
       },
     )
+
+-- ---- a value written
+
+if-some : {X : Type 0} (found : Option X) (one other : X → Type 0) → ((x : X) → one x → other x) → IfSome found one → IfSome found other
+if-some None one other step is = is
+if-some (Some x) one other step is = step x is
+
+-- Another child with as many keys leaves the sums as they are.
+pub sums-same : (sums : Sums) (kids : List Tree) (at : ℕ) (new d : Tree) → at < length kids → length new.pairs ≡ length (get_or kids at d).pairs → AreSums sums kids → AreSums sums (set kids at new)
+sums-same sums kids at new d within same = if-some sums.groups (λ groups. AreGroups groups.value kids) (λ groups. AreGroups groups.value (set kids at new))
+    (λ groups are. subst (λ words. AreGroups words (set kids at new)) (set-get_or groups.value (at / 16) 0)
+    (groups-set groups.value kids are at (get_or groups.value (at / 16) 0) new d within (ap (λ n. get_or groups.value (at / 16) 0 + n) (sym same))))

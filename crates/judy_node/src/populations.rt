@@ -1,8 +1,8 @@
 //! How many keys there are below children, and which child has one of them.
 
-ghost use Rattle.std.specs.Prelude.{◌≡◌, ◌+◌, ◌-◌, ◌^◌, ◌<◌, ◌≤◌};
+ghost use Rattle.std.specs.Prelude.{◌≡◌, ◌+◌, ◌-◌, ◌^◌, ◌<◌, ◌≤◌, length};
 ghost use Rattle.judy_node.specs.Trees.{Tree};
-ghost use Rattle.judy_node.specs.Populations.{population, HoldsNth};
+ghost use Rattle.judy_node.specs.Populations.{population, keys_before, HoldsNth};
 
 use crate::child::ChildOf;
 use judy_leaf::Words;
@@ -17,6 +17,23 @@ pub(crate) fn population_of<V: Words + Drop>(children: &[ChildOf<V>]) -> u64
         sum += child.pop();
     }
     sum
+}
+
+/// How many keys there are below the first children, so many; all the keys are `all`. It adds from the nearer end.
+pub(crate) fn keys_by_children<V: Words + Drop>(
+    children: &[ChildOf<V>],
+    all: u64,
+    place: usize,
+) -> u64
+    requires all { all ≡ population children.now }
+    requires place { place ≤ length children.now }
+    ensures { result ≡ keys_before place children.now }
+{
+    if place <= children.len() / 2 {
+        population_of(&children[..place])
+    } else {
+        all - population_of(&children[place..])
+    }
 }
 
 /// The child that has the n-th of the keys below children, counted from 0, and which of its own keys it is. All the keys are so many;
