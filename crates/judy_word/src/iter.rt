@@ -8,7 +8,7 @@ use crate::judyl::JudyL;
 use judy_leaf::Width;
 use judy_query::Walk;
 use std::fmt::{Debug, Formatter, Result, Write};
-use std::iter::Iterator;
+use std::iter::{IntoIterator, Iterator};
 use std::marker::Model;
 
 /// The keys of a map with their values that are still to come, by ascending key: to its callers it is their list.
@@ -81,6 +81,30 @@ impl JudyL {
     }
 }
 
+impl<'a> IntoIterator for &'a Judy1 {
+    type Item = u64;
+
+    type IntoIter = Keys<'a>;
+
+    ghost into_iter_gives = { λ set keys. keys ≡ map.keys set.now.map };
+
+    fn into_iter(self) -> Keys<'a> {
+        self.iter()
+    }
+}
+
+impl<'a> IntoIterator for &'a JudyL {
+    type Item = (u64, u64);
+
+    type IntoIter = Entries<'a>;
+
+    ghost into_iter_gives = { λ array entries. entries ≡ map.entries array.now.map };
+
+    fn into_iter(self) -> Entries<'a> {
+        self.iter()
+    }
+}
+
 /// The keys as a set is printed: `{1, 5}`.
 impl Debug for Judy1 {
     fn fmt<W: Write>(&self, f: &mut Formatter<W>) -> Result {
@@ -92,7 +116,7 @@ impl Debug for Judy1 {
 impl Debug for JudyL {
     fn fmt<W: Write>(&self, f: &mut Formatter<W>) -> Result {
         let mut out = f.debug_map();
-        for (key, value) in self.iter() {
+        for (key, value) in self {
             out.entry(&key, &value);
         }
         out.finish()
