@@ -122,6 +122,10 @@ def keys_that_go(kind):
     return [b"make a " + kind, *(b"ins a %s 7" % key for key in keys), *(b"del a " + key for key in keys), b"list"]
 
 
+def keys_gone(kind):
+    return [b"ok", *[b"was 0"] * 33, *[b"1"] * 33, b"names a:" + kind + b":0"]
+
+
 # Keys that split tails and share levels, hashes and groups, in arrays of all kinds.
 ALL_KINDS = lines("""
     make b judy1
@@ -167,11 +171,11 @@ ROWS = [
     ("a full leaf of a judysl", full_leaf(b"judysl", EIGHT_BYTES), None, [full_leaf_refused(b"judysl")]),
     ("a full leaf of a judyhs", full_leaf(b"judyhs", EIGHT_BYTES), None, [full_leaf_refused(b"judyhs")]),
 ]
-# Scripts that delete: a delete may be refused memory and shows nothing of it.
+# Scripts that delete, and answers that must come up: a delete that leaves 32 keys is refused memory, and shows nothing of it.
 SCRIPTS = [
-    ("keys of a judysl that go", keys_that_go(b"judysl")),
-    ("keys of a judyhs that go", keys_that_go(b"judyhs")),
-    ("arrays of all kinds", ALL_KINDS),
+    ("keys of a judysl that go", keys_that_go(b"judysl"), [keys_gone(b"judysl")]),
+    ("keys of a judyhs that go", keys_that_go(b"judyhs"), [keys_gone(b"judyhs")]),
+    ("arrays of all kinds", ALL_KINDS, []),
 ]
 
 
@@ -251,25 +255,27 @@ class Refusals(Checks):
         else:
             self.expect(f"{name}, the dump", (ran.status, ran.error, ran.dump) == (0, b"", wanted_dump), ran)
 
-    def check_script(self, name, script, shows=False):
-        """All runs of a script, one for each call that it makes for memory, in both ways: their answers. Where it shows its
-        calls, a line that makes one is seen to be refused it, and so is the dump."""
+    def check_script(self, name, script, rows, shows=False):
+        """All runs of a script, one for each call that it makes for memory, in both ways, and the answers that must come up where one of
+        a line is refused. Where it shows its calls, a line that makes one is seen to be refused it, and so is the dump."""
         self.with_ample(script)
         seen = []
         for call, onward, ran in self.refused_runs(script):
             self.check_run(f"{name}, {call}{onward}", script, ran)
-            if shows and not onward and call > self.before:
+            if onward or call <= self.before:
+                continue
+            if ran.error != AFTER:
+                seen.append(ran.answers)
+            if shows:
                 self.expect(f"{name}, {call}, seen", NO_MEMORY in ran.answers or ran.error == AFTER, ran)
-            seen.append(ran.answers)
-        return seen
+        for row in rows:
+            self.expect(f"{name}, a row that must come up", row in seen, row)
 
     def check_row(self, name, script, dump, rows):
         """All runs of the script of a row, whose lines delete nothing and so show each call."""
         if dump is not None:
             self.expect(f"{name}, its dump", self.with_ample(script)[1] == dump, self.with_ample(script))
-        seen = self.check_script(name, script, shows=True)
-        for row in rows:
-            self.expect(f"{name}, a row that must come up", row in seen, row)
+        self.check_script(name, script, rows, shows=True)
 
     def check_load(self, name, dump):
         """All runs that load a dump and list it: the load is refused whole, or the store is there whole."""
@@ -294,8 +300,8 @@ def main():
         refusals = Refusals(os.path.abspath(sys.argv[1]), folder)
         for row in ROWS:
             refusals.check_row(*row)
-        for name, script in SCRIPTS:
-            refusals.check_script(name, script)
+        for script in SCRIPTS:
+            refusals.check_script(*script)
         refusals.check_load("refused-dump-load-make", STORE_OF_THREE_DUMP)
         refusals.check_load("smallest-dumps, loaded", SMALLEST_DUMP)
     return refusals.end("the program without memory")
