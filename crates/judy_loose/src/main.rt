@@ -1,8 +1,11 @@
 //! The program `judy_loose`: plays worked rows on a set of words, tells what nodes it has and what it answers, and prints that.
 //!
 //! Scripts show no nodes, and a set becomes loose only where memory is refused to it. So `tools/try_loose.py` runs this program with its
-//! calls for memory refused in turn; it has no claim of its own.
+//! calls for memory refused in turn, and compares what it prints with a plain set.
 #![tactic(auto)]
+
+ghost use Rattle.std.specs.Prelude.{◌≡◌, ◌⊎◌};
+ghost use Rattle.judy_model.specs.Arrays as array;
 
 mod told;
 
@@ -55,7 +58,10 @@ fn skip_and_merge(rt: &impl Print, set: &mut Judy1) -> io::Result<()> {
     tell(rt, set)
 }
 
-fn put(rt: &impl Print, set: &mut Judy1, word: u64) -> io::Result<()> {
+// Puts a key in, or leaves the set as it was.
+fn put(rt: &impl Print, set: &mut Judy1, word: u64) -> io::Result<()>
+    ensures { (set.new ≡ set.old) ⊎ (set.new ≡ array.with_map set.old (array.ins set.old.map word)) }
+{
     let answer = match set.set(word) {
         Ok(true) => "1",
         Ok(false) => "0",
@@ -65,12 +71,18 @@ fn put(rt: &impl Print, set: &mut Judy1, word: u64) -> io::Result<()> {
     println!(rt; "set {word}: {answer}")
 }
 
-fn take(rt: &impl Print, set: &mut Judy1, word: u64) -> io::Result<()> {
+// Takes a key out, whatever memory there is.
+fn take(rt: &impl Print, set: &mut Judy1, word: u64) -> io::Result<()>
+    ensures { set.new ≡ array.with_map set.old (array.del set.old.map word) }
+{
     let answer = u8::from(set.unset(word));
     println!(rt; "unset {word}: {answer}")
 }
 
-fn tidy(rt: &impl Print, set: &mut Judy1) -> io::Result<()> {
+// Makes the nodes tight, or leaves them; the keys stay.
+fn tidy(rt: &impl Print, set: &mut Judy1) -> io::Result<()>
+    ensures { set.new ≡ set.old }
+{
     let answer = match set.tidy() {
         Ok(()) => "ok",
         Err(_) => "no-memory",
