@@ -124,9 +124,12 @@ class PlainSet:
 
     def agrees(self, line):
         """Whether a line is one that may come now, which is then done here too."""
-        head, told = line.decode().split(": ", 1)
-        name, *words = head.split()
-        return getattr(self, f"agrees_{name}")(told, *map(int, words))
+        try:
+            head, told = line.decode().split(": ", 1)
+            name, *words = head.split()
+            return getattr(self, f"agrees_{name}")(told, *map(int, words))
+        except (AttributeError, TypeError, ValueError):
+            return False  # a line of another form
 
     def agrees_set(self, told, word):
         if told == "no-memory":
