@@ -110,8 +110,8 @@ static word sellumaq_value(sellumaq_judyl *map, word key) {
 }
 
 static bool sellumaq_next_entry(sellumaq_judyl *map, word *key) {
-    word *slot;
-    return sellumaq_judyl_next(map, *key, key) && sellumaq_judyl_slot(map, *key, &slot);
+    word value;
+    return sellumaq_judyl_next_entry(map, *key, key, &value);
 }
 
 static void sellumaq_put(sellumaq_judyl *map, word key) {

@@ -98,6 +98,12 @@ bool sellumaq_judyl_next(sellumaq_judyl *map, uint64_t from, uint64_t *key);
 bool sellumaq_judyl_last(sellumaq_judyl *map, uint64_t from, uint64_t *key);
 bool sellumaq_judyl_prev(sellumaq_judyl *map, uint64_t from, uint64_t *key);
 
+/* The same four keys with their values, each in one way down the map: a walk over keys and values takes half as long by these. */
+bool sellumaq_judyl_first_entry(sellumaq_judyl *map, uint64_t from, uint64_t *key, uint64_t *value);
+bool sellumaq_judyl_next_entry(sellumaq_judyl *map, uint64_t from, uint64_t *key, uint64_t *value);
+bool sellumaq_judyl_last_entry(sellumaq_judyl *map, uint64_t from, uint64_t *key, uint64_t *value);
+bool sellumaq_judyl_prev_entry(sellumaq_judyl *map, uint64_t from, uint64_t *key, uint64_t *value);
+
 /* The same four among the words that are no keys. */
 bool sellumaq_judyl_first_empty(sellumaq_judyl *map, uint64_t from, uint64_t *word);
 bool sellumaq_judyl_next_empty(sellumaq_judyl *map, uint64_t from, uint64_t *word);
