@@ -10,7 +10,7 @@ ghost use Rattle.judy_node.specs.Populations.{population, keys_before, HoldsNth}
 
 use crate::child::{BranchOf, ChildOf};
 use crate::step::Step;
-use judy_bits::{low_part, without_low};
+use judy_bits::{tail, without_tail};
 use judy_leaf::Words;
 
 impl<V: Words + Drop> BranchOf<V> {
@@ -21,7 +21,7 @@ impl<V: Words + Drop> BranchOf<V> {
     {
         let width = usize::from(self.width);
         let front = self.skip.number() * 256;
-        let block = without_low(key, width);
+        let block = without_tail(key, width);
         if block < front {
             return Step::Below;
         }
@@ -29,7 +29,7 @@ impl<V: Words + Drop> BranchOf<V> {
             return Step::Above;
         }
         let byte = (block - front) as u8;
-        let rest = low_part(key, width);
+        let rest = tail(key, width);
         match self.place(byte) {
             Some(place) => Step::Child(byte, place, rest),
             None => Step::Missing(byte, self.bytes.rank(byte), rest),
