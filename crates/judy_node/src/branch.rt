@@ -48,6 +48,21 @@ impl<V: Words + Drop> BranchOf<V> {
         }
     }
 
+    /// The byte of the child at a place. Where all 256 children stand, a place is its byte.
+    pub fn byte_at(&self, place: usize) -> u8
+        requires branch { IsBranch V.WORDS self.now.width self.now.skip self.now.bytes self.now.children.items self.now.population }
+        requires place { place < length self.now.children.items }
+        ensures { slice_get self.now.bytes place ≡ Some result }
+    {
+        if self.children.len() == 256 {
+            return place as u8;
+        }
+        let Some(byte) = self.bytes.nth(place) else {
+            unreachable!()
+        };
+        byte
+    }
+
     /// How many keys there are below.
     pub fn keys(&self) -> u64
         requires { IsBranch V.WORDS self.now.width self.now.skip self.now.bytes self.now.children.items self.now.population }
