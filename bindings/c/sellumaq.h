@@ -82,6 +82,10 @@ typedef struct { void *array; } sellumaq_judyl;
  * where the key is absent and there is no memory for it; nothing changed then. */
 bool sellumaq_judyl_ins(sellumaq_judyl *map, uint64_t key, uint64_t **slot);
 
+/* Gives a key a value, and answers as `sellumaq_judy1_set` does: SELLUMAQ_PRESENT where the key was there, whose value it replaces. A new
+ * key takes less time by this than by its slot. */
+uint32_t sellumaq_judyl_put(sellumaq_judyl *map, uint64_t key, uint64_t value);
+
 /* The value of a key; false where the key is absent. */
 bool sellumaq_judyl_get(sellumaq_judyl *map, uint64_t key, uint64_t *value);
 

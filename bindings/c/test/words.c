@@ -89,6 +89,11 @@ int main(void) {
             CHECK(sellumaq_judyl_ins(&map, key, &slot) && *slot == (held[place] ? values[place] : 0));
             held[place] = true;
             values[place] = *slot = any();
+        } else if (any() % 4 == 0) {
+            CHECK(sellumaq_judy1_set(&set, key) == (held[place] ? SELLUMAQ_PRESENT : SELLUMAQ_ADDED));
+            CHECK(sellumaq_judyl_put(&map, key, (uint64_t)turn) == (held[place] ? SELLUMAQ_PRESENT : SELLUMAQ_ADDED));
+            held[place] = true;
+            values[place] = (uint64_t)turn;
         } else {
             CHECK(sellumaq_judy1_unset(&set, key) == held[place] && sellumaq_judyl_del(&map, key) == held[place]);
             held[place] = false;
