@@ -12,7 +12,7 @@ use crate::child::BranchOf;
 use crate::populations::{child_holding, keys_by_children};
 use crate::step::Step;
 use crate::sums::{Sums, holding_by_groups, keys_by_groups};
-use judy_bits::{low_part, without_low};
+use judy_bits::{tail, without_tail};
 use judy_leaf::Words;
 use std::alloc::Global;
 
@@ -24,7 +24,7 @@ impl<V: Words + Drop> BranchOf<V> {
     {
         let width = usize::from(self.width);
         let front = self.skip.number() * 256;
-        let block = without_low(key, width);
+        let block = without_tail(key, width);
         if block < front {
             return Step::Below;
         }
@@ -32,7 +32,7 @@ impl<V: Words + Drop> BranchOf<V> {
             return Step::Above;
         }
         let byte = (block - front) as u8;
-        let rest = low_part(key, width);
+        let rest = tail(key, width);
         match self.place(byte) {
             Some(place) => Step::Child(byte, place, rest),
             None => Step::Missing(byte, self.bytes.rank(byte), rest),
@@ -49,6 +49,21 @@ impl<V: Words + Drop> BranchOf<V> {
         } else {
             self.bytes.place(byte)
         }
+    }
+
+    /// The byte of the child at a place. Where all 256 children stand, a place is its byte.
+    pub fn byte_at(&self, place: usize) -> u8
+        requires branch { IsBranch V.WORDS self.now.width self.now.skip self.now.bytes self.now.children.items self.now.population }
+        requires place { place < length self.now.children.items }
+        ensures { slice_get self.now.bytes place ≡ Some result }
+    {
+        if self.children.len() == 256 {
+            return place as u8;
+        }
+        let Some(byte) = self.bytes.nth(place) else {
+            unreachable!()
+        };
+        byte
     }
 
     /// How many keys there are below.

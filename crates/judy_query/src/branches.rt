@@ -35,15 +35,13 @@ pub(crate) fn reached<V: Words + Drop>(branch: &BranchOf<V>, step: Step) -> usiz
     }
 }
 
-/// Where the keys of the child at a place begin. Where all 256 children stand, a place is its byte.
+/// Where the keys of the child at a place begin.
 pub(crate) fn start_of<V: Words + Drop>(branch: &BranchOf<V>, place: usize) -> u64
     requires branch { IsBranch V.WORDS branch.now.width branch.now.skip branch.now.bytes branch.now.children.items branch.now.population }
     requires place { place < length branch.now.children.items }
     ensures { IsStart (256 ^ branch.now.width) (number_of branch.now.skip * 256) branch.now.bytes place result }
 {
-    let Some(byte) = branch.bytes.nth(place) else {
-        unreachable!()
-    };
+    let byte = branch.byte_at(place);
     moved_up(
         branch.skip.number() * 256 + u64::from(byte),
         usize::from(branch.width),
