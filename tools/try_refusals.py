@@ -102,8 +102,7 @@ NAMES = [b"%c" % letter for letter in b"abcdefghiz"]
 MAKES = [*(b"make " + name + b" judyl" for name in NAMES), b"list"]
 MAKE_REFUSED = [*[b"ok"] * 9, NO_MEMORY, b"names" + b"".join(b" " + name + b":judyl:0" for name in NAMES[:9])]
 
-# Row skip-and-merge's `set` of 2^56, beside the 33 keys of a full leaf and one more. A vector of 33 keys has room for it already, so no
-# answers must come up.
+# Row skip-and-merge's `set` of 2^56, beside the 33 keys of a bitmap leaf.
 SKIP_AND_MERGE = [b"make a judy1", *(b"set a %d" % key for key in range(33)), b"set a 72057594037927936", b"list"]
 
 
