@@ -24,7 +24,7 @@ C_FLAGS = -std=c11 -O2 -Wall -Wextra
 help:
 	@echo 'make judystore   proves and builds the program, and leaves it as ./judystore'
 	@echo 'make test        the gate: every proof, must-fail edit, test and program, from nothing'
-	@echo 'make refusals    runs the program with each of its calls for memory refused in turn'
+	@echo 'make refusals    runs the programs with each of their calls for memory refused in turn'
 	@echo 'make lib         proves and builds the library for C, and leaves it in out/lib; make lib-test tries it'
 	@echo 'make bindings-test  tries it from C, Rust and Python'
 	@echo 'make bench       measures the arrays beside libJudy, BTreeMap and HashMap'
@@ -49,6 +49,9 @@ test: kit
 
 refusals: judystore
 	@tools/try_refusals.py ./judystore
+	@tools/prove judy_loose
+	@(cd crates/judy_loose && rt run </dev/null) >out/proofs/loose.log 2>&1 || { echo 'NOT BUILT: see out/proofs/loose.log' >&2; exit 1; }
+	@tools/try_loose.py crates/judy_loose/out/judy_loose
 
 lib: $(LIB)/libsellumaq.a $(LIB)/libsellumaq.so
 

@@ -110,13 +110,8 @@ static word sellumaq_value(sellumaq_judyl *map, word key) {
 }
 
 static bool sellumaq_next_entry(sellumaq_judyl *map, word *key) {
-    word *slot;
-    return sellumaq_judyl_next(map, *key, key) && sellumaq_judyl_slot(map, *key, &slot);
-}
-
-static void sellumaq_put(sellumaq_judyl *map, word key) {
-    word *slot;
-    if (sellumaq_judyl_ins(map, key, &slot)) *slot = key;
+    word value;
+    return sellumaq_judyl_next_entry(map, *key, key, &value);
 }
 
 static word libjudy_value(Pvoid_t map, word key) {
@@ -124,7 +119,7 @@ static word libjudy_value(Pvoid_t map, word key) {
     return slot ? *slot : 0;
 }
 
-MEASURE(judyl_sellumaq, sellumaq_judyl, {0}, sellumaq_judyl_free(&a), sellumaq_put(&a, k), sellumaq_value(&a, k),
+MEASURE(judyl_sellumaq, sellumaq_judyl, {0}, sellumaq_judyl_free(&a), (void)sellumaq_judyl_put(&a, k, k), sellumaq_value(&a, k),
         sellumaq_next_entry(&a, &k), true, sellumaq_judyl_count(&a, 0, k), sellumaq_judyl_by_count(&a, k, &k), sellumaq_judyl_del(&a, k))
 
 MEASURE(judyl_libjudy, Pvoid_t, NULL, JudyLFreeArray(&a, PJE0), *(word *)JudyLIns(&a, k, PJE0) = k, libjudy_value(a, k),

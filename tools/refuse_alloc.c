@@ -1,8 +1,9 @@
 /* Refuses calls for memory, to see what a program does without it.
 
    It stands before the C library's own functions, where it is preloaded, and counts the calls of them all. REFUSE=N in
-   the environment refuses the Nth call, REFUSE=N+ that one and each later one. At the first that it refuses it creates the
-   file that REFUSED names, so that whoever runs the program can tell. It counts for one thread. */
+   the environment refuses the Nth call, REFUSE=N+ that one and each later one, REFUSE=N,M the Nth and then the Mth. When it has
+   refused each call that REFUSE names it creates the file that REFUSED names, so that whoever runs the program can tell. It counts
+   for one thread. */
 
 #include <errno.h>
 #include <fcntl.h>
@@ -17,6 +18,7 @@ extern void *__libc_realloc(void *block, size_t size);
 extern void *__libc_memalign(size_t alignment, size_t size);
 
 static long first; /* 0: nothing is refused */
+static long last;
 static long called;
 static int onward;
 
@@ -24,8 +26,10 @@ __attribute__((constructor)) static void begin(void)
 {
     const char *refuse = getenv("REFUSE");
     if (refuse) {
+        const char *second = strchr(refuse, ',');
         onward = strchr(refuse, '+') != NULL;
         called = 0;
+        last = atol(second ? second + 1 : refuse);
         first = atol(refuse);
     }
 }
@@ -35,9 +39,9 @@ static int refused(void)
     if (first == 0)
         return 0;
     called++;
-    if (called < first || (called > first && !onward))
+    if (called != first && called != last && !(onward && called > first))
         return 0;
-    if (called == first) {
+    if (called == last) {
         const char *told = getenv("REFUSED");
         int file = told ? open(told, O_CREAT | O_WRONLY, 0600) : -1;
         if (file >= 0)

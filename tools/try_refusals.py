@@ -9,20 +9,18 @@ ends before the script it says so by its own rule, and where it can't dump for w
 ample memory no line answers want of it. In the scripts of rows each call that a line or the dump makes is seen to be
 refused, by a line's answer or by the program's end, and the answers that a row names must come up besides.
 
-It needs a C compiler, `cc`, for the library that refuses (tools/refuse_alloc.c).
+It needs a C compiler, `cc` (tools/refusing.py).
 
 Prints a line for each check that fails, and how many passed; the status is 0 where all did.
 """
 
 import os
-import subprocess
 import sys
 import tempfile
-from itertools import count
 from typing import NamedTuple, Optional
 
-LIBRARY = os.path.join(os.path.dirname(os.path.abspath(__file__)), "refuse_alloc.c")
-SECONDS = 10
+from refusing import Checks, Refuser, in_turn, lines
+
 NO_MEMORY = b"error no-memory"
 # The commands of a line that may want memory, and what a line answers with ample memory that adds an array or a key. No script here
 # writes 0, so `was 0` tells of a key that was absent.
@@ -32,10 +30,6 @@ GREW = (b"ok", b"1", b"was 0")
 BEFORE = b"judystore: no-memory\n"
 LOAD = b"judystore: load: no-memory\n"
 AFTER = b"judystore: dump: no-memory\n"
-
-
-def lines(text):
-    return [line.strip().encode() for line in text.strip().splitlines()]
 
 
 def string_insert(first, second):
@@ -102,14 +96,34 @@ NAMES = [b"%c" % letter for letter in b"abcdefghiz"]
 MAKES = [*(b"make " + name + b" judyl" for name in NAMES), b"list"]
 MAKE_REFUSED = [*[b"ok"] * 9, NO_MEMORY, b"names" + b"".join(b" " + name + b":judyl:0" for name in NAMES[:9])]
 
-# Row skip-and-merge's `set` of 2^56, beside the 33 keys of a bitmap leaf.
+# Row skip-and-merge's `set` of 2^56, beside the 33 keys of a full leaf and one more: a branch is made above them. What nodes are there
+# when it is refused is told by tools/try_loose.py.
 SKIP_AND_MERGE = [b"make a judy1", *(b"set a %d" % key for key in range(33)), b"set a 72057594037927936", b"list"]
+SKIP_REFUSED = [b"ok", *[b"1"] * 33, NO_MEMORY, b"names a:judy1:33"]
+
+# 33 keys that differ in their last byte alone, so that a leaf of 32 of them gives way to a bitmap leaf.
+WORDS = [b"%d" % key for key in range(33)]
+EIGHT_BYTES = [b"=abcdefg%c" % byte for byte in range(0x21, 0x42)]
+
+
+def full_leaf(kind, keys):
+    """The last of these keys meets a full leaf, and is put in once more where it was refused."""
+    puts = [b"ins a %s 7" % key for key in keys]
+    return [b"make a " + kind, *puts, b"get a " + keys[0], b"get a " + keys[-1], b"list", puts[-1]]
+
+
+def full_leaf_refused(kind):
+    return [b"ok", *[b"was 0"] * 32, NO_MEMORY, b"7", b"none", b"names a:" + kind + b":32", b"was 0"]
 
 
 def keys_that_go(kind):
     """The 33 keys of one byte from 0x21 to 0x41 are put into an array and taken out, row refused-string-insert's last part."""
     keys = [b"#%02x" % byte for byte in range(0x21, 0x42)]
     return [b"make a " + kind, *(b"ins a %s 7" % key for key in keys), *(b"del a " + key for key in keys), b"list"]
+
+
+def keys_gone(kind):
+    return [b"ok", *[b"was 0"] * 33, *[b"1"] * 33, b"names a:" + kind + b":0"]
 
 
 # Keys that split tails and share levels, hashes and groups, in arrays of all kinds.
@@ -152,13 +166,16 @@ ROWS = [
     ("store-of-three", STORE_OF_THREE, STORE_OF_THREE_DUMP, []),
     ("smallest-dumps", SMALLEST, SMALLEST_DUMP, []),
     ("make in a store", MAKES, None, [MAKE_REFUSED]),
-    ("skip-and-merge", SKIP_AND_MERGE, None, []),
+    ("skip-and-merge", SKIP_AND_MERGE, None, [SKIP_REFUSED]),
+    ("a full leaf of a judyl", full_leaf(b"judyl", WORDS), None, [full_leaf_refused(b"judyl")]),
+    ("a full leaf of a judysl", full_leaf(b"judysl", EIGHT_BYTES), None, [full_leaf_refused(b"judysl")]),
+    ("a full leaf of a judyhs", full_leaf(b"judyhs", EIGHT_BYTES), None, [full_leaf_refused(b"judyhs")]),
 ]
-# Scripts that delete: a delete may be refused memory and shows nothing of it.
+# Scripts that delete, and answers that must come up: a delete that leaves 32 keys is refused memory, and shows nothing of it.
 SCRIPTS = [
-    ("keys of a judysl that go", keys_that_go(b"judysl")),
-    ("keys of a judyhs that go", keys_that_go(b"judyhs")),
-    ("arrays of all kinds", ALL_KINDS),
+    ("keys of a judysl that go", keys_that_go(b"judysl"), [keys_gone(b"judysl")]),
+    ("keys of a judyhs that go", keys_that_go(b"judyhs"), [keys_gone(b"judyhs")]),
+    ("arrays of all kinds", ALL_KINDS, []),
 ]
 
 
@@ -172,54 +189,37 @@ class Ran(NamedTuple):
     refused: bool
 
 
-class Refusals:
+class Refusals(Checks):
     """Runs the program in a folder of its own, and counts what passed and what didn't."""
 
     def __init__(self, program, folder):
+        super().__init__()
         self.program = program
         self.folder = folder
-        self.library = os.path.join(folder, "refuse_alloc.so")
-        self.passed = 0
-        self.failed = 0
+        self.refuser = Refuser(folder)
         self.ample = {}
-        subprocess.run(["cc", "-O1", "-shared", "-fPIC", "-o", self.library, LIBRARY], check=True)
         self.before = self.calls_of_nothing()
-
-    def expect(self, name, holds, told):
-        if holds:
-            self.passed += 1
-        else:
-            self.failed += 1
-            print(f"{name}: {told!r}")
 
     def run(self, script, refuse=None, load=None):
         """One run of a script, behind a load of these bytes where there are some."""
-        dump, told, kept = (os.path.join(self.folder, name) for name in ("dump", "refused", "kept"))
-        for path in (dump, told):
-            if os.path.exists(path):
-                os.remove(path)
+        dump, kept = (os.path.join(self.folder, name) for name in ("dump", "kept"))
+        if os.path.exists(dump):
+            os.remove(dump)
         words = [self.program, "--dump", dump]
         if load is not None:
             with open(kept, "wb") as file:
                 file.write(load)
             words += ["--load", kept]
-        environment = {"LD_PRELOAD": self.library, "REFUSE": refuse, "REFUSED": told} if refuse else {}
-        script = b"".join(line + b"\n" for line in script)
-        ran = subprocess.run(words, input=script, capture_output=True, env=environment, timeout=SECONDS)
+        ran, refused = self.refuser.run(words, b"".join(line + b"\n" for line in script), refuse)
         left = None
         if os.path.exists(dump):
             with open(dump, "rb") as file:
                 left = file.read()
-        return Ran(ran.returncode, ran.stdout.splitlines(), ran.stderr, left, os.path.exists(told))
+        return Ran(ran.returncode, ran.stdout.splitlines(), ran.stderr, left, refused)
 
     def refused_runs(self, script, load=None):
-        """All runs that are refused a call for memory, alone or with all after it, and which call: its number, and the way."""
-        for onward in ("", "+"):
-            for call in count(1):
-                ran = self.run(script, f"{call}{onward}", load)
-                if not ran.refused:
-                    break
-                yield call, onward, ran
+        """All runs of a script that are refused a call for memory, alone or with all after it."""
+        return in_turn(lambda refuse: self.run(script, refuse, load))
 
     def calls_of_nothing(self, load=None):
         """How many calls for memory the program makes that loads an empty store, or none, runs no line and dumps."""
@@ -255,25 +255,27 @@ class Refusals:
         else:
             self.expect(f"{name}, the dump", (ran.status, ran.error, ran.dump) == (0, b"", wanted_dump), ran)
 
-    def check_script(self, name, script, shows=False):
-        """All runs of a script, one for each call that it makes for memory, in both ways: their answers. Where it shows its
-        calls, a line that makes one is seen to be refused it, and so is the dump."""
+    def check_script(self, name, script, rows, shows=False):
+        """All runs of a script, one for each call that it makes for memory, in both ways, and the answers that must come up where one of
+        a line is refused. Where it shows its calls, a line that makes one is seen to be refused it, and so is the dump."""
         self.with_ample(script)
         seen = []
         for call, onward, ran in self.refused_runs(script):
             self.check_run(f"{name}, {call}{onward}", script, ran)
-            if shows and not onward and call > self.before:
+            if onward or call <= self.before:
+                continue
+            if ran.error != AFTER:
+                seen.append(ran.answers)
+            if shows:
                 self.expect(f"{name}, {call}, seen", NO_MEMORY in ran.answers or ran.error == AFTER, ran)
-            seen.append(ran.answers)
-        return seen
+        for row in rows:
+            self.expect(f"{name}, a row that must come up", row in seen, row)
 
     def check_row(self, name, script, dump, rows):
         """All runs of the script of a row, whose lines delete nothing and so show each call."""
         if dump is not None:
             self.expect(f"{name}, its dump", self.with_ample(script)[1] == dump, self.with_ample(script))
-        seen = self.check_script(name, script, shows=True)
-        for row in rows:
-            self.expect(f"{name}, a row that must come up", row in seen, row)
+        self.check_script(name, script, rows, shows=True)
 
     def check_load(self, name, dump):
         """All runs that load a dump and list it: the load is refused whole, or the store is there whole."""
@@ -298,12 +300,11 @@ def main():
         refusals = Refusals(os.path.abspath(sys.argv[1]), folder)
         for row in ROWS:
             refusals.check_row(*row)
-        for name, script in SCRIPTS:
-            refusals.check_script(name, script)
+        for script in SCRIPTS:
+            refusals.check_script(*script)
         refusals.check_load("refused-dump-load-make", STORE_OF_THREE_DUMP)
         refusals.check_load("smallest-dumps, loaded", SMALLEST_DUMP)
-    print(f"the program without memory: {refusals.passed} checks passed, {refusals.failed} failed")
-    return 1 if refusals.failed else 0
+    return refusals.end("the program without memory")
 
 
 if __name__ == "__main__":

@@ -25,6 +25,11 @@ static uint64_t held_in(int from, int to) {
 /* Whether a search answered the table's place, or that there is none. */
 static bool told(bool answer, const uint64_t *found, int place) { return answer == (place >= 0) && (!answer || *found == word_at((unsigned)place)); }
 
+/* Whether it told that key's value too. */
+static bool told_both(bool answer, const uint64_t *found, const uint64_t *value, int place) {
+    return told(answer, found, place) && (!answer || *value == values[place]);
+}
+
 static void compare(sellumaq_judy1 *set, sellumaq_judyl *map, int place) {
     uint64_t from = word_at((unsigned)place), found = 0, value = 0, *slot = NULL;
     CHECK(sellumaq_judy1_test(set, from) == held[place]);
@@ -32,12 +37,16 @@ static void compare(sellumaq_judy1 *set, sellumaq_judyl *map, int place) {
     CHECK(sellumaq_judyl_slot(map, from, &slot) == held[place] && (!held[place] || *slot == values[place]));
     CHECK(told(sellumaq_judy1_first(set, from, &found), &found, next_held(place)));
     CHECK(told(sellumaq_judyl_first(map, from, &found), &found, next_held(place)));
+    CHECK(told_both(sellumaq_judyl_first_entry(map, from, &found, &value), &found, &value, next_held(place)));
     CHECK(told(sellumaq_judy1_next(set, from, &found), &found, next_held(place + 1)));
     CHECK(told(sellumaq_judyl_next(map, from, &found), &found, next_held(place + 1)));
+    CHECK(told_both(sellumaq_judyl_next_entry(map, from, &found, &value), &found, &value, next_held(place + 1)));
     CHECK(told(sellumaq_judy1_last(set, from, &found), &found, prev_held(place)));
     CHECK(told(sellumaq_judyl_last(map, from, &found), &found, prev_held(place)));
+    CHECK(told_both(sellumaq_judyl_last_entry(map, from, &found, &value), &found, &value, prev_held(place)));
     CHECK(told(sellumaq_judy1_prev(set, from, &found), &found, prev_held(place - 1)));
     CHECK(told(sellumaq_judyl_prev(map, from, &found), &found, prev_held(place - 1)));
+    CHECK(told_both(sellumaq_judyl_prev_entry(map, from, &found, &value), &found, &value, prev_held(place - 1)));
     CHECK(sellumaq_judy1_count(set, 0, from) == held_in(0, place) && sellumaq_judyl_count(map, from, UINT64_MAX) == held_in(place, WORDS - 1));
     uint64_t n = held_in(0, place);
     CHECK(told(sellumaq_judy1_by_count(set, n, &found), &found, n ? prev_held(place) : -1));
@@ -80,6 +89,11 @@ int main(void) {
             CHECK(sellumaq_judyl_ins(&map, key, &slot) && *slot == (held[place] ? values[place] : 0));
             held[place] = true;
             values[place] = *slot = any();
+        } else if (any() % 4 == 0) {
+            CHECK(sellumaq_judy1_set(&set, key) == (held[place] ? SELLUMAQ_PRESENT : SELLUMAQ_ADDED));
+            CHECK(sellumaq_judyl_put(&map, key, (uint64_t)turn) == (held[place] ? SELLUMAQ_PRESENT : SELLUMAQ_ADDED));
+            held[place] = true;
+            values[place] = (uint64_t)turn;
         } else {
             CHECK(sellumaq_judy1_unset(&set, key) == held[place] && sellumaq_judyl_del(&map, key) == held[place]);
             held[place] = false;

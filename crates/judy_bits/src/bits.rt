@@ -11,8 +11,16 @@ pub(crate) fn low_ones(count: usize) -> u64
     if count == 64 {
         u64::MAX
     } else {
-        (1 << count) - 1
+        fewer_ones(count)
     }
+}
+
+/// The same for fewer than all 64.
+pub(crate) fn fewer_ones(count: usize) -> u64
+    requires { count < 64 }
+    ensures { result ≡ 2 ^ count - 1 }
+{
+    (1 << count) - 1
 }
 
 /// The place of the lowest 1 that is at or above a place.

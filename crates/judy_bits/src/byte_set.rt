@@ -76,6 +76,8 @@ impl ByteSet {
     }
 
     /// The place of a member, which is the number of members below it; none where the byte isn't a member.
+    // On the way of each look-up, a level at a time: a call would cost as much as the count.
+    #[inline(always)]
     pub fn place(&self, byte: u8) -> Option<usize>
         ensures { result ≡ set.place self.now byte }
     {

@@ -28,4 +28,4 @@ pub use byte_set::ByteSet;
 pub use form::Form;
 pub use meter::Meter;
 pub use skip::Skip;
-pub use word::{byte_of, low_part, moved_up, without_low};
+pub use word::{byte_of, low_part, moved_up, tail, without_low, without_tail};

@@ -1,6 +1,6 @@
 //! The leading bytes that all keys of a node share.
 
-ghost use Rattle.std.specs.Prelude.{◌≡◌, ◌+◌, ◌≤◌, ◌^◌, ◌<◌, ◌∷◌, ◌++◌, length, take};
+ghost use Rattle.std.specs.Prelude.{◌≡◌, ◌+◌, ◌≤◌, ◌∷◌, ◌++◌, length, take};
 ghost use Rattle.judy_model.specs.WordBytes as bytes;
 
 use std::marker::Model;
@@ -16,18 +16,18 @@ pub struct Skip {
 const _: () = prove!(size_of::<Skip>() == 8);
 
 impl Model for Skip {
-    ghost use Rattle.std.specs.Prelude.{ℕ, List, length, take};
-    ghost use Rattle.judy_bits.specs.Paddings.{IsPadded, padded, padded-take, length-meant};
+    ghost use Rattle.std.specs.Prelude.{ℕ, List, length, drop, ◌-◌};
+    ghost use Rattle.judy_bits.specs.Paddings.{IsLed, led, led-drop, length-led};
 
     ghost Value = { List ℕ };
 
-    ghost view = { λ a. take a.len a.bytes };
+    ghost view = { λ a. drop (7 - a.len) a.bytes };
 
-    ghost invariant = { λ a. IsPadded 0 a.bytes a.len };
+    ghost invariant = { λ a. IsLed a.bytes a.len };
 
-    ghost inverse = { λ meant. record { bytes = padded 0 meant; len = length meant } };
+    ghost inverse = { λ meant. record { bytes = led meant; len = length meant } };
 
-    ghost inverse_ok = { λ a h. λ t. record { bytes = padded-take 0 a.bytes a.len h t; len = length-meant 0 a.bytes a.len h t } };
+    ghost inverse_ok = { λ a h. λ t. record { bytes = led-drop a.bytes a.len h t; len = length-led a.bytes a.len h t } };
 }
 
 impl Skip {
@@ -36,10 +36,10 @@ impl Skip {
         requires { length bytes.now ≤ 7 }
         ensures { result ≡ bytes.now }
     {
-        let mut padded = [0; 7];
-        padded[..bytes.len()].copy_from_slice(bytes);
+        let mut led = [0; 7];
+        led[7 - bytes.len()..].copy_from_slice(bytes);
         Skip {
-            bytes: padded,
+            bytes: led,
             len: bytes.len() as u8,
         }
     }
@@ -49,7 +49,7 @@ impl Skip {
         ensures value { result.now ≡ self.now }
         ensures within { length result.now ≤ 7 }
     {
-        &self.bytes[..self.len as usize]
+        &self.bytes[7 - self.len as usize..]
     }
 
     /// How many bytes, at most 7.
@@ -65,8 +65,10 @@ impl Skip {
         ensures { result ≡ bytes.number_of self.now }
     {
         let [first, second, third, fourth, fifth, sixth, seventh] = self.bytes;
-        let all = u64::from_be_bytes([0, first, second, third, fourth, fifth, sixth, seventh]);
-        all >> (8 * (7 - self.len))
+        let all = [
+            first, second, third, fourth, fifth, sixth, seventh, self.len,
+        ];
+        u64::from_be_bytes(all) / 256
     }
 
     /// The bytes of `front`, one byte, and the bytes of `back`; at most 7 together.

@@ -3,7 +3,7 @@
 ghost use Rattle.std.specs.Prelude.{◌≡◌, ◌<◌, ◌≤◌, ◌*◌, ◌/◌, ◌%◌, ◌^◌};
 ghost use Rattle.judy_model.specs.WordBytes as bytes;
 
-use crate::bits::low_ones;
+use crate::bits::{fewer_ones, low_ones};
 
 /// Byte `i` of the eight bytes of a word, 0 the highest. `i` is below 8.
 pub fn byte_of(word: u64, i: usize) -> u8
@@ -27,6 +27,22 @@ pub fn low_part(word: u64, width: usize) -> u64
     ensures { result ≡ word % 256 ^ width }
 {
     word & low_ones(8 * width)
+}
+
+/// A word without its lowest bytes, so many, fewer than 8: as `without_low`, by one shift.
+pub fn without_tail(word: u64, width: usize) -> u64
+    requires { width < 8 }
+    ensures { result ≡ word / 256 ^ width }
+{
+    word >> (8 * width)
+}
+
+/// The lowest bytes of a word, so many, fewer than 8: as `low_part`, with no case for all of them.
+pub fn tail(word: u64, width: usize) -> u64
+    requires { width < 8 }
+    ensures { result ≡ word % 256 ^ width }
+{
+    word & fewer_ones(8 * width)
 }
 
 /// A word moved up by whole bytes, so many, at most 8: `word * 256^width` by two shifts. It has to be a word.

@@ -1,6 +1,6 @@
 -- The array that a handle stands for.
 use Rattle.std.specs.Prelude.{ℕ, Option, Some, None}
-use Rattle.std.specs.FinMap.{FinMap}
+use Rattle.std.specs.FinMap.{FinMap, get}
 use Rattle.judy_c.specs.declared.map.Map.{Map}
 use Rattle.judy_c.specs.declared.set.Set.{Set}
 use Rattle.judy_model.specs.Keys.{word_order}
@@ -21,3 +21,8 @@ map_of handle = (array_of handle.array).map
 -- A set is the map whose every value is 0.
 abbrev pub set_of : Set → FinMap word_order ℕ
 set_of handle = (array_of handle.array).map
+
+-- The value of the key that was found; none where none was.
+abbrev pub value_beside : FinMap word_order ℕ → Option ℕ → Option ℕ
+value_beside map None = None
+value_beside map (Some key) = get map key

@@ -3,7 +3,7 @@ use Rattle.std.specs.Prelude.{◌≡◌, ℕ, zero, suc, IsTrue, IsFalse, Option
 use Rattle.std.specs.Borrow.{MutBor}
 use Rattle.std.specs.FinMap.{FinMap, contains_key, get}
 use Rattle.judy_model.specs.Keys.{word_order}
-use Rattle.judy_model.specs.Arrays.{ins}
+use Rattle.judy_model.specs.Arrays.{ins, write}
 
 -- Of a set. 0: the key was there, and nothing changes. 1: it was absent, and is put in. 2: it is absent, there is no memory for it, and
 -- nothing changes.
@@ -12,6 +12,14 @@ IsPut before key zero after = IsTrue (contains_key before key) × (after ≡ bef
 IsPut before key (suc zero) after = IsFalse (contains_key before key) × (after ≡ ins before key)
 IsPut before key (suc (suc zero)) after = IsFalse (contains_key before key) × (after ≡ before)
 IsPut before key (suc (suc (suc n))) after = ⊥
+
+-- Of a map, with a value. 0: the key was there. 1: it was absent. In both cases it has the value then. 2: it is absent, there is no
+-- memory for it, and nothing changes.
+abbrev pub IsStored : FinMap word_order ℕ → ℕ → ℕ → ℕ → FinMap word_order ℕ → Type 0
+IsStored before key value zero after = IsTrue (contains_key before key) × (after ≡ write before key value)
+IsStored before key value (suc zero) after = IsFalse (contains_key before key) × (after ≡ write before key value)
+IsStored before key value (suc (suc zero)) after = IsFalse (contains_key before key) × (after ≡ before)
+IsStored before key value (suc (suc (suc n))) after = ⊥
 
 -- Of a map: the slot of the key, behind which stands its value; or none where it is absent and there is no memory for it.
 abbrev pub IsMade : FinMap word_order ℕ → ℕ → Option (MutBor ℕ) → Type 0

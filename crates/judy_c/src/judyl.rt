@@ -11,7 +11,7 @@ ghost use Rattle.judy_model.specs.Counts as counts;
 ghost use Rattle.judy_model.specs.Empties as empties;
 ghost use Rattle.judy_model.specs.Neighbours as neighbours;
 ghost use Rattle.judy_c.specs.Maps.{map_of};
-ghost use Rattle.judy_c.specs.Puts.{IsMade};
+ghost use Rattle.judy_c.specs.Puts.{IsMade, IsStored};
 ghost use Rattle.judy_c.specs.SlotLends.{LendsSlotOf};
 ghost use Rattle.judy_c.specs.Told.{IsTold, lent_where};
 ghost use Rattle.std.specs.Borrow.{sem};
@@ -53,6 +53,21 @@ pub extern "C" fn sellumaq_judyl_ins<'a>(
     ensures told { IsTold (lent_where result slot.new) result slot.old slot.new }
 {
     hand_out(handle.ins(alloc, key), slot)
+}
+
+/// Gives a key a value: 0 where it was there, 1 where it was absent, 2 where it is absent and there is no memory for it.
+#[unsafe(no_mangle)]
+pub extern "C" fn sellumaq_judyl_put(alloc: Global, handle: &mut Map, key: u64, value: u64) -> u32
+    ensures { IsStored (map_of handle.old) key value result (map_of handle.new) }
+{
+    match handle.array_or_new(alloc) {
+        Ok(array) => match array.put(key, value) {
+            Ok(true) => 1,
+            Ok(false) => 0,
+            Err(_) => 2,
+        },
+        Err(_) => 2,
+    }
 }
 
 /// Hands out the slot of a key: what is left there is the key's value. (Manual: JLG, JudyLGet.)

@@ -10,13 +10,15 @@
 //! array, and the pointers that a call is given are to words of the caller's, or to as many bytes as are told beside them, and not
 //! null; no two of one call overlap.
 //!
-//! set.rt, map.rt, strings.rt and bytes.rt have the handles, judy1.rt, judyl.rt, judysl.rt and judyhs.rt the calls, told.rt how a call
+//! set.rt, map.rt, strings.rt and bytes.rt have the handles, judy1.rt, judyl.rt, judysl.rt and judyhs.rt the calls, entries.rt those that
+//! tell a key with its value, told.rt how a call
 //! answers a word or a slot that may not be there, answers.rt how one answers by a number, scans.rt the scans over strings, and
 //! loose.rt a box as its pointer. The crate is a static library, and no other stands on it.
 #![tactic(auto)]
 
 mod answers;
 mod bytes;
+mod entries;
 mod judy1;
 mod judyhs;
 mod judyl;

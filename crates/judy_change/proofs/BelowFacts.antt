@@ -4,6 +4,7 @@ use Rattle.std.specs.List.{remove}
 use Rattle.std.specs.Vec.{with_item}
 use Rattle.std.proofs.lemmas.Bool.{cases_order, eqb-false, eq-eqb}
 use Rattle.std.proofs.lemmas.Option.{same_Some, slice_get_within}
+use Rattle.std.proofs.lemmas.List.{get_or_default}
 use Rattle.judy_model.specs.WordBytes.{number_of}
 use Rattle.judy_model.specs.Forms.{branch, loose_in}
 use Rattle.judy_bits.specs.ByteSets as sets
@@ -161,6 +162,14 @@ module _ {V : _} (words key byte place rest : ℕ) (old : BranchOf V) (kid : Tre
         short = λ none kept. subst (Has33 (width_of old) (pairs_below old)) (sym at.key_is)
             (has-33 words old.width block rest (width_of old) place byte old.bytes old.children.items kid at.rest_is (omega arith) whole.parts.children byte_there kid_there (is.short (loose-at place old.children.items kid none kid_there) kept));
       }
+
+  -- It has one key less.
+  pub below_fewer : (left : Tree) (value : ℕ) (shrunk : Bool) → IsGone words old.width rest kid left value shrunk → (d : Tree) → length left.pairs + 1 ≡ length (get_or old.children.items place d).pairs
+  below_fewer left value shrunk is d =
+      let same = ap (λ (k : Tree). length k.pairs) (kid_is ∙ get_or_default old.children.items place kid d inside) in
+      let gone = ap length is.gone in
+      let fewer = length-without words 0 (256 ^ old.width) rest value kid.pairs kid_child.map is.found in
+      omega arith
 
   -- The child goes.
   pub below_dropped : (new : BranchOf V) (value : ℕ) → kid.pairs ≡ (rest, value) ∷ [] → old.population ≢ 1 → new.width ≡ old.width → new.skip ≡ old.skip → new.bytes ≡ sets.without_byte old.bytes byte

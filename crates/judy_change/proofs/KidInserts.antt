@@ -1,12 +1,14 @@
 -- A child of a branch into which a key is put, found by the place of its byte.
 use Rattle.std.proofs.Common.{◌≡◌, ℕ, ◌-◌, ◌+◌, ◌*◌, ◌^◌, ◌<◌, false, List, length, set, get_or, Some, slice_get, ap, ◌∙◌, arith}
 use Rattle.std.proofs.lemmas.Option.{slice_get_within}
+use Rattle.std.proofs.lemmas.List.{get_or_default}
 use Rattle.judy_model.specs.WordBytes.{number_of}
 use Rattle.judy_node.specs.Trees.{Tree, IsChild, IsBranch, branch_tree}
 use Rattle.judy_node.proofs.Maps.{children-length}
 use Rattle.judy_node.proofs.Counts.{there}
 use Rattle.judy_change.specs.Inserted.{has_key, IsAdded}
 use Rattle.judy_change.proofs.BelowFacts.{set-there}
+use Rattle.judy_change.proofs.PairPlaces.{length-with_pair}
 use Rattle.judy_change.proofs.BranchInserts.{child_has, child_is, child_fewer, child_branch, child_added}
 
 module _ (words width : ℕ) (skipped bytes : List ℕ) (kids : List Tree) (count : ℕ) (is : IsBranch words width skipped bytes kids count) (byte rest : ℕ) (fits : rest < 256 ^ width) (at : ℕ) (kid : Tree)
@@ -49,3 +51,10 @@ module _ (words width : ℕ) (skipped bytes : List ℕ) (kids : List Tree) (coun
 
     pub kid_added : IsAdded whole_key value branch (branch_tree width skipped bytes (set kids at new) (count + 1))
     kid_added = child_added words width skipped bytes kids count is byte rest fits at kid here kid_there value new added
+
+    -- The child has one key more.
+    pub kid_grown : (d : Tree) → length new.pairs ≡ length (get_or kids at d).pairs + 1
+    kid_grown d =
+        let same = ap (λ (k : Tree). length k.pairs) (kid_is ∙ get_or_default kids at kid d kid_within) in
+        let more = ap length added.pairs ∙ length-with_pair rest value kid.pairs in
+        omega arith

@@ -232,4 +232,4 @@ needed_settled words width (Bit skipped block) level child never = absurd never
 needed_settled words width (Branch b) level child needed =
     let own = b.value in
     let wide : width_of own ≡ width = child.wide (λ (none : width_of own ≡ 0). let never : ⊥ = omega arith in never) in
-    settled-branch words own.width width own.skip own.bytes own.children.items own.population (tree_below own) level wide needed.0 needed.1 refl
+    settled-branch words own.width width own.skip own.bytes own.children.items own.population (tree_below own) level.0 wide needed.0 needed.1 refl

@@ -35,7 +35,7 @@ number_small words number count tail (Bit skipped block) level skips =
     let wide = skips.1 in
     subst (λ n. n < 256 ^ count) skips.0 (subst (λ w. skipped < 256 ^ w) (let e : bit_width block - 1 ≡ count = omega arith in e) level.skips)
 number_small words number count tail (Branch b) level skips =
-    subst (λ n. n < 256 ^ count) skips.0 (subst (λ n. number_of b.value.skip < 256 ^ n) skips.1 (number_of-lt b.value.skip level.parts.skipped_bytes))
+    subst (λ n. n < 256 ^ count) skips.0 (subst (λ n. number_of b.value.skip < 256 ^ n) skips.1 (number_of-lt b.value.skip level.0.parts.skipped_bytes))
 
 pub tail_some : {V : _} (number count tail : ℕ) (kind : KindOf V) → IsSkipping number count tail kind → 1 ≤ tail
 tail_some number count tail (Imm head word) skips = absurd skips

@@ -6,11 +6,12 @@ ghost use Rattle.judy_model.specs.WordBytes.{number_of};
 ghost use Rattle.judy_model.specs.Forms.{loose_in};
 ghost use Rattle.judy_bits.specs.ByteSets as set;
 ghost use Rattle.judy_node.specs.Trees.{IsTight, IsChild, IsBranch, branch_tree, forms_in};
+ghost use Rattle.judy_node.specs.Populations.{AreSums};
 ghost use Rattle.judy_change.specs.Inserted.{IsAdded, IsInserted};
 
 use judy_leaf::Words;
 use judy_node::{BranchOf, ChildOf, immediate_of_sorted};
-use std::alloc::AllocError;
+use std::alloc::{AllocError, Global};
 
 // The node of one key, read by its lowest bytes, with its value. It takes no memory.
 pub(crate) fn one_key<V: Words + Drop>(width: u8, key: u64, value: u64) -> ChildOf<V>
@@ -33,6 +34,7 @@ pub(crate) fn add_child<V: Words + Drop>(branch: &mut BranchOf<V>, byte: u8, chi
     ensures skip { branch.new.skip ≡ branch.old.skip }
     ensures width { branch.new.width ≡ branch.old.width }
     ensures population { branch.new.population ≡ branch.old.population }
+    ensures sums { branch.new.sums ≡ branch.old.sums }
     ensures len { vec_len branch.new.children ≡ vec_len branch.old.children + 1 }
     ensures capacity { vec_capacity branch.old.children ≤ vec_capacity branch.new.children }
 {
@@ -57,6 +59,7 @@ pub(crate) fn put_key<V: Words + Drop>(branch: &mut BranchOf<V>, byte: u8, rest:
     ensures skip { branch.new.skip ≡ branch.old.skip }
     ensures width { branch.new.width ≡ branch.old.width }
     ensures population { branch.new.population ≡ branch.old.population + 1 }
+    ensures sums { branch.new.sums ≡ branch.old.sums }
     ensures wider { length branch.new.bytes ≡ length branch.old.bytes + 1 }
     ensures loose { loose_in (forms_in branch.new.children.items) ≡ loose_in (forms_in branch.old.children.items) }
     ensures added { IsAdded ((number_of branch.old.skip * 256 + byte) * 256 ^ branch.old.width + rest) value
@@ -68,8 +71,10 @@ pub(crate) fn put_key<V: Words + Drop>(branch: &mut BranchOf<V>, byte: u8, rest:
     branch.population += 1;
 }
 
-// The same, with room asked for first. The error is want of memory; the branch is the old one then.
+// The same, with room asked for first. The error is want of memory; the branch is the old one then. Where the last of 256 children comes,
+// they are summed, if there is memory for that too.
 pub(crate) fn put_child<V: Words + Drop>(
+    alloc: Global,
     branch: &mut BranchOf<V>,
     byte: u8,
     rest: u64,
@@ -77,11 +82,13 @@ pub(crate) fn put_child<V: Words + Drop>(
 ) -> Result<bool, AllocError>
     requires one { V.WORDS ≤ 1 }
     requires level { IsBranch V.WORDS branch.old.width branch.old.skip branch.old.bytes branch.old.children.items branch.old.population }
+    requires sums { AreSums branch.old.sums branch.old.children.items }
     requires absent { set.has branch.old.bytes byte ≡ false }
     requires fits { rest < 256 ^ branch.old.width }
     requires no_value { V.WORDS ≡ 0 → value ≡ 0 }
     requires room { branch.old.population < 2 ^ 64 - 1 }
     ensures level { IsBranch V.WORDS branch.new.width branch.new.skip branch.new.bytes branch.new.children.items branch.new.population }
+    ensures sums { AreSums branch.new.sums branch.new.children.items }
     ensures skip { branch.new.skip ≡ branch.old.skip }
     ensures width { branch.new.width ≡ branch.old.width }
     ensures inserted { IsInserted ((number_of branch.old.skip * 256 + byte) * 256 ^ branch.old.width + rest) value
@@ -92,5 +99,6 @@ pub(crate) fn put_child<V: Words + Drop>(
         return Err(AllocError);
     }
     put_key(branch, byte, rest, value);
+    branch.sums = branch.sums_of_children(alloc);
     Ok(true)
 }

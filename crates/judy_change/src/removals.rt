@@ -4,6 +4,7 @@ ghost use Rattle.std.specs.Prelude.{◌≡◌, ◌≢◌, ◌+◌, ◌<◌, ◌�
 ghost use Rattle.std.specs.List.{remove};
 ghost use Rattle.judy_bits.specs.ByteSets as set;
 ghost use Rattle.judy_node.specs.Trees.{IsChild};
+ghost use Rattle.judy_node.specs.Populations.{AreSums};
 ghost use Rattle.judy_node.specs.Kinds.{tree_of, IsLevel};
 ghost use Rattle.judy_node.specs.Roots.{root_tree, one_tree, IsRoot};
 ghost use Rattle.judy_change.specs.Removals.{IsRemoved, IsTaken, IsTakenBelow, IsWhole, IsChildless, width_of, tree_below};
@@ -12,7 +13,7 @@ use crate::remove_leaf::{remove_bit, remove_immediate, remove_leaf};
 use crate::removed::{Removed, Taken};
 use crate::settle::settle;
 use judy_leaf::Words;
-use judy_node::{BranchOf, ChildOf, Head, KindOf, NodeOf, RootOf, Step};
+use judy_node::{BranchOf, ChildOf, Head, KindOf, NodeOf, RootOf, Step, Sums};
 use std::alloc::Global;
 use std::mem;
 
@@ -168,7 +169,9 @@ fn remove_childless<V: Words + Drop>(
 fn remove_below<V: Words + Drop>(alloc: Global, branch: &mut BranchOf<V>, key: u64) -> Taken
     requires one { V.WORDS ≤ 1 }
     requires branch { IsWhole V.WORDS branch.old }
-    ensures { IsTakenBelow V.WORDS key branch.old branch.new result }
+    requires sums { AreSums branch.old.sums branch.old.children.items }
+    ensures taken { IsTakenBelow V.WORDS key branch.old branch.new result }
+    ensures sums { AreSums branch.new.sums branch.new.children.items }
 {
     let Step::Child(byte, place, rest) = branch.step(key) else {
         return Taken::Absent;
@@ -185,12 +188,13 @@ fn remove_below<V: Words + Drop>(alloc: Global, branch: &mut BranchOf<V>, key: u
         }
         Taken::Gone(value, shrunk) => {
             branch.population -= 1;
+            branch.sums.take(place);
             Taken::Gone(value, shrunk)
         }
     }
 }
 
-// A child of one key goes, with its byte.
+// A child of one key goes, with its byte, and so do the sums of all children.
 fn lose_child<V: Words + Drop>(branch: &mut BranchOf<V>, byte: u8, place: usize)
     requires place { place < length branch.old.children.items }
     requires some { 1 ≤ branch.old.population }
@@ -199,10 +203,12 @@ fn lose_child<V: Words + Drop>(branch: &mut BranchOf<V>, byte: u8, place: usize)
     ensures population { branch.new.population + 1 ≡ branch.old.population }
     ensures skip { branch.new.skip ≡ branch.old.skip }
     ensures width { branch.new.width ≡ branch.old.width }
+    ensures sums { AreSums branch.new.sums branch.new.children.items }
 {
     let _ = branch.children.remove(place);
     branch.bytes.take(byte);
     branch.population -= 1;
+    branch.sums = Sums::none();
 }
 
 // Whether both hold.

@@ -2,6 +2,7 @@
 
 ghost use Rattle.std.specs.Prelude.{◌≡◌, ℕ, ◌+◌, ◌^◌, ◌<◌, ◌≤◌, length, IfOk};
 ghost use Rattle.judy_node.specs.Trees.{IsMap, IsTight, IsChild};
+ghost use Rattle.judy_node.specs.Populations.{AreSums};
 ghost use Rattle.judy_node.specs.Kinds.{tree_of, IsLevel, IsDeep, behind};
 ghost use Rattle.judy_change.specs.Removals.{IsTightOf, IsSettled, IsWhole, IsParent, IsNeeded, pairs_below, loose_below, loose_under, width_of};
 
@@ -150,6 +151,7 @@ fn smaller<V: Words + Drop>(
 ) -> (ChildOf<V>, bool)
     requires one { V.WORDS ≤ 1 }
     requires branch { IsWhole V.WORDS branch.value }
+    requires sums { AreSums branch.value.sums branch.value.children.items }
     requires width { width_of branch.value ≡ width }
     requires two { width ≡ 8 → 2 ≤ branch.value.population }
     requires loose { 32 < branch.value.population → length branch.value.children.items ≡ 1 }

@@ -1,8 +1,9 @@
 //! A branch put above a node, for a key that doesn't begin with the bytes that the node skips.
 
-ghost use Rattle.std.specs.Prelude.{◌≡◌, ◌≢◌, ◌+◌, ◌-◌, ◌*◌, ◌/◌, ◌^◌, ◌<◌, ◌≤◌, false, length, IfOk, IfErr, vec_len, vec_capacity};
+ghost use Rattle.std.specs.Prelude.{◌≡◌, ◌≢◌, ◌+◌, ◌-◌, ◌*◌, ◌/◌, ◌^◌, ◌<◌, ◌≤◌, false, length, IfOk, IfErr, vec_len, vec_capacity, List};
 ghost use Rattle.judy_model.specs.WordBytes.{low_bytes};
-ghost use Rattle.judy_node.specs.Trees.{IsChild};
+ghost use Rattle.judy_node.specs.Trees.{Tree, IsChild};
+ghost use Rattle.judy_node.specs.Populations.{AreSums};
 ghost use Rattle.judy_node.specs.Kinds.{tree_of, IsLevel};
 ghost use Rattle.judy_change.specs.Splits.{IsSkipping, IsShorter, IsAbove};
 ghost use Rattle.judy_change.specs.Inserted.{has_key, IsInserted};
@@ -10,7 +11,7 @@ ghost use Rattle.judy_change.specs.Inserted.{has_key, IsInserted};
 use crate::put::{add_child, put_key};
 use judy_bits::{ByteSet, Skip, low_part, without_low};
 use judy_leaf::Words;
-use judy_node::{BranchOf, ChildOf, Head, KindOf};
+use judy_node::{BranchOf, ChildOf, Head, KindOf, Sums};
 use std::alloc::{AllocError, Global};
 use std::marker::PhantomData;
 
@@ -87,6 +88,7 @@ fn above<V: Words + Drop>(
     requires left { left < skipped.count }
     ensures above { IfOk result (λ b. IsAbove V.WORDS skipped.number skipped.count skipped.tail left (tree_of V.WORDS kind) b.value.width b.value.skip b.value.bytes b.value.children.items b.value.population) }
     ensures room { IfOk result (λ b. vec_len b.value.children < vec_capacity b.value.children) }
+    ensures sums { IfOk result (λ b. (kids : List Tree) → AreSums b.value.sums kids) }
     ensures kept { IfErr result (λ same. same ≡ kind) }
 {
     let Ok(children) = Vec::with_capacity(alloc, 2) else {
@@ -101,6 +103,7 @@ fn above<V: Words + Drop>(
         width: left + skipped.tail,
         bytes: ByteSet::new(),
         population: 0,
+        sums: Sums::none(),
         words: PhantomData,
     };
     let Ok(mut branch) = Box::new(alloc, branch) else {

@@ -3,6 +3,7 @@
 ghost use Rattle.std.specs.Prelude.{◌≡◌, ◌≢◌, ◌+◌, ◌-◌, ◌*◌, ◌/◌, ◌^◌, ◌<◌, ◌≤◌, false, length, Some, slice_get};
 ghost use Rattle.judy_model.specs.WordBytes.{number_of};
 ghost use Rattle.judy_node.specs.Trees.{IsChild, IsBranch, branch_tree};
+ghost use Rattle.judy_node.specs.Populations.{AreSums};
 ghost use Rattle.judy_node.specs.Kinds.{tree_of, bit_tree, IsLevel, IsBit};
 ghost use Rattle.judy_change.specs.Removals.{IsWhole, width_of, tree_below};
 ghost use Rattle.judy_change.specs.Inserted.{has_key, IsInserted, IsPast};
@@ -61,7 +62,7 @@ fn into_kind<V: Words + Drop>(
     match kind {
         KindOf::Branch(branch) => match branch.step(key) {
             Step::Child(byte, place, rest) => into_child(alloc, branch, byte, place, rest, value),
-            Step::Missing(byte, _, rest) => put_child(branch, byte, rest, value),
+            Step::Missing(byte, _, rest) => put_child(alloc, branch, byte, rest, value),
             Step::Below | Step::Above => replaced(alloc, kind, width, key, value),
         },
         _ => replaced(alloc, kind, width, key, value),
@@ -159,6 +160,7 @@ fn past_branch<V: Words + Drop>(
 ) -> (KindOf<V>, Result<bool, AllocError>)
     requires one { V.WORDS ≤ 1 }
     requires level { IsWhole V.WORDS branch.value }
+    requires sums { AreSums branch.value.sums branch.value.children.items }
     requires fits { key < 256 ^ width_of branch.value }
     requires apart { key / 256 ^ (1 + branch.value.width) ≢ number_of branch.value.skip }
     requires no_value { V.WORDS ≡ 0 → value ≡ 0 }
@@ -187,11 +189,13 @@ fn into_child<V: Words + Drop>(
 ) -> Result<bool, AllocError>
     requires one { V.WORDS ≤ 1 }
     requires level { IsBranch V.WORDS branch.old.width branch.old.skip branch.old.bytes branch.old.children.items branch.old.population }
+    requires sums { AreSums branch.old.sums branch.old.children.items }
     requires here { slice_get branch.old.bytes place ≡ Some byte }
     requires fits { rest < 256 ^ branch.old.width }
     requires no_value { V.WORDS ≡ 0 → value ≡ 0 }
     requires room { has_key ((number_of branch.old.skip * 256 + byte) * 256 ^ branch.old.width + rest) (branch_tree branch.old.width branch.old.skip branch.old.bytes branch.old.children.items branch.old.population) ≡ false → branch.old.population < 2 ^ 64 - 1 }
     ensures level { IsBranch V.WORDS branch.new.width branch.new.skip branch.new.bytes branch.new.children.items branch.new.population }
+    ensures sums { AreSums branch.new.sums branch.new.children.items }
     ensures skip { branch.new.skip ≡ branch.old.skip }
     ensures width { branch.new.width ≡ branch.old.width }
     ensures inserted { IsInserted ((number_of branch.old.skip * 256 + byte) * 256 ^ branch.old.width + rest) value
@@ -207,6 +211,7 @@ fn into_child<V: Words + Drop>(
     ) {
         Ok(true) => {
             branch.population += 1;
+            branch.sums.add(place);
             Ok(true)
         }
         Ok(false) => Ok(false),

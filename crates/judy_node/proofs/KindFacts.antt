@@ -167,9 +167,9 @@ level-child words width (Imm head word) level at = imm-child words width head wo
 level-child words width (Leaf count block) level at = leaf-child words width count block level at
 level-child words width (Bit skipped block) level at = bit-child words width skipped block level at
 level-child words width (Branch b) level at =
-    let low = level.parts.some_width in
+    let low = level.0.parts.some_width in
     let is_width : length b.value.skip + 1 + b.value.width ≡ width = at.wide (λ (none : length b.value.skip + 1 + b.value.width ≡ 0). let never : ⊥ = omega arith in never) in
-    subst (λ w. IsChild words w (tree_of words (Branch b))) is_width (branch-child words b.value.width b.value.skip b.value.bytes b.value.children.items b.value.population level)
+    subst (λ w. IsChild words w (tree_of words (Branch b))) is_width (branch-child words b.value.width b.value.skip b.value.bytes b.value.children.items b.value.population level.0)
 
 -- What a child keeps, its width fits.
 pub child-fits : (words width : ℕ) (tree : Tree) → IsChild words width tree → FitsAt width tree

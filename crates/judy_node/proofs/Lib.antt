@@ -17,3 +17,4 @@ pub mod SeatFacts
 pub mod Loans
 pub mod RootFacts
 pub mod ImmFacts
+pub mod SumFacts

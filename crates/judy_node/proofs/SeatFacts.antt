@@ -21,6 +21,7 @@ use Rattle.judy_node.specs.Seats.{IsSeat, kind_written, value_at, HasSeat}
 use Rattle.judy_node.specs.declared.step.Step.TheVariants.{Missing, Below, Above}
 use Rattle.judy_node.specs.declared.child.KindOf.{KindOf}
 use Rattle.judy_node.specs.declared.child.KindOf.TheVariants.{Imm, Leaf, Bit, Branch}
+use Rattle.judy_node.proofs.SumFacts.{sums-same}
 use Rattle.judy_node.proofs.Maps.{map-shift, map-length, join-map, length-keys_of}
 use Rattle.judy_node.proofs.Leaves.{leaf_map, bit_map}
 use Rattle.judy_node.proofs.StepFacts.{absent_place}
@@ -96,19 +97,22 @@ kind-level words (Bit skipped block) key at rest value one level seat =
     valued-length (suc at) (pair ∷ pairs) value = ap suc (valued-length at pairs value)
 kind-level words (Branch b) key at rest value one level seat =
     let branch = b.value in
-    let parts = level.parts in
+    let parts = level.0.parts in
     let kids = branch.children.items in
-    let written_pairs = join-written words branch.width 0 (number_of branch.skip * 256) at seat.0 rest value branch.bytes kids empty_tree parts.children seat.2 seat.1.rest_is in
-    record {
-      parts = record {
-        some_width = parts.some_width;
-        within = parts.within;
-        skipped_bytes = parts.skipped_bytes;
-        children = children-written words branch.width 0 at rest value branch.bytes kids empty_tree one parts.children;
-        counted = parts.counted ∙ sym (ap length written_pairs ∙ written-length ((number_of branch.skip * 256 + seat.0) * 256 ^ branch.width + rest) value (branch_pairs branch.width branch.skip branch.bytes kids));
-      };
-      holds = level.holds;
-    }
+    let written_pairs = join-written words branch.width 0 (number_of branch.skip * 256) at seat.0 rest value branch.bytes kids empty_tree parts.children seat.2 seat.1.rest_is in (
+      record {
+        parts = record {
+          some_width = parts.some_width;
+          within = parts.within;
+          skipped_bytes = parts.skipped_bytes;
+          children = children-written words branch.width 0 at rest value branch.bytes kids empty_tree one parts.children;
+          counted = parts.counted ∙ sym (ap length written_pairs ∙ written-length ((number_of branch.skip * 256 + seat.0) * 256 ^ branch.width + rest) value (branch_pairs branch.width branch.skip branch.bytes kids));
+        };
+        holds = level.0.holds;
+      },
+      sums-same branch.sums kids at (with_value (get_or kids at empty_tree) rest value) empty_tree (children-there words branch.width 0 at seat.0 branch.bytes kids parts.children seat.2)
+          (written-length rest value (get_or kids at empty_tree).pairs) level.1,
+    )
 
 pub kind-tree : {V : _} (words : ℕ) (kind : KindOf V) (key at rest value : ℕ) → words ≡ 1 → IsLevel words kind → IsSeat words kind key at rest → tree_of words (kind_written kind at rest value) ≡ with_value (tree_of words kind) key value
 kind-tree zero (Imm head word) key at rest value one level seat = let never : ⊥ = omega arith in absurd never
@@ -134,7 +138,7 @@ kind-tree words (Bit skipped block) key at rest value one level seat =
 kind-tree words (Branch b) key at rest value one level seat =
     let node = b.value in
     let kids = node.children.items in
-    let same = join-written words node.width 0 (number_of node.skip * 256) at seat.0 rest value node.bytes kids empty_tree level.parts.children seat.2 seat.1.rest_is
+    let same = join-written words node.width 0 (number_of node.skip * 256) at seat.0 rest value node.bytes kids empty_tree level.0.parts.children seat.2 seat.1.rest_is
     ∙ ap (λ k. written k value (branch_pairs node.width node.skip node.bytes kids)) (sym seat.1.key_is) in
     λ t. record { width = length node.skip + 1 + node.width; pairs = same t; form = branch node.skip node.bytes node.population ∷ forms-written at rest value kids empty_tree t }
 
@@ -158,7 +162,7 @@ kind-value words (Branch b) key at rest one level seat =
     let node = b.value in
     let kids = node.children.items in
     sym (ap (λ k. value_of k (branch_pairs node.width node.skip node.bytes kids)) seat.1.key_is
-    ∙ join-value words node.width 0 (number_of node.skip * 256) at seat.0 rest node.bytes kids empty_tree level.parts.children seat.2 seat.1.rest_is)
+    ∙ join-value words node.width 0 (number_of node.skip * 256) at seat.0 rest node.bytes kids empty_tree level.0.parts.children seat.2 seat.1.rest_is)
 
 -- A child's width, where it is told.
 pub child-narrow : (words width : ℕ) (tree : Tree) → IsChild words width tree → tree.width ≤ width
@@ -181,8 +185,8 @@ kind-seat words depth (Bit skipped block) key at rest one level seat short =
 kind-seat words depth (Branch b) key at rest one level seat short =
     let node = b.value in
     let kids = node.children.items in (
-      children-there words node.width 0 at seat.0 node.bytes kids level.parts.children seat.2,
-      child-there words node.width 0 at seat.0 node.bytes kids empty_tree level.parts.children seat.2,
+      children-there words node.width 0 at seat.0 node.bytes kids level.0.parts.children seat.2,
+      child-there words node.width 0 at seat.0 node.bytes kids empty_tree level.0.parts.children seat.2,
       omega arith,
     )
 

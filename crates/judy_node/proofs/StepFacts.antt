@@ -1,8 +1,9 @@
 -- Where a key goes at a branch.
-use Rattle.std.proofs.Common.{◌≡◌, ℕ, zero, suc, ◌+◌, ◌-◌, ◌*◌, ◌/◌, ◌%◌, ◌^◌, ◌<◌, ◌≤◌, true, false, cond, IsFalse, List, [], ◌∷◌, length, Some, None, slice_get, Less, sym, refl, ap, ◌∙◌, subst, arith}
+use Rattle.std.proofs.Common.{◌≡◌, ℕ, zero, suc, ◌+◌, ◌-◌, ◌*◌, ◌/◌, ◌%◌, ◌^◌, ◌<◌, ◌≤◌, true, false, cond, IsFalse, List, [], ◌∷◌, length, Some, None, slice_get, get_or, Less, sym, refl, ap, ◌∙◌, subst, arith}
 use Rattle.std.proofs.Math.Nat.{add-mul, pow-le-pow_right}
 use Rattle.std.proofs.lemmas.Nat.{div-add-mod', mod_below, mul-le}
 use Rattle.std.proofs.lemmas.List.Elements.{All-nil, All-cons}
+use Rattle.std.proofs.lemmas.Option.{slice_get-get_or}
 use Rattle.std.specs.List.{AllByRecursion}
 use Rattle.std.specs.List.Sorted.{IsStrictlySortedBy}
 use Rattle.judy_model.specs.Keys.{IsByteString, word_order}
@@ -61,6 +62,18 @@ place_of_all words width skipped bytes kids count byte is all below =
     let long = children-length words width 0 bytes kids are in
     (place-nth bytes byte byte (children-IsByteSet words width 0 bytes kids are)).1
     (every_byte words width 0 bytes kids byte are (omega arith) (omega arith) ∙ ap Some (let e : 0 + byte ≡ byte = omega arith in e))
+
+pub byte_of_all : (words width : ℕ) (skipped bytes : List ℕ) (kids : List Tree) (count at : ℕ) → IsBranch words width skipped bytes kids count → length kids ≡ 256 → at < length kids → slice_get bytes at ≡ Some at
+byte_of_all words width skipped bytes kids count at is all inside =
+    let are = is.parts.children in
+    let long = children-length words width 0 bytes kids are in
+    every_byte words width 0 bytes kids at are (omega arith) (omega arith) ∙ ap Some (let e : 0 + at ≡ at = omega arith in e)
+
+-- Each child has a byte.
+pub byte_there : (words width : ℕ) (skipped bytes : List ℕ) (kids : List Tree) (count at : ℕ) → IsBranch words width skipped bytes kids count → at < length kids → slice_get bytes at ≡ Some (get_or bytes at 0)
+byte_there words width skipped bytes kids count at is inside =
+    let long = children-length words width 0 bytes kids is.parts.children in
+    slice_get-get_or bytes at 0 (omega arith)
 
 -- What the skipped bytes come to, in units.
 pub block_fits : (skipped : List ℕ) → IsByteString skipped → length skipped ≤ 6 → number_of skipped * 256 < 2 ^ 64

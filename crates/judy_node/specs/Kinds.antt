@@ -9,6 +9,7 @@ use Rattle.judy_leaf.specs.Leaves.{leaf_list, IsLeafParts}
 use Rattle.judy_leaf.specs.BitLeaves.{bit_list, IsBitParts}
 use Rattle.judy_leaf.specs.Immediates.{parts_list, IsImmParts}
 use Rattle.judy_node.specs.Trees.{Pairs, Tree, IsBranch, branch_tree}
+use Rattle.judy_node.specs.Populations.{AreSums}
 use Rattle.judy_node.specs.declared.child.KindOf.{KindOf}
 use Rattle.judy_node.specs.declared.child.KindOf.TheVariants.{Imm, Leaf, Bit, Branch}
 
@@ -75,7 +76,7 @@ abbrev pub IsLevel : {V : _} → ℕ → KindOf V → Type 0
 IsLevel words (Imm head word) = IsImm words head word
 IsLevel words (Leaf count block) = IsLeaf words count block
 IsLevel words (Bit skipped block) = IsBit words skipped block
-IsLevel words (Branch b) = IsBranch words b.value.width b.value.skip b.value.bytes b.value.children.items b.value.population
+IsLevel words (Branch b) = IsBranch words b.value.width b.value.skip b.value.bytes b.value.children.items b.value.population × AreSums b.value.sums b.value.children.items
 
 -- ---- more bytes to skip
 

@@ -4,6 +4,7 @@ use Rattle.judy_model.specs.WordBytes.{low_bytes}
 use Rattle.judy_model.specs.Forms.{Form, immediate, leaf, bitmap_leaf, branch}
 use Rattle.judy_leaf.specs.KeyLists.{keys_of, shift}
 use Rattle.judy_node.specs.Trees.{Pairs, Tree, IsMap, forms_in, branch_pairs, IsBranch}
+use Rattle.judy_node.specs.Populations.{AreSums}
 use Rattle.judy_node.specs.declared.view.ViewOf.{ViewOf}
 use Rattle.judy_node.specs.declared.view.ViewOf.TheVariants.{Null, One, Imm, Leaf, BitLeaf, Branch}
 
@@ -32,7 +33,7 @@ IsPlace words width (One key value) = width ≡ 8
 IsPlace words width (Imm list) = list.width ≡ width
 IsPlace words width (Leaf list) = list.width ≡ width
 IsPlace words width (BitLeaf skipped list) = (list.width ≡ width) × (skipped < 256 ^ (width - 1)) × IsMap words 0 256 list.pairs
-IsPlace words width (Branch b) = (length b.now.skip + 1 + b.now.width ≡ width) × IsBranch words b.now.width b.now.skip b.now.bytes b.now.children.items b.now.population
+IsPlace words width (Branch b) = (length b.now.skip + 1 + b.now.width ≡ width) × IsBranch words b.now.width b.now.skip b.now.bytes b.now.children.items b.now.population × AreSums b.now.sums b.now.children.items
 
 -- The view of a tree whose keys have a width.
 pub record IsView {V : _} (words width : ℕ) (tree : Tree) (view : ViewOf V) : Type 0 where

@@ -6,12 +6,15 @@ ghost use Rattle.judy_bits.specs.ByteSets as set;
 ghost use Rattle.judy_bits.specs.ByteSets.{has};
 ghost use Rattle.judy_node.specs.Trees.{Tree, IsBranch};
 ghost use Rattle.judy_node.specs.Steps.{IsStep};
-ghost use Rattle.judy_node.specs.Populations.{population, keys_before, HoldsNth};
+ghost use Rattle.judy_node.specs.Populations.{population, keys_before, AreSums, HoldsNth};
 
-use crate::child::{BranchOf, ChildOf};
+use crate::child::BranchOf;
+use crate::populations::{child_holding, keys_by_children};
 use crate::step::Step;
-use judy_bits::{low_part, without_low};
+use crate::sums::{Sums, holding_by_groups, keys_by_groups};
+use judy_bits::{tail, without_tail};
 use judy_leaf::Words;
+use std::alloc::Global;
 
 impl<V: Words + Drop> BranchOf<V> {
     /// Where a key goes: one step down, or which way past the branch.
@@ -21,7 +24,7 @@ impl<V: Words + Drop> BranchOf<V> {
     {
         let width = usize::from(self.width);
         let front = self.skip.number() * 256;
-        let block = without_low(key, width);
+        let block = without_tail(key, width);
         if block < front {
             return Step::Below;
         }
@@ -29,7 +32,7 @@ impl<V: Words + Drop> BranchOf<V> {
             return Step::Above;
         }
         let byte = (block - front) as u8;
-        let rest = low_part(key, width);
+        let rest = tail(key, width);
         match self.place(byte) {
             Some(place) => Step::Child(byte, place, rest),
             None => Step::Missing(byte, self.bytes.rank(byte), rest),
@@ -48,6 +51,21 @@ impl<V: Words + Drop> BranchOf<V> {
         }
     }
 
+    /// The byte of the child at a place. Where all 256 children stand, a place is its byte.
+    pub fn byte_at(&self, place: usize) -> u8
+        requires branch { IsBranch V.WORDS self.now.width self.now.skip self.now.bytes self.now.children.items self.now.population }
+        requires place { place < length self.now.children.items }
+        ensures { slice_get self.now.bytes place ≡ Some result }
+    {
+        if self.children.len() == 256 {
+            return place as u8;
+        }
+        let Some(byte) = self.bytes.nth(place) else {
+            unreachable!()
+        };
+        byte
+    }
+
     /// How many keys there are below.
     pub fn keys(&self) -> u64
         requires { IsBranch V.WORDS self.now.width self.now.skip self.now.bytes self.now.children.items self.now.population }
@@ -56,48 +74,41 @@ impl<V: Words + Drop> BranchOf<V> {
         self.population
     }
 
-    /// How many keys there are below the first children, so many. It adds from the nearer end.
+    /// The sums of the children as they are: none where there aren't 256, or where there is no memory for them.
+    pub fn sums_of_children(&self, alloc: Global) -> Sums
+        requires { IsBranch V.WORDS self.now.width self.now.skip self.now.bytes self.now.children.items self.now.population }
+        ensures { AreSums result self.now.children.items }
+    {
+        let _ = self.keys();
+        Sums::of(alloc, &self.children)
+    }
+
+    /// How many keys there are below the first children, so many. It adds from the nearer end, sums of sixteen children where there are any.
     pub fn keys_before(&self, place: usize) -> u64
         requires branch { IsBranch V.WORDS self.now.width self.now.skip self.now.bytes self.now.children.items self.now.population }
+        requires sums { AreSums self.now.sums self.now.children.items }
         requires place { place ≤ length self.now.children.items }
         ensures { result ≡ keys_before place self.now.children.items }
     {
         let all = self.keys();
-        if place <= self.children.len() / 2 {
-            population_of(&self.children[..place])
-        } else {
-            all - population_of(&self.children[place..])
+        match &self.sums.groups {
+            Some(groups) => keys_by_groups(groups, &self.children, all, place),
+            None => keys_by_children(&self.children, all, place),
         }
     }
 
-    /// The child that has the n-th of the keys below, counted from 0, and which of its own keys it is.
+    /// The child that has the n-th of the keys below, counted from 0, and which of its own keys it is. It is looked for from the nearer
+    /// end.
     pub fn holding(&self, n: u64) -> (usize, u64)
         requires branch { IsBranch V.WORDS self.now.width self.now.skip self.now.bytes self.now.children.items self.now.population }
+        requires sums { AreSums self.now.sums self.now.children.items }
         requires within { n < self.now.population }
         ensures { (kid : Tree) × HoldsNth self.now.children.items n result.0 result.1 kid }
     {
-        let mut left = n;
-        let mut place = 0;
-        for child in &self.children {
-            let count = child.pop();
-            if left < count {
-                return (place, left);
-            }
-            left -= count;
-            place += 1;
+        let all = self.keys();
+        match &self.sums.groups {
+            Some(groups) => holding_by_groups(groups, &self.children, all, n),
+            None => child_holding(&self.children, all, n),
         }
-        unreachable!()
     }
-}
-
-// How many keys there are below children.
-fn population_of<V: Words + Drop>(children: &[ChildOf<V>]) -> u64
-    requires { population children.now < 2 ^ 64 }
-    ensures { result ≡ population children.now }
-{
-    let mut sum = 0;
-    for child in children {
-        sum += child.pop();
-    }
-    sum
 }

@@ -9,6 +9,7 @@ ghost use Rattle.judy_node.specs.Built.{sharing, middle, IsBuilt, AreMade};
 
 use crate::child::{BranchOf, ChildOf, KindOf};
 use crate::head::Head;
+use crate::sums::Sums;
 use judy_bits::{ByteSet, Skip, low_part, moved_up, without_low};
 use judy_leaf::{BitLeafOf, ImmOf, LeafOf, Words};
 use std::alloc::{AllocError, Global};
@@ -220,6 +221,7 @@ fn split<V: Words + Drop>(
         width: below,
         bytes: ByteSet::new(),
         population: pairs.len() as u64,
+        sums: Sums::none(),
         words: PhantomData,
     };
     let mut rest = pairs;
@@ -229,6 +231,7 @@ fn split<V: Words + Drop>(
         };
         rest = left;
     }
+    branch.sums = branch.sums_of_children(alloc);
     match Box::new(alloc, branch) {
         Ok(branch) => Ok(KindOf::Branch(branch)),
         Err(_) => Err(AllocError),

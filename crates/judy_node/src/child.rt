@@ -11,6 +11,7 @@ ghost use Rattle.judy_node.specs.Kinds.{tree_of, IsLevel, IsImm, imm_tree, imm_p
 ghost use Rattle.judy_node.specs.Views.{IsView};
 
 use crate::head::Head;
+use crate::sums::Sums;
 use crate::view::ViewOf;
 use judy_bits::{ByteSet, Meter, Skip};
 use judy_block::Block;
@@ -64,6 +65,8 @@ pub struct BranchOf<V: Words + Drop> {
     pub bytes: ByteSet,
     /// How many keys there are below.
     pub population: u64,
+    /// The same by groups of children, where all stand.
+    pub sums: Sums,
     /// The number of value words.
     pub words: PhantomData<V>,
 }

@@ -9,7 +9,7 @@
 //! doesn't keep the width of its keys, which those who come down the tree know. Both are entered, which is one visit on a
 //! [`judy_bits::Meter`], and give the same [`View`]; a branch answers by [`BranchOf::step`] where a key goes.
 //!
-//! child.rt has the nodes, node.rt the root, branch.rt what is asked of a branch, shape.rt and fill.rt what goes over a whole tree, build.rt
+//! child.rt has the nodes, node.rt the root, branch.rt what is asked of a branch, populations.rt how many keys its children have, shape.rt and fill.rt what goes over a whole tree, build.rt
 //! makes the tight tree of sorted pairs, slot.rt lends the slot of a value. The crate stands on judy_model, judy_bits, judy_block and judy_leaf.
 #![tactic(auto)]
 
@@ -20,9 +20,11 @@ mod fill;
 mod head;
 pub mod laws;
 mod node;
+mod populations;
 mod shape;
 mod slot;
 mod step;
+mod sums;
 mod view;
 
 pub use build::{
@@ -33,4 +35,5 @@ pub use head::Head;
 pub use node::{Node, NodeOf, RootOf};
 pub use shape::Shape;
 pub use step::Step;
+pub use sums::Sums;
 pub use view::{View, ViewOf};

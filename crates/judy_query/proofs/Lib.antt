@@ -11,3 +11,4 @@ pub mod BranchRooms
 pub mod RoomSteps
 pub mod TurnFacts
 pub mod NearFacts
+pub mod WalkFacts

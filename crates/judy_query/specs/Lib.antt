@@ -2,3 +2,4 @@ pub mod Maps
 pub mod Parts
 pub mod Rooms
 pub mod Turns
+pub mod Walks

@@ -3,7 +3,7 @@
 ghost use Rattle.std.specs.Prelude.{◌≡◌, ◌+◌, ◌*◌, ◌^◌, ◌<◌, ◌≤◌, length, slice_get, Some, ℕ};
 ghost use Rattle.judy_model.specs.WordBytes.{number_of};
 ghost use Rattle.judy_node.specs.Trees.{Tree, IsBranch};
-ghost use Rattle.judy_node.specs.Populations.{HoldsNth};
+ghost use Rattle.judy_node.specs.Populations.{AreSums, HoldsNth};
 ghost use Rattle.judy_query.specs.Parts.{passed, reached, IsStart};
 
 use judy_bits::moved_up;
@@ -35,15 +35,13 @@ pub(crate) fn reached<V: Words + Drop>(branch: &BranchOf<V>, step: Step) -> usiz
     }
 }
 
-/// Where the keys of the child at a place begin. Where all 256 children stand, a place is its byte.
+/// Where the keys of the child at a place begin.
 pub(crate) fn start_of<V: Words + Drop>(branch: &BranchOf<V>, place: usize) -> u64
     requires branch { IsBranch V.WORDS branch.now.width branch.now.skip branch.now.bytes branch.now.children.items branch.now.population }
     requires place { place < length branch.now.children.items }
     ensures { IsStart (256 ^ branch.now.width) (number_of branch.now.skip * 256) branch.now.bytes place result }
 {
-    let Some(byte) = branch.bytes.nth(place) else {
-        unreachable!()
-    };
+    let byte = branch.byte_at(place);
     moved_up(
         branch.skip.number() * 256 + u64::from(byte),
         usize::from(branch.width),
@@ -54,6 +52,7 @@ pub(crate) fn start_of<V: Words + Drop>(branch: &BranchOf<V>, place: usize) -> u
 /// a count.
 pub(crate) fn holding<V: Words + Drop>(branch: &BranchOf<V>, n: u64) -> (usize, u64)
     requires branch { IsBranch V.WORDS branch.now.width branch.now.skip branch.now.bytes branch.now.children.items branch.now.population }
+    requires sums { AreSums branch.now.sums branch.now.children.items }
     requires within { n < branch.now.population }
     ensures { (kid : Tree) × HoldsNth branch.now.children.items n result.0 result.1 kid }
 {

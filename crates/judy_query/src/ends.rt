@@ -83,6 +83,21 @@ pub(crate) fn rank_in<V: Words + Drop>(view: &ViewOf<'_, V>, key: u64) -> u64
     }
 }
 
+/// How many keys there are.
+pub(crate) fn len_in<V: Words + Drop>(view: &ViewOf<'_, V>) -> u64
+    requires { IsEnd view.now }
+    ensures { result ≡ length (view_pairs view.now) }
+{
+    match view {
+        ViewOf::Null => 0,
+        ViewOf::One(_, _) => 1,
+        ViewOf::Imm(list) => list.len() as u64,
+        ViewOf::Leaf(list) => list.len() as u64,
+        ViewOf::BitLeaf(_, list) => list.len() as u64,
+        ViewOf::Branch(_) => unreachable!(),
+    }
+}
+
 /// The pair at a place, counted from 0.
 pub(crate) fn entry_in<V: Words + Drop>(view: &ViewOf<'_, V>, at: u64) -> (u64, u64)
     requires end { IsEnd view.now }

@@ -25,8 +25,11 @@ mod empties;
 mod ends;
 mod places;
 mod rooms;
+mod stretch;
 mod turns;
 mod values;
+mod waiting;
+mod walk;
 
 pub use after::{at_or_after, entry_at_or_after};
 pub use before::{at_or_before, entry_at_or_before};
@@ -34,3 +37,4 @@ pub use counts::rank;
 pub use empties::{empty_at_or_after, empty_at_or_before};
 pub use places::{entry_nth, nth};
 pub use values::lookup;
+pub use walk::Walk;

@@ -16,9 +16,9 @@ use judy_node::BranchOf;
 /// A child beside the way: its branch, its place there, and where the keys of the branch begin.
 #[derive(Drop)]
 pub(crate) struct Turn<'a, V: Words + Drop> {
-    branch: &'a BranchOf<V>,
-    place: usize,
-    base: u64,
+    pub(crate) branch: &'a BranchOf<V>,
+    pub(crate) place: usize,
+    pub(crate) base: u64,
 }
 
 /// The turn to the child at a place of a branch whose keys begin at `base`; where there is none, the one before.

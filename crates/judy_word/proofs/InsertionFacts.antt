@@ -1,18 +1,24 @@
 -- What an array keeps where a key was put into its tree.
 use Rattle.std.proofs.Common.{◌≡◌, ◌≢◌, ℕ, ◌<◌, ◌≤◌, ◌^◌, ◌==◌, Bool, true, false, not, ◌&&◌, [], ◌∷◌, length, Ok, None, refl, sym, ap, ◌∙◌, subst, eq-eqb, arith}
-use Rattle.std.specs.FinMap.{get, contains_key, empty, len, len-empty}
-use Rattle.std.proofs.lemmas.Bool.{ne_eqb}
+use Rattle.std.specs.FinMap.{FinMap, get, contains_key, insert, empty, len, len-empty}
+use Rattle.std.proofs.lemmas.Bool.{ne_eqb, cond-true, cond-false}
 use Rattle.judy_model.specs.Keys.{word_order}
-use Rattle.judy_model.specs.Arrays.{ins, is_full}
-use Rattle.judy_model.proofs.ChangesLemmas.{ins_present, ins_absent}
+use Rattle.judy_model.specs.Arrays.{is_full}
 use Rattle.judy_node.specs.Trees.{Pairs, Tree, IsNode}
 use Rattle.judy_node.proofs.SlotFacts.{value-has}
 use Rattle.judy_change.specs.Inserted.{IsInserted, has_key}
 use Rattle.judy_change.proofs.PairPlaces.{length-with_pair}
 use Rattle.judy_query.specs.Maps.{map_of}
 use Rattle.judy_query.proofs.Links.{len_is}
-use Rattle.judy_word.specs.Held.{Held, array_in, IsBounded}
+use Rattle.judy_word.specs.Held.{Held, array_in, IsBounded, with_new}
 use Rattle.judy_word.proofs.MapFacts.{get-value, has-key, value_in-is, map_of-with_pair}
+
+-- A key that is there keeps its value, and one that is absent gets the new one.
+pub new_present : (map : FinMap word_order ℕ) (key value : ℕ) → contains_key map key ≡ true → with_new map key value ≡ map
+new_present map key value held = cond-true (contains_key map key) map (insert map key value) held
+
+pub new_absent : (map : FinMap word_order ℕ) (key value : ℕ) → contains_key map key ≡ false → with_new map key value ≡ insert map key value
+new_absent map key value absent = cond-false (contains_key map key) map (insert map key value) absent
 
 module _ (words limit key : ℕ) (old : Tree) (loose : Bool) (node : IsNode words old) (bounded : IsBounded limit old loose) where
   abbrev pub held : Held
@@ -63,12 +69,12 @@ module _ (words limit key : ℕ) (old : Tree) (loose : Bool) (node : IsNode word
 
   -- ---- where the key was put in
 
-  module _ (new : Tree) (key_fits : key < 256 ^ 8) where
+  module _ (new : Tree) (key_fits : key < 256 ^ 8) (value : ℕ) (no_value : words ≡ 0 → value ≡ 0) where
     -- The array keeps its bounds.
-    pub bounded-inserted : (added : Bool) → is_full (array_in held) key ≡ false → IsInserted {E = ℕ} key 0 old new (Ok added) → IsBounded limit new loose
+    pub bounded-inserted : (added : Bool) → is_full (array_in held) key ≡ false → IsInserted {E = ℕ} key value old new (Ok added) → IsBounded limit new loose
     bounded-inserted true free is =
         let room = room-left free is.absent in
-        let longer = length-with_pair key 0 old.pairs in
+        let longer = length-with_pair key value old.pairs in
         record {
           holds_some = bounded.holds_some;
           within_limit = subst (λ pairs. length pairs ≤ limit) (sym is.pairs) (omega (arith, room, longer));
@@ -77,13 +83,13 @@ module _ (words limit key : ℕ) (old : Tree) (loose : Bool) (node : IsNode word
     bounded-inserted false free is = subst (λ tree. IsBounded limit tree loose) (sym is.1) bounded
 
     -- It answers whether the key was absent.
-    pub added-is : (added : Bool) → IsInserted {E = ℕ} key 0 old new (Ok added) → added ≡ not (contains_key (map_of old.pairs) key)
+    pub added-is : (added : Bool) → IsInserted {E = ℕ} key value old new (Ok added) → added ≡ not (contains_key (map_of old.pairs) key)
     added-is true is = sym (ap not (contains-has ∙ is.absent))
     added-is false is = sym (ap not (contains-has ∙ is.0))
 
-    -- The map is that of an insert.
-    pub map-inserted : (added : Bool) → IsInserted {E = ℕ} key 0 old new (Ok added) → map_of new.pairs ≡ ins (map_of old.pairs) key
+    -- The map has the key, with the value where it was absent.
+    pub map-inserted : (added : Bool) → IsInserted {E = ℕ} key value old new (Ok added) → map_of new.pairs ≡ with_new (map_of old.pairs) key value
     map-inserted true is =
-        ap map_of is.pairs ∙ map_of-with_pair words (256 ^ 8) key 0 old.pairs node.map key_fits is.absent (λ none. refl)
-        ∙ sym (ins_absent (map_of old.pairs) key (contains-has ∙ is.absent))
-    map-inserted false is = ap (λ (tree : Tree). map_of tree.pairs) is.1 ∙ sym (ins_present (map_of old.pairs) key (contains-has ∙ is.0))
+        ap map_of is.pairs ∙ map_of-with_pair words (256 ^ 8) key value old.pairs node.map key_fits is.absent no_value
+        ∙ sym (new_absent (map_of old.pairs) key value (contains-has ∙ is.absent))
+    map-inserted false is = ap (λ (tree : Tree). map_of tree.pairs) is.1 ∙ sym (new_present (map_of old.pairs) key value (contains-has ∙ is.0))

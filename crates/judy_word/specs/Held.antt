@@ -1,6 +1,6 @@
 -- What an array over a tree holds, and what it always keeps.
-use Rattle.std.specs.Prelude.{◌≡◌, ℕ, ◌≤◌, Bool, false, length}
-use Rattle.std.specs.FinMap.{FinMap}
+use Rattle.std.specs.Prelude.{◌≡◌, ℕ, ◌≤◌, Bool, false, if◌then◌else◌, length}
+use Rattle.std.specs.FinMap.{FinMap, contains_key, insert}
 use Rattle.judy_model.specs.Keys.{word_order}
 use Rattle.judy_model.specs.Arrays.{ArrayOf}
 use Rattle.judy_node.specs.Trees.{Tree, IsNode, IsTight}
@@ -21,6 +21,10 @@ map_in held = map_of held.tree.pairs
 -- The array that it is, whatever its nodes are.
 abbrev pub array_in : Held → ArrayOf word_order
 array_in held = record { limit = held.limit; map = map_in held }
+
+-- A map with a key that has a value where it was absent; a key that is there keeps its own.
+abbrev pub with_new : FinMap word_order ℕ → ℕ → ℕ → FinMap word_order ℕ
+with_new map key value = if contains_key map key then map else insert map key value
 
 -- Nothing, below a limit.
 abbrev pub nothing_held : ℕ → Held

@@ -1,5 +1,5 @@
 // The array that maps words to words.
-ghost use Rattle.std.specs.Prelude.{◌≡◌, ◌≤◌, ◌↔◌, Some, IfOk, IsOk, IfSome, OnOk, IfErr, IsTrue, IsFalse};
+ghost use Rattle.std.specs.Prelude.{◌≡◌, ◌≤◌, ◌↔◌, Some, not, IfOk, IsOk, IfSome, OnOk, OnErr, IfErr, IsTrue, IsFalse};
 ghost use Rattle.std.specs.Borrow.{sem};
 ghost use Rattle.std.specs.FinMap as map;
 ghost use Rattle.std.specs.Option.{option_copied_mut, option_map};
@@ -79,6 +79,21 @@ impl JudyL {
         self.tree.set(i)?;
         self.tree.told();
         Ok(self.tree.slot_of(i))
+    }
+
+    /// Gives the key `i` a value, and answers whether it was absent. An absent key is put in with its value in one way down the tree,
+    /// where `ins` takes a second one for the slot.
+    ///
+    /// `Full` and `NoMemory` as `ins`. Either leaves the array as it was.
+    pub fn put(&mut self, i: u64, value: u64) -> Result<bool, InsertError>
+        ensures answer { IfOk result (λ added. added ≡ not (map.contains_key self.old.map i)) }
+        ensures put { OnOk result (self.new ≡ array.with_map self.old (array.write self.old.map i value)) }
+        ensures accepted { OnOk result (IsFalse (array.is_full self.old i)) }
+        ensures refused { IfErr result (IsRefusal self.old i) }
+        ensures unchanged { OnErr result (self.new ≡ self.old) }
+        ensures empty { self.old.map ≡ map.empty → IsOk result }
+    {
+        self.tree.put(i, value)
     }
 
     /// The value of the key `i`, and `None` where it is absent. (Manual: JLG, JudyLGet.)

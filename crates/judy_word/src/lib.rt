@@ -10,6 +10,7 @@
 #![tactic(auto)]
 
 mod error;
+mod iter;
 mod judy1;
 mod judyl;
 #[cfg(test)]
@@ -17,6 +18,7 @@ mod tests;
 mod tree_array;
 
 pub use error::InsertError;
+pub use iter::{Entries, Keys};
 pub use judy1::Judy1;
 pub use judyl::JudyL;
 pub use tree_array::TreeArray;

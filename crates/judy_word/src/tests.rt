@@ -200,3 +200,66 @@ fn entries(rt: HostRuntime) -> Result<(), AllocError> {
     assert_eq!(rt; copy.get(5), Some(50));
     Ok(())
 }
+
+// An iterator gives each key once, by ascending order, across leaves and branches of every depth.
+#[test]
+fn iterators(rt: HostRuntime) -> Result<(), AllocError> {
+    let mut set = Judy1::new(rt.alloc(), 10_000);
+    let mut pairs = JudyL::new(rt.alloc(), 10_000);
+    let fronts = [0, 65_536, 1 << 40, 18446744073709547520];
+    for front in fronts {
+        for step in 0..300 {
+            assert_eq!(rt; set.set(front + 7 * step), Ok(true));
+            assert_eq!(rt; put(&mut pairs, front + 7 * step, step), Ok(()));
+        }
+    }
+    let mut keys = set.iter();
+    let mut entries = pairs.iter();
+    for front in fronts {
+        for step in 0..300 {
+            assert_eq!(rt; keys.next(), Some(front + 7 * step));
+            assert_eq!(rt; entries.next(), Some((front + 7 * step, step)));
+        }
+    }
+    assert_eq!(rt; (keys.next(), entries.next()), (None, None));
+    assert_eq!(rt; (keys.next(), entries.next()), (None, None));
+    for (from, first, second) in [
+        (0, Some(0), Some(7)),
+        (1, Some(7), Some(14)),
+        (2093, Some(2093), Some(65_536)),
+        (2094, Some(65_536), Some(65_543)),
+        (70_000, Some(1 << 40), Some(1_099_511_627_783)),
+        (18446744073709549613, Some(18446744073709549613), None),
+        (18446744073709549614, None, None),
+        (18446744073709551615, None, None),
+    ] {
+        let mut rest = set.iter_from(from);
+        assert_eq!(rt; (rest.next(), rest.next()), (first, second));
+        let mut rest = pairs.iter_from(from);
+        let given = (
+            rest.next().map(|pair| pair.0),
+            rest.next().map(|pair| pair.0),
+        );
+        assert_eq!(rt; given, (first, second));
+    }
+    Ok(())
+}
+
+#[test]
+fn arrays_printed(rt: HostRuntime) -> Result<(), AllocError> {
+    let mut set = Judy1::new(rt.alloc(), 10);
+    let mut pairs = JudyL::new(rt.alloc(), 10);
+    assert_eq!(rt;
+        format!(in rt.alloc(); "{set:?} {pairs:?}")?.as_str(),
+        "{} {}"
+    );
+    for key in [5, 1] {
+        assert_eq!(rt; set.set(key), Ok(true));
+        assert_eq!(rt; put(&mut pairs, key, key * 10), Ok(()));
+    }
+    assert_eq!(rt;
+        format!(in rt.alloc(); "{set:?} {pairs:?}")?.as_str(),
+        "{1, 5} {1: 10, 5: 50}"
+    );
+    Ok(())
+}

@@ -4,12 +4,12 @@ ghost use Rattle.std.specs.Prelude.{◌≡◌, ◌≤◌, not, true, false, OnOk
 ghost use Rattle.std.specs.FinMap as map;
 ghost use Rattle.judy_model.specs.Arrays as array;
 ghost use Rattle.judy_change.specs.Removals.{Has33};
-ghost use Rattle.judy_word.specs.Held.{map_in, array_in};
+ghost use Rattle.judy_word.specs.Held.{map_in, array_in, with_new};
 ghost use Rattle.judy_word.specs.Refusals.{IsRefusal};
 
 use crate::error::InsertError;
 use crate::tree_array::TreeArray;
-use judy_change::{insert, remove};
+use judy_change::{insert_with, remove};
 use judy_leaf::Words;
 use judy_node::NodeOf;
 use std::alloc::AllocError;
@@ -38,13 +38,49 @@ impl<V: Words + Drop> TreeArray<V> {
         ensures loose { self.new.loose ≡ self.old.loose }
         ensures first { map_in self.old ≡ map.empty → IsOk result }
     {
+        self.set_with(key, 0)
+    }
+
+    /// The same with the value that an absent key is to have, 0 where keys have no values; a key that is there keeps its own.
+    pub fn set_with(&mut self, key: u64, value: u64) -> Result<bool, InsertError>
+        requires one { V.WORDS ≤ 1 }
+        requires no_value { V.WORDS ≡ 0 → value ≡ 0 }
+        ensures answer { IfOk result (λ added. added ≡ not (map.contains_key (map_in self.old) key)) }
+        ensures set { OnOk result (array_in self.new ≡ array.with_map (array_in self.old) (with_new (map_in self.old) key value)) }
+        ensures accepted { OnOk result (IsFalse (array.is_full (array_in self.old) key)) }
+        ensures refused { IfErr result (IsRefusal (array_in self.old) key) }
+        ensures unchanged { OnErr result (self.new ≡ self.old) }
+        ensures present { IfOk result (λ added. added ≡ false → self.new ≡ self.old) }
+        ensures loose { self.new.loose ≡ self.old.loose }
+        ensures first { map_in self.old ≡ map.empty → IsOk result }
+    {
         self.root.told();
         if self.is_full(key) {
             return Err(InsertError::Full);
         }
-        let Ok(added) = insert(self.alloc, &mut self.root, key) else {
+        let Ok(added) = insert_with(self.alloc, &mut self.root, key, value) else {
             return Err(InsertError::NoMemory);
         };
+        Ok(added)
+    }
+
+    /// Gives a key a value, in an array whose keys have values, and answers whether it was absent. Refused as `set` is, and never
+    /// where the key is there.
+    pub fn put(&mut self, key: u64, value: u64) -> Result<bool, InsertError>
+        requires words { V.WORDS ≡ 1 }
+        ensures answer { IfOk result (λ added. added ≡ not (map.contains_key (map_in self.old) key)) }
+        ensures put { OnOk result (array_in self.new ≡ array.with_map (array_in self.old) (array.write (map_in self.old) key value)) }
+        ensures accepted { OnOk result (IsFalse (array.is_full (array_in self.old) key)) }
+        ensures refused { IfErr result (IsRefusal (array_in self.old) key) }
+        ensures unchanged { OnErr result (self.new ≡ self.old) }
+        ensures loose { self.new.loose ≡ self.old.loose }
+        ensures first { map_in self.old ≡ map.empty → IsOk result }
+    {
+        let added = self.set_with(key, value)?;
+        if !added {
+            self.told();
+            *self.slot_of(key) = value;
+        }
         Ok(added)
     }
 

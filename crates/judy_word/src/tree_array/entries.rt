@@ -1,6 +1,6 @@
 //! The nearest keys and the n-th with their values, each in one way down the tree.
 
-ghost use Rattle.std.specs.Prelude.{◌≡◌, Some, IfSome};
+ghost use Rattle.std.specs.Prelude.{◌≡◌, Some, IfSome, drop};
 ghost use Rattle.std.specs.FinMap as map;
 ghost use Rattle.std.specs.Option.{option_map};
 ghost use Rattle.judy_model.specs.Counts as counts;
@@ -10,7 +10,7 @@ ghost use Rattle.judy_word.specs.Held.{map_in};
 use crate::tree_array::TreeArray;
 use judy_bits::Meter;
 use judy_leaf::Words;
-use judy_query::{entry_at_or_after, entry_at_or_before, entry_nth};
+use judy_query::{Walk, entry_at_or_after, entry_at_or_before, entry_nth};
 
 impl<V: Words + Drop> TreeArray<V> {
     /// The least key that isn't below a word, with its value, 0 where keys have no value.
@@ -67,5 +67,21 @@ impl<V: Words + Drop> TreeArray<V> {
         } else {
             entry_nth(&self.root, n - 1, &mut Meter::new())
         }
+    }
+
+    /// All keys by ascending order, each with its value, one after another.
+    pub fn iter(&self) -> Walk<'_, V>
+        ensures { result ≡ map.entries (map_in self.now) }
+    {
+        self.root.told();
+        Walk::from_key(&self.root, 0)
+    }
+
+    /// The same from the first key that isn't below a word.
+    pub fn iter_from(&self, from: u64) -> Walk<'_, V>
+        ensures { result ≡ drop (counts.rank (map_in self.now) from) (map.entries (map_in self.now)) }
+    {
+        self.root.told();
+        Walk::from_key(&self.root, from)
     }
 }

@@ -1,17 +1,17 @@
-use Rattle.std.proofs.Common.{◌≡◌, ◌≤◌, length, sym, refl, ap, ◌∙◌, subst, arith}
+use Rattle.std.proofs.Common.{◌≡◌, ◌≤◌, ◌<◌, length, sym, refl, ap, ◌∙◌, subst, arith}
 use Rattle.std.specs.List.{remove}
 use Rattle.std.proofs.lemmas.Option.{slice_get_within}
 use Rattle.std.proofs.lemmas.List.{length-set}
-use Rattle.judy_node.specs.Trees.{IsChild}
+use Rattle.judy_node.specs.Trees.{Tree, IsChild}
 use Rattle.judy_node.specs.Kinds.{tree_of, IsLevel}
 use Rattle.judy_change.specs.Removals.{IsGone, IsWhole, tree_below, width_of}
 use Rattle.judy_node.proofs.Maps.{children-length}
-use Rattle.judy_change.proofs.BelowFacts.{step-absent, inside, kid_child, below_same, below_absent, below_only, below_some, below_some-only, below_gone, below_dropped, branch_gone, branch_wide, two_left, same_tree}
+use Rattle.judy_change.proofs.BelowFacts.{step-absent, inside, kid_child, below_fewer, below_same, below_absent, below_only, below_some, below_some-only, below_gone, below_dropped, branch_gone, branch_wide, two_left, same_tree}
 use Rattle.judy_node.proofs.Shaped.{branch-child}
 use Rattle.judy_change.proofs.removals.+remove.Goals as goal
 
-pub remove_below-returns-in_default : goal.remove_below-returns-in_default
-remove_below-returns-in_default g t c =
+pub remove_below-returns-in_default-clause-taken : goal.remove_below-returns-in_default-clause-taken
+remove_below-returns-in_default-clause-taken g t c =
     (step-absent g.V.Words.WORDS c.args.key c.args.branch.now c.step.result c.requires.branch c.step.ensures c.in_default.not-Child, record { branch = c.requires.branch; tree = refl })
 
 pub remove_below-index_mut-requires : goal.remove_below-index_mut-requires
@@ -28,8 +28,8 @@ remove_below-remove_in-requires g t c κs within =
     let within_width = c.requires.branch.parts.within in
     (omega arith, (within, (c.requires.one, (kid_child g.V.Words.WORDS c.args.key c.in-Child.byte c.in-Child.place c.in-Child.rest c.args.branch.now c.index_mut.result.now c.requires.branch c.in-Child.ensures.0 c.in-Child.ensures.1 c.index_mut.ensures.value, λ wide. let never : ⊥ = omega arith in absurd never))))
 
-pub remove_below-returns-then-branch-eq1 : goal.remove_below-returns-then-branch-eq1
-remove_below-returns-then-branch-eq1 g t c = (
+pub remove_below-returns-then-branch-eq1-clause-taken : goal.remove_below-returns-then-branch-eq1-clause-taken
+remove_below-returns-then-branch-eq1-clause-taken g t c = (
   below_only g.V.Words.WORDS c.args.key c.in-Child.byte c.in-Child.place c.in-Child.rest c.args.branch.now c.index_mut.result.now c.requires.branch c.in-Child.ensures.0 c.in-Child.ensures.1 c.index_mut.ensures.value c.in-Only.value c.in-Only.ensures.0 c.if-branch-eq1.true,
   same_tree g.V.Words.WORDS c.args.branch.now c.in-Child.place c.remove_in.new.child c.requires.branch (below_same g.V.Words.WORDS c.args.key c.in-Child.byte c.in-Child.place c.in-Child.rest c.args.branch.now c.index_mut.result.now c.requires.branch c.in-Child.ensures.0 c.in-Child.ensures.1 c.index_mut.ensures.value c.remove_in.new.child c.in-Only.ensures.1),
 )
@@ -48,19 +48,19 @@ pub remove_below-overflow_sub-branch : goal.remove_below-overflow_sub-branch
 remove_below-overflow_sub-branch g t c =
     below_some g.V.Words.WORDS c.args.key c.in-Child.byte c.in-Child.place c.in-Child.rest c.args.branch.now c.index_mut.result.now c.requires.branch c.in-Child.ensures.0 c.in-Child.ensures.1 c.index_mut.ensures.value c.in-Gone.value c.in-Gone.ensures.found
 
-pub remove_below-returns-in-Absent : goal.remove_below-returns-in-Absent
-remove_below-returns-in-Absent g t c = (
+pub remove_below-returns-in-Absent-clause-taken : goal.remove_below-returns-in-Absent-clause-taken
+remove_below-returns-in-Absent-clause-taken g t c = (
   below_absent g.V.Words.WORDS c.args.key c.in-Child.byte c.in-Child.place c.in-Child.rest c.args.branch.now c.index_mut.result.now c.requires.branch c.in-Child.ensures.0 c.in-Child.ensures.1 c.index_mut.ensures.value c.in-Absent.ensures.0,
   same_tree g.V.Words.WORDS c.args.branch.now c.in-Child.place c.remove_in.new.child c.requires.branch (below_same g.V.Words.WORDS c.args.key c.in-Child.byte c.in-Child.place c.in-Child.rest c.args.branch.now c.index_mut.result.now c.requires.branch c.in-Child.ensures.0 c.in-Child.ensures.1 c.index_mut.ensures.value c.remove_in.new.child c.in-Absent.ensures.1),
 )
 
-pub remove_below-returns-else-branch-eq1 : goal.remove_below-returns-else-branch-eq1
-remove_below-returns-else-branch-eq1 g t c =
+pub remove_below-returns-else-branch-eq1-clause-taken : goal.remove_below-returns-else-branch-eq1-clause-taken
+remove_below-returns-else-branch-eq1-clause-taken g t c =
     below_dropped g.V.Words.WORDS c.args.key c.in-Child.byte c.in-Child.place c.in-Child.rest c.args.branch.now c.index_mut.result.now c.requires.branch c.in-Child.ensures.0 c.in-Child.ensures.1 c.index_mut.ensures.value c.lose_child.new.branch c.in-Only.value c.in-Only.ensures.0 c.if-branch-eq1.false c.lose_child.ensures.width c.lose_child.ensures.skip c.lose_child.ensures.bytes
     (c.lose_child.ensures.children ∙ ap (λ ks. remove ks c.in-Child.place) (below_same g.V.Words.WORDS c.args.key c.in-Child.byte c.in-Child.place c.in-Child.rest c.args.branch.now c.index_mut.result.now c.requires.branch c.in-Child.ensures.0 c.in-Child.ensures.1 c.index_mut.ensures.value c.remove_in.new.child c.in-Only.ensures.1)) c.lose_child.ensures.population
 
-pub remove_below-returns-in-Gone : goal.remove_below-returns-in-Gone
-remove_below-returns-in-Gone g t c =
+pub remove_below-returns-in-Gone-clause-taken : goal.remove_below-returns-in-Gone-clause-taken
+remove_below-returns-in-Gone-clause-taken g t c =
     let some = below_some g.V.Words.WORDS c.args.key c.in-Child.byte c.in-Child.place c.in-Child.rest c.args.branch.now c.index_mut.result.now c.requires.branch c.in-Child.ensures.0 c.in-Child.ensures.1 c.index_mut.ensures.value c.in-Gone.value c.in-Gone.ensures.found in
     below_gone g.V.Words.WORDS c.args.key c.in-Child.byte c.in-Child.place c.in-Child.rest c.args.branch.now c.index_mut.result.now c.requires.branch c.in-Child.ensures.0 c.in-Child.ensures.1 c.index_mut.ensures.value _ c.remove_in.new.child c.in-Gone.value c.in-Gone.shrunk c.in-Gone.ensures refl refl refl refl (omega arith)
 
@@ -69,29 +69,51 @@ remove_kind-settle-settled-requires-clause-child g t c =
     let words = g.V.Words.WORDS in
     let n = c.remove_below.new.branch in
     let child = subst (λ kind. IsChild words c.args.width (tree_of words kind)) c.in-Branch.is c.requires.child in
-    let wide = c.in-Gone.ensures.width ∙ ap width_of c.deref_mut.ensures.value ∙ branch_wide words c.args.width c.in-Branch.branch.value child in
-    subst (λ w. IsChild words w (tree_below n)) wide (branch-child words n.width n.skip n.bytes n.children.items n.population c.in-Gone.ensures.branch)
+    let wide = c.in-Gone.ensures.taken.width ∙ ap width_of c.deref_mut.ensures.value ∙ branch_wide words c.args.width c.in-Branch.branch.value child in
+    subst (λ w. IsChild words w (tree_below n)) wide (branch-child words n.width n.skip n.bytes n.children.items n.population c.in-Gone.ensures.taken.branch)
 
 pub remove_kind-settle-settled-requires-clause-two : goal.remove_kind-settle-settled-requires-clause-two
 remove_kind-settle-settled-requires-clause-two g t c =
     λ wide.
     let words = g.V.Words.WORDS in
-    let level = subst (IsLevel words) c.in-Branch.is c.requires.level in
+    let level = (subst (IsLevel words) c.in-Branch.is c.requires.level).0 in
     let three = subst (λ kind. c.args.width ≡ 8 → 3 ≤ length (tree_of words kind).pairs) c.in-Branch.is c.requires.three wide in
-    let left = two_left words c.args.key c.deref_mut.result.now c.remove_below.new.branch c.in-Gone.value c.in-Gone.shrunk (subst (IsWhole words) (sym c.deref_mut.ensures.value) level) c.in-Gone.ensures in
+    let left = two_left words c.args.key c.deref_mut.result.now c.remove_below.new.branch c.in-Gone.value c.in-Gone.shrunk (subst (IsWhole words) (sym c.deref_mut.ensures.value) level) c.in-Gone.ensures.taken in
     let same = ap (λ b. b.population) c.deref_mut.ensures.value in
     let were = level.parts.counted in
-    let are = c.in-Gone.ensures.branch.parts.counted in
+    let are = c.in-Gone.ensures.taken.branch.parts.counted in
     omega arith
 
 pub remove_kind-returns-in-Gone-clause-taken : goal.remove_kind-returns-in-Gone-clause-taken
 remove_kind-returns-in-Gone-clause-taken g t c =
     let words = g.V.Words.WORDS in
-    let level = subst (IsLevel words) c.in-Branch.is c.requires.level in
+    let level = (subst (IsLevel words) c.in-Branch.is c.requires.level).0 in
     let child = subst (λ kind. IsChild words c.args.width (tree_of words kind)) c.in-Branch.is c.requires.child in
     let new = tree_of words c.settle-settled.new.kind in
     subst (λ kind. IsGone words c.args.width c.args.key (tree_of words kind) new c.in-Gone.value c.both.result) (sym c.in-Branch.is)
     (subst (λ b. IsGone words c.args.width c.args.key (tree_below b) new c.in-Gone.value c.both.result) c.deref_mut.ensures.value
     (branch_gone words c.args.width c.args.key c.deref_mut.result.now c.remove_below.new.branch c.in-Gone.value c.in-Gone.shrunk c.settle-settled.result c.both.result new
     (subst (IsWhole words) (sym c.deref_mut.ensures.value) level) (ap width_of c.deref_mut.ensures.value ∙ branch_wide words c.args.width c.in-Branch.branch.value child)
-    c.in-Gone.ensures c.settle-settled.ensures.settled c.both.ensures))
+    c.in-Gone.ensures.taken c.settle-settled.ensures.settled c.both.ensures))
+
+pub remove_below-take-requires : goal.remove_below-take-requires
+remove_below-take-requires g t c =
+    let words = g.V.Words.WORDS in
+    let b = c.args.branch.now in
+    let kid = c.index_mut.result.now in
+    let child = kid_child words c.args.key c.in-Child.byte c.in-Child.place c.in-Child.rest b kid c.requires.branch c.in-Child.ensures.0 c.in-Child.ensures.1 c.index_mut.ensures.value in (
+      b.children.items,
+      kid,
+      c.requires.sums,
+      inside words c.args.key c.in-Child.byte c.in-Child.place c.in-Child.rest b kid c.requires.branch c.in-Child.ensures.0 c.in-Child.ensures.1 c.index_mut.ensures.value,
+      subst (λ (k : Tree). 0 < length k.pairs) c.index_mut.ensures.value child.some,
+    )
+
+pub remove_below-returns-in-Gone-clause-sums : goal.remove_below-returns-in-Gone-clause-sums
+remove_below-returns-in-Gone-clause-sums g t c =
+    let words = g.V.Words.WORDS in
+    let b = c.args.branch.now in
+    let kid = c.index_mut.result.now in
+    c.take.ensures b.children.items c.remove_in.new.child c.requires.sums
+    (inside words c.args.key c.in-Child.byte c.in-Child.place c.in-Child.rest b kid c.requires.branch c.in-Child.ensures.0 c.in-Child.ensures.1 c.index_mut.ensures.value)
+    (below_fewer words c.args.key c.in-Child.byte c.in-Child.place c.in-Child.rest b kid c.requires.branch c.in-Child.ensures.0 c.in-Child.ensures.1 c.index_mut.ensures.value c.remove_in.new.child c.in-Gone.value c.in-Gone.shrunk c.in-Gone.ensures c.remove_in.new.child)

@@ -6,6 +6,7 @@ use Rattle.judy_model.proofs.ByteLemmas.{unit_pos}
 use Rattle.judy_block.specs.Contents.{Contents}
 use Rattle.judy_node.specs.Trees.{IsChild, IsBranch, branch_tree}
 use Rattle.judy_node.specs.Kinds.{tree_of, bit_tree, IsLevel, IsBit}
+use Rattle.judy_node.specs.Populations.{AreSums}
 use Rattle.judy_change.specs.Splits.{IsSkipping, IsShorter}
 use Rattle.judy_change.proofs.Shorter.{bit_shorter, bit_shorter_tree, bit_shorter_child, branch_shorter, branch_shorter_tree, branch_shorter_child}
 use Rattle.judy_change.proofs.split.shortened.Goals as goal
@@ -67,17 +68,17 @@ returns-in-Branch-clause-level g c =
     let words = g.V.Words.WORDS in
     let number = c.args.skipped.number in
     let old = c.in-Branch.branch.value in
-    let level = subst (λ kind. IsLevel words kind) c.in-Branch.is c.requires.level in
+    let level = (subst (λ kind. IsLevel words kind) c.in-Branch.is c.requires.level).0 in
     let skips = subst (λ kind. IsSkipping number c.args.skipped.count c.args.skipped.tail kind) c.in-Branch.is c.requires.skips in
     let more_is : c.skip_of.result ≡ low_bytes c.args.left (number % 256 ^ c.args.left) = c.skip_of.ensures ∙ ap (low_bytes c.args.left) (c.low_part-rest.ensures ∙ ap (λ n. number % 256 ^ n) c.from.ensures) in
-    subst (λ b. IsBranch words b.width c.skip_of.result b.bytes b.children.items b.population) (sym c.deref_mut.ensures.value) (branch_shorter words number c.args.skipped.count c.args.skipped.tail c.args.left old.width old.skip c.skip_of.result old.bytes old.children.items old.population level skips.0 skips.1 skips.2 c.requires.left more_is)
+    (subst (λ b. IsBranch words b.width c.skip_of.result b.bytes b.children.items b.population) (sym c.deref_mut.ensures.value) (branch_shorter words number c.args.skipped.count c.args.skipped.tail c.args.left old.width old.skip c.skip_of.result old.bytes old.children.items old.population level skips.0 skips.1 skips.2 c.requires.left more_is), subst (λ b. AreSums b.sums b.children.items) (sym c.deref_mut.ensures.value) (subst (λ kind. IsLevel words kind) c.in-Branch.is c.requires.level).1)
 
 pub returns-in-Branch-clause-child : goal.returns-in-Branch-clause-child
 returns-in-Branch-clause-child g c =
     let words = g.V.Words.WORDS in
     let number = c.args.skipped.number in
     let old = c.in-Branch.branch.value in
-    let level = subst (λ kind. IsLevel words kind) c.in-Branch.is c.requires.level in
+    let level = (subst (λ kind. IsLevel words kind) c.in-Branch.is c.requires.level).0 in
     let skips = subst (λ kind. IsSkipping number c.args.skipped.count c.args.skipped.tail kind) c.in-Branch.is c.requires.skips in
     let more_is : c.skip_of.result ≡ low_bytes c.args.left (number % 256 ^ c.args.left) = c.skip_of.ensures ∙ ap (low_bytes c.args.left) (c.low_part-rest.ensures ∙ ap (λ n. number % 256 ^ n) c.from.ensures) in
     subst (λ b. IsChild words (c.args.left + c.args.skipped.tail) (branch_tree b.width c.skip_of.result b.bytes b.children.items b.population)) (sym c.deref_mut.ensures.value) (branch_shorter_child words number c.args.skipped.count c.args.skipped.tail c.args.left old.width old.skip c.skip_of.result old.bytes old.children.items old.population level skips.0 skips.1 skips.2 c.requires.left more_is)
@@ -87,7 +88,7 @@ returns-in-Branch-clause-shorter g c =
     let words = g.V.Words.WORDS in
     let number = c.args.skipped.number in
     let old = c.in-Branch.branch.value in
-    let level = subst (λ kind. IsLevel words kind) c.in-Branch.is c.requires.level in
+    let level = (subst (λ kind. IsLevel words kind) c.in-Branch.is c.requires.level).0 in
     let skips = subst (λ kind. IsSkipping number c.args.skipped.count c.args.skipped.tail kind) c.in-Branch.is c.requires.skips in
     let more_is : c.skip_of.result ≡ low_bytes c.args.left (number % 256 ^ c.args.left) = c.skip_of.ensures ∙ ap (low_bytes c.args.left) (c.low_part-rest.ensures ∙ ap (λ n. number % 256 ^ n) c.from.ensures) in
     subst (λ b. IsShorter number c.args.left c.args.skipped.tail (tree_of words c.args.kind) (branch_tree b.width c.skip_of.result b.bytes b.children.items b.population)) (sym c.deref_mut.ensures.value)

@@ -12,14 +12,15 @@ use Rattle.judy_change.specs.Inserted.{has_key, IsInserted}
 use Rattle.judy_change.specs.Removals.{width_of, tree_below}
 use Rattle.judy_change.proofs.InsertFacts.{missing_absent, past_apart}
 use Rattle.judy_change.proofs.BelowFacts.{branch_wide}
-use Rattle.judy_change.proofs.KidInserts.{kid_child, kid_has, kid_room, kid_same, kid_branch, kid_added}
+use Rattle.judy_change.proofs.KidInserts.{kid_within, kid_child, kid_has, kid_room, kid_same, kid_branch, kid_added, kid_grown}
+use Rattle.judy_node.proofs.Counts.{branch_population}
 use Rattle.judy_change.proofs.way_down.+insert.Goals as goal
 
 pub into_kind-put_child-requires-clause-room : goal.into_kind-put_child-requires-clause-room
 into_kind-put_child-requires-clause-room g t c =
     let words = g.V.Words.WORDS in
     let branch = c.in-Branch.branch.value in
-    let level = subst (IsLevel words) c.in-Branch.is c.requires.level in
+    let level = (subst (IsLevel words) c.in-Branch.is c.requires.level).0 in
     let step = subst (λ b. IsStep (256 ^ b.width) (number_of b.skip * 256) b.bytes c.args.key (Missing c.in-Missing.byte c.in-Missing.field-1 c.in-Missing.rest)) c.deref.ensures c.in-Missing.ensures in
     let absent = missing_absent words c.args.key branch level c.in-Missing.byte c.in-Missing.field-1 c.in-Missing.rest step in
     let room = subst (λ kind. has_key c.args.key (tree_of words kind) ≡ false → length (tree_of words kind).pairs < 18446744073709551615) c.in-Branch.is c.requires.room absent in
@@ -27,7 +28,7 @@ into_kind-put_child-requires-clause-room g t c =
 
 pub into_kind-replaced-requires-clause-past : goal.into_kind-replaced-requires-clause-past
 into_kind-replaced-requires-clause-past g t c =
-    past_apart g.V.Words.WORDS c.args.key c.in-Branch.branch.value (subst (IsLevel g.V.Words.WORDS) c.in-Branch.is c.requires.level)
+    past_apart g.V.Words.WORDS c.args.key c.in-Branch.branch.value (subst (IsLevel g.V.Words.WORDS) c.in-Branch.is c.requires.level).0
     c.step.result (subst (λ b. IsStep (256 ^ b.width) (number_of b.skip * 256) b.bytes c.args.key c.step.result) c.deref.ensures c.step.ensures) c.in-Below.is
 
 pub into_kind-returns-in-Child-clause-child : goal.into_kind-returns-in-Child-clause-child
@@ -101,3 +102,25 @@ into_child-returns-in-Err-clause-inserted g t c =
     let b = c.args.branch.now in
     let kept = c.in-Err.ensures.inserted in
     (kid_has g.V.Words.WORDS b.width b.skip b.bytes b.children.items b.population c.requires.level c.args.byte c.args.rest c.requires.fits c.args.place c.index_mut.result.now c.requires.here c.index_mut.ensures.value ∙ kept.0, kid_same g.V.Words.WORDS b.width b.skip b.bytes b.children.items b.population c.requires.level c.args.byte c.args.rest c.requires.fits c.args.place c.index_mut.result.now c.requires.here c.index_mut.ensures.value c.insert_in.new.child kept.1)
+
+pub into_child-add-requires : goal.into_child-add-requires
+into_child-add-requires g t c =
+    let words = g.V.Words.WORDS in
+    let b = c.args.branch.now in
+    let added = subst (λ answer. IsInserted {E = AllocError} c.args.rest c.args.value c.index_mut.result.now c.insert_in.new.child (Ok answer)) c.in-Ok-true.field-0-test c.in-Ok-true.ensures.inserted in
+    let spare = c.requires.room (kid_has words b.width b.skip b.bytes b.children.items b.population c.requires.level c.args.byte c.args.rest c.requires.fits c.args.place c.index_mut.result.now c.requires.here c.index_mut.ensures.value ∙ added.absent) in
+    let all = branch_population words b.width b.skip b.bytes b.children.items b.population c.requires.level in (
+      b.children.items,
+      c.requires.sums,
+      kid_within words b.width b.skip b.bytes b.children.items b.population c.requires.level c.args.byte c.args.rest c.requires.fits c.args.place c.index_mut.result.now c.requires.here c.index_mut.ensures.value,
+      subst (λ n. n < 18446744073709551615) all spare,
+    )
+
+pub into_child-returns-in-Ok-true-clause-sums : goal.into_child-returns-in-Ok-true-clause-sums
+into_child-returns-in-Ok-true-clause-sums g t c =
+    let words = g.V.Words.WORDS in
+    let b = c.args.branch.now in
+    let added = subst (λ answer. IsInserted {E = AllocError} c.args.rest c.args.value c.index_mut.result.now c.insert_in.new.child (Ok answer)) c.in-Ok-true.field-0-test c.in-Ok-true.ensures.inserted in
+    c.add.ensures b.children.items c.insert_in.new.child c.requires.sums
+    (kid_within words b.width b.skip b.bytes b.children.items b.population c.requires.level c.args.byte c.args.rest c.requires.fits c.args.place c.index_mut.result.now c.requires.here c.index_mut.ensures.value)
+    (kid_grown words b.width b.skip b.bytes b.children.items b.population c.requires.level c.args.byte c.args.rest c.requires.fits c.args.place c.index_mut.result.now c.requires.here c.index_mut.ensures.value c.args.value c.insert_in.new.child added c.insert_in.new.child)

@@ -4,6 +4,7 @@ use Rattle.std.proofs.lemmas.Bool.{eqb-true, eqb-false}
 use Rattle.judy_leaf.specs.KeyLists.{low_pairs}
 use Rattle.judy_node.specs.Trees.{IsMap, IsBranch, branch_tree}
 use Rattle.judy_node.specs.Kinds.{tree_of}
+use Rattle.judy_node.specs.Populations.{AreSums}
 use Rattle.judy_node.specs.Built.{sharing, IsBuilt, AreMade}
 use Rattle.judy_node.proofs.Groups.{with_byte-push}
 use Rattle.judy_node.proofs.MadeFacts.{made_none, group_map, group_some, made_more, made_branch, made_built, byte_before, behind_built, one_byte_map, length_none}
@@ -178,11 +179,14 @@ split-returns-in-Ok-new-clause-level g t c =
     let at = c.loop-rest.invariant in
     let b = c.loop-rest.branch in
     let over = length_none c.loop-rest.rest.now (eqb-true (length c.loop-rest.rest.now) 0 (sym c.is_empty.ensures ∙ c.loop-rest-test.false)) in (
-      subst (λ v. IsBranch words v.width v.skip v.bytes v.children.items v.population) (sym c.in-Ok-new.ensures.ok)
-          (subst (λ w. IsBranch words w b.skip b.bytes b.children.items b.population) (sym at.2)
-          (subst (λ s. IsBranch words c.args.below s b.bytes b.children.items b.population) (sym at.1)
-          (subst (λ n. IsBranch words c.args.below [] b.bytes b.children.items n) (sym at.3)
-          (made_branch words c.args.below c.args.pairs.now c.loop-rest.rest.now b.bytes b.children.items at.0.0 at.0.1 over c.requires.width.0 c.requires.width.1 c.requires.more)))),
+      (
+        subst (λ v. IsBranch words v.width v.skip v.bytes v.children.items v.population) (sym c.in-Ok-new.ensures.ok)
+            (subst (λ w. IsBranch words w b.skip b.bytes b.children.items b.population) (sym at.2)
+            (subst (λ s. IsBranch words c.args.below s b.bytes b.children.items b.population) (sym at.1)
+            (subst (λ n. IsBranch words c.args.below [] b.bytes b.children.items n) (sym at.3)
+            (made_branch words c.args.below c.args.pairs.now c.loop-rest.rest.now b.bytes b.children.items at.0.0 at.0.1 over c.requires.width.0 c.requires.width.1 c.requires.more)))),
+        subst (λ v. AreSums v.sums v.children.items) (sym c.in-Ok-new.ensures.ok) c.sums_of_children.ensures,
+      ),
       tt,
     )
 
@@ -202,3 +206,14 @@ pub add_group-split_at-requires : goal.add_group-split_at-requires
 add_group-split_at-requires g t c =
     let bounds = group_some c.args.below c.args.rest.now c.byte_above-byte.result c.group_end-end.result c.requires.some c.byte_above-byte.ensures c.group_end-end.ensures in
     bounds.1
+
+pub split-sums_of_children-requires : goal.split-sums_of_children-requires
+split-sums_of_children-requires g t c =
+    let words = g.V.Words.WORDS in
+    let at = c.loop-rest.invariant in
+    let b = c.loop-rest.branch in
+    let over = length_none c.loop-rest.rest.now (eqb-true (length c.loop-rest.rest.now) 0 (sym c.is_empty.ensures ∙ c.loop-rest-test.false)) in
+    subst (λ w. IsBranch words w b.skip b.bytes b.children.items b.population) (sym at.2)
+    (subst (λ s. IsBranch words c.args.below s b.bytes b.children.items b.population) (sym at.1)
+    (subst (λ n. IsBranch words c.args.below [] b.bytes b.children.items n) (sym at.3)
+    (made_branch words c.args.below c.args.pairs.now c.loop-rest.rest.now b.bytes b.children.items at.0.0 at.0.1 over c.requires.width.0 c.requires.width.1 c.requires.more)))

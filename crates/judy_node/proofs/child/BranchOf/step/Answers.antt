@@ -16,7 +16,7 @@ overflow_mul-front g c =
 pub returns-then-block-front : goal.returns-then-block-front
 returns-then-block-front g c =
     let branch = c.args.self.now in
-    let block = c.without_low-block.ensures ∙ ap (λ w. c.args.key / 256 ^ w) c.from-width.ensures in
+    let block = c.without_tail-block.ensures ∙ ap (λ w. c.args.key / 256 ^ w) c.from-width.ensures in
     let front = c.number-front.ensures in
     let below = c.if-block-front.true in
     below_block c.args.key (256 ^ branch.width) (number_of branch.skip * 256) (unit_pos branch.width) (omega arith)
@@ -27,12 +27,12 @@ returns-in-Some g c =
     let front = ap (λ n. n * 256) c.number-front.ensures in
     let above = c.if-block-front.false in
     let small = c.if-block-front-gt255.false in (
-      key_of (256 ^ branch.width) (number_of branch.skip * 256) c.args.key (c.without_low-block.result - c.number-front.result * 256) c.low_part-rest.result c.without_low-block.result
+      key_of (256 ^ branch.width) (number_of branch.skip * 256) c.args.key (c.without_tail-block.result - c.number-front.result * 256) c.tail-rest.result c.without_tail-block.result
           (unit_pos branch.width)
-          (c.without_low-block.ensures ∙ ap (λ w. c.args.key / 256 ^ w) c.from-width.ensures)
-          (c.low_part-rest.ensures ∙ ap (λ w. c.args.key % 256 ^ w) c.from-width.ensures)
-          (omega arith) (ap (λ n. c.without_low-block.result - n) front) (omega arith),
-      present_place g.V.Words.WORDS branch.width branch.bytes branch.children.items (c.without_low-block.result - c.number-front.result * 256) c.in-Some.place c.requires.parts.children
+          (c.without_tail-block.ensures ∙ ap (λ w. c.args.key / 256 ^ w) c.from-width.ensures)
+          (c.tail-rest.ensures ∙ ap (λ w. c.args.key % 256 ^ w) c.from-width.ensures)
+          (omega arith) (ap (λ n. c.without_tail-block.result - n) front) (omega arith),
+      present_place g.V.Words.WORDS branch.width branch.bytes branch.children.items (c.without_tail-block.result - c.number-front.result * 256) c.in-Some.place c.requires.parts.children
           (sym c.place.ensures ∙ c.in-Some.is),
     )
 
@@ -42,11 +42,11 @@ returns-in-None g c =
     let front = ap (λ n. n * 256) c.number-front.ensures in
     let above = c.if-block-front.false in
     let small = c.if-block-front-gt255.false in (
-      key_of (256 ^ branch.width) (number_of branch.skip * 256) c.args.key (c.without_low-block.result - c.number-front.result * 256) c.low_part-rest.result c.without_low-block.result
+      key_of (256 ^ branch.width) (number_of branch.skip * 256) c.args.key (c.without_tail-block.result - c.number-front.result * 256) c.tail-rest.result c.without_tail-block.result
           (unit_pos branch.width)
-          (c.without_low-block.ensures ∙ ap (λ w. c.args.key / 256 ^ w) c.from-width.ensures)
-          (c.low_part-rest.ensures ∙ ap (λ w. c.args.key % 256 ^ w) c.from-width.ensures)
-          (omega arith) (ap (λ n. c.without_low-block.result - n) front) (omega arith),
-      absent_place branch.bytes (c.without_low-block.result - c.number-front.result * 256) (sym c.place.ensures ∙ c.in-None.is),
+          (c.without_tail-block.ensures ∙ ap (λ w. c.args.key / 256 ^ w) c.from-width.ensures)
+          (c.tail-rest.ensures ∙ ap (λ w. c.args.key % 256 ^ w) c.from-width.ensures)
+          (omega arith) (ap (λ n. c.without_tail-block.result - n) front) (omega arith),
+      absent_place branch.bytes (c.without_tail-block.result - c.number-front.result * 256) (sym c.place.ensures ∙ c.in-None.is),
       c.rank.ensures,
     )

@@ -1,6 +1,7 @@
 use Rattle.std.proofs.Common.{◌≡◌, ◌+◌, ◌-◌, ◌*◌, ◌/◌, ◌^◌, ◌<◌, ◌≤◌, [], ◌∷◌, ◌++◌, sym, ap, ◌∙◌, subst, arith}
 use Rattle.judy_node.specs.Trees.{IsBranch, branch_tree}
 use Rattle.judy_node.specs.Kinds.{IsLevel, tree_of, IsBit, bit_tree, bit_width, behind}
+use Rattle.judy_node.specs.Populations.{AreSums}
 use Rattle.judy_node.proofs.Behind.{bit_behind, bit_behind_tree, bit_number_fits, branch_behind, branch_behind_tree}
 use Rattle.judy_node.proofs.child.KindOf.behind.Goals as goal
 
@@ -67,10 +68,12 @@ returns-in-Branch-clause-level g c =
     let level = subst (λ kind. IsLevel words kind) c.in-Branch.is c.requires.level in
     let room = subst (λ kind. (tree_of words kind).width + 1 ≤ 8) c.in-Branch.is c.requires.width in
     let old = c.in-Branch.branch.value in
-    let skip = c.joined.ensures ∙ (λ t. c.new.ensures t ++ c.args.byte ∷ ap (λ b. b.skip) c.deref.ensures t) in
-    subst (λ s. IsBranch words c.deref_mut.result.now.width s c.deref_mut.result.now.bytes c.deref_mut.result.now.children.items c.deref_mut.result.now.population) (sym skip)
-    (subst (λ b. IsBranch words b.width (c.args.byte ∷ old.skip) b.bytes b.children.items b.population) (sym c.deref_mut.ensures.value)
-    (branch_behind words old.width c.args.byte old.skip old.bytes old.children.items old.population level below room))
+    let skip = c.joined.ensures ∙ (λ t. c.new.ensures t ++ c.args.byte ∷ ap (λ b. b.skip) c.deref.ensures t) in (
+      subst (λ s. IsBranch words c.deref_mut.result.now.width s c.deref_mut.result.now.bytes c.deref_mut.result.now.children.items c.deref_mut.result.now.population) (sym skip)
+          (subst (λ b. IsBranch words b.width (c.args.byte ∷ old.skip) b.bytes b.children.items b.population) (sym c.deref_mut.ensures.value)
+          (branch_behind words old.width c.args.byte old.skip old.bytes old.children.items old.population level.0 below room)),
+      subst (λ b. AreSums b.sums b.children.items) (sym c.deref_mut.ensures.value) level.1,
+    )
 
 pub returns-in-Branch-clause-tree : goal.returns-in-Branch-clause-tree
 returns-in-Branch-clause-tree g c =

@@ -1,4 +1,4 @@
-use Rattle.std.proofs.Common.{sym, ◌∙◌, ◌≡◌, ◌^◌, ◌+◌, ◌-◌, suc, ap, arith}
+use Rattle.std.proofs.Common.{sym, ◌∙◌, ◌≡◌, ◌^◌, ◌-◌, suc, ap, arith}
 use Rattle.std.specs.Cmp.{nat_cmp_total}
 use Rattle.std.specs.Option.{option_map}
 use Rattle.judy_model.specs.Counts.{by_count}

@@ -1,6 +1,6 @@
 use Rattle.std.proofs.Common.{arith}
 use Rattle.judy_node.proofs.Counts.{population-step, population-within}
-use Rattle.judy_node.proofs.branch.population_of.Goals as goal
+use Rattle.judy_node.proofs.populations.population_of.Goals as goal
 
 pub overflow_add-sum : goal.overflow_add-sum
 overflow_add-sum g c =

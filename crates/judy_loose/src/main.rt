@@ -1,0 +1,91 @@
+//! The program `judy_loose`: plays worked rows on a set of words, tells what nodes it has and what it answers, and prints that.
+//!
+//! Scripts show no nodes, and a set becomes loose only where memory is refused to it. So `tools/try_loose.py` runs this program with its
+//! calls for memory refused in turn, and compares what it prints with a plain set.
+#![tactic(auto)]
+
+ghost use Rattle.std.specs.Prelude.{◌≡◌, ◌⊎◌};
+ghost use Rattle.judy_model.specs.Arrays as array;
+
+mod told;
+
+use crate::told::tell;
+use judy_word::{InsertError, Judy1};
+use std::io;
+
+// More keys than the set is given: what it may lack is memory.
+const LIMIT: u64 = 1000;
+
+// So many keys that differ in their last byte alone are a leaf, and one more makes that a bitmap leaf.
+const LEAF_LEN: u64 = 32;
+
+// 2^56: a key whose first byte is none of theirs.
+const FAR: u64 = 72057594037927936;
+
+fn main(rt: HostRuntime) -> io::Result<()> {
+    let mut set = Judy1::new(rt.alloc(), LIMIT);
+    for word in 0..LEAF_LEN {
+        put(&rt, &mut set, word)?;
+    }
+    tell(&rt, &set)?;
+    loose_and_tidy(&rt, &mut set)?;
+    skip_and_merge(&rt, &mut set)
+}
+
+// The key that is one too many for a leaf, put in and taken out, and then the nodes made tight. What memory may be refused to is done twice.
+fn loose_and_tidy(rt: &impl Print, set: &mut Judy1) -> io::Result<()> {
+    for _ in 0..2 {
+        put(rt, set, LEAF_LEN)?;
+        tell(rt, set)?;
+    }
+    take(rt, set, LEAF_LEN)?;
+    tell(rt, set)?;
+    for _ in 0..2 {
+        tidy(rt, set)?;
+        tell(rt, set)?;
+    }
+    Ok(())
+}
+
+// A branch above the bitmap leaf, which comes with a key and goes with it.
+fn skip_and_merge(rt: &impl Print, set: &mut Judy1) -> io::Result<()> {
+    put(rt, set, LEAF_LEN)?;
+    for _ in 0..2 {
+        put(rt, set, FAR)?;
+        tell(rt, set)?;
+    }
+    take(rt, set, FAR)?;
+    tell(rt, set)
+}
+
+// Puts a key in, or leaves the set as it was.
+fn put(rt: &impl Print, set: &mut Judy1, word: u64) -> io::Result<()>
+    ensures { (set.new ≡ set.old) ⊎ (set.new ≡ array.with_map set.old (array.ins set.old.map word)) }
+{
+    let answer = match set.set(word) {
+        Ok(true) => "1",
+        Ok(false) => "0",
+        Err(InsertError::Full) => "full",
+        Err(InsertError::NoMemory) => "no-memory",
+    };
+    println!(rt; "set {word}: {answer}")
+}
+
+// Takes a key out, whatever memory there is.
+fn take(rt: &impl Print, set: &mut Judy1, word: u64) -> io::Result<()>
+    ensures { set.new ≡ array.with_map set.old (array.del set.old.map word) }
+{
+    let answer = u8::from(set.unset(word));
+    println!(rt; "unset {word}: {answer}")
+}
+
+// Makes the nodes tight, or leaves them; the keys stay.
+fn tidy(rt: &impl Print, set: &mut Judy1) -> io::Result<()>
+    ensures { set.new ≡ set.old }
+{
+    let answer = match set.tidy() {
+        Ok(()) => "ok",
+        Err(_) => "no-memory",
+    };
+    println!(rt; "tidy: {answer}")
+}

@@ -1,0 +1,137 @@
+//! A walk through the pairs of a tree by ascending key, which remembers its way.
+
+ghost use Rattle.std.specs.Prelude.{◌≡◌, ◌+◌, ◌^◌, ◌<◌, ◌≤◌, [], ◌++◌, length, drop};
+ghost use Rattle.judy_bits.specs.ByteSets as set;
+ghost use Rattle.judy_leaf.specs.KeyLists.{shift, keys_of};
+ghost use Rattle.judy_node.specs.Views.{view_pairs};
+ghost use Rattle.judy_query.specs.Parts.{IsShown, width_of};
+ghost use Rattle.judy_query.specs.Turns.{IsTurn};
+ghost use Rattle.judy_query.specs.Walks.{rest_of_turn, waiting, AreTurns};
+
+use crate::branches::{reached, start_of};
+use crate::ends::rank_in;
+use crate::stretch::Stretch;
+use crate::turns::Turn;
+use crate::waiting::{Turns, keep, take};
+use arrayvec::ArrayVec;
+use judy_bits::Meter;
+use judy_leaf::Words;
+use judy_node::{NodeOf, Step, ViewOf};
+use std::iter::Iterator;
+use std::marker::Model;
+
+/// The pairs of a tree that are still to come, by ascending key: each is a key with its value, 0 where keys have no values. A step
+/// inside a node enters none, and a step to another one enters the nodes between the branch that both are below and that node. To its
+/// callers it is the list of those pairs.
+#[derive(Drop)]
+pub struct Walk<'a, V: Words + Drop> {
+    stretch: Stretch<'a, V>,
+    turns: Turns<'a, V>,
+}
+
+impl<'a, V: Words + Drop> Model for Walk<'a, V> {
+    ghost use Rattle.std.specs.Prelude.{ℕ, List, ◌++◌};
+    ghost use Rattle.judy_query.specs.Walks.{waiting, AreTurns};
+
+    ghost Value = { List (ℕ × ℕ) };
+
+    ghost view = { λ a. a.stretch ++ waiting a.turns.items };
+
+    ghost invariant = { λ a. AreTurns V.WORDS 0 a.turns.items };
+}
+
+impl<'a, V: Words + Drop> Walk<'a, V> {
+    /// The pairs of a tree whose keys aren't below a word.
+    pub fn from_key(tree: &'a NodeOf<V>, key: u64) -> Walk<'a, V>
+        ensures { result ≡ drop (set.rank (keys_of tree.now.pairs) key) tree.now.pairs }
+    {
+        seek(tree, key, ArrayVec::new())
+    }
+}
+
+impl<'a, V: Words + Drop> Iterator for Walk<'a, V> {
+    ghost use Rattle.std.specs.Iterator.{YieldsFirst, item_count};
+
+    type Item = (u64, u64);
+
+    ghost next_gives = { YieldsFirst (λ pairs. pairs) };
+
+    ghost remaining = { item_count (λ pairs. pairs) };
+
+    fn next(&mut self) -> Option<(u64, u64)> {
+        let pair = self.stretch.next();
+        if pair.is_some() {
+            return pair;
+        }
+        let turn = take(&mut self.turns)?;
+        self.stretch = first_from(turn, &mut self.turns);
+        self.stretch.next()
+    }
+}
+
+// The pairs of a tree whose keys aren't below a word; no turns are kept so far.
+fn seek<'a, V: Words + Drop>(tree: &'a NodeOf<V>, key: u64, mut turns: Turns<'a, V>) -> Walk<'a, V>
+    requires { turns.items ≡ [] }
+    ensures { result ≡ drop (set.rank (keys_of tree.now.pairs) key) tree.now.pairs }
+{
+    tree.told();
+    let mut view = tree.enter(&mut Meter::new());
+    let mut left = key;
+    'down: while let ViewOf::Branch(branch) = view {
+        let step = branch.step(left);
+        keep(branch, reached(branch, step), key - left, &mut turns);
+        let Step::Child(_, place, rest) = step else {
+            let stretch = Stretch::new(ViewOf::Null, 0, 0);
+            return Walk { stretch, turns };
+        };
+        left = rest;
+        view = branch.children[place].enter(branch.width, &mut Meter::new());
+    }
+    let at = rank_in(&view, left);
+    let stretch = Stretch::new(view, key - left, at);
+    Walk { stretch, turns }
+}
+
+// The pairs of the first node without children among those that a turn leads to; the others are kept.
+fn first_from<'a, V: Words + Drop>(turn: Turn<'a, V>, turns: &mut Turns<'a, V>) -> Stretch<'a, V>
+    requires turn { IsTurn V.WORDS turn }
+    requires turns { AreTurns V.WORDS 0 turns.old.items }
+    requires room { length turns.old.items + 1 + turn.branch.now.width ≤ 8 }
+    ensures turns { AreTurns V.WORDS 0 turns.new.items }
+    ensures pairs { result ++ waiting turns.new.items ≡ rest_of_turn turn.entry ++ waiting turns.old.items }
+    ensures some { 0 < length result }
+{
+    let Turn {
+        branch,
+        place,
+        base,
+    } = turn;
+    keep(branch, place + 1, base, turns);
+    let view = branch.children[place].enter(branch.width, &mut Meter::new());
+    first_of(view, base + start_of(branch, place), turns)
+}
+
+// The pairs of the first node without children below a node that was entered; the others are kept.
+fn first_of<'a, V: Words + Drop>(
+    top: ViewOf<'a, V>,
+    start: u64,
+    turns: &mut Turns<'a, V>,
+) -> Stretch<'a, V>
+    requires shown { IsShown V.WORDS top }
+    requires fits { start + 256 ^ width_of top ≤ 256 ^ 8 }
+    requires some { 0 < length (view_pairs top) }
+    requires turns { AreTurns V.WORDS 0 turns.old.items }
+    requires room { length turns.old.items + width_of top ≤ 8 }
+    ensures turns { AreTurns V.WORDS 0 turns.new.items }
+    ensures pairs { result ++ waiting turns.new.items ≡ shift start (view_pairs top.entry) ++ waiting turns.old.items }
+    ensures some { 0 < length result }
+{
+    let mut view = top;
+    let mut base = start;
+    'down: while let ViewOf::Branch(branch) = view {
+        keep(branch, 1, base, turns);
+        base += start_of(branch, 0);
+        view = branch.children[0].enter(branch.width, &mut Meter::new());
+    }
+    Stretch::new(view, base, 0)
+}

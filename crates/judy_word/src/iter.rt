@@ -1,0 +1,124 @@
+// The keys of an array, one after another, and how an array is printed.
+ghost use Rattle.std.specs.Prelude.{◌≡◌, drop};
+ghost use Rattle.std.specs.FinMap as map;
+ghost use Rattle.judy_model.specs.Counts as counts;
+
+use crate::judy1::Judy1;
+use crate::judyl::JudyL;
+use judy_leaf::Width;
+use judy_query::Walk;
+use std::fmt::{Debug, Formatter, Result, Write};
+use std::iter::{IntoIterator, Iterator};
+use std::marker::Model;
+
+/// The keys of a map with their values that are still to come, by ascending key: to its callers it is their list.
+pub type Entries<'a> = Walk<'a, Width<1>>;
+
+/// The keys of a set that are still to come, by ascending order: to its callers it is their list.
+#[derive(Drop)]
+pub struct Keys<'a> {
+    pub(crate) walk: Walk<'a, Width<0>>,
+}
+
+impl<'a> Model for Keys<'a> {
+    ghost use Rattle.std.specs.Prelude.{ℕ, List};
+    ghost use Rattle.judy_leaf.specs.KeyLists.{keys_of};
+
+    ghost Value = { List ℕ };
+
+    ghost view = { λ a. keys_of a.walk };
+}
+
+impl<'a> Iterator for Keys<'a> {
+    ghost use Rattle.std.specs.Iterator.{YieldsFirst, item_count};
+
+    type Item = u64;
+
+    ghost next_gives = { YieldsFirst (λ keys. keys) };
+
+    ghost remaining = { item_count (λ keys. keys) };
+
+    fn next(&mut self) -> Option<u64> {
+        let (key, _) = self.walk.next()?;
+        Some(key)
+    }
+}
+
+impl Judy1 {
+    /// The keys by ascending order, one after another. A step to the next key begins where the last one ended, not at the root.
+    pub fn iter(&self) -> Keys<'_>
+        ensures { result ≡ map.keys self.now.map }
+    {
+        Keys {
+            walk: self.tree().iter(),
+        }
+    }
+
+    /// The same from the first key that isn't below `i`.
+    pub fn iter_from(&self, i: u64) -> Keys<'_>
+        ensures { result ≡ drop (counts.rank self.now.map i) (map.keys self.now.map) }
+    {
+        Keys {
+            walk: self.tree().iter_from(i),
+        }
+    }
+}
+
+impl JudyL {
+    /// The keys with their values, by ascending key, one after another. A step to the next key begins where the last one ended, not at
+    /// the root.
+    pub fn iter(&self) -> Entries<'_>
+        ensures { result ≡ map.entries self.now.map }
+    {
+        self.tree().iter()
+    }
+
+    /// The same from the first key that isn't below `i`.
+    pub fn iter_from(&self, i: u64) -> Entries<'_>
+        ensures { result ≡ drop (counts.rank self.now.map i) (map.entries self.now.map) }
+    {
+        self.tree().iter_from(i)
+    }
+}
+
+impl<'a> IntoIterator for &'a Judy1 {
+    type Item = u64;
+
+    type IntoIter = Keys<'a>;
+
+    ghost into_iter_gives = { λ set keys. keys ≡ map.keys set.now.map };
+
+    fn into_iter(self) -> Keys<'a> {
+        self.iter()
+    }
+}
+
+impl<'a> IntoIterator for &'a JudyL {
+    type Item = (u64, u64);
+
+    type IntoIter = Entries<'a>;
+
+    ghost into_iter_gives = { λ array entries. entries ≡ map.entries array.now.map };
+
+    fn into_iter(self) -> Entries<'a> {
+        self.iter()
+    }
+}
+
+/// The keys as a set is printed: `{1, 5}`.
+impl Debug for Judy1 {
+    fn fmt<W: Write>(&self, f: &mut Formatter<W>) -> Result {
+        f.debug_set().entries(self.iter()).finish()
+    }
+}
+
+/// The keys with their values as a map is printed: `{1: 10, 5: 50}`.
+impl Debug for JudyL {
+    fn fmt<W: Write>(&self, f: &mut Formatter<W>) -> Result {
+        let mut out = f.debug_map();
+        for (key, value) in self {
+            out.entry(&key, &value);
+        }
+        out.finish()
+    }
+}
