@@ -1,5 +1,5 @@
 -- A pair put into a tree.
-use Rattle.std.specs.Prelude.{◌≡◌, ◌≢◌, ℕ, ◌+◌, ◌/◌, ◌^◌, Bool, true, false, Result, Ok, Err}
+use Rattle.std.specs.Prelude.{◌≡◌, ◌≢◌, ℕ, ◌+◌, ◌/◌, ◌^◌, ◌≤◌, Bool, true, false, Result, Ok, Err}
 use Rattle.judy_bits.specs.ByteSets.{has}
 use Rattle.judy_leaf.specs.KeyLists.{keys_of, with_pair}
 use Rattle.judy_model.specs.WordBytes.{number_of}
@@ -24,9 +24,9 @@ IsInserted key value old new (Ok true) = IsAdded key value old new
 IsInserted key value old new (Ok false) = (has_key key old ≡ true) × (new ≡ old)
 IsInserted key value old new (Err refused) = (has_key key old ≡ false) × (new ≡ old)
 
--- A key doesn't belong below a node that is a branch: it doesn't begin with the bytes that the branch skips.
+-- A key has no room in a node: a leaf is full, or the key doesn't begin with the bytes that a bitmap leaf or a branch skips.
 abbrev pub IsPast : {V : _} → ℕ → KindOf V → Type 0
 IsPast key (Imm head word) = Unit {0}
-IsPast key (Leaf count block) = Unit {0}
-IsPast key (Bit skipped block) = Unit {0}
+IsPast key (Leaf count block) = 32 ≤ count
+IsPast key (Bit skipped block) = key / 256 ≢ skipped
 IsPast key (Branch b) = key / 256 ^ (1 + b.value.width) ≢ number_of b.value.skip

@@ -8,7 +8,7 @@ ghost use Rattle.judy_change.specs.Inserted.{IsInserted};
 
 use judy_bits::low_part;
 use judy_block::Block;
-use judy_leaf::{BitLeafOf, Words};
+use judy_leaf::{BitLeafOf, BitRef, Words, put_in_bit_leaf};
 use judy_node::{Head, KindOf};
 use std::alloc::{AllocError, Global};
 
@@ -22,31 +22,30 @@ pub(crate) fn bitmap_kind<V: Words + Drop>(head: Head, bits: BitLeafOf<V>) -> Ki
     KindOf::Bit(head, bits.into_parts())
 }
 
-// Puts a key with its value into a bitmap leaf; the key begins with the bytes that the leaf skips.
+// Puts a key with its value into a bitmap leaf, where the leaf stands; the key begins with the bytes that the leaf skips.
 pub(crate) fn into_bitmap<V: Words + Drop>(
     alloc: Global,
-    head: Head,
-    block: Block,
+    head: &Head,
+    block: &mut Block,
     width: u8,
     key: u64,
     value: u64,
-) -> (KindOf<V>, Result<bool, AllocError>)
-    requires level { IsBit V.WORDS head block }
-    requires child { IsChild V.WORDS width (bit_tree V.WORDS head block) }
+) -> Result<bool, AllocError>
+    requires level { IsBit V.WORDS head.now block.old }
+    requires child { IsChild V.WORDS width (bit_tree V.WORDS head.now block.old) }
     requires fits { key < 256 ^ width }
-    requires along { key / 256 ≡ head }
+    requires along { key / 256 ≡ head.now }
     requires no_value { V.WORDS ≡ 0 → value ≡ 0 }
-    ensures level { IsLevel V.WORDS result.0 }
-    ensures child { IsChild V.WORDS width (tree_of V.WORDS result.0) }
-    ensures inserted { IsInserted key value (bit_tree V.WORDS head block) (tree_of V.WORDS result.0) result.1 }
+    ensures level { IsBit V.WORDS head.now block.new }
+    ensures child { IsChild V.WORDS width (bit_tree V.WORDS head.now block.new) }
+    ensures inserted { IsInserted key value (bit_tree V.WORDS head.now block.old) (bit_tree V.WORDS head.now block.new) result }
 {
-    let byte = low_part(key, 1);
-    let mut bits = BitLeafOf::<V>::of_parts(block);
-    if bits.reading().find(byte).is_some() {
-        return (bitmap_kind(head, bits), Ok(false));
-    }
-    match bits.insert_pair(alloc, byte, value) {
-        Ok(()) => (bitmap_kind(head, bits), Ok(true)),
-        Err(refused) => (bitmap_kind(head, bits), Err(refused)),
+    let byte = low_part(key, 1) as u8;
+    match BitRef::<V>::new(block).search(byte) {
+        Ok(_) => Ok(false),
+        Err(at) => match put_in_bit_leaf::<V>(alloc, block, at, byte, value) {
+            Ok(()) => Ok(true),
+            Err(refused) => Err(refused),
+        },
     }
 }

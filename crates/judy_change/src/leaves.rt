@@ -1,17 +1,18 @@
 //! Inserts that end at a leaf.
 
-ghost use Rattle.std.specs.Prelude.{◌≡◌, ◌^◌, ◌<◌, ◌≤◌, length, IsFalse};
+ghost use Rattle.std.specs.Prelude.{◌≡◌, ◌^◌, ◌<◌, ◌≤◌, false, length, IfOk};
 ghost use Rattle.judy_bits.specs.ByteSets as set;
 ghost use Rattle.judy_model.specs.Shapes.{immediate_limit};
-ghost use Rattle.judy_leaf.specs.KeyLists.{keys_of};
+ghost use Rattle.judy_leaf.specs.KeyLists.{keys_of, with_pair};
 ghost use Rattle.judy_node.specs.Trees.{IsChild};
 ghost use Rattle.judy_node.specs.Kinds.{tree_of, leaf_tree, IsLevel, IsLeaf};
+ghost use Rattle.judy_node.specs.Built.{IsBuilt};
 ghost use Rattle.judy_change.specs.LeafTrees.{one_leaf};
 ghost use Rattle.judy_change.specs.Inserted.{IsInserted};
 
 use crate::gap::put_at;
 use judy_block::Block;
-use judy_leaf::{LeafOf, Words};
+use judy_leaf::{LeafOf, LeafRef, Words, put_in_leaf};
 use judy_node::{KindOf, kind_of_sorted};
 use std::alloc::{AllocError, Global};
 
@@ -25,8 +26,35 @@ pub(crate) fn leaf_kind<V: Words + Drop>(leaf: LeafOf<V>) -> KindOf<V>
     KindOf::Leaf(count, block)
 }
 
-// Puts a key with its value into a leaf; where the leaf is full, a larger node takes its place.
+// Puts a key with its value into a leaf that isn't full, where the leaf stands.
 pub(crate) fn into_leaf<V: Words + Drop>(
+    alloc: Global,
+    count: &mut u8,
+    block: &mut Block,
+    width: u8,
+    key: u64,
+    value: u64,
+) -> Result<bool, AllocError>
+    requires level { IsLeaf V.WORDS count.old block.old }
+    requires child { IsChild V.WORDS width (leaf_tree V.WORDS count.old block.old) }
+    requires room { count.old < 32 }
+    requires fits { key < 256 ^ width }
+    requires no_value { V.WORDS ≡ 0 → value ≡ 0 }
+    ensures level { IsLeaf V.WORDS count.new block.new }
+    ensures child { IsChild V.WORDS width (leaf_tree V.WORDS count.new block.new) }
+    ensures inserted { IsInserted key value (leaf_tree V.WORDS count.old block.old) (leaf_tree V.WORDS count.new block.new) result }
+{
+    match LeafRef::<V>::new(*count, width, block).search(key) {
+        Ok(_) => Ok(false),
+        Err(at) => match put_in_leaf::<V>(alloc, count, block, width, at, key, value) {
+            Ok(()) => Ok(true),
+            Err(refused) => Err(refused),
+        },
+    }
+}
+
+// Puts a key with its value into a full leaf, whose place a larger node takes. Where memory is short, the leaf stays.
+pub(crate) fn into_full_leaf<V: Words + Drop>(
     alloc: Global,
     count: u8,
     block: Block,
@@ -37,49 +65,46 @@ pub(crate) fn into_leaf<V: Words + Drop>(
     requires one { V.WORDS ≤ 1 }
     requires level { IsLeaf V.WORDS count block }
     requires child { IsChild V.WORDS width (leaf_tree V.WORDS count block) }
+    requires full { 32 ≤ count }
     requires fits { key < 256 ^ width }
     requires no_value { V.WORDS ≡ 0 → value ≡ 0 }
     ensures level { IsLevel V.WORDS result.0 }
     ensures child { IsChild V.WORDS width (tree_of V.WORDS result.0) }
     ensures inserted { IsInserted key value (leaf_tree V.WORDS count block) (tree_of V.WORDS result.0) result.1 }
 {
-    let mut leaf = LeafOf::<V>::of_parts(count, block);
-    if leaf.reading().find(key).is_some() {
-        return (leaf_kind(leaf), Ok(false));
-    }
-    if count == 32 {
-        return past_leaf(alloc, leaf, width, key, value);
-    }
-    match leaf.insert_pair(alloc, key, value) {
-        Ok(()) => (leaf_kind(leaf), Ok(true)),
-        Err(refused) => (leaf_kind(leaf), Err(refused)),
+    match LeafRef::<V>::new(count, width, &block).search(key) {
+        Ok(_) => (KindOf::Leaf(count, block), Ok(false)),
+        Err(at) => {
+            let full = LeafRef::<V>::new(count, width, &block);
+            match past_leaf(alloc, full, width, at, key, value) {
+                Ok(kind) => (kind, Ok(true)),
+                Err(refused) => (KindOf::Leaf(count, block), Err(refused)),
+            }
+        }
     }
 }
 
-// The node of a full leaf's keys and one more. Where memory is short, the leaf stays.
+// The node of a full leaf's pairs and one more, with the place of its key.
 fn past_leaf<V: Words + Drop>(
     alloc: Global,
-    full: LeafOf<V>,
+    full: LeafRef<'_, V>,
     width: u8,
+    at: usize,
     key: u64,
     value: u64,
-) -> (KindOf<V>, Result<bool, AllocError>)
+) -> Result<KindOf<V>, AllocError>
     requires one { V.WORDS ≤ 1 }
     requires full { length full.pairs ≡ 32 }
     requires child { IsChild V.WORDS width (one_leaf full) }
-    requires absent { IsFalse (set.has (keys_of full.pairs) key) }
+    requires absent { set.has (keys_of full.pairs) key ≡ false }
+    requires place { at ≡ set.rank (keys_of full.pairs) key }
     requires fits { key < 256 ^ width }
     requires no_value { V.WORDS ≡ 0 → value ≡ 0 }
-    ensures level { IsLevel V.WORDS result.0 }
-    ensures child { IsChild V.WORDS width (tree_of V.WORDS result.0) }
-    ensures inserted { IsInserted key value (one_leaf full) (tree_of V.WORDS result.0) result.1 }
+    ensures level { IfOk result (λ kind. IsLevel V.WORDS kind) }
+    ensures built { IfOk result (λ kind. IsBuilt V.WORDS width (with_pair key value full.entry.pairs) (tree_of V.WORDS kind)) }
 {
-    let at = full.reading().rank(key);
     let mut pairs = [(0, 0); 33];
-    full.reading().fill(0, &mut pairs[..32]);
+    full.fill(0, &mut pairs[..32]);
     put_at(&mut pairs, at, (key, value));
-    match kind_of_sorted(alloc, width, &pairs) {
-        Ok(kind) => (kind, Ok(true)),
-        Err(refused) => (leaf_kind(full), Err(refused)),
-    }
+    kind_of_sorted(alloc, width, &pairs)
 }

@@ -5,12 +5,12 @@ ghost use Rattle.judy_model.specs.WordBytes.{number_of};
 ghost use Rattle.judy_node.specs.Trees.{IsChild, IsBranch, branch_tree};
 ghost use Rattle.judy_node.specs.Populations.{AreSums};
 ghost use Rattle.judy_node.specs.Kinds.{tree_of, bit_tree, IsLevel, IsBit};
-ghost use Rattle.judy_change.specs.Removals.{IsWhole, width_of, tree_below};
+ghost use Rattle.judy_change.specs.Removals.{IsWhole, IsChildless, width_of, tree_below};
 ghost use Rattle.judy_change.specs.Inserted.{has_key, IsInserted, IsPast};
 
 use crate::bitmaps::into_bitmap;
 use crate::immediates::into_immediate;
-use crate::leaves::into_leaf;
+use crate::leaves::{into_full_leaf, into_leaf};
 use crate::put::put_child;
 use crate::split::{Skipped, split};
 use judy_bits::without_low;
@@ -40,7 +40,7 @@ pub(crate) fn insert_in<V: Words + Drop>(
     into_kind(alloc, child.place.kind_mut(), width, key, value)
 }
 
-// The same by the node's kind. A branch on the key's way is changed where it stands.
+// The same by the node's kind. A branch on the key's way and a leaf that stays a leaf are changed where they stand.
 #[cycle(insert)]
 fn into_kind<V: Words + Drop>(
     alloc: Global,
@@ -65,11 +65,49 @@ fn into_kind<V: Words + Drop>(
             Step::Missing(byte, _, rest) => put_child(alloc, branch, byte, rest, value),
             Step::Below | Step::Above => replaced(alloc, kind, width, key, value),
         },
+        _ => into_childless(alloc, kind, width, key, value),
+    }
+}
+
+// The same for a node without children.
+fn into_childless<V: Words + Drop>(
+    alloc: Global,
+    kind: &mut KindOf<V>,
+    width: u8,
+    key: u64,
+    value: u64,
+) -> Result<bool, AllocError>
+    requires one { V.WORDS ≤ 1 }
+    requires level { IsLevel V.WORDS kind.old }
+    requires child { IsChild V.WORDS width (tree_of V.WORDS kind.old) }
+    requires childless { IsChildless kind.old }
+    requires fits { key < 256 ^ width }
+    requires no_value { V.WORDS ≡ 0 → value ≡ 0 }
+    requires room { has_key key (tree_of V.WORDS kind.old) ≡ false → length (tree_of V.WORDS kind.old).pairs < 2 ^ 64 - 1 }
+    ensures level { IsLevel V.WORDS kind.new }
+    ensures child { IsChild V.WORDS width (tree_of V.WORDS kind.new) }
+    ensures inserted { IsInserted key value (tree_of V.WORDS kind.old) (tree_of V.WORDS kind.new) result }
+{
+    match kind {
+        KindOf::Leaf(count, block) => {
+            if *count < 32 {
+                into_leaf::<V>(alloc, count, block, width, key, value)
+            } else {
+                replaced(alloc, kind, width, key, value)
+            }
+        }
+        KindOf::Bit(head, block) => {
+            if without_low(key, 1) == head.number() {
+                into_bitmap::<V>(alloc, head, block, width, key, value)
+            } else {
+                replaced(alloc, kind, width, key, value)
+            }
+        }
         _ => replaced(alloc, kind, width, key, value),
     }
 }
 
-// The same for a node that may become one of another kind. If it is a branch, it skips other bytes than the key begins with.
+// The same for a node that may become one of another kind: an immediate, or a node in which the key has no room.
 fn replaced<V: Words + Drop>(
     alloc: Global,
     kind: &mut KindOf<V>,
@@ -115,14 +153,14 @@ fn replacement<V: Words + Drop>(
 {
     match kind {
         KindOf::Imm(head, word) => into_immediate(alloc, head, word, width, key, value),
-        KindOf::Leaf(count, block) => into_leaf(alloc, count, block, width, key, value),
-        KindOf::Bit(head, block) => into_bit(alloc, head, block, width, key, value),
+        KindOf::Leaf(count, block) => into_full_leaf(alloc, count, block, width, key, value),
+        KindOf::Bit(head, block) => past_bit(alloc, head, block, width, key, value),
         KindOf::Branch(branch) => past_branch(alloc, branch, key, value),
     }
 }
 
-// The same for a bitmap leaf, or for a branch above it where the key doesn't begin with the bytes that it skips.
-fn into_bit<V: Words + Drop>(
+// Puts a key with its value beside a bitmap leaf that skips other bytes than the key begins with.
+fn past_bit<V: Words + Drop>(
     alloc: Global,
     head: Head,
     block: Block,
@@ -134,15 +172,13 @@ fn into_bit<V: Words + Drop>(
     requires level { IsBit V.WORDS head block }
     requires child { IsChild V.WORDS width (bit_tree V.WORDS head block) }
     requires fits { key < 256 ^ width }
+    requires apart { key / 256 ≢ head }
     requires no_value { V.WORDS ≡ 0 → value ≡ 0 }
     requires room { has_key key (bit_tree V.WORDS head block) ≡ false → length (bit_tree V.WORDS head block).pairs < 2 ^ 64 - 1 }
     ensures level { IsLevel V.WORDS result.0 }
     ensures child { IsChild V.WORDS width (tree_of V.WORDS result.0) }
     ensures inserted { IsInserted key value (bit_tree V.WORDS head block) (tree_of V.WORDS result.0) result.1 }
 {
-    if without_low(key, 1) == head.number() {
-        return into_bitmap(alloc, head, block, width, key, value);
-    }
     let skipped = Skipped {
         number: head.number(),
         count: width - 1,

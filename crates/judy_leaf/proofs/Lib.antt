@@ -9,6 +9,7 @@ pub mod ListEdits
 pub mod KeyEdits
 pub mod LeafLists
 pub mod Nearest
+pub mod Searched
 pub mod PairLists
 pub mod ValueSteps
 pub mod PairSteps

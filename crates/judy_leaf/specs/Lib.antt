@@ -9,3 +9,4 @@ pub mod Immediates
 pub mod BitLeaves
 pub mod BitChanges
 pub mod Nearby
+pub mod Searches

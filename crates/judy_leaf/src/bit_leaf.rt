@@ -7,9 +7,10 @@ ghost use Rattle.judy_leaf.specs.Packing.{IsWidth};
 ghost use Rattle.judy_leaf.specs.KeyLists.{keys_of, values_of, with_pair, with_value_at, low_pairs, IsKeyList};
 ghost use Rattle.judy_leaf.specs.BitLeaves.{IsBitParts, bit_list};
 
+use crate::bit_edit;
 use crate::bit_ref::BitRef;
+use crate::in_place::put_in_bit_leaf;
 use crate::words::{Width, Words};
-use crate::{bit_edit, pairs};
 use judy_block::Block;
 use std::alloc::{AllocError, Global};
 use std::marker::{Model, PhantomData};
@@ -41,7 +42,7 @@ impl<V: Words + Drop> Model for BitLeafOf<V> {
 
 // The capacity of a block that has so many keys: with their values room for half as many more, and 16 at least, but
 // for 256 at most.
-fn capacity_for<V: Words + Drop>(count: usize) -> usize
+pub(crate) fn capacity_for<V: Words + Drop>(count: usize) -> usize
     requires one { V.WORDS ≤ 1 }
     requires count { count ≤ 256 }
     ensures enough { 4 + V.WORDS * count ≤ result }
@@ -106,11 +107,7 @@ impl<V: Words + Drop> BitLeafOf<V> {
         ensures unchanged { OnErr result (self.new ≡ self.old) }
     {
         let at = self.reading().rank(key);
-        let count = self.reading().len() + 1;
-        let needed = 4 + V::WORDS * count;
-        pairs::give_room(&mut self.block, alloc, needed, capacity_for::<V>(count))?;
-        bit_edit::put::<V>(&mut self.block, at, key as u8, value);
-        Ok(())
+        put_in_bit_leaf::<V>(alloc, &mut self.block, at, key as u8, value)
     }
 
     /// Takes the key at a place out, with its value. No memory is asked for.

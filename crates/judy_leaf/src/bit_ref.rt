@@ -9,6 +9,7 @@ ghost use Rattle.judy_bits.specs.ByteSets.{IsByteSet};
 ghost use Rattle.judy_leaf.specs.KeyLists.{keys_of, values_of, IsKeyList};
 ghost use Rattle.judy_leaf.specs.BitLeaves.{IsBitParts, bit_list};
 ghost use Rattle.judy_leaf.specs.Nearby.{pair_from, pair_up_to, is_absent};
+ghost use Rattle.judy_leaf.specs.Searches.{IsSearched};
 
 use crate::words::{Width, Words};
 use judy_bits::Bits256;
@@ -116,6 +117,15 @@ impl<'a, V: Words + Drop> BitRef<'a, V> {
         } else {
             None
         }
+    }
+
+    /// The place of a byte, or, where it isn't one of the keys, the place that it would have.
+    pub fn search(&self, byte: u8) -> Result<usize, usize>
+        ensures { IsSearched (keys_of self.now.pairs) byte result }
+    {
+        let bits = self.bits();
+        let at = bits.rank(byte);
+        if bits.has(byte) { Ok(at) } else { Err(at) }
     }
 
     /// The key at a place, counted from 0.

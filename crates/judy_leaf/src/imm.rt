@@ -9,6 +9,7 @@ ghost use Rattle.judy_leaf.specs.Packing.{IsWidth};
 ghost use Rattle.judy_leaf.specs.KeyLists.{keys_of, values_of, low_pairs, with_pair, with_value_at, IsKeyList};
 ghost use Rattle.judy_leaf.specs.Immediates.{imm_room, parts_list, IsImmParts};
 ghost use Rattle.judy_leaf.specs.Nearby.{pair_from, pair_up_to, is_absent};
+ghost use Rattle.judy_leaf.specs.Searches.{IsSearched};
 
 use crate::one_word;
 use crate::words::{Width, Words};
@@ -117,6 +118,17 @@ impl<V: Words + Drop> ImmOf<V> {
         ensures { result ≡ set.place (keys_of self.now.pairs) key }
     {
         one_word::find(self.width, usize::from(self.count), self.keys, key)
+    }
+
+    /// The place of a key, or, where the word isn't one of the keys, the place that it would have.
+    pub fn search(&self, key: u64) -> Result<usize, usize>
+        ensures { IsSearched (keys_of self.now.pairs) key result }
+    {
+        let count = usize::from(self.count);
+        match one_word::next(self.width, count, self.keys, key) {
+            Some((at, found)) => { if found == key { Ok(at) } else { Err(at) } }
+            None => Err(count),
+        }
     }
 
     /// The key at a place, counted from 0.

@@ -6,6 +6,7 @@ ghost use Rattle.judy_bits.specs.ByteSets as set;
 ghost use Rattle.judy_leaf.specs.KeyLists.{keys_of, values_of, with_pair, with_value_at, low_pairs, IsKeyList};
 ghost use Rattle.judy_leaf.specs.Leaves.{IsLeafParts, leaf_list};
 
+use crate::in_place::put_in_leaf;
 use crate::leaf_ref::LeafRef;
 use crate::words::{Width, Words};
 use crate::{keys, pairs};
@@ -96,13 +97,16 @@ impl<V: Words + Drop> LeafOf<V> {
         ensures unchanged { OnErr result (self.new ≡ self.old) }
     {
         let at = self.reading().rank(key);
-        let width = self.block.tag() as usize;
-        let count = usize::from(self.count);
-        let needed = V::WORDS * (count + 1) + keys::words_of(width, count + 1);
-        pairs::give_room(&mut self.block, alloc, needed, (needed + 3) / 4 * 4)?;
-        pairs::put::<V>(&mut self.block, width, count, at, key, value);
-        self.count += 1;
-        Ok(())
+        let width = self.block.tag() as u8;
+        put_in_leaf::<V>(
+            alloc,
+            &mut self.count,
+            &mut self.block,
+            width,
+            at,
+            key,
+            value,
+        )
     }
 
     /// Takes the key at a place out, with its value. No memory is asked for.

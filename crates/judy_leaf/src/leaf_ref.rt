@@ -8,6 +8,7 @@ ghost use Rattle.judy_bits.specs.ByteSets as set;
 ghost use Rattle.judy_leaf.specs.KeyLists.{KeyList, keys_of, values_of, IsKeyList};
 ghost use Rattle.judy_leaf.specs.Leaves.{IsLeafParts, leaf_list};
 ghost use Rattle.judy_leaf.specs.Nearby.{pair_from, pair_up_to, is_absent};
+ghost use Rattle.judy_leaf.specs.Searches.{IsSearched};
 
 use crate::keys;
 use crate::words::{Width, Words};
@@ -120,6 +121,18 @@ impl<'a, V: Words + Drop> LeafRef<'a, V> {
             count,
             key,
         )
+    }
+
+    /// The place of a key, or, where the word isn't one of the keys, the place that it would have.
+    pub fn search(&self, key: u64) -> Result<usize, usize>
+        ensures { IsSearched (keys_of self.now.pairs) key result }
+    {
+        let count = usize::from(self.count);
+        let width = usize::from(self.width);
+        match keys::next(width, self.block, V::WORDS * count, count, key) {
+            Some((at, found)) => { if found == key { Ok(at) } else { Err(at) } }
+            None => Err(count),
+        }
     }
 
     /// The key at a place, counted from 0.

@@ -1,0 +1,68 @@
+//! Pairs put into leaves whose parts stand in a node. A search has told the place of the key, so nothing is looked for here.
+
+ghost use Rattle.std.specs.Prelude.{◌≡◌, ◌<◌, ◌^◌, OnOk, OnErr, IsFalse};
+ghost use Rattle.judy_bits.specs.ByteSets as set;
+ghost use Rattle.judy_leaf.specs.KeyLists.{keys_of, with_pair};
+ghost use Rattle.judy_leaf.specs.Leaves.{IsLeafParts, leaf_list};
+ghost use Rattle.judy_leaf.specs.BitLeaves.{IsBitParts, bit_list};
+
+use crate::bit_leaf::capacity_for;
+use crate::words::Words;
+use crate::{bit_edit, keys, pairs};
+use judy_block::Block;
+use std::alloc::{AllocError, Global};
+
+/// Puts an absent key in with its value, which is 0 where keys have no value, into a leaf of fewer than 32 keys of `width` bytes: the
+/// number of its keys, and its block. The place is the number of keys below the key. The error is want of memory; the leaf is
+/// unchanged then.
+pub fn put_in_leaf<V: Words + Drop>(
+    alloc: Global,
+    count: &mut u8,
+    block: &mut Block,
+    width: u8,
+    at: usize,
+    key: u64,
+    value: u64,
+) -> Result<(), AllocError>
+    requires parts { IsLeafParts V.WORDS count.old block.old }
+    requires width { block.old.tag ≡ width }
+    requires room { count.old < 32 }
+    requires place { at ≡ set.rank (keys_of (leaf_list V.WORDS count.old block.old).pairs) key }
+    requires absent { IsFalse (set.has (keys_of (leaf_list V.WORDS count.old block.old).pairs) key) }
+    requires below { key < 256 ^ width }
+    requires no_value { V.WORDS ≡ 0 → value ≡ 0 }
+    ensures parts { IsLeafParts V.WORDS count.new block.new }
+    ensures added { OnOk result (leaf_list V.WORDS count.new block.new ≡ record (leaf_list V.WORDS count.old block.old) { pairs = with_pair key value (leaf_list V.WORDS count.old block.old).pairs }) }
+    ensures same_count { OnErr result (count.new ≡ count.old) }
+    ensures same_block { OnErr result (block.new ≡ block.old) }
+{
+    let width = usize::from(width);
+    let before = usize::from(*count);
+    let needed = V::WORDS * (before + 1) + keys::words_of(width, before + 1);
+    pairs::give_room(block, alloc, needed, (needed + 3) / 4 * 4)?;
+    pairs::put::<V>(block, width, before, at, key, value);
+    *count += 1;
+    Ok(())
+}
+
+/// The same for a bitmap leaf, whose keys are bytes, and which is its block.
+pub fn put_in_bit_leaf<V: Words + Drop>(
+    alloc: Global,
+    block: &mut Block,
+    at: usize,
+    byte: u8,
+    value: u64,
+) -> Result<(), AllocError>
+    requires parts { IsBitParts V.WORDS block.old }
+    requires place { at ≡ set.rank (keys_of (bit_list V.WORDS block.old).pairs) byte }
+    requires absent { IsFalse (set.has (keys_of (bit_list V.WORDS block.old).pairs) byte) }
+    requires no_value { V.WORDS ≡ 0 → value ≡ 0 }
+    ensures parts { IsBitParts V.WORDS block.new }
+    ensures added { OnOk result (bit_list V.WORDS block.new ≡ record (bit_list V.WORDS block.old) { pairs = with_pair byte value (bit_list V.WORDS block.old).pairs }) }
+    ensures unchanged { OnErr result (block.new ≡ block.old) }
+{
+    let count = (block.tag() % 65_536) as usize + 1;
+    pairs::give_room(block, alloc, 4 + V::WORDS * count, capacity_for::<V>(count))?;
+    bit_edit::put::<V>(block, at, byte, value);
+    Ok(())
+}
