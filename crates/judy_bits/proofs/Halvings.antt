@@ -2,7 +2,7 @@
 use Rattle.std.proofs.Common.{◌≡◌, ℕ, zero, suc, ◌+◌, ◌-◌, ◌/◌, ◌%◌, ◌^◌, ◌<◌, ◌≤◌, sym, refl, ap, ◌∙◌, subst, arith, count_ones}
 use Rattle.std.specs.Int.{bit_at}
 use Rattle.std.specs.Int.Count.{ones, ones_cat, ones-le}
-use Rattle.std.proofs.Math.Nat.{mod-eq_of_lt, div-one}
+use Rattle.std.proofs.Math.Nat.{mod-eq_of_lt, div-one, pow-suc}
 use Rattle.std.proofs.Math.Pow.{mod-mod-pow}
 use Rattle.std.proofs.lemmas.Nat.{mod-pow-add, mod_below, pow_pos, shr-shr, field_of, div-add-mod'}
 use Rattle.std.proofs.lemmas.Nat.Bits.{bit_at-lt}
@@ -19,7 +19,7 @@ pub record IsHalving (word index part left place width : ℕ) : Type 0 where
   pub below : count_ones (word % 2 ^ place) + left ≡ index
 
 -- At first the part is the word.
-pub halving_starts : (word index : ℕ) → word < 2 ^ 64 → index < count_ones word → IsHalving word index word index 0 64
+halving_starts : (word index : ℕ) → word < 2 ^ 64 → index < count_ones word → IsHalving word index word index 0 64
 halving_starts word index fits holds =
     let whole : word / 1 ≡ word = div-one word in
     let rest : word % 1 ≡ 0 = omega arith in
@@ -32,6 +32,11 @@ halving_starts word index fits holds =
       below = omega arith;
     }
 
+pub halved_starts : (word index : ℕ) → word < 2 ^ 64 → index < count_ones word → IsHalving word index (word / 1 % 2 ^ 64) index 0 64
+halved_starts word index fits holds =
+    let start = halving_starts word index fits holds in
+    subst (λ n. IsHalving word index n index 0 64) start.bits start
+
 module _ (word index part left place width half : ℕ) (halving : IsHalving word index part left place width) (some : 1 ≤ half) (less : half < width) where
   split : width ≡ (width - half) + half
   split = omega arith
@@ -40,7 +45,7 @@ module _ (word index part left place width half : ℕ) (halving : IsHalving word
   rest_is = ap (λ n. n % 2 ^ half) (halving.bits ∙ ap (λ n. word / 2 ^ place % 2 ^ n) split) ∙ mod-mod-pow (word / 2 ^ place) (width - half) half
 
   -- Where more are in the lower part, it is that one.
-  pub halving_low : left < count_ones (part % 2 ^ half) → IsHalving word index (part % 2 ^ half) left place half
+  halving_low : left < count_ones (part % 2 ^ half) → IsHalving word index (part % 2 ^ half) left place half
   halving_low holds = record {
     some = some;
     inside = let within = halving.inside in omega arith;
@@ -50,7 +55,7 @@ module _ (word index part left place width half : ℕ) (halving : IsHalving word
   }
 
   -- Else it is the higher one, and the lower part's are below it.
-  pub halving_high : count_ones (part % 2 ^ half) ≤ left → IsHalving word index (part / 2 ^ half) (left - count_ones (part % 2 ^ half)) (place + half) (width - half)
+  halving_high : count_ones (part % 2 ^ half) ≤ left → IsHalving word index (part / 2 ^ half) (left - count_ones (part % 2 ^ half)) (place + half) (width - half)
   halving_high past =
       let small = mod_below part (2 ^ half) (pow_pos half) in
       let both : ones part ≡ ones (part / 2 ^ half) + ones (part % 2 ^ half) = ap ones (sym (div-add-mod' part (2 ^ half))) ∙ ones_cat half (part / 2 ^ half) (part % 2 ^ half) small in
@@ -68,6 +73,23 @@ module _ (word index part left place width half : ℕ) (halving : IsHalving word
         holds = omega arith;
         below = omega arith;
       }
+
+  -- The same with the parts as they stand in the word.
+  pub halved_low : left < count_ones (word / 2 ^ place % 2 ^ half) → IsHalving word index (word / 2 ^ place % 2 ^ half) left place half
+  halved_low holds = subst (λ n. IsHalving word index n left place half) rest_is (halving_low (subst (λ n. left < count_ones n) (sym rest_is) holds))
+
+  pub halved_high : width - half ≡ half → count_ones (word / 2 ^ place % 2 ^ half) ≤ left
+      → IsHalving word index (word / 2 ^ (place + half) % 2 ^ half) (left - count_ones (word / 2 ^ place % 2 ^ half)) (place + half) half
+  halved_high even past =
+      let high = halving_high (subst (λ n. count_ones n ≤ left) (sym rest_is) past) in
+      subst (λ n. IsHalving word index (word / 2 ^ (place + half) % 2 ^ half) (left - count_ones n) (place + half) half) rest_is
+      (subst (λ n. IsHalving word index (word / 2 ^ (place + half) % 2 ^ n) (left - count_ones (part % 2 ^ half)) (place + half) n) even
+      (subst (λ n. IsHalving word index n (left - count_ones (part % 2 ^ half)) (place + half) (width - half)) high.bits high))
+
+-- A width that is a power of 2 has two equal halves.
+pub even_halves : (width power : ℕ) → width ≡ 2 ^ power → 1 < width → (width - width / 2 ≡ width / 2) × (less : ℕ) × (width / 2 ≡ 2 ^ less)
+even_halves width zero is more = let never : ⊥ = omega arith in absurd never
+even_halves width (suc less) is more = let step = pow-suc 2 less in (omega arith, less, omega arith)
 
 -- A part of one bit is the one that was looked for.
 pub halving_ends : (word index part left place width : ℕ) → IsHalving word index part left place width → width ≤ 1 → IsSelected word index place

@@ -49,28 +49,25 @@ pub(crate) fn highest_below(word: u64, limit: usize) -> Option<usize>
     }
 }
 
-/// The place of the 1 that has so many others below it: six halvings of the word, each by one count.
+/// The place of the 1 that has so many others below it: six halvings of the word, each by one count. Which half it is can't be foreseen,
+/// so nothing is done in one half alone but two small sums, and the widths follow each other whatever was counted: a compiler makes six
+/// steps without a branch of it.
 pub(crate) fn select(word: u64, index: u32) -> usize
     requires { index < count_ones word }
     ensures { IsSelected word index result }
 {
-    let mut rest = word;
     let mut left = index;
     let mut place = 0;
     let mut width = 64;
     while width > 1 {
         let half = width / 2;
-        let low = rest & low_ones(half);
+        let low = (word >> place) & low_ones(half);
         let count = low.count_ones();
-        if left < count {
-            rest = low;
-            width = half;
-        } else {
+        if left >= count {
             left -= count;
-            rest >>= half;
             place += half;
-            width -= half;
         }
+        width = half;
     }
     place
 }

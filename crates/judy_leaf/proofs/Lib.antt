@@ -2,6 +2,7 @@ pub mod Digits
 pub mod WordSteps
 pub mod Placed
 pub mod Counted
+pub mod OneKey
 pub mod KeysIn
 pub mod EditSteps
 pub mod WordsFor

@@ -1,4 +1,7 @@
 //! Keys packed into one word, for a width that is known at run time.
+//!
+//! Where there is one key, the word is that key, and a look-up is one comparison: so the calls on its way stand inside their callers, who
+//! mostly know whether there is one.
 
 ghost use Rattle.std.specs.Prelude.{◌≡◌, ◌+◌, ◌-◌, ◌/◌, ◌<◌, ◌≤◌, ◌^◌, MatchOption, [], ◌∷◌, slice_index};
 ghost use Rattle.std.specs.List.{insert, remove};
@@ -40,7 +43,21 @@ pub(crate) fn rank(width: u8, count: usize, word: u64, key: u64) -> usize
 }
 
 // The place of a key, where it is among the keys.
+#[inline(always)]
 pub(crate) fn find(width: u8, count: usize, word: u64, key: u64) -> Option<usize>
+    requires packed { IsPacked width count (word ∷ []) }
+    requires ascending { IsStrictlySortedBy word_order (keys_in width count (word ∷ [])) }
+    ensures { result ≡ set.place (keys_in width count (word ∷ [])) key }
+{
+    if count == 1 {
+        if word == key { Some(0) } else { None }
+    } else {
+        find_among(width, count, word, key)
+    }
+}
+
+// The same by a look at all places of the word.
+fn find_among(width: u8, count: usize, word: u64, key: u64) -> Option<usize>
     requires packed { IsPacked width count (word ∷ []) }
     requires ascending { IsStrictlySortedBy word_order (keys_in width count (word ∷ [])) }
     ensures { result ≡ set.place (keys_in width count (word ∷ [])) key }
@@ -58,7 +75,20 @@ pub(crate) fn find(width: u8, count: usize, word: u64, key: u64) -> Option<usize
 }
 
 // The place of the nearest key at or above a number, and that key.
+#[inline(always)]
 pub(crate) fn next(width: u8, count: usize, word: u64, number: u64) -> Option<(usize, u64)>
+    requires { IsPacked width count (word ∷ []) }
+    ensures { MatchOption result (set.rank (keys_in width count (word ∷ [])) number ≡ count) (λ found. IsNextAt (keys_in width count (word ∷ [])) number found) }
+{
+    if count == 1 {
+        if word < number { None } else { Some((0, word)) }
+    } else {
+        next_among(width, count, word, number)
+    }
+}
+
+// The same by a look at all places of the word.
+fn next_among(width: u8, count: usize, word: u64, number: u64) -> Option<(usize, u64)>
     requires { IsPacked width count (word ∷ []) }
     ensures { MatchOption result (set.rank (keys_in width count (word ∷ [])) number ≡ count) (λ found. IsNextAt (keys_in width count (word ∷ [])) number found) }
 {
@@ -137,7 +167,21 @@ fn key_in<const W: usize>(count: usize, word: u64, at: usize) -> u64
 }
 
 // The key at a place.
+#[inline(always)]
 pub(crate) fn key_at(width: u8, count: usize, word: u64, at: usize) -> u64
+    requires packed { IsPacked width count (word ∷ []) }
+    requires inside { at < count }
+    ensures { result ≡ slice_index (keys_in width count (word ∷ [])) at }
+{
+    if count == 1 {
+        word
+    } else {
+        key_among(width, count, word, at)
+    }
+}
+
+// The same by a look at all places of the word.
+fn key_among(width: u8, count: usize, word: u64, at: usize) -> u64
     requires packed { IsPacked width count (word ∷ []) }
     requires inside { at < count }
     ensures { result ≡ slice_index (keys_in width count (word ∷ [])) at }

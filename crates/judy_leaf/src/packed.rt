@@ -11,10 +11,11 @@ ghost use Rattle.judy_bits.specs.ByteSets as set;
 ghost use Rattle.judy_leaf.specs.Packing.{places, places_of, keys_in, IsPacked, IsWidth};
 ghost use Rattle.judy_leaf.specs.Nearby.{IsNextAt, IsPreviousAt};
 
+use crate::lanes::{bytes_below, pairs_below};
 use crate::place::key_in;
 
-// How many keys of a word are below a key.
-fn below_in<const W: usize>(word: u64, key: u64) -> usize
+// How many keys of a word are below a key, by one comparison a place.
+fn below_by_place<const W: usize>(word: u64, key: u64) -> usize
     requires { IsWidth W }
     ensures count { result ≡ count_by (λ place. nat_lt place key) (places W word) }
     ensures within { result ≤ 8 }
@@ -24,6 +25,29 @@ fn below_in<const W: usize>(word: u64, key: u64) -> usize
         below += (key_in::<W>(word, at) < key) as usize;
     }
     below
+}
+
+// How many keys of a word are below a key. All of them are below what is no key of their width.
+fn below_in<const W: usize>(word: u64, key: u64) -> usize
+    requires { IsWidth W }
+    ensures count { result ≡ count_by (λ place. nat_lt place key) (places W word) }
+    ensures within { result ≤ 8 }
+{
+    if W == 1 {
+        if key > 255 {
+            8
+        } else {
+            bytes_below(word, key as u8)
+        }
+    } else if W == 2 {
+        if key > 65_535 {
+            4
+        } else {
+            pairs_below(word, key as u16)
+        }
+    } else {
+        below_by_place::<W>(word, key)
+    }
 }
 
 // How many places of words hold less than a key.

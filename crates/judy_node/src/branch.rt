@@ -18,6 +18,8 @@ use std::alloc::Global;
 
 impl<V: Words + Drop> BranchOf<V> {
     /// Where a key goes: one step down, or which way past the branch.
+    // On each way down, a level at a time: by a call the step would be written to memory and read back from there.
+    #[inline(always)]
     pub fn step(&self, key: u64) -> Step
         requires { IsBranch V.WORDS self.now.width self.now.skip self.now.bytes self.now.children.items self.now.population }
         ensures { IsStep (256 ^ self.now.width) (number_of self.now.skip * 256) self.now.bytes key result }

@@ -71,6 +71,8 @@ pub(crate) fn earlier_turn<'a, V: Words + Drop>(
 }
 
 /// The first pair of the child that a turn leads to.
+// Inside the search that asks for it a turn needn't be put together in memory.
+#[inline(always)]
 pub(crate) fn least<V: Words + Drop>(
     turn: Option<Turn<'_, V>>,
     meter: &mut Meter,
@@ -109,6 +111,7 @@ impl<'a, V: Words + Drop> Turn<'a, V> {
     }
 
     // One of its pairs, by its place among them.
+    #[inline(always)]
     fn entry_at(&self, place: u64, meter: &mut Meter) -> (u64, u64)
         requires turn { IsTurn V.WORDS self.now }
         requires inside { place < length (turn_pairs self.now) }

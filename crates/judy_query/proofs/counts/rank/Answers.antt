@@ -3,7 +3,7 @@ use Rattle.judy_node.specs.Populations.{keys_before}
 use Rattle.judy_query.specs.Parts.{IsDown, width_of, passed}
 use Rattle.judy_query.proofs.Downs.{down_root, down_child, down_gap, child_inside, child_is, beside_is, branch_is, front_long, front_within, passed_few}
 use Rattle.judy_query.proofs.Links.{rank_is}
-use Rattle.judy_query.proofs.RankFacts.{part-rank, rank-le}
+use Rattle.judy_query.proofs.RankFacts.{part-rank, rank-le, rank-above}
 use Rattle.judy_query.proofs.counts.rank.Goals as goal
 
 pub down-init : goal.down-init
@@ -116,4 +116,13 @@ returns g c =
     record {
       value = (λ t. below t + c.rank_in.ensures t) ∙ sym (rank_is words (256 ^ 8) pairs c.told.ensures.map c.args.key ∙ ranked);
       visits = omega (arith, c.down.invariant.2, c.enter-view.ensures.visits);
+    }
+
+pub returns-then-key-eq0 : goal.returns-then-key-eq0
+returns-then-key-eq0 g c =
+    let words = g.V.Words.WORDS in
+    let pairs = c.args.tree.now.pairs in
+    record {
+      value = sym (rank_is words (256 ^ 8) pairs c.told.ensures.map c.args.key ∙ rank-above words 0 (256 ^ 8) pairs c.args.key (omega (arith, c.if-key-eq0.true)) c.told.ensures.map);
+      visits = omega arith;
     }

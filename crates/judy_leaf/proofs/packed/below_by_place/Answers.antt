@@ -3,7 +3,7 @@ use Rattle.std.proofs.lemmas.List.{take_all}
 use Rattle.judy_leaf.specs.Packing.{places}
 use Rattle.judy_leaf.proofs.Counted.{counted_more}
 use Rattle.judy_leaf.proofs.Placed.{length-places}
-use Rattle.judy_leaf.proofs.packed.below_in.Goals as goal
+use Rattle.judy_leaf.proofs.packed.below_by_place.Goals as goal
 
 pub loop-at-preserved : goal.loop-at-preserved
 loop-at-preserved g c =
