@@ -12,3 +12,4 @@ pub mod RoomSteps
 pub mod TurnFacts
 pub mod NearFacts
 pub mod WalkFacts
+mod ScanFacts

@@ -1,10 +1,12 @@
 -- What a walk through a tree has still to give.
 use Rattle.std.specs.Prelude.{◌≡◌, ℕ, suc, ◌+◌, ◌*◌, ◌^◌, ◌≤◌, List, [], ◌∷◌, ◌++◌, length, drop, Option, Some, None}
 use Rattle.judy_model.specs.WordBytes.{number_of}
-use Rattle.judy_leaf.specs.KeyLists.{shift}
+use Rattle.judy_bits.specs.ByteSets.{rank}
+use Rattle.judy_leaf.specs.KeyLists.{shift, keys_of}
 use Rattle.judy_node.specs.Trees.{Pairs, join}
 use Rattle.judy_node.specs.Views.{view_pairs}
 use Rattle.judy_node.specs.declared.view.ViewOf.{ViewOf}
+use Rattle.judy_node.specs.declared.view.ViewOf.TheVariants.{Null, One, Imm, Leaf, BitLeaf, Branch}
 use Rattle.judy_query.specs.declared.turns.Turn.{Turn}
 use Rattle.judy_query.specs.Parts.{IsEnd, IsShown, width_of}
 use Rattle.judy_query.specs.Turns.{IsTurn}
@@ -32,10 +34,21 @@ abbrev pub AreTurns : {V : _} → ℕ → ℕ → List (Option (Turn V)) → Typ
 AreTurns words before [] = Unit {0}
 AreTurns words before (turn ∷ turns) = IsTurnBehind words before turn × AreTurns words (suc before) turns
 
--- The pairs of a node that isn't a branch, from a place on: their keys begin at a base and fit the words.
-pub record IsStretch {V : _} (words : ℕ) (view : ViewOf V) (base at len : ℕ) : Type 0 where
+-- In a bitmap leaf the keys in front of a place are those below a byte.
+abbrev pub IsScan : {V : _} → ViewOf V → ℕ → ℕ → Type 0
+IsScan Null at byte = Unit {0}
+IsScan (One key value) at byte = Unit {0}
+IsScan (Imm list) at byte = Unit {0}
+IsScan (Leaf list) at byte = Unit {0}
+IsScan (BitLeaf skipped list) at byte = rank (keys_of list.pairs) byte ≡ at
+IsScan (Branch b) at byte = Unit {0}
+
+-- The pairs of a node that isn't a branch, from a place on, which a bitmap leaf has from a byte on: their keys begin at a base and fit the
+-- words.
+pub record IsStretch {V : _} (words : ℕ) (view : ViewOf V) (base at len byte : ℕ) : Type 0 where
   pub end : IsEnd view
   pub shown : IsShown words view
   pub fits : base + 256 ^ width_of view ≤ 256 ^ 8
   pub counted : len ≡ length (view_pairs view)
   pub within : at ≤ len
+  pub scan : IsScan view at byte

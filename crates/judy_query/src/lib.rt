@@ -25,6 +25,7 @@ mod empties;
 mod ends;
 mod places;
 mod rooms;
+mod scan;
 mod stretch;
 mod turns;
 mod values;

@@ -6,7 +6,8 @@ ghost use Rattle.judy_leaf.specs.KeyLists.{shift};
 ghost use Rattle.judy_node.specs.Views.{view_pairs};
 ghost use Rattle.judy_query.specs.Parts.{IsEnd, IsShown, width_of};
 
-use crate::ends::{entry_in, len_in};
+use crate::ends::len_in;
+use crate::scan::{byte_before, entry_on};
 use judy_leaf::Words;
 use judy_node::ViewOf;
 use std::marker::Model;
@@ -19,6 +20,8 @@ pub(crate) struct Stretch<'a, V: Words + Drop> {
     base: u64,
     at: u64,
     len: u64,
+    // Where a bitmap leaf is looked through from.
+    byte: u64,
 }
 
 impl<'a, V: Words + Drop> Model for Stretch<'a, V> {
@@ -31,7 +34,7 @@ impl<'a, V: Words + Drop> Model for Stretch<'a, V> {
 
     ghost view = { λ a. shift a.base (drop a.at (view_pairs a.view)) };
 
-    ghost invariant = { λ a. IsStretch V.WORDS a.view a.base a.at a.len };
+    ghost invariant = { λ a. IsStretch V.WORDS a.view a.base a.at a.len a.byte };
 }
 
 impl<'a, V: Words + Drop> Stretch<'a, V> {
@@ -44,11 +47,13 @@ impl<'a, V: Words + Drop> Stretch<'a, V> {
         ensures { result ≡ shift base (drop at (view_pairs view.entry)) }
     {
         let len = len_in(&view);
+        let byte = byte_before(&view, at);
         Stretch {
             view,
             base,
             at,
             len,
+            byte,
         }
     }
 
@@ -59,7 +64,7 @@ impl<'a, V: Words + Drop> Stretch<'a, V> {
         if self.at == self.len {
             return None;
         }
-        let (key, value) = entry_in(&self.view, self.at);
+        let (key, value) = entry_on(&self.view, self.at, &mut self.byte);
         self.at += 1;
         Some((self.base + key, value))
     }

@@ -15,6 +15,9 @@ module _ (words top : ℕ) (pairs : Pairs) (is : IsMap words 0 top pairs) where
   pub entries_are : finmap.entries (map_of pairs) ≡ pairs
   entries_are = finmap.entries-from_sorted word_order pairs (sorted_of words 0 top pairs is)
 
+  pub keys_in_order : keys_of pairs ≡ finmap.keys (map_of pairs)
+  keys_in_order = sym (keys_are pairs) ∙ ap (map (λ (pair : ℕ × ℕ). pair.0)) (sym entries_are)
+
   -- From the first word on they are all.
   pub all_pairs : drop (rank (keys_of pairs) 0) pairs ≡ finmap.entries (map_of pairs)
   all_pairs = ap (λ n. drop n pairs) (rank-above words 0 top pairs 0 (omega arith) is) ∙ sym entries_are

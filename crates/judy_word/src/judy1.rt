@@ -12,7 +12,7 @@ ghost use Rattle.judy_word.specs.Sets.{IsSet};
 
 use crate::error::InsertError;
 use crate::tree_array::TreeArray;
-use judy_leaf::Width;
+use judy_leaf::{Width, Words};
 use judy_node::{Node, Shape};
 use std::alloc::{AllocError, Global};
 use std::marker::Model;
@@ -40,6 +40,12 @@ impl Model for Judy1 {
 }
 
 impl Judy1 {
+    ghost use denote.Param.{number};
+    ghost use Rattle.std.specs.Borrow.{sem, Lends};
+    ghost use Rattle.judy_leaf.specs.contracts.words.Width.{the_row as width_row};
+    ghost use Rattle.judy_word.specs.contracts.tree_array.TreeArray.{the_row as tree_row};
+    ghost use Rattle.judy_word.specs.contracts.judy1.Judy1.{the_row};
+
     /// The empty set that holds at most `limit` keys, from 1 to 4,294,967,295 (limit: this project's own).
     /// It asks for no memory before the first key.
     pub fn new(alloc: Global, limit: u64) -> Judy1
@@ -223,6 +229,15 @@ impl Judy1 {
         ensures { self.now ≡ array_in result.now }
     {
         &self.tree
+    }
+
+    /// Lends the set with its nodes. What the calls of [`TreeArray`] do to it is done to this set, and their clauses say what becomes
+    /// of nodes and looseness, which no value of a `Judy1` tells.
+    pub fn tree_mut(&mut self) -> &mut TreeArray<Width<0>>
+        ensures* writes_back { sem 𝓛 (Lends the_row (tree_row (width_row (number 0)) ⟦<Width<0> as Words>⟧) self.entry result array_in) }
+        ensures value { array_in result.now ≡ self.old }
+    {
+        &mut self.tree
     }
 
     /// The root of the tree, which holds the keys, loose or not.

@@ -15,7 +15,7 @@ ghost use Rattle.judy_word.specs.Slots.{LendsSlot, LendsIns};
 
 use crate::error::InsertError;
 use crate::tree_array::TreeArray;
-use judy_leaf::Width;
+use judy_leaf::{Width, Words};
 use judy_node::{Node, Shape};
 use std::alloc::{AllocError, Global};
 use std::marker::Model;
@@ -42,6 +42,12 @@ impl Model for JudyL {
 }
 
 impl JudyL {
+    ghost use denote.Param.{number};
+    ghost use Rattle.std.specs.Borrow.{Lends};
+    ghost use Rattle.judy_leaf.specs.contracts.words.Width.{the_row as width_row};
+    ghost use Rattle.judy_word.specs.contracts.tree_array.TreeArray.{the_row as tree_row};
+    ghost use Rattle.judy_word.specs.contracts.judyl.JudyL.{the_row};
+
     /// The empty array that holds at most `limit` keys, from 1 to 4,294,967,295 (limit: this project's own).
     /// It asks for no memory before the first insert.
     pub fn new(alloc: Global, limit: u64) -> JudyL
@@ -287,6 +293,15 @@ impl JudyL {
         ensures { self.now ≡ array_in result.now }
     {
         &self.tree
+    }
+
+    /// Lends the array with its nodes. What the calls of [`TreeArray`] do to it is done to this array, and their clauses say what
+    /// becomes of nodes and looseness, which no value of a `JudyL` tells.
+    pub fn tree_mut(&mut self) -> &mut TreeArray<Width<1>>
+        ensures* writes_back { sem 𝓛 (Lends the_row (tree_row (width_row (number 1)) ⟦<Width<1> as Words>⟧) self.entry result array_in) }
+        ensures value { array_in result.now ≡ self.old }
+    {
+        &mut self.tree
     }
 
     /// The root of the tree, which holds the keys, loose or not.

@@ -1,10 +1,14 @@
 // What no clause says: that calls succeed while there is memory. Two callers, whose contracts show what a write
 // through a slot is known to do. And what the calls that ask for neighbours and counts answer at their corners.
-ghost use Rattle.std.specs.Prelude.{◌≡◌, OnOk, OnErr, OnSome};
+ghost use Rattle.std.specs.Prelude.{◌≡◌, OnOk, IfOk, OnErr, OnSome, IsTrue};
 ghost use Rattle.std.specs.FinMap as map;
 ghost use Rattle.judy_model.specs.Arrays as array;
+ghost use Rattle.judy_model.specs.Shapes.{shape_of};
+ghost use Rattle.judy_change.specs.Removals.{Has33};
+ghost use Rattle.judy_node.specs.ShapeSums.{shape_as};
 
 use crate::{InsertError, Judy1, JudyL};
+use judy_node::Shape;
 use std::alloc::AllocError;
 use std::test::Fail;
 
@@ -30,6 +34,28 @@ fn replace(array_l: &mut JudyL, key: u64, value: u64) -> Option<u64>
         }
         None => None,
     }
+}
+
+// Makes the nodes of a set tight and counts them: no history is in them, by the clauses of the array that `tree_mut` lends.
+fn tight_shape(set: &mut Judy1) -> Result<Shape, AllocError>
+    ensures rule { IfOk result (λ shape. shape_as shape ≡ shape_of 0 (map.keys set.old.map)) }
+    ensures same { set.new ≡ set.old }
+{
+    let tree = set.tree_mut();
+    tree.tidy()?;
+    Ok(tree.shape())
+}
+
+// Takes a key out, and answers whether the array is loose from there on: only where 33 keys stood together.
+fn loosened(array_l: &mut JudyL, key: u64) -> bool
+    ensures deleted { array_l.new ≡ array.with_map array_l.old (array.del array_l.old.map key) }
+    ensures loosened { IsTrue result → Has33 8 (map.entries array_l.old.map) key }
+{
+    let tree = array_l.tree_mut();
+    tree.told();
+    let loose = tree.is_loose();
+    tree.remove(key);
+    !loose && tree.is_loose()
 }
 
 #[test]
@@ -171,6 +197,7 @@ fn tree_of_a_set(rt: HostRuntime) -> Result<(), AllocError> {
     assert_eq!(rt; (set.shape().leaves, set.shape().bitmap_leaves), (1, 0));
     assert!(rt; !set.is_loose());
     assert!(rt; set.tidy().is_ok());
+    assert_eq!(rt; tight_shape(&mut set)?.leaves, 1);
     assert_eq!(rt; set.root().pop(), 32);
     let copy = set.try_clone()?;
     assert!(rt; set.unset(0));
@@ -198,6 +225,8 @@ fn entries(rt: HostRuntime) -> Result<(), AllocError> {
     }
     let copy = pairs.try_clone()?;
     assert_eq!(rt; copy.get(5), Some(50));
+    assert!(rt; !loosened(&mut pairs, 5));
+    assert_eq!(rt; pairs.get(5), None);
     Ok(())
 }
 

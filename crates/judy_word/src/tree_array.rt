@@ -3,6 +3,7 @@
 ghost use Rattle.std.specs.Prelude.{◌≡◌, ◌≢◌, ◌≤◌, ◌↔◌, false, length, IsTrue, IsFalse, OnOk, OnErr, IsOk};
 ghost use Rattle.std.specs.FinMap as map;
 ghost use Rattle.judy_model.specs.Forms.{shape_in};
+ghost use Rattle.judy_model.specs.Shapes.{shape_of};
 ghost use Rattle.judy_node.specs.ShapeSums.{shape_as};
 ghost use Rattle.judy_word.specs.Held.{map_in, nothing_held, IsHeld};
 
@@ -110,10 +111,12 @@ impl<V: Words + Drop> TreeArray<V> {
         self.loose
     }
 
-    /// How many nodes of each kind there are.
+    /// How many nodes of each kind there are: where it isn't loose, as many as the rule gives its keys.
     pub fn shape(&self) -> Shape
-        ensures { shape_as result ≡ shape_in self.now.tree.form }
+        ensures nodes { shape_as result ≡ shape_in self.now.tree.form }
+        ensures rule { self.now.loose ≡ false → shape_as result ≡ shape_of V.WORDS (map.keys (map_in self.now)) }
     {
+        self.told();
         self.root.shape()
     }
 
