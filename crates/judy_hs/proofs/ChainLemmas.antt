@@ -4,11 +4,9 @@ use Rattle.std.specs.List.{position, position_or_len, remove}
 use Rattle.std.proofs.lemmas.Slice.Eq.{bytes_eq-Decides}
 use Rattle.std.proofs.lemmas.Bool.{false_from_ne_true}
 use Rattle.std.proofs.lemmas.Option.{slice_get-map, slice_get-get_or, slice_get_past}
-use Rattle.judy_hs.specs.declared.chain.LongEntry.{LongEntry}
 use Rattle.judy_hs.specs.Chains.{Pairs, has_key, value_in, IsPlace, AreApart, value_at, with_value_at}
 use Rattle.std.proofs.lemmas.Bool.{lt-ltb}
 use Rattle.std.proofs.lemmas.Bool.Decides.{nat_tests}
-use Rattle.judy_hs.specs.Entries.{pairs_of, holds}
 
 -- ---- equality of bytes
 
@@ -142,18 +140,12 @@ pub some_pair : (pairs : Pairs) → pairs ≢ [] → (key : List ℕ) × (value 
 some_pair [] used = absurd (used refl)
 some_pair (pair ∷ rest) used = (pair.0, pair.1, value_in-here pair rest pair.0 refl)
 
--- ---- entries as pairs
+-- ---- entries at places
 
-pub pairs_of-remove : (entries : List LongEntry) (at : ℕ) → pairs_of (remove entries at) ≡ remove (pairs_of entries) at
-pairs_of-remove [] zero = refl
-pairs_of-remove [] (suc at) = refl
-pairs_of-remove (entry ∷ rest) zero = refl
-pairs_of-remove (entry ∷ rest) (suc at) = ap (λ pairs. (entry.key.items, entry.value) ∷ pairs) (pairs_of-remove rest at)
-
-pub pairs_of-set : (entries : List LongEntry) (at value : ℕ) (entry : LongEntry) → slice_get entries at ≡ Some entry → pairs_of (set entries at (record entry { value = value })) ≡ with_value_at (pairs_of entries) at value
-pairs_of-set [] at value entry is = refl
-pairs_of-set (first ∷ rest) zero value entry is = let same : first ≡ entry = cc in ap (λ (e : LongEntry). (e.key.items, value) ∷ pairs_of rest) (sym same)
-pairs_of-set (first ∷ rest) (suc at) value entry is = ap (λ pairs. (first.key.items, first.value) ∷ pairs) (pairs_of-set rest at value entry is)
+pub pairs-set : (pairs : Pairs) (at value : ℕ) (pair : List ℕ × ℕ) → slice_get pairs at ≡ Some pair → set pairs at (pair.0, value) ≡ with_value_at pairs at value
+pairs-set [] at value pair is = refl
+pairs-set (first ∷ rest) zero value pair is = let same : first ≡ pair = cc in ap (λ (e : List ℕ × ℕ). (e.0, value) ∷ rest) (sym same)
+pairs-set (first ∷ rest) (suc at) value pair is = ap (λ (pairs : Pairs). first ∷ pairs) (pairs-set rest at value pair is)
 
 as_option : (b : Bool) (at : ℕ) (Missing : Type 0) (Found : ℕ → Type 0) → MatchBool b (Found at) Missing → MatchOption (cond b (Some at) None) Missing Found
 as_option true at Missing Found h = h
@@ -162,42 +154,38 @@ as_option false at Missing Found h = h
 here : (more : ℕ) (Found Missing : Type 0) → Found → MatchBool (nat_lt 0 (suc more)) Found Missing
 here more Found Missing found = let e : nat_lt 0 (suc more) ≡ true = lt-ltb 0 (suc more) (omega arith) in rw e found
 
-later : (entry : LongEntry) (at most : ℕ) (rest : Pairs) (key : List ℕ) → entry.key.items ≢ key → MatchBool (nat_lt at most) (IsPlace rest key at) (value_in rest key ≡ None)
-    → MatchBool (nat_lt (1 + at) (suc most)) (IsPlace ((entry.key.items, entry.value) ∷ rest) key (1 + at)) (value_in ((entry.key.items, entry.value) ∷ rest) key ≡ None)
+later : (entry : List ℕ × ℕ) (at most : ℕ) (rest : Pairs) (key : List ℕ) → entry.0 ≢ key → MatchBool (nat_lt at most) (IsPlace rest key at) (value_in rest key ≡ None)
+    → MatchBool (nat_lt (1 + at) (suc most)) (IsPlace (entry ∷ rest) key (1 + at)) (value_in (entry ∷ rest) key ≡ None)
 later entry at most rest key differ found =
-    elim (nat_lt at most) as (λ b. nat_lt at most ≡ b → MatchBool b (IsPlace rest key at) (value_in rest key ≡ None) → MatchBool (nat_lt (1 + at) (suc most)) (IsPlace ((entry.key.items, entry.value) ∷ rest) key (1 + at)) (value_in ((entry.key.items, entry.value) ∷ rest) key ≡ None)) [
+    elim (nat_lt at most) as (λ b. nat_lt at most ≡ b → MatchBool b (IsPlace rest key at) (value_in rest key ≡ None) → MatchBool (nat_lt (1 + at) (suc most)) (IsPlace (entry ∷ rest) key (1 + at)) (value_in (entry ∷ rest) key ≡ None)) [
       | true ↦ λ below is. let e : nat_lt (1 + at) (suc most) ≡ true = grind (arith, nat_tests) in let one : 1 + at ≡ suc at = omega arith in rw (e, one) (differ, is)
-      | false ↦ λ past none. let e : nat_lt (1 + at) (suc most) ≡ false = grind (arith, nat_tests) in rw e (value_in-later (entry.key.items, entry.value) rest key differ ∙ none)
+      | false ↦ λ past none. let e : nat_lt (1 + at) (suc most) ≡ false = grind (arith, nat_tests) in rw e (value_in-later entry rest key differ ∙ none)
     ] refl found
 
 -- The first entry with the key is its place, and where none has the key, it has no value.
-place_or_none : (entries : List LongEntry) (key : List ℕ) → MatchBool (nat_lt (position_or_len (holds key) entries) (length entries)) (IsPlace (pairs_of entries) key (position_or_len (holds key) entries)) (value_in (pairs_of entries) key ≡ None)
+place_or_none : (entries : Pairs) (key : List ℕ) → MatchBool (nat_lt (position_or_len (has_key key) entries) (length entries)) (IsPlace entries key (position_or_len (has_key key) entries)) (value_in entries key ≡ None)
 place_or_none [] key = refl
 place_or_none (entry ∷ rest) key =
-    elim (holds key entry) as (λ b. holds key entry ≡ b
-    → MatchBool (nat_lt (cond (not b) (1 + position_or_len (holds key) rest) 0) (suc (length rest))) (IsPlace (pairs_of (entry ∷ rest)) key (cond (not b) (1 + position_or_len (holds key) rest) 0)) (value_in (pairs_of (entry ∷ rest)) key ≡ None)) [
-      | true ↦ λ same. here (length rest) _ _ (bytes_same entry.key.items key same)
-      | false ↦ λ differ. later entry (position_or_len (holds key) rest) (length rest) (pairs_of rest) key (bytes_differ entry.key.items key differ) (place_or_none rest key)
+    elim (has_key key entry) as (λ b. has_key key entry ≡ b
+    → MatchBool (nat_lt (cond (not b) (1 + position_or_len (has_key key) rest) 0) (suc (length rest))) (IsPlace (entry ∷ rest) key (cond (not b) (1 + position_or_len (has_key key) rest) 0)) (value_in (entry ∷ rest) key ≡ None)) [
+      | true ↦ λ same. here (length rest) _ _ (bytes_same entry.0 key same)
+      | false ↦ λ differ. later entry (position_or_len (has_key key) rest) (length rest) rest key (bytes_differ entry.0 key differ) (place_or_none rest key)
     ] refl
 
 -- So the first entry with the key is its place.
-pub found_among : (entries : List LongEntry) (key : List ℕ) → MatchOption (position (holds key) entries) (value_in (pairs_of entries) key ≡ None) (IsPlace (pairs_of entries) key)
-found_among entries key = as_option (nat_lt (position_or_len (holds key) entries) (length entries)) _ _ _ (place_or_none entries key)
+pub found_among : (entries : Pairs) (key : List ℕ) → MatchOption (position (has_key key) entries) (value_in entries key ≡ None) (IsPlace entries key)
+found_among entries key = as_option (nat_lt (position_or_len (has_key key) entries) (length entries)) _ _ _ (place_or_none entries key)
 
 -- The entry that is read at a place.
-pub entry_at : (entries : List LongEntry) (at : ℕ) (entry : LongEntry) → at < length entries → entry ≡ get_or entries at entry → slice_get entries at ≡ Some entry
-entry_at entries at entry within read = slice_get-get_or entries at entry within ∙ ap (λ (e : LongEntry). Some e) (sym read)
+pub entry_at : (entries : Pairs) (at : ℕ) (entry : List ℕ × ℕ) → at < length entries → entry ≡ get_or entries at entry → slice_get entries at ≡ Some entry
+entry_at entries at entry within read = slice_get-get_or entries at entry within ∙ ap (λ (e : List ℕ × ℕ). Some e) (sym read)
 
--- Its value is the one at the place of the pairs; past the end there is none.
-pub value_at-entry : (entries : List LongEntry) (at : ℕ) (entry : LongEntry) → slice_get entries at ≡ Some entry → Some entry.value ≡ value_at (pairs_of entries) at
-value_at-entry entries at entry is =
-    ap (λ (e : Option LongEntry). option_map (λ (pair : List ℕ × ℕ). pair.1) (option_map (λ (e : LongEntry). (e.key.items, e.value)) e)) (sym is)
-    ∙ ap (option_map (λ (pair : List ℕ × ℕ). pair.1)) (sym (slice_get-map (λ (e : LongEntry). (e.key.items, e.value)) entries at))
+-- Its value is the one at the place; past the end there is none.
+pub value_at-entry : (entries : Pairs) (at : ℕ) (entry : List ℕ × ℕ) → slice_get entries at ≡ Some entry → Some entry.1 ≡ value_at entries at
+value_at-entry entries at entry is = ap (option_map (λ (pair : List ℕ × ℕ). pair.1)) (sym is)
 
-pub value_at-past : (entries : List LongEntry) (at : ℕ) → length entries ≤ at → None ≡ value_at (pairs_of entries) at
-value_at-past entries at past =
-    ap (λ (e : Option LongEntry). option_map (λ (pair : List ℕ × ℕ). pair.1) (option_map (λ (e : LongEntry). (e.key.items, e.value)) e)) (sym (slice_get_past entries at past))
-    ∙ ap (option_map (λ (pair : List ℕ × ℕ). pair.1)) (sym (slice_get-map (λ (e : LongEntry). (e.key.items, e.value)) entries at))
+pub value_at-past : (entries : Pairs) (at : ℕ) → length entries ≤ at → None ≡ value_at entries at
+value_at-past entries at past = ap (option_map (λ (pair : List ℕ × ℕ). pair.1)) (sym (slice_get_past entries at past))
 
 -- What isn't below is at or above.
 pub not_below : (left right : ℕ) → (left < right → ⊥) → right ≤ left

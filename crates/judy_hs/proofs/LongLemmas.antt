@@ -1,16 +1,17 @@
 -- Groups of long keys: what a change of their lists makes of them.
-use Rattle.std.proofs.Common.{◌≡◌, ◌≢◌, ℕ, zero, suc, ◌<◌, ◌≤◌, inl, inr, true, false, cond, List, [], ◌∷◌, ◌++◌, length, get_or, set, Option, None, Some, nat_lt, Result, Ok, Err, OnOk, OnErr, refl, sym, ap, ◌∙◌, subst, arith}
+use Rattle.std.proofs.Common.{◌≡◌, ◌≢◌, ℕ, zero, suc, ◌<◌, ◌≤◌, inl, inr, Bool, true, false, cond, List, [], ◌∷◌, ◌++◌, length, get_or, set, Option, None, Some, nat_lt, nat_eq, Result, Ok, Err, OnOk, OnErr, refl, sym, ap, ◌∙◌, subst, arith}
 use Rattle.std.specs.List as list
 use Rattle.std.specs.FinMap.{get, insert}
 use Rattle.std.proofs.lemmas.List.{map-set, get_or-map, length-map, map-append, get_or_past, get_or_default, get_or-set_same, get_or-set_other}
 use Rattle.std.proofs.lemmas.Bool.{cases_eq}
+use Rattle.std.proofs.lemmas.Bool.Decides.{nat_tests}
 use Rattle.std.proofs.lemmas.Option.{none-some}
 use Rattle.judy_places.specs.Places.{IsNextPlace}
 use Rattle.judy_places.proofs.PlaceLemmas.{free-inside}
 use Rattle.judy_model.specs.Keys.{word_order}
 use Rattle.judy_model.specs.Arrays.{ArrayOf, with_map}
 use Rattle.judy_hs.specs.declared.long_group.ChainPlace.{ChainPlace}
-use Rattle.judy_hs.specs.declared.long_group.ChainPlace.TheVariants.{Free, Taken}
+use Rattle.judy_hs.specs.declared.long_group.ChainPlace.TheVariants.{Free, One, Taken}
 use Rattle.judy_hs.specs.Chains.{Pairs, with_value_at}
 use Rattle.judy_hs.specs.LongGroups.{Long, long_with, put_at, with_chain, added_long, IsAdded, IsFound, hashes_without, without_key, IsFreePlace}
 use Rattle.judy_hs.specs.ChainPlaces.{pairs_at, chains_of, link_of, links_of, HasKey, AreChainPlaces}
@@ -62,11 +63,11 @@ chains_of-put places place new =
       | false ↦ map-append pairs_at places (new ∷ [])
     ])
 
-pub with_chain-put : (hashes made : ArrayOf word_order) (places : List ChainPlace) (hash place : ℕ) (key : List ℕ) (chain : Pairs) → made ≡ with_map hashes (insert hashes.map hash place) → chain ≡ (key, 0) ∷ []
-    → long_of made (put_at places place (Taken chain)) ≡ with_chain (long_of hashes places) hash key place
-with_chain-put hashes made places hash place key chain is one =
-    ap (λ (all : List Pairs). record { hashes = made; chains = all }) (chains_of-put places place (Taken chain))
-    ∙ (λ t. record { hashes = is t; chains = put_at (chains_of places) place (one t) })
+pub with_chain-put : (hashes made : ArrayOf word_order) (places : List ChainPlace) (hash place : ℕ) (key : List ℕ) (entry : List ℕ × ℕ) → made ≡ with_map hashes (insert hashes.map hash place) → entry ≡ (key, 0)
+    → long_of made (put_at places place (One entry)) ≡ with_chain (long_of hashes places) hash key place
+with_chain-put hashes made places hash place key entry is one =
+    ap (λ (all : List Pairs). record { hashes = made; chains = all }) (chains_of-put places place (One entry))
+    ∙ (λ t. record { hashes = is t; chains = put_at (chains_of places) place (one t ∷ []) })
 
 -- ---- a key put into a chain
 
@@ -83,6 +84,8 @@ added-held hashes places hash place at key new leads last is =
 
 pairs_at-with : (new : ChainPlace) (at value : ℕ) → pairs_at (place_with new at value) ≡ with_value_at (pairs_at new) at value
 pairs_at-with (Free next) at value = refl
+pairs_at-with (One entry) zero value = refl
+pairs_at-with (One entry) (suc at) value = let e : nat_eq (suc at) 0 ≡ false = grind (arith, nat_tests) in rw e refl
 pairs_at-with (Taken chain) at value = refl
 
 module _ (hashes : ArrayOf word_order) (places : List ChainPlace) (place at : ℕ) (held : ChainPlace) (within : place < length places) (is : held ≡ get_or places place held) where
@@ -112,18 +115,30 @@ used-within (first ∷ rest) (suc place) used = omega (arith, used-within rest p
 
 link-key : (place : ChainPlace) → pairs_at place ≢ [] → link_of place ≡ None
 link-key (Free next) used = absurd (used refl)
+link-key (One entry) used = refl
 link-key (Taken chain) used = refl
 
 has-key : (place : ChainPlace) → pairs_at place ≢ [] → HasKey place
 has-key (Free next) used = absurd (used refl)
+has-key (One entry) used = tt
 has-key (Taken chain) used = used
 
 keys-there : (place : ChainPlace) → link_of place ≡ None → HasKey place → pairs_at place ≢ []
 keys-there (Free next) taken has = absurd (none-some next (sym taken))
+keys-there (One entry) taken has = λ e. cc
 keys-there (Taken chain) taken has = has
+
+link-one : (written : Bool) (entry : List ℕ × ℕ) (value : ℕ) → link_of (cond written (One (entry.0, value)) (One entry)) ≡ None
+link-one true entry value = refl
+link-one false entry value = refl
+
+has-one : (written : Bool) (entry : List ℕ × ℕ) (value : ℕ) → HasKey (cond written (One (entry.0, value)) (One entry))
+has-one true entry value = tt
+has-one false entry value = tt
 
 link-with : (place : ChainPlace) (at value : ℕ) → link_of (place_with place at value) ≡ link_of place
 link-with (Free next) at value = refl
+link-with (One entry) at value = link-one (nat_eq at 0) entry value
 link-with (Taken chain) at value = refl
 
 with-some : (pairs : Pairs) (at value : ℕ) → pairs ≢ [] → with_value_at pairs at value ≢ []
@@ -133,6 +148,7 @@ with-some (pair ∷ rest) (suc at) value some e = cc
 
 has-with : (place : ChainPlace) (at value : ℕ) → HasKey place → HasKey (place_with place at value)
 has-with (Free next) at value has = tt
+has-with (One entry) at value has = has-one (nat_eq at 0) entry value
 has-with (Taken chain) at value has = with-some chain at value has
 
 push-some : (pairs : Pairs) (pair : List ℕ × ℕ) → pairs ++ pair ∷ [] ≢ []
@@ -185,6 +201,7 @@ module _ (places : List ChainPlace) (free : ℕ) (are : AreChainPlaces places fr
       empty-at : (items : List ChainPlace) (at next : ℕ) → get_or (links_of items) at None ≡ Some next → get_or (chains_of items) at [] ≡ []
       empty-at [] at next is = refl
       empty-at (Free link ∷ rest) zero next is = refl
+      empty-at (One entry ∷ rest) zero next is = absurd (none-some next is)
       empty-at (Taken chain ∷ rest) zero next is = absurd (none-some next is)
       empty-at (one ∷ rest) (suc at) next is = empty-at rest at next is
 
@@ -197,12 +214,12 @@ module _ (places : List ChainPlace) (free : ℕ) (are : AreChainPlaces places fr
           get_or_past (chains_of places) place [] (omega (arith, one, two, here))
 
   -- A chain of a key is put at the next place.
-  pub places-put : (place next : ℕ) (chain : Pairs) → IsNextPlace (links_of places) free place next → chain ≢ [] → AreChainPlaces (put_at places place (Taken chain)) next
-  places-put place next chain is used = record {
-    none_lost = put-places link_of places free are.none_lost place next (Taken chain) is refl;
+  pub places-put : (place next : ℕ) (entry : List ℕ × ℕ) → IsNextPlace (links_of places) free place next → AreChainPlaces (put_at places place (One entry)) next
+  places-put place next entry is = record {
+    none_lost = put-places link_of places free are.none_lost place next (One entry) is refl;
     have_keys = λ k. elim (cases_eq k place) [
-      | inl e ↦ subst HasKey (sym (ap (λ n. get_or (put_at places place (Taken chain)) n (Free 0)) e ∙ get_or-put places place (Taken chain) (Free 0) within)) used
-      | inr apart ↦ subst HasKey (sym (get_or-put_other places place k (Taken chain) (Free 0) within apart)) (are.have_keys k)
+      | inl e ↦ subst HasKey (sym (ap (λ n. get_or (put_at places place (One entry)) n (Free 0)) e ∙ get_or-put places place (One entry) (Free 0) within)) tt
+      | inr apart ↦ subst HasKey (sym (get_or-put_other places place k (One entry) (Free 0) within apart)) (are.have_keys k)
     ];
   }
     where

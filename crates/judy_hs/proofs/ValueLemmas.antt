@@ -13,7 +13,6 @@ use Rattle.judy_model.proofs.KeptLemmas.{words_hold}
 use Rattle.judy_model.proofs.Pairs.{find-at}
 use Rattle.judy_model.proofs.TableLemmas.{bytes_keys-all, table_some, byte_order_total}
 use Rattle.judy_hs.specs.Chains.{Pairs, value_in}
-use Rattle.judy_hs.specs.Entries.{pairs_of}
 use Rattle.judy_hs.specs.ChainPlaces.{pairs_at, chains_of}
 use Rattle.judy_hs.specs.LongGroups.{in_long, in_chain}
 use Rattle.judy_hs.specs.Groups.{Group, none, in_group}
@@ -22,7 +21,6 @@ use Rattle.judy_hs.specs.Keyed.{Keyed, in_keyed, in_place}
 use Rattle.judy_hs.specs.Kept.{IsHs, value_of, map_of, array_of}
 use Rattle.judy_hs.specs.Values.{AreWords}
 use Rattle.judy_hs.specs.Parts.{part_of}
-use Rattle.judy_hs.specs.declared.chain.LongEntry.{LongEntry}
 use Rattle.judy_hs.specs.declared.long_group.ChainPlace.{ChainPlace}
 use Rattle.judy_hs.specs.declared.group.GroupPlace.{GroupPlace}
 
@@ -38,12 +36,12 @@ at_place f missing P past (x ∷ xs) each (suc i) = at_place f missing P past xs
 
 -- ---- chains
 
-pub entries_words : (entries : List LongEntry) → All (λ (entry : LongEntry). IsWord entry.value) entries → AreWords (value_in (pairs_of entries))
+pub entries_words : (entries : Pairs) → All (λ (entry : List ℕ × ℕ). IsWord entry.1) entries → AreWords (value_in entries)
 entries_words [] each key value is = absurd (none-some value is)
 entries_words (entry ∷ rest) each key value is =
-    elim (bytes_eq entry.key.items key) as (λ b. cond b (Some entry.value) (value_in (pairs_of rest) key) ≡ Some value → IsWord value) [
-      | true ↦ λ (same : Some entry.value ≡ Some value). let one : entry.value ≡ value = cc in subst IsWord one (All-head (λ (entry : LongEntry). IsWord entry.value) entry rest each)
-      | false ↦ λ later. entries_words rest (All-tail (λ (entry : LongEntry). IsWord entry.value) entry rest each) key value later
+    elim (bytes_eq entry.0 key) as (λ b. cond b (Some entry.1) (value_in rest key) ≡ Some value → IsWord value) [
+      | true ↦ λ (same : Some entry.1 ≡ Some value). let one : entry.1 ≡ value = cc in subst IsWord one (All-head (λ (entry : List ℕ × ℕ). IsWord entry.1) entry rest each)
+      | false ↦ λ later. entries_words rest (All-tail (λ (entry : List ℕ × ℕ). IsWord entry.1) entry rest each) key value later
     ] is
 
 no_words : (find : List ℕ → Option ℕ) → ((key : List ℕ) → find key ≡ None) → AreWords find

@@ -1,5 +1,4 @@
 pub mod Chains
-pub mod Entries
 pub mod Values
 pub mod ChainLends
 pub mod LongGroups

@@ -1,37 +1,30 @@
-//! The long keys of one length and one hash, with their values.
+//! Two long keys or more of one length and one hash, with their values.
 
-ghost use Rattle.std.specs.Prelude.{◌≡◌, ◌++◌, ◌∷◌, [], ◌<◌, ◌↔◌, IsTrue, IfOk, OnOk, OnErr, None, MatchOption, length};
+ghost use Rattle.std.specs.Prelude.{◌≡◌, ◌++◌, ◌∷◌, [], ◌+◌, ◌<◌, ◌≤◌, ◌↔◌, IsTrue, IfOk, OnOk, OnErr, None, MatchOption, length, vec_len, vec_capacity};
 ghost use Rattle.std.specs.Borrow.{sem};
 ghost use Rattle.std.specs.List.{position, remove};
 ghost use Rattle.std.specs.Option.{option_copied_mut};
-ghost use Rattle.judy_hs.specs.Chains.{value_in, IsPlace, value_at};
-ghost use Rattle.judy_hs.specs.Entries.{holds};
+ghost use Rattle.judy_hs.specs.Chains.{has_key, value_in, IsPlace, value_at};
 ghost use Rattle.judy_hs.specs.Listed.{entries_in};
 ghost use Rattle.judy_hs.specs.Values.{AreWords};
 ghost use Rattle.judy_model.specs.Keys.{IsWord};
 
 use crate::entry::{HsEntry, HsKey};
+use judy_entry::Entry;
 use std::alloc::{AllocError, Global};
 use std::marker::Model;
 
-// A key of more than 8 bytes and its value.
-#[derive(Drop)]
-pub struct LongEntry {
-    pub key: Vec<u8>,
-    pub value: u64,
-}
-
 // The place of the first entry with the key.
-fn place_of(entries: &[LongEntry], key: &[u8]) -> Option<usize>
-    ensures { result ≡ position (holds key.now) entries.now }
+fn place_of(entries: &[Entry], key: &[u8]) -> Option<usize>
+    ensures { result ≡ position (has_key key.now) entries.now }
 {
-    entries.iter().position(|entry| entry.key.as_slice() == key)
+    entries.iter().position(|entry| entry.bytes() == key)
 }
 
 // Keys that differ, each with its value, in the order in which they came. In contracts it is the list of these pairs.
 #[derive(Drop)]
 pub struct Chain {
-    entries: Vec<LongEntry>,
+    entries: Vec<Entry>,
 }
 
 impl Model for Chain {
@@ -39,24 +32,22 @@ impl Model for Chain {
 
     ghost Value = { List (List ℕ × ℕ) };
 
-    ghost use Rattle.judy_hs.specs.Entries.{pairs_of};
-
-    ghost view = { λ chain. pairs_of chain.entries.items };
+    ghost view = { λ chain. chain.entries.items };
 }
 
 impl Chain {
     ghost use Rattle.judy_hs.specs.ChainLends.{LendsValue};
 
-    // The chain of one key, with the value 0.
-    pub fn of(alloc: Global, key: &[u8]) -> Result<Chain, AllocError>
-        ensures { IfOk result (λ chain. chain ≡ (key.now, 0) ∷ []) }
+    // The chain of two keys, in a list with room for them.
+    pub fn of_two(room: Vec<Entry>, first: Entry, second: Entry) -> Chain
+        requires none { room.items ≡ [] }
+        requires room { vec_len room + 2 ≤ vec_capacity room }
+        ensures { result ≡ first ∷ second ∷ [] }
     {
-        let mut entries = Vec::with_capacity(alloc, 1)?;
-        entries.push_reserved(LongEntry {
-            key: key.to_vec(alloc)?,
-            value: 0,
-        });
-        Ok(Chain { entries })
+        let mut entries = room;
+        entries.push_reserved(first);
+        entries.push_reserved(second);
+        Chain { entries }
     }
 
     // Puts a key last, with the value 0, and answers its place.
@@ -67,10 +58,7 @@ impl Chain {
     {
         let at = self.entries.len();
         self.entries.reserve(1)?;
-        self.entries.push_reserved(LongEntry {
-            key: key.to_vec(alloc)?,
-            value: 0,
-        });
+        self.entries.push_reserved(Entry::new(alloc, key, 0)?);
         Ok(at)
     }
 
@@ -86,7 +74,7 @@ impl Chain {
         ensures { result ≡ value_at self.now at }
     {
         match self.entries.get(at) {
-            Some(entry) => Some(entry.value),
+            Some(entry) => Some(entry.value()),
             None => None,
         }
     }
@@ -97,7 +85,7 @@ impl Chain {
         ensures value { option_copied_mut result ≡ value_at self.old at }
     {
         match self.entries.get_mut(at) {
-            Some(entry) => Some(&mut entry.value),
+            Some(entry) => Some(entry.slot()),
             None => None,
         }
     }
@@ -123,8 +111,8 @@ impl Chain {
     {
         for entry in &self.entries {
             list.push(HsEntry {
-                key: HsKey::Long(&entry.key),
-                value: entry.value,
+                key: HsKey::Long(entry.bytes()),
+                value: entry.value(),
             })?;
         }
         Ok(())
@@ -135,12 +123,12 @@ impl Chain {
         ensures { AreWords (value_in self.now) }
     {
         for entry in &self.entries {
-            is_word(entry.value);
+            is_word(entry.value());
         }
     }
 }
 
 // A number of 64 bits is a word.
-fn is_word(_value: u64)
+pub fn is_word(_value: u64)
     ensures { IsWord _value }
 {}

@@ -90,11 +90,8 @@ impl GroupPlace {
         ensures unchanged { OnErr result (group_of self.new ≡ group_of self.old) }
     {
         match self {
-            GroupPlace::Short(words) => match words.ins(part) {
-                Ok(slot) => {
-                    *slot = 0;
-                    Ok(Inside::Word(part))
-                }
+            GroupPlace::Short(words) => match words.put(part, 0) {
+                Ok(_) => Ok(Inside::Word(part)),
                 Err(InsertError::Full) => unreachable!(),
                 Err(InsertError::NoMemory) => Err(AllocError),
             },

@@ -56,8 +56,8 @@ fn group_of_one(alloc: Global, part: u64, key: &[u8]) -> Result<(GroupPlace, Ins
 {
     if key.len() <= 8 {
         let mut words = JudyL::unbounded(alloc);
-        match words.ins(part) {
-            Ok(slot) => *slot = 0,
+        match words.put(part, 0) {
+            Ok(_) => {}
             Err(InsertError::Full) => unreachable!(),
             Err(InsertError::NoMemory) => return Err(AllocError),
         }
@@ -174,8 +174,8 @@ impl Groups {
     {
         let (made, inside) = group_of_one(alloc, part, key)?;
         let (group, next) = free_place(&mut self.groups, self.free)?;
-        match self.lengths.ins(key.len() as u64) {
-            Ok(slot) => *slot = group as u64,
+        match self.lengths.put(key.len() as u64, group as u64) {
+            Ok(_) => {}
             Err(InsertError::Full) => unreachable!(),
             Err(InsertError::NoMemory) => return Err(AllocError),
         }

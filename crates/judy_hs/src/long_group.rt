@@ -11,16 +11,19 @@ ghost use Rattle.judy_hs.specs.ChainPlaces.{chains_of, links_of, AreChainPlaces}
 ghost use Rattle.judy_places.specs.Places.{IsNextPlace};
 ghost use Rattle.judy_hs.specs.Listed.{entries_in};
 
-use crate::chain::Chain;
-use crate::entry::{HsEntry, sort_from};
+use crate::chain::{Chain, is_word};
+use crate::entry::{HsEntry, HsKey, sort_from};
+use judy_entry::Entry;
 use judy_word::{InsertError, JudyL};
 use std::alloc::{AllocError, Global};
 use std::marker::Model;
+use std::mem;
 
-// A place for a chain: free, with the place that was free before it, or taken.
+// A place for a chain: free, with the place that was free before it; the one key that has its hash; or a chain of more.
 #[derive(Drop)]
 pub enum ChainPlace {
     Free(usize),
+    One(Entry),
     Taken(Chain),
 }
 
@@ -68,9 +71,21 @@ fn first_link(chains: &[ChainPlace], free: usize) -> Option<usize>
 {
     match chains.get(free) {
         Some(ChainPlace::Free(next)) => Some(*next),
+        Some(ChainPlace::One(_)) => None,
         Some(ChainPlace::Taken(_)) => None,
         None => None,
     }
+}
+
+// Makes room for one more chain. The list grows by an eighth, and not to its double: it is much of what an array takes.
+fn make_room(chains: &mut Vec<ChainPlace>) -> Result<(), AllocError>
+    ensures items { chains.new.items ≡ chains.old.items }
+    ensures room { OnOk result (vec_len chains.new < vec_capacity chains.new) }
+{
+    if chains.len() < chains.capacity() {
+        return Ok(());
+    }
+    chains.reserve_exact(chains.len() / 8 + 1)
 }
 
 // The place that the next chain takes, and the one that is free first then: the first free one, or the end of the list,
@@ -85,17 +100,48 @@ fn free_place(chains: &mut Vec<ChainPlace>, free: usize) -> Result<(usize, usize
     match first_link(chains, free) {
         Some(next) => Ok((free, next)),
         None => {
-            chains.reserve(1)?;
+            make_room(chains)?;
             Ok((chains.len(), free))
         }
     }
 }
 
 impl ChainPlace {
-    ghost use Rattle.judy_hs.specs.ChainPlaces.{pairs_at};
-    ghost use Rattle.judy_hs.specs.Chains.{value_in, value_at};
+    ghost use Rattle.judy_hs.specs.ChainPlaces.{pairs_at, IsOne};
+    ghost use Rattle.judy_hs.specs.Chains.{value_in, value_at, IsPlace};
     ghost use Rattle.judy_hs.specs.LongLends.{LendsPlace};
     ghost use Rattle.judy_hs.specs.Values.{AreWords};
+
+    // The place of the key in the chain.
+    fn find(&self, key: &[u8]) -> Option<usize>
+        ensures { MatchOption result (value_in (pairs_at self.now) key.now ≡ None) (IsPlace (pairs_at self.now) key.now) }
+    {
+        match self {
+            ChainPlace::One(entry) => { if entry.bytes() == key { Some(0) } else { None } }
+            ChainPlace::Taken(chain) => chain.find(key),
+            ChainPlace::Free(_) => None,
+        }
+    }
+
+    // The value of the key in the chain.
+    fn get(&self, key: &[u8]) -> Option<u64>
+        ensures { result ≡ value_in (pairs_at self.now) key.now }
+    {
+        match self {
+            ChainPlace::One(entry) => {
+                if entry.bytes() == key {
+                    Some(entry.value())
+                } else {
+                    None
+                }
+            }
+            ChainPlace::Taken(chain) => match chain.find(key) {
+                Some(at) => chain.get(at),
+                None => None,
+            },
+            ChainPlace::Free(_) => None,
+        }
+    }
 
     // The slot of the value at a place of the chain.
     fn slot(&mut self, at: usize) -> Option<&mut u64>
@@ -103,6 +149,7 @@ impl ChainPlace {
         ensures value { option_copied_mut result ≡ value_at (pairs_at self.old) at }
     {
         match self {
+            ChainPlace::One(entry) => { if at == 0 { Some(entry.slot()) } else { None } }
             ChainPlace::Taken(chain) => chain.slot(at),
             ChainPlace::Free(_) => None,
         }
@@ -116,7 +163,27 @@ impl ChainPlace {
         ensures unchanged { OnErr result (self.new ≡ self.old) }
     {
         match self {
+            ChainPlace::One(_) => self.join(alloc, key),
             ChainPlace::Taken(chain) => chain.add(alloc, key),
+            ChainPlace::Free(_) => unreachable!(),
+        }
+    }
+
+    // Makes a chain of the one key and another, with the value 0, and answers the other's place.
+    fn join(&mut self, alloc: Global, key: &[u8]) -> Result<usize, AllocError>
+        requires { IsOne self.old }
+        ensures place { IfOk result (λ at. at ≡ length (pairs_at self.old)) }
+        ensures added { OnOk result (pairs_at self.new ≡ pairs_at self.old ++ (key.now, 0) ∷ []) }
+        ensures unchanged { OnErr result (self.new ≡ self.old) }
+    {
+        let room = Vec::with_capacity(alloc, 2)?;
+        let second = Entry::new(alloc, key, 0)?;
+        match mem::replace(self, ChainPlace::Free(0)) {
+            ChainPlace::One(first) => {
+                *self = ChainPlace::Taken(Chain::of_two(room, first, second));
+                Ok(1)
+            }
+            ChainPlace::Taken(_) => unreachable!(),
             ChainPlace::Free(_) => unreachable!(),
         }
     }
@@ -128,6 +195,10 @@ impl ChainPlace {
         ensures answer { IsTrue result ↔ (pairs_at self.new ≡ []) }
     {
         match self {
+            ChainPlace::One(_) => {
+                *self = ChainPlace::Free(0);
+                true
+            }
             ChainPlace::Taken(chain) => {
                 chain.remove(at);
                 chain.is_empty()
@@ -141,6 +212,13 @@ impl ChainPlace {
         ensures { OnOk result (entries_in list.new.items ≡ entries_in list.old.items ++ pairs_at self.now) }
     {
         match self {
+            ChainPlace::One(entry) => {
+                list.push(HsEntry {
+                    key: HsKey::Long(entry.bytes()),
+                    value: entry.value(),
+                })?;
+                Ok(())
+            }
             ChainPlace::Taken(chain) => chain.list(list),
             ChainPlace::Free(_) => Ok(()),
         }
@@ -151,6 +229,7 @@ impl ChainPlace {
         ensures { AreWords (value_in (pairs_at self.now)) }
     {
         match self {
+            ChainPlace::One(entry) => is_word(entry.value()),
             ChainPlace::Taken(chain) => chain.are_words(),
             ChainPlace::Free(_) => {}
         }
@@ -169,10 +248,10 @@ impl LongGroup {
         ensures { IfOk result (λ group. group ≡ one_long hash key.now) }
     {
         let mut chains = Vec::with_capacity(alloc, 1)?;
-        chains.push_reserved(ChainPlace::Taken(Chain::of(alloc, key)?));
+        chains.push_reserved(ChainPlace::One(Entry::new(alloc, key, 0)?));
         let mut hashes = JudyL::unbounded(alloc);
-        match hashes.ins(hash) {
-            Ok(slot) => *slot = 0,
+        match hashes.put(hash, 0) {
+            Ok(_) => {}
             Err(InsertError::Full) => unreachable!(),
             Err(InsertError::NoMemory) => return Err(AllocError),
         }
@@ -189,11 +268,7 @@ impl LongGroup {
     {
         let place = self.hashes.get(hash)?;
         match self.chains.get(place as usize) {
-            Some(ChainPlace::Taken(chain)) => match chain.find(key) {
-                Some(at) => chain.get(at),
-                None => None,
-            },
-            Some(ChainPlace::Free(_)) => None,
+            Some(chain) => chain.get(key),
             None => None,
         }
     }
@@ -204,11 +279,10 @@ impl LongGroup {
     {
         let place = self.hashes.get(hash)?;
         match self.chains.get(place as usize) {
-            Some(ChainPlace::Taken(chain)) => match chain.find(key) {
+            Some(chain) => match chain.find(key) {
                 Some(at) => Some((place as usize, at)),
                 None => None,
             },
-            Some(ChainPlace::Free(_)) => None,
             None => None,
         }
     }
@@ -257,15 +331,15 @@ impl LongGroup {
         ensures added { IfOk result (λ place. self.new ≡ with_chain self.old hash key.now place) }
         ensures unchanged { OnErr result (self.new ≡ self.old) }
     {
-        let chain = Chain::of(alloc, key)?;
+        let entry = Entry::new(alloc, key, 0)?;
         let (place, next) = free_place(&mut self.chains, self.free)?;
-        match self.hashes.ins(hash) {
-            Ok(slot) => *slot = place as u64,
+        match self.hashes.put(hash, place as u64) {
+            Ok(_) => {}
             Err(InsertError::Full) => unreachable!(),
             Err(InsertError::NoMemory) => return Err(AllocError),
         }
         self.free = next;
-        put(&mut self.chains, place, ChainPlace::Taken(chain));
+        put(&mut self.chains, place, ChainPlace::One(entry));
         Ok(place)
     }
 

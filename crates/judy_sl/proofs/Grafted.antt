@@ -65,9 +65,9 @@ hung-some : (before now after : Arena) (grafts : Grafts before now) (words linke
 hung-some before now after grafts words linked place rest value twig at put_is linked_is is text spells =
     let held = pieces (drop 8 rest) in
     let front = place ++ piece_of rest ∷ [] in
-    let twig_text : IsText twig.rest.bytes.items = subst IsText (sym is.2) (text-drop 8 rest text) in
+    let twig_text : IsText twig.rest.0 = subst IsText (sym is.2) (text-drop 8 rest text) in
     let node : node_of (Tail twig.rest) ≡ tail held value = (λ i. tail (pieces (is.2 i)) (is.3 i)) in
-    let fits : SpellKey (front ++ pieces twig.rest.bytes.items) = subst SpellKey (ap (λ ps. place ++ ps) (pieces_long rest is.0) ∙ sym (append_assoc place (piece_of rest ∷ []) held) ∙ ap (λ b. front ++ pieces b) (sym is.2)) spells in
+    let fits : SpellKey (front ++ pieces twig.rest.0) = subst SpellKey (ap (λ ps. place ++ ps) (pieces_long rest is.0) ∙ sym (append_assoc place (piece_of rest ∷ []) held) ∙ ap (λ b. front ++ pieces b) (sym is.2)) spells in
     let here = put-here now after grafts.is (Tail twig.rest) at put_is front twig_text tt fits tt in
     record {
       grafts = put-grafts now after grafts.is (Tail twig.rest) at put_is front twig_text tt fits tt before grafts.was grafts.same;

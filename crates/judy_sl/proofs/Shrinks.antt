@@ -107,7 +107,7 @@ module _ (before now after : Arena) (at : ℕ) (rest : List ℕ) (is : IsClearin
 
   no-level : (c : Child) → world_of now (suc at) ≡ node_of c → ((words : ArrayOf word_order) → c ≡ Level words → ⊥) → AllLed (freed (world_of now) at)
   no-level (Free next) e other = absurd (lone-some (world_of now) at (pieces rest) is.loose.lone e)
-  no-level (Tail kept) e other = freed-tail (world_of now) at (pieces rest) is.loose (pieces kept.bytes.items) kept.value e
+  no-level (Tail kept) e other = freed-tail (world_of now) at (pieces rest) is.loose (pieces kept.0) kept.1 e
   no-level (Level words) e other = absurd (other words refl)
 
   -- A tail was the end.

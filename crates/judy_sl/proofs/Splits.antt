@@ -4,7 +4,6 @@ use Rattle.std.proofs.lemmas.Option.{none-some}
 use Rattle.std.proofs.lemmas.List.{take_rest, get_or_default}
 use Rattle.judy_model.specs.Keys.{IsStringKey}
 use Rattle.judy_sl.specs.declared.child.Child.{Child}
-use Rattle.judy_sl.specs.declared.child.Rest.{Rest}
 use Rattle.judy_sl.specs.declared.child.Child.TheVariants.{Free, Tail}
 use Rattle.judy_sl.specs.declared.arena.Arena.{Arena}
 use Rattle.judy_sl.specs.declared.arena.Place.{Place}
@@ -20,7 +19,7 @@ use Rattle.judy_sl.proofs.Linked.{inside_of}
 use Rattle.judy_sl.proofs.Filled.{world-same}
 use Rattle.judy_sl.proofs.Keeping.{gap-none, clash-none}
 
-module _ (arena reserved after : Arena) (same : IsSame arena reserved) (key : List ℕ) (at left : ℕ) (clash : IsClash (world_of arena) key at left) (read : Child) (read_is : read ≡ get_or arena.children.items at read) (rest : Rest) (is_tail : read ≡ Tail rest) (made : Branch) (built : IsBuilt rest.bytes.items rest.value (take (length key - (length key - left)) (drop (length key - left) key)) made) where
+module _ (arena reserved after : Arena) (same : IsSame arena reserved) (key : List ℕ) (at left : ℕ) (clash : IsClash (world_of arena) key at left) (read : Child) (read_is : read ≡ get_or arena.children.items at read) (rest : List ℕ × ℕ) (is_tail : read ≡ Tail rest) (made : Branch) (built : IsBuilt rest.0 rest.1 (take (length key - (length key - left)) (drop (length key - left) key)) made) where
   there : IsClash (world_of reserved) key at left
   there = subst (λ w. IsClash w key at left) (sym (world-same arena reserved same)) clash
 
@@ -30,17 +29,17 @@ module _ (arena reserved after : Arena) (same : IsSame arena reserved) (key : Li
   child-is : child_at arena at ≡ Tail rest
   child-is = get_or_default arena.children.items at (Free 0) read inside ∙ sym read_is ∙ is_tail
 
-  node-is : tail there.held there.value ≡ tail (pieces rest.bytes.items) rest.value
+  node-is : tail there.held there.value ≡ tail (pieces rest.0) rest.1
   node-is = sym there.is_tail ∙ ap (λ (w : World). w (suc at)) (world-same arena reserved same) ∙ ap node_of child-is
 
   pub split-graft : IsGraft reserved key at left made
   split-graft =
-      let value : rest.value ≡ there.value = (let e = node-is in cc) in
+      let value : rest.1 ≡ there.value = (let e = node-is in cc) in
       record {
         clash = there;
-        bytes = rest.bytes.items;
+        bytes = rest.0;
         held_is = (let e = node-is in cc);
-        built = subst (λ v. IsBuilt rest.bytes.items v (left_of key left) made) value (subst (λ k. IsBuilt rest.bytes.items rest.value k made) (take_rest key (length key - left)) built);
+        built = subst (λ v. IsBuilt rest.0 v (left_of key left) made) value (subst (λ k. IsBuilt rest.0 rest.1 k made) (take_rest key (length key - left)) built);
       }
 
   module _ (is_key : IsStringKey key) (grafted : (k : List ℕ) (l : ℕ) → IsStringKey k → IsGraft reserved k at l made → IsGrafted reserved after k) where

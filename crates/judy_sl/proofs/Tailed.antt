@@ -7,7 +7,6 @@ use Rattle.std.specs.FinMap.{FinMap, get, insert}
 use Rattle.judy_model.specs.Keys.{word_order, IsStringKey}
 use Rattle.judy_model.specs.Arrays.{ArrayOf}
 use Rattle.judy_sl.specs.declared.child.Child.{Child}
-use Rattle.judy_sl.specs.declared.child.Rest.{Rest}
 use Rattle.judy_sl.specs.declared.child.Child.TheVariants.{Tail}
 use Rattle.judy_sl.specs.declared.arena.Arena.{Arena}
 use Rattle.judy_sl.specs.declared.arena.Place.{Place}
@@ -150,7 +149,7 @@ module _ (world : World) (behind : ℕ → List ℕ) (is : IsWorld world behind)
   }
 
 -- The same over arenas.
-module _ (arena : Arena) (is : IsArena arena) (key : List ℕ) (is_key : IsStringKey key) (place : Place) (left : ℕ) (gap : IsGap (world_of arena) key place left) (long : 8 ≤ left) (entered after : Arena) (at : ℕ) (entered_is : entered ≡ place_with arena place at) (rest : Rest) (put_is : IsPut entered after (Tail rest) at) (bytes : rest.bytes.items ≡ drop 8 (left_of key left)) (zero_is : rest.value ≡ 0) where
+module _ (arena : Arena) (is : IsArena arena) (key : List ℕ) (is_key : IsStringKey key) (place : Place) (left : ℕ) (gap : IsGap (world_of arena) key place left) (long : 8 ≤ left) (entered after : Arena) (at : ℕ) (entered_is : entered ≡ place_with arena place at) (rest : List ℕ × ℕ) (put_is : IsPut entered after (Tail rest) at) (bytes : rest.0 ≡ drop 8 (left_of key left)) (zero_is : rest.1 ≡ 0) where
   abbrev rest_of : List ℕ
   rest_of = left_of key left
 
@@ -193,7 +192,7 @@ module _ (arena : Arena) (is : IsArena arena) (key : List ℕ) (is_key : IsStrin
       ∙ ap (set_node (set_node (world_of arena) (seat_of place) (level (insert gap.map (piece_at place) at))) (suc at)) node-is
       ∙ set_node-comm (world_of arena) (seat_of place) (suc at) (level (insert gap.map (piece_at place) at)) (tail (pieces (drop 8 rest_of)) 0) seat-off
 
-  pub fills-tail : IsText rest.bytes.items → IsAdded arena after key (Below at 0)
+  pub fills-tail : IsText rest.0 → IsAdded arena after key (Below at 0)
   fills-tail text =
       let inside = place-inside arena place (level-place arena place gap.map gap.is_level) in
       let texts = texts-place arena at place inside is.texts in
@@ -229,7 +228,7 @@ added-same before same after key at is added = record {
 }
 
 -- The whole of it, as the steps of the code come.
-pub filled-tail : (before reserved entered after : Arena) (key : List ℕ) (place : Place) (left at put_at : ℕ) (rest : Rest) → IsArena before → IsStringKey key → IsGap (world_of before) key place left → 8 ≤ left → IsSame before reserved → at ≡ next_place reserved → entered ≡ place_with reserved place at → put_at ≡ next_place entered → IsPut entered after (Tail rest) put_at → rest.bytes.items ≡ drop 8 (left_of key left) → rest.value ≡ 0 → IsAdded before after key (Below at 0)
+pub filled-tail : (before reserved entered after : Arena) (key : List ℕ) (place : Place) (left at put_at : ℕ) (rest : List ℕ × ℕ) → IsArena before → IsStringKey key → IsGap (world_of before) key place left → 8 ≤ left → IsSame before reserved → at ≡ next_place reserved → entered ≡ place_with reserved place at → put_at ≡ next_place entered → IsPut entered after (Tail rest) put_at → rest.0 ≡ drop 8 (left_of key left) → rest.1 ≡ 0 → IsAdded before after key (Below at 0)
 filled-tail before reserved entered after key place left at put_at rest is is_key gap long same at_is entered_is put_at_is put_is bytes value =
     let gap_there : IsGap (world_of reserved) key place left = subst (λ w. IsGap w key place left) (sym (world-same before reserved same)) gap in
     let here : put_at ≡ at = put_at_is ∙ ap next_place entered_is ∙ next-stays reserved place at ∙ sym at_is in

@@ -19,7 +19,7 @@ child_at arena at = get_or arena.children.items at (Free 0)
 -- What a child is.
 abbrev pub node_of : Child → Node
 node_of (Free next) = gone
-node_of (Tail rest) = tail (pieces rest.bytes.items) rest.value
+node_of (Tail rest) = tail (pieces rest.0) rest.1
 node_of (Level words) = level words.map
 
 -- What each seat has: the first level, and then the children in turn.
@@ -30,7 +30,7 @@ world_of arena (suc at) = node_of (child_at arena at)
 -- The bytes of a tail hold no zero.
 abbrev pub HasText : Child → Type 0
 HasText (Free next) = Unit {0}
-HasText (Tail rest) = IsText rest.bytes.items
+HasText (Tail rest) = IsText rest.0
 HasText (Level words) = Unit {0}
 
 -- A level has the limit of a word, which it never comes to.

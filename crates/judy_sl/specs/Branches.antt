@@ -25,7 +25,7 @@ entry_of (Some twig) value = 0
 -- What goes on behind the first piece of a rest.
 abbrev pub IsTwig : List ℕ → ℕ → Option Twig → Type 0
 IsTwig rest value None = length rest < 8
-IsTwig rest value (Some twig) = (8 ≤ length rest) × (twig.piece ≡ piece_of rest) × (twig.rest.bytes.items ≡ drop 8 rest) × (twig.rest.value ≡ value)
+IsTwig rest value (Some twig) = (8 ≤ length rest) × (twig.piece ≡ piece_of rest) × (twig.rest.0 ≡ drop 8 rest) × (twig.rest.1 ≡ value)
 
 -- The first piece of a rest was put into a level.
 pub record IsSprout (before after : ArrayOf word_order) (rest : List ℕ) (value : ℕ) (twig : Option Twig) : Type 0 where

@@ -12,13 +12,13 @@ use Rattle.judy_sl.specs.contracts.child.Child.{the_row}
 -- The child with a value written at a piece of a level, or as the value of a tail.
 abbrev pub child_with : Child → ℕ → ℕ → Child
 child_with (Free next) piece value = Free next
-child_with (Tail rest) piece value = Tail (record rest { value = value })
+child_with (Tail rest) piece value = Tail ((rest.0, value))
 child_with (Level words) piece value = Level (with_value words piece value)
 
 -- The value that is there.
 abbrev pub value_at : Child → ℕ → Option ℕ
 value_at (Free next) piece = None
-value_at (Tail rest) piece = Some rest.value
+value_at (Tail rest) piece = Some rest.1
 value_at (Level words) piece = get words.map piece
 
 -- The child ends with the value that is left behind the slot written at the piece, where there is a slot.
@@ -32,7 +32,7 @@ LendsChildOk child piece slot = LendsIfOk the_row u64 child slot (child_with chi
 -- The value that is there once the piece is put in: 0 where it is new.
 abbrev pub value_in : Child → ℕ → Option ℕ
 value_in (Free next) piece = None
-value_in (Tail rest) piece = Some rest.value
+value_in (Tail rest) piece = Some rest.1
 value_in (Level words) piece = get (ins words.map piece) piece
 
 -- The place isn't free.

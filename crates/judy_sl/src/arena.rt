@@ -13,7 +13,7 @@ ghost use Rattle.judy_sl.specs.declared.error.SlError.TheVariants.{NoMemory};
 ghost use Rattle.judy_sl.specs.declared.arena.Way.TheVariants.{At};
 ghost use Rattle.judy_sl.specs.Ways.{place_in, IsWay};
 
-use crate::child::Child;
+use crate::child::{Child, put_in};
 use crate::error::SlError;
 use crate::pieces::first_piece;
 use judy_word::{InsertError, JudyL};
@@ -93,7 +93,7 @@ impl Arena {
                     child = Some(at as usize);
                 }
                 Some(Child::Tail(tail)) => {
-                    return if tail.bytes.as_slice() == rest {
+                    return if tail.bytes() == rest {
                         Way::At(Place::Below(at as usize, 0))
                     } else {
                         Way::Clash(at as usize, rest.len())
@@ -128,8 +128,8 @@ impl Arena {
             match self.children.get(at as usize) {
                 Some(Child::Level(next)) => level = next,
                 Some(Child::Tail(tail)) => {
-                    return if tail.bytes.as_slice() == rest {
-                        Some(tail.value)
+                    return if tail.bytes() == rest {
+                        Some(tail.value())
                     } else {
                         None
                     };
@@ -188,12 +188,9 @@ impl Arena {
         ensures unchanged { OnErr result (self.new ≡ self.old) }
         ensures refused { IfErr result (λ error. error ≡ NoMemory) }
     {
-        match self.ins(place) {
-            Ok(slot) => {
-                *slot = value;
-                Ok(())
-            }
-            Err(error) => Err(error),
+        match place {
+            Place::Root(piece) => put_in(&mut self.root, piece, value),
+            Place::Below(at, piece) => self.child_at(at).put(piece, value),
         }
     }
 }

@@ -6,9 +6,9 @@ ghost use Rattle.judy_sl.specs.declared.error.SlError.TheVariants.{NoMemory};
 ghost use Rattle.judy_sl.specs.Pieces.{IsText};
 ghost use Rattle.judy_sl.specs.Branches.{IsSprout, IsBuilt, single};
 
-use crate::child::Rest;
 use crate::error::SlError;
 use crate::pieces::first_piece;
+use judy_entry::Entry;
 use judy_word::{InsertError, JudyL};
 use std::alloc::Global;
 
@@ -16,7 +16,7 @@ use std::alloc::Global;
 #[derive(Drop)]
 pub struct Twig {
     pub piece: u64,
-    pub rest: Rest,
+    pub rest: Entry,
 }
 
 // For each whole piece that both keys have a level with that entry alone, the first on top; the level of the first
@@ -35,8 +35,8 @@ fn one_entry(alloc: Global, piece: u64) -> Result<JudyL, SlError>
     ensures refused { IfErr result (λ error. error ≡ NoMemory) }
 {
     let mut level = JudyL::unbounded(alloc);
-    match level.ins(piece) {
-        Ok(slot) => *slot = 0,
+    match level.put(piece, 0) {
+        Ok(_) => {}
         Err(InsertError::Full) => unreachable!(),
         Err(InsertError::NoMemory) => return Err(SlError::NoMemory),
     }
@@ -57,41 +57,32 @@ fn sprout(
 {
     let piece = first_piece(rest);
     if rest.len() < 8 {
-        return match level.ins(piece) {
-            Ok(slot) => {
-                *slot = value;
-                Ok(None)
-            }
+        return match level.put(piece, value) {
+            Ok(_) => Ok(None),
             Err(InsertError::Full) => unreachable!(),
             Err(InsertError::NoMemory) => Err(SlError::NoMemory),
         };
     }
-    let Ok(bytes) = rest[8..].to_vec(alloc) else {
+    let Ok(rest) = Entry::new(alloc, &rest[8..], value) else {
         return Err(SlError::NoMemory);
     };
-    match level.ins(piece) {
-        Ok(slot) => {
-            *slot = 0;
-            Ok(Some(Twig {
-                piece,
-                rest: Rest { bytes, value },
-            }))
-        }
+    match level.put(piece, 0) {
+        Ok(_) => Ok(Some(Twig { piece, rest })),
         Err(InsertError::Full) => unreachable!(),
         Err(InsertError::NoMemory) => Err(SlError::NoMemory),
     }
 }
 
 // The branch of a tail and the rest of another key. When memory is there no contract says; rows try that it succeeds.
-pub fn branch_of(alloc: Global, tail: &Rest, key: &[u8]) -> Result<Branch, SlError>
-    requires tail_text { IsText tail.now.bytes.items }
+pub fn branch_of(alloc: Global, tail: &Entry, key: &[u8]) -> Result<Branch, SlError>
+    requires tail_text { IsText tail.now.0 }
     requires key_text { IsText key.now }
-    requires differ { tail.now.bytes.items ≢ key.now }
-    ensures built { IfOk result (λ made. IsBuilt tail.now.bytes.items tail.now.value key.now made) }
+    requires differ { tail.now.0 ≢ key.now }
+    ensures built { IfOk result (λ made. IsBuilt tail.now.0 tail.now.1 key.now made) }
     ensures refused { IfErr result (λ error. error ≡ NoMemory) }
 {
     let mut upper = Vec::new(alloc);
-    let mut held = tail.bytes.as_slice();
+    let mut held = tail.bytes();
     let mut rest = key;
     while first_piece(held) == first_piece(rest) {
         let piece = first_piece(rest);
@@ -106,7 +97,7 @@ pub fn branch_of(alloc: Global, tail: &Rest, key: &[u8]) -> Result<Branch, SlErr
         rest = &rest[8..];
     }
     let mut fork = JudyL::unbounded(alloc);
-    let old = match sprout(alloc, &mut fork, held, tail.value) {
+    let old = match sprout(alloc, &mut fork, held, tail.value()) {
         Ok(old) => old,
         Err(error) => return Err(error),
     };

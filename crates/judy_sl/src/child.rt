@@ -1,30 +1,43 @@
 //! What stands behind a piece that isn't final: a tail or a level.
 
+ghost use Rattle.std.specs.Prelude.{◌≡◌, OnOk, OnErr, IfErr, IsFalse};
+ghost use Rattle.judy_model.specs.Arrays.{is_full};
+ghost use Rattle.judy_word.specs.Writes.{with_value};
+ghost use Rattle.judy_sl.specs.declared.error.SlError.TheVariants.{NoMemory};
+
 use crate::error::SlError;
+use judy_entry::Entry;
 use judy_word::{InsertError, JudyL};
 
-// The rest of one key, and the key's value.
-#[derive(Drop)]
-pub struct Rest {
-    pub bytes: Vec<u8>,
-    pub value: u64,
-}
-
-// A place of the list: free, with the place that was free before it; a tail; or a level.
+// A place of the list: free, with the place that was free before it; a tail, which is the rest of one key with the key's
+// value; or a level.
 #[derive(Drop)]
 pub enum Child {
     Free(usize),
-    Tail(Rest),
+    Tail(Entry),
     Level(JudyL),
 }
 
+// Gives a piece of a level a value, whether it is there or not.
+pub fn put_in(level: &mut JudyL, piece: u64, value: u64) -> Result<(), SlError>
+    requires { IsFalse (is_full level.old piece) }
+    ensures entered { OnOk result (level.new ≡ with_value level.old piece value) }
+    ensures unchanged { OnErr result (level.new ≡ level.old) }
+    ensures refused { IfErr result (λ error. error ≡ NoMemory) }
+{
+    match level.put(piece, value) {
+        Ok(_) => Ok(()),
+        Err(InsertError::Full) => unreachable!(),
+        Err(InsertError::NoMemory) => Err(SlError::NoMemory),
+    }
+}
+
 impl Child {
-    ghost use Rattle.std.specs.Prelude.{◌≡◌, Some, None, IfOk, IfErr};
+    ghost use Rattle.std.specs.Prelude.{Some, None, IfOk};
     ghost use Rattle.std.specs.Borrow.{sem};
     ghost use Rattle.std.specs.Option.{option_copied_mut};
-    ghost use Rattle.judy_sl.specs.declared.error.SlError.TheVariants.{NoMemory};
     ghost use Rattle.judy_sl.specs.Shrunk.{child_without};
-    ghost use Rattle.judy_sl.specs.Children.{LendsChild, LendsChildOk, value_at, value_in, IsTaken, HasRoom};
+    ghost use Rattle.judy_sl.specs.Children.{LendsChild, LendsChildOk, child_with, value_at, value_in, IsTaken, HasRoom};
 
     // The slot of a piece of a level, or of the one key of a tail.
     pub fn slot(&mut self, piece: u64) -> Option<&mut u64>
@@ -33,7 +46,7 @@ impl Child {
     {
         match self {
             Child::Level(level) => level.slot(piece),
-            Child::Tail(tail) => Some(&mut tail.value),
+            Child::Tail(tail) => Some(tail.slot()),
             Child::Free(_) => None,
         }
     }
@@ -52,7 +65,25 @@ impl Child {
                 Err(InsertError::Full) => unreachable!(),
                 Err(InsertError::NoMemory) => Err(SlError::NoMemory),
             },
-            Child::Tail(tail) => Ok(&mut tail.value),
+            Child::Tail(tail) => Ok(tail.slot()),
+            Child::Free(_) => unreachable!(),
+        }
+    }
+
+    // Gives a piece of a level a value, whether it is there or not, or the one key of a tail.
+    pub fn put(&mut self, piece: u64, value: u64) -> Result<(), SlError>
+        requires taken { IsTaken self.old }
+        requires room { HasRoom self.old piece }
+        ensures entered { OnOk result (self.new ≡ child_with self.old piece value) }
+        ensures unchanged { OnErr result (self.new ≡ self.old) }
+        ensures refused { IfErr result (λ error. error ≡ NoMemory) }
+    {
+        match self {
+            Child::Level(level) => put_in(level, piece, value),
+            Child::Tail(tail) => {
+                *tail.slot() = value;
+                Ok(())
+            }
             Child::Free(_) => unreachable!(),
         }
     }

@@ -14,9 +14,11 @@ ghost use Rattle.judy_sl.specs.Grown.{IsPut, IsHung, HasTwig, IsSound, IsGraft, 
 
 use crate::arena::{Arena, Place, Way};
 use crate::branches::{Branch, Twig, branch_of};
-use crate::child::{Child, Rest};
+use crate::child::Child;
 use crate::error::SlError;
+use judy_entry::Entry;
 use judy_word::JudyL;
+use std::alloc::AllocError;
 
 // Lets an entry of a level lead to the child at a place.
 fn link(level: &mut JudyL, piece: u64, place: usize)
@@ -27,6 +29,17 @@ fn link(level: &mut JudyL, piece: u64, place: usize)
         Some(slot) => *slot = place as u64,
         None => unreachable!(),
     }
+}
+
+// Makes room for so many more children. The list grows by an eighth, and not to its double: it is much of what an array takes.
+fn make_room(children: &mut Vec<Child>, more: usize) -> Result<(), AllocError>
+    ensures items { children.new.items ≡ children.old.items }
+    ensures room { OnOk result (vec_len children.new + more ≤ vec_capacity children.new) }
+{
+    if children.capacity() - children.len() >= more {
+        return Ok(());
+    }
+    children.reserve_exact(more.saturating_add(children.len() / 8))
 }
 
 impl Arena {
@@ -95,16 +108,16 @@ impl Arena {
             };
         }
         let alloc = *self.children.allocator();
-        let Ok(bytes) = key[key.len() - left + 8..].to_vec(alloc) else {
+        let Ok(tail) = Entry::new(alloc, &key[key.len() - left + 8..], 0) else {
             return Err(SlError::NoMemory);
         };
-        if self.children.reserve(1).is_err() {
+        if make_room(&mut self.children, 1).is_err() {
             return Err(SlError::NoMemory);
         }
         let at = self.next_place();
         match self.enter(place, at as u64) {
             Ok(()) => {
-                self.put(Child::Tail(Rest { bytes, value: 0 }));
+                self.put(Child::Tail(tail));
                 Ok(Place::Below(at, 0))
             }
             Err(error) => Err(error),
@@ -177,7 +190,7 @@ impl Arena {
             Ok(made) => made,
             Err(error) => return Err(error),
         };
-        if self.children.reserve(made.upper.len() + 2).is_err() {
+        if make_room(&mut self.children, made.upper.len() + 2).is_err() {
             return Err(SlError::NoMemory);
         }
         self.graft(at, made);

@@ -18,7 +18,7 @@ impl Child {
     {
         match self {
             Child::Level(level) => level.is_array(),
-            Child::Tail(tail) => is_word(tail.value),
+            Child::Tail(tail) => is_word(tail.value()),
             Child::Free(_) => {}
         }
     }

@@ -157,7 +157,7 @@ impl Arena {
             match self.children.get(at as usize) {
                 Some(Child::Level(next)) => level = next,
                 Some(Child::Tail(tail)) => {
-                    let met = look.meets(rest, tail.bytes.as_slice());
+                    let met = look.meets(rest, tail.bytes());
                     return if met {
                         Some(Turn {
                             level,
@@ -200,8 +200,8 @@ impl Arena {
                     piece = look.side.end(next)?;
                 }
                 Some(Child::Tail(tail)) => {
-                    key.try_extend_from_slice(tail.bytes.as_slice()).ok()?;
-                    return Some(tail.value);
+                    key.try_extend_from_slice(tail.bytes()).ok()?;
+                    return Some(tail.value());
                 }
                 Some(Child::Free(_)) => return None,
                 None => return None,

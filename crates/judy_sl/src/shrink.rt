@@ -63,11 +63,7 @@ impl Arena {
                     child = Some(at as usize);
                 }
                 Some(Child::Tail(tail)) => {
-                    return if tail.bytes.as_slice() == rest {
-                        cut
-                    } else {
-                        None
-                    };
+                    return if tail.bytes() == rest { cut } else { None };
                 }
                 Some(Child::Free(_)) => unreachable!(),
                 None => unreachable!(),

@@ -30,13 +30,13 @@ returns-then-eq c =
     let child = child_from c.args.self.now _ c.deref.ensures.value c.in_ok-at.at _ (Tail c.in-Some-Tail.tail) (c.in-Some-Tail.ensures.lookup.4 (omega arith) (Free 0)) c.in-Some-Tail.field-0-is in
     let same = (slice_eq-Decides Decides-eqb _ _ _ c.eq.ensures).0 c.if-eq.true in
     let deeper = subst (λ (xs : List ℕ). IsDeeper c.loop-rest.cut c.loop-rest.level.now.map (record { place = c.place_in.result; below = Some c.in_ok-at.at; left = length xs }) c.deeper.result) (take_rest c.loop-rest.rest.now 8) c.deeper.ensures in
-    cut-tail (world_of c.args.self.now) c.args.key.now c.in_ok-at.at (drop 8 c.loop-rest.rest.now) c.in-Some-Tail.tail.bytes.items c.in-Some-Tail.tail.value c.deeper.result (ap node_of child) (sym c.as_slice.ensures.value ∙ same ∙ take_rest c.loop-rest.rest.now 8) (cut-on (world_of c.args.self.now) c.args.key.now c.loop-rest.child c.loop-rest.level.now.map c.loop-rest.rest.now c.loop-rest.invariant.on c.requires.is_text c.loop-rest.cut c.loop-rest.invariant.so_far c.first_piece-piece.result c.first_piece-piece.ensures c.place_in.result c.place_in.ensures c.in_ok-at.at c.deeper.result c.loop-rest-test.true (sym c.get.ensures ∙ c.in_ok-at.was) deeper)
+    cut-tail (world_of c.args.self.now) c.args.key.now c.in_ok-at.at (drop 8 c.loop-rest.rest.now) c.in-Some-Tail.tail.0 c.in-Some-Tail.tail.1 c.deeper.result (ap node_of child) (sym c.bytes.ensures ∙ same ∙ take_rest c.loop-rest.rest.now 8) (cut-on (world_of c.args.self.now) c.args.key.now c.loop-rest.child c.loop-rest.level.now.map c.loop-rest.rest.now c.loop-rest.invariant.on c.requires.is_text c.loop-rest.cut c.loop-rest.invariant.so_far c.first_piece-piece.result c.first_piece-piece.ensures c.place_in.result c.place_in.ensures c.in_ok-at.at c.deeper.result c.loop-rest-test.true (sym c.get.ensures ∙ c.in_ok-at.was) deeper)
 
 pub returns-else-eq : goal.returns-else-eq
 returns-else-eq c =
     let child = child_from c.args.self.now _ c.deref.ensures.value c.in_ok-at.at _ (Tail c.in-Some-Tail.tail) (c.in-Some-Tail.ensures.lookup.4 (omega arith) (Free 0)) c.in-Some-Tail.field-0-is in
-    let other : c.as_slice.result.now ≢ take (length c.loop-rest.rest.now - 8) (drop 8 c.loop-rest.rest.now) = (λ e. let t = (slice_eq-Decides Decides-eqb _ _ _ c.eq.ensures).1 e in (let b : true ≡ false = sym t ∙ c.if-eq.false in cc)) in
-    found-clash _ _ _ _ _ c.loop-rest.invariant.on c.loop-rest-test.true (piece-IsInner c.loop-rest.rest.now (c.loop-rest.invariant.on.text c.requires.is_text) c.loop-rest-test.true) c.in_ok-at.at (sym (ap (λ p. get c.loop-rest.level.now.map p) c.first_piece-piece.ensures) ∙ sym c.get.ensures ∙ c.in_ok-at.was) c.in-Some-Tail.tail.bytes.items c.in-Some-Tail.tail.value (ap node_of child) (subst HasText child (c.requires.is_arena.texts c.in_ok-at.at)) (λ e. other (c.as_slice.ensures.value ∙ e ∙ sym (take_rest c.loop-rest.rest.now 8))) c.requires.is_text
+    let other : c.bytes.result.now ≢ take (length c.loop-rest.rest.now - 8) (drop 8 c.loop-rest.rest.now) = (λ e. let t = (slice_eq-Decides Decides-eqb _ _ _ c.eq.ensures).1 e in (let b : true ≡ false = sym t ∙ c.if-eq.false in cc)) in
+    found-clash _ _ _ _ _ c.loop-rest.invariant.on c.loop-rest-test.true (piece-IsInner c.loop-rest.rest.now (c.loop-rest.invariant.on.text c.requires.is_text) c.loop-rest-test.true) c.in_ok-at.at (sym (ap (λ p. get c.loop-rest.level.now.map p) c.first_piece-piece.ensures) ∙ sym c.get.ensures ∙ c.in_ok-at.was) c.in-Some-Tail.tail.0 c.in-Some-Tail.tail.1 (ap node_of child) (subst HasText child (c.requires.is_arena.texts c.in_ok-at.at)) (λ e. other (c.bytes.ensures ∙ e ∙ sym (take_rest c.loop-rest.rest.now 8))) c.requires.is_text
 
 pub unreachable-requires : goal.unreachable-requires
 unreachable-requires c =

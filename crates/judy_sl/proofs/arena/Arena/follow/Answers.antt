@@ -44,27 +44,27 @@ from_ok (Err error) is holds = absurd (true≢false (sym is))
 
 pub returns-in_err-ok-in-Some-Tail : goal.returns-in_err-ok-in-Some-Tail
 returns-in_err-ok-in-Some-Tail c =
-    let held = c.in-Some-Tail.tail.bytes.items in
+    let held = c.in-Some-Tail.tail.0 in
     let child = child_from c.args.self.now _ c.deref.ensures.value c.in_ok-at.at _ (Tail c.in-Some-Tail.tail) (c.in-Some-Tail.ensures.lookup.4 (omega arith) (Free 0)) c.in-Some-Tail.field-0-is in
     let text = subst HasText child (c.requires.is_arena.texts c.in_ok-at.at) in
-    let room : length (c.loop-piece.key.items ++ piece_bytes c.loop-piece.piece) + length held ≤ 1024 = follow_tail_room c.requires.is_arena.is_world c.args.key.now.items c.loop-piece.level.now.map c.loop-piece.piece c.loop-piece.key.items c.loop-piece.invariant c.in_ok-at.at (sym c.get.ensures ∙ c.in_ok-at.was) c.loop-piece-test.true held c.in-Some-Tail.tail.value (ap node_of child) text in
+    let room : length (c.loop-piece.key.items ++ piece_bytes c.loop-piece.piece) + length held ≤ 1024 = follow_tail_room c.requires.is_arena.is_world c.args.key.now.items c.loop-piece.level.now.map c.loop-piece.piece c.loop-piece.key.items c.loop-piece.invariant c.in_ok-at.at (sym c.get.ensures ∙ c.in_ok-at.was) c.loop-piece-test.true held c.in-Some-Tail.tail.1 (ap node_of child) text in
     let before = ap length c.push_piece.ensures in
-    let more = ap length c.as_slice.ensures.value in
+    let more = ap length c.bytes.ensures in
     let fits : is_ok c.try_extend_from_slice.result ≡ true = c.try_extend_from_slice.ensures.variant.1 (omega arith) in
     absurd (true≢false (sym (c.ok.ensures.variant ∙ fits) ∙ ap is_some c.in_err-ok-in-Some-Tail.was))
 
 pub returns-in-Some-Tail : goal.returns-in-Some-Tail
 returns-in-Some-Tail c =
-    let held = c.in-Some-Tail.tail.bytes.items in
+    let held = c.in-Some-Tail.tail.0 in
     let child = child_from c.args.self.now _ c.deref.ensures.value c.in_ok-at.at _ (Tail c.in-Some-Tail.tail) (c.in-Some-Tail.ensures.lookup.4 (omega arith) (Free 0)) c.in-Some-Tail.field-0-is in
     let text = subst HasText child (c.requires.is_arena.texts c.in_ok-at.at) in
-    let room : length (c.loop-piece.key.items ++ piece_bytes c.loop-piece.piece) + length held ≤ 1024 = follow_tail_room c.requires.is_arena.is_world c.args.key.now.items c.loop-piece.level.now.map c.loop-piece.piece c.loop-piece.key.items c.loop-piece.invariant c.in_ok-at.at (sym c.get.ensures ∙ c.in_ok-at.was) c.loop-piece-test.true held c.in-Some-Tail.tail.value (ap node_of child) text in
+    let room : length (c.loop-piece.key.items ++ piece_bytes c.loop-piece.piece) + length held ≤ 1024 = follow_tail_room c.requires.is_arena.is_world c.args.key.now.items c.loop-piece.level.now.map c.loop-piece.piece c.loop-piece.key.items c.loop-piece.invariant c.in_ok-at.at (sym c.get.ensures ∙ c.in_ok-at.was) c.loop-piece-test.true held c.in-Some-Tail.tail.1 (ap node_of child) text in
     let before = ap length c.push_piece.ensures in
-    let more = ap length c.as_slice.ensures.value in
+    let more = ap length c.bytes.ensures in
     let fits : is_ok c.try_extend_from_slice.result ≡ true = c.try_extend_from_slice.ensures.variant.1 (omega arith) in
     let items = from_ok c.try_extend_from_slice.result fits c.try_extend_from_slice.ensures.ok in
-    let after : c.try_extend_from_slice.new.self.items ≡ (c.loop-piece.key.items ++ piece_bytes c.loop-piece.piece) ++ held = items ∙ (λ t. c.push_piece.ensures t ++ c.as_slice.ensures.value t) in
-    subst (λ bytes. IsNeighbour c.args.look (world_of c.args.self.now) c.args.key.now.items bytes (Some c.in-Some-Tail.tail.value)) (sym after) (follow_tail c.requires.is_arena.is_world c.args.key.now.items c.loop-piece.level.now.map c.loop-piece.piece c.loop-piece.key.items c.loop-piece.invariant c.in_ok-at.at (sym c.get.ensures ∙ c.in_ok-at.was) c.loop-piece-test.true held c.in-Some-Tail.tail.value (ap node_of child) text)
+    let after : c.try_extend_from_slice.new.self.items ≡ (c.loop-piece.key.items ++ piece_bytes c.loop-piece.piece) ++ held = items ∙ (λ t. c.push_piece.ensures t ++ c.bytes.ensures t) in
+    rw c.value.ensures (subst (λ bytes. IsNeighbour c.args.look (world_of c.args.self.now) c.args.key.now.items bytes (Some c.in-Some-Tail.tail.1)) (sym after) (follow_tail c.requires.is_arena.is_world c.args.key.now.items c.loop-piece.level.now.map c.loop-piece.piece c.loop-piece.key.items c.loop-piece.invariant c.in_ok-at.at (sym c.get.ensures ∙ c.in_ok-at.was) c.loop-piece-test.true held c.in-Some-Tail.tail.1 (ap node_of child) text))
 
 pub returns-in-Some-Free : goal.returns-in-Some-Free
 returns-in-Some-Free c =

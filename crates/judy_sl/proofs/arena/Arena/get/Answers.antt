@@ -1,4 +1,4 @@
-use Rattle.std.proofs.Common.{◌≡◌, ◌≢◌, ◌∙◌, sym, ap, arith, length, take, drop, ◌-◌, true, false, subst, refl, suc}
+use Rattle.std.proofs.Common.{◌≡◌, ◌≢◌, ◌∙◌, sym, ap, Some, arith, length, take, drop, ◌-◌, true, false, subst, refl, suc}
 use Rattle.std.proofs.lemmas.List.{take_rest}
 use Rattle.std.proofs.lemmas.Bool.Decides.{Decides-eqb}
 use Rattle.std.proofs.lemmas.Slice.Eq.{slice_eq-Decides}
@@ -39,16 +39,16 @@ returns-then-eq c =
     let same = (slice_eq-Decides Decides-eqb _ _ _ c.eq.ensures).0 c.if-eq.true in
     let whole = subst IsInner c.first_piece-piece.ensures c.if-piece-eq0.false in
     let entry = sym (ap (λ p. get c.loop-rest.level.now.map p) c.first_piece-piece.ensures) ∙ sym c.get.ensures ∙ c.in_ok-at.was in
-    let held = sym c.as_slice.ensures.value ∙ same ∙ take_rest c.loop-rest.rest.now 8 in
-    sym (
-    get-map c.args.self.now c.args.key.now (key-tail c.args.self.now c.requires.is_arena c.args.key.now (λ k. omega (arith, c.type_inv.key k)) c.requires.ends _ _ _ c.loop-rest.invariant.on c.loop-rest-test.true whole c.in_ok-at.at entry c.in-Some-Tail.tail.bytes.items c.in-Some-Tail.tail.value (ap node_of child) held)
-    ∙ found-tail _ _ _ _ _ c.loop-rest.invariant.on c.loop-rest-test.true whole c.in_ok-at.at entry c.in-Some-Tail.tail.bytes.items c.in-Some-Tail.tail.value (ap node_of child) held)
+    let held = sym c.bytes.ensures ∙ same ∙ take_rest c.loop-rest.rest.now 8 in
+    ap (λ value. Some value) c.value.ensures ∙ sym (
+    get-map c.args.self.now c.args.key.now (key-tail c.args.self.now c.requires.is_arena c.args.key.now (λ k. omega (arith, c.type_inv.key k)) c.requires.ends _ _ _ c.loop-rest.invariant.on c.loop-rest-test.true whole c.in_ok-at.at entry c.in-Some-Tail.tail.0 c.in-Some-Tail.tail.1 (ap node_of child) held)
+    ∙ found-tail _ _ _ _ _ c.loop-rest.invariant.on c.loop-rest-test.true whole c.in_ok-at.at entry c.in-Some-Tail.tail.0 c.in-Some-Tail.tail.1 (ap node_of child) held)
 
 pub returns-else-eq : goal.returns-else-eq
 returns-else-eq c =
     let child = child_from c.args.self.now _ c.deref.ensures.value c.in_ok-at.at _ (Tail c.in-Some-Tail.tail) (c.in-Some-Tail.ensures.lookup.4 (omega arith) (Free 0)) c.in-Some-Tail.field-0-is in
-    let other : c.as_slice.result.now ≢ take (length c.loop-rest.rest.now - 8) (drop 8 c.loop-rest.rest.now) = (λ e. let t = (slice_eq-Decides Decides-eqb _ _ _ c.eq.ensures).1 e in (let b : true ≡ false = sym t ∙ c.if-eq.false in cc)) in
-    sym (get-map_none c.args.self.now c.args.key.now (λ is_key. found-clash _ _ _ _ _ c.loop-rest.invariant.on c.loop-rest-test.true (subst IsInner c.first_piece-piece.ensures c.if-piece-eq0.false) c.in_ok-at.at (sym (ap (λ p. get c.loop-rest.level.now.map p) c.first_piece-piece.ensures) ∙ sym c.get.ensures ∙ c.in_ok-at.was) c.in-Some-Tail.tail.bytes.items c.in-Some-Tail.tail.value (ap node_of child) (subst HasText child (c.requires.is_arena.texts c.in_ok-at.at)) (λ e. other (c.as_slice.ensures.value ∙ e ∙ sym (take_rest c.loop-rest.rest.now 8))) (text_of_key _ is_key)))
+    let other : c.bytes.result.now ≢ take (length c.loop-rest.rest.now - 8) (drop 8 c.loop-rest.rest.now) = (λ e. let t = (slice_eq-Decides Decides-eqb _ _ _ c.eq.ensures).1 e in (let b : true ≡ false = sym t ∙ c.if-eq.false in cc)) in
+    sym (get-map_none c.args.self.now c.args.key.now (λ is_key. found-clash _ _ _ _ _ c.loop-rest.invariant.on c.loop-rest-test.true (subst IsInner c.first_piece-piece.ensures c.if-piece-eq0.false) c.in_ok-at.at (sym (ap (λ p. get c.loop-rest.level.now.map p) c.first_piece-piece.ensures) ∙ sym c.get.ensures ∙ c.in_ok-at.was) c.in-Some-Tail.tail.0 c.in-Some-Tail.tail.1 (ap node_of child) (subst HasText child (c.requires.is_arena.texts c.in_ok-at.at)) (λ e. other (c.bytes.ensures ∙ e ∙ sym (take_rest c.loop-rest.rest.now 8))) (text_of_key _ is_key)))
 
 pub returns-in-Some-Free : goal.returns-in-Some-Free
 returns-in-Some-Free c =

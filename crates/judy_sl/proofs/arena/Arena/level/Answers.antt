@@ -27,7 +27,7 @@ loop-rest-preserved c =
 pub returns-in-Some-Tail-clause-there : goal.returns-in-Some-Tail-clause-there
 returns-in-Some-Tail-clause-there c =
     let child = child_from c.args.self.now _ c.deref.ensures.value c.in_ok-place.place _ (Tail c.in-Some-Tail.field-0-0) (c.in-Some-Tail.ensures.lookup.4 (omega arith) (Free 0)) c.in-Some-Tail.field-0-is in
-    λ branch. absurd (alone_tail c.args.self.now c.args.at.now c.requires.is_key c.loop-rest.level.now.map c.loop-rest.rest.now c.loop-rest.invariant c.loop-rest-test.true c.in_ok-place.place c.in-Some-Tail.field-0-0.value (pieces c.in-Some-Tail.field-0-0.bytes.items) (sym (ap (λ p. get c.loop-rest.level.now.map p) c.first_piece.ensures) ∙ sym c.get.ensures ∙ c.in_ok-place.was) (ap node_of child) branch)
+    λ branch. absurd (alone_tail c.args.self.now c.args.at.now c.requires.is_key c.loop-rest.level.now.map c.loop-rest.rest.now c.loop-rest.invariant c.loop-rest-test.true c.in_ok-place.place c.in-Some-Tail.field-0-0.1 (pieces c.in-Some-Tail.field-0-0.0) (sym (ap (λ p. get c.loop-rest.level.now.map p) c.first_piece.ensures) ∙ sym c.get.ensures ∙ c.in_ok-place.was) (ap node_of child) branch)
 
 pub returns-in-Some-Free-clause-there : goal.returns-in-Some-Free-clause-there
 returns-in-Some-Free-clause-there c =

@@ -38,29 +38,29 @@ returns-then-met-clause-is_turn c =
     let words = c.loop-rest.level in
     let on = c.loop-rest.invariant in
     let entry = sym (ap (λ p. get words.now.map p) c.first_piece-piece.ensures) ∙ sym c.get.ensures ∙ c.in-Some.is in
-    let held = c.in-Some-Tail.tail.bytes.items in
+    let held = c.in-Some-Tail.tail.0 in
     let child = child_from c.args.self.now _ c.deref.ensures.value c.in-Some.at _ (Tail c.in-Some-Tail.tail) (c.in-Some-Tail.ensures.lookup.4 (omega arith) (Free 0)) c.in-Some-Tail.field-0-is in
     let text = subst HasText child (c.requires.is_arena.texts c.in-Some.at) in
     let met : meets c.args.look (world_of c.args.self.now) (pieces (drop 8 c.loop-rest.rest.now)) (pieces held) ≡ c.meets-met.result =
     ap (is_beyond c.args.look.itself) (bytes_along c.args.look.side (drop 8 c.loop-rest.rest.now) held (text-drop 8 c.loop-rest.rest.now on.text) text)
-    ∙ (λ t. is_beyond c.args.look.itself (along_bytes c.args.look.side (sym (take_rest c.loop-rest.rest.now 8) t) (sym c.as_slice.ensures.value t)))
+    ∙ (λ t. is_beyond c.args.look.itself (along_bytes c.args.look.side (sym (take_rest c.loop-rest.rest.now 8) t) (sym c.bytes.ensures t)))
     ∙ sym c.meets-met.ensures in
-    rw c.first_piece-piece.ensures (on_tail c.args.look (world_of c.args.self.now) c.args.key.now words c.loop-rest.rest.now c.loop-rest.turn on c.loop-rest-test.true c.in-Some.at c.in-Some-Tail.tail.value (pieces held) entry (ap node_of child) (met ∙ c.if-met.true))
+    rw c.first_piece-piece.ensures (on_tail c.args.look (world_of c.args.self.now) c.args.key.now words c.loop-rest.rest.now c.loop-rest.turn on c.loop-rest-test.true c.in-Some.at c.in-Some-Tail.tail.1 (pieces held) entry (ap node_of child) (met ∙ c.if-met.true))
 
 pub returns-else-met-clause-is_turn : goal.returns-else-met-clause-is_turn
 returns-else-met-clause-is_turn c =
     let words = c.loop-rest.level in
     let on = c.loop-rest.invariant in
     let entry = sym (ap (λ p. get words.now.map p) c.first_piece-piece.ensures) ∙ sym c.get.ensures ∙ c.in-Some.is in
-    let held = c.in-Some-Tail.tail.bytes.items in
+    let held = c.in-Some-Tail.tail.0 in
     let child = child_from c.args.self.now _ c.deref.ensures.value c.in-Some.at _ (Tail c.in-Some-Tail.tail) (c.in-Some-Tail.ensures.lookup.4 (omega arith) (Free 0)) c.in-Some-Tail.field-0-is in
     let text = subst HasText child (c.requires.is_arena.texts c.in-Some.at) in
     let met : meets c.args.look (world_of c.args.self.now) (pieces (drop 8 c.loop-rest.rest.now)) (pieces held) ≡ c.meets-met.result =
     ap (is_beyond c.args.look.itself) (bytes_along c.args.look.side (drop 8 c.loop-rest.rest.now) held (text-drop 8 c.loop-rest.rest.now on.text) text)
-    ∙ (λ t. is_beyond c.args.look.itself (along_bytes c.args.look.side (sym (take_rest c.loop-rest.rest.now 8) t) (sym c.as_slice.ensures.value t)))
+    ∙ (λ t. is_beyond c.args.look.itself (along_bytes c.args.look.side (sym (take_rest c.loop-rest.rest.now 8) t) (sym c.bytes.ensures t)))
     ∙ sym c.meets-met.ensures in
     let nearest = subst (λ p. IsNearestEntry c.args.look.side false words.now.map p c.beyond.result) c.first_piece-piece.ensures c.beyond.ensures in
-    let none = none_child c.args.look (world_of c.args.self.now) on.seat words.now.map on.is_level (piece_of c.loop-rest.rest.now) c.in-Some.at (pieces (drop 8 c.loop-rest.rest.now)) entry (piece-IsInner c.loop-rest.rest.now on.text c.loop-rest-test.true) (none_tail c.args.look (world_of c.args.self.now) (suc c.in-Some.at) (pieces (drop 8 c.loop-rest.rest.now)) (pieces held) c.in-Some-Tail.tail.value (ap node_of child) (met ∙ c.if-met.false)) in
+    let none = none_child c.args.look (world_of c.args.self.now) on.seat words.now.map on.is_level (piece_of c.loop-rest.rest.now) c.in-Some.at (pieces (drop 8 c.loop-rest.rest.now)) entry (piece-IsInner c.loop-rest.rest.now on.text c.loop-rest-test.true) (none_tail c.args.look (world_of c.args.self.now) (suc c.in-Some.at) (pieces (drop 8 c.loop-rest.rest.now)) (pieces held) c.in-Some-Tail.tail.1 (ap node_of child) (met ∙ c.if-met.false)) in
     subst (IsTurn c.args.look (world_of c.args.self.now) c.args.key.now) (sym c.nearer-turn.ensures)
     (on_left c.args.look (world_of c.args.self.now) c.args.key.now words c.loop-rest.rest.now c.loop-rest.turn on c.loop-rest-test.true c.beyond.result nearest none)
 

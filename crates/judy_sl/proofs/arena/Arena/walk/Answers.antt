@@ -33,19 +33,19 @@ pub returns-then-eq-clause-way : goal.returns-then-eq-clause-way
 returns-then-eq-clause-way c = λ text.
     let child = child_from c.args.self.now _ c.deref.ensures.value c.in-Some.at _ (Tail c.in-Some-Tail.tail) (c.in-Some-Tail.ensures.lookup.4 (omega arith) (Free 0)) c.in-Some-Tail.field-0-is in
     let same = (slice_eq-Decides Decides-eqb _ _ _ c.eq.ensures).0 c.if-eq.true in
-    on-tail _ _ _ _ _ c.loop-rest.invariant.on c.loop-rest-test.true (subst IsInner c.first_piece-piece.ensures c.if-piece-eq0.false) c.in-Some.at (sym (ap (λ p. get c.loop-rest.level.now.map p) c.first_piece-piece.ensures) ∙ sym c.get.ensures ∙ c.in-Some.is) c.in-Some-Tail.tail.bytes.items c.in-Some-Tail.tail.value (ap node_of child) (sym c.as_slice.ensures.value ∙ same ∙ take_rest c.loop-rest.rest.now 8)
+    on-tail _ _ _ _ _ c.loop-rest.invariant.on c.loop-rest-test.true (subst IsInner c.first_piece-piece.ensures c.if-piece-eq0.false) c.in-Some.at (sym (ap (λ p. get c.loop-rest.level.now.map p) c.first_piece-piece.ensures) ∙ sym c.get.ensures ∙ c.in-Some.is) c.in-Some-Tail.tail.0 c.in-Some-Tail.tail.1 (ap node_of child) (sym c.bytes.ensures ∙ same ∙ take_rest c.loop-rest.rest.now 8)
 
 pub returns-then-eq-clause-there : goal.returns-then-eq-clause-there
 returns-then-eq-clause-there c = λ place is.
     let child = child_from c.args.self.now _ c.deref.ensures.value c.in-Some.at _ (Tail c.in-Some-Tail.tail) (c.in-Some-Tail.ensures.lookup.4 (omega arith) (Free 0)) c.in-Some-Tail.field-0-is in
     let same = (slice_eq-Decides Decides-eqb _ _ _ c.eq.ensures).0 c.if-eq.true in
-    key-tail c.args.self.now c.requires.is_arena c.args.key.now (λ k. omega (arith, c.type_inv.key k)) c.requires.ends _ _ _ c.loop-rest.invariant.on c.loop-rest-test.true (subst IsInner c.first_piece-piece.ensures c.if-piece-eq0.false) c.in-Some.at (sym (ap (λ p. get c.loop-rest.level.now.map p) c.first_piece-piece.ensures) ∙ sym c.get.ensures ∙ c.in-Some.is) c.in-Some-Tail.tail.bytes.items c.in-Some-Tail.tail.value (ap node_of child) (sym c.as_slice.ensures.value ∙ same ∙ take_rest c.loop-rest.rest.now 8)
+    key-tail c.args.self.now c.requires.is_arena c.args.key.now (λ k. omega (arith, c.type_inv.key k)) c.requires.ends _ _ _ c.loop-rest.invariant.on c.loop-rest-test.true (subst IsInner c.first_piece-piece.ensures c.if-piece-eq0.false) c.in-Some.at (sym (ap (λ p. get c.loop-rest.level.now.map p) c.first_piece-piece.ensures) ∙ sym c.get.ensures ∙ c.in-Some.is) c.in-Some-Tail.tail.0 c.in-Some-Tail.tail.1 (ap node_of child) (sym c.bytes.ensures ∙ same ∙ take_rest c.loop-rest.rest.now 8)
 
 pub returns-else-eq-clause-way : goal.returns-else-eq-clause-way
 returns-else-eq-clause-way c = λ text.
     let child = child_from c.args.self.now _ c.deref.ensures.value c.in-Some.at _ (Tail c.in-Some-Tail.tail) (c.in-Some-Tail.ensures.lookup.4 (omega arith) (Free 0)) c.in-Some-Tail.field-0-is in
-    let other : c.as_slice.result.now ≢ take (length c.loop-rest.rest.now - 8) (drop 8 c.loop-rest.rest.now) = (λ e. let t = (slice_eq-Decides Decides-eqb _ _ _ c.eq.ensures).1 e in (let b : true ≡ false = sym t ∙ c.if-eq.false in cc)) in
-    rw take_rest (on-clash _ _ _ _ _ c.loop-rest.invariant.on c.loop-rest-test.true (subst IsInner c.first_piece-piece.ensures c.if-piece-eq0.false) c.in-Some.at (sym (ap (λ p. get c.loop-rest.level.now.map p) c.first_piece-piece.ensures) ∙ sym c.get.ensures ∙ c.in-Some.is) c.in-Some-Tail.tail.bytes.items c.in-Some-Tail.tail.value (ap node_of child) (subst HasText child (c.requires.is_arena.texts c.in-Some.at)) (λ e. other (c.as_slice.ensures.value ∙ e ∙ sym (take_rest c.loop-rest.rest.now 8))) text)
+    let other : c.bytes.result.now ≢ take (length c.loop-rest.rest.now - 8) (drop 8 c.loop-rest.rest.now) = (λ e. let t = (slice_eq-Decides Decides-eqb _ _ _ c.eq.ensures).1 e in (let b : true ≡ false = sym t ∙ c.if-eq.false in cc)) in
+    rw take_rest (on-clash _ _ _ _ _ c.loop-rest.invariant.on c.loop-rest-test.true (subst IsInner c.first_piece-piece.ensures c.if-piece-eq0.false) c.in-Some.at (sym (ap (λ p. get c.loop-rest.level.now.map p) c.first_piece-piece.ensures) ∙ sym c.get.ensures ∙ c.in-Some.is) c.in-Some-Tail.tail.0 c.in-Some-Tail.tail.1 (ap node_of child) (subst HasText child (c.requires.is_arena.texts c.in-Some.at)) (λ e. other (c.bytes.ensures ∙ e ∙ sym (take_rest c.loop-rest.rest.now 8))) text)
 
 pub unreachable-requires : goal.unreachable-requires
 unreachable-requires c =

@@ -1,0 +1,91 @@
+//! The entry and its calls.
+
+ghost use Rattle.std.specs.Prelude.{◌≡◌, IfOk};
+ghost use Rattle.std.specs.Borrow.{sem};
+ghost use Rattle.judy_entry.specs.Bytes.{bytes_of};
+
+use arrayvec::ArrayVec;
+use std::alloc::{AllocError, Global};
+use std::marker::Model;
+
+// The bytes of an entry. So many stand in place that these take no more room than a vector does.
+#[derive(Drop)]
+enum Bytes {
+    Few(ArrayVec<u8, 16>),
+    Many(Vec<u8>),
+}
+
+impl Bytes {
+    // A copy of the bytes.
+    fn copied(alloc: Global, bytes: &[u8]) -> Result<Bytes, AllocError>
+        ensures { IfOk result (λ kept. bytes_of kept ≡ bytes.now) }
+    {
+        match ArrayVec::try_from(bytes) {
+            Ok(few) => Ok(Bytes::Few(few)),
+            Err(_) => Ok(Bytes::Many(bytes.to_vec(alloc)?)),
+        }
+    }
+
+    // The bytes.
+    fn as_slice(&self) -> &[u8]
+        ensures { result.now ≡ bytes_of self.now }
+    {
+        match self {
+            Bytes::Few(few) => few.as_slice(),
+            Bytes::Many(many) => many.as_slice(),
+        }
+    }
+}
+
+/// A byte string and its value. To contracts it is the pair of these.
+#[derive(Drop)]
+pub struct Entry {
+    bytes: Bytes,
+    value: u64,
+}
+
+impl Model for Entry {
+    ghost use Rattle.std.specs.Prelude.{List, ℕ};
+
+    ghost Value = { List ℕ × ℕ };
+
+    ghost use Rattle.judy_entry.specs.Bytes.{bytes_of};
+
+    ghost view = { λ entry. (bytes_of entry.bytes, entry.value) };
+}
+
+impl Entry {
+    ghost use Rattle.judy_entry.specs.Lends.{LendsValue};
+
+    /// The entry of a copy of the bytes. The error is want of memory.
+    pub fn new(alloc: Global, bytes: &[u8], value: u64) -> Result<Entry, AllocError>
+        ensures { IfOk result (λ entry. entry ≡ (bytes.now, value)) }
+    {
+        Ok(Entry {
+            bytes: Bytes::copied(alloc, bytes)?,
+            value,
+        })
+    }
+
+    /// The bytes.
+    pub fn bytes(&self) -> &[u8]
+        ensures { result.now ≡ self.now.0 }
+    {
+        self.bytes.as_slice()
+    }
+
+    /// The value.
+    pub fn value(&self) -> u64
+        ensures { result ≡ self.now.1 }
+    {
+        self.value
+    }
+
+    /// The slot of the value.
+    pub fn slot(&mut self) -> &mut u64
+        ensures* writes_back { sem 𝓛 (LendsValue self.entry result) }
+        ensures value { result.now ≡ self.old.1 }
+    {
+        &mut self.value
+    }
+}
