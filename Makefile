@@ -8,8 +8,8 @@ AT = $(DESTDIR)$(PREFIX)
 # Where Python finds modules under PREFIX, by its own word; a folder of our own where there is no Python.
 PYTHON_DIR = $(or $(shell tools/python_dir $(PREFIX) 2>/dev/null),$(PREFIX)/share/sellumaq/python)
 
-# At how many keys `make bench` measures: while the arrays stand over vectors, whose inserts move half the keys, no more.
-KEYS = 10000
+# At how many keys `make bench` measures the arrays.
+KEYS = 10000 1000000
 
 # All that a build of the program reads.
 SOURCES := crates.txt $(shell find crates -path '*/out' -prune -o -type f \( -name '*.rt' -o -name '*.antt' \) -print)
@@ -27,7 +27,7 @@ help:
 	@echo 'make refusals    runs the programs with each of their calls for memory refused in turn'
 	@echo 'make lib         proves and builds the library for C, and leaves it in out/lib; make lib-test tries it'
 	@echo 'make bindings-test  tries it from C, Rust and Python'
-	@echo 'make bench       measures the arrays beside libJudy, BTreeMap and HashMap'
+	@echo 'make bench       measures the arrays beside libJudy, BTreeMap and HashMap, and the program beside BTreeMap'
 	@echo 'make install     puts the program and the library for C, Rust and Python under PREFIX ($(PREFIX)); make uninstall takes them away'
 	@echo 'make install-test  runs the programs of the README over a library that was installed'
 	@echo 'make fmt         lays out the sources'
@@ -74,13 +74,26 @@ $(LIB)/libsellumaq.so: $(LIB)/libsellumaq.a
 lib-test: lib
 	@tools/try_library $(LIB)
 
-# The tests of the three languages over the library: those of Rust where cargo is there.
-bindings-test: lib-test
-	@if command -v cargo >/dev/null 2>&1; then cd bindings/rust && SELLUMAQ_LIB=$(abspath $(LIB)) cargo test --offline; else echo 'no cargo here: the Rust binding is not tried'; fi
-	@cd bindings/python && SELLUMAQ_LIBRARY=$(abspath $(LIB))/libsellumaq.so python3 -m unittest test_sellumaq
+# What refuses calls for memory where it is preloaded.
+REFUSER := out/refuse_alloc.so
 
-bench: lib
+$(REFUSER): tools/refuse_alloc.c
+	@mkdir -p out
+	@$(CC) -O1 -shared -fPIC -o $@ $<
+
+# The tests of the three languages over the library, those of Rust where cargo is there; Rust's and Python's with memory refused too. Only the
+# tests themselves are refused it: cargo runs them by the command that the variable names.
+bindings-test: lib-test $(REFUSER)
+	@if command -v cargo >/dev/null 2>&1; then \
+		cd bindings/rust && export SELLUMAQ_LIB=$(abspath $(LIB)) && \
+		CARGO_TARGET_X86_64_UNKNOWN_LINUX_GNU_RUNNER='env LD_PRELOAD=$(abspath $(REFUSER))' cargo test --offline; \
+	else echo 'no cargo here: the Rust binding is not tried'; fi
+	@cd bindings/python && LD_PRELOAD=$(abspath $(REFUSER)) SELLUMAQ_LIBRARY=$(abspath $(LIB))/libsellumaq.so python3 -m unittest test_sellumaq
+
+# Some ten minutes.
+bench: lib judystore
 	@tools/bench $(LIB) --svg docs/bench.svg $(KEYS)
+	@tools/bench_program ./judystore
 
 # Under DESTDIR, which is for those who pack: the program with its page, and the library with what each language needs to use it.
 install: install-program install-library

@@ -42,20 +42,32 @@ static const struct {
     {"random-32", random32, random32, false},   {"multiples-of-16", multiple, between, true},
 };
 
-/* The keys of a run as they are put in, in the order in which they are looked for, and as many words that are none; all shuffled but
- * the first where the pattern says so. */
+/* The keys as they are put in, in the order in which they are looked for, and as many words that are none; all shuffled but the
+ * first where the pattern says so. */
 struct keys {
     size_t n;
     word *in, *order, *out;
 };
 
-static void make(struct keys *keys, size_t pattern) {
+static const char *name(size_t pattern) { return PATTERNS[pattern].name; }
+
+static struct keys *make(size_t n, size_t pattern) {
+    struct keys *keys = room(1, sizeof *keys);
+    *keys = (struct keys){n, room(n, sizeof(word)), room(n, sizeof(word)), room(n, sizeof(word))};
     seed = pattern + 1;
-    for (size_t i = 0; i < keys->n; i++) keys->in[i] = keys->order[i] = PATTERNS[pattern].key(i);
-    if (PATTERNS[pattern].shuffled) shuffle(keys->in, keys->n);
-    shuffle(keys->order, keys->n);
-    for (size_t i = 0; i < keys->n; i++) keys->out[i] = PATTERNS[pattern].no_key(i);
-    shuffle(keys->out, keys->n);
+    for (size_t i = 0; i < n; i++) keys->in[i] = keys->order[i] = PATTERNS[pattern].key(i);
+    if (PATTERNS[pattern].shuffled) shuffle(keys->in, n);
+    shuffle(keys->order, n);
+    for (size_t i = 0; i < n; i++) keys->out[i] = PATTERNS[pattern].no_key(i);
+    shuffle(keys->out, n);
+    return keys;
+}
+
+static void drop(struct keys *keys) {
+    free(keys->in);
+    free(keys->order);
+    free(keys->out);
+    free(keys);
 }
 
 /* ---- measuring ---- */
@@ -67,33 +79,19 @@ static void make(struct keys *keys, size_t pattern) {
         word found = 0; \
         size_t held = mallinfo2().uordblks; \
         A_TYPE a = A_INIT; \
-        word begin = now(); \
-        for (size_t i = 0; i < keys->n; i++) { word k = keys->in[i]; PUT; } \
-        least(&told[INSERT], (double)(now() - begin) / keys->n); \
+        EACH(INSERT, word k = keys->in[i]; PUT); \
         told[BYTES] = (double)(mallinfo2().uordblks - held) / keys->n; \
-        begin = now(); \
-        for (size_t i = 0; i < keys->n; i++) { word k = keys->order[i]; found += FIND; } \
-        least(&told[HIT], (double)(now() - begin) / keys->n); \
-        begin = now(); \
-        for (size_t i = 0; i < keys->n; i++) { word k = keys->out[i]; found += FIND; } \
-        least(&told[MISS], (double)(now() - begin) / keys->n); \
-        begin = now(); \
+        EACH(HIT, word k = keys->order[i]; found += FIND); \
+        EACH(MISS, word k = keys->out[i]; found += FIND); \
+        word begin = now(); \
         for (word k = 0; NEXT_KEY;) found += k; \
-        least(&told[WALK], (double)(now() - begin) / keys->n); \
-        begin = now(); \
-        for (size_t i = 0; i < keys->n; i++) { word k = keys->order[i] ^ i % 16; if (NEXT_KEY) found += k; } \
-        least(&told[NEXT], (double)(now() - begin) / keys->n); \
+        took(told, WALK, begin, keys->n); \
+        EACH(NEXT, word k = keys->order[i] ^ i % 16; if (NEXT_KEY) found += k); \
         if (ORDERED) { \
-            begin = now(); \
-            for (size_t i = 0; i < keys->n; i++) { word k = keys->order[i]; (void)k; found += COUNT_BELOW; } \
-            least(&told[RANK], (double)(now() - begin) / keys->n); \
-            begin = now(); \
-            for (size_t i = 0; i < keys->n; i++) { word k = keys->order[i] % keys->n + 1; if (NTH) found += k; } \
-            least(&told[SELECT], (double)(now() - begin) / keys->n); \
+            EACH(RANK, word k = keys->order[i]; (void)k; found += COUNT_BELOW); \
+            EACH(SELECT, word k = keys->order[i] % keys->n + 1; if (NTH) found += k); \
         } \
-        begin = now(); \
-        for (size_t i = 0; i < keys->n; i++) { word k = keys->order[i]; TAKE; } \
-        least(&told[DELETE], (double)(now() - begin) / keys->n); \
+        EACH(DELETE, word k = keys->order[i]; TAKE); \
         A_END; \
         sink += found; \
     }
@@ -146,10 +144,7 @@ MEASURE(judyl_btree, void *, btree_map_new(), btree_map_free(a), btree_map_inser
         false, 0, 0, btree_map_remove(a, k))
 #endif
 
-static const struct {
-    const char *kind, *library;
-    void (*measure)(const struct keys *, double *);
-} MEASURED[] = {
+static const struct array ARRAYS[] = {
     {"judy1", "sellumaq", judy1_sellumaq}, {"judy1", "libjudy", judy1_libjudy}, {"judy1", "again", judy1_libjudy},
     {"judyl", "sellumaq", judyl_sellumaq}, {"judyl", "libjudy", judyl_libjudy}, {"judyl", "again", judyl_libjudy},
 #ifdef WITH_STD
@@ -157,26 +152,7 @@ static const struct {
 #endif
 };
 
-#define LIBRARIES (sizeof MEASURED / sizeof *MEASURED)
-
-static void measure(struct keys *keys, size_t pattern) {
-    double told[LIBRARIES][OPERATIONS];
-    for (size_t it = 0; it < LIBRARIES; it++) none_yet(told[it]);
-    make(keys, pattern);
-    size_t repeats = keys->n < 100000 ? 9 : 3;
-    for (size_t turn = 0; turn < repeats; turn++)
-        for (size_t it = 0; it < LIBRARIES; it++) MEASURED[it].measure(keys, told[it]);
-    for (size_t it = 0; it < LIBRARIES; it++) print(MEASURED[it].kind, MEASURED[it].library, PATTERNS[pattern].name, keys->n, told[it]);
+int main(int count, char **words) {
+    struct program program = {ARRAYS, sizeof ARRAYS / sizeof *ARRAYS, sizeof PATTERNS / sizeof *PATTERNS, name, make, drop};
+    return measure_all(&program, count, words);
 }
-
-static int run(size_t n) {
-    struct keys keys = {n, calloc(n, sizeof(word)), calloc(n, sizeof(word)), calloc(n, sizeof(word))};
-    if (!keys.in || !keys.order || !keys.out) return 1;
-    for (size_t pattern = 0; pattern < sizeof PATTERNS / sizeof *PATTERNS; pattern++) measure(&keys, pattern);
-    free(keys.in);
-    free(keys.order);
-    free(keys.out);
-    return 0;
-}
-
-int main(int count, char **words) { return for_each_size(count, words, run); }

@@ -1,8 +1,8 @@
-/* What the measuring programs share: words that look random, a clock, and the lines that they print,
+/* What the measuring programs share: words that look random, a clock, the loop over arrays and patterns of keys, and the lines that they print,
  *
  *     KIND LIBRARY PATTERN KEYS OPERATION NUMBER
  *
- * the number being nanoseconds an operation, the least of several repeats, or for `bytes` the bytes that malloc gives for a key.
+ * the number being nanoseconds of processor time an operation, the least of several turns, or for `bytes` the bytes that malloc gives for a key.
  */
 #include <malloc.h>
 #include <stdbool.h>
@@ -24,11 +24,24 @@ static word any(void) {
     return z ^ (z >> 31);
 }
 
+/* The thread's own processor time, so that other work on the machine counts little. */
 static word now(void) {
     struct timespec at;
-    clock_gettime(CLOCK_MONOTONIC, &at);
+    clock_gettime(CLOCK_THREAD_CPUTIME_ID, &at);
     return (word)at.tv_sec * 1000000000u + (word)at.tv_nsec;
 }
+
+/* Room for so many things, all zeros; the program ends where there is none. */
+static void *room(size_t count, size_t bytes) {
+    void *made = calloc(count, bytes);
+    if (!made) {
+        fputs("no memory for the keys\n", stderr);
+        exit(1);
+    }
+    return made;
+}
+
+/* ---- what is told ---- */
 
 enum { INSERT, HIT, MISS, WALK, NEXT, RANK, SELECT, DELETE, BYTES, OPERATIONS };
 
@@ -38,31 +51,73 @@ static void none_yet(double *told) {
     for (size_t operation = 0; operation < OPERATIONS; operation++) told[operation] = -1;
 }
 
-static void least(double *into, double number) {
-    if (*into < 0 || number < *into) *into = number;
+/* Keeps the least time that an operation took, since a beginning and for so many keys. */
+static void took(double *told, int operation, word begin, size_t n) {
+    double each = (double)(now() - begin) / n;
+    if (told[operation] < 0 || each < told[operation]) told[operation] = each;
 }
 
-static void print(const char *kind, const char *library, const char *pattern, size_t keys, const double *told) {
-    for (size_t operation = 0; operation < OPERATIONS; operation++)
-        if (told[operation] >= 0) printf("%s %s %s %zu %s %.2f\n", kind, library, pattern, keys, NAMES[operation], told[operation]);
-    fflush(stdout);
-}
+/* Measures the operation on each key: what is done for the `i`-th. It stands in a measuring function, which has `keys` and `told`. */
+#define EACH(OPERATION, ...) \
+    do { \
+        word begin = now(); \
+        for (size_t i = 0; i < keys->n; i++) { __VA_ARGS__; } \
+        took(told, OPERATION, begin, keys->n); \
+    } while (0)
 
 /* What a measured loop found goes here, so that no loop can be left out. */
 static volatile word sink;
 
-/* Calls `run` for each number of keys that the command line names, or for the usual ones. */
-static int for_each_size(int count, char **words, int (*run)(size_t keys)) {
+/* ---- the loop ---- */
+
+/* The keys of a run, by the program's own definition. */
+struct keys;
+
+/* One library's array of a kind, and the function that measures it over keys. */
+struct array {
+    const char *kind, *library;
+    void (*measure)(const struct keys *keys, double *told);
+};
+
+/* A measuring program: the arrays that it measures over each pattern of keys, which it names, makes and gives back. */
+struct program {
+    const struct array *arrays;
+    size_t array_count, pattern_count;
+    const char *(*name)(size_t pattern);
+    struct keys *(*make)(size_t n, size_t pattern);
+    void (*drop)(struct keys *keys);
+};
+
+static void print(const struct array *array, const char *pattern, size_t n, const double *told) {
+    for (size_t operation = 0; operation < OPERATIONS; operation++)
+        if (told[operation] >= 0) printf("%s %s %s %zu %s %.2f\n", array->kind, array->library, pattern, n, NAMES[operation], told[operation]);
+    fflush(stdout);
+}
+
+/* The arrays take turns, so that what slows the machine for a while slows them all. The least of many turns is a steady figure. */
+static void measure_pattern(const struct program *program, size_t n, size_t pattern) {
+    double told[program->array_count][OPERATIONS];
+    struct keys *keys = program->make(n, pattern);
+    size_t turns = n < 100000 ? 25 : 3;
+    for (size_t it = 0; it < program->array_count; it++) none_yet(told[it]);
+    for (size_t turn = 0; turn < turns; turn++)
+        for (size_t it = 0; it < program->array_count; it++) program->arrays[it].measure(keys, told[it]);
+    for (size_t it = 0; it < program->array_count; it++) print(&program->arrays[it], program->name(pattern), n, told[it]);
+    program->drop(keys);
+}
+
+/* Measures at each number of keys that the command line names, or at the usual ones; the status that the program ends with. */
+static int measure_all(const struct program *program, int count, char **words) {
     size_t usual[] = {10000, 1000000};
     size_t sizes = count > 1 ? (size_t)count - 1 : 2;
     mallopt(M_MMAP_THRESHOLD, 1 << 30);
     for (size_t at = 0; at < sizes; at++) {
-        size_t keys = count > 1 ? strtoull(words[at + 1], NULL, 10) : usual[at];
-        if (keys == 0) {
+        size_t n = count > 1 ? strtoull(words[at + 1], NULL, 10) : usual[at];
+        if (n == 0) {
             fprintf(stderr, "not a number of keys: %s\n", words[at + 1]);
             return 2;
         }
-        if (run(keys)) return 1;
+        for (size_t pattern = 0; pattern < program->pattern_count; pattern++) measure_pattern(program, n, pattern);
     }
     return 0;
 }

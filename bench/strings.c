@@ -39,25 +39,34 @@ static const struct {
     void (*make)(text *);
 } PATTERNS[] = {{"words-of-10", word_of_10}, {"urls-of-100", url_of_100}, {"random-8-to-40", random_bytes}};
 
-/* The keys of a run as they are put in, the order in which they are looked for, and as many strings that are none, or hardly any of
- * them. */
+/* The keys as they are put in, the order in which they are looked for, and as many strings that are none, or hardly any of them. */
 struct keys {
     size_t n;
     text *in, *out;
     size_t *order;
 };
 
-static void make(struct keys *keys, size_t pattern) {
+static const char *name(size_t pattern) { return PATTERNS[pattern].name; }
+
+static struct keys *make(size_t n, size_t pattern) {
+    struct keys *keys = room(1, sizeof *keys);
+    *keys = (struct keys){n, room(n, sizeof(text)), room(n, sizeof(text)), room(n, sizeof(size_t))};
     seed = pattern + 1;
-    memset(keys->in, 0, keys->n * sizeof *keys->in);
-    memset(keys->out, 0, keys->n * sizeof *keys->out);
-    for (size_t i = 0; i < keys->n; i++) {
+    for (size_t i = 0; i < n; i++) {
         PATTERNS[pattern].make(&keys->in[i]);
         PATTERNS[pattern].make(&keys->out[i]);
         size_t j = any() % (i + 1);
         keys->order[i] = keys->order[j];
         keys->order[j] = i;
     }
+    return keys;
+}
+
+static void drop(struct keys *keys) {
+    free(keys->in);
+    free(keys->out);
+    free(keys->order);
+    free(keys);
 }
 
 /* ---- measuring ---- */
@@ -77,28 +86,18 @@ static void begin_at(const text *it) {
         word found = 0; \
         size_t held = mallinfo2().uordblks; \
         A_TYPE a = A_INIT; \
-        word begin = now(); \
-        for (size_t i = 0; i < keys->n; i++) { const text *k = &keys->in[i]; PUT; } \
-        least(&told[INSERT], (double)(now() - begin) / keys->n); \
+        EACH(INSERT, const text *k = &keys->in[i]; PUT); \
         told[BYTES] = (double)(mallinfo2().uordblks - held) / keys->n; \
-        begin = now(); \
-        for (size_t i = 0; i < keys->n; i++) { const text *k = &keys->in[keys->order[i]]; found += FIND; } \
-        least(&told[HIT], (double)(now() - begin) / keys->n); \
-        begin = now(); \
-        for (size_t i = 0; i < keys->n; i++) { const text *k = &keys->out[i]; found += FIND; } \
-        least(&told[MISS], (double)(now() - begin) / keys->n); \
+        EACH(HIT, const text *k = &keys->in[keys->order[i]]; found += FIND); \
+        EACH(MISS, const text *k = &keys->out[i]; found += FIND); \
         if (ORDERED) { \
             begin_at(&(text){{0}, 0}); \
-            begin = now(); \
+            word begin = now(); \
             while (NEXT_KEY) found += at.bytes[0]; \
-            least(&told[WALK], (double)(now() - begin) / keys->n); \
-            begin = now(); \
-            for (size_t i = 0; i < keys->n; i++) { begin_at(&keys->out[i]); if (NEXT_KEY) found += at.bytes[0]; } \
-            least(&told[NEXT], (double)(now() - begin) / keys->n); \
+            took(told, WALK, begin, keys->n); \
+            EACH(NEXT, begin_at(&keys->out[i]); if (NEXT_KEY) found += at.bytes[0]); \
         } \
-        begin = now(); \
-        for (size_t i = 0; i < keys->n; i++) { const text *k = &keys->in[keys->order[i]]; TAKE; } \
-        least(&told[DELETE], (double)(now() - begin) / keys->n); \
+        EACH(DELETE, const text *k = &keys->in[keys->order[i]]; TAKE); \
         A_END; \
         sink += found; \
     }
@@ -156,10 +155,7 @@ MEASURE(judyhs_std, void *, hash_text_new(), hash_text_free(a), hash_text_insert
         hash_text_value(a, k->bytes, k->length), false, false, hash_text_remove(a, k->bytes, k->length))
 #endif
 
-static const struct {
-    const char *kind, *library;
-    void (*measure)(const struct keys *, double *);
-} MEASURED[] = {
+static const struct array ARRAYS[] = {
     {"judysl", "sellumaq", judysl_sellumaq}, {"judysl", "libjudy", judysl_libjudy}, {"judysl", "again", judysl_libjudy},
     {"judyhs", "sellumaq", judyhs_sellumaq}, {"judyhs", "libjudy", judyhs_libjudy}, {"judyhs", "again", judyhs_libjudy},
 #ifdef WITH_STD
@@ -167,26 +163,7 @@ static const struct {
 #endif
 };
 
-#define LIBRARIES (sizeof MEASURED / sizeof *MEASURED)
-
-static void measure(struct keys *keys, size_t pattern) {
-    double told[LIBRARIES][OPERATIONS];
-    for (size_t it = 0; it < LIBRARIES; it++) none_yet(told[it]);
-    make(keys, pattern);
-    size_t repeats = keys->n < 100000 ? 9 : 3;
-    for (size_t turn = 0; turn < repeats; turn++)
-        for (size_t it = 0; it < LIBRARIES; it++) MEASURED[it].measure(keys, told[it]);
-    for (size_t it = 0; it < LIBRARIES; it++) print(MEASURED[it].kind, MEASURED[it].library, PATTERNS[pattern].name, keys->n, told[it]);
+int main(int count, char **words) {
+    struct program program = {ARRAYS, sizeof ARRAYS / sizeof *ARRAYS, sizeof PATTERNS / sizeof *PATTERNS, name, make, drop};
+    return measure_all(&program, count, words);
 }
-
-static int run(size_t n) {
-    struct keys keys = {n, calloc(n, sizeof(text)), calloc(n, sizeof(text)), calloc(n, sizeof(size_t))};
-    if (!keys.in || !keys.out || !keys.order) return 1;
-    for (size_t pattern = 0; pattern < sizeof PATTERNS / sizeof *PATTERNS; pattern++) measure(&keys, pattern);
-    free(keys.in);
-    free(keys.out);
-    free(keys.order);
-    return 0;
-}
-
-int main(int count, char **words) { return for_each_size(count, words, run); }

@@ -3,7 +3,9 @@
    It stands before the C library's own functions, where it is preloaded, and counts the calls of them all. REFUSE=N in
    the environment refuses the Nth call, REFUSE=N+ that one and each later one, REFUSE=N,M the Nth and then the Mth. When it has
    refused each call that REFUSE names it creates the file that REFUSED names, so that whoever runs the program can tell. It counts
-   for one thread. */
+   for one thread.
+
+   A program that looks the function `refuse_from` up refuses its own thread's calls by it, where it chooses. */
 
 #include <errno.h>
 #include <fcntl.h>
@@ -34,8 +36,34 @@ __attribute__((constructor)) static void begin(void)
     }
 }
 
+/* The thread's own choice; it is kept where no call for memory is made for it. */
+#define OF_THREAD static _Thread_local __attribute__((tls_model("initial-exec"))) long
+OF_THREAD own_first; /* 0: nothing is refused */
+OF_THREAD own_called;
+OF_THREAD own_refused;
+
+/* Refuses this thread's calls from now on, the Nth and each later one, or none for 0; answers how many were refused since it was called before. */
+long refuse_from(long call)
+{
+    long told = own_refused;
+    own_first = call;
+    own_called = own_refused = 0;
+    return told;
+}
+
+static int refused_by_choice(void)
+{
+    if (own_first == 0 || ++own_called < own_first)
+        return 0;
+    own_refused++;
+    errno = ENOMEM;
+    return 1;
+}
+
 static int refused(void)
 {
+    if (refused_by_choice())
+        return 1;
     if (first == 0)
         return 0;
     called++;

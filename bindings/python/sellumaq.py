@@ -108,14 +108,6 @@ class _Array:
 class _Map(_Array):
     """What dicts have alike."""
 
-    def __setitem__(self, key, value):
-        slot = _slot()
-        _checked(value)
-        told = self._calls["ins"](self._handle, *self._passed(key), slot)
-        if told != _FOUND:
-            raise _refusal(told, key)
-        slot[0] = value
-
     def __getitem__(self, key):
         value = _word()
         if self._has("get", key, value):
@@ -139,6 +131,33 @@ class _Ordered(_Array):
 
     def __deepcopy__(self, _):
         return self.copy()
+
+
+class _Items(ItemsView):
+    def __iter__(self):
+        return self._mapping._pairs()
+
+
+class _Values(ValuesView):
+    def __iter__(self):
+        return (value for _, value in self._mapping._pairs())
+
+
+class _OrderedMap(_Map, _Ordered, MutableMapping):
+    """What dicts have alike whose keys are in order. `_pairs` gives their pairs by ascending key, each found with its value."""
+
+    def items(self):
+        return _Items(self)
+
+    def values(self):
+        return _Values(self)
+
+    def copy(self):
+        """Another dict of the same pairs."""
+        return type(self)(self.items())
+
+    def __repr__(self):
+        return type(self).__name__ + "({" + ", ".join(f"{key!r}: {value}" for key, value in self.items()) + "})"
 
 
 class _Words(_Ordered):
@@ -232,17 +251,26 @@ class Judy1(_Words, MutableSet):
         return f"Judy1({list(self)})" if self else "Judy1()"
 
 
-class JudyL(_Words, _Map, MutableMapping):
+class JudyL(_Words, _OrderedMap):
     """An ordered dict from words to words."""
 
-    _calls = _word_calls("judyl", ins=(_word, ctypes.POINTER(_slot)), get=(_word, _slot), **{"del": (_word,)})
+    _calls = _word_calls("judyl", get=(_word, _slot), first_entry=(_word, _slot, _slot), **{"del": (_word,)}) | {
+        "put": _call("judyl_put", ctypes.c_uint32, _word, _word)
+    }
 
     def __init__(self, *pairs, **none):
         super().__init__()
         self.update(*pairs, **none)
 
-    def __repr__(self):
-        return "JudyL({" + ", ".join(f"{key}: {value}" for key, value in self.items()) + "})"
+    def __setitem__(self, key, value):
+        if self._calls["put"](self._handle, _checked(key), _checked(value)) == _NO_MEMORY:
+            raise MemoryError
+
+    def _pairs(self):
+        start, key, value = 0, _word(), _word()
+        while start <= MAX and self._calls["first_entry"](self._handle, start, key, value):
+            start = key.value + 1
+            yield key.value, value.value
 
 
 class _Text:
@@ -284,15 +312,13 @@ class _Strings(_Map):
         key = self._encoded(key)
         return key, len(key)
 
-
-class _Items(ItemsView):
-    def __iter__(self):
-        return self._mapping._walk("first")
-
-
-class _Values(ValuesView):
-    def __iter__(self):
-        return (value for _, value in self._mapping._walk("first"))
+    def __setitem__(self, key, value):
+        slot = _slot()
+        _checked(value)
+        told = self._calls["ins"](self._handle, *self._passed(key), slot)
+        if told != _FOUND:
+            raise _refusal(told, key)
+        slot[0] = value
 
 
 def _could_be_key(string):
@@ -302,7 +328,7 @@ def _could_be_key(string):
     return key, len(key) == len(string)
 
 
-class _OrderedStrings(_Strings, _Ordered, MutableMapping):
+class _OrderedStrings(_Strings, _OrderedMap):
     """What both kinds of JudySL have alike."""
 
     _calls = _string_calls("judysl", "first", "next", "last", "prev")
@@ -342,14 +368,8 @@ class _OrderedStrings(_Strings, _Ordered, MutableMapping):
     def __reversed__(self):
         return (key for key, _ in self._walk("last", b"\xff" * MAX_KEY))
 
-    def items(self):
-        return _Items(self)
-
-    def values(self):
-        return _Values(self)
-
-    def __repr__(self):
-        return type(self).__name__ + "({" + ", ".join(f"{key!r}: {value}" for key, value in self.items()) + "})"
+    def _pairs(self):
+        return self._walk("first")
 
 
 class JudySL(_Text, _OrderedStrings):

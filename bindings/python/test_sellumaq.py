@@ -1,6 +1,7 @@
 """Sets and dicts beside Python's own."""
 
 import copy
+import ctypes
 import doctest
 import random
 import unittest
@@ -144,6 +145,64 @@ class Strings(unittest.TestCase):
         longest = JudySLBytes({b"\xff" * MAX_KEY: 1})
         self.assertEqual(longest.at_or_before(b"\xff" * (MAX_KEY + 1)), b"\xff" * MAX_KEY)
         self.assertIsNone(longest.at_or_after(b"\xff" * (MAX_KEY + 1)))
+
+
+# Refuses this thread's calls for memory, from the n-th on, or none for 0, and answers how many it refused; there where tools/refuse_alloc.c
+# is preloaded, as `make bindings-test` does.
+refuse_from = getattr(ctypes.CDLL(None), "refuse_from", None)
+
+
+@unittest.skipUnless(refuse_from, "nothing is preloaded that refuses memory")
+class WithoutMemory(unittest.TestCase):
+    def refused_in_turn(self, change, key, held):
+        """Makes a change whose first call for memory is refused and each later one, then its second, and so on until it succeeds. Each
+        refusal must be a MemoryError and leave what is `held`. How often it was refused."""
+        failed, before = 0, held()
+        while True:
+            refuse_from(failed + 1)
+            try:
+                change(key)
+                return failed
+            except MemoryError:
+                self.assertGreater(refuse_from(0), 0)
+                self.assertEqual(held(), before)
+                failed += 1
+            finally:
+                refuse_from(0)
+
+    def without(self, change, *words):
+        """What a change answers that is refused all memory, and that it asked for none."""
+        refuse_from(1)
+        told = change(*words)
+        self.assertEqual(refuse_from(0), 0)
+        return told
+
+    def test_words(self):
+        keys = [*range(40), *(n << 16 for n in range(1, 60)), *(n * 0x9E3779B97F4A7C15 & MAX for n in range(1, 60))]
+        kept, pairs, failed = Judy1(), JudyL(), 0
+        for key in keys:
+            failed += self.refused_in_turn(kept.add, key, lambda: list(kept))
+            failed += self.refused_in_turn(lambda key: pairs.__setitem__(key, key), key, lambda: list(pairs.items()))
+        self.assertGreater(failed, 20)
+        self.assertEqual((list(kept), list(pairs.items())), (sorted(keys), [(key, key) for key in sorted(keys)]))
+        for key in keys:
+            self.without(kept.add, key)
+            self.without(pairs.__setitem__, key, 5)
+            self.assertEqual((key in kept, pairs[key]), (True, 5))
+            kept.discard(key)
+
+    def test_strings(self):
+        keys = [f"{'shared ' * (n % 4 * 3)}{n}" for n in range(100)]
+        for array in (JudySL(), JudyHS()):
+            failed = 0
+            for key in keys:
+                failed += self.refused_in_turn(lambda key: array.__setitem__(key, 7), key, lambda: (len(array), [array.get(key) for key in keys]))
+            self.assertGreater(failed, 20)
+            for key in keys:
+                self.without(array.__setitem__, key, 5)
+                self.assertEqual(array[key], 5)
+                self.without(array.__delitem__, key)
+            self.assertFalse(array)
 
 
 def load_tests(_loader, tests, _pattern):

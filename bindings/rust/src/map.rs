@@ -1,10 +1,11 @@
 //! Maps from words to words.
 use crate::array::array;
 use crate::span::Span;
-use crate::sys::judyl;
+use crate::sys::{self, judyl};
 use crate::words::word_array;
 use crate::{no_room, NoMemory};
 use std::fmt;
+use std::mem::replace;
 use std::ptr::null_mut;
 
 array!(
@@ -15,11 +16,6 @@ array!(
 word_array!(JudyL by judyl, walked by Pairs over (u64, u64));
 
 impl JudyL {
-    // A key stands beside its value.
-    fn item(&self, key: u64) -> Option<(u64, u64)> {
-        Some((key, self.get(key)?))
-    }
-
     /// Gives a key a value, and answers the one it had. It ends the program where there is no memory, as std's maps do.
     pub fn insert(&mut self, key: u64, value: u64) -> Option<u64> {
         self.try_insert(key, value).unwrap_or_else(no_room)
@@ -27,9 +23,24 @@ impl JudyL {
 
     /// Gives a key a value, and answers the one it had; at the error the map is as it was. A key that is there is never refused.
     pub fn try_insert(&mut self, key: u64, value: u64) -> Result<Option<u64>, NoMemory> {
-        let before = self.len();
-        let had = std::mem::replace(self.slot(key)?, value);
-        Ok((self.len() == before).then_some(had))
+        if let Some(slot) = self.get_mut(key) {
+            return Ok(Some(replace(slot, value)));
+        }
+        self.try_put(key, value).map(|_| None)
+    }
+
+    /// Gives a key a value, and answers whether the key is new, which takes less time than to tell the value it had. It ends the program
+    /// where there is no memory.
+    pub fn put(&mut self, key: u64, value: u64) -> bool {
+        self.try_put(key, value).unwrap_or_else(no_room)
+    }
+
+    /// Gives a key a value, and answers whether the key is new; at the error the map is as it was. A key that is there is never refused.
+    pub fn try_put(&mut self, key: u64, value: u64) -> Result<bool, NoMemory> {
+        match unsafe { judyl::put(&mut self.handle, key, value) } {
+            sys::NO_MEMORY => Err(NoMemory),
+            told => Ok(told == sys::ADDED),
+        }
     }
 
     /// The value of a key, to read and to change; the key is put in with the value 0 where it is absent.
@@ -70,6 +81,22 @@ impl JudyL {
         Some(value)
     }
 
+    /// The pair of the least key from a word on.
+    pub fn at_or_after(&self, from: u64) -> Option<(u64, u64)> {
+        self.handle.search_entry(judyl::first_entry, from)
+    }
+
+    /// The pair of the greatest key up to a word.
+    pub fn at_or_before(&self, from: u64) -> Option<(u64, u64)> {
+        self.handle.search_entry(judyl::last_entry, from)
+    }
+
+    /// The pair of the n-th key in ascending order, counted from 0.
+    pub fn nth(&self, n: u64) -> Option<(u64, u64)> {
+        let key = self.handle.search(judyl::by_count, n.checked_add(1)?)?;
+        Some((key, self.get(key)?))
+    }
+
     /// The pair of the least key.
     pub fn first_key_value(&self) -> Option<(u64, u64)> {
         self.at_or_after(0)
@@ -94,7 +121,7 @@ impl JudyL {
 impl Extend<(u64, u64)> for JudyL {
     fn extend<I: IntoIterator<Item = (u64, u64)>>(&mut self, pairs: I) {
         for (key, value) in pairs {
-            self.insert(key, value);
+            self.put(key, value);
         }
     }
 }

@@ -14,11 +14,6 @@ array!(
 word_array!(Judy1 by judy1, walked by Keys over u64);
 
 impl Judy1 {
-    // A key stands for itself.
-    fn item(&self, key: u64) -> Option<u64> {
-        Some(key)
-    }
-
     /// Puts a key in, and answers whether it was absent. It ends the program where there is no memory, as std's sets do.
     pub fn insert(&mut self, key: u64) -> bool {
         self.try_insert(key).unwrap_or_else(no_room)
@@ -41,6 +36,21 @@ impl Judy1 {
     pub fn contains(&self, key: u64) -> bool {
         let mut handle = self.handle;
         unsafe { judy1::test(&mut handle, key) }
+    }
+
+    /// The least key from a word on.
+    pub fn at_or_after(&self, from: u64) -> Option<u64> {
+        self.handle.search(judy1::first, from)
+    }
+
+    /// The greatest key up to a word.
+    pub fn at_or_before(&self, from: u64) -> Option<u64> {
+        self.handle.search(judy1::last, from)
+    }
+
+    /// The n-th key in ascending order, counted from 0.
+    pub fn nth(&self, n: u64) -> Option<u64> {
+        self.handle.search(judy1::by_count, n.checked_add(1)?)
     }
 
     /// The least key.

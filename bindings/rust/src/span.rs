@@ -1,6 +1,22 @@
 //! The words of a range, and a way through the keys among them from both ends.
-use crate::sys::{Handle, Search};
 use std::ops::{Bound, RangeBounds};
+
+/// What a search finds: a key, or a key beside its value.
+pub trait Found: Copy {
+    fn key(self) -> u64;
+}
+
+impl Found for u64 {
+    fn key(self) -> u64 {
+        self
+    }
+}
+
+impl Found for (u64, u64) {
+    fn key(self) -> u64 {
+        self.0
+    }
+}
 
 /// The words from one to another, both included, whose keys are still to come; none is left of no words.
 #[derive(Clone)]
@@ -27,18 +43,18 @@ impl Span {
     }
 
     /// The least key left, by the search for the least from a word on.
-    pub fn next(&mut self, first: Search, handle: Handle) -> Option<u64> {
+    pub fn next<T: Found>(&mut self, at_or_after: impl FnOnce(u64) -> Option<T>) -> Option<T> {
         let (from, to) = self.0.take()?;
-        let key = handle.search(first, from).filter(|key| *key <= to)?;
-        self.0 = key.checked_add(1).filter(|next| *next <= to).map(|next| (next, to));
-        Some(key)
+        let found = at_or_after(from).filter(|found| found.key() <= to)?;
+        self.0 = found.key().checked_add(1).filter(|next| *next <= to).map(|next| (next, to));
+        Some(found)
     }
 
     /// The greatest key left, by the search for the greatest up to a word.
-    pub fn next_back(&mut self, last: Search, handle: Handle) -> Option<u64> {
+    pub fn next_back<T: Found>(&mut self, at_or_before: impl FnOnce(u64) -> Option<T>) -> Option<T> {
         let (from, to) = self.0.take()?;
-        let key = handle.search(last, to).filter(|key| *key >= from)?;
-        self.0 = key.checked_sub(1).filter(|next| *next >= from).map(|next| (from, next));
-        Some(key)
+        let found = at_or_before(to).filter(|found| found.key() >= from)?;
+        self.0 = found.key().checked_sub(1).filter(|next| *next >= from).map(|next| (from, next));
+        Some(found)
     }
 }

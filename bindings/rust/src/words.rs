@@ -1,20 +1,10 @@
 //! What sets and maps of words have alike.
 
 /// Writes the walks through an `$array` by the module of its calls in C, `$calls`. What stands for a key is an `$item`, which the
-/// array's `item` makes of a key that was found.
+/// array's `at_or_after` and `at_or_before` find.
 macro_rules! word_array {
     ($array:ident by $calls:ident, walked by $walk:ident over $item:ty) => {
         impl $array {
-            /// What stands for the least key from a word on.
-            pub fn at_or_after(&self, from: u64) -> Option<$item> {
-                self.item(self.handle.search($calls::first, from)?)
-            }
-
-            /// What stands for the greatest key up to a word.
-            pub fn at_or_before(&self, from: u64) -> Option<$item> {
-                self.item(self.handle.search($calls::last, from)?)
-            }
-
             /// The least word from one on that is no key.
             pub fn absent_at_or_after(&self, from: u64) -> Option<u64> {
                 self.handle.search($calls::first_empty, from)
@@ -23,11 +13,6 @@ macro_rules! word_array {
             /// The greatest word up to one that is no key.
             pub fn absent_at_or_before(&self, from: u64) -> Option<u64> {
                 self.handle.search($calls::last_empty, from)
-            }
-
-            /// What stands for the n-th key in ascending order, counted from 0.
-            pub fn nth(&self, n: u64) -> Option<$item> {
-                self.item(self.handle.search($calls::by_count, n.checked_add(1)?)?)
             }
 
             /// How many keys there are in a range. No way through them is made.
@@ -58,13 +43,13 @@ macro_rules! word_array {
             type Item = $item;
 
             fn next(&mut self) -> Option<$item> {
-                self.array.item(self.span.next($calls::first, self.array.handle)?)
+                self.span.next(|from| self.array.at_or_after(from))
             }
         }
 
         impl DoubleEndedIterator for $walk<'_> {
             fn next_back(&mut self) -> Option<$item> {
-                self.array.item(self.span.next_back($calls::last, self.array.handle)?)
+                self.span.next_back(|from| self.array.at_or_before(from))
             }
         }
 

@@ -104,11 +104,20 @@ fn bytes_that_are_no_key() {
     assert_eq!(strings.try_insert(longer, 3), Err(InsertError::BadKey));
     assert_eq!(bytes.try_insert(longer, 3), Err(InsertError::BadKey));
     assert_eq!(strings.try_insert("a\0b", 3), Err(InsertError::BadKey));
+    assert_eq!((strings.slot(longer), bytes.slot(longer)), (Err(InsertError::BadKey), Err(InsertError::BadKey)));
     assert_eq!((strings.get(longer), bytes.get(longer), strings.get("\0")), (None, None, None));
+    assert_eq!((strings.get_mut("\0"), bytes.get_mut(longer)), (None, None));
+    assert_eq!((strings.remove("\0"), bytes.remove(longer)), (None, None));
     assert_eq!((strings.len(), bytes.len()), (2, 1));
     assert_eq!(strings.range::<[u8]>((Included(&longer[..]), Unbounded)).next(), None);
     assert_eq!(strings.at_or_before(longer), Some((longest.to_vec(), 1)));
     assert_eq!(strings.range(.."\0").collect::<Vec<_>>(), [(vec![], 2)]);
+}
+
+#[test]
+#[should_panic = "not the bytes of a key"]
+fn an_insert_panics_at_bytes_that_are_no_key() {
+    JudySl::new().insert([1; MAX_KEY + 1], 1);
 }
 
 #[test]

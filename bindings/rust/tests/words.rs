@@ -62,7 +62,7 @@ fn a_map_is_a_map() {
     let (mut words, mut map, mut plain) = (Words(2), JudyL::new(), BTreeMap::new());
     for turn in 0..4000 {
         let (key, value) = (words.key(), words.any());
-        match words.any() % 4 {
+        match words.any() % 5 {
             0 => assert_eq!(map.remove(key), plain.remove(&key)),
             1 => {
                 let slot = map.slot(key).unwrap();
@@ -71,6 +71,7 @@ fn a_map_is_a_map() {
                 plain.insert(key, value);
             }
             2 => assert_eq!(map.get_mut(key).map(|it| std::mem::replace(it, value)), plain.get_mut(&key).map(|it| std::mem::replace(it, value))),
+            3 => assert_eq!(map.put(key, value), plain.insert(key, value).is_none()),
             _ => assert_eq!(map.insert(key, value), plain.insert(key, value)),
         }
         let (from, to) = (words.key().min(key), words.key().max(key));
