@@ -26,8 +26,14 @@ pub(crate) fn one_key<V: Words + Drop>(width: u8, key: u64, value: u64) -> Child
 }
 
 // Puts a child in at the place of its byte, which has none; there is room for it among the children.
-pub(crate) fn add_child<V: Words + Drop>(branch: &mut BranchOf<V>, byte: u8, child: ChildOf<V>)
-    requires place { set.rank branch.old.bytes byte ≤ length branch.old.children.items }
+pub(crate) fn add_child<V: Words + Drop>(
+    branch: &mut BranchOf<V>,
+    place: usize,
+    byte: u8,
+    child: ChildOf<V>,
+)
+    requires place { place ≡ set.rank branch.old.bytes byte }
+    requires within { place ≤ length branch.old.children.items }
     requires room { vec_len branch.old.children < vec_capacity branch.old.children }
     ensures bytes { branch.new.bytes ≡ set.with_byte branch.old.bytes byte }
     ensures children { branch.new.children.items ≡ insert branch.old.children.items (set.rank branch.old.bytes byte) child }
@@ -38,7 +44,6 @@ pub(crate) fn add_child<V: Words + Drop>(branch: &mut BranchOf<V>, byte: u8, chi
     ensures len { vec_len branch.new.children ≡ vec_len branch.old.children + 1 }
     ensures capacity { vec_capacity branch.old.children ≤ vec_capacity branch.new.children }
 {
-    let place = branch.bytes.rank(byte);
     branch.bytes.add(byte);
     let Ok(()) = branch.children.insert(place, child) else {
         unreachable!()
@@ -46,12 +51,19 @@ pub(crate) fn add_child<V: Words + Drop>(branch: &mut BranchOf<V>, byte: u8, chi
 }
 
 // Puts the node of a key with its value in as the child of a byte, which has none; there is room for it among the children. The
-// key is given as the byte and what is left of it.
-pub(crate) fn put_key<V: Words + Drop>(branch: &mut BranchOf<V>, byte: u8, rest: u64, value: u64)
+// key is given as the byte, with its place, and what is left of it.
+pub(crate) fn put_key<V: Words + Drop>(
+    branch: &mut BranchOf<V>,
+    place: usize,
+    byte: u8,
+    rest: u64,
+    value: u64,
+)
     requires one { V.WORDS ≤ 1 }
     requires level { IsBranch V.WORDS branch.old.width branch.old.skip branch.old.bytes branch.old.children.items branch.old.population }
     requires spare { vec_len branch.old.children < vec_capacity branch.old.children }
     requires absent { set.has branch.old.bytes byte ≡ false }
+    requires place { place ≡ set.rank branch.old.bytes byte }
     requires fits { rest < 256 ^ branch.old.width }
     requires no_value { V.WORDS ≡ 0 → value ≡ 0 }
     requires room { branch.old.population < 2 ^ 64 - 1 }
@@ -67,7 +79,7 @@ pub(crate) fn put_key<V: Words + Drop>(branch: &mut BranchOf<V>, byte: u8, rest:
         (branch_tree branch.new.width branch.new.skip branch.new.bytes branch.new.children.items branch.new.population) }
 {
     let child = one_key(branch.width, rest, value);
-    add_child(branch, byte, child);
+    add_child(branch, place, byte, child);
     branch.population += 1;
 }
 
@@ -76,6 +88,7 @@ pub(crate) fn put_key<V: Words + Drop>(branch: &mut BranchOf<V>, byte: u8, rest:
 pub(crate) fn put_child<V: Words + Drop>(
     alloc: Global,
     branch: &mut BranchOf<V>,
+    place: usize,
     byte: u8,
     rest: u64,
     value: u64,
@@ -84,6 +97,7 @@ pub(crate) fn put_child<V: Words + Drop>(
     requires level { IsBranch V.WORDS branch.old.width branch.old.skip branch.old.bytes branch.old.children.items branch.old.population }
     requires sums { AreSums branch.old.sums branch.old.children.items }
     requires absent { set.has branch.old.bytes byte ≡ false }
+    requires place { place ≡ set.rank branch.old.bytes byte }
     requires fits { rest < 256 ^ branch.old.width }
     requires no_value { V.WORDS ≡ 0 → value ≡ 0 }
     requires room { branch.old.population < 2 ^ 64 - 1 }
@@ -98,7 +112,7 @@ pub(crate) fn put_child<V: Words + Drop>(
     if branch.children.try_reserve(1).is_err() {
         return Err(AllocError);
     }
-    put_key(branch, byte, rest, value);
+    put_key(branch, place, byte, rest, value);
     branch.sums = branch.sums_of_children(alloc);
     Ok(true)
 }

@@ -112,7 +112,7 @@ fn above<V: Words + Drop>(
     let child = ChildOf::close(shortened(kind, skipped, left));
     branch.population = child.pop();
     let byte = low_part(without_low(skipped.number, usize::from(left)), 1) as u8;
-    add_child(&mut branch, byte, child);
+    add_child(&mut branch, 0, byte, child);
     Ok(branch)
 }
 
@@ -143,7 +143,8 @@ pub(crate) fn split<V: Words + Drop>(
     match above(alloc, kind, skipped, left) {
         Ok(mut branch) => {
             let byte = low_part(without_low(key, width), 1) as u8;
-            put_key(&mut branch, byte, low_part(key, width), value);
+            let place = branch.bytes.rank(byte);
+            put_key(&mut branch, place, byte, low_part(key, width), value);
             (KindOf::Branch(branch), Ok(true))
         }
         Err(kind) => (kind, Err(AllocError)),

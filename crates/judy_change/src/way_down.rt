@@ -62,7 +62,7 @@ fn into_kind<V: Words + Drop>(
     match kind {
         KindOf::Branch(branch) => match branch.step(key) {
             Step::Child(byte, place, rest) => into_child(alloc, branch, byte, place, rest, value),
-            Step::Missing(byte, _, rest) => put_child(alloc, branch, byte, rest, value),
+            Step::Missing(byte, place, rest) => put_child(alloc, branch, place, byte, rest, value),
             Step::Below | Step::Above => replaced(alloc, kind, width, key, value),
         },
         _ => into_childless(alloc, kind, width, key, value),

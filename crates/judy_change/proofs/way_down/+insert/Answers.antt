@@ -21,8 +21,8 @@ into_kind-put_child-requires-clause-room g t c =
     let words = g.V.Words.WORDS in
     let branch = c.in-Branch.branch.value in
     let level = (subst (IsLevel words) c.in-Branch.is c.requires.level).0 in
-    let step = subst (λ b. IsStep (256 ^ b.width) (number_of b.skip * 256) b.bytes c.args.key (Missing c.in-Missing.byte c.in-Missing.field-1 c.in-Missing.rest)) c.deref.ensures c.in-Missing.ensures in
-    let absent = missing_absent words c.args.key branch level c.in-Missing.byte c.in-Missing.field-1 c.in-Missing.rest step in
+    let step = subst (λ b. IsStep (256 ^ b.width) (number_of b.skip * 256) b.bytes c.args.key (Missing c.in-Missing.byte c.in-Missing.place c.in-Missing.rest)) c.deref.ensures c.in-Missing.ensures in
+    let absent = missing_absent words c.args.key branch level c.in-Missing.byte c.in-Missing.place c.in-Missing.rest step in
     let room = subst (λ kind. has_key c.args.key (tree_of words kind) ≡ false → length (tree_of words kind).pairs < 18446744073709551615) c.in-Branch.is c.requires.room absent in
     subst (λ b. b.population < 18446744073709551615) (sym c.deref_mut-in-Missing.ensures.value) (subst (λ n. n < 18446744073709551615) (sym level.parts.counted) room)
 
