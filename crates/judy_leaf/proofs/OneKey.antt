@@ -39,7 +39,7 @@ one_key width count word one packed =
 
 -- ---- what a search finds in it
 
-one_rank : (word key : ℕ) → set.rank (word ∷ []) key ≡ cond (nat_lt word key) 1 0
+pub one_rank : (word key : ℕ) → set.rank (word ∷ []) key ≡ cond (nat_lt word key) 1 0
 one_rank word key = rank_by_count (word ∷ []) key ∙ sum_by-cons (λ x. cond (nat_lt x key) 1 0) word [] ∙ (let e : cond (nat_lt word key) 1 0 + 0 ≡ cond (nat_lt word key) 1 0 = omega arith in e)
 
 pub one_below : (word key : ℕ) → word < key → set.rank (word ∷ []) key ≡ 1

@@ -26,7 +26,20 @@ pub(crate) fn room(width: u8) -> u8
 }
 
 // How many of the keys are below a key.
+#[inline(always)]
 pub(crate) fn rank(width: u8, count: usize, word: u64, key: u64) -> usize
+    requires { IsPacked width count (word ∷ []) }
+    ensures { result ≡ set.rank (keys_in width count (word ∷ [])) key }
+{
+    if count == 1 {
+        (word < key) as usize
+    } else {
+        rank_among(width, count, word, key)
+    }
+}
+
+// The same by a look at all places of the word.
+fn rank_among(width: u8, count: usize, word: u64, key: u64) -> usize
     requires { IsPacked width count (word ∷ []) }
     ensures { result ≡ set.rank (keys_in width count (word ∷ [])) key }
 {

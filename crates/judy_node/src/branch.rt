@@ -42,6 +42,7 @@ impl<V: Words + Drop> BranchOf<V> {
     }
 
     /// The place of the child of a byte. Where all 256 children stand, a byte is its place.
+    #[inline(always)]
     pub fn place(&self, byte: u8) -> Option<usize>
         requires { IsBranch V.WORDS self.now.width self.now.skip self.now.bytes self.now.children.items self.now.population }
         ensures { result ≡ set.place self.now.bytes byte }
