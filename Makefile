@@ -90,7 +90,7 @@ bindings-test: lib-test $(REFUSER)
 	else echo 'no cargo here: the Rust binding is not tried'; fi
 	@cd bindings/python && LD_PRELOAD=$(abspath $(REFUSER)) SELLUMAQ_LIBRARY=$(abspath $(LIB))/libsellumaq.so python3 -m unittest test_sellumaq
 
-# Some ten minutes.
+# A million keys take long, a quarter of an hour or more where other work runs beside; `make bench KEYS=10000` takes half a minute.
 bench: lib judystore
 	@tools/bench $(LIB) --svg docs/bench.svg $(KEYS)
 	@tools/bench_program ./judystore
