@@ -11,14 +11,9 @@
 //! place.rt has the places of one word, for a width that is known when a program is compiled; packed.rt searches words, by lanes.rt
 //! where keys have one byte or two, gaps.rt follows keys that are neighbours to a number that is no key, and edit.rt changes the words
 //! of a block, place by place. keys.rt and one_word.rt know the width at run time and hand on to these. values.rt and pairs.rt put
-//! values beside the keys, fill.rt writes pairs into a slice, convert.rt makes an immediate of a leaf's pairs and a leaf of an
-//! immediate's, and bit_edit.rt changes the block of a bitmap leaf. The crate stands on judy_model, judy_bits and judy_block; the
-//! nodes of the tree stand on it.
-//! place.rt has the places of one word, for a width that is known when a program is compiled; packed.rt searches words, gaps.rt
-//! follows keys that are neighbours to a number that is no key, and edit.rt changes the words of a block, place by place. keys.rt
-//! and one_word.rt know the width at run time and hand on to these. values.rt and pairs.rt put values beside the keys, fill.rt writes
-//! pairs into a slice, in_place.rt puts pairs into leaves whose parts stand in a node, convert.rt makes an immediate of a leaf's pairs and a leaf of an immediate's, and bit_edit.rt changes the block
-//! of a bitmap leaf. The crate stands on judy_model, judy_bits and judy_block; the nodes of the tree stand on it.
+//! values beside the keys, fill.rt writes pairs into a slice, in_place.rt puts pairs into leaves whose parts stand in a node, convert.rt
+//! makes an immediate of a leaf's pairs and a leaf of an immediate's, and bit_edit.rt changes the block of a bitmap leaf. The crate
+//! stands on judy_model, judy_bits and judy_block; the nodes of the tree stand on it.
 #![tactic(auto)]
 
 mod bit_edit;
