@@ -248,18 +248,18 @@ impl Judy1 {
     }
 
     /// Whether a node may be larger than its keys need, since memory for a smaller one was refused to `unset`. Where it is false the
-    /// nodes are a function of the keys. (`tree` is for contracts that speak of it.)
+    /// nodes are a function of the keys. No clause tells of it here, but of the same call of `tree` and `tree_mut`.
     pub fn is_loose(&self) -> bool {
         self.tree.is_loose()
     }
 
-    /// How many nodes of each kind there are. (`tree` is for contracts that speak of them.)
+    /// How many nodes of each kind there are. No clause tells of them here, but of the same call of `tree` and `tree_mut`.
     pub fn shape(&self) -> Shape {
         self.tree.shape()
     }
 
     /// Makes each node as small as its keys allow, so that the set isn't loose from there on. The error is want of memory, which
-    /// comes only where it is loose; it is as it was then. Keys and limit stay.
+    /// comes only where it is loose; it is as it was then. Keys and limit stay. (Clauses on nodes and looseness: the same call of `tree_mut`.)
     pub fn tidy(&mut self) -> Result<(), AllocError>
         ensures { self.new ≡ self.old }
     {

@@ -11,6 +11,8 @@
 
 mod error;
 mod iter;
+#[cfg(test)]
+mod iter_tests;
 mod judy1;
 mod judyl;
 #[cfg(test)]

@@ -1,5 +1,4 @@
-use Rattle.std.proofs.Common.{◌^◌, ◌∙◌, ap, sym}
-use Rattle.std.specs.FinMap as map
+use Rattle.std.proofs.Common.{◌^◌, ◌∙◌, ap}
 use Rattle.judy_model.specs.Forms.{shape_in}
 use Rattle.judy_model.specs.Shapes.{shape_of}
 use Rattle.judy_word.proofs.IterFacts.{keys_in_order}
