@@ -135,9 +135,19 @@ pub record OnFollow (look : Look) (world : World) (key : List ℕ) (map : FinMap
   pub held : IsTrue (contains_key map piece)
   pub near : (rest : List ℕ) → IsEnd look world seat piece rest → IsNear look world 0 (pieces key) (front ++ piece ∷ rest)
 
+-- The same of some level, where the entry has the value.
+pub record Following (look : Look) (world : World) (key : List ℕ) (piece value : ℕ) (bytes : List ℕ) : Type 0 where
+  pub map : FinMap word_order ℕ
+  pub on : OnFollow look world key map piece bytes
+  pub entry : get map piece ≡ Some value
+
 -- At the turn.
-pub follow_start : (look : Look) (world : World) (key : List ℕ) (turn : Turn) → IsTurnAt look world key turn → OnFollow look world key turn.level.now.map turn.piece (take turn.depth key)
-follow_start look world key turn at = record { front = at.front; seat = at.seat; way = at.way; inner = at.inner; spells = at.deep; is_level = at.is_level; held = at.held; near = at.near }
+pub follow_start : (look : Look) (world : World) (key : List ℕ) (turn : Turn) → IsTurnAt look world key turn → Following look world key turn.piece turn.value (take turn.depth key)
+follow_start look world key turn at = record {
+  map = at.map;
+  on = record { front = at.front; seat = at.seat; way = at.way; inner = at.inner; spells = at.deep; is_level = at.is_level; held = ap (λ (found : Option ℕ). is_some found) at.held; near = at.near };
+  entry = at.held;
+}
 
 module _ {look : Look} {world : World} {behind : ℕ → List ℕ} (is_world : IsWorld world behind) (key : List ℕ) (map : FinMap word_order ℕ) (piece : ℕ) (bytes : List ℕ) (on : OnFollow look world key map piece bytes) where
   place_is : behind on.seat ≡ on.front
@@ -173,14 +183,6 @@ module _ {look : Look} {world : World} {behind : ℕ → List ℕ} (is_world : I
       (lookup_final world on.seat map on.is_level piece value is)
       (sym (append-nil (bytes ++ piece_bytes piece)))
 
-  -- It has a value there.
-  pub follow_end : (result : Option ℕ) → IsFinal piece → result ≡ get map piece → IsNeighbour look world key (bytes ++ piece_bytes piece) result
-  follow_end None final is = absurd (true≢false (sym (ap (λ (found : Option ℕ). is_some found) is ∙ on.held)))
-  follow_end (Some value) final is = follow_last value final (sym is)
-
-  pub follow_entry : get map piece ≡ None → ⊥
-  follow_entry none = true≢false (sym on.held ∙ ap (λ (found : Option ℕ). is_some found) none)
-
   module _ (at : ℕ) (is : get map piece ≡ Some at) (inner : IsInner piece) where
     leads : (behind (suc at) ≡ on.front ++ piece ∷ []) × (world (suc at) ≢ gone)
     leads = let there = (is_world.levels on.seat map on.is_level).leads piece at is inner in (there.0 ∙ ap (λ place. place ++ piece ∷ []) place_is, there.1)
@@ -213,7 +215,7 @@ module _ {look : Look} {world : World} {behind : ℕ → List ℕ} (is_world : I
       pub follow_some : IsFirstEntry look.side below None → ⊥
       follow_some none = is_world.used at below is_below (empty_from_none below none)
 
-      pub follow_level : (next : ℕ) → IsFirstEntry look.side below (Some next) → OnFollow look world key below next (bytes ++ piece_bytes piece)
+      follow_level : (next : ℕ) → IsFirstEntry look.side below (Some next) → OnFollow look world key below next (bytes ++ piece_bytes piece)
       follow_level next first = record {
         front = on.front ++ piece ∷ [];
         seat = suc at;
@@ -224,3 +226,6 @@ module _ {look : Look} {world : World} {behind : ℕ → List ℕ} (is_world : I
         held = first.0;
         near = λ rest end. subst (IsNear look world 0 (pieces key)) (sym (append_assoc on.front (piece ∷ []) (next ∷ rest))) (on.near (next ∷ rest) (end_level look world on.seat map on.is_level piece at next rest below is inner is_below first end));
       }
+
+      pub follow_down : (next : ℕ × ℕ) → IsFirstEntry look.side below (Some next.0) → get below next.0 ≡ Some next.1 → Following look world key next.0 next.1 (bytes ++ piece_bytes piece)
+      follow_down next first entry = record { map = below; on = follow_level next.0 first; entry = entry }

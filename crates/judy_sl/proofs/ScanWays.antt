@@ -1,16 +1,14 @@
 -- The two ways of a scan: down the pieces of a key, and down from the entry where it turns.
 use Rattle.std.proofs.Common.{◌≡◌, ℕ, suc, ◌-◌, ◌<◌, ◌≤◌, Bool, false, IsTrue, List, [], ◌∷◌, ◌++◌, length, take, drop, Option, Some, None, is_some, sym, refl, ap, ◌∙◌, subst, arith}
-use Rattle.std.specs.Borrow.{Bor}
 use Rattle.std.specs.FinMap.{FinMap, get, contains_key}
 use Rattle.std.proofs.lemmas.Bool.{and_parts}
 use Rattle.std.proofs.lemmas.List.{append_assoc, take-append-drop, take_at, length-append, append-nil}
 use Rattle.judy_model.specs.Keys.{word_order}
-use Rattle.judy_model.specs.Arrays.{ArrayOf}
 use Rattle.judy_sl.specs.declared.scans.Look.{Look}
 use Rattle.judy_sl.specs.declared.scans.Turn.{Turn}
 use Rattle.judy_sl.specs.Pieces.{piece_of, pieces, piece_bytes, spelling, IsInner, AreInner, IsText}
 use Rattle.judy_sl.specs.World.{World, tail, level, walk}
-use Rattle.judy_sl.specs.Scans.{along, is_beyond, IsNearestEntry, turn_or, meets, IsNone, IsNear, IsEnd, IsTurn}
+use Rattle.judy_sl.specs.Scans.{along, is_beyond, IsNearestEntry, piece_in, IsEntryOf, turn_or, meets, IsNone, IsNear, IsEnd, IsTurn}
 use Rattle.judy_sl.proofs.Ways.{pieces_short, pieces_long, walk-more}
 use Rattle.judy_sl.proofs.PieceLemmas.{text-drop, piece-IsFinal, piece-IsInner}
 use Rattle.judy_sl.proofs.PieceBytes.{bytes-piece, spelling-append}
@@ -48,56 +46,56 @@ module _ (look : Look) (world : World) (key : List ℕ) where
     none = λ h. h;
   }
 
-  module _ (words : Bor (ArrayOf word_order)) (rest : List ℕ) (turn : Option Turn) (on : OnTurn look world key words.now.map rest turn) where
+  module _ (map : FinMap word_order ℕ) (rest : List ℕ) (turn : Option Turn) (on : OnTurn look world key map rest turn) where
     -- The front of the key is what has been passed.
     passed : take (length key - length rest) key ≡ spelling on.front
     passed = ap (take (length key - length rest)) on.cut ∙ take_at (spelling on.front) rest (length key - length rest) (let long = ap length on.cut ∙ length-append (spelling on.front) rest in omega arith)
 
     -- Where nothing is met but behind the entry that is met first, the turn is there; and else where it was.
-    turns : (entry : Option ℕ) → (itself : Bool) → (p : ℕ) → IsNearestEntry look.side itself words.now.map p entry
-        → ((found : ℕ) (others : List ℕ) → entry ≡ Some found → IsEnd look world on.seat found others → IsNear look world on.seat (pieces rest) (found ∷ others))
-        → (entry ≡ None → IsNone look world on.seat (pieces rest))
-        → IsTurn look world key (turn_or words entry (length key - length rest) turn)
-    turns None itself p nearest near none = on.none (none refl)
-    turns (Some entry) itself p nearest near none = record {
+    turns : (entry : Option (ℕ × ℕ)) → IsEntryOf map entry → ((found : ℕ) (others : List ℕ) → piece_in entry ≡ Some found → IsEnd look world on.seat found others → IsNear look world on.seat (pieces rest) (found ∷ others))
+        → (piece_in entry ≡ None → IsNone look world on.seat (pieces rest))
+        → IsTurn look world key (turn_or entry (length key - length rest) turn)
+    turns None value near none = on.none (none refl)
+    turns (Some entry) value near none = record {
       front = on.front;
       seat = on.seat;
       way = on.way;
       inner = on.inner;
       deep = passed;
+      map = map;
       is_level = on.is_level;
-      held = (and_parts (contains_key words.now.map entry) (is_beyond itself (along look.side p entry)) nearest.0).0;
-      near = λ others end. on.near (entry ∷ others) (near entry others refl end);
+      held = value;
+      near = λ others end. on.near (entry.0 ∷ others) (near entry.0 others refl end);
     }
 
     -- At the key's last piece.
-    pub on_last : (entry : Option ℕ) → length rest < 8 → IsNearestEntry look.side look.itself words.now.map (piece_of rest) entry → IsTurn look world key (turn_or words entry (length key - length rest) turn)
-    on_last entry short nearest =
+    pub on_last : (entry : Option (ℕ × ℕ)) → length rest < 8 → IsNearestEntry look.side look.itself map (piece_of rest) (piece_in entry) → IsEntryOf map entry → IsTurn look world key (turn_or entry (length key - length rest) turn)
+    on_last entry short nearest value =
         let one = pieces_short rest short in
         let final = piece-IsFinal rest on.text short in
-        turns entry look.itself (piece_of rest) nearest
-        (λ found others is end. subst (λ from. IsNear look world on.seat from (found ∷ others)) (sym one) (last_near look world on.seat words.now.map on.is_level (piece_of rest) found others final (subst (IsNearestEntry look.side look.itself words.now.map (piece_of rest)) is nearest) end))
-        (λ is. subst (IsNone look world on.seat) (sym one) (last_none look world on.seat words.now.map on.is_level (piece_of rest) final (subst (IsNearestEntry look.side look.itself words.now.map (piece_of rest)) is nearest)))
+        turns entry value
+        (λ found others is end. subst (λ from. IsNear look world on.seat from (found ∷ others)) (sym one) (last_near look world on.seat map on.is_level (piece_of rest) found others final (subst (IsNearestEntry look.side look.itself map (piece_of rest)) is nearest) end))
+        (λ is. subst (IsNone look world on.seat) (sym one) (last_none look world on.seat map on.is_level (piece_of rest) final (subst (IsNearestEntry look.side look.itself map (piece_of rest)) is nearest)))
 
     module _ (long : 8 ≤ length rest) where
       -- Where nothing behind the piece is met.
-      pub on_left : (entry : Option ℕ) → IsNearestEntry look.side false words.now.map (piece_of rest) entry → NoneBehind look world on.seat (piece_of rest) (pieces (drop 8 rest)) → IsTurn look world key (turn_or words entry (length key - length rest) turn)
-      on_left entry nearest none =
+      pub on_left : (entry : Option (ℕ × ℕ)) → IsNearestEntry look.side false map (piece_of rest) (piece_in entry) → IsEntryOf map entry → NoneBehind look world on.seat (piece_of rest) (pieces (drop 8 rest)) → IsTurn look world key (turn_or entry (length key - length rest) turn)
+      on_left entry nearest value none =
           let one = pieces_long rest long in
-          turns entry false (piece_of rest) nearest
-          (λ found others is end. subst (λ from. IsNear look world on.seat from (found ∷ others)) (sym one) (turned_near look world on.seat words.now.map on.is_level (piece_of rest) found (pieces (drop 8 rest)) others none (subst (IsNearestEntry look.side false words.now.map (piece_of rest)) is nearest) end))
-          (λ is. subst (IsNone look world on.seat) (sym one) (turned_none look world on.seat words.now.map on.is_level (piece_of rest) (pieces (drop 8 rest)) none (subst (IsNearestEntry look.side false words.now.map (piece_of rest)) is nearest)))
+          turns entry value
+          (λ found others is end. subst (λ from. IsNear look world on.seat from (found ∷ others)) (sym one) (turned_near look world on.seat map on.is_level (piece_of rest) found (pieces (drop 8 rest)) others none (subst (IsNearestEntry look.side false map (piece_of rest)) is nearest) end))
+          (λ is. subst (IsNone look world on.seat) (sym one) (turned_none look world on.seat map on.is_level (piece_of rest) (pieces (drop 8 rest)) none (subst (IsNearestEntry look.side false map (piece_of rest)) is nearest)))
 
       -- One level further down.
-      pub on_moved : (entry : Option ℕ) (found : ℕ) (below : FinMap word_order ℕ) → IsNearestEntry look.side false words.now.map (piece_of rest) entry → get words.now.map (piece_of rest) ≡ Some found → world (suc found) ≡ level below
-          → OnTurn look world key below (drop 8 rest) (turn_or words entry (length key - length rest) turn)
-      on_moved entry found below nearest is leads =
+      pub on_moved : (entry : Option (ℕ × ℕ)) (found : ℕ) (below : FinMap word_order ℕ) → IsNearestEntry look.side false map (piece_of rest) (piece_in entry) → IsEntryOf map entry → get map (piece_of rest) ≡ Some found → world (suc found) ≡ level below
+          → OnTurn look world key below (drop 8 rest) (turn_or entry (length key - length rest) turn)
+      on_moved entry found below nearest value is leads =
           let inner = piece-IsInner rest on.text long in
           let one = pieces_long rest long in
           record {
             front = on.front ++ piece_of rest ∷ [];
             seat = suc found;
-            way = walk-more world 0 on.front on.seat words.now.map (piece_of rest) found on.way on.is_level is;
+            way = walk-more world 0 on.front on.seat map (piece_of rest) found on.way on.is_level is;
             inner = AreInner-more on.front (piece_of rest) on.inner inner;
             is_level = leads;
             cut = on.cut ∙ ap (λ bytes. spelling on.front ++ bytes) (sym (take-append-drop 8 rest) ∙ ap (λ bytes. bytes ++ drop 8 rest) (sym (bytes-piece rest on.text) ∙ sym (append-nil (piece_bytes (piece_of rest)))))
@@ -105,13 +103,13 @@ module _ (look : Look) (world : World) (key : List ℕ) where
                 ∙ ap (λ bytes. bytes ++ drop 8 rest) (sym (spelling-append on.front (piece_of rest ∷ [])));
             text = text-drop 8 rest on.text;
             near = λ near h. subst (IsNear look world 0 (pieces key)) (sym (append_assoc on.front (piece_of rest ∷ []) near))
-                (on.near (piece_of rest ∷ near) (subst (λ from. IsNear look world on.seat from (piece_of rest ∷ near)) (sym one) (moved_near look world on.seat words.now.map on.is_level (piece_of rest) found (pieces (drop 8 rest)) near is inner h)));
-            none = λ none. on_left entry nearest (none_child look world on.seat words.now.map on.is_level (piece_of rest) found (pieces (drop 8 rest)) is inner none);
+                (on.near (piece_of rest ∷ near) (subst (λ from. IsNear look world on.seat from (piece_of rest ∷ near)) (sym one) (moved_near look world on.seat map on.is_level (piece_of rest) found (pieces (drop 8 rest)) near is inner h)));
+            none = λ none. on_left entry nearest value (none_child look world on.seat map on.is_level (piece_of rest) found (pieces (drop 8 rest)) is inner none);
           }
 
       -- A tail that is met.
-      pub on_tail : (found value : ℕ) (held : List ℕ) → get words.now.map (piece_of rest) ≡ Some found → world (suc found) ≡ tail held value → IsTrue (meets look world (pieces (drop 8 rest)) held)
-          → IsTurn look world key (Some (record { level = words; piece = piece_of rest; depth = length key - length rest }))
+      pub on_tail : (found value : ℕ) (held : List ℕ) → get map (piece_of rest) ≡ Some found → world (suc found) ≡ tail held value → IsTrue (meets look world (pieces (drop 8 rest)) held)
+          → IsTurn look world key (Some (record { piece = piece_of rest; value = found; depth = length key - length rest }))
       on_tail found value held is tailed met =
           let inner = piece-IsInner rest on.text long in
           let one = pieces_long rest long in
@@ -121,9 +119,10 @@ module _ (look : Look) (world : World) (key : List ℕ) where
             way = on.way;
             inner = on.inner;
             deep = passed;
+            map = map;
             is_level = on.is_level;
-            held = ap (λ (entry : Option ℕ). is_some entry) is;
+            held = is;
             near = λ others end. on.near (piece_of rest ∷ others) (subst (λ from. IsNear look world on.seat from (piece_of rest ∷ others)) (sym one)
-                (moved_near look world on.seat words.now.map on.is_level (piece_of rest) found (pieces (drop 8 rest)) others is inner
-                (tail_end look world on.seat words.now.map on.is_level (piece_of rest) found value held (pieces (drop 8 rest)) others is inner tailed met end)));
+                (moved_near look world on.seat map on.is_level (piece_of rest) found (pieces (drop 8 rest)) others is inner
+                (tail_end look world on.seat map on.is_level (piece_of rest) found value held (pieces (drop 8 rest)) others is inner tailed met end)));
           }

@@ -1,12 +1,11 @@
 -- The neighbours of a key, found level by level.
-use Rattle.std.specs.Prelude.{◌≡◌, ℕ, Bool, true, false, ◌&&◌, if◌then◌else◌, IsTrue, IsFalse, List, ◌∷◌, ◌++◌, take, Option, None, Some}
+use Rattle.std.specs.Prelude.{◌≡◌, ℕ, Bool, true, false, ◌&&◌, if◌then◌else◌, IsTrue, IsFalse, List, ◌∷◌, ◌++◌, take, Option, None, Some, IfSome}
 use Rattle.std.specs.declared.cmp.Ordering.{Ordering}
 use Rattle.std.specs.Ordering.{is_lt, is_le}
 use Rattle.std.specs.Cmp.Lexicographic.{slice_cmp}
+use Rattle.std.specs.Option.{option_map}
 use Rattle.std.specs.FinMap.{FinMap, get, contains_key}
-use Rattle.std.specs.Borrow.{Bor}
 use Rattle.judy_model.specs.Keys.{IsStringKey, word_order, byte_order}
-use Rattle.judy_model.specs.Arrays.{ArrayOf}
 use Rattle.judy_model.specs.Nearest.{IsLeast}
 use Rattle.judy_model.specs.Neighbours.{first, next, last, prev}
 use Rattle.judy_sl.specs.declared.scans.Side.{Side}
@@ -54,10 +53,18 @@ abbrev pub value_found : FinMap byte_order ℕ → Option (List ℕ) → Option 
 value_found map None = None
 value_found map (Some key) = get map key
 
+-- The piece of an entry.
+abbrev pub piece_in : Option (ℕ × ℕ) → Option ℕ
+piece_in entry = option_map (λ entry. entry.0) entry
+
+-- The entry is one of the level, a piece with its value.
+abbrev pub IsEntryOf : FinMap word_order ℕ → Option (ℕ × ℕ) → Type 0
+IsEntryOf map entry = IfSome entry (λ entry. get map entry.0 ≡ Some entry.1)
+
 -- The turn at an entry where there is one, and else the turn before.
-abbrev pub turn_or : Bor (ArrayOf word_order) → Option ℕ → ℕ → Option Turn → Option Turn
-turn_or words None depth turn = turn
-turn_or words (Some piece) depth turn = Some (record { level = words; piece = piece; depth = depth })
+abbrev pub turn_or : Option (ℕ × ℕ) → ℕ → Option Turn → Option Turn
+turn_or None depth turn = turn
+turn_or (Some entry) depth turn = Some (record { piece = entry.0; value = entry.1; depth = depth })
 
 module _ (look : Look) (world : World) where
   -- Whether pieces are met from others.
@@ -91,8 +98,9 @@ module _ (look : Look) (world : World) where
     pub way : walk world 0 front ≡ Some seat
     pub inner : AreInner front
     pub deep : take turn.depth key ≡ spelling front
-    pub is_level : world seat ≡ level turn.level.now.map
-    pub held : IsTrue (contains_key turn.level.now.map turn.piece)
+    pub map : FinMap word_order ℕ
+    pub is_level : world seat ≡ level map
+    pub held : get map turn.piece ≡ Some turn.value
     pub near : (rest : List ℕ) → IsEnd seat turn.piece rest → IsNear 0 (pieces key) (front ++ turn.piece ∷ rest)
 
   -- There is a turn, or no key is met.

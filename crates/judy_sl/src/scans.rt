@@ -7,7 +7,7 @@ ghost use Rattle.judy_model.specs.Keys.{IsWord};
 ghost use Rattle.judy_model.specs.Neighbours as neighbours;
 ghost use Rattle.judy_sl.specs.Pieces.{IsText};
 ghost use Rattle.judy_sl.specs.Arenas.{world_of, map_of, IsArena};
-ghost use Rattle.judy_sl.specs.Scans.{look_to, is_beyond, along_bytes, IsNearestEntry, IsFirstEntry, turn_or, neighbour_along, value_found, IsTurn, IsTurnAt, IsNeighbour};
+ghost use Rattle.judy_sl.specs.Scans.{look_to, is_beyond, along_bytes, IsNearestEntry, IsFirstEntry, piece_in, IsEntryOf, turn_or, neighbour_along, value_found, IsTurn, IsTurnAt, IsNeighbour};
 
 use crate::arena::Arena;
 use crate::child::Child;
@@ -31,11 +31,12 @@ pub struct Look {
     pub itself: bool,
 }
 
-// An entry of a level, behind so many bytes of a key: a scan's answer is the first of the keys behind it.
+// An entry of a level, a piece and its value, behind so many bytes of a key: a scan's answer is the first of the keys
+// behind it.
 #[derive(Clone, Copy)]
-pub struct Turn<'a> {
-    pub level: &'a JudyL,
+pub struct Turn {
     pub piece: u64,
+    pub value: u64,
     pub depth: usize,
 }
 
@@ -51,33 +52,36 @@ impl Side {
     }
 
     // The entry of a level that is met first beyond a piece.
-    fn beyond(self, level: &JudyL, piece: u64) -> Option<u64>
-        ensures { IsNearestEntry self false level.now.map piece result }
+    fn beyond(self, level: &JudyL, piece: u64) -> Option<(u64, u64)>
+        ensures nearest { IsNearestEntry self false level.now.map piece (piece_in result) }
+        ensures value { IsEntryOf level.now.map result }
     {
         match self {
-            Side::Above => level.next(piece),
-            Side::Below => level.prev(piece),
+            Side::Above => level.next_entry(piece),
+            Side::Below => level.prev_entry(piece),
         }
     }
 
     // The entry of a level that is met first from a piece on.
-    fn from(self, level: &JudyL, piece: u64) -> Option<u64>
-        ensures { IsNearestEntry self true level.now.map piece result }
+    fn from(self, level: &JudyL, piece: u64) -> Option<(u64, u64)>
+        ensures nearest { IsNearestEntry self true level.now.map piece (piece_in result) }
+        ensures value { IsEntryOf level.now.map result }
     {
         match self {
-            Side::Above => level.first(piece),
-            Side::Below => level.last(piece),
+            Side::Above => level.first_entry(piece),
+            Side::Below => level.last_entry(piece),
         }
     }
 
     // The entry of a level that is met first.
-    fn end(self, level: &JudyL) -> Option<u64>
+    fn end(self, level: &JudyL) -> Option<(u64, u64)>
         requires { (piece : ℕ) → IsTrue (contains_key level.now.map piece) → IsWord piece }
-        ensures { IsFirstEntry self level.now.map result }
+        ensures first { IsFirstEntry self level.now.map (piece_in result) }
+        ensures value { IsEntryOf level.now.map result }
     {
         match self {
-            Side::Above => level.first(0),
-            Side::Below => level.last(u64::MAX),
+            Side::Above => level.first_entry(0),
+            Side::Below => level.last_entry(u64::MAX),
         }
     }
 }
@@ -101,8 +105,9 @@ impl Look {
     }
 
     // The entry of a key's last level that is met first.
-    fn last_entry(self, level: &JudyL, piece: u64) -> Option<u64>
-        ensures { IsNearestEntry self.side self.itself level.now.map piece result }
+    fn last_entry(self, level: &JudyL, piece: u64) -> Option<(u64, u64)>
+        ensures nearest { IsNearestEntry self.side self.itself level.now.map piece (piece_in result) }
+        ensures value { IsEntryOf level.now.map result }
     {
         if self.itself {
             self.side.from(level, piece)
@@ -137,7 +142,7 @@ impl Arena {
     }
 
     // The entry behind which the neighbour of the key stands.
-    fn turn<'a>(&'a self, look: Look, key: &[u8]) -> Option<Turn<'a>>
+    fn turn(&self, look: Look, key: &[u8]) -> Option<Turn>
         requires is_arena { IsArena self.now }
         requires without_zero { All (λ byte. byte ≢ 0) key.now }
         ensures is_text { IsText key.now }
@@ -149,7 +154,7 @@ impl Arena {
         while rest.len() >= 8 {
             let piece = first_piece(rest);
             let depth = key.len() - rest.len();
-            turn = nearer(level, look.side.beyond(level, piece), depth, turn);
+            turn = nearer(look.side.beyond(level, piece), depth, turn);
             rest = &rest[8..];
             let Some(at) = level.get(piece) else {
                 return turn;
@@ -160,8 +165,8 @@ impl Arena {
                     let met = look.meets(rest, tail.bytes());
                     return if met {
                         Some(Turn {
-                            level,
                             piece,
+                            value: at,
                             depth,
                         })
                     } else {
@@ -173,7 +178,6 @@ impl Arena {
             }
         }
         nearer(
-            level,
             look.last_entry(level, first_piece(rest)),
             key.len() - rest.len(),
             turn,
@@ -182,22 +186,22 @@ impl Arena {
 
     // Puts the first of the keys behind the entry into the buffer that holds the key, and answers its value. There is
     // one: an entry leads to a tail, or to a level with entries.
-    fn follow<'a>(&'a self, look: Look, turn: Turn<'a>, key: &mut KeyBuf) -> Option<u64>
+    fn follow(&self, look: Look, turn: Turn, key: &mut KeyBuf) -> Option<u64>
         requires is_arena { IsArena self.now }
         requires is_text { IsText key.old.items }
         requires is_turn { IsTurnAt look (world_of self.now) key.old.items turn }
         ensures { IsNeighbour look (world_of self.now) key.old.items key.new.items result }
     {
         key.truncate(turn.depth);
-        let mut level = turn.level;
         let mut piece = turn.piece;
+        let mut value = turn.value;
         while piece % 256 != 0 {
             push_piece(key, piece);
-            let at = level.get(piece)?;
-            match self.children.get(at as usize) {
+            match self.children.get(value as usize) {
                 Some(Child::Level(next)) => {
-                    level = next;
-                    piece = look.side.end(next)?;
+                    let entry = look.side.end(next)?;
+                    piece = entry.0;
+                    value = entry.1;
                 }
                 Some(Child::Tail(tail)) => {
                     key.try_extend_from_slice(tail.bytes()).ok()?;
@@ -208,7 +212,7 @@ impl Arena {
             }
         }
         push_piece(key, piece);
-        level.get(piece)
+        Some(value)
     }
 }
 
@@ -259,18 +263,13 @@ impl JudySl {
 }
 
 // The turn at the entry where there is one, and else the turn before.
-fn nearer<'a>(
-    level: &'a JudyL,
-    entry: Option<u64>,
-    depth: usize,
-    turn: Option<Turn<'a>>,
-) -> Option<Turn<'a>>
-    ensures { result ≡ turn_or level.entry entry depth turn.entry }
+fn nearer(entry: Option<(u64, u64)>, depth: usize, turn: Option<Turn>) -> Option<Turn>
+    ensures { result ≡ turn_or entry depth turn }
 {
     match entry {
-        Some(piece) => Some(Turn {
-            level,
+        Some((piece, value)) => Some(Turn {
             piece,
+            value,
             depth,
         }),
         None => turn,

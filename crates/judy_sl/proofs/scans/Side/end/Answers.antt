@@ -1,8 +1,8 @@
 use Rattle.judy_sl.proofs.ScanEntries.{above-end, below-end}
 use Rattle.judy_sl.proofs.scans.Side.end.Goals as goal
 
-pub returns-in-Above : goal.returns-in-Above
-returns-in-Above c = rw (c.in-Above.is, c.first.ensures) (above-end c.args.level.now.map)
+pub returns-in-Above-clause-first : goal.returns-in-Above-clause-first
+returns-in-Above-clause-first c = rw (c.in-Above.is, c.first_entry.ensures.key) (above-end c.args.level.now.map)
 
-pub returns-in-Below : goal.returns-in-Below
-returns-in-Below c = rw (c.in-Below.is, c.last.ensures) (below-end c.args.level.now.map c.requires)
+pub returns-in-Below-clause-first : goal.returns-in-Below-clause-first
+returns-in-Below-clause-first c = rw (c.in-Below.is, c.last_entry.ensures.key) (below-end c.args.level.now.map c.requires)

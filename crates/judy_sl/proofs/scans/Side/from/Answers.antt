@@ -1,8 +1,8 @@
 use Rattle.judy_sl.proofs.ScanEntries.{above-first, below-last}
 use Rattle.judy_sl.proofs.scans.Side.from.Goals as goal
 
-pub returns-in-Above : goal.returns-in-Above
-returns-in-Above c = rw (c.in-Above.is, c.first.ensures) (above-first c.args.level.now.map c.args.piece)
+pub returns-in-Above-clause-nearest : goal.returns-in-Above-clause-nearest
+returns-in-Above-clause-nearest c = rw (c.in-Above.is, c.first_entry.ensures.key) (above-first c.args.level.now.map c.args.piece)
 
-pub returns-in-Below : goal.returns-in-Below
-returns-in-Below c = rw (c.in-Below.is, c.last.ensures) (below-last c.args.level.now.map c.args.piece)
+pub returns-in-Below-clause-nearest : goal.returns-in-Below-clause-nearest
+returns-in-Below-clause-nearest c = rw (c.in-Below.is, c.last_entry.ensures.key) (below-last c.args.level.now.map c.args.piece)
