@@ -16,14 +16,14 @@ fn byte(key: u64, place: u8) -> Option<u8> {
     key.to_be_bytes().get(usize::from(place)).copied()
 }
 
-// The first place at which not all keys have the same byte.
+// The first place at which not all keys have the same byte; 8 where they have.
 fn first_difference(pairs: &[(u64, u64)]) -> Option<u8> {
     let first = pairs.first()?.0;
-    (0..8).find(|&place| {
-        pairs
-            .iter()
-            .any(|pair| byte(pair.0, place) != byte(first, place))
-    })
+    let mut differing = 0;
+    for pair in pairs {
+        differing |= pair.0 ^ first;
+    }
+    u8::try_from(differing.leading_zeros() / 8).ok()
 }
 
 // Counts one node; the counts stand in the order of the kinds.

@@ -2,7 +2,7 @@
 
 use crate::by_rule::counts_by_rule;
 use crate::calls::CALLS;
-use crate::draws::{Numbers, Pattern, draw, drawn};
+use crate::draws::{Numbers, Pattern, drawn};
 use crate::leaves::top_of;
 use crate::nodes::{Counts, check_tree, tree_of};
 use crate::plain::{beside, check_nearest};
@@ -50,25 +50,23 @@ fn check_entries<V: Words + Drop>(
 }
 
 // Compares all that the tree of a plain list answers: at each key, beside it, at its place, and at the ends of the words.
-fn check_queries<V: Words + Drop>(
+pub(crate) fn check_queries<V: Words + Drop>(
     rt: &impl Abort,
-    alloc: Global,
+    tree: &NodeOf<V>,
     plain: &[(u64, u64)],
-) -> Result<(), AllocError> {
-    let tree = tree_of::<V>(rt, alloc, plain)?;
+) {
     for word in [0, plain.len() as u64, u64::MAX] {
-        check_calls(rt, &tree, plain, word);
-        check_entries(rt, &tree, plain, word);
+        check_calls(rt, tree, plain, word);
+        check_entries(rt, tree, plain, word);
     }
     for (place, &(key, _)) in plain.iter().enumerate() {
-        check_calls(rt, &tree, plain, place as u64);
-        check_entries(rt, &tree, plain, place as u64);
+        check_calls(rt, tree, plain, place as u64);
+        check_entries(rt, tree, plain, place as u64);
         for word in beside(key) {
-            check_calls(rt, &tree, plain, word);
-            check_entries(rt, &tree, plain, word);
+            check_calls(rt, tree, plain, word);
+            check_entries(rt, tree, plain, word);
         }
     }
-    Ok(())
 }
 
 // Adds the counts of another tree.
@@ -93,31 +91,34 @@ fn check_drawn<V: Words + Drop>(
     Ok(pairs)
 }
 
+// The patterns of the trees that are asked: together they have nodes of all kinds.
+const ASKED: [&[Pattern]; 12] = [
+    &[],
+    &[(0, u64::MAX, 1)],
+    &[(0, u64::MAX, 20)],
+    &[(0, u64::MAX, 60)],
+    &[(0, u64::MAX, 200)],
+    &[(0x0123_4567_89ab_cd00, 0xff, 100)],
+    &[(0x5_0000, 0xff, 2000), (0x5_0100, 0xff, 40)],
+    &[(!0x1ff, 0x1ff, 350)],
+    &[(0x0012_3400_5600_0000, 0x8000_0010_0000_02ff, 200)],
+    &[(0, 0xc1c1_c1c1_c1c1_c1c1, 100)],
+    &[(0x3e3e_3e3e_3e3e_3e3e, 0xc1c1_c1c1_c1c1_c1c1, 100)],
+    &[
+        (0, u64::MAX, 60),
+        (0x77_0000, 0xff, 2000),
+        (0x77_0000, 0x7ff, 100),
+    ],
+];
+
 // Asks trees of all kinds of nodes.
 fn check_all_queries<V: Words + Drop>(rt: &impl Abort, alloc: Global) -> Result<(), AllocError> {
     let mut numbers = Numbers::new();
     let mut total = [0; 6];
-    let sets: [&[Pattern]; 12] = [
-        &[],
-        &[draw(0, u64::MAX, 1)],
-        &[draw(0, u64::MAX, 20)],
-        &[draw(0, u64::MAX, 60)],
-        &[draw(0, u64::MAX, 200)],
-        &[draw(0x0123_4567_89ab_cd00, 0xff, 100)],
-        &[draw(0x5_0000, 0xff, 2000), draw(0x5_0100, 0xff, 40)],
-        &[draw(!0x1ff, 0x1ff, 350)],
-        &[draw(0x0012_3400_5600_0000, 0x8000_0010_0000_02ff, 200)],
-        &[draw(0, 0xc1c1_c1c1_c1c1_c1c1, 100)],
-        &[draw(0x3e3e_3e3e_3e3e_3e3e, 0xc1c1_c1c1_c1c1_c1c1, 100)],
-        &[
-            draw(0, u64::MAX, 60),
-            draw(0x77_0000, 0xff, 2000),
-            draw(0x77_0000, 0x7ff, 100),
-        ],
-    ];
-    for patterns in sets {
+    for patterns in ASKED {
         let pairs = check_drawn::<V>(rt, alloc, &mut numbers, &mut total, patterns)?;
-        check_queries::<V>(rt, alloc, &pairs)?;
+        let tree = tree_of::<V>(rt, alloc, &pairs)?;
+        check_queries(rt, &tree, &pairs);
     }
     assert!(rt; total.iter().all(|count| *count > 0));
     Ok(())
@@ -152,7 +153,7 @@ fn check_width<V: Words + Drop>(
         for times in [1, 2, 3, 4, 5, 8, 9, 32, 33, 40, 400] {
             let fixed = numbers.next() & !top;
             let beside = fixed ^ top.wrapping_add(1);
-            let patterns = [draw(fixed, free, times), draw(beside, 0, 1)];
+            let patterns = [(fixed, free, times), (beside, 0, 1)];
             check_drawn::<V>(rt, alloc, numbers, total, &patterns)?;
         }
     }

@@ -28,16 +28,7 @@ impl Numbers {
 
 // A pattern of keys: the bits that each of them has, the bits that any of them may have besides, and how many are drawn; one that was
 // drawn before doesn't count.
-#[derive(Clone, Copy)]
-pub(crate) struct Pattern {
-    fixed: u64,
-    free: u64,
-    times: u64,
-}
-
-pub(crate) fn draw(fixed: u64, free: u64, times: u64) -> Pattern {
-    Pattern { fixed, free, times }
-}
+pub(crate) type Pattern = (u64, u64, u64);
 
 // The pairs of keys drawn by patterns, ascending.
 pub(crate) fn drawn<V: Words + Drop>(
@@ -47,7 +38,7 @@ pub(crate) fn drawn<V: Words + Drop>(
     patterns: &[Pattern],
 ) -> Result<Vec<(u64, u64)>, AllocError> {
     let mut pairs = Vec::new(alloc);
-    for &Pattern { fixed, free, times } in patterns {
+    for &(fixed, free, times) in patterns {
         for _ in 0..times {
             let key = fixed | (numbers.next() & free);
             if pairs.iter().all(|pair: &(u64, u64)| pair.0 != key) {

@@ -156,31 +156,45 @@ fn gaps_at_word_borders(rt: HostRuntime) -> Result<(), Fail> {
     Ok(())
 }
 
+// What is told as a key or a byte where there is none.
+const NONE: u64 = 1000;
+
+// A word, the nearest keys from it on and down to it, and the nearest bytes that are no keys from it on and down to it.
+const NEIGHBOURS: [[u64; 5]; 13] = [
+    [0, 63, NONE, 0, 0],
+    [62, 63, NONE, 62, 62],
+    [63, 63, 63, 65, 62],
+    [64, 64, 64, 65, 62],
+    [65, 127, 64, 65, 65],
+    [127, 127, 127, 129, 126],
+    [128, 128, 128, 129, 126],
+    [191, 191, 191, 193, 190],
+    [192, 192, 192, 193, 190],
+    [193, NONE, 192, 193, 193],
+    [255, NONE, 192, 255, 255],
+    [256, NONE, 192, NONE, 255],
+    [u64::MAX, NONE, 192, NONE, 255],
+];
+
+// Compares what a bitmap leaf of keys without values answers of a word.
+fn check_neighbours(rt: &impl Abort, leaf: BitRef<'_, Width<0>>, wanted: [u64; 5]) {
+    let [word, next, previous, next_absent, previous_absent] = wanted;
+    let (key, value) = leaf.at_or_after(word).unwrap_or((NONE, 0));
+    assert!(rt; key == next && value == 0, "{word}");
+    let (key, value) = leaf.at_or_before(word).unwrap_or((NONE, 0));
+    assert!(rt; key == previous && value == 0, "{word}");
+    let absent = leaf.absent_at_or_after(word).unwrap_or(NONE);
+    assert!(rt; absent == next_absent, "{word}");
+    let absent = leaf.absent_at_or_before(word).unwrap_or(NONE);
+    assert!(rt; absent == previous_absent, "{word}");
+}
+
 #[test]
 fn neighbours_at_word_borders(rt: HostRuntime) -> Result<(), Fail> {
     let pairs = [(63, 0), (64, 0), (127, 0), (128, 0), (191, 0), (192, 0)];
     let leaf = BitLeafOf::<Width<0>>::from_sorted(rt.alloc(), 1, &pairs)?;
-    let leaf = leaf.reading();
-    // A word, and from it on and down to it the nearest key and the nearest byte that is none.
-    for (word, next, previous, next_absent, previous_absent) in [
-        (0, Some(63), None, Some(0), 0),
-        (62, Some(63), None, Some(62), 62),
-        (63, Some(63), Some(63), Some(65), 62),
-        (64, Some(64), Some(64), Some(65), 62),
-        (65, Some(127), Some(64), Some(65), 65),
-        (127, Some(127), Some(127), Some(129), 126),
-        (128, Some(128), Some(128), Some(129), 126),
-        (191, Some(191), Some(191), Some(193), 190),
-        (192, Some(192), Some(192), Some(193), 190),
-        (193, None, Some(192), Some(193), 193),
-        (255, None, Some(192), Some(255), 255),
-        (256, None, Some(192), None, 255),
-        (u64::MAX, None, Some(192), None, 255),
-    ] {
-        assert_eq!(rt; leaf.at_or_after(word), next.map(|key| (key, 0)));
-        assert_eq!(rt; leaf.at_or_before(word), previous.map(|key| (key, 0)));
-        assert_eq!(rt; leaf.absent_at_or_after(word), next_absent);
-        assert_eq!(rt; leaf.absent_at_or_before(word), Some(previous_absent));
+    for wanted in NEIGHBOURS {
+        check_neighbours(&rt, leaf.reading(), wanted);
     }
     Ok(())
 }

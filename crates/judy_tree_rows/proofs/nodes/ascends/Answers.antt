@@ -1,7 +1,7 @@
 use Rattle.std.proofs.Common.{◌+◌, ◌^◌, drop, sym, subst}
 use Rattle.std.proofs.lemmas.List.{drop_more, drop_all}
 use Rattle.judy_node.specs.Trees.{IsMap}
-use Rattle.judy_rows.proofs.nodes.ascends.Goals as goal
+use Rattle.judy_tree_rows.proofs.nodes.ascends.Goals as goal
 
 pub loop-pair-init : goal.loop-pair-init
 loop-pair-init g c = λ map. map

@@ -1,6 +1,6 @@
 use Rattle.std.proofs.Common.{rules}
 use Rattle.std.specs.List.Sorted.{IsStrictlySortedBy}
-use Rattle.judy_rows.proofs.leaves.leaves_of_no_pairs_and_one.Goals as goal
+use Rattle.judy_tree_rows.proofs.leaves.leaves_of_no_pairs_and_one.Goals as goal
 
 pub check_sorted-requires-clause-list : goal.check_sorted-requires-clause-list
 unfolding IsStrictlySortedBy

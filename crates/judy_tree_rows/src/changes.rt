@@ -4,6 +4,7 @@ use crate::draws::Numbers;
 use crate::leaves::value_of;
 use crate::nodes::{Counts, Grid, shape_of, tree_of};
 use crate::plain::note;
+use crate::random_trees::check_queries;
 use judy_change::{Removed, insert, insert_with, remove, slot};
 use judy_leaf::{Width, Words};
 use judy_node::NodeOf;
@@ -96,7 +97,7 @@ impl<V: Words + Drop> Twins<V> {
     }
 }
 
-// Makes changes one after the other, and compares the pairs and the shape after each.
+// Makes changes one after the other, and compares the pairs, the shape and all answers after each.
 fn check_changes<V: Words + Drop>(
     rt: &impl Abort,
     alloc: Global,
@@ -118,6 +119,7 @@ fn check_changes<V: Words + Drop>(
         }
         twins.check_pairs(rt, alloc)?;
         assert_eq!(rt; twins.tree.shape(), shape_of(*counts));
+        check_queries(rt, &twins.tree, &twins.plain);
     }
     Ok(())
 }
@@ -184,6 +186,25 @@ fn full_ranges(rt: HostRuntime) -> Result<(), Fail> {
         (Change::In(Grid::run(512, None)), [0, 0, 2, 1, 0, 0]),
     ];
     check_changes::<Width<0>>(&rt, rt.alloc(), &set)?;
+    Ok(())
+}
+
+// A branch with a child for each byte: a child of two keys, one child less, and the last one back. Ranks and places go by its sums.
+#[test]
+fn a_branch_of_256_children(rt: HostRuntime) -> Result<(), Fail> {
+    let second = Grid::run(0, Some(5 * 256 + 3));
+    let last = Grid::run(0, Some(17 * 256));
+    let map = [
+        (
+            Change::In(Grid::rows(256, 256, 1, None)),
+            [256, 0, 0, 0, 0, 1],
+        ),
+        (Change::In(second), [255, 1, 0, 0, 0, 1]),
+        (Change::Out(last), [254, 1, 0, 0, 0, 1]),
+        (Change::In(last), [255, 1, 0, 0, 0, 1]),
+        (Change::Out(second), [256, 0, 0, 0, 0, 1]),
+    ];
+    check_changes::<Width<1>>(&rt, rt.alloc(), &map)?;
     Ok(())
 }
 

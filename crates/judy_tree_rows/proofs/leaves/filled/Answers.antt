@@ -1,5 +1,5 @@
 use Rattle.std.specs.List.Sorted.{IsStrictlySortedBy}
-use Rattle.judy_rows.proofs.leaves.filled.Goals as goal
+use Rattle.judy_tree_rows.proofs.leaves.filled.Goals as goal
 
 pub from_sorted-requires-clause-list : goal.from_sorted-requires-clause-list
 unfolding IsStrictlySortedBy

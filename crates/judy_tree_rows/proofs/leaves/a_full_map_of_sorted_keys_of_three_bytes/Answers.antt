@@ -1,6 +1,6 @@
 use Rattle.std.proofs.Common.{rules}
 use Rattle.std.specs.List.Sorted.{IsStrictlySortedBy}
-use Rattle.judy_rows.proofs.leaves.a_full_set_of_sorted_bytes.Goals as goal
+use Rattle.judy_tree_rows.proofs.leaves.a_full_map_of_sorted_keys_of_three_bytes.Goals as goal
 
 pub check_sorted-requires-clause-list : goal.check_sorted-requires-clause-list
 unfolding IsStrictlySortedBy

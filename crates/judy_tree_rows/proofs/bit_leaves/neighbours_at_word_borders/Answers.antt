@@ -1,6 +1,6 @@
 use Rattle.std.proofs.Common.{rules}
 use Rattle.std.specs.List.Sorted.{IsStrictlySortedBy}
-use Rattle.judy_rows.proofs.bit_leaves.gaps_at_word_borders.Goals as goal
+use Rattle.judy_tree_rows.proofs.bit_leaves.neighbours_at_word_borders.Goals as goal
 
 pub from_sorted-requires-clause-list : goal.from_sorted-requires-clause-list
 unfolding IsStrictlySortedBy

@@ -1,6 +1,6 @@
 use Rattle.std.proofs.Common.{arith}
 use Rattle.std.specs.List.Sorted.{IsStrictlySortedBy}
-use Rattle.judy_rows.proofs.bit_leaves.filled.Goals as goal
+use Rattle.judy_tree_rows.proofs.bit_leaves.filled.Goals as goal
 
 pub from_sorted-requires-clause-list : goal.from_sorted-requires-clause-list
 unfolding IsStrictlySortedBy
