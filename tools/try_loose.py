@@ -1,14 +1,14 @@
 #!/usr/bin/env python3
-"""Runs the program `judy_loose` where memory is refused: each call for memory in turn, each with all after it, and each behind the one
+"""Runs the program `judy_loose` where memory is refused: each call for memory in turn, each with all after it, and each behind one
 whose refusal leaves its set loose.
 
 usage: tools/try_loose.py PROGRAM
 
 Beside the program's set goes a plain one, and every line is what that says: only a `set` of an absent key, or a `tidy` of a loose set,
-may answer `no-memory`, and nothing is changed then; each query answers for the keys; the nodes are those of the rule of shapes, or, where
-the set is loose, may be those from before; and only an `unset` beside 33 keys makes it loose. With ample memory nothing is refused,
-and the set never is loose. Each call for memory is seen to be refused, by an answer or by the set being loose, and the answers of the rows
-must come up besides.
+may answer `no-memory`, and nothing is changed then; each query answers for the keys, whether the nodes are tight or loose; the nodes are
+those of the rule of shapes, or, where the set is loose, may be those from before or some of these; and only an `unset` beside 33 keys makes
+it loose. With ample memory nothing is refused, and the set never is loose. Each call for memory is seen to be refused, by an answer or by
+nodes that stay, and the answers of the rows must come up besides.
 
 It needs a C compiler, `cc` (tools/refusing.py).
 
@@ -27,9 +27,25 @@ LEAF_LEN = 32
 WORDS = range(2**64)
 NO_NODES = (0, 0, 0, 0, 0, 0)
 
-# With ample memory, from the leaf of 32 keys on and without the queries: rows leaf-and-bitmap-leaf and skip-and-merge. What may be refused
-# is done twice.
+# With ample memory, from the leaf of 32 keys on and without the queries: a branch above 33 keys that is a leaf again with 32, and rows
+# leaf-and-bitmap-leaf and skip-and-merge. What may be refused is done twice.
 AMPLE = lines("""
+    nodes: 0 1 0 0 0 0, tight
+    set 72057594037927936: 1
+    nodes: 1 1 0 1 0 0, tight
+    set 72057594037927936: 0
+    nodes: 1 1 0 1 0 0, tight
+    unset 31: 1
+    nodes: 0 1 0 0 0 0, tight
+    unset 72057594037927936: 1
+    nodes: 0 1 0 0 0 0, tight
+    tidy: ok
+    nodes: 0 1 0 0 0 0, tight
+    tidy: ok
+    nodes: 0 1 0 0 0 0, tight
+    set 31: 1
+    nodes: 0 1 0 0 0 0, tight
+    set 31: 0
     nodes: 0 1 0 0 0 0, tight
     set 32: 1
     nodes: 0 0 1 0 0 0, tight
@@ -49,9 +65,18 @@ AMPLE = lines("""
     unset 72057594037927936: 1
     nodes: 0 0 1 0 0 0, tight
 """)
+# The nodes that stay where a smaller one is refused memory: a bitmap leaf of 32 keys, a branch above 32, and the same branch with one child.
 LOOSENED = lines("""
     unset 32: 1
     nodes: 0 0 1 0 0 0, loose
+""")
+BRANCH_STAYS = lines("""
+    unset 31: 1
+    nodes: 1 1 0 1 0 0, loose
+""")
+ONE_CHILD_STAYS = lines("""
+    unset 72057594037927936: 1
+    nodes: 0 1 0 1 0 0, loose
 """)
 # Row loose-and-tidy, and the refused `set` of row skip-and-merge: answers one behind the other, of which each must come up.
 ROWS = {
@@ -72,6 +97,8 @@ ROWS = {
         tidy: ok
         nodes: 0 1 0 0 0 0, tight
     """),
+    "the unset of 31": BRANCH_STAYS,
+    "the unset of 2^56": BRANCH_STAYS + ONE_CHILD_STAYS,
     "the set of 2^56": lines("""
         set 32: 1
         set 72057594037927936: no-memory
@@ -155,7 +182,7 @@ class PlainSet:
         nodes = tuple(map(int, shape.split()))
         loose = state == "loose"
         holds = state in ("tight", "loose") and (loose == self.loose or (loose and self.loosens))
-        may_stay = loose and nodes == self.nodes
+        may_stay = loose and all(count <= before for count, before in zip(nodes, self.nodes))
         self.nodes, self.loose, self.loosens = nodes, loose, False
         return holds and (may_stay or nodes == self.shape())
 
@@ -199,14 +226,15 @@ class Ran(NamedTuple):
         """The lines without those of queries."""
         return [line for line in self.lines if not line.startswith((b"keys", b"at "))]
 
-    def tells(self):
-        """Whether an answer says that memory was refused."""
-        return any(line.endswith(b": no-memory") for line in self.lines)
-
     def has(self, row):
         """Whether these lines stand one behind the other, but for queries."""
         told = self.changes()
         return any(told[place : place + len(row)] == row for place in range(len(told)))
+
+    def seen(self):
+        """How many refusals show: each in an answer, or in nodes that stay."""
+        answers = sum(line.endswith(b": no-memory") for line in self.lines)
+        return answers + sum(map(self.has, (LOOSENED, BRANCH_STAYS, ONE_CHILD_STAYS)))
 
 
 class Loosening(Checks):
@@ -237,13 +265,13 @@ class Loosening(Checks):
         self.expect("ample memory, the rows", told == keys + AMPLE, told)
 
     def check_refused(self):
-        """All runs that are refused calls. Each call by itself is seen, and so is each behind the one that leaves the set loose."""
+        """All runs that are refused calls. Each call by itself is seen, and so is each behind one that leaves the set loose."""
         runs = list(in_turn(self.run))
         for call, onward, ran in runs:
             self.check_run(f"{call}{onward}", ran)
-            self.expect(f"{call}{onward}, seen", ran.tells() or ran.has(LOOSENED), ran.changes())
-        loosening = [call for call, onward, ran in runs if not onward and ran.has(LOOSENED)]
-        self.expect("one call leaves the set loose", len(loosening) == 1, loosening)
+            self.expect(f"{call}{onward}, seen", ran.seen() >= 1, ran.changes())
+        loosening = [call for call, onward, ran in runs if not onward and (ran.has(LOOSENED) or ran.has(BRANCH_STAYS))]
+        self.expect("two calls leave the set loose", len(loosening) == 2, loosening)
         told = [ran for _, _, ran in runs]
         for call in loosening:
             told += self.check_behind(call)
@@ -251,14 +279,14 @@ class Loosening(Checks):
             self.expect(f"{name}, refused, must come up", any(ran.has(row) for ran in told), row)
 
     def check_behind(self, first):
-        """All runs that are refused the call that leaves the set loose and one later call, which is seen too."""
+        """All runs that are refused a call that leaves the set loose and one later call, which is seen too."""
         runs = []
         for call in count(first + 1):
             ran = self.run(f"{first},{call}")
             if not ran.refused:
                 return runs
             self.check_run(f"{first},{call}", ran)
-            self.expect(f"{first},{call}, seen", ran.tells() and ran.has(LOOSENED), ran.changes())
+            self.expect(f"{first},{call}, seen", ran.seen() == 2, ran.changes())
             runs.append(ran)
 
 

@@ -28,34 +28,55 @@ fn main(rt: HostRuntime) -> io::Result<()> {
         put(&rt, &mut set, word)?;
     }
     tell(&rt, &set)?;
+    branch_above_few(&rt, &mut set)?;
     loose_and_tidy(&rt, &mut set)?;
     skip_and_merge(&rt, &mut set)
 }
 
-// The key that is one too many for a leaf, put in and taken out, and then the nodes made tight. What memory may be refused to is done twice.
-fn loose_and_tidy(rt: &impl Print, set: &mut Judy1) -> io::Result<()> {
-    for _ in 0..2 {
-        put(rt, set, LEAF_LEN)?;
+// A branch above 33 keys, of which two go, and then the nodes made tight. Where memory is refused the branch stays, first with both of its
+// children and then with one.
+fn branch_above_few(rt: &impl Print, set: &mut Judy1) -> io::Result<()> {
+    put_twice(rt, set, FAR)?;
+    for word in [LEAF_LEN - 1, FAR] {
+        take(rt, set, word)?;
         tell(rt, set)?;
     }
+    tidy_twice(rt, set)?;
+    put_twice(rt, set, LEAF_LEN - 1)
+}
+
+// The key that is one too many for a leaf, put in and taken out, and then the nodes made tight.
+fn loose_and_tidy(rt: &impl Print, set: &mut Judy1) -> io::Result<()> {
+    put_twice(rt, set, LEAF_LEN)?;
     take(rt, set, LEAF_LEN)?;
     tell(rt, set)?;
-    for _ in 0..2 {
-        tidy(rt, set)?;
-        tell(rt, set)?;
-    }
-    Ok(())
+    tidy_twice(rt, set)
 }
 
 // A branch above the bitmap leaf, which comes with a key and goes with it.
 fn skip_and_merge(rt: &impl Print, set: &mut Judy1) -> io::Result<()> {
     put(rt, set, LEAF_LEN)?;
-    for _ in 0..2 {
-        put(rt, set, FAR)?;
-        tell(rt, set)?;
-    }
+    put_twice(rt, set, FAR)?;
     take(rt, set, FAR)?;
     tell(rt, set)
+}
+
+// Puts a key in, and once more, since memory may be refused to the first.
+fn put_twice(rt: &impl Print, set: &mut Judy1, word: u64) -> io::Result<()> {
+    for _ in 0..2 {
+        put(rt, set, word)?;
+        tell(rt, set)?;
+    }
+    Ok(())
+}
+
+// Makes the nodes tight, and once more.
+fn tidy_twice(rt: &impl Print, set: &mut Judy1) -> io::Result<()> {
+    for _ in 0..2 {
+        tidy(rt, set)?;
+        tell(rt, set)?;
+    }
+    Ok(())
 }
 
 // Puts a key in, or leaves the set as it was.

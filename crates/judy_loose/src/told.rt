@@ -3,8 +3,8 @@
 use judy_word::Judy1;
 use std::{fmt, io};
 
-// The first key, the last of a leaf and the one behind it, and the last word.
-const ASKED: [u64; 4] = [0, 31, 32, 18446744073709551615];
+// The first key, the last of a leaf and the one behind it, the key far from these, and the last word.
+const ASKED: [u64; 5] = [0, 31, 32, 72057594037927936, 18446744073709551615];
 
 /// Prints the kinds of its nodes and whether it is loose, its keys by their number, and what it answers of each word asked.
 pub fn tell(rt: &impl Print, set: &Judy1) -> io::Result<()> {

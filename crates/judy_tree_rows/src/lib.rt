@@ -1,0 +1,28 @@
+//! Tests of leaves, bitmap leaves, immediates, trees, their queries and their changes: the worked rows by their names, and keys drawn
+//! by chance beside a plain list.
+//!
+//! The crate stands on top of those of the tree and has no code of its own.
+#![tactic(auto)]
+
+#[cfg(test)]
+mod bit_leaves;
+#[cfg(test)]
+mod by_rule;
+#[cfg(test)]
+mod calls;
+#[cfg(test)]
+mod changes;
+#[cfg(test)]
+mod draws;
+#[cfg(test)]
+mod immediates;
+#[cfg(test)]
+mod leaves;
+#[cfg(test)]
+mod nodes;
+#[cfg(test)]
+mod plain;
+#[cfg(test)]
+mod queries;
+#[cfg(test)]
+mod random_trees;

@@ -1,0 +1,160 @@
+//! What the queries of a tree answer, and how many nodes they enter: the worked rows, and the ends of the words.
+
+use crate::calls::Call;
+use crate::calls::Call::{
+    AtOrAfter, AtOrBefore, EmptyAtOrAfter, EmptyAtOrBefore, Lookup, Nth, Rank,
+};
+use crate::nodes::{Grid, check_tree, tree_of};
+use crate::plain::note;
+use judy_bits::Meter;
+use judy_leaf::{Width, Words};
+use std::alloc::{AllocError, Global};
+use std::process::Abort;
+use std::test::Fail;
+
+// A call, the word or place that it is asked about, the answer, and the most nodes that it enters.
+type Asked = (Call, u64, Option<u64>, u64);
+
+// Asks the tree of these pairs, each time with a new meter.
+fn check_asked<V: Words + Drop>(
+    rt: &impl Abort,
+    alloc: Global,
+    pairs: &[(u64, u64)],
+    table: &[Asked],
+) -> Result<(), AllocError> {
+    let tree = tree_of::<V>(rt, alloc, pairs)?;
+    for &(call, word, answer, most) in table {
+        let mut meter = Meter::new();
+        let found = call.ask(&tree, word, &mut meter);
+        assert_eq!(rt; found, answer, "{call:?} {word}");
+        assert!(rt; meter.visits() <= most, "{call:?} {word}");
+    }
+    Ok(())
+}
+
+const EIGHT_LEVELS: [Asked; 7] = [
+    (Lookup, 32, Some(0), 8),
+    (Nth, 39, Some(72_057_594_037_927_936), 8),
+    (Rank, 33, Some(33), 8),
+    (AtOrAfter, 33, Some(256), 16),
+    (AtOrBefore, 255, Some(32), 16),
+    (EmptyAtOrAfter, 0, Some(33), 16),
+    (EmptyAtOrBefore, 256, Some(255), 16),
+];
+
+// Eight nodes stand below one another on the way of the least keys: seven branches and a bitmap leaf.
+#[test]
+fn visit_bounds(rt: HostRuntime) -> Result<(), Fail> {
+    let mut pairs = Grid::run(33, None).pairs::<Width<0>>(&rt, rt.alloc())?;
+    for level in 1..8u64 {
+        note(&rt, &mut pairs, 1 << (8 * level), 0)?;
+    }
+    check_tree::<Width<0>>(&rt, rt.alloc(), &pairs, [7, 0, 1, 7, 0, 0])?;
+    check_asked::<Width<0>>(&rt, rt.alloc(), &pairs, &EIGHT_LEVELS)?;
+    Ok(())
+}
+
+const ONE_FULL_NODE: [Asked; 7] = [
+    (EmptyAtOrAfter, 0, Some(256), 1),
+    (EmptyAtOrAfter, 256, Some(256), 1),
+    (EmptyAtOrBefore, 255, None, 1),
+    (Rank, 10, Some(10), 1),
+    (Rank, 21, Some(21), 1),
+    (Nth, 255, Some(255), 1),
+    (Nth, 256, None, 1),
+];
+
+const TWO_FULL_NODES: [Asked; 5] = [
+    (EmptyAtOrAfter, 0, Some(512), 1),
+    (EmptyAtOrAfter, 300, Some(512), 1),
+    (EmptyAtOrAfter, 511, Some(512), 1),
+    (EmptyAtOrBefore, 511, None, 1),
+    (EmptyAtOrBefore, 513, Some(513), 1),
+];
+
+// The root is entered and no full node below it.
+#[test]
+fn full_ranges(rt: HostRuntime) -> Result<(), Fail> {
+    let one = Grid::run(256, None).pairs::<Width<0>>(&rt, rt.alloc())?;
+    check_asked::<Width<0>>(&rt, rt.alloc(), &one, &ONE_FULL_NODE)?;
+    let two = Grid::run(512, None).pairs::<Width<0>>(&rt, rt.alloc())?;
+    check_asked::<Width<0>>(&rt, rt.alloc(), &two, &TWO_FULL_NODES)?;
+    Ok(())
+}
+
+const TOP: u64 = u64::MAX;
+
+const THE_GREATEST_ALONE: [Asked; 16] = [
+    (Lookup, 0, None, 1),
+    (Lookup, TOP, Some(0), 1),
+    (Rank, 0, Some(0), 1),
+    (Rank, TOP, Some(0), 1),
+    (Nth, 0, Some(TOP), 1),
+    (Nth, 1, None, 1),
+    (Nth, TOP, None, 1),
+    (AtOrAfter, 0, Some(TOP), 1),
+    (AtOrAfter, TOP, Some(TOP), 1),
+    (AtOrBefore, 0, None, 1),
+    (AtOrBefore, TOP - 1, None, 1),
+    (AtOrBefore, TOP, Some(TOP), 1),
+    (EmptyAtOrAfter, 0, Some(0), 1),
+    (EmptyAtOrAfter, TOP, None, 1),
+    (EmptyAtOrBefore, 0, Some(0), 1),
+    (EmptyAtOrBefore, TOP, Some(TOP - 1), 1),
+];
+
+const THE_LEAST_AND_THE_GREATEST: [Asked; 13] = [
+    (Lookup, 0, Some(7), 1),
+    (Lookup, TOP, Some(9), 1),
+    (Rank, 0, Some(0), 1),
+    (Rank, TOP, Some(1), 1),
+    (Nth, 1, Some(TOP), 1),
+    (AtOrAfter, 0, Some(0), 1),
+    (AtOrAfter, 1, Some(TOP), 1),
+    (AtOrBefore, 0, Some(0), 1),
+    (AtOrBefore, TOP - 1, Some(0), 1),
+    (EmptyAtOrAfter, 0, Some(1), 1),
+    (EmptyAtOrAfter, TOP, None, 1),
+    (EmptyAtOrBefore, 0, None, 1),
+    (EmptyAtOrBefore, TOP, Some(TOP - 1), 1),
+];
+
+const NO_KEYS: [Asked; 7] = [
+    (Lookup, TOP, None, 1),
+    (Rank, TOP, Some(0), 1),
+    (Nth, 0, None, 1),
+    (AtOrAfter, 0, None, 1),
+    (AtOrBefore, TOP, None, 1),
+    (EmptyAtOrAfter, TOP, Some(TOP), 1),
+    (EmptyAtOrBefore, 0, Some(0), 1),
+];
+
+// The least and the greatest word, as keys, beside keys and without any.
+#[test]
+fn edge_word(rt: HostRuntime) -> Result<(), Fail> {
+    check_asked::<Width<0>>(&rt, rt.alloc(), &[(TOP, 0)], &THE_GREATEST_ALONE)?;
+    let both = [(0, 7), (TOP, 9)];
+    check_asked::<Width<1>>(&rt, rt.alloc(), &both, &THE_LEAST_AND_THE_GREATEST)?;
+    check_asked::<Width<0>>(&rt, rt.alloc(), &[], &NO_KEYS)?;
+    Ok(())
+}
+
+const FULL_ENDS: [Asked; 8] = [
+    (EmptyAtOrAfter, 0, Some(512), 2),
+    (EmptyAtOrAfter, TOP - 511, None, 2),
+    (EmptyAtOrBefore, 511, None, 2),
+    (EmptyAtOrBefore, TOP, Some(TOP - 512), 2),
+    (AtOrAfter, 512, Some(TOP - 511), 16),
+    (AtOrBefore, TOP - 512, Some(511), 16),
+    (Rank, TOP, Some(1023), 8),
+    (Nth, 1023, Some(TOP), 8),
+];
+
+// Two full nodes at either end of the words.
+#[test]
+fn full_ranges_at_the_ends(rt: HostRuntime) -> Result<(), Fail> {
+    let ends = Grid::rows(2, TOP - 511, 512, None).pairs::<Width<0>>(&rt, rt.alloc())?;
+    check_tree::<Width<0>>(&rt, rt.alloc(), &ends, [0, 0, 4, 3, 0, 0])?;
+    check_asked::<Width<0>>(&rt, rt.alloc(), &ends, &FULL_ENDS)?;
+    Ok(())
+}
