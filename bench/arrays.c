@@ -107,9 +107,12 @@ static word sellumaq_value(sellumaq_judyl *map, word key) {
     return sellumaq_judyl_get(map, key, &value) ? value : 0;
 }
 
-static bool sellumaq_next_entry(sellumaq_judyl *map, word *key) {
-    word value;
-    return sellumaq_judyl_next_entry(map, *key, key, &value);
+/* The next key of a map, whose value is read too and added to a sum. */
+static bool sellumaq_next_entry(sellumaq_judyl *map, word *key, word *sum) {
+    word value = 0;
+    if (!sellumaq_judyl_next_entry(map, *key, key, &value)) return false;
+    *sum += value;
+    return true;
 }
 
 static word libjudy_value(Pvoid_t map, word key) {
@@ -117,11 +120,18 @@ static word libjudy_value(Pvoid_t map, word key) {
     return slot ? *slot : 0;
 }
 
+static bool libjudy_next_entry(Pvoid_t map, word *key, word *sum) {
+    word *slot = (word *)JudyLNext(map, (Word_t *)key, PJE0);
+    if (!slot) return false;
+    *sum += *slot;
+    return true;
+}
+
 MEASURE(judyl_sellumaq, sellumaq_judyl, {0}, sellumaq_judyl_free(&a), (void)sellumaq_judyl_put(&a, k, k), sellumaq_value(&a, k),
-        sellumaq_next_entry(&a, &k), true, sellumaq_judyl_count(&a, 0, k), sellumaq_judyl_by_count(&a, k, &k), sellumaq_judyl_del(&a, k))
+        sellumaq_next_entry(&a, &k, &found), true, sellumaq_judyl_count(&a, 0, k), sellumaq_judyl_by_count(&a, k, &k), sellumaq_judyl_del(&a, k))
 
 MEASURE(judyl_libjudy, Pvoid_t, NULL, JudyLFreeArray(&a, PJE0), *(word *)JudyLIns(&a, k, PJE0) = k, libjudy_value(a, k),
-        JudyLNext(a, (Word_t *)&k, PJE0) != NULL, true, JudyLCount(a, 0, k, PJE0), JudyLByCount(a, k, (Word_t *)&k, PJE0) != NULL,
+        libjudy_next_entry(a, &k, &found), true, JudyLCount(a, 0, k, PJE0), JudyLByCount(a, k, (Word_t *)&k, PJE0) != NULL,
         JudyLDel(&a, k, PJE0))
 
 #ifdef WITH_STD
@@ -135,13 +145,21 @@ void *btree_map_new(void);
 void btree_map_free(void *map);
 void btree_map_insert(void *map, word key, word value);
 word btree_map_value(const void *map, word key);
-bool btree_map_next(const void *map, word from, word *key);
+bool btree_map_next(const void *map, word from, word *key, word *value);
 void btree_map_remove(void *map, word key);
 
 MEASURE(judy1_btree, void *, btree_set_new(), btree_set_free(a), btree_set_insert(a, k), btree_set_has(a, k), btree_set_next(a, k, &k),
         false, 0, 0, btree_set_remove(a, k))
-MEASURE(judyl_btree, void *, btree_map_new(), btree_map_free(a), btree_map_insert(a, k, k), btree_map_value(a, k), btree_map_next(a, k, &k),
-        false, 0, 0, btree_map_remove(a, k))
+
+static bool btree_next_entry(const void *map, word *key, word *sum) {
+    word value = 0;
+    if (!btree_map_next(map, *key, key, &value)) return false;
+    *sum += value;
+    return true;
+}
+
+MEASURE(judyl_btree, void *, btree_map_new(), btree_map_free(a), btree_map_insert(a, k, k), btree_map_value(a, k),
+        btree_next_entry(a, &k, &found), false, 0, 0, btree_map_remove(a, k))
 #endif
 
 static const struct array ARRAYS[] = {

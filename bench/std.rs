@@ -58,9 +58,9 @@ pub unsafe extern "C" fn btree_map_value(map: *const Map, key: u64) -> u64 {
 }
 
 #[no_mangle]
-pub unsafe extern "C" fn btree_map_next(map: *const Map, from: u64, key: *mut u64) -> bool {
+pub unsafe extern "C" fn btree_map_next(map: *const Map, from: u64, key: *mut u64, value: *mut u64) -> bool {
     let found = (*map).range((Excluded(from), Unbounded)).next();
-    found.map(|it| *key = *it.0).is_some()
+    found.map(|it| (*key, *value) = (*it.0, *it.1)).is_some()
 }
 
 #[no_mangle]
