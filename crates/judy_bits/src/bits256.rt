@@ -77,6 +77,13 @@ impl Bits256 {
         self.words[(byte / 64) as usize] &= !(1 << (byte % 64));
     }
 
+    /// A law without a body: the members ascend, and all are bytes.
+    pub fn told(&self)
+        ensures { IsByteSet self.now }
+    {
+        let _ = &self.words;
+    }
+
     /// How many members there are.
     pub fn len(&self) -> usize
         ensures count { result ≡ length self.now }
