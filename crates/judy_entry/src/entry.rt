@@ -4,7 +4,7 @@ ghost use Rattle.std.specs.Prelude.{◌≡◌, IfOk};
 ghost use Rattle.std.specs.Borrow.{sem};
 ghost use Rattle.judy_entry.specs.Bytes.{bytes_of};
 
-use crate::few::{Few, MOST};
+use crate::few::{Few, MOST_FEW};
 use std::alloc::{AllocError, Global};
 use std::marker::Model;
 
@@ -20,7 +20,7 @@ impl Bytes {
     fn copied(alloc: Global, bytes: &[u8]) -> Result<Bytes, AllocError>
         ensures { IfOk result (λ kept. bytes_of kept ≡ bytes.now) }
     {
-        if bytes.len() <= MOST {
+        if bytes.len() <= MOST_FEW {
             Ok(Bytes::Few(Few::copied(bytes)))
         } else {
             Ok(Bytes::Many(bytes.to_vec(alloc)?))
@@ -68,6 +68,26 @@ impl Entry {
             bytes: Bytes::copied(alloc, bytes)?,
             value,
         })
+    }
+
+    /// The entry of bytes in place.
+    pub fn of_few(few: Few, value: u64) -> Entry
+        ensures { result ≡ (few, value) }
+    {
+        Entry {
+            bytes: Bytes::Few(few),
+            value,
+        }
+    }
+
+    /// The entry of the bytes of a vector.
+    pub fn of_many(many: Vec<u8>, value: u64) -> Entry
+        ensures { result ≡ (many.items, value) }
+    {
+        Entry {
+            bytes: Bytes::Many(many),
+            value,
+        }
     }
 
     /// The bytes.

@@ -4,14 +4,14 @@ ghost use Rattle.std.specs.Prelude.{◌≡◌, ◌≤◌, length};
 
 use std::marker::Model;
 
-// The most bytes in place. With these a `Few` takes no more room than a vector and the word that tells one from the other.
-pub(crate) const MOST: usize = 30;
+/// The most bytes in place. With these a `Few` takes no more room than a vector and the word that tells one from the other.
+pub const MOST_FEW: usize = 30;
 
 /// At most 30 bytes. In contracts it is the list of them.
 #[derive(Drop)]
-pub(crate) struct Few {
+pub struct Few {
     len: u8,
-    bytes: [u8; MOST],
+    bytes: [u8; MOST_FEW],
 }
 
 const _: () = prove!(size_of::<Few>() == 31);
@@ -28,11 +28,11 @@ impl Model for Few {
 
 impl Few {
     /// A copy of the bytes.
-    pub(crate) fn copied(bytes: &[u8]) -> Few
+    pub fn copied(bytes: &[u8]) -> Few
         requires { length bytes.now ≤ 30 }
         ensures { result ≡ bytes.now }
     {
-        let mut kept = [0; MOST];
+        let mut kept = [0; MOST_FEW];
         kept[..bytes.len()].copy_from_slice(bytes);
         Few {
             len: bytes.len() as u8,
@@ -41,7 +41,7 @@ impl Few {
     }
 
     /// The bytes.
-    pub(crate) fn as_slice(&self) -> &[u8]
+    pub fn as_slice(&self) -> &[u8]
         ensures { result.now ≡ self.now }
     {
         &self.bytes[..self.len as usize]

@@ -6,3 +6,4 @@ mod entry;
 mod few;
 
 pub use entry::Entry;
+pub use few::{Few, MOST_FEW};
