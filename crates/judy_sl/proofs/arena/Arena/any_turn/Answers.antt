@@ -10,7 +10,7 @@ use Rattle.judy_sl.proofs.OnWay.{child_from}
 use Rattle.judy_sl.proofs.ScanLevels.{none_absent, none_child, none_gone, none_tail}
 use Rattle.judy_sl.proofs.ScanEntries.{bytes_along}
 use Rattle.judy_sl.proofs.ScanWays.{on_start, on_moved, on_left, on_tail, on_last}
-use Rattle.judy_sl.proofs.arena.Arena.turn.Goals as goal
+use Rattle.judy_sl.proofs.arena.Arena.any_turn.Goals as goal
 
 pub loop-rest-init : goal.loop-rest-init
 loop-rest-init c = on_start c.args.look (world_of c.args.self.now) c.args.key.now c.args.self.now.root.map refl (text_from_bytes c.args.key.now c.type_inv.key c.requires.without_zero)
@@ -21,7 +21,7 @@ returns-in_default-clause-is_turn c =
     let on = c.loop-rest.invariant in
     let nearest = subst (λ p. IsNearestEntry c.args.look.side false words p (piece_in c.beyond.result)) c.first_piece-piece.ensures c.beyond.ensures.nearest in
     let absent = sym (ap (λ p. get words p) c.first_piece-piece.ensures) ∙ sym c.get.ensures ∙ c.in_default.is in
-    let none = none_absent c.args.look (world_of c.args.self.now) on.seat words on.is_level (piece_of c.loop-rest.rest.now) (pieces (drop 8 c.loop-rest.rest.now)) absent in
+    let none = none_absent c.args.look (world_of c.args.self.now) on.scan.seat words on.scan.is_level (piece_of c.loop-rest.rest.now) (pieces (drop 8 c.loop-rest.rest.now)) absent in
     subst (IsTurn c.args.look (world_of c.args.self.now) c.args.key.now) (sym c.nearer-turn.ensures)
     (on_left c.args.look (world_of c.args.self.now) c.args.key.now words c.loop-rest.rest.now c.loop-rest.turn on c.loop-rest-test.true c.beyond.result nearest c.beyond.ensures.value none)
 
@@ -42,7 +42,7 @@ returns-then-met-clause-is_turn c =
     let child = child_from c.args.self.now _ c.deref.ensures.value c.in-Some.at _ (Tail c.in-Some-Tail.tail) (c.in-Some-Tail.ensures.lookup.4 (omega arith) (Free 0)) c.in-Some-Tail.field-0-is in
     let text = subst HasText child (c.requires.is_arena.texts c.in-Some.at) in
     let met : meets c.args.look (world_of c.args.self.now) (pieces (drop 8 c.loop-rest.rest.now)) (pieces held) ≡ c.meets-met.result =
-    ap (is_beyond c.args.look.itself) (bytes_along c.args.look.side (drop 8 c.loop-rest.rest.now) held (text-drop 8 c.loop-rest.rest.now on.text) text)
+    ap (is_beyond c.args.look.itself) (bytes_along c.args.look.side (drop 8 c.loop-rest.rest.now) held (text-drop 8 c.loop-rest.rest.now on.scan.text) text)
     ∙ (λ t. is_beyond c.args.look.itself (along_bytes c.args.look.side (sym (take_rest c.loop-rest.rest.now 8) t) (sym c.bytes.ensures t)))
     ∙ sym c.meets-met.ensures in
     rw c.first_piece-piece.ensures (on_tail c.args.look (world_of c.args.self.now) c.args.key.now words c.loop-rest.rest.now c.loop-rest.turn on c.loop-rest-test.true c.in-Some.at c.in-Some-Tail.tail.1 (pieces held) entry (ap node_of child) (met ∙ c.if-met.true))
@@ -56,11 +56,11 @@ returns-else-met-clause-is_turn c =
     let child = child_from c.args.self.now _ c.deref.ensures.value c.in-Some.at _ (Tail c.in-Some-Tail.tail) (c.in-Some-Tail.ensures.lookup.4 (omega arith) (Free 0)) c.in-Some-Tail.field-0-is in
     let text = subst HasText child (c.requires.is_arena.texts c.in-Some.at) in
     let met : meets c.args.look (world_of c.args.self.now) (pieces (drop 8 c.loop-rest.rest.now)) (pieces held) ≡ c.meets-met.result =
-    ap (is_beyond c.args.look.itself) (bytes_along c.args.look.side (drop 8 c.loop-rest.rest.now) held (text-drop 8 c.loop-rest.rest.now on.text) text)
+    ap (is_beyond c.args.look.itself) (bytes_along c.args.look.side (drop 8 c.loop-rest.rest.now) held (text-drop 8 c.loop-rest.rest.now on.scan.text) text)
     ∙ (λ t. is_beyond c.args.look.itself (along_bytes c.args.look.side (sym (take_rest c.loop-rest.rest.now 8) t) (sym c.bytes.ensures t)))
     ∙ sym c.meets-met.ensures in
     let nearest = subst (λ p. IsNearestEntry c.args.look.side false words p (piece_in c.beyond.result)) c.first_piece-piece.ensures c.beyond.ensures.nearest in
-    let none = none_child c.args.look (world_of c.args.self.now) on.seat words on.is_level (piece_of c.loop-rest.rest.now) c.in-Some.at (pieces (drop 8 c.loop-rest.rest.now)) entry (piece-IsInner c.loop-rest.rest.now on.text c.loop-rest-test.true) (none_tail c.args.look (world_of c.args.self.now) (suc c.in-Some.at) (pieces (drop 8 c.loop-rest.rest.now)) (pieces held) c.in-Some-Tail.tail.1 (ap node_of child) (met ∙ c.if-met.false)) in
+    let none = none_child c.args.look (world_of c.args.self.now) on.scan.seat words on.scan.is_level (piece_of c.loop-rest.rest.now) c.in-Some.at (pieces (drop 8 c.loop-rest.rest.now)) entry (piece-IsInner c.loop-rest.rest.now on.scan.text c.loop-rest-test.true) (none_tail c.args.look (world_of c.args.self.now) (suc c.in-Some.at) (pieces (drop 8 c.loop-rest.rest.now)) (pieces held) c.in-Some-Tail.tail.1 (ap node_of child) (met ∙ c.if-met.false)) in
     subst (IsTurn c.args.look (world_of c.args.self.now) c.args.key.now) (sym c.nearer-turn.ensures)
     (on_left c.args.look (world_of c.args.self.now) c.args.key.now words c.loop-rest.rest.now c.loop-rest.turn on c.loop-rest-test.true c.beyond.result nearest c.beyond.ensures.value none)
 
@@ -71,7 +71,7 @@ returns-in-Some-Free-clause-is_turn c =
     let nearest = subst (λ p. IsNearestEntry c.args.look.side false words p (piece_in c.beyond.result)) c.first_piece-piece.ensures c.beyond.ensures.nearest in
     let entry = sym (ap (λ p. get words p) c.first_piece-piece.ensures) ∙ sym c.get.ensures ∙ c.in-Some.is in
     let child = child_from c.args.self.now _ c.deref.ensures.value c.in-Some.at _ (Free c.in-Some-Free.field-0-0) (c.in-Some-Free.ensures.lookup.4 (omega arith) (Free 0)) c.in-Some-Free.field-0-is in
-    let none = none_child c.args.look (world_of c.args.self.now) on.seat words on.is_level (piece_of c.loop-rest.rest.now) c.in-Some.at (pieces (drop 8 c.loop-rest.rest.now)) entry (piece-IsInner c.loop-rest.rest.now on.text c.loop-rest-test.true) (none_gone c.args.look (world_of c.args.self.now) (suc c.in-Some.at) (pieces (drop 8 c.loop-rest.rest.now)) (ap node_of child)) in
+    let none = none_child c.args.look (world_of c.args.self.now) on.scan.seat words on.scan.is_level (piece_of c.loop-rest.rest.now) c.in-Some.at (pieces (drop 8 c.loop-rest.rest.now)) entry (piece-IsInner c.loop-rest.rest.now on.scan.text c.loop-rest-test.true) (none_gone c.args.look (world_of c.args.self.now) (suc c.in-Some.at) (pieces (drop 8 c.loop-rest.rest.now)) (ap node_of child)) in
     subst (IsTurn c.args.look (world_of c.args.self.now) c.args.key.now) (sym c.nearer-turn.ensures)
     (on_left c.args.look (world_of c.args.self.now) c.args.key.now words c.loop-rest.rest.now c.loop-rest.turn on c.loop-rest-test.true c.beyond.result nearest c.beyond.ensures.value none)
 
@@ -82,7 +82,7 @@ returns-in-None-clause-is_turn c =
     let nearest = subst (λ p. IsNearestEntry c.args.look.side false words p (piece_in c.beyond.result)) c.first_piece-piece.ensures c.beyond.ensures.nearest in
     let entry = sym (ap (λ p. get words p) c.first_piece-piece.ensures) ∙ sym c.get.ensures ∙ c.in-Some.is in
     let child = child_from c.args.self.now _ c.deref.ensures.value c.in-Some.at _ (Free 0) (c.in-None.ensures.lookup.4 (omega arith) (Free 0)) refl in
-    let none = none_child c.args.look (world_of c.args.self.now) on.seat words on.is_level (piece_of c.loop-rest.rest.now) c.in-Some.at (pieces (drop 8 c.loop-rest.rest.now)) entry (piece-IsInner c.loop-rest.rest.now on.text c.loop-rest-test.true) (none_gone c.args.look (world_of c.args.self.now) (suc c.in-Some.at) (pieces (drop 8 c.loop-rest.rest.now)) (ap node_of child)) in
+    let none = none_child c.args.look (world_of c.args.self.now) on.scan.seat words on.scan.is_level (piece_of c.loop-rest.rest.now) c.in-Some.at (pieces (drop 8 c.loop-rest.rest.now)) entry (piece-IsInner c.loop-rest.rest.now on.scan.text c.loop-rest-test.true) (none_gone c.args.look (world_of c.args.self.now) (suc c.in-Some.at) (pieces (drop 8 c.loop-rest.rest.now)) (ap node_of child)) in
     subst (IsTurn c.args.look (world_of c.args.self.now) c.args.key.now) (sym c.nearer-turn.ensures)
     (on_left c.args.look (world_of c.args.self.now) c.args.key.now words c.loop-rest.rest.now c.loop-rest.turn on c.loop-rest-test.true c.beyond.result nearest c.beyond.ensures.value none)
 
