@@ -252,5 +252,17 @@ length-with_byte-le xs byte ascending =
     let most : cond (has xs byte) (length xs) (length xs + 1) ≤ length xs + 1 = elim (has xs byte) as (λ b. cond b (length xs) (length xs + 1) ≤ length xs + 1) [ true ↦ omega arith | false ↦ omega arith ] in
     omega arith
 
+pub length-with_byte-ge : (xs : List ℕ) (byte : ℕ) → IsStrictlySortedBy word_order xs → length xs ≤ length (with_byte xs byte)
+length-with_byte-ge xs byte ascending =
+    let long = length-with_byte xs byte ascending in
+    let least : length xs ≤ cond (has xs byte) (length xs) (length xs + 1) = elim (has xs byte) as (λ b. length xs ≤ cond b (length xs) (length xs + 1)) [ true ↦ omega arith | false ↦ omega arith ] in
+    omega arith
+
+pub length-without_byte-ge : (xs : List ℕ) (byte : ℕ) → IsStrictlySortedBy word_order xs → length xs ≤ length (without_byte xs byte) + 1
+length-without_byte-ge xs byte ascending =
+    let long = length-without_byte xs byte ascending in
+    let least : length xs ≤ cond (has xs byte) (length xs - 1) (length xs) + 1 = elim (has xs byte) as (λ b. length xs ≤ cond b (length xs - 1) (length xs) + 1) [ true ↦ omega arith | false ↦ omega arith ] in
+    omega arith
+
 pub length-without_byte-le : (xs : List ℕ) (byte : ℕ) → length (without_byte xs byte) ≤ length xs
 length-without_byte-le xs byte = length-filter-le (λ member. not (member == byte)) xs

@@ -1,7 +1,21 @@
 //! The bits of one word, by steps on the whole word.
 
-ghost use Rattle.std.specs.Prelude.{◌≡◌, ◌<◌, ◌≤◌, ◌^◌, ◌-◌, MatchOption, count_ones};
+ghost use Rattle.std.specs.Prelude.{◌≡◌, ◌<◌, ◌≤◌, ◌^◌, ◌-◌, ◌%◌, if◌then◌else◌, MatchOption, count_ones};
 ghost use Rattle.judy_bits.specs.BitWords.{NoneFrom, IsLowestFrom, NoneBelow, IsHighestBelow, IsSelected};
+
+/// How many bits of a word are 1.
+pub(crate) fn count(word: u64) -> u32
+    ensures { result ≡ count_ones (word % 2 ^ 64) }
+{
+    word.count_ones()
+}
+
+/// How many bits of a word are 1, where the word counts.
+pub(crate) fn count_where(counts: bool, word: u64) -> u32
+    ensures { result ≡ (if counts then count_ones (word % 2 ^ 64) else 0) }
+{
+    if counts { count(word) } else { 0 }
+}
 
 /// A word whose lowest bits, so many, are 1.
 pub(crate) fn low_ones(count: usize) -> u64

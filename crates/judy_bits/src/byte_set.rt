@@ -10,7 +10,6 @@ use crate::bits256::Bits256;
 use crate::few_bytes::FewBytes;
 use crate::form::Form;
 use std::marker::Model;
-use std::mem;
 
 /// The members, in one of the three forms.
 #[derive(Clone, Debug, Drop)]
@@ -158,45 +157,68 @@ impl ByteSet {
     pub fn add(&mut self, byte: u8)
         ensures { self.new ≡ set.with_byte self.old byte }
     {
-        let members = mem::replace(&mut self.members, Members::Linear(FewBytes::new()));
-        self.members = with_byte(members, byte);
+        add_to(&mut self.members, byte);
     }
 
     /// Takes the byte out, where it is a member.
     pub fn take(&mut self, byte: u8)
         ensures { self.new ≡ set.without_byte self.old byte }
     {
-        let members = mem::replace(&mut self.members, Members::Linear(FewBytes::new()));
-        self.members = without_byte(members, byte);
+        take_from(&mut self.members, byte);
     }
 }
 
-/// The members with a byte.
-fn with_byte(members: Members, byte: u8) -> Members
-    requires { IsInForm members }
-    ensures value { members_in result ≡ set.with_byte (members_in members) byte }
-    ensures in_form { IsInForm result }
+/// Makes a byte a member. The members change where they stand, and are moved only where their number asks for another form.
+fn add_to(members: &mut Members, byte: u8)
+    requires { IsInForm members.old }
+    ensures value { members_in members.new ≡ set.with_byte (members_in members.old) byte }
+    ensures in_form { IsInForm members.new }
 {
     match members {
-        Members::Linear(few) => few_with(few, byte),
-        Members::Bitmap(bits) => bits_with(bits, byte),
-        Members::Full(bits) => bits_with(bits, byte),
+        Members::Linear(few) => {
+            if few.len() < 7 {
+                few.add(byte);
+            } else {
+                *members = bits_with(bits_of(few), byte);
+            }
+        }
+        Members::Bitmap(bits) => {
+            if bits.len() < 127 {
+                bits.add(byte);
+            } else {
+                *members = bits_with(Bits256::of_words(bits.words()), byte);
+            }
+        }
+        Members::Full(bits) => {
+            bits.told();
+            bits.add(byte);
+        }
     }
 }
 
-/// A few members with a byte: the eighth makes them bits.
-fn few_with(mut few: FewBytes, byte: u8) -> Members
-    ensures value { members_in result ≡ set.with_byte few byte }
-    ensures in_form { IsInForm result }
+/// Takes a byte out, where it is a member. The members change where they stand, as in `add_to`.
+fn take_from(members: &mut Members, byte: u8)
+    requires { IsInForm members.old }
+    ensures value { members_in members.new ≡ set.without_byte (members_in members.old) byte }
+    ensures in_form { IsInForm members.new }
 {
-    if few.len() < 7 {
-        few.add(byte);
-        return Members::Linear(few);
+    match members {
+        Members::Linear(few) => few.take(byte),
+        Members::Bitmap(bits) => {
+            if bits.len() > 8 {
+                bits.take(byte);
+            } else {
+                *members = bits_without(Bits256::of_words(bits.words()), byte);
+            }
+        }
+        Members::Full(bits) => {
+            if bits.len() > 128 {
+                bits.take(byte);
+            } else {
+                *members = bits_without(Bits256::of_words(bits.words()), byte);
+            }
+        }
     }
-    if few.place(byte).is_some() {
-        return Members::Linear(few);
-    }
-    bits_with(bits_of(&few), byte)
 }
 
 /// Members as bits with a byte.
@@ -206,22 +228,6 @@ fn bits_with(mut bits: Bits256, byte: u8) -> Members
 {
     bits.add(byte);
     in_form(bits)
-}
-
-/// The members without a byte.
-fn without_byte(members: Members, byte: u8) -> Members
-    requires { IsInForm members }
-    ensures value { members_in result ≡ set.without_byte (members_in members) byte }
-    ensures in_form { IsInForm result }
-{
-    match members {
-        Members::Linear(mut few) => {
-            few.take(byte);
-            Members::Linear(few)
-        }
-        Members::Bitmap(bits) => bits_without(bits, byte),
-        Members::Full(bits) => bits_without(bits, byte),
-    }
 }
 
 /// Members as bits without a byte.

@@ -6,13 +6,14 @@
 //! for those who cite these. A `Skip` is the list of its bytes, and a `Meter` a number. The bytes of a word and
 //! their laws are judy_model's, since strings and formats speak of them too.
 //!
-//! What lies below shows in no contract: four words of bits (bits256.rt, by the steps on one word of bits.rt), and
+//! What lies below shows in no contract: four words of bits (bits256.rt, and to read them bits_ref.rt, by the steps on one word of bits.rt), and
 //! up to seven bytes in a word (few_bytes.rt). A `ByteSet` is one or the other by its number of members. The
 //! crate stands on judy_model, and the leaves and nodes of the tree stand on it.
 #![tactic(auto)]
 
 mod bits;
 mod bits256;
+mod bits_ref;
 mod byte_set;
 mod few_bytes;
 mod form;
@@ -23,6 +24,7 @@ mod skip;
 mod tests;
 mod word;
 
+pub use bits_ref::BitsRef;
 pub use bits256::Bits256;
 pub use byte_set::ByteSet;
 pub use form::Form;

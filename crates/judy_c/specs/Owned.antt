@@ -12,8 +12,8 @@ use Rattle.judy_word.specs.contracts.judy1.Judy1 as judy1
 use Rattle.judy_word.specs.contracts.judyl.JudyL as judyl
 use Rattle.judy_sl.specs.contracts.strings.JudySl as judysl
 use Rattle.judy_hs.specs.contracts.bytes.JudyHs as judyhs
-use Rattle.judy_hs.specs.contracts.hash.Fnv1a as fnv
-use Rattle.judy_hs.specs.contracts.hash.Fnv1aByteHash.TheImpl as hash
+use Rattle.judy_hs.specs.contracts.hash.Eights as eights
+use Rattle.judy_hs.specs.contracts.hash.EightsByteHash.TheImpl as hash
 
 abbrev pub heap : Global
 heap = record { memory = record { seal = tt } }
@@ -43,9 +43,9 @@ held_judysl = held judysl.the_row
 abbrev pub strings_coded : Coded (Option judysl.the_row.Denot)
 strings_coded = coded_option judysl.the_row.coded
 
--- An array over byte strings, under the hash FNV-1a.
+-- An array over byte strings, under the hash `Eights`.
 abbrev pub judyhs_row : RattleType
-judyhs_row = judyhs.the_row fnv.the_row hash.ghosts
+judyhs_row = judyhs.the_row eights.the_row hash.ghosts
 
 abbrev pub held_judyhs : Ptr → Option judyhs_row.Denot → Fml
 held_judyhs = held judyhs_row

@@ -18,7 +18,7 @@ use crate::answers::answer_insert;
 use crate::bytes::Bytes;
 use crate::strings::MOST_KEYS;
 use crate::told::{hand_out, tell};
-use judy_hs::{Fnv1a, JudyHs};
+use judy_hs::{Eights, JudyHs};
 use std::alloc::Global;
 
 /// The value of a key; one of more than 1,024 bytes is absent. (Manual: JHSG, JudyHSGet.)
@@ -34,7 +34,7 @@ pub extern "C" fn sellumaq_judyhs_get(
 {
     match handle.array() {
         Some(array) => tell(array.get(key), value),
-        None => tell(JudyHs::new(alloc, MOST_KEYS, Fnv1a).get(key), value),
+        None => tell(JudyHs::new(alloc, MOST_KEYS, Eights).get(key), value),
     }
 }
 
@@ -76,7 +76,7 @@ pub extern "C" fn sellumaq_judyhs_del(alloc: Global, handle: &mut Bytes, key: &[
 {
     match handle.array() {
         Some(array) => array.del(key),
-        None => JudyHs::new(alloc, MOST_KEYS, Fnv1a).del(key),
+        None => JudyHs::new(alloc, MOST_KEYS, Eights).del(key),
     }
 }
 
@@ -88,7 +88,7 @@ pub extern "C" fn sellumaq_judyhs_len(alloc: Global, handle: &mut Bytes) -> u64
 {
     match handle.array() {
         Some(array) => array.len(),
-        None => JudyHs::new(alloc, MOST_KEYS, Fnv1a).len(),
+        None => JudyHs::new(alloc, MOST_KEYS, Eights).len(),
     }
 }
 

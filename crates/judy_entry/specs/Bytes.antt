@@ -4,5 +4,5 @@ use Rattle.judy_entry.specs.declared.entry.Bytes.{Bytes}
 use Rattle.judy_entry.specs.declared.entry.Bytes.TheVariants.{Few, Many}
 
 abbrev pub bytes_of : Bytes → List ℕ
-bytes_of (Few few) = few.items
+bytes_of (Few few) = few
 bytes_of (Many many) = many.items

@@ -4,14 +4,14 @@ ghost use Rattle.std.specs.Prelude.{◌≡◌, IfOk};
 ghost use Rattle.std.specs.Borrow.{sem};
 ghost use Rattle.judy_entry.specs.Bytes.{bytes_of};
 
-use arrayvec::ArrayVec;
+use crate::few::{Few, MOST_FEW};
 use std::alloc::{AllocError, Global};
 use std::marker::Model;
 
 // The bytes of an entry. So many stand in place that these take no more room than a vector does.
 #[derive(Drop)]
 enum Bytes {
-    Few(ArrayVec<u8, 16>),
+    Few(Few),
     Many(Vec<u8>),
 }
 
@@ -20,9 +20,10 @@ impl Bytes {
     fn copied(alloc: Global, bytes: &[u8]) -> Result<Bytes, AllocError>
         ensures { IfOk result (λ kept. bytes_of kept ≡ bytes.now) }
     {
-        match ArrayVec::try_from(bytes) {
-            Ok(few) => Ok(Bytes::Few(few)),
-            Err(_) => Ok(Bytes::Many(bytes.to_vec(alloc)?)),
+        if bytes.len() <= MOST_FEW {
+            Ok(Bytes::Few(Few::copied(bytes)))
+        } else {
+            Ok(Bytes::Many(bytes.to_vec(alloc)?))
         }
     }
 
@@ -43,6 +44,8 @@ pub struct Entry {
     bytes: Bytes,
     value: u64,
 }
+
+const _: () = prove!(size_of::<Entry>() == 40);
 
 impl Model for Entry {
     ghost use Rattle.std.specs.Prelude.{List, ℕ};
@@ -65,6 +68,26 @@ impl Entry {
             bytes: Bytes::copied(alloc, bytes)?,
             value,
         })
+    }
+
+    /// The entry of bytes in place.
+    pub fn of_few(few: Few, value: u64) -> Entry
+        ensures { result ≡ (few, value) }
+    {
+        Entry {
+            bytes: Bytes::Few(few),
+            value,
+        }
+    }
+
+    /// The entry of the bytes of a vector.
+    pub fn of_many(many: Vec<u8>, value: u64) -> Entry
+        ensures { result ≡ (many.items, value) }
+    {
+        Entry {
+            bytes: Bytes::Many(many),
+            value,
+        }
     }
 
     /// The bytes.

@@ -11,10 +11,10 @@ use Rattle.judy_places.proofs.PlaceLemmas.{free-inside}
 use Rattle.judy_model.specs.Keys.{word_order}
 use Rattle.judy_model.specs.Arrays.{ArrayOf, with_map}
 use Rattle.judy_hs.specs.declared.long_group.ChainPlace.{ChainPlace}
-use Rattle.judy_hs.specs.declared.long_group.ChainPlace.TheVariants.{Free, One, Taken}
+use Rattle.judy_hs.specs.declared.long_group.ChainPlace.TheVariants.{Free, Few, Many, Taken}
 use Rattle.judy_hs.specs.Chains.{Pairs, with_value_at}
 use Rattle.judy_hs.specs.LongGroups.{Long, long_with, put_at, with_chain, added_long, IsAdded, IsFound, hashes_without, without_key, IsFreePlace}
-use Rattle.judy_hs.specs.ChainPlaces.{pairs_at, chains_of, link_of, links_of, HasKey, AreChainPlaces}
+use Rattle.judy_hs.specs.ChainPlaces.{pairs_at, chains_of, link_of, links_of, HasKey, IsOne, AreChainPlaces}
 use Rattle.judy_hs.specs.LongLends.{place_with}
 use Rattle.judy_hs.proofs.TwoLevels.{get_or-put, get_or-put_other}
 use Rattle.judy_hs.proofs.ListLemmas.{set-twice, set_same}
@@ -63,11 +63,11 @@ chains_of-put places place new =
       | false ↦ map-append pairs_at places (new ∷ [])
     ])
 
-pub with_chain-put : (hashes made : ArrayOf word_order) (places : List ChainPlace) (hash place : ℕ) (key : List ℕ) (entry : List ℕ × ℕ) → made ≡ with_map hashes (insert hashes.map hash place) → entry ≡ (key, 0)
-    → long_of made (put_at places place (One entry)) ≡ with_chain (long_of hashes places) hash key place
-with_chain-put hashes made places hash place key entry is one =
-    ap (λ (all : List Pairs). record { hashes = made; chains = all }) (chains_of-put places place (One entry))
-    ∙ (λ t. record { hashes = is t; chains = put_at (chains_of places) place (one t ∷ []) })
+pub with_chain-put : (hashes made : ArrayOf word_order) (places : List ChainPlace) (hash place : ℕ) (key : List ℕ) (new : ChainPlace) → made ≡ with_map hashes (insert hashes.map hash place) → pairs_at new ≡ (key, 0) ∷ []
+    → long_of made (put_at places place new) ≡ with_chain (long_of hashes places) hash key place
+with_chain-put hashes made places hash place key new is one =
+    ap (λ (all : List Pairs). record { hashes = made; chains = all }) (chains_of-put places place new)
+    ∙ (λ t. record { hashes = is t; chains = put_at (chains_of places) place (one t) })
 
 -- ---- a key put into a chain
 
@@ -84,8 +84,10 @@ added-held hashes places hash place at key new leads last is =
 
 pairs_at-with : (new : ChainPlace) (at value : ℕ) → pairs_at (place_with new at value) ≡ with_value_at (pairs_at new) at value
 pairs_at-with (Free next) at value = refl
-pairs_at-with (One entry) zero value = refl
-pairs_at-with (One entry) (suc at) value = let e : nat_eq (suc at) 0 ≡ false = grind (arith, nat_tests) in rw e refl
+pairs_at-with (Few few held) zero value = refl
+pairs_at-with (Few few held) (suc at) value = let e : nat_eq (suc at) 0 ≡ false = grind (arith, nat_tests) in rw e refl
+pairs_at-with (Many many held) zero value = refl
+pairs_at-with (Many many held) (suc at) value = let e : nat_eq (suc at) 0 ≡ false = grind (arith, nat_tests) in rw e refl
 pairs_at-with (Taken chain) at value = refl
 
 module _ (hashes : ArrayOf word_order) (places : List ChainPlace) (place at : ℕ) (held : ChainPlace) (within : place < length places) (is : held ≡ get_or places place held) where
@@ -115,30 +117,47 @@ used-within (first ∷ rest) (suc place) used = omega (arith, used-within rest p
 
 link-key : (place : ChainPlace) → pairs_at place ≢ [] → link_of place ≡ None
 link-key (Free next) used = absurd (used refl)
-link-key (One entry) used = refl
+link-key (Few few value) used = refl
+link-key (Many many value) used = refl
 link-key (Taken chain) used = refl
 
 has-key : (place : ChainPlace) → pairs_at place ≢ [] → HasKey place
 has-key (Free next) used = absurd (used refl)
-has-key (One entry) used = tt
+has-key (Few few value) used = tt
+has-key (Many many value) used = tt
 has-key (Taken chain) used = used
 
 keys-there : (place : ChainPlace) → link_of place ≡ None → HasKey place → pairs_at place ≢ []
 keys-there (Free next) taken has = absurd (none-some next (sym taken))
-keys-there (One entry) taken has = λ e. cc
+keys-there (Few few value) taken has = λ e. cc
+keys-there (Many many value) taken has = λ e. cc
 keys-there (Taken chain) taken has = has
 
-link-one : (written : Bool) (entry : List ℕ × ℕ) (value : ℕ) → link_of (cond written (One (entry.0, value)) (One entry)) ≡ None
-link-one true entry value = refl
-link-one false entry value = refl
+link-either : (written : Bool) (one other : ChainPlace) → link_of one ≡ None → link_of other ≡ None → link_of (cond written one other) ≡ None
+link-either true one other first second = first
+link-either false one other first second = second
 
-has-one : (written : Bool) (entry : List ℕ × ℕ) (value : ℕ) → HasKey (cond written (One (entry.0, value)) (One entry))
-has-one true entry value = tt
-has-one false entry value = tt
+has-either : (written : Bool) (one other : ChainPlace) → HasKey one → HasKey other → HasKey (cond written one other)
+has-either true one other first second = first
+has-either false one other first second = second
+
+-- A place with one key is taken.
+pub link-one : (place : ChainPlace) → IsOne place → link_of place ≡ None
+link-one (Free next) one = absurd one
+link-one (Few few value) one = refl
+link-one (Many many value) one = refl
+link-one (Taken chain) one = absurd one
+
+pub has-one : (place : ChainPlace) → IsOne place → HasKey place
+has-one (Free next) one = absurd one
+has-one (Few few value) one = tt
+has-one (Many many value) one = tt
+has-one (Taken chain) one = absurd one
 
 link-with : (place : ChainPlace) (at value : ℕ) → link_of (place_with place at value) ≡ link_of place
 link-with (Free next) at value = refl
-link-with (One entry) at value = link-one (nat_eq at 0) entry value
+link-with (Few few held) at value = link-either (nat_eq at 0) (Few few value) (Few few held) refl refl
+link-with (Many many held) at value = link-either (nat_eq at 0) (Many many value) (Many many held) refl refl
 link-with (Taken chain) at value = refl
 
 with-some : (pairs : Pairs) (at value : ℕ) → pairs ≢ [] → with_value_at pairs at value ≢ []
@@ -148,7 +167,8 @@ with-some (pair ∷ rest) (suc at) value some e = cc
 
 has-with : (place : ChainPlace) (at value : ℕ) → HasKey place → HasKey (place_with place at value)
 has-with (Free next) at value has = tt
-has-with (One entry) at value has = has-one (nat_eq at 0) entry value
+has-with (Few few held) at value has = has-either (nat_eq at 0) (Few few value) (Few few held) tt tt
+has-with (Many many held) at value has = has-either (nat_eq at 0) (Many many value) (Many many held) tt tt
 has-with (Taken chain) at value has = with-some chain at value has
 
 push-some : (pairs : Pairs) (pair : List ℕ × ℕ) → pairs ++ pair ∷ [] ≢ []
@@ -201,7 +221,8 @@ module _ (places : List ChainPlace) (free : ℕ) (are : AreChainPlaces places fr
       empty-at : (items : List ChainPlace) (at next : ℕ) → get_or (links_of items) at None ≡ Some next → get_or (chains_of items) at [] ≡ []
       empty-at [] at next is = refl
       empty-at (Free link ∷ rest) zero next is = refl
-      empty-at (One entry ∷ rest) zero next is = absurd (none-some next is)
+      empty-at (Few few value ∷ rest) zero next is = absurd (none-some next is)
+      empty-at (Many many value ∷ rest) zero next is = absurd (none-some next is)
       empty-at (Taken chain ∷ rest) zero next is = absurd (none-some next is)
       empty-at (one ∷ rest) (suc at) next is = empty-at rest at next is
 
@@ -214,12 +235,12 @@ module _ (places : List ChainPlace) (free : ℕ) (are : AreChainPlaces places fr
           get_or_past (chains_of places) place [] (omega (arith, one, two, here))
 
   -- A chain of a key is put at the next place.
-  pub places-put : (place next : ℕ) (entry : List ℕ × ℕ) → IsNextPlace (links_of places) free place next → AreChainPlaces (put_at places place (One entry)) next
-  places-put place next entry is = record {
-    none_lost = put-places link_of places free are.none_lost place next (One entry) is refl;
+  pub places-put : (place next : ℕ) (new : ChainPlace) → IsOne new → IsNextPlace (links_of places) free place next → AreChainPlaces (put_at places place new) next
+  places-put place next new one is = record {
+    none_lost = put-places link_of places free are.none_lost place next new is (link-one new one);
     have_keys = λ k. elim (cases_eq k place) [
-      | inl e ↦ subst HasKey (sym (ap (λ n. get_or (put_at places place (One entry)) n (Free 0)) e ∙ get_or-put places place (One entry) (Free 0) within)) tt
-      | inr apart ↦ subst HasKey (sym (get_or-put_other places place k (One entry) (Free 0) within apart)) (are.have_keys k)
+      | inl e ↦ subst HasKey (sym (ap (λ n. get_or (put_at places place new) n (Free 0)) e ∙ get_or-put places place new (Free 0) within)) (has-one new one)
+      | inr apart ↦ subst HasKey (sym (get_or-put_other places place k new (Free 0) within apart)) (are.have_keys k)
     ];
   }
     where
@@ -254,3 +275,16 @@ module _ (places : List ChainPlace) (free : ℕ) (are : AreChainPlaces places fr
         none_lost = free-places link_of places free are.none_lost at held is inside (link-key held used) new (Free free) refl;
         have_keys = λ k. subst (λ (items : List ChainPlace). HasKey (get_or items k (Free 0))) (sym (set-twice places at new (Free free))) (have-set at (Free free) inside tt k);
       }
+
+-- ---- one place
+
+pub places-one : (place : ChainPlace) → IsOne place → AreChainPlaces (place ∷ []) 1
+places-one place one = record { none_lost = (0, taken); have_keys = has }
+  where
+    taken : (at : ℕ) → get_or (links_of (place ∷ [])) at None ≡ None
+    taken zero = link-one place one
+    taken (suc at) = refl
+
+    has : (at : ℕ) → HasKey (get_or (place ∷ []) at (Free 0))
+    has zero = has-one place one
+    has (suc at) = tt

@@ -3,12 +3,13 @@ use Rattle.std.specs.Prelude.{◌≢◌, ℕ, List, [], ◌∷◌, map, get_or, 
 use Rattle.judy_places.specs.Places.{Links, NoneLost}
 use Rattle.judy_hs.specs.Chains.{Pairs}
 use Rattle.judy_hs.specs.declared.long_group.ChainPlace.{ChainPlace}
-use Rattle.judy_hs.specs.declared.long_group.ChainPlace.TheVariants.{Free, One, Taken}
+use Rattle.judy_hs.specs.declared.long_group.ChainPlace.TheVariants.{Free, Few, Many, Taken}
 
 -- The chain at a place; a free place has no key.
 abbrev pub pairs_at : ChainPlace → Pairs
 pairs_at (Free next) = []
-pairs_at (One entry) = entry ∷ []
+pairs_at (Few few value) = (few, value) ∷ []
+pairs_at (Many many value) = (many.items, value) ∷ []
 pairs_at (Taken chain) = chain
 
 abbrev pub chains_of : List ChainPlace → List Pairs
@@ -17,7 +18,8 @@ chains_of places = map pairs_at places
 -- What a place is linked to where it is free.
 abbrev pub link_of : ChainPlace → Option ℕ
 link_of (Free next) = Some next
-link_of (One entry) = None
+link_of (Few few value) = None
+link_of (Many many value) = None
 link_of (Taken chain) = None
 
 abbrev pub links_of : List ChainPlace → Links
@@ -26,13 +28,15 @@ links_of places = map link_of places
 -- A chain has a key.
 abbrev pub HasKey : ChainPlace → Type 0
 HasKey (Free next) = Unit {0}
-HasKey (One entry) = Unit {0}
+HasKey (Few few value) = Unit {0}
+HasKey (Many many value) = Unit {0}
 HasKey (Taken chain) = chain ≢ []
 
 -- The place has one key, and no chain of more.
 abbrev pub IsOne : ChainPlace → Type 0
 IsOne (Free next) = ⊥
-IsOne (One entry) = Unit {0}
+IsOne (Few few value) = Unit {0}
+IsOne (Many many value) = Unit {0}
 IsOne (Taken chain) = ⊥
 
 -- What always holds of the places: no free one is lost, and each chain has a key.

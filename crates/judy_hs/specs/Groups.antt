@@ -46,6 +46,12 @@ in_group none part key = None
 in_group (short words) part key = get words.map part
 in_group (long group) part key = in_long group part key
 
+-- The place of the chain of a long key's hash.
+abbrev pub chain_in : Group → ℕ → Option ℕ
+chain_in none part = None
+chain_in (short words) part = None
+chain_in (long group) part = get group.hashes.map part
+
 -- The key stands there.
 abbrev pub IsInside : Group → ℕ → List ℕ → Inside → Type 0
 IsInside none part key inside = ⊥

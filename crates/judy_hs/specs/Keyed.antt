@@ -5,7 +5,7 @@ use Rattle.std.specs.FinMap.{get, insert, remove}
 use Rattle.judy_model.specs.Keys.{word_order}
 use Rattle.judy_model.specs.Arrays.{ArrayOf, array_code, with_map, empty_array}
 use Rattle.judy_hs.specs.LongGroups.{put_at}
-use Rattle.judy_hs.specs.Groups.{Group, none, group_code, in_group, IsInside, IsNewInside, group_with, group_with_key, group_without, one_group, one_inside, words_of}
+use Rattle.judy_hs.specs.Groups.{Group, none, group_code, in_group, chain_in, IsInside, IsNewInside, group_with, group_with_key, group_without, one_group, one_inside, words_of}
 use Rattle.judy_hs.specs.declared.group.Inside.{Inside}
 
 -- The array from lengths to the places of groups, and the groups.
@@ -33,6 +33,11 @@ in_place keyed (Some place) part key = in_group (group_at keyed place) part key
 -- The value of a key under its part.
 abbrev pub in_keyed : Keyed → ℕ → List ℕ → Option ℕ
 in_keyed keyed part key = in_place keyed (get keyed.lengths.map (length key)) part key
+
+-- The place of the chain of a long key's hash, by what the key's length leads to.
+abbrev pub chain_led : Keyed → Option ℕ → ℕ → Option ℕ
+chain_led keyed None part = None
+chain_led keyed (Some place) part = chain_in (group_at keyed place) part
 
 -- The key stands in the group at the place.
 pub record IsSpot (keyed : Keyed) (part : ℕ) (key : List ℕ) (place : ℕ) (inside : Inside) : Type 0 where

@@ -10,6 +10,7 @@ pub mod GroupLends
 pub mod Keyed
 pub mod KeyedLends
 pub mod Fnv
+pub mod Eights
 pub mod Parts
 pub mod Kept
 pub mod Refusals

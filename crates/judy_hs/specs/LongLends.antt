@@ -4,14 +4,15 @@ use Rattle.std.specs.Borrow.{LendsIf, MutBor, Fml, u64}
 use Rattle.judy_hs.specs.Chains.{with_value_at}
 use Rattle.judy_hs.specs.LongGroups.{Long, long_with}
 use Rattle.judy_hs.specs.declared.long_group.ChainPlace.{ChainPlace}
-use Rattle.judy_hs.specs.declared.long_group.ChainPlace.TheVariants.{Free, One, Taken}
+use Rattle.judy_hs.specs.declared.long_group.ChainPlace.TheVariants.{Free, Few, Many, Taken}
 use Rattle.judy_hs.specs.contracts.long_group.ChainPlace as place_row
 use Rattle.judy_hs.specs.contracts.long_group.LongGroup.{the_row}
 
 -- The place with a value in its chain.
 abbrev pub place_with : ChainPlace → ℕ → ℕ → ChainPlace
 place_with (Free next) at value = Free next
-place_with (One entry) at value = cond (nat_eq at 0) (One (entry.0, value)) (One entry)
+place_with (Few few held) at value = cond (nat_eq at 0) (Few few value) (Few few held)
+place_with (Many many held) at value = cond (nat_eq at 0) (Many many value) (Many many held)
 place_with (Taken chain) at value = Taken (with_value_at chain at value)
 
 abbrev pub LendsPlace : MutBor ChainPlace → ℕ → Option (MutBor ℕ) → Fml

@@ -84,14 +84,15 @@ impl<H: ByteHash + Drop> JudyHs<H> {
             return Err(HsError::TooLong);
         }
         let part = part_of(&self.hasher, key);
-        match self.groups.find(part, key) {
+        let way = self.groups.way(part, key);
+        match self.groups.find(way, part, key) {
             Some(spot) => self.groups.slot_of(spot),
             None => {
                 if is_full {
                     return Err(HsError::Full);
                 }
                 let alloc = self.groups.allocator();
-                match self.groups.add(alloc, part, key) {
+                match self.groups.add(alloc, way, part, key) {
                     Ok(spot) => {
                         self.count += 1;
                         self.groups.slot_of(spot)
@@ -112,7 +113,9 @@ impl<H: ByteHash + Drop> JudyHs<H> {
         if key.len() > MAX_KEY {
             return None;
         }
-        match self.groups.find(part_of(&self.hasher, key), key) {
+        let part = part_of(&self.hasher, key);
+        let way = self.groups.way(part, key);
+        match self.groups.find(way, part, key) {
             Some(spot) => self.groups.slot(spot),
             None => None,
         }
@@ -129,7 +132,8 @@ impl<H: ByteHash + Drop> JudyHs<H> {
             return false;
         }
         let part = part_of(&self.hasher, key);
-        match self.groups.find(part, key) {
+        let way = self.groups.way(part, key);
+        match self.groups.find(way, part, key) {
             Some(spot) => {
                 self.groups.remove(key.len() as u64, part, spot);
                 self.count -= 1;

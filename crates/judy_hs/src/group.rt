@@ -28,7 +28,7 @@ pub enum GroupPlace {
 }
 
 impl GroupPlace {
-    ghost use Rattle.judy_hs.specs.Groups.{in_group, words_of, IsInside, IsNewInside, IsUsable, value_inside, group_with_key, group_without, CanTakeKey, IsRemovable, IsEmptyGroup};
+    ghost use Rattle.judy_hs.specs.Groups.{in_group, chain_in, words_of, IsInside, IsNewInside, IsUsable, value_inside, group_with_key, group_without, CanTakeKey, IsRemovable, IsEmptyGroup};
     ghost use Rattle.judy_hs.specs.GroupPlaces.{group_of};
     ghost use Rattle.judy_hs.specs.GroupLends.{LendsInside};
     ghost use Rattle.judy_hs.specs.Listed.{CanList, group_list};
@@ -45,8 +45,20 @@ impl GroupPlace {
         }
     }
 
-    // Where a key stands.
-    pub fn find(&self, part: u64, key: &[u8]) -> Option<Inside>
+    // The place of the chain of a long key's hash.
+    pub fn chain(&self, part: u64) -> Option<u64>
+        ensures { result ≡ chain_in (group_of self.now) part }
+    {
+        match self {
+            GroupPlace::Short(_) => None,
+            GroupPlace::Long(group) => group.chain(part),
+            GroupPlace::Free(_) => None,
+        }
+    }
+
+    // Where a key stands, by the place of the chain of its hash.
+    pub fn find(&self, chain: Option<u64>, part: u64, key: &[u8]) -> Option<Inside>
+        requires { chain ≡ chain_in (group_of self.now) part }
         ensures { MatchOption result (in_group (group_of self.now) part key.now ≡ None) (IsInside (group_of self.now) part key.now) }
     {
         match self {
@@ -54,7 +66,7 @@ impl GroupPlace {
                 Some(_) => Some(Inside::Word(part)),
                 None => None,
             },
-            GroupPlace::Long(group) => match group.find(part, key) {
+            GroupPlace::Long(group) => match group.find(chain, key) {
                 Some((place, at)) => Some(Inside::Chained(place, at)),
                 None => None,
             },
@@ -81,8 +93,15 @@ impl GroupPlace {
         }
     }
 
-    // Puts a key in that isn't there, with the value 0, and answers where it stands.
-    pub fn add(&mut self, alloc: Global, part: u64, key: &[u8]) -> Result<Inside, AllocError>
+    // Puts a key in that isn't there, by the place of the chain of its hash, with the value 0, and answers where it stands.
+    pub fn add(
+        &mut self,
+        alloc: Global,
+        chain: Option<u64>,
+        part: u64,
+        key: &[u8],
+    ) -> Result<Inside, AllocError>
+        requires chain { chain ≡ chain_in (group_of self.old) part }
         requires room { IfSome (words_of (group_of self.old)) (λ words. map_len words.map < words.limit) }
         requires takes { CanTakeKey (group_of self.old) part }
         ensures place { IfOk result (IsNewInside (group_of self.old) part) }
@@ -95,7 +114,7 @@ impl GroupPlace {
                 Err(InsertError::Full) => unreachable!(),
                 Err(InsertError::NoMemory) => Err(AllocError),
             },
-            GroupPlace::Long(group) => match group.add(alloc, part, key) {
+            GroupPlace::Long(group) => match group.add(alloc, chain, part, key) {
                 Ok((place, at)) => Ok(Inside::Chained(place, at)),
                 Err(error) => Err(error),
             },

@@ -25,6 +25,13 @@ pub struct Spot {
     pub inside: Inside,
 }
 
+// What a key's length and its word lead to: the place of its group, and there that of the chain of its hash.
+#[derive(Clone, Copy)]
+pub struct Way {
+    pub group: Option<u64>,
+    pub chain: Option<u64>,
+}
+
 // A `JudyL` from the lengths of keys to the places of their groups, and the groups. In contracts: that array and the
 // list of the groups, a free place being none.
 #[derive(Drop)]
@@ -70,7 +77,7 @@ fn group_of_one(alloc: Global, part: u64, key: &[u8]) -> Result<(GroupPlace, Ins
 
 impl Groups {
     ghost use Rattle.judy_hs.specs.Groups.{IsUsable, CanTakeKey, IsRemovable, IsEmptyGroup, value_inside, group_without};
-    ghost use Rattle.judy_hs.specs.Keyed.{no_keys, in_keyed, words_at, group_at, IsSpot, IsNewSpot, added_keyed, with_group, keyed_without, without_group};
+    ghost use Rattle.judy_hs.specs.Keyed.{no_keys, in_keyed, chain_led, words_at, group_at, IsSpot, IsNewSpot, added_keyed, with_group, keyed_without, without_group};
     ghost use Rattle.judy_hs.specs.KeyedLends.{LendsSpot, LendsSpotOk};
     ghost use Rattle.judy_hs.specs.Listed.{CanList, entries_in, group_list, keyed_list};
     ghost use Rattle.judy_hs.specs.Values.{AreWords};
@@ -102,14 +109,37 @@ impl Groups {
         }
     }
 
-    // Where a key stands.
-    pub fn find(&self, part: u64, key: &[u8]) -> Option<Spot>
+    // The way of a key.
+    pub fn way(&self, part: u64, key: &[u8]) -> Way
+        ensures group { result.group ≡ get self.now.lengths.map (length key.now) }
+        ensures chain { result.chain ≡ chain_led self.now result.group part }
+    {
+        let Some(place) = self.lengths.get(key.len() as u64) else {
+            return Way {
+                group: None,
+                chain: None,
+            };
+        };
+        let chain = match self.groups.get(place as usize) {
+            Some(group) => group.chain(part),
+            None => None,
+        };
+        Way {
+            group: Some(place),
+            chain,
+        }
+    }
+
+    // Where a key stands, by its way.
+    pub fn find(&self, way: Way, part: u64, key: &[u8]) -> Option<Spot>
+        requires group { way.group ≡ get self.now.lengths.map (length key.now) }
+        requires chain { way.chain ≡ chain_led self.now way.group part }
         ensures { MatchOption result (in_keyed self.now part key.now ≡ None) (λ spot. IsSpot self.now part key.now spot.group spot.inside) }
     {
-        let place = self.lengths.get(key.len() as u64)?;
+        let place = way.group?;
         let group = place as usize;
         match self.groups.get(group) {
-            Some(held) => match held.find(part, key) {
+            Some(held) => match held.find(way.chain, part, key) {
                 Some(inside) => Some(Spot { group, inside }),
                 None => None,
             },
@@ -143,8 +173,16 @@ impl Groups {
         }
     }
 
-    // Puts a key in that isn't there, with the value 0, and answers where it stands.
-    pub fn add(&mut self, alloc: Global, part: u64, key: &[u8]) -> Result<Spot, AllocError>
+    // Puts a key in that isn't there, by its way, with the value 0, and answers where it stands.
+    pub fn add(
+        &mut self,
+        alloc: Global,
+        way: Way,
+        part: u64,
+        key: &[u8],
+    ) -> Result<Spot, AllocError>
+        requires way { way.group ≡ get self.old.lengths.map (length key.now) }
+        requires chain { way.chain ≡ chain_led self.old way.group part }
         requires lengths { map_len self.old.lengths.map < self.old.lengths.limit }
         requires group { IfSome (words_at self.old (get self.old.lengths.map (length key.now))) (λ words. map_len words.map < words.limit) }
         requires takes { IfSome (get self.old.lengths.map (length key.now)) (λ place. CanTakeKey (group_at self.old place) part) }
@@ -152,10 +190,10 @@ impl Groups {
         ensures added { IfOk result (λ spot. self.new ≡ added_keyed self.old part key.now (get self.old.lengths.map (length key.now)) spot.group spot.inside) }
         ensures unchanged { OnErr result (self.new ≡ self.old) }
     {
-        match self.lengths.get(key.len() as u64) {
+        match way.group {
             Some(held) => {
                 let group = held as usize;
-                let inside = self.groups[group].add(alloc, part, key)?;
+                let inside = self.groups[group].add(alloc, way.chain, part, key)?;
                 Ok(Spot { group, inside })
             }
             None => self.add_group(alloc, part, key),

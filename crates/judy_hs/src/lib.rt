@@ -23,4 +23,4 @@ mod part;
 pub use bytes::JudyHs;
 pub use entry::{HsEntry, HsKey};
 pub use error::HsError;
-pub use hash::{ByteHash, Fnv1a};
+pub use hash::{ByteHash, Eights, Fnv1a};

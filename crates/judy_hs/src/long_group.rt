@@ -13,19 +13,23 @@ ghost use Rattle.judy_hs.specs.Listed.{entries_in};
 
 use crate::chain::{Chain, is_word};
 use crate::entry::{HsEntry, HsKey, sort_from};
-use judy_entry::Entry;
+use judy_entry::{Entry, Few, MOST_FEW};
 use judy_word::{InsertError, JudyL};
 use std::alloc::{AllocError, Global};
 use std::marker::Model;
 use std::mem;
 
-// A place for a chain: free, with the place that was free before it; the one key that has its hash; or a chain of more.
+// A place for a chain: free, with the place that was free before it; the one key that has its hash, with its value, in place
+// or in a vector; or a chain of more. The parts stand flat, without an `Entry` around them, since this is much of what an array takes.
 #[derive(Drop)]
 pub enum ChainPlace {
     Free(usize),
-    One(Entry),
+    Few(Few, u64),
+    Many(Vec<u8>, u64),
     Taken(Chain),
 }
+
+const _: () = prove!(size_of::<ChainPlace>() == 40);
 
 // A `JudyL` from the hashes of keys to the places of their chains, and the chains. In contracts: that array and the
 // list of the chains, a free place being one of no key.
@@ -71,7 +75,8 @@ fn first_link(chains: &[ChainPlace], free: usize) -> Option<usize>
 {
     match chains.get(free) {
         Some(ChainPlace::Free(next)) => Some(*next),
-        Some(ChainPlace::One(_)) => None,
+        Some(ChainPlace::Few(_, _)) => None,
+        Some(ChainPlace::Many(_, _)) => None,
         Some(ChainPlace::Taken(_)) => None,
         None => None,
     }
@@ -106,18 +111,48 @@ fn free_place(chains: &mut Vec<ChainPlace>, free: usize) -> Result<(usize, usize
     }
 }
 
+// Adds one key with its value to a list.
+fn list_one<'a>(key: &'a [u8], value: u64, list: &mut Vec<HsEntry<'a>>) -> Result<(), AllocError>
+    ensures { OnOk result (entries_in list.new.items ≡ entries_in list.old.items ++ (key.now, value) ∷ []) }
+{
+    list.push(HsEntry {
+        key: HsKey::Long(key),
+        value,
+    })?;
+    Ok(())
+}
+
 impl ChainPlace {
     ghost use Rattle.judy_hs.specs.ChainPlaces.{pairs_at, IsOne};
     ghost use Rattle.judy_hs.specs.Chains.{value_in, value_at, IsPlace};
     ghost use Rattle.judy_hs.specs.LongLends.{LendsPlace};
     ghost use Rattle.judy_hs.specs.Values.{AreWords};
 
+    // A place with one key, and the value 0.
+    fn of(alloc: Global, key: &[u8]) -> Result<ChainPlace, AllocError>
+        ensures pairs { IfOk result (λ place. pairs_at place ≡ (key.now, 0) ∷ []) }
+        ensures one { IfOk result IsOne }
+    {
+        if key.len() <= MOST_FEW {
+            Ok(ChainPlace::Few(Few::copied(key), 0))
+        } else {
+            Ok(ChainPlace::Many(key.to_vec(alloc)?, 0))
+        }
+    }
+
     // The place of the key in the chain.
     fn find(&self, key: &[u8]) -> Option<usize>
         ensures { MatchOption result (value_in (pairs_at self.now) key.now ≡ None) (IsPlace (pairs_at self.now) key.now) }
     {
         match self {
-            ChainPlace::One(entry) => { if entry.bytes() == key { Some(0) } else { None } }
+            ChainPlace::Few(few, _) => { if few.as_slice() == key { Some(0) } else { None } }
+            ChainPlace::Many(many, _) => {
+                if many.as_slice() == key {
+                    Some(0)
+                } else {
+                    None
+                }
+            }
             ChainPlace::Taken(chain) => chain.find(key),
             ChainPlace::Free(_) => None,
         }
@@ -128,9 +163,16 @@ impl ChainPlace {
         ensures { result ≡ value_in (pairs_at self.now) key.now }
     {
         match self {
-            ChainPlace::One(entry) => {
-                if entry.bytes() == key {
-                    Some(entry.value())
+            ChainPlace::Few(few, value) => {
+                if few.as_slice() == key {
+                    Some(*value)
+                } else {
+                    None
+                }
+            }
+            ChainPlace::Many(many, value) => {
+                if many.as_slice() == key {
+                    Some(*value)
                 } else {
                     None
                 }
@@ -149,7 +191,8 @@ impl ChainPlace {
         ensures value { option_copied_mut result ≡ value_at (pairs_at self.old) at }
     {
         match self {
-            ChainPlace::One(entry) => { if at == 0 { Some(entry.slot()) } else { None } }
+            ChainPlace::Few(_, value) => { if at == 0 { Some(value) } else { None } }
+            ChainPlace::Many(_, value) => { if at == 0 { Some(value) } else { None } }
             ChainPlace::Taken(chain) => chain.slot(at),
             ChainPlace::Free(_) => None,
         }
@@ -163,7 +206,8 @@ impl ChainPlace {
         ensures unchanged { OnErr result (self.new ≡ self.old) }
     {
         match self {
-            ChainPlace::One(_) => self.join(alloc, key),
+            ChainPlace::Few(_, _) => self.join(alloc, key),
+            ChainPlace::Many(_, _) => self.join(alloc, key),
             ChainPlace::Taken(chain) => chain.add(alloc, key),
             ChainPlace::Free(_) => unreachable!(),
         }
@@ -179,8 +223,12 @@ impl ChainPlace {
         let room = Vec::with_capacity(alloc, 2)?;
         let second = Entry::new(alloc, key, 0)?;
         match mem::replace(self, ChainPlace::Free(0)) {
-            ChainPlace::One(first) => {
-                *self = ChainPlace::Taken(Chain::of_two(room, first, second));
+            ChainPlace::Few(few, value) => {
+                *self = ChainPlace::Taken(Chain::of_two(room, Entry::of_few(few, value), second));
+                Ok(1)
+            }
+            ChainPlace::Many(many, value) => {
+                *self = ChainPlace::Taken(Chain::of_two(room, Entry::of_many(many, value), second));
                 Ok(1)
             }
             ChainPlace::Taken(_) => unreachable!(),
@@ -195,7 +243,11 @@ impl ChainPlace {
         ensures answer { IsTrue result ↔ (pairs_at self.new ≡ []) }
     {
         match self {
-            ChainPlace::One(_) => {
+            ChainPlace::Few(_, _) => {
+                *self = ChainPlace::Free(0);
+                true
+            }
+            ChainPlace::Many(_, _) => {
                 *self = ChainPlace::Free(0);
                 true
             }
@@ -212,13 +264,8 @@ impl ChainPlace {
         ensures { OnOk result (entries_in list.new.items ≡ entries_in list.old.items ++ pairs_at self.now) }
     {
         match self {
-            ChainPlace::One(entry) => {
-                list.push(HsEntry {
-                    key: HsKey::Long(entry.bytes()),
-                    value: entry.value(),
-                })?;
-                Ok(())
-            }
+            ChainPlace::Few(few, value) => list_one(few.as_slice(), *value, list),
+            ChainPlace::Many(many, value) => list_one(many.as_slice(), *value, list),
             ChainPlace::Taken(chain) => chain.list(list),
             ChainPlace::Free(_) => Ok(()),
         }
@@ -229,7 +276,8 @@ impl ChainPlace {
         ensures { AreWords (value_in (pairs_at self.now)) }
     {
         match self {
-            ChainPlace::One(entry) => is_word(entry.value()),
+            ChainPlace::Few(_, value) => is_word(*value),
+            ChainPlace::Many(_, value) => is_word(*value),
             ChainPlace::Taken(chain) => chain.are_words(),
             ChainPlace::Free(_) => {}
         }
@@ -237,7 +285,7 @@ impl ChainPlace {
 }
 
 impl LongGroup {
-    ghost use Rattle.judy_hs.specs.LongGroups.{one_long, in_long, chain_at, IsLongPlace, IsAdded, value_of_place, with_chain, without_key};
+    ghost use Rattle.judy_hs.specs.LongGroups.{one_long, in_long, in_chain, chain_at, IsLongPlace, IsAdded, value_of_place, with_chain, without_key};
     ghost use Rattle.judy_hs.specs.LongLends.{LendsLong};
     ghost use Rattle.judy_hs.specs.Chains.{AreApart};
     ghost use Rattle.judy_hs.specs.Listed.{chained, long_list};
@@ -248,7 +296,7 @@ impl LongGroup {
         ensures { IfOk result (λ group. group ≡ one_long hash key.now) }
     {
         let mut chains = Vec::with_capacity(alloc, 1)?;
-        chains.push_reserved(ChainPlace::One(Entry::new(alloc, key, 0)?));
+        chains.push_reserved(ChainPlace::of(alloc, key)?);
         let mut hashes = JudyL::unbounded(alloc);
         match hashes.put(hash, 0) {
             Ok(_) => {}
@@ -273,11 +321,18 @@ impl LongGroup {
         }
     }
 
-    // The place of a key's chain, and the key's place in the chain.
-    pub fn find(&self, hash: u64, key: &[u8]) -> Option<(usize, usize)>
-        ensures { MatchOption result (in_long self.now hash key.now ≡ None) (λ found. IsLongPlace self.now hash key.now found.0 found.1) }
+    // The place of the chain of a hash.
+    pub fn chain(&self, hash: u64) -> Option<u64>
+        ensures { result ≡ get self.now.hashes.map hash }
     {
-        let place = self.hashes.get(hash)?;
+        self.hashes.get(hash)
+    }
+
+    // The place of a key's chain, and the key's place in the chain, where the chain of its hash is known.
+    pub fn find(&self, chain: Option<u64>, key: &[u8]) -> Option<(usize, usize)>
+        ensures { MatchOption result (in_chain self.now chain key.now ≡ None) (λ found. (hash : ℕ) → chain ≡ get self.now.hashes.map hash → IsLongPlace self.now hash key.now found.0 found.1) }
+    {
+        let place = chain?;
         match self.chains.get(place as usize) {
             Some(chain) => match chain.find(key) {
                 Some(at) => Some((place as usize, at)),
@@ -296,20 +351,23 @@ impl LongGroup {
         let chain = &mut self.chains[place];
         chain.slot(at)
     }
-    // Puts a key in that isn't there, with the value 0: last in the chain of its hash, or in a chain of its own. It
-    // answers the place of the chain and the key's place in it.
+
+    // Puts a key in that isn't there, with the value 0: last in the chain of its hash, which is known, or in a chain of its
+    // own. It answers the place of the chain and the key's place in it.
     pub fn add(
         &mut self,
         alloc: Global,
+        chain: Option<u64>,
         hash: u64,
         key: &[u8],
     ) -> Result<(usize, usize), AllocError>
+        requires chain { chain ≡ get self.old.hashes.map hash }
         requires room { map_len self.old.hashes.map < self.old.hashes.limit }
         requires used { IfSome (get self.old.hashes.map hash) (λ place. chain_at self.old place ≢ []) }
         ensures added { IfOk result (λ found. IsAdded self.old self.new hash key.now found.0 found.1) }
         ensures unchanged { OnErr result (self.new ≡ self.old) }
     {
-        match self.hashes.get(hash) {
+        match chain {
             Some(held) => {
                 let place = held as usize;
                 let at = self.chains[place].add(alloc, key)?;
@@ -331,7 +389,7 @@ impl LongGroup {
         ensures added { IfOk result (λ place. self.new ≡ with_chain self.old hash key.now place) }
         ensures unchanged { OnErr result (self.new ≡ self.old) }
     {
-        let entry = Entry::new(alloc, key, 0)?;
+        let chain = ChainPlace::of(alloc, key)?;
         let (place, next) = free_place(&mut self.chains, self.free)?;
         match self.hashes.put(hash, place as u64) {
             Ok(_) => {}
@@ -339,7 +397,7 @@ impl LongGroup {
             Err(InsertError::NoMemory) => return Err(AllocError),
         }
         self.free = next;
-        put(&mut self.chains, place, ChainPlace::One(entry));
+        put(&mut self.chains, place, chain);
         Ok(place)
     }
 

@@ -12,7 +12,7 @@ ghost use Rattle.judy_leaf.specs.Nearby.{pair_from, pair_up_to, is_absent};
 ghost use Rattle.judy_leaf.specs.Searches.{IsSearched};
 
 use crate::words::{Width, Words};
-use judy_bits::Bits256;
+use judy_bits::BitsRef;
 use judy_block::Block;
 use std::marker::{Model, PhantomData};
 
@@ -50,15 +50,11 @@ impl<'a, V: Words + Drop> BitRef<'a, V> {
     }
 
     // The keys.
-    fn bits(&self) -> Bits256
+    fn bits(&self) -> BitsRef<'_>
         ensures value { result ≡ keys_of self.now.pairs }
         ensures is_set { IsByteSet (keys_of self.now.pairs) }
     {
-        let first = self.block.get(0);
-        let second = self.block.get(1);
-        let third = self.block.get(2);
-        let fourth = self.block.get(3);
-        Bits256::of_words([first, second, third, fourth])
+        BitsRef::of_words(&self.block.words()[..4])
     }
 
     /// A law without a body: the keys are a set of bytes.

@@ -1,6 +1,6 @@
 //! Pairs put into leaves whose parts stand in a node. A search has told the place of the key, so nothing is looked for here.
 
-ghost use Rattle.std.specs.Prelude.{◌≡◌, ◌<◌, ◌^◌, OnOk, OnErr, IsFalse};
+ghost use Rattle.std.specs.Prelude.{◌≡◌, ◌+◌, ◌*◌, ◌/◌, ◌<◌, ◌≤◌, ◌^◌, OnOk, OnErr, IsFalse};
 ghost use Rattle.judy_bits.specs.ByteSets as set;
 ghost use Rattle.judy_leaf.specs.KeyLists.{keys_of, with_pair};
 ghost use Rattle.judy_leaf.specs.Leaves.{IsLeafParts, leaf_list};
@@ -39,10 +39,24 @@ pub fn put_in_leaf<V: Words + Drop>(
     let width = usize::from(width);
     let before = usize::from(*count);
     let needed = V::WORDS * (before + 1) + keys::words_of(width, before + 1);
-    pairs::give_room(block, alloc, needed, (needed + 3) / 4 * 4)?;
+    pairs::give_room(block, alloc, needed, roomy(needed))?;
     pairs::put::<V>(block, width, before, at, key, value);
     *count += 1;
     Ok(())
+}
+
+// The capacity of a block that outgrew its own: whole fours of words, or whole eights where there are many, so that a leaf with values
+// doesn't grow at every second key.
+fn roomy(needed: usize) -> usize
+    requires { needed ≤ 66 }
+    ensures fours { (needed + 3) / 4 * 4 ≤ result }
+    ensures within { result ≤ 72 }
+{
+    if needed <= 24 {
+        (needed + 3) / 4 * 4
+    } else {
+        (needed + 7) / 8 * 8
+    }
 }
 
 /// The same for a bitmap leaf, whose keys are bytes, and which is its block.

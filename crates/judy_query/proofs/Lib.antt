@@ -13,3 +13,4 @@ pub mod TurnFacts
 pub mod NearFacts
 pub mod WalkFacts
 mod ScanFacts
+mod LaterFacts

@@ -50,6 +50,13 @@ reached all (Missing byte place rest) = place
 reached all Below = 0
 reached all Above = all
 
+-- From which byte on the children above the key are.
+abbrev pub byte_behind : Step → ℕ
+byte_behind (Child byte place rest) = byte + 1
+byte_behind (Missing byte place rest) = byte + 1
+byte_behind Below = 0
+byte_behind Above = 256
+
 -- Where the keys of the child at a place begin.
 abbrev pub IsStart : ℕ → ℕ → List ℕ → ℕ → ℕ → Type 0
 IsStart unit block bytes place start = (byte : ℕ) × (slice_get bytes place ≡ Some byte) × (start ≡ (block + byte) * unit)

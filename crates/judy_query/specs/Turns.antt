@@ -1,9 +1,11 @@
 -- Where the search for a neighbour turns off the way of its key.
-use Rattle.std.specs.Prelude.{ℕ, ◌+◌, ◌-◌, ◌*◌, ◌^◌, ◌<◌, ◌≤◌, length, take, drop, slice_get, Option, Some, None}
+use Rattle.std.specs.Prelude.{◌≡◌, ℕ, ◌+◌, ◌-◌, ◌*◌, ◌^◌, ◌<◌, ◌≤◌, length, take, drop, slice_get, Option, Some, None}
 use Rattle.judy_model.specs.WordBytes.{number_of}
+use Rattle.judy_bits.specs.ByteSets.{rank}
 use Rattle.judy_leaf.specs.KeyLists.{shift}
 use Rattle.judy_node.specs.Trees.{Pairs, join, IsBranch}
 use Rattle.judy_query.specs.declared.turns.Turn.{Turn}
+use Rattle.judy_query.specs.declared.turns.Later.{Later}
 
 -- The pairs of the child that a turn leads to, as the tree has them.
 abbrev pub turn_pairs : {V : _} → Turn V → Pairs
@@ -33,3 +35,12 @@ earlier_pair (Some turn) = last_pair (turn_pairs turn)
 abbrev pub IsTurnIfAny : {V : _} → ℕ → Option (Turn V) → Type 0
 IsTurnIfAny words None = Unit {0}
 IsTurnIfAny words (Some turn) = IsTurn words turn
+
+-- The child that it leads to, where there is one, is the first from a byte on.
+abbrev pub IsFirstFrom : {V : _} → Option (Turn V) → ℕ → Type 0
+IsFirstFrom None from = Unit {0}
+IsFirstFrom (Some turn) from = turn.place ≡ rank turn.branch.now.bytes from
+
+-- A turn, where there is one, with the byte from which on its child is the first.
+abbrev pub IsLater : {V : _} → ℕ → Later V → Type 0
+IsLater words later = IsTurnIfAny words later.turn × IsFirstFrom later.turn later.from

@@ -5,9 +5,9 @@ ghost use Rattle.judy_model.specs.Neighbours as neighbours;
 ghost use Rattle.judy_leaf.specs.Nearby.{pair_from};
 ghost use Rattle.judy_query.specs.Maps.{map_of};
 
-use crate::branches::reached;
+use crate::branches::{byte_behind, reached};
 use crate::ends::from_in;
-use crate::turns::{later_turn, least};
+use crate::turns::{Later, later_turn, least};
 use judy_bits::Meter;
 use judy_leaf::Words;
 use judy_node::{NodeOf, Step, ViewOf};
@@ -37,18 +37,27 @@ pub fn entry_at_or_after<V: Words + Drop>(
     tree.told();
     let mut view = tree.enter(meter);
     let mut left = key;
-    let mut turn = None;
+    let mut later = Later {
+        turn: None,
+        from: 0,
+    };
     'down: while let ViewOf::Branch(branch) = view {
         let step = branch.step(left);
-        turn = later_turn(branch, reached(branch, step), key - left, turn);
+        later = later_turn(
+            branch,
+            reached(branch, step),
+            byte_behind(step),
+            key - left,
+            later,
+        );
         let Step::Child(_, place, rest) = step else {
-            return least(turn, meter);
+            return least(later.turn, later.from, meter);
         };
         left = rest;
         view = branch.children[place].enter(branch.width, meter);
     }
     let Some(found) = from_in(&view, left) else {
-        return least(turn, meter);
+        return least(later.turn, later.from, meter);
     };
     Some((key - left + found.0, found.1))
 }

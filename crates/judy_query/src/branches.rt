@@ -2,9 +2,10 @@
 
 ghost use Rattle.std.specs.Prelude.{◌≡◌, ◌+◌, ◌*◌, ◌^◌, ◌<◌, ◌≤◌, length, slice_get, Some, ℕ};
 ghost use Rattle.judy_model.specs.WordBytes.{number_of};
+ghost use Rattle.judy_bits.specs.ByteSets as set;
 ghost use Rattle.judy_node.specs.Trees.{Tree, IsBranch};
 ghost use Rattle.judy_node.specs.Populations.{AreSums, HoldsNth};
-ghost use Rattle.judy_query.specs.Parts.{passed, reached, IsStart};
+ghost use Rattle.judy_query.specs.Parts.{passed, reached, byte_behind, IsStart};
 
 use judy_bits::moved_up;
 use judy_leaf::Words;
@@ -35,13 +36,59 @@ pub(crate) fn reached<V: Words + Drop>(branch: &BranchOf<V>, step: Step) -> usiz
     }
 }
 
+/// From which byte on the children above a key are, by its step; 256 where there are none.
+pub(crate) fn byte_behind(step: Step) -> u64
+    ensures { result ≡ byte_behind step }
+{
+    match step {
+        Step::Child(byte, _, _) => u64::from(byte) + 1,
+        Step::Missing(byte, _, _) => u64::from(byte) + 1,
+        Step::Below => 0,
+        Step::Above => 256,
+    }
+}
+
 /// Where the keys of the child at a place begin.
 pub(crate) fn start_of<V: Words + Drop>(branch: &BranchOf<V>, place: usize) -> u64
     requires branch { IsBranch V.WORDS branch.now.width branch.now.skip branch.now.bytes branch.now.children.items branch.now.population }
     requires place { place < length branch.now.children.items }
     ensures { IsStart (256 ^ branch.now.width) (number_of branch.now.skip * 256) branch.now.bytes place result }
 {
-    let byte = branch.byte_at(place);
+    start_at(branch, branch.byte_at(place))
+}
+
+/// The same for the first child from a byte on, whose place is known: its own byte is the next one in the set, and none are counted.
+pub(crate) fn start_from<V: Words + Drop>(branch: &BranchOf<V>, place: usize, from: u64) -> u64
+    requires branch { IsBranch V.WORDS branch.now.width branch.now.skip branch.now.bytes branch.now.children.items branch.now.population }
+    requires place { place < length branch.now.children.items }
+    requires from { place ≡ set.rank branch.now.bytes from }
+    ensures { IsStart (256 ^ branch.now.width) (number_of branch.now.skip * 256) branch.now.bytes place result }
+{
+    start_at(branch, byte_from(branch, place, from))
+}
+
+// The byte of the first child from a byte on, whose place is known. Where all 256 children stand, that place is the byte.
+fn byte_from<V: Words + Drop>(branch: &BranchOf<V>, place: usize, from: u64) -> u8
+    requires branch { IsBranch V.WORDS branch.now.width branch.now.skip branch.now.bytes branch.now.children.items branch.now.population }
+    requires place { place < length branch.now.children.items }
+    requires from { place ≡ set.rank branch.now.bytes from }
+    ensures { slice_get branch.now.bytes place ≡ Some result }
+{
+    if branch.children.len() == 256 {
+        return branch.byte_at(place);
+    }
+    match branch.bytes.next_from(from as u8) {
+        Some(byte) => byte,
+        None => unreachable!(),
+    }
+}
+
+// Where the keys of the child of a byte begin.
+fn start_at<V: Words + Drop>(branch: &BranchOf<V>, byte: u8) -> u64
+    requires branch { IsBranch V.WORDS branch.now.width branch.now.skip branch.now.bytes branch.now.children.items branch.now.population }
+    requires byte { (place : ℕ) × (place < length branch.now.children.items) × (slice_get branch.now.bytes place ≡ Some byte) }
+    ensures { result ≡ (number_of branch.now.skip * 256 + byte) * 256 ^ branch.now.width }
+{
     moved_up(
         branch.skip.number() * 256 + u64::from(byte),
         usize::from(branch.width),
@@ -50,6 +97,8 @@ pub(crate) fn start_of<V: Words + Drop>(branch: &BranchOf<V>, place: usize) -> u
 
 /// The child that has the n-th of the keys below, counted from 0, and which of its own keys it is: at either end it is known without
 /// a count.
+// Inside a way down to first keys nothing is left of it.
+#[inline(always)]
 pub(crate) fn holding<V: Words + Drop>(branch: &BranchOf<V>, n: u64) -> (usize, u64)
     requires branch { IsBranch V.WORDS branch.now.width branch.now.skip branch.now.bytes branch.now.children.items branch.now.population }
     requires sums { AreSums branch.now.sums branch.now.children.items }

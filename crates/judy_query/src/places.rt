@@ -25,6 +25,8 @@ pub fn nth<V: Words + Drop>(tree: &NodeOf<V>, place: u64, meter: &mut Meter) -> 
 }
 
 /// The same with the key's value, 0 where keys have no value.
+// Inside `nth` nobody asks for the value, and it isn't read.
+#[inline(always)]
 pub fn entry_nth<V: Words + Drop>(
     tree: &NodeOf<V>,
     place: u64,
@@ -43,6 +45,8 @@ pub fn entry_nth<V: Words + Drop>(
 }
 
 /// The pair at a place in a node that was entered, whose keys have so many bytes: the ways to it enter one node less at most.
+// Inside its callers the node needn't be put together in memory.
+#[inline(always)]
 pub(crate) fn entry_below<V: Words + Drop>(
     top: ViewOf<'_, V>,
     place: u64,

@@ -3,11 +3,13 @@
 ghost use Rattle.std.specs.Prelude.{◌≡◌, ◌+◌, ◌-◌, ◌*◌, ◌^◌, ◌<◌, ◌≤◌, length, take, drop, slice_get, Some};
 ghost use Rattle.std.specs.Option.{option_or};
 ghost use Rattle.judy_model.specs.WordBytes.{number_of};
+ghost use Rattle.judy_bits.specs.ByteSets as set;
 ghost use Rattle.judy_leaf.specs.KeyLists.{shift};
 ghost use Rattle.judy_node.specs.Trees.{join, IsBranch};
-ghost use Rattle.judy_query.specs.Turns.{turn_pairs, IsTurn, IsTurnIfAny, last_pair, later_pair, earlier_pair};
+ghost use Rattle.judy_query.specs.Parts.{IsStart};
+ghost use Rattle.judy_query.specs.Turns.{turn_pairs, IsTurn, IsTurnIfAny, IsFirstFrom, IsLater, last_pair, later_pair, earlier_pair};
 
-use crate::branches::start_of;
+use crate::branches::{start_from, start_of};
 use crate::places::entry_below;
 use judy_bits::Meter;
 use judy_leaf::Words;
@@ -21,31 +23,45 @@ pub(crate) struct Turn<'a, V: Words + Drop> {
     pub(crate) base: u64,
 }
 
-/// The turn to the child at a place of a branch whose keys begin at `base`; where there is none, the one before.
+/// A turn, if there was any, and the byte from which on its child is the first in its branch: so the child's own byte is found without a
+/// count.
+#[derive(Drop)]
+pub(crate) struct Later<'a, V: Words + Drop> {
+    pub(crate) turn: Option<Turn<'a, V>>,
+    pub(crate) from: u64,
+}
+
+/// The turn to the child at a place of a branch whose keys begin at `base`, the first from a byte on; where there is none, the one before.
 pub(crate) fn later_turn<'a, V: Words + Drop>(
     branch: &'a BranchOf<V>,
     place: usize,
+    from: u64,
     base: u64,
-    before: Option<Turn<'a, V>>,
-) -> Option<Turn<'a, V>>
+    before: Later<'a, V>,
+) -> Later<'a, V>
     requires branch { IsBranch V.WORDS branch.now.width branch.now.skip branch.now.bytes branch.now.children.items branch.now.population }
+    requires from { place ≡ set.rank branch.now.bytes from }
     requires fits { base + 256 ^ (length branch.now.skip + 1 + branch.now.width) ≤ 256 ^ 8 }
-    requires before { IsTurnIfAny V.WORDS before }
-    ensures turn { IsTurnIfAny V.WORDS result }
-    ensures pair { later_pair result ≡ option_or (slice_get (shift base (join (256 ^ branch.now.width) (number_of branch.now.skip * 256) (drop place branch.now.bytes) (drop place branch.now.children.items))) 0) (later_pair before.entry) }
+    requires before { IsLater V.WORDS before }
+    ensures turn { IsLater V.WORDS result }
+    ensures pair { later_pair result.turn ≡ option_or (slice_get (shift base (join (256 ^ branch.now.width) (number_of branch.now.skip * 256) (drop place branch.now.bytes) (drop place branch.now.children.items))) 0) (later_pair before.entry.turn) }
 {
     if place < branch.children.len() {
-        Some(Turn {
+        let turn = Turn {
             branch,
             place,
             base,
-        })
+        };
+        Later {
+            turn: Some(turn),
+            from,
+        }
     } else {
         before
     }
 }
 
-/// The same for the child before a place.
+/// The turn to the child before a place of a branch whose keys begin at `base`; where there is none, the one before.
 pub(crate) fn earlier_turn<'a, V: Words + Drop>(
     branch: &'a BranchOf<V>,
     place: usize,
@@ -70,20 +86,23 @@ pub(crate) fn earlier_turn<'a, V: Words + Drop>(
     }
 }
 
-/// The first pair of the child that a turn leads to.
+/// The first pair of the child that a turn leads to, which is the first from a byte on.
 // Inside the search that asks for it a turn needn't be put together in memory.
 #[inline(always)]
 pub(crate) fn least<V: Words + Drop>(
     turn: Option<Turn<'_, V>>,
+    from: u64,
     meter: &mut Meter,
 ) -> Option<(u64, u64)>
     requires turn { IsTurnIfAny V.WORDS turn }
+    requires from { IsFirstFrom turn from }
     requires room { meter.old ≤ 2 ^ 64 - 9 }
     ensures entry { result ≡ later_pair turn.entry }
     ensures visits { meter.new ≤ meter.old + 8 }
 {
     let turn = turn?;
-    Some(turn.entry_at(0, meter))
+    let start = start_from(turn.branch, turn.place, from);
+    Some(turn.entry_at(start, 0, meter))
 }
 
 /// The last pair of that child.
@@ -97,7 +116,8 @@ pub(crate) fn greatest<V: Words + Drop>(
     ensures visits { meter.new ≤ meter.old + 8 }
 {
     let turn = turn?;
-    Some(turn.entry_at(turn.len() - 1, meter))
+    let start = start_of(turn.branch, turn.place);
+    Some(turn.entry_at(start, turn.len() - 1, meter))
 }
 
 impl<'a, V: Words + Drop> Turn<'a, V> {
@@ -110,18 +130,19 @@ impl<'a, V: Words + Drop> Turn<'a, V> {
         self.branch.children[self.place].pop()
     }
 
-    // One of its pairs, by its place among them.
+    // One of its pairs, by its place among them. The keys of the child begin at `start` in its branch.
     #[inline(always)]
-    fn entry_at(&self, place: u64, meter: &mut Meter) -> (u64, u64)
+    fn entry_at(&self, start: u64, place: u64, meter: &mut Meter) -> (u64, u64)
         requires turn { IsTurn V.WORDS self.now }
+        requires start { IsStart (256 ^ self.now.branch.now.width) (number_of self.now.branch.now.skip * 256) self.now.branch.now.bytes self.now.place start }
         requires inside { place < length (turn_pairs self.now) }
         requires room { meter.old ≤ 2 ^ 64 - 9 }
         ensures entry { slice_get (turn_pairs self.now) place ≡ Some result }
         ensures visits { meter.new ≤ meter.old + 8 }
     {
         let view = self.branch.children[self.place].enter(self.branch.width, meter);
-        let start = self.base + start_of(self.branch, self.place);
+        let base = self.base + start;
         let (key, value) = entry_below(view, place, meter);
-        (start + key, value)
+        (base + key, value)
     }
 }

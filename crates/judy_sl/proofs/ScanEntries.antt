@@ -1,14 +1,15 @@
 -- What the neighbours of a word array are, seen from a side.
-use Rattle.std.proofs.Common.{◌≡◌, ℕ, List, [], ◌∷◌, Bool, true, false, ◌&&◌, IsTrue, Option, Some, None, sym, refl, ap, ◌∙◌, arith, le-leb, Ordering, is_le, is_ge}
+use Rattle.std.proofs.Common.{◌≡◌, ◌≢◌, ◌≤◌, ℕ, List, [], ◌∷◌, Bool, true, false, ◌&&◌, IsTrue, Option, Some, None, is_some, sym, refl, ap, ◌∙◌, arith, le-leb, Ordering, is_lt, is_le, is_ge}
 use Rattle.std.specs.Ordering.{ordering_then}
 use Rattle.std.specs.Cmp.{nat_cmp_total}
 use Rattle.std.specs.Cmp.Lexicographic.{slice_cmp}
-use Rattle.std.specs.FinMap.{FinMap, nat_cmp-IsAntisymmetric, contains_key}
+use Rattle.std.proofs.lemmas.Bool.{and_parts, and_from}
+use Rattle.std.specs.FinMap.{FinMap, nat_cmp-IsAntisymmetric, get, contains_key}
 use Rattle.judy_model.specs.Keys.{IsWord, word_order}
 use Rattle.judy_model.specs.Nearest.{IsLeast}
 use Rattle.judy_model.specs.Neighbours.{first, next, last, prev}
 use Rattle.judy_model.proofs.Orders.{ge_is_le, gt_is_lt}
-use Rattle.judy_model.proofs.WordOrder.{is_le_word, is_ge_word}
+use Rattle.judy_model.proofs.WordOrder.{is_le_word, is_ge_word, lt_word, lt_from_word, le_word, le_from_word}
 use Rattle.judy_model.proofs.NearestLemmas.{first-IsFirst, next-IsNext, last-IsLast, prev-IsPrev}
 use Rattle.judy_sl.specs.declared.scans.Side.{Side}
 use Rattle.judy_sl.specs.declared.scans.Side.TheVariants.{Above, Below}
@@ -44,6 +45,48 @@ module _ (map : FinMap word_order ℕ) where
 
   pub below-end : ((piece : ℕ) → IsTrue (contains_key map piece) → IsWord piece) → IsFirstEntry Below map (last map 18446744073709551615)
   below-end words = least_agree (λ left right. word_order right left) _ (contains_key map) (λ key. both_true (contains_key map key) (is_le (word_order key 18446744073709551615)) (λ held. is_le_word key 18446744073709551615 ∙ le-leb key 18446744073709551615 (let small = words key held in omega arith))) (last map 18446744073709551615) (last-IsLast nat_cmp_total nat_cmp-IsAntisymmetric map 18446744073709551615)
+
+-- ---- an entry from a piece on, of another piece
+
+module _ (map : FinMap word_order ℕ) (piece entry : ℕ) (apart : entry ≢ piece) where
+  -- It is met first beyond the piece,
+  pub apart-beyond : (side : Side) → IsNearestEntry side true map piece (Some entry) → IsNearestEntry side false map piece (Some entry)
+  apart-beyond Above nearest =
+      let parts = and_parts (contains_key map entry) (is_le (word_order piece entry)) nearest.0 in
+      let most = le_from_word piece entry parts.1 in (
+        and_from (contains_key map entry) (is_lt (word_order piece entry)) parts.0 (lt_word piece entry (omega (arith, most, apart))),
+        λ key passes.
+            let beyond = and_parts (contains_key map key) (is_lt (word_order piece key)) passes in
+            let less = lt_from_word piece key beyond.1 in
+            nearest.1 key (and_from (contains_key map key) (is_le (word_order piece key)) beyond.0 (le_word piece key (omega (arith, less)))),
+      )
+  apart-beyond Below nearest =
+      let parts = and_parts (contains_key map entry) (is_le (word_order entry piece)) nearest.0 in
+      let most = le_from_word entry piece parts.1 in (
+        and_from (contains_key map entry) (is_lt (word_order entry piece)) parts.0 (lt_word entry piece (omega (arith, most, apart))),
+        λ key passes.
+            let beyond = and_parts (contains_key map key) (is_lt (word_order key piece)) passes in
+            let less = lt_from_word key piece beyond.1 in
+            nearest.1 key (and_from (contains_key map key) (is_le (word_order key piece)) beyond.0 (le_word key piece (omega (arith, less)))),
+      )
+
+  never_there : (side : Side) → IsNearestEntry side true map piece (Some entry) → IsTrue (contains_key map piece) → ⊥
+  never_there Above nearest there =
+      let most = le_from_word piece entry (and_parts (contains_key map entry) (is_le (word_order piece entry)) nearest.0).1 in
+      let least = le_from_word entry piece (nearest.1 piece (and_from (contains_key map piece) (is_le (word_order piece piece)) there (le_word piece piece (omega arith)))) in
+      apart (omega (arith, most, least))
+  never_there Below nearest there =
+      let most = le_from_word entry piece (and_parts (contains_key map entry) (is_le (word_order entry piece)) nearest.0).1 in
+      let least = le_from_word piece entry (nearest.1 piece (and_from (contains_key map piece) (is_le (word_order piece piece)) there (le_word piece piece (omega arith)))) in
+      apart (omega (arith, most, least))
+
+  -- and the piece has no entry.
+  pub apart-absent : (side : Side) → IsNearestEntry side true map piece (Some entry) → get map piece ≡ None
+  apart-absent side nearest =
+      elim (get map piece) as (λ found. get map piece ≡ found → found ≡ None) [
+        | None ↦ λ is. refl
+        | Some value ↦ λ is. absurd (never_there side nearest (ap is_some is))
+      ] refl
 
 -- ---- rests of keys
 

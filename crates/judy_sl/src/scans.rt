@@ -1,7 +1,7 @@
 //! The neighbours of a key: one way down its pieces that keeps the nearest entry beside it, and one way down from
 //! that entry to the first key behind it.
 
-ghost use Rattle.std.specs.Prelude.{◌≡◌, ◌≢◌, ℕ, true, false, IsTrue, All, unwrap_or};
+ghost use Rattle.std.specs.Prelude.{◌≡◌, ◌≢◌, ℕ, true, false, IsTrue, IfSome, All, unwrap_or};
 ghost use Rattle.std.specs.FinMap.{contains_key};
 ghost use Rattle.judy_model.specs.Keys.{IsWord};
 ghost use Rattle.judy_model.specs.Neighbours as neighbours;
@@ -143,6 +143,69 @@ impl Arena {
 
     // The entry behind which the neighbour of the key stands.
     fn turn(&self, look: Look, key: &[u8]) -> Option<Turn>
+        requires is_arena { IsArena self.now }
+        requires without_zero { All (λ byte. byte ≢ 0) key.now }
+        ensures is_text { IsText key.now }
+        ensures is_turn { IsTurn look (world_of self.now) key.now result }
+    {
+        match self.last_turn(look, key) {
+            Some(turn) => Some(turn),
+            None => self.any_turn(look, key),
+        }
+    }
+
+    // The same, where the last level on its way has it: each level is asked
+    // once, and the last one once more where it leads to a tail that isn't met.
+    fn last_turn(&self, look: Look, key: &[u8]) -> Option<Turn>
+        requires is_arena { IsArena self.now }
+        requires without_zero { All (λ byte. byte ≢ 0) key.now }
+        ensures is_text { IsText key.now }
+        ensures is_turn { IfSome result (IsTurnAt look (world_of self.now) key.now) }
+    {
+        let mut level = &self.root;
+        let mut rest = key;
+        while rest.len() >= 8 {
+            let piece = first_piece(rest);
+            let depth = key.len() - rest.len();
+            let Some(entry) = look.side.from(level, piece) else {
+                return None;
+            };
+            let apart = entry.0 != piece;
+            if apart {
+                return Some(Turn {
+                    piece: entry.0,
+                    value: entry.1,
+                    depth,
+                });
+            }
+            rest = &rest[8..];
+            match self.children.get(entry.1 as usize) {
+                Some(Child::Level(next)) => level = next,
+                Some(Child::Tail(tail)) => {
+                    let met = look.meets(rest, tail.bytes());
+                    return if met {
+                        Some(Turn {
+                            piece,
+                            value: entry.1,
+                            depth,
+                        })
+                    } else {
+                        nearer(look.side.beyond(level, piece), depth, None)
+                    };
+                }
+                Some(Child::Free(_)) => return None,
+                None => return None,
+            }
+        }
+        nearer(
+            look.last_entry(level, first_piece(rest)),
+            key.len() - rest.len(),
+            None,
+        )
+    }
+
+    // The same, on whichever level of its way it is: each is asked twice, for the piece and for what is beyond it.
+    fn any_turn(&self, look: Look, key: &[u8]) -> Option<Turn>
         requires is_arena { IsArena self.now }
         requires without_zero { All (λ byte. byte ≢ 0) key.now }
         ensures is_text { IsText key.now }

@@ -2,12 +2,14 @@ use Rattle.std.proofs.Common.{◌≡◌, suc, ◌-◌, ◌*◌, ◌^◌, [], len
 use Rattle.std.specs.Option.{option_or}
 use Rattle.judy_model.specs.Keys.{word_order}
 use Rattle.judy_model.specs.WordBytes.{number_of}
+use Rattle.judy_bits.specs.ByteSets.{rank}
 use Rattle.judy_leaf.specs.KeyLists.{shift}
 use Rattle.judy_node.specs.Views.{view_pairs}
 use Rattle.judy_query.specs.Parts.{IsDown, raised, width_of, passed, reached}
 use Rattle.judy_query.specs.Turns.{later_pair}
 use Rattle.judy_query.proofs.Downs.{down_root, down_child, down_gap, child_inside, child_is, beside_is, branch_is, passed_few, beside_reached}
 use Rattle.judy_query.proofs.NearFacts.{part-from, head-append, found_below}
+use Rattle.judy_query.proofs.LaterFacts.{reached_rank}
 use Rattle.judy_query.proofs.Splits.{rest_of}
 use Rattle.judy_query.proofs.after.entry_at_or_after.Goals as goal
 
@@ -15,7 +17,7 @@ pub down-init : goal.down-init
 down-init g c =
     let down = down_root g.V.Words.WORDS c.args.tree.now c.enter-view.result c.args.key c.told.ensures c.enter-view.ensures.view (omega (arith, c.ranges.key)) in
     let narrow = down.shown.narrow in
-    (down, refl, tt, omega arith)
+    (down, refl, (tt, tt), omega arith)
 
 pub reached-requires : goal.reached-requires
 reached-requires g c =
@@ -26,19 +28,28 @@ reached-requires g c =
     let few = passed_few words b.width b.skip b.bytes b.children.items b.population c.down.left c.step-step.result (branch_is words pairs c.in-Branch.branch c.args.key c.down.left down) c.step-step.ensures in
     few
 
+pub later_turn-later-requires-clause-from : goal.later_turn-later-requires-clause-from
+later_turn-later-requires-clause-from g c =
+    let words = g.V.Words.WORDS in
+    let pairs = c.args.tree.now.pairs in
+    let b = c.in-Branch.branch.now in
+    let down = subst (λ v. IsDown words pairs v c.args.key c.down.left) c.in-Branch.is c.down.invariant.0 in
+    c.reached.ensures ∙ reached_rank words b.width b.skip b.bytes b.children.items b.population (branch_is words pairs c.in-Branch.branch c.args.key c.down.left down) c.down.left c.step-step.result c.step-step.ensures
+    ∙ ap (rank b.bytes) (sym c.byte_behind.ensures)
+
 pub returns-in_default-step : goal.returns-in_default-step
 returns-in_default-step g c =
     let words = g.V.Words.WORDS in
     let pairs = c.args.tree.now.pairs in
     let b = c.in-Branch.branch.now in
     let base = c.args.key - c.down.left in
-    let way = subst (λ v. (down : IsDown words pairs v c.args.key c.down.left) × (slice_get down.back 0 ≡ later_pair c.down.turn)) c.in-Branch.is (c.down.invariant.0, c.down.invariant.1) in
+    let way = subst (λ v. (down : IsDown words pairs v c.args.key c.down.left) × (slice_get down.back 0 ≡ later_pair c.down.later.turn)) c.in-Branch.is (c.down.invariant.0, c.down.invariant.1) in
     let beside = beside_is c.step-step.result c.in_default-step.not-Child in
     let part = down_gap words pairs c.in-Branch.branch c.args.key c.down.left way.0 c.step-step.result beside c.step-step.ensures in
     let place : c.reached.result ≡ passed (length b.children.items) c.step-step.result = c.reached.ensures ∙ beside_reached (length b.children.items) c.step-step.result beside in
     let some = c.down.invariant.0.shown.some in
     record {
-      entry = c.least.ensures.entry ∙ c.later_turn-turn.ensures.pair
+      entry = c.least.ensures.entry ∙ c.later_turn-later.ensures.pair
           ∙ (λ t. option_or (slice_get (shift base (rest_of (256 ^ b.width) (number_of b.skip * 256) b.bytes b.children.items (place t))) 0) (sym way.1 t))
           ∙ sym (head-append (shift base (rest_of (256 ^ b.width) (number_of b.skip * 256) b.bytes b.children.items (passed (length b.children.items) c.step-step.result))) way.0.back)
           ∙ sym (part-from words (256 ^ 8) pairs c.args.key 1 0 c.args.key [] _ _ part (omega arith) (omega arith));
@@ -76,7 +87,7 @@ down-preserved g c =
     let pairs = c.args.tree.now.pairs in
     let b = c.in-Branch.branch.now in
     let base = c.args.key - c.down.left in
-    let way = subst (λ v. (down : IsDown words pairs v c.args.key c.down.left) × (slice_get down.back 0 ≡ later_pair c.down.turn)) c.in-Branch.is (c.down.invariant.0, c.down.invariant.1) in
+    let way = subst (λ v. (down : IsDown words pairs v c.args.key c.down.left) × (slice_get down.back 0 ≡ later_pair c.down.later.turn)) c.in-Branch.is (c.down.invariant.0, c.down.invariant.1) in
     let next = down_child words pairs c.in-Branch.branch c.args.key c.down.left way.0 c.in-Child.field-0 c.in-Child.place c.in-Child.rest c.in-Child.ensures c.index.result.now c.index.ensures c.enter-view-in-Branch.result c.enter-view-in-Branch.ensures.view in
     let place : c.reached.result ≡ suc c.in-Child.place = c.reached.ensures ∙ ap (reached (length b.children.items)) c.in-Child.is in
     let here = ap width_of c.in-Branch.is in
@@ -86,8 +97,8 @@ down-preserved g c =
       next.down,
       ap (λ ps. slice_get ps 0) next.back_is ∙ head-append (shift base (rest_of (256 ^ b.width) (number_of b.skip * 256) b.bytes b.children.items (suc c.in-Child.place))) way.0.back
           ∙ (λ t. option_or (slice_get (shift base (rest_of (256 ^ b.width) (number_of b.skip * 256) b.bytes b.children.items (sym place t))) 0) (way.1 t))
-          ∙ sym c.later_turn-turn.ensures.pair,
-      c.later_turn-turn.ensures.turn,
+          ∙ sym c.later_turn-later.ensures.pair,
+      c.later_turn-later.ensures.turn,
       omega arith,
     )
 

@@ -1,29 +1,7 @@
-use Rattle.std.proofs.Common.{◌+◌, ◌*◌, ◌^◌, ◌<◌, sym, ◌∙◌, subst, arith}
-use Rattle.judy_query.proofs.Downs.{start_fits}
 use Rattle.judy_query.proofs.branches.start_of.Goals as goal
 
-pub overflow_mul-number : goal.overflow_mul-number
-overflow_mul-number g c =
-    let b = c.args.branch.now in
-    let fits = start_fits g.V.Words.WORDS b.width b.skip b.bytes b.children.items b.population c.requires.branch 0 c.byte_at-byte.result c.args.place c.requires.place c.byte_at-byte.ensures in
-    let small = fits.1 in
-    let number = c.number.ensures in
-    omega arith
-
-pub overflow_add-number : goal.overflow_add-number
-overflow_add-number g c =
-    let b = c.args.branch.now in
-    let fits = start_fits g.V.Words.WORDS b.width b.skip b.bytes b.children.items b.population c.requires.branch 0 c.byte_at-byte.result c.args.place c.requires.place c.byte_at-byte.ensures in
-    let small = fits.1 in
-    let number = c.number.ensures in
-    let byte = c.from.ensures in
-    omega arith
-
-pub moved_up-requires-clause-within : goal.moved_up-requires-clause-within
-moved_up-requires-clause-within g c =
-    let b = c.args.branch.now in
-    let fits = start_fits g.V.Words.WORDS b.width b.skip b.bytes b.children.items b.population c.requires.branch 0 c.byte_at-byte.result c.args.place c.requires.place c.byte_at-byte.ensures in
-    subst (λ n. n < 2 ^ 64) (λ t. (sym c.number.ensures t * 256 + sym c.from.ensures t) * 256 ^ sym c.from-2.ensures t) fits.0
+pub start_at-requires-clause-byte : goal.start_at-requires-clause-byte
+start_at-requires-clause-byte g c = (c.args.place, c.requires.place, c.byte_at.ensures)
 
 pub returns : goal.returns
-returns g c = (c.byte_at-byte.result, c.byte_at-byte.ensures, c.moved_up.ensures ∙ (λ t. (c.number.ensures t * 256 + c.from.ensures t) * 256 ^ c.from-2.ensures t))
+returns g c = (c.byte_at.result, c.byte_at.ensures, c.start_at.ensures)

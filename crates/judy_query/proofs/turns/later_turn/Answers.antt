@@ -10,7 +10,7 @@ returns-then-place-len g c =
     let below = c.if-place-len.true in
     let inside : c.args.place < length b.children.items = omega arith in
     record {
-      turn = record { branch = c.requires.branch; inside = inside; fits = c.requires.fits };
+      turn = (record { branch = c.requires.branch; inside = inside; fits = c.requires.fits }, c.requires.from);
       pair = sym (turn_later_there g.V.Words.WORDS b.width b.skip b.bytes b.children.items b.population c.requires.branch c.args.place c.args.base inside _);
     }
 

@@ -12,13 +12,13 @@ returns-then-key-gt-MAX_KEY g c =
 pub invariant_of-self-lent : goal.invariant_of-self-lent
 invariant_of-self-lent g c =
     let is_key = is_key_of c.args.key.now (λ i. omega (arith, c.type_inv.key i)) c.if-key-gt-MAX_KEY.false in
-    let spot = rw c.part_of.ensures at c.in-Some.ensures in
+    let spot = rw c.part_of-part.ensures at c.in-Some.ensures in
     λ lent. (λ w. IsHs-written g.H.ByteHash.hash_of c.self.inside.limit c.self.inside.count c.self.inside.groups c.self.invariant c.args.key.now is_key c.in-Some.spot.group c.in-Some.spot.inside spot w, c.self.invariant)
 
 pub returns-in-Some : goal.returns-in-Some
 returns-in-Some g c =
     let is_key = is_key_of c.args.key.now (λ i. omega (arith, c.type_inv.key i)) c.if-key-gt-MAX_KEY.false in
-    let spot = rw c.part_of.ensures at c.in-Some.ensures in
+    let spot = rw c.part_of-part.ensures at c.in-Some.ensures in
     rw (← c.self.view_is) (
       λ t. read_of (ghost_name_of c.slot.result)
           (λ w. array-written g.H.ByteHash.hash_of c.self.inside.limit c.self.inside.count c.self.inside.groups c.self.invariant c.args.key.now is_key c.in-Some.spot.group c.in-Some.spot.inside spot w t)
@@ -29,5 +29,5 @@ returns-in-Some g c =
 pub returns-in-None : goal.returns-in-None
 returns-in-None g c =
     let is_key = is_key_of c.args.key.now (λ i. omega (arith, c.type_inv.key i)) c.if-key-gt-MAX_KEY.false in
-    let absent = rw c.part_of.ensures at c.in-None.ensures in
+    let absent = rw c.part_of-part.ensures at c.in-None.ensures in
     rw (← c.self.view_is) (refl, record { writes_back = tt; value = sym (get_is g.H.ByteHash.hash_of c.self.inside.groups c.args.key.now is_key ∙ absent) })

@@ -6,7 +6,8 @@ use Rattle.judy_hs.proofs.groups.Groups.add.Goals as goal
 
 pub returns-in_ok-inside-in-Some-clause-added : goal.returns-in_ok-inside-in-Some-clause-added
 returns-in_ok-inside-in-Some-clause-added c =
-    let leads = sym c.get.ensures ∙ c.in-Some.is in
+    let way = rw (← c.self.view_is) at c.requires.way in
+    let leads = sym way ∙ c.in-Some.is in
     let can = rw (← c.self.view_is) at c.requires.takes in
     let within = used-within c.self.inside.groups.items c.in-Some.held c.args.part (rw leads at can) in
     let is = c.in_ok-inside-in-Some.ensures.added ∙ ap (λ (group : Group). group_with_key group c.args.part c.args.key.now c.in_ok-inside-in-Some.inside) (held-is c.self.inside.lengths c.self.inside.groups.items c.in-Some.held c.index_mut.result.now within c.index_mut.ensures.value) in
@@ -14,7 +15,8 @@ returns-in_ok-inside-in-Some-clause-added c =
 
 pub invariant_of-self : goal.invariant_of-self
 invariant_of-self c =
-    let leads = sym c.get.ensures ∙ c.in-Some.is in
+    let way = rw (← c.self.view_is) at c.requires.way in
+    let leads = sym way ∙ c.in-Some.is in
     let can = rw leads at rw (← c.self.view_is) at c.requires.takes in
     let within = used-within c.self.inside.groups.items c.in-Some.held c.args.part can in
     let held = held-is c.self.inside.lengths c.self.inside.groups.items c.in-Some.held c.index_mut.result.now within c.index_mut.ensures.value in
@@ -23,7 +25,8 @@ invariant_of-self c =
 
 pub invariant_of-self-in-Some : goal.invariant_of-self-in-Some
 invariant_of-self-in-Some c =
-    let leads = sym c.get.ensures ∙ c.in-Some.is in
+    let way = rw (← c.self.view_is) at c.requires.way in
+    let leads = sym way ∙ c.in-Some.is in
     let can = rw leads at rw (← c.self.view_is) at c.requires.takes in
     let within = used-within c.self.inside.groups.items c.in-Some.held c.args.part can in
     let held = held-is c.self.inside.lengths c.self.inside.groups.items c.in-Some.held c.index_mut.result.now within c.index_mut.ensures.value in

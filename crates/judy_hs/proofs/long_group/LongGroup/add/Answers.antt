@@ -6,7 +6,8 @@ use Rattle.judy_hs.proofs.long_group.LongGroup.add.Goals as goal
 
 pub returns-in_ok-at-in-Some-clause-added : goal.returns-in_ok-at-in-Some-clause-added
 returns-in_ok-at-in-Some-clause-added c =
-    let leads = sym c.get.ensures ∙ c.in-Some.is in
+    let chain = rw (← c.self.view_is) at c.requires.chain in
+    let leads = sym chain ∙ c.in-Some.is in
     let used = rw (← c.self.view_is) at c.requires.used in
     let within = used-within c.self.inside.chains.items c.in-Some.held (rw leads at used) in
     let held = held-is c.self.inside.hashes c.self.inside.chains.items c.in-Some.held 0 c.index_mut.result.now within c.index_mut.ensures.value in
@@ -19,7 +20,8 @@ returns-in_ok-at-in-Some-clause-added c =
 
 pub invariant_of-self-in-Some : goal.invariant_of-self-in-Some
 invariant_of-self-in-Some c =
-    let leads = sym c.get.ensures ∙ c.in-Some.is in
+    let chain = rw (← c.self.view_is) at c.requires.chain in
+    let leads = sym chain ∙ c.in-Some.is in
     let used = rw leads at rw (← c.self.view_is) at c.requires.used in
     let within = used-within c.self.inside.chains.items c.in-Some.held used in
     let held = held-is c.self.inside.hashes c.self.inside.chains.items c.in-Some.held 0 c.index_mut.result.now within c.index_mut.ensures.value in

@@ -1,6 +1,0 @@
-use Rattle.std.proofs.Common.{◌*◌}
-use Rattle.judy_bits.proofs.MemberLemmas.{NoneSetBefore}
-use Rattle.judy_bits.proofs.bits256.Bits256.next_from.Given as goal
-
-abbrev pub invariant-loop-word : goal.invariant-loop-word
-invariant-loop-word l = NoneSetBefore l.self-inside.words l.byte (64 * l.word)

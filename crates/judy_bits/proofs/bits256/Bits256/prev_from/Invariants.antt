@@ -1,6 +1,0 @@
-use Rattle.std.proofs.Common.{◌*◌}
-use Rattle.judy_bits.proofs.MemberLemmas.{NoneSet}
-use Rattle.judy_bits.proofs.bits256.Bits256.prev_from.Given as goal
-
-abbrev pub invariant-loop-word : goal.invariant-loop-word
-invariant-loop-word l = NoneSet l.self-inside.words (64 * l.word) l.byte

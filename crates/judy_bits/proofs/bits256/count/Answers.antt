@@ -1,6 +1,0 @@
-use Rattle.std.proofs.Common.{sym}
-use Rattle.judy_bits.proofs.BitLemmas.{ones_word}
-use Rattle.judy_bits.proofs.bits256.count.Goals as goal
-
-pub returns : goal.returns
-returns c = sym (ones_word c.args.word c.ranges.word.fits)

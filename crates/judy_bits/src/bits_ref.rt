@@ -1,0 +1,134 @@
+//! A set of bytes as 256 bits in four words that stand elsewhere, where they are read one by one and not copied.
+
+ghost use Rattle.std.specs.Prelude.{◌≡◌, length};
+ghost use Rattle.judy_bits.specs.ByteSets as set;
+ghost use Rattle.judy_bits.specs.BitWords.{members_of};
+
+use crate::bits::{count, count_where, highest_below, low_ones, lowest_from, select};
+use crate::bits256::Bits256;
+use std::marker::Model;
+
+/// A set of bytes to read: byte `b` is a member where bit `b mod 64` of word `b / 64` is 1.
+#[derive(Drop)]
+pub struct BitsRef<'a> {
+    words: &'a [u64],
+}
+
+impl<'a> Model for BitsRef<'a> {
+    ghost use Rattle.std.specs.Prelude.{◌≡◌, ℕ, List, length};
+    ghost use Rattle.judy_bits.specs.BitWords.{members_of};
+
+    ghost Value = { List ℕ };
+
+    ghost view = { λ a. members_of a.words.now };
+
+    ghost invariant = { λ a. length a.words.now ≡ 4 };
+}
+
+impl<'a> BitsRef<'a> {
+    /// The set of the bytes whose bit is 1 in four words.
+    pub fn of_words(words: &'a [u64]) -> BitsRef<'a>
+        requires { length words.now ≡ 4 }
+        ensures { result ≡ members_of words.now }
+    {
+        BitsRef { words }
+    }
+
+    /// Whether the byte is a member.
+    pub fn has(&self, byte: u8) -> bool
+        ensures { result ≡ set.has self.now byte }
+    {
+        (self.words[(byte / 64) as usize] >> (byte % 64)) & 1 == 1
+    }
+
+    /// How many members are below the byte.
+    pub fn rank(&self, byte: u8) -> usize
+        ensures { result ≡ set.rank self.now byte }
+    {
+        let word = (byte / 64) as usize;
+        let here = self.words[word] & low_ones((byte % 64) as usize);
+        let words_below = count_where(word > 0, self.words[0])
+            + count_where(word > 1, self.words[1])
+            + count_where(word > 2, self.words[2]);
+        (words_below + here.count_ones()) as usize
+    }
+
+    /// The place of a member, which is its rank; none where the byte isn't a member.
+    pub fn place(&self, byte: u8) -> Option<usize>
+        ensures { result ≡ set.place self.now byte }
+    {
+        if self.has(byte) {
+            Some(self.rank(byte))
+        } else {
+            None
+        }
+    }
+
+    /// The member at a place, counted from 0.
+    pub fn nth(&self, at: usize) -> Option<u8>
+        ensures { result ≡ set.nth self.now at }
+    {
+        let mut left = at;
+        for word in 0..4 {
+            let count = count(self.words[word]) as usize;
+            if left < count {
+                return Some((64 * word + select(self.words[word], left as u32)) as u8);
+            }
+            left -= count;
+        }
+        None
+    }
+
+    // The bytes that are no members.
+    fn absent(&self) -> Bits256
+        ensures { result ≡ set.absent self.now }
+    {
+        let first = !self.words[0];
+        let second = !self.words[1];
+        let third = !self.words[2];
+        let fourth = !self.words[3];
+        Bits256::of_words([first, second, third, fourth])
+    }
+
+    /// The nearest byte at or above the given one that is no member.
+    pub fn next_absent(&self, byte: u8) -> Option<u8>
+        ensures { result ≡ set.next_absent self.now byte }
+    {
+        self.absent().next_from(byte)
+    }
+
+    /// The nearest byte at or below the given one that is no member.
+    pub fn prev_absent(&self, byte: u8) -> Option<u8>
+        ensures { result ≡ set.prev_absent self.now byte }
+    {
+        self.absent().prev_from(byte)
+    }
+
+    /// The nearest member at or above the byte.
+    pub fn next_from(&self, byte: u8) -> Option<u8>
+        ensures { result ≡ set.next_from self.now byte }
+    {
+        let first = (byte / 64) as usize;
+        for word in first..4 {
+            let from = (byte as usize).saturating_sub(64 * word);
+            if let Some(place) = lowest_from(self.words[word], from) {
+                return Some((64 * word + place) as u8);
+            }
+        }
+        None
+    }
+
+    /// The nearest member at or below the byte.
+    pub fn prev_from(&self, byte: u8) -> Option<u8>
+        ensures { result ≡ set.prev_from self.now byte }
+    {
+        let last = (byte / 64) as usize;
+        for word in (0..last + 1).rev() {
+            let limit = (byte as usize + 1 - 64 * word).min(64);
+            if let Some(place) = highest_below(self.words[word], limit) {
+                return Some((64 * word + place) as u8);
+            }
+        }
+        None
+    }
+}

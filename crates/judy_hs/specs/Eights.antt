@@ -1,0 +1,19 @@
+-- A hash that takes eight bytes at a step.
+use Rattle.std.specs.Prelude.{ℕ, zero, suc, ◌*◌, ◌/◌, ◌%◌, ◌^◌, List, length, take, drop, fold, bit_xor}
+use Rattle.std.specs.Int.{from_le_bytes, w64}
+
+-- A word is xored to the hash, which is then multiplied by an odd number, and the upper half of that is xored to the lower one.
+abbrev pub multiplied : ℕ → ℕ → ℕ
+multiplied hash word = bit_xor hash word * 11400714819323198485 % 2 ^ 64
+
+abbrev pub word_step : ℕ → ℕ → ℕ
+word_step hash word = bit_xor (multiplied hash word) (multiplied hash word / 4294967296)
+
+-- So many words of eight bytes each, the first byte the lowest, and then the bytes that are left, each a word.
+abbrev pub words_from : ℕ → ℕ → List ℕ → ℕ
+words_from zero hash bytes = fold word_step hash bytes
+words_from (suc count) hash bytes = words_from count (word_step hash (from_le_bytes w64 (take 8 bytes))) (drop 8 bytes)
+
+-- The hash of bytes.
+abbrev pub by_eights : List ℕ → ℕ
+by_eights bytes = words_from (length bytes / 8) 14695981039346656037 bytes % 4294967296
