@@ -9,7 +9,7 @@ ghost use Rattle.judy_model.specs.Counts as counts;
 ghost use Rattle.judy_model.specs.Neighbours as neighbours;
 ghost use Rattle.judy_model.specs.Empties as empties;
 ghost use Rattle.judy_query.specs.Maps.{map_of};
-ghost use Rattle.judy_word.specs.Held.{array_in};
+ghost use Rattle.judy_word.specs.Held.{array_in, with_new};
 ghost use Rattle.judy_word.specs.Refusals.{IsRefusal};
 ghost use Rattle.judy_word.specs.Slots.{LendsSlot, LendsIns};
 
@@ -36,7 +36,7 @@ impl Model for JudyL {
 
     ghost coded = { array_code coded_ℕ };
 
-    ghost use Rattle.judy_word.specs.Held.{array_in};
+    ghost use Rattle.judy_word.specs.Held.{array_in, with_new};
 
     ghost view = { λ a. array_in a.tree };
 }
@@ -100,6 +100,21 @@ impl JudyL {
         ensures empty { self.old.map ≡ map.empty → IsOk result }
     {
         self.tree.put(i, value)
+    }
+
+    /// Puts the key `i` in with a value where it is absent, and answers whether it was; a key that is there keeps its own value, and is
+    /// never refused. One way down the tree serves both. (This project's own: a map's insert by its entry.)
+    ///
+    /// `Full` and `NoMemory` as `ins`. Either leaves the array as it was.
+    pub fn put_if_absent(&mut self, i: u64, value: u64) -> Result<bool, InsertError>
+        ensures answer { IfOk result (λ added. added ≡ not (map.contains_key self.old.map i)) }
+        ensures put { OnOk result (self.new ≡ array.with_map self.old (with_new self.old.map i value)) }
+        ensures accepted { OnOk result (IsFalse (array.is_full self.old i)) }
+        ensures refused { IfErr result (IsRefusal self.old i) }
+        ensures unchanged { OnErr result (self.new ≡ self.old) }
+        ensures empty { self.old.map ≡ map.empty → IsOk result }
+    {
+        self.tree.set_with(i, value)
     }
 
     /// The value of the key `i`, and `None` where it is absent. (Manual: JLG, JudyLGet.)
