@@ -10,7 +10,7 @@ ghost use Rattle.judy_node.specs.Populations.{AreSums};
 ghost use Rattle.judy_change.specs.Inserted.{IsAdded, IsInserted};
 
 use judy_leaf::Words;
-use judy_node::{BranchOf, ChildOf, immediate_of_sorted};
+use judy_node::{BranchOf, ChildOf, immediate_of_sorted, make_room};
 use std::alloc::{AllocError, Global};
 
 // The node of one key, read by its lowest bytes, with its value. It takes no memory.
@@ -109,7 +109,7 @@ pub(crate) fn put_child<V: Words + Drop>(
         (branch_tree branch.old.width branch.old.skip branch.old.bytes branch.old.children.items branch.old.population)
         (branch_tree branch.new.width branch.new.skip branch.new.bytes branch.new.children.items branch.new.population) result }
 {
-    if branch.children.try_reserve(1).is_err() {
+    if make_room(&mut branch.children).is_err() {
         return Err(AllocError);
     }
     put_key(branch, place, byte, rest, value);

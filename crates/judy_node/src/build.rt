@@ -23,6 +23,22 @@ fn byte_above(key: u64, below: u8) -> u8
     low_part(without_low(key, usize::from(below)), 1) as u8
 }
 
+// How many bytes the keys of sorted pairs have there: so many children they will be.
+fn bytes_above(pairs: &[(u64, u64)], below: u8) -> usize
+    requires { below ≤ 7 }
+{
+    let mut count = 0;
+    let mut before = None;
+    for pair in pairs {
+        let byte = byte_above(pair.0, below);
+        if before != Some(byte) {
+            count += 1;
+        }
+        before = Some(byte);
+    }
+    count
+}
+
 // How many of the first pairs have a byte there.
 fn group_end(pairs: &[(u64, u64)], below: u8, byte: u8) -> usize
     requires { below ≤ 7 }
@@ -215,8 +231,11 @@ fn split<V: Words + Drop>(
     ensures level { IfOk result (λ kind. IsLevel V.WORDS kind × IsDeep kind) }
     ensures built { IfOk result (λ kind. IsBuilt V.WORDS (below + 1) pairs.now (tree_of V.WORDS kind)) }
 {
+    let Ok(children) = Vec::with_capacity(alloc, bytes_above(pairs, below)) else {
+        return Err(AllocError);
+    };
     let mut branch = BranchOf {
-        children: Vec::new(alloc),
+        children,
         skip: Skip::new(&[]),
         width: below,
         bytes: ByteSet::new(),

@@ -10,7 +10,7 @@
 //! [`judy_bits::Meter`], and give the same [`View`]; a branch answers by [`BranchOf::step`] where a key goes.
 //!
 //! child.rt has the nodes, node.rt the root, branch.rt what is asked of a branch, populations.rt how many keys its children have, shape.rt and fill.rt what goes over a whole tree, build.rt
-//! makes the tight tree of sorted pairs, slot.rt lends the slot of a value. The crate stands on judy_model, judy_bits, judy_block and judy_leaf.
+//! makes the tight tree of sorted pairs, room.rt makes room for a child, slot.rt lends the slot of a value. The crate stands on judy_model, judy_bits, judy_block and judy_leaf.
 #![tactic(auto)]
 
 mod branch;
@@ -21,6 +21,7 @@ mod head;
 pub mod laws;
 mod node;
 mod populations;
+mod room;
 mod shape;
 mod slot;
 mod step;
@@ -33,6 +34,7 @@ pub use build::{
 pub use child::{BranchOf, Child, ChildOf, KindOf, PlaceOf, imm_of};
 pub use head::Head;
 pub use node::{Node, NodeOf, RootOf};
+pub use room::make_room;
 pub use shape::Shape;
 pub use step::Step;
 pub use sums::Sums;

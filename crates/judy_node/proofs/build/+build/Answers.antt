@@ -147,11 +147,11 @@ split-loop-rest-init g t c =
     let many = c.requires.more in (
       (
         0,
-        subst (λ bs. AreMade words c.args.below c.args.pairs.now c.args.pairs.now bs c.new.result.items 0) (sym c.new-3.ensures)
-            (subst (λ ks. AreMade words c.args.below c.args.pairs.now c.args.pairs.now [] ks 0) (sym c.new.ensures.items)
+        subst (λ bs. AreMade words c.args.below c.args.pairs.now c.args.pairs.now bs c.in-Ok.children.items 0) (sym c.new-2.ensures)
+            (subst (λ ks. AreMade words c.args.below c.args.pairs.now c.args.pairs.now [] ks 0) (sym c.in-Ok.ensures.items)
             (made_none words c.args.below c.args.pairs.now c.requires.map (omega arith))),
       ),
-      c.new-2.ensures,
+      c.new.ensures,
       refl,
       refl,
     )
@@ -165,13 +165,13 @@ split-add_group-requires g t c κs within =
     (omega arith, (within, (c.requires.one, (c.requires.width, (omega arith, (c.requires.two, c.loop-rest.invariant.0))))))
 
 pub split-loop-rest-smaller : goal.split-loop-rest-smaller
-split-loop-rest-smaller g t c = c.in-Ok.ensures.fewer
+split-loop-rest-smaller g t c = c.in-Ok-add_group.ensures.fewer
 
 pub split-loop-rest-preserved : goal.split-loop-rest-preserved
 split-loop-rest-preserved g t c =
-    let others = c.in-Ok.ensures.others in
+    let others = c.in-Ok-add_group.ensures.others in
     let before = c.loop-rest.invariant in
-    (c.in-Ok.ensures.made, others.0 ∙ before.1, others.1 ∙ before.2, others.2 ∙ before.3)
+    (c.in-Ok-add_group.ensures.made, others.0 ∙ before.1, others.1 ∙ before.2, others.2 ∙ before.3)
 
 pub split-returns-in-Ok-new-clause-level : goal.split-returns-in-Ok-new-clause-level
 split-returns-in-Ok-new-clause-level g t c =
