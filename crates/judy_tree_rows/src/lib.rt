@@ -1,7 +1,7 @@
-//! Tests of leaves, bitmap leaves, immediates, trees, their queries and their changes: the worked rows by their names, and keys drawn
-//! by chance beside a plain list.
+//! Tests of leaves, bitmap leaves, immediates, trees, their queries and their changes, and of the arrays of words over them: the worked
+//! rows by their names, and keys drawn by chance beside a plain list.
 //!
-//! The crate stands on top of those of the tree and has no code of its own.
+//! The crate stands on top of those of the tree and of judy_word, and has no code of its own.
 #![tactic(auto)]
 
 #[cfg(test)]
@@ -17,6 +17,8 @@ mod draws;
 #[cfg(test)]
 mod immediates;
 #[cfg(test)]
+mod iterators;
+#[cfg(test)]
 mod leaves;
 #[cfg(test)]
 mod nodes;
@@ -26,3 +28,5 @@ mod plain;
 mod queries;
 #[cfg(test)]
 mod random_trees;
+#[cfg(test)]
+mod word_arrays;

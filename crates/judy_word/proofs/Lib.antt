@@ -6,4 +6,4 @@ mod RemovalFacts
 mod InsertionFacts
 mod ArrayFacts
 mod EntryFacts
-mod IterFacts
+pub mod IterFacts

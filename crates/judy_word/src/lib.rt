@@ -11,12 +11,8 @@
 
 mod error;
 mod iter;
-#[cfg(test)]
-mod iter_tests;
 mod judy1;
 mod judyl;
-#[cfg(test)]
-mod tests;
 mod tree_array;
 
 pub use error::InsertError;

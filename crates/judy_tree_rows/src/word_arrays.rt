@@ -1,5 +1,5 @@
-// What no clause says: that calls succeed while there is memory. Two callers, whose contracts show what a write
-// through a slot is known to do. And what the calls that ask for neighbours and counts answer at their corners.
+//! Arrays of words. What no clause says: that calls succeed while there is memory. Callers whose contracts show what a write through
+//! a slot is known to do, and what an array that is lent says of its nodes. And what neighbours and counts are at their corners.
 ghost use Rattle.std.specs.Prelude.{◌≡◌, OnOk, IfOk, OnErr, OnSome, IsTrue};
 ghost use Rattle.std.specs.FinMap as map;
 ghost use Rattle.judy_model.specs.Arrays as array;
@@ -7,8 +7,8 @@ ghost use Rattle.judy_model.specs.Shapes.{shape_of};
 ghost use Rattle.judy_change.specs.Removals.{Has33};
 ghost use Rattle.judy_node.specs.ShapeSums.{shape_as};
 
-use crate::{InsertError, Judy1, JudyL};
 use judy_node::Shape;
+use judy_word::{InsertError, Judy1, JudyL};
 use std::alloc::AllocError;
 use std::test::Fail;
 
@@ -88,6 +88,19 @@ fn full_at_the_limit(rt: HostRuntime) -> Result<(), Fail> {
     assert_eq!(rt; pairs.free_array(), 2);
     assert!(rt; pairs.is_empty());
     assert_eq!(rt; pairs.free_array(), 0);
+    Ok(())
+}
+
+// A key that is there keeps its value, or gets the new one, by the call.
+#[test]
+fn values_of_present_keys(rt: HostRuntime) -> Result<(), InsertError> {
+    let mut pairs = JudyL::new(rt.alloc(), 2);
+    assert!(rt; pairs.put_if_absent(5, 50)?);
+    assert!(rt; !pairs.put_if_absent(5, 51)?);
+    assert!(rt; pairs.put(7, 70)?);
+    assert!(rt; !pairs.put(7, 71)?);
+    assert_eq!(rt; pairs.put_if_absent(9, 90), Err(InsertError::Full));
+    assert_eq!(rt; (pairs.get(5), pairs.get(7)), (Some(50), Some(71)));
     Ok(())
 }
 

@@ -1,6 +1,6 @@
 //! What iterators give beside the keys that went in, for each kind of node.
 
-use crate::{Judy1, JudyL};
+use judy_word::{Judy1, JudyL};
 use std::process::Abort;
 
 // Keys by ascending order: the first one, how far each is from the next, and how many.

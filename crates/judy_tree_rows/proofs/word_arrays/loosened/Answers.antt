@@ -2,7 +2,7 @@ use Rattle.std.proofs.Common.{◌^◌, ap, sym, ◌∙◌, subst}
 use Rattle.std.specs.FinMap as map
 use Rattle.judy_change.specs.Removals.{Has33}
 use Rattle.judy_word.proofs.IterFacts.{entries_are}
-use Rattle.judy_word.proofs.tests.loosened.Goals as goal
+use Rattle.judy_tree_rows.proofs.word_arrays.loosened.Goals as goal
 
 pub returns-then-not-loose-clause-loosened : goal.returns-then-not-loose-clause-loosened
 returns-then-not-loose-clause-loosened c = λ loose.
