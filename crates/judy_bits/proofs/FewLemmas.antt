@@ -11,6 +11,7 @@ use Rattle.judy_model.proofs.Places.{length-filter-le, find_before_count, before
 use Rattle.std.specs.Cmp.{nat_cmp_total}
 use Rattle.judy_bits.specs.ByteSets.{IsByteSet, has, rank, count_up_to, place, next_from, prev_from, with_byte, without_byte}
 use Rattle.judy_bits.specs.Paddings.{IsPadded, length-meant}
+use Rattle.judy_bits.proofs.SetLaws.{place-nth}
 use Rattle.judy_bits.proofs.SetLemmas.{filter_all, slice_get-rank, has_at, next_from-rank, with_other, without_at, with_byte-IsByteSet, without_byte-IsByteSet}
 use Rattle.judy_bits.proofs.PaddingLemmas.{meant_at, count_by-padded, opened, length-opened, closed, length-closed, IsPadded-from, take-from}
 
@@ -47,6 +48,10 @@ module _ (array : List ℕ) (count : ℕ) (padded : IsPadded 255 array count) (i
   place-none byte at ranked apart =
       let other = no-place byte (subst (λ n. (n < count) → get_or array n 0 ≢ byte) ranked apart) in
       sym (ap (λ b. cond b (Some (rank (take count array) byte)) None) other)
+
+  -- A byte that stands at a place.
+  pub place-there : (byte at : ℕ) → at < count → get_or array at 0 ≡ byte → Some at ≡ place (take count array) byte
+  place-there byte at inside same = sym ((place-nth (take count array) byte at is).1 (meant_at 255 array count at padded inside ∙ ap Some same))
 
   -- A member at its rank.
   pub has-there : (byte at : ℕ) → at < count → get_or array at 0 ≡ byte → has (take count array) byte ≡ true
@@ -93,6 +98,17 @@ module _ (array : List ℕ) (count : ℕ) (padded : IsPadded 255 array count) (i
       let value : take (count - 1) new ≡ without_byte (take count array) byte =
       ap (take (count - 1)) parts ∙ take-from 255 (remove (take count array) at) (count - 1) size ∙ sym (without_at (take count array) at byte is.ascending there) in
       (value, (subst (λ l. IsPadded 255 l (count - 1)) (sym parts) (IsPadded-from 255 (remove (take count array) at) (count - 1) size (let h = padded.within in omega arith)), subst IsByteSet (sym value) (without_byte-IsByteSet (take count array) byte is)))
+
+-- The places of an array of seven, one by one, before another number.
+pub listed : (array : List ℕ) (more at : ℕ) → at < 7 → get_or (get_or array 0 0 ∷ get_or array 1 0 ∷ get_or array 2 0 ∷ get_or array 3 0 ∷ get_or array 4 0 ∷ get_or array 5 0 ∷ get_or array 6 0 ∷ more ∷ []) at 0 ≡ get_or array at 0
+listed array more zero inside = refl
+listed array more (suc zero) inside = refl
+listed array more (suc (suc zero)) inside = refl
+listed array more (suc (suc (suc zero))) inside = refl
+listed array more (suc (suc (suc (suc zero)))) inside = refl
+listed array more (suc (suc (suc (suc (suc zero))))) inside = refl
+listed array more (suc (suc (suc (suc (suc (suc zero)))))) inside = refl
+listed array more (suc (suc (suc (suc (suc (suc (suc at))))))) inside = let never : ⊥ = omega arith in absurd never
 
 -- What a place says.
 pub has-is_some : (members : List ℕ) (byte : ℕ) → is_some (place members byte) ≡ has members byte

@@ -9,3 +9,4 @@ pub mod SetLaws
 pub mod AbsentLemmas
 pub mod ShiftLemmas
 pub mod SkipLemmas
+pub mod LaneLemmas

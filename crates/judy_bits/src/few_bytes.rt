@@ -1,11 +1,12 @@
 //! A set of at most seven bytes in one word.
 
-ghost use Rattle.std.specs.Prelude.{◌≡◌, ◌-◌, ◌<◌, ◌≤◌, [], ◌∷◌, ◌++◌, length, take, drop};
+ghost use Rattle.std.specs.Prelude.{◌≡◌, ◌≢◌, ℕ, ◌-◌, ◌<◌, ◌≤◌, [], ◌∷◌, ◌++◌, length, take, drop, slice_index};
 ghost use Rattle.std.specs.List.{remove};
 ghost use Rattle.judy_bits.specs.ByteSets as set;
 ghost use Rattle.judy_bits.specs.ByteSets.{IsByteSet};
 
 use std::marker::Model;
+use std::simd::prelude::*;
 
 /// A set of at most seven bytes: the members in ascending order, and 255 in each place after them. Since 255
 /// is below no byte, a rank is counted over all seven places, whatever the number of members.
@@ -51,6 +52,16 @@ fn close_place(bytes: &mut [u8; 7], at: usize)
     bytes[6] = 255;
 }
 
+/// The first of eight places that holds a byte; 8 or more where none does.
+fn first_place(bytes: [u8; 8], byte: u8) -> usize
+    requires { length bytes ≡ 8 }
+    ensures holds { result < 8 → slice_index bytes result ≡ byte }
+    ensures first { (at : ℕ) → at < 8 → at < result → slice_index bytes at ≢ byte }
+{
+    let equal = u8x8::from_array(bytes).simd_eq(u8x8::splat(byte));
+    equal.to_bitmask().trailing_zeros() as usize
+}
+
 impl FewBytes {
     /// The empty set.
     pub(crate) fn new() -> FewBytes
@@ -84,13 +95,18 @@ impl FewBytes {
         below
     }
 
-    /// The place of a member, which is its rank; none where the byte isn't a member.
+    /// The place of a member, which is its rank; none where the byte isn't a member. All places are compared at once, and the count
+    /// beside them, so that they are one load.
     pub(crate) fn place(&self, byte: u8) -> Option<usize>
         ensures { result ≡ set.place self.now byte }
     {
-        let rank = self.rank(byte);
-        if rank < self.count as usize && self.bytes[rank] == byte {
-            Some(rank)
+        let [first, second, third, fourth, fifth, sixth, seventh] = self.bytes;
+        let all = [
+            first, second, third, fourth, fifth, sixth, seventh, self.count,
+        ];
+        let at = first_place(all, byte);
+        if at < self.count as usize {
+            Some(at)
         } else {
             None
         }

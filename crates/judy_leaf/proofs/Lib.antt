@@ -25,3 +25,4 @@ pub mod Bounds
 pub mod AbsentRuns
 pub mod AbsentBytes
 pub mod SamePairs
+pub mod FirstByte

@@ -11,7 +11,7 @@ ghost use Rattle.judy_bits.specs.ByteSets as set;
 ghost use Rattle.judy_leaf.specs.Packing.{places, places_of, keys_in, IsPacked, IsWidth};
 ghost use Rattle.judy_leaf.specs.Nearby.{IsNextAt, IsPreviousAt};
 
-use crate::lanes::{bytes_below, pairs_below};
+use crate::lanes::{bytes_before, bytes_below, pairs_below};
 use crate::place::key_in;
 
 // How many keys of a word are below a key, by one comparison a place.
@@ -81,6 +81,20 @@ pub(crate) fn key_of<const W: usize>(words: &[u64], at: usize) -> u64
     key_in::<W>(words[at / (8 / W)], at % (8 / W))
 }
 
+// The place of a key of one byte, where it is among the keys. It stands before the places that hold no key.
+fn find_byte(count: usize, words: &[u64], key: u64) -> Option<usize>
+    requires packed { IsPacked 1 count words.now }
+    requires ascending { IsStrictlySortedBy word_order (keys_in 1 count words.now) }
+    requires few { length words.now ≤ 65535 }
+    ensures { result ≡ set.place (keys_in 1 count words.now) key }
+{
+    if key > 255 {
+        return None;
+    }
+    let at = bytes_before(words, key as u8);
+    if at < count { Some(at) } else { None }
+}
+
 // The place of a key, where it is among the keys.
 pub(crate) fn find_in<const W: usize>(count: usize, words: &[u64], key: u64) -> Option<usize>
     requires packed { IsPacked W count words.now }
@@ -88,6 +102,9 @@ pub(crate) fn find_in<const W: usize>(count: usize, words: &[u64], key: u64) -> 
     requires few { length words.now ≤ 65535 }
     ensures { result ≡ set.place (keys_in W count words.now) key }
 {
+    if W == 1 {
+        return find_byte(count, words, key);
+    }
     let at = rank_in::<W>(count, words, key);
     if at < count && key_of::<W>(words, at) == key {
         Some(at)

@@ -1,13 +1,17 @@
 //! The value of a key.
 
-ghost use Rattle.std.specs.Prelude.{◌≡◌, ◌+◌, ◌-◌, ◌^◌, ◌≤◌};
+ghost use Rattle.std.specs.Prelude.{◌≡◌, ◌+◌, ◌-◌, ◌^◌, ◌<◌, ◌≤◌, None, MatchOption, length};
 ghost use Rattle.std.specs.FinMap as map;
+ghost use Rattle.judy_node.specs.Trees.{branch_pairs};
+ghost use Rattle.judy_node.specs.Views.{view_pairs};
+ghost use Rattle.judy_node.specs.declared.view.ViewOf.TheVariants.{Branch};
 ghost use Rattle.judy_query.specs.Maps.{map_of};
+ghost use Rattle.judy_query.specs.Parts.{value_of, IsEnd, IsShown};
 
 use crate::ends::value_in;
 use judy_bits::Meter;
 use judy_leaf::Words;
-use judy_node::{NodeOf, Step, ViewOf};
+use judy_node::{BranchOf, NodeOf, Step, ViewOf};
 
 /// The value of a key, 0 where keys have no value; `None` where it is absent. At most 8 visits; the meter stands at most at
 /// `u64::MAX - 16`.
@@ -17,14 +21,38 @@ pub fn lookup<V: Words + Drop>(tree: &NodeOf<V>, key: u64, meter: &mut Meter) ->
     ensures visits { meter.new ≤ meter.old + 8 }
 {
     tree.told();
-    let mut view = tree.enter(meter);
+    let (end, left) = match tree.enter(meter) {
+        ViewOf::Branch(branch) => end_of_way(branch, key, meter)?,
+        end => (end, key),
+    };
+    value_in(&end, left)
+}
+
+// The node without children that a key of a branch leads to, and what is left of the key there; none where the way ends beside a child.
+// A node that was entered goes round the loop only where it is a branch, so that its kind is asked for once.
+#[inline(always)]
+fn end_of_way<'a, V: Words + Drop>(
+    top: &'a BranchOf<V>,
+    key: u64,
+    meter: &mut Meter,
+) -> Option<(ViewOf<'a, V>, u64)>
+    requires shown { IsShown V.WORDS (Branch top) }
+    requires inside { key < 256 ^ (length top.now.skip + 1 + top.now.width) }
+    requires below { meter.old ≤ 2 ^ 64 - 16 }
+    ensures value { MatchOption result (value_of (branch_pairs top.now.width top.now.skip top.now.bytes top.now.children.items) key ≡ None) (λ end. value_of (branch_pairs top.now.width top.now.skip top.now.bytes top.now.children.items) key ≡ value_of (view_pairs end.0) end.1) }
+    ensures end { MatchOption result Unit (λ end. IsEnd end.0 × IsShown V.WORDS end.0) }
+    ensures visits { meter.new + 1 ≤ meter.old + length top.now.skip + 1 + top.now.width }
+{
+    let mut branch = top;
     let mut left = key;
-    'down: while let ViewOf::Branch(branch) = view {
+    'down: loop {
         let Step::Child(_, place, rest) = branch.step(left) else {
             return None;
         };
         left = rest;
-        view = branch.children[place].enter(branch.width, meter);
+        match branch.children[place].enter(branch.width, meter) {
+            ViewOf::Branch(next) => branch = next,
+            end => return Some((end, left)),
+        }
     }
-    value_in(&view, left)
 }

@@ -1,9 +1,23 @@
-use Rattle.std.proofs.Common.{arith}
-use Rattle.judy_bits.proofs.FewLemmas.{place-none}
+use Rattle.std.proofs.Common.{take, sym, refl, ◌∙◌, arith}
+use Rattle.judy_bits.specs.ByteSets.{rank}
+use Rattle.judy_bits.proofs.FewLemmas.{listed, place-there, place-none}
 use Rattle.judy_bits.proofs.few_bytes.FewBytes.place.Goals as goal
-use Rattle.judy_bits.proofs.few_bytes.FewBytes.place.Goals.{else-rank-self-via-then-rank-self+else-self-rank, else-rank-self-via-else-rank-self}
 
-pub returns-else-rank-self : goal.returns-else-rank-self
-returns-else-rank-self c =
-    rw (← c.self.view_is) (place-none c.self.inside.bytes c.self.inside.count c.self.invariant.0 c.self.invariant.1 c.args.byte c.rank-rank.result (rw (← c.self.view_is) at c.rank-rank.ensures) (λ inside same.
-    elim c.else-rank-self.branch [ else-rank-self-via-then-rank-self+else-self-rank w ↦ w.if-self-rank.false same | else-rank-self-via-else-rank-self w ↦ (let past = w.if-rank-self.false in omega arith) ]))
+pub returns-then-at-self : goal.returns-then-at-self
+returns-then-at-self c =
+    let bytes = c.self.inside.bytes in
+    let count = c.self.inside.count in
+    let at = c.first_place-at.result in
+    let few = c.self.invariant.0.within in
+    let inside = c.if-at-self.true in
+    rw (← c.self.view_is) (place-there bytes count c.self.invariant.0 c.self.invariant.1 c.args.byte at inside (sym (listed bytes count at (omega arith)) ∙ c.first_place-at.ensures.holds (omega arith)))
+
+pub returns-else-at-self : goal.returns-else-at-self
+returns-else-at-self c =
+    let bytes = c.self.inside.bytes in
+    let count = c.self.inside.count in
+    let few = c.self.invariant.0.within in
+    let past = c.if-at-self.false in
+    let own = rank (take count bytes) c.args.byte in
+    rw (← c.self.view_is) (place-none bytes count c.self.invariant.0 c.self.invariant.1 c.args.byte own refl
+    (λ inside same. c.first_place-at.ensures.first own (omega arith) (omega arith) (listed bytes count own (omega arith) ∙ same)))

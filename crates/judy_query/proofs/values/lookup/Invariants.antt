@@ -1,9 +1,0 @@
-use Rattle.std.proofs.Common.{◌+◌, ◌≤◌}
-use Rattle.judy_query.specs.Parts.{IsDown, width_of}
-use Rattle.judy_query.proofs.values.lookup.Given as goal
-
-abbrev pub invariant-down : goal.invariant-down
-invariant-down g l = IsDown g.V.Words.WORDS l.tree.pairs l.view l.key l.left × (l.meter + width_of l.view ≤ l.initial.meter + 8)
-
-abbrev pub decreases-down : goal.decreases-down
-decreases-down g l = width_of l.view
