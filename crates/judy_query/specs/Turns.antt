@@ -6,6 +6,7 @@ use Rattle.judy_leaf.specs.KeyLists.{shift}
 use Rattle.judy_node.specs.Trees.{Pairs, join, IsBranch}
 use Rattle.judy_query.specs.declared.turns.Turn.{Turn}
 use Rattle.judy_query.specs.declared.turns.Later.{Later}
+use Rattle.judy_query.specs.declared.turns.Earlier.{Earlier}
 
 -- The pairs of the child that a turn leads to, as the tree has them.
 abbrev pub turn_pairs : {V : _} → Turn V → Pairs
@@ -44,3 +45,12 @@ IsFirstFrom (Some turn) from = turn.place ≡ rank turn.branch.now.bytes from
 -- A turn, where there is one, with the byte from which on its child is the first.
 abbrev pub IsLater : {V : _} → ℕ → Later V → Type 0
 IsLater words later = IsTurnIfAny words later.turn × IsFirstFrom later.turn later.from
+
+-- The child that it leads to, where there is one, is the last below a byte.
+abbrev pub IsLastBelow : {V : _} → Option (Turn V) → ℕ → Type 0
+IsLastBelow None below = Unit {0}
+IsLastBelow (Some turn) below = (turn.place + 1 ≡ rank turn.branch.now.bytes below) × (below ≤ 256)
+
+-- A turn, where there is one, with the byte below which its child is the last.
+abbrev pub IsEarlier : {V : _} → ℕ → Earlier V → Type 0
+IsEarlier words earlier = IsTurnIfAny words earlier.turn × IsLastBelow earlier.turn earlier.below

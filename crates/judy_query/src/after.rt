@@ -35,13 +35,16 @@ pub fn entry_at_or_after<V: Words + Drop>(
     ensures visits { meter.new ≤ meter.old + 16 }
 {
     tree.told();
-    let mut view = tree.enter(meter);
-    let mut left = key;
+    let mut at = match tree.enter(meter) {
+        ViewOf::Branch(top) => (top, key),
+        view => return from_in(&view, key),
+    };
     let mut later = Later {
         turn: None,
         from: 0,
     };
-    'down: while let ViewOf::Branch(branch) = view {
+    'down: loop {
+        let (branch, left) = at;
         let step = branch.step(left);
         later = later_turn(
             branch,
@@ -53,11 +56,14 @@ pub fn entry_at_or_after<V: Words + Drop>(
         let Step::Child(_, place, rest) = step else {
             return least(later.turn, later.from, meter);
         };
-        left = rest;
-        view = branch.children[place].enter(branch.width, meter);
+        match branch.children[place].enter(branch.width, meter) {
+            ViewOf::Branch(below) => at = (below, rest),
+            view => {
+                let Some(found) = from_in(&view, rest) else {
+                    return least(later.turn, later.from, meter);
+                };
+                return Some((key - rest + found.0, found.1));
+            }
+        }
     }
-    let Some(found) = from_in(&view, left) else {
-        return least(later.turn, later.from, meter);
-    };
-    Some((key - left + found.0, found.1))
 }

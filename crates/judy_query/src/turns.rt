@@ -7,9 +7,9 @@ ghost use Rattle.judy_bits.specs.ByteSets as set;
 ghost use Rattle.judy_leaf.specs.KeyLists.{shift};
 ghost use Rattle.judy_node.specs.Trees.{join, IsBranch};
 ghost use Rattle.judy_query.specs.Parts.{IsStart};
-ghost use Rattle.judy_query.specs.Turns.{turn_pairs, IsTurn, IsTurnIfAny, IsFirstFrom, IsLater, last_pair, later_pair, earlier_pair};
+ghost use Rattle.judy_query.specs.Turns.{turn_pairs, IsTurn, IsTurnIfAny, IsFirstFrom, IsLater, IsLastBelow, IsEarlier, last_pair, later_pair, earlier_pair};
 
-use crate::branches::{start_from, start_of};
+use crate::branches::{start_below, start_from};
 use crate::places::entry_below;
 use judy_bits::Meter;
 use judy_leaf::Words;
@@ -29,6 +29,13 @@ pub(crate) struct Turn<'a, V: Words + Drop> {
 pub(crate) struct Later<'a, V: Words + Drop> {
     pub(crate) turn: Option<Turn<'a, V>>,
     pub(crate) from: u64,
+}
+
+/// The same towards what is in front: the byte below which the turn's child is the last.
+#[derive(Drop)]
+pub(crate) struct Earlier<'a, V: Words + Drop> {
+    pub(crate) turn: Option<Turn<'a, V>>,
+    pub(crate) below: u64,
 }
 
 /// The turn to the child at a place of a branch whose keys begin at `base`, the first from a byte on; where there is none, the one before.
@@ -61,26 +68,34 @@ pub(crate) fn later_turn<'a, V: Words + Drop>(
     }
 }
 
-/// The turn to the child before a place of a branch whose keys begin at `base`; where there is none, the one before.
+/// The turn to the child before a place of a branch whose keys begin at `base`, the last below a byte; where there is none, the one
+/// before.
 pub(crate) fn earlier_turn<'a, V: Words + Drop>(
     branch: &'a BranchOf<V>,
     place: usize,
+    below: u64,
     base: u64,
-    before: Option<Turn<'a, V>>,
-) -> Option<Turn<'a, V>>
+    before: Earlier<'a, V>,
+) -> Earlier<'a, V>
     requires branch { IsBranch V.WORDS branch.now.width branch.now.skip branch.now.bytes branch.now.children.items branch.now.population }
     requires place { place ≤ length branch.now.children.items }
+    requires below { place ≡ set.rank branch.now.bytes below }
+    requires small { below ≤ 256 }
     requires fits { base + 256 ^ (length branch.now.skip + 1 + branch.now.width) ≤ 256 ^ 8 }
-    requires before { IsTurnIfAny V.WORDS before }
-    ensures turn { IsTurnIfAny V.WORDS result }
-    ensures pair { earlier_pair result ≡ option_or (last_pair (shift base (join (256 ^ branch.now.width) (number_of branch.now.skip * 256) (take place branch.now.bytes) (take place branch.now.children.items)))) (earlier_pair before.entry) }
+    requires before { IsEarlier V.WORDS before }
+    ensures turn { IsEarlier V.WORDS result }
+    ensures pair { earlier_pair result.turn ≡ option_or (last_pair (shift base (join (256 ^ branch.now.width) (number_of branch.now.skip * 256) (take place branch.now.bytes) (take place branch.now.children.items)))) (earlier_pair before.entry.turn) }
 {
     if place > 0 {
-        Some(Turn {
+        let turn = Turn {
             branch,
             place: place - 1,
             base,
-        })
+        };
+        Earlier {
+            turn: Some(turn),
+            below,
+        }
     } else {
         before
     }
@@ -105,18 +120,21 @@ pub(crate) fn least<V: Words + Drop>(
     Some(turn.entry_at(start, 0, meter))
 }
 
-/// The last pair of that child.
+/// The last pair of the child that a turn leads to, which is the last below a byte.
+#[inline(always)]
 pub(crate) fn greatest<V: Words + Drop>(
     turn: Option<Turn<'_, V>>,
+    below: u64,
     meter: &mut Meter,
 ) -> Option<(u64, u64)>
     requires turn { IsTurnIfAny V.WORDS turn }
+    requires below { IsLastBelow turn below }
     requires room { meter.old ≤ 2 ^ 64 - 9 }
     ensures entry { result ≡ earlier_pair turn.entry }
     ensures visits { meter.new ≤ meter.old + 8 }
 {
     let turn = turn?;
-    let start = start_of(turn.branch, turn.place);
+    let start = start_below(turn.branch, turn.place, below);
     Some(turn.entry_at(start, turn.len() - 1, meter))
 }
 
