@@ -7,7 +7,7 @@ ghost use Rattle.judy_query.specs.Maps.{map_of};
 
 use crate::branches::{byte_behind, reached};
 use crate::ends::from_in;
-use crate::turns::{Later, later_turn, least};
+use crate::turns::{later_turn, least};
 use judy_bits::Meter;
 use judy_leaf::Words;
 use judy_node::{NodeOf, Step, ViewOf};
@@ -39,10 +39,7 @@ pub fn entry_at_or_after<V: Words + Drop>(
         ViewOf::Branch(top) => (top, key),
         view => return from_in(&view, key),
     };
-    let mut later = Later {
-        turn: None,
-        from: 0,
-    };
+    let mut later = None;
     'down: loop {
         let (branch, left) = at;
         let step = branch.step(left);
@@ -54,13 +51,13 @@ pub fn entry_at_or_after<V: Words + Drop>(
             later,
         );
         let Step::Child(_, place, rest) = step else {
-            return least(later.turn, later.from, meter);
+            return least(later, meter);
         };
         match branch.children[place].enter(branch.width, meter) {
             ViewOf::Branch(below) => at = (below, rest),
             view => {
                 let Some(found) = from_in(&view, rest) else {
-                    return least(later.turn, later.from, meter);
+                    return least(later, meter);
                 };
                 return Some((key - rest + found.0, found.1));
             }

@@ -7,7 +7,7 @@ ghost use Rattle.judy_query.specs.Maps.{map_of};
 
 use crate::branches::{byte_passed, passed};
 use crate::ends::up_to_in;
-use crate::turns::{Earlier, earlier_turn, greatest};
+use crate::turns::{earlier_turn, greatest};
 use judy_bits::Meter;
 use judy_leaf::Words;
 use judy_node::{NodeOf, Step, ViewOf};
@@ -39,10 +39,7 @@ pub fn entry_at_or_before<V: Words + Drop>(
         ViewOf::Branch(top) => (top, key),
         view => return up_to_in(&view, key),
     };
-    let mut earlier = Earlier {
-        turn: None,
-        below: 0,
-    };
+    let mut earlier = None;
     'down: loop {
         let (branch, left) = at;
         let step = branch.step(left);
@@ -54,13 +51,13 @@ pub fn entry_at_or_before<V: Words + Drop>(
             earlier,
         );
         let Step::Child(_, place, rest) = step else {
-            return greatest(earlier.turn, earlier.below, meter);
+            return greatest(earlier, meter);
         };
         match branch.children[place].enter(branch.width, meter) {
             ViewOf::Branch(below) => at = (below, rest),
             view => {
                 let Some(found) = up_to_in(&view, rest) else {
-                    return greatest(earlier.turn, earlier.below, meter);
+                    return greatest(earlier, meter);
                 };
                 return Some((key - rest + found.0, found.1));
             }

@@ -79,8 +79,8 @@ pub(crate) fn start_from<V: Words + Drop>(branch: &BranchOf<V>, place: usize, fr
     start_at(branch, byte_from(branch, place, from))
 }
 
-// The byte of the first child from a byte on, whose place is known. Where all 256 children stand, that place is the byte.
-fn byte_from<V: Words + Drop>(branch: &BranchOf<V>, place: usize, from: u64) -> u8
+/// The byte of the first child from a byte on, whose place is known. Where all 256 children stand, that place is the byte.
+pub(crate) fn byte_from<V: Words + Drop>(branch: &BranchOf<V>, place: usize, from: u64) -> u8
     requires branch { IsBranch V.WORDS branch.now.width branch.now.skip branch.now.bytes branch.now.children.items branch.now.population }
     requires place { place < length branch.now.children.items }
     requires from { place ≡ set.rank branch.now.bytes from }
@@ -124,8 +124,8 @@ fn byte_below<V: Words + Drop>(branch: &BranchOf<V>, place: usize, below: u64) -
     }
 }
 
-// Where the keys of the child of a byte begin.
-fn start_at<V: Words + Drop>(branch: &BranchOf<V>, byte: u8) -> u64
+/// Where the keys of the child of a byte begin.
+pub(crate) fn start_at<V: Words + Drop>(branch: &BranchOf<V>, byte: u8) -> u64
     requires branch { IsBranch V.WORDS branch.now.width branch.now.skip branch.now.bytes branch.now.children.items branch.now.population }
     requires byte { (place : ℕ) × (place < length branch.now.children.items) × (slice_get branch.now.bytes place ≡ Some byte) }
     ensures { result ≡ (number_of branch.now.skip * 256 + byte) * 256 ^ branch.now.width }

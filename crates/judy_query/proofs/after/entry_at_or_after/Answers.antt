@@ -1,4 +1,4 @@
-use Rattle.std.proofs.Common.{◌≡◌, suc, ◌-◌, ◌*◌, ◌^◌, [], length, slice_get, sym, refl, ap, ◌∙◌, subst, arith, is_ge}
+use Rattle.std.proofs.Common.{◌≡◌, suc, ◌-◌, ◌*◌, ◌^◌, [], length, slice_get, sym, refl, ap, ◌∙◌, arith, is_ge}
 use Rattle.std.specs.Option.{option_or}
 use Rattle.judy_model.specs.Keys.{word_order}
 use Rattle.judy_model.specs.WordBytes.{number_of}
@@ -17,7 +17,7 @@ pub down-init : goal.down-init
 down-init g c =
     let down = down_root g.V.Words.WORDS c.args.tree.now (Branch c.in-Branch.top) c.args.key c.told.ensures c.in-Branch.ensures.view (omega (arith, c.ranges.key)) in
     let narrow = down.shown.narrow in
-    (down, refl, (tt, tt), omega (arith, c.enter.ensures.visits))
+    (down, refl, tt, omega (arith, c.enter.ensures.visits))
 
 pub reached-requires : goal.reached-requires
 reached-requires g c =

@@ -17,7 +17,7 @@ pub down-init : goal.down-init
 down-init g c =
     let down = down_root g.V.Words.WORDS c.args.tree.now (Branch c.in-Branch.top) c.args.key c.told.ensures c.in-Branch.ensures.view (omega (arith, c.ranges.key)) in
     let narrow = down.shown.narrow in
-    (down, refl, (tt, tt), omega (arith, c.enter.ensures.visits))
+    (down, refl, tt, omega (arith, c.enter.ensures.visits))
 
 pub earlier_turn-earlier-requires-clause-place : goal.earlier_turn-earlier-requires-clause-place
 earlier_turn-earlier-requires-clause-place g c =
