@@ -105,13 +105,16 @@ impl<'a> BitsRef<'a> {
     }
 
     /// The nearest member at or above the byte.
+    // Mostly it stands in the byte's own word, and no other is looked at.
     pub fn next_from(&self, byte: u8) -> Option<u8>
         ensures { result ≡ set.next_from self.now byte }
     {
         let first = (byte / 64) as usize;
-        for word in first..4 {
-            let from = (byte as usize).saturating_sub(64 * word);
-            if let Some(place) = lowest_from(self.words[word], from) {
+        if let Some(place) = lowest_from(self.words[first], (byte % 64) as usize) {
+            return Some((64 * first + place) as u8);
+        }
+        for word in first + 1..4 {
+            if let Some(place) = lowest_from(self.words[word], 0) {
                 return Some((64 * word + place) as u8);
             }
         }

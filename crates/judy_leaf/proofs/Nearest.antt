@@ -1,5 +1,5 @@
 -- The nearest among ascending keys and pairs, by rank.
-use Rattle.std.proofs.Common.{◌≡◌, ◌≢◌, ℕ, zero, suc, ◌+◌, ◌<◌, ◌≤◌, ⊎_elim, Bool, true, false, cond, nat_lt, nat_le, List, [], ◌∷◌, length, filter, get_or, slice_get, Some, None, refl, ap, sym, ◌∙◌, subst, arith, true≢false, is_lt, is_le, Less, Ordering, ltb-true, leb-true, lt-ltb, le-leb}
+use Rattle.std.proofs.Common.{◌≡◌, ◌≢◌, ℕ, zero, suc, ◌+◌, ◌-◌, ◌<◌, ◌≤◌, ⊎_elim, Bool, true, false, cond, nat_lt, nat_le, List, [], ◌∷◌, length, filter, get_or, slice_get, Some, None, refl, ap, sym, ◌∙◌, subst, arith, true≢false, is_lt, is_le, Less, Ordering, ltb-true, leb-true, lt-ltb, le-leb}
 use Rattle.std.specs.List.{AllByRecursion}
 use Rattle.std.specs.List.Sorted.{IsStrictlySortedBy}
 use Rattle.std.specs.Cmp.{nat_cmp_total}
@@ -9,7 +9,7 @@ use Rattle.judy_model.specs.Keys.{word_order}
 use Rattle.judy_model.proofs.Orders.{ge_is_not_lt}
 use Rattle.judy_model.proofs.WordOrder.{is_lt_word, is_le_word}
 use Rattle.judy_model.proofs.Ascending.{Among, find_agree}
-use Rattle.judy_model.proofs.Places.{before_place, before_place-suc, find_at_count, find_before_count, lt-IsDownward, le-IsDownward, filter_agree_among, up_to_place}
+use Rattle.judy_model.proofs.Places.{length-filter-le, before_place, before_place-suc, find_at_count, find_before_count, lt-IsDownward, le-IsDownward, filter_agree_among, up_to_place}
 use Rattle.judy_bits.specs.ByteSets as set
 use Rattle.judy_bits.proofs.SetLemmas.{has_at, has-among, slice_get-rank}
 use Rattle.judy_leaf.specs.KeyLists.{keys_of, values_of}
@@ -142,6 +142,39 @@ module _ (pairs : List (ℕ × ℕ)) (ascending : IsStrictlySortedBy word_order 
 
       past : length (keys_of pairs) ≤ at
       past = ⊎_elim (λ found. absurd (none-some found.0 (none ∙ next_place ∙ found.2))) (λ past. past.0) (slice_get_cases (keys_of pairs) at).1
+
+  previous_place : set.prev_from (keys_of pairs) number ≡ before_place (keys_of pairs) (set.count_up_to (keys_of pairs) number)
+  previous_place = find_before_count word_order (λ key. is_le (word_order key number)) (λ x y less passes. le-IsDownward nat_cmp_total number x y less passes) (keys_of pairs) ascending
+
+  -- The key that it finds stands just before as many as are up to the number.
+  before_there : (at key : ℕ) → at + 1 ≡ set.count_up_to (keys_of pairs) number → Some key ≡ set.prev_from (keys_of pairs) number → slice_get (keys_of pairs) at ≡ Some key
+  before_there at key counted is =
+      let next : suc at ≡ at + 1 = omega arith in
+      sym (before_place-suc (keys_of pairs) at) ∙ ap (before_place (keys_of pairs)) (next ∙ counted) ∙ sym (is ∙ previous_place)
+
+  pub previous_some : (key count : ℕ) → count ≡ set.count_up_to (keys_of pairs) number → Some key ≡ set.prev_from (keys_of pairs) number → 1 ≤ count
+  previous_some key zero counted is = absurd (none-some key (ap (before_place (keys_of pairs)) counted ∙ sym (is ∙ previous_place)))
+  previous_some key (suc count) counted is = omega arith
+
+  pub previous_member : (at key value : ℕ) → at + 1 ≡ set.count_up_to (keys_of pairs) number → Some key ≡ set.prev_from (keys_of pairs) number → value ≡ get_or (values_of pairs) at 0 → Some (key, value) ≡ pair_up_to pairs number
+  previous_member at key value counted is is_value =
+      let there = before_there at key counted is in
+      let inside = slice_get_within (keys_of pairs) at key there in
+      previous_found at key value counted (subst (λ n. at < n) (length-keys_of pairs) inside) (same_Some key (get_or (keys_of pairs) at 0) (sym there ∙ slice_get-get_or (keys_of pairs) at 0 inside)) is_value
+
+  pub no_previous_member : None ≡ set.prev_from (keys_of pairs) number → None ≡ pair_up_to pairs number
+  no_previous_member none = ⊎_elim
+      (λ (no : set.count_up_to (keys_of pairs) number ≡ 0). previous_none no)
+      (λ apart. ⊎_elim
+      (λ less. let never : ⊥ = omega arith in absurd never)
+      (λ more.
+      let at = set.count_up_to (keys_of pairs) number - 1 in
+      let counted : suc at ≡ set.count_up_to (keys_of pairs) number = omega arith in
+      let few = length-filter-le (λ key. is_le (word_order key number)) (keys_of pairs) in
+      let there = slice_get-get_or (keys_of pairs) at 0 (omega arith) in
+      absurd (none-some (get_or (keys_of pairs) at 0) (none ∙ previous_place ∙ ap (before_place (keys_of pairs)) (sym counted) ∙ before_place-suc (keys_of pairs) at ∙ there)))
+      apart)
+      (cases_order (set.count_up_to (keys_of pairs) number) 0)
 
 -- ---- the same from the keys as they stand
 

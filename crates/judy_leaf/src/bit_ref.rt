@@ -166,11 +166,14 @@ impl<'a, V: Words + Drop> BitRef<'a, V> {
     pub fn at_or_before(&self, number: u64) -> Option<(u64, u64)>
         ensures { result ≡ pair_up_to self.now.pairs number }
     {
-        let past = self.count_up_to(number);
-        if past == 0 {
-            None
-        } else {
-            Some((self.key_at(past - 1), self.value_at(past - 1)))
+        self.told();
+        let last = number.min(255) as u8;
+        match self.prev_from(last) {
+            Some(key) => Some((
+                u64::from(key),
+                self.value_at(self.count_up_to(u64::from(last)) - 1),
+            )),
+            None => None,
         }
     }
 

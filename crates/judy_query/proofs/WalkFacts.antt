@@ -13,7 +13,7 @@ use Rattle.judy_node.specs.declared.view.ViewOf.{ViewOf}
 use Rattle.judy_node.proofs.Maps.{children-length, length-shift, length-keys_of, shift-append, shift-shift}
 use Rattle.judy_node.specs.declared.view.ViewOf.TheVariants.{Null, One, Imm, Leaf, BitLeaf, Branch}
 use Rattle.judy_query.specs.Parts.{IsPart, IsStart, IsEnd, IsShown, width_of}
-use Rattle.judy_query.specs.Turns.{IsTurn}
+use Rattle.judy_query.specs.Turns.{IsTurn, IsFirst}
 use Rattle.judy_query.specs.Walks.{rest_of_turn, rest_if_any, waiting, IsTurnBehind, AreTurns}
 use Rattle.judy_query.specs.declared.turns.Turn.{Turn}
 use Rattle.judy_query.proofs.Downs.{kid_is, start_room, view_width, is_shown}
@@ -82,8 +82,8 @@ module _ {V : _} (words : ℕ) (old new : List (Option (Turn V))) (last : Option
     | Some turn ↦ λ is behind. ap waiting is ∙ waiting-push new (Some turn)
   ] taken apart.1
 
-  pub taken_turn : MatchOption last (0 ≤ 0) (λ turn. IsTurn words turn × (length new + 1 + turn.branch.now.width ≤ 8))
-  taken_turn = elim last as (λ turn. IsTurnBehind words (length new) turn → MatchOption turn (0 ≤ 0) (λ turn. IsTurn words turn × (length new + 1 + turn.branch.now.width ≤ 8))) [
+  pub taken_turn : MatchOption last (0 ≤ 0) (λ turn. IsTurn words turn × (length new + 1 + turn.branch.now.width ≤ 8) × IsFirst turn)
+  taken_turn = elim last as (λ turn. IsTurnBehind words (length new) turn → MatchOption turn (0 ≤ 0) (λ turn. IsTurn words turn × (length new + 1 + turn.branch.now.width ≤ 8) × IsFirst turn)) [
     | None ↦ λ behind. absurd behind
     | Some turn ↦ λ behind. behind
   ] apart.1

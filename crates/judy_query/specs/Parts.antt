@@ -50,6 +50,13 @@ reached all (Missing byte place rest) = place
 reached all Below = 0
 reached all Above = all
 
+-- Below which byte the children before the key are.
+abbrev pub byte_passed : Step → ℕ
+byte_passed (Child byte place rest) = byte
+byte_passed (Missing byte place rest) = byte
+byte_passed Below = 0
+byte_passed Above = 256
+
 -- From which byte on the children above the key are.
 abbrev pub byte_behind : Step → ℕ
 byte_behind (Child byte place rest) = byte + 1

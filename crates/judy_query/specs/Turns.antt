@@ -5,7 +5,6 @@ use Rattle.judy_bits.specs.ByteSets.{rank}
 use Rattle.judy_leaf.specs.KeyLists.{shift}
 use Rattle.judy_node.specs.Trees.{Pairs, join, IsBranch}
 use Rattle.judy_query.specs.declared.turns.Turn.{Turn}
-use Rattle.judy_query.specs.declared.turns.Later.{Later}
 
 -- The pairs of the child that a turn leads to, as the tree has them.
 abbrev pub turn_pairs : {V : _} → Turn V → Pairs
@@ -31,16 +30,20 @@ abbrev pub earlier_pair : {V : _} → Option (Turn V) → Option (ℕ × ℕ)
 earlier_pair None = None
 earlier_pair (Some turn) = last_pair (turn_pairs turn)
 
--- A turn, where there is one, is one.
-abbrev pub IsTurnIfAny : {V : _} → ℕ → Option (Turn V) → Type 0
-IsTurnIfAny words None = Unit {0}
-IsTurnIfAny words (Some turn) = IsTurn words turn
+-- The child that a turn leads to is the first from its edge on.
+abbrev pub IsFirst : {V : _} → Turn V → Type 0
+IsFirst turn = turn.place ≡ rank turn.branch.now.bytes turn.edge
 
--- The child that it leads to, where there is one, is the first from a byte on.
-abbrev pub IsFirstFrom : {V : _} → Option (Turn V) → ℕ → Type 0
-IsFirstFrom None from = Unit {0}
-IsFirstFrom (Some turn) from = turn.place ≡ rank turn.branch.now.bytes from
+-- It is the last below its edge.
+abbrev pub IsLast : {V : _} → Turn V → Type 0
+IsLast turn = (turn.place + 1 ≡ rank turn.branch.now.bytes turn.edge) × (turn.edge ≤ 256)
 
--- A turn, where there is one, with the byte from which on its child is the first.
-abbrev pub IsLater : {V : _} → ℕ → Later V → Type 0
-IsLater words later = IsTurnIfAny words later.turn × IsFirstFrom later.turn later.from
+-- A turn, where there is one, to what is behind the way.
+abbrev pub IsLater : {V : _} → ℕ → Option (Turn V) → Type 0
+IsLater words None = Unit {0}
+IsLater words (Some turn) = IsTurn words turn × IsFirst turn
+
+-- A turn, where there is one, to what is in front of it.
+abbrev pub IsEarlier : {V : _} → ℕ → Option (Turn V) → Type 0
+IsEarlier words None = Unit {0}
+IsEarlier words (Some turn) = IsTurn words turn × IsLast turn

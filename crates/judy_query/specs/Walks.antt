@@ -9,7 +9,7 @@ use Rattle.judy_node.specs.declared.view.ViewOf.{ViewOf}
 use Rattle.judy_node.specs.declared.view.ViewOf.TheVariants.{Null, One, Imm, Leaf, BitLeaf, Branch}
 use Rattle.judy_query.specs.declared.turns.Turn.{Turn}
 use Rattle.judy_query.specs.Parts.{IsEnd, IsShown, width_of}
-use Rattle.judy_query.specs.Turns.{IsTurn}
+use Rattle.judy_query.specs.Turns.{IsTurn, IsFirst}
 
 -- The pairs of the child that a turn leads to and of those behind it in its branch, as the tree has them.
 abbrev pub rest_of_turn : {V : _} → Turn V → Pairs
@@ -27,7 +27,7 @@ waiting (turn ∷ turns) = waiting turns ++ rest_if_any turn
 -- There is a turn behind so many others, and the nodes below its branch are few enough for one more each.
 abbrev pub IsTurnBehind : {V : _} → ℕ → ℕ → Option (Turn V) → Type 0
 IsTurnBehind words before None = ⊥
-IsTurnBehind words before (Some turn) = IsTurn words turn × (before + 1 + turn.branch.now.width ≤ 8)
+IsTurnBehind words before (Some turn) = IsTurn words turn × (before + 1 + turn.branch.now.width ≤ 8) × IsFirst turn
 
 -- The turns of a walk, behind so many others.
 abbrev pub AreTurns : {V : _} → ℕ → ℕ → List (Option (Turn V)) → Type 0

@@ -7,7 +7,7 @@ ghost use Rattle.judy_query.specs.Maps.{map_of};
 
 use crate::branches::{byte_behind, reached};
 use crate::ends::from_in;
-use crate::turns::{Later, later_turn, least};
+use crate::turns::{later_turn, least};
 use judy_bits::Meter;
 use judy_leaf::Words;
 use judy_node::{NodeOf, Step, ViewOf};
@@ -35,13 +35,13 @@ pub fn entry_at_or_after<V: Words + Drop>(
     ensures visits { meter.new ≤ meter.old + 16 }
 {
     tree.told();
-    let mut view = tree.enter(meter);
-    let mut left = key;
-    let mut later = Later {
-        turn: None,
-        from: 0,
+    let mut at = match tree.enter(meter) {
+        ViewOf::Branch(top) => (top, key),
+        view => return from_in(&view, key),
     };
-    'down: while let ViewOf::Branch(branch) = view {
+    let mut later = None;
+    'down: loop {
+        let (branch, left) = at;
         let step = branch.step(left);
         later = later_turn(
             branch,
@@ -51,13 +51,16 @@ pub fn entry_at_or_after<V: Words + Drop>(
             later,
         );
         let Step::Child(_, place, rest) = step else {
-            return least(later.turn, later.from, meter);
+            return least(later, meter);
         };
-        left = rest;
-        view = branch.children[place].enter(branch.width, meter);
+        match branch.children[place].enter(branch.width, meter) {
+            ViewOf::Branch(below) => at = (below, rest),
+            view => {
+                let Some(found) = from_in(&view, rest) else {
+                    return least(later, meter);
+                };
+                return Some((key - rest + found.0, found.1));
+            }
+        }
     }
-    let Some(found) = from_in(&view, left) else {
-        return least(later.turn, later.from, meter);
-    };
-    Some((key - left + found.0, found.1))
 }

@@ -5,7 +5,7 @@ ghost use Rattle.judy_model.specs.Neighbours as neighbours;
 ghost use Rattle.judy_leaf.specs.Nearby.{pair_up_to};
 ghost use Rattle.judy_query.specs.Maps.{map_of};
 
-use crate::branches::passed;
+use crate::branches::{byte_passed, passed};
 use crate::ends::up_to_in;
 use crate::turns::{earlier_turn, greatest};
 use judy_bits::Meter;
@@ -35,20 +35,32 @@ pub fn entry_at_or_before<V: Words + Drop>(
     ensures visits { meter.new ≤ meter.old + 16 }
 {
     tree.told();
-    let mut view = tree.enter(meter);
-    let mut left = key;
-    let mut turn = None;
-    'down: while let ViewOf::Branch(branch) = view {
-        let step = branch.step(left);
-        turn = earlier_turn(branch, passed(branch, step), key - left, turn);
-        let Step::Child(_, place, rest) = step else {
-            return greatest(turn, meter);
-        };
-        left = rest;
-        view = branch.children[place].enter(branch.width, meter);
-    }
-    let Some(found) = up_to_in(&view, left) else {
-        return greatest(turn, meter);
+    let mut at = match tree.enter(meter) {
+        ViewOf::Branch(top) => (top, key),
+        view => return up_to_in(&view, key),
     };
-    Some((key - left + found.0, found.1))
+    let mut earlier = None;
+    'down: loop {
+        let (branch, left) = at;
+        let step = branch.step(left);
+        earlier = earlier_turn(
+            branch,
+            passed(branch, step),
+            byte_passed(step),
+            key - left,
+            earlier,
+        );
+        let Step::Child(_, place, rest) = step else {
+            return greatest(earlier, meter);
+        };
+        match branch.children[place].enter(branch.width, meter) {
+            ViewOf::Branch(below) => at = (below, rest),
+            view => {
+                let Some(found) = up_to_in(&view, rest) else {
+                    return greatest(earlier, meter);
+                };
+                return Some((key - rest + found.0, found.1));
+            }
+        }
+    }
 }

@@ -5,7 +5,7 @@ ghost use Rattle.judy_model.specs.WordBytes.{number_of};
 ghost use Rattle.judy_bits.specs.ByteSets as set;
 ghost use Rattle.judy_node.specs.Trees.{Tree, IsBranch};
 ghost use Rattle.judy_node.specs.Populations.{AreSums, HoldsNth};
-ghost use Rattle.judy_query.specs.Parts.{passed, reached, byte_behind, IsStart};
+ghost use Rattle.judy_query.specs.Parts.{passed, reached, byte_passed, byte_behind, IsStart};
 
 use judy_bits::moved_up;
 use judy_leaf::Words;
@@ -33,6 +33,18 @@ pub(crate) fn reached<V: Words + Drop>(branch: &BranchOf<V>, step: Step) -> usiz
         Step::Missing(_, place, _) => place,
         Step::Below => 0,
         Step::Above => branch.children.len(),
+    }
+}
+
+/// Below which byte the children before a key are, by its step; 256 where all are.
+pub(crate) fn byte_passed(step: Step) -> u64
+    ensures { result ≡ byte_passed step }
+{
+    match step {
+        Step::Child(byte, _, _) => u64::from(byte),
+        Step::Missing(byte, _, _) => u64::from(byte),
+        Step::Below => 0,
+        Step::Above => 256,
     }
 }
 
@@ -67,8 +79,8 @@ pub(crate) fn start_from<V: Words + Drop>(branch: &BranchOf<V>, place: usize, fr
     start_at(branch, byte_from(branch, place, from))
 }
 
-// The byte of the first child from a byte on, whose place is known. Where all 256 children stand, that place is the byte.
-fn byte_from<V: Words + Drop>(branch: &BranchOf<V>, place: usize, from: u64) -> u8
+/// The byte of the first child from a byte on, whose place is known. Where all 256 children stand, that place is the byte.
+pub(crate) fn byte_from<V: Words + Drop>(branch: &BranchOf<V>, place: usize, from: u64) -> u8
     requires branch { IsBranch V.WORDS branch.now.width branch.now.skip branch.now.bytes branch.now.children.items branch.now.population }
     requires place { place < length branch.now.children.items }
     requires from { place ≡ set.rank branch.now.bytes from }
@@ -83,8 +95,37 @@ fn byte_from<V: Words + Drop>(branch: &BranchOf<V>, place: usize, from: u64) -> 
     }
 }
 
-// Where the keys of the child of a byte begin.
-fn start_at<V: Words + Drop>(branch: &BranchOf<V>, byte: u8) -> u64
+/// The same for the last child below a byte, whose place is known: its own byte is the one before in the set.
+pub(crate) fn start_below<V: Words + Drop>(branch: &BranchOf<V>, place: usize, below: u64) -> u64
+    requires branch { IsBranch V.WORDS branch.now.width branch.now.skip branch.now.bytes branch.now.children.items branch.now.population }
+    requires place { place < length branch.now.children.items }
+    requires below { place + 1 ≡ set.rank branch.now.bytes below }
+    requires small { below ≤ 256 }
+    ensures { IsStart (256 ^ branch.now.width) (number_of branch.now.skip * 256) branch.now.bytes place result }
+{
+    start_at(branch, byte_below(branch, place, below))
+}
+
+// The byte of the last child below a byte, whose place is known. Where all 256 children stand, that place is the byte.
+fn byte_below<V: Words + Drop>(branch: &BranchOf<V>, place: usize, below: u64) -> u8
+    requires branch { IsBranch V.WORDS branch.now.width branch.now.skip branch.now.bytes branch.now.children.items branch.now.population }
+    requires place { place < length branch.now.children.items }
+    requires below { place + 1 ≡ set.rank branch.now.bytes below }
+    requires small { below ≤ 256 }
+    ensures { slice_get branch.now.bytes place ≡ Some result }
+{
+    if branch.children.len() == 256 {
+        return branch.byte_at(place);
+    }
+    let last = below - 1;
+    match branch.bytes.prev_from(last as u8) {
+        Some(byte) => byte,
+        None => unreachable!(),
+    }
+}
+
+/// Where the keys of the child of a byte begin.
+pub(crate) fn start_at<V: Words + Drop>(branch: &BranchOf<V>, byte: u8) -> u64
     requires branch { IsBranch V.WORDS branch.now.width branch.now.skip branch.now.bytes branch.now.children.items branch.now.population }
     requires byte { (place : ℕ) × (place < length branch.now.children.items) × (slice_get branch.now.bytes place ≡ Some byte) }
     ensures { result ≡ (number_of branch.now.skip * 256 + byte) * 256 ^ branch.now.width }

@@ -7,28 +7,23 @@ ghost use Rattle.judy_bits.specs.ByteSets as set;
 ghost use Rattle.judy_leaf.specs.KeyLists.{shift};
 ghost use Rattle.judy_node.specs.Trees.{join, IsBranch};
 ghost use Rattle.judy_query.specs.Parts.{IsStart};
-ghost use Rattle.judy_query.specs.Turns.{turn_pairs, IsTurn, IsTurnIfAny, IsFirstFrom, IsLater, last_pair, later_pair, earlier_pair};
+ghost use Rattle.judy_query.specs.Turns.{turn_pairs, IsTurn, IsLater, IsEarlier, last_pair, later_pair, earlier_pair};
 
-use crate::branches::{start_from, start_of};
+use crate::branches::{start_below, start_from};
 use crate::places::entry_below;
 use judy_bits::Meter;
 use judy_leaf::Words;
 use judy_node::BranchOf;
 
-/// A child beside the way: its branch, its place there, and where the keys of the branch begin.
+/// A child beside the way: its branch, its place there, and where the keys of the branch begin. Its own byte is found without a count,
+/// from its edge: the byte from which on it is the first child, for what is behind the way, or below which it is the last, for what is
+/// in front.
 #[derive(Drop)]
 pub(crate) struct Turn<'a, V: Words + Drop> {
     pub(crate) branch: &'a BranchOf<V>,
     pub(crate) place: usize,
     pub(crate) base: u64,
-}
-
-/// A turn, if there was any, and the byte from which on its child is the first in its branch: so the child's own byte is found without a
-/// count.
-#[derive(Drop)]
-pub(crate) struct Later<'a, V: Words + Drop> {
-    pub(crate) turn: Option<Turn<'a, V>>,
-    pub(crate) from: u64,
+    pub(crate) edge: u64,
 }
 
 /// The turn to the child at a place of a branch whose keys begin at `base`, the first from a byte on; where there is none, the one before.
@@ -37,42 +32,43 @@ pub(crate) fn later_turn<'a, V: Words + Drop>(
     place: usize,
     from: u64,
     base: u64,
-    before: Later<'a, V>,
-) -> Later<'a, V>
+    before: Option<Turn<'a, V>>,
+) -> Option<Turn<'a, V>>
     requires branch { IsBranch V.WORDS branch.now.width branch.now.skip branch.now.bytes branch.now.children.items branch.now.population }
     requires from { place ≡ set.rank branch.now.bytes from }
     requires fits { base + 256 ^ (length branch.now.skip + 1 + branch.now.width) ≤ 256 ^ 8 }
     requires before { IsLater V.WORDS before }
     ensures turn { IsLater V.WORDS result }
-    ensures pair { later_pair result.turn ≡ option_or (slice_get (shift base (join (256 ^ branch.now.width) (number_of branch.now.skip * 256) (drop place branch.now.bytes) (drop place branch.now.children.items))) 0) (later_pair before.entry.turn) }
+    ensures pair { later_pair result ≡ option_or (slice_get (shift base (join (256 ^ branch.now.width) (number_of branch.now.skip * 256) (drop place branch.now.bytes) (drop place branch.now.children.items))) 0) (later_pair before.entry) }
 {
     if place < branch.children.len() {
-        let turn = Turn {
+        Some(Turn {
             branch,
             place,
             base,
-        };
-        Later {
-            turn: Some(turn),
-            from,
-        }
+            edge: from,
+        })
     } else {
         before
     }
 }
 
-/// The turn to the child before a place of a branch whose keys begin at `base`; where there is none, the one before.
+/// The turn to the child before a place of a branch whose keys begin at `base`, the last below a byte; where there is none, the one
+/// before.
 pub(crate) fn earlier_turn<'a, V: Words + Drop>(
     branch: &'a BranchOf<V>,
     place: usize,
+    below: u64,
     base: u64,
     before: Option<Turn<'a, V>>,
 ) -> Option<Turn<'a, V>>
     requires branch { IsBranch V.WORDS branch.now.width branch.now.skip branch.now.bytes branch.now.children.items branch.now.population }
     requires place { place ≤ length branch.now.children.items }
+    requires below { place ≡ set.rank branch.now.bytes below }
+    requires small { below ≤ 256 }
     requires fits { base + 256 ^ (length branch.now.skip + 1 + branch.now.width) ≤ 256 ^ 8 }
-    requires before { IsTurnIfAny V.WORDS before }
-    ensures turn { IsTurnIfAny V.WORDS result }
+    requires before { IsEarlier V.WORDS before }
+    ensures turn { IsEarlier V.WORDS result }
     ensures pair { earlier_pair result ≡ option_or (last_pair (shift base (join (256 ^ branch.now.width) (number_of branch.now.skip * 256) (take place branch.now.bytes) (take place branch.now.children.items)))) (earlier_pair before.entry) }
 {
     if place > 0 {
@@ -80,43 +76,43 @@ pub(crate) fn earlier_turn<'a, V: Words + Drop>(
             branch,
             place: place - 1,
             base,
+            edge: below,
         })
     } else {
         before
     }
 }
 
-/// The first pair of the child that a turn leads to, which is the first from a byte on.
+/// The first pair of the child that a turn leads to.
 // Inside the search that asks for it a turn needn't be put together in memory.
 #[inline(always)]
 pub(crate) fn least<V: Words + Drop>(
     turn: Option<Turn<'_, V>>,
-    from: u64,
     meter: &mut Meter,
 ) -> Option<(u64, u64)>
-    requires turn { IsTurnIfAny V.WORDS turn }
-    requires from { IsFirstFrom turn from }
+    requires turn { IsLater V.WORDS turn }
     requires room { meter.old ≤ 2 ^ 64 - 9 }
     ensures entry { result ≡ later_pair turn.entry }
     ensures visits { meter.new ≤ meter.old + 8 }
 {
     let turn = turn?;
-    let start = start_from(turn.branch, turn.place, from);
+    let start = start_from(turn.branch, turn.place, turn.edge);
     Some(turn.entry_at(start, 0, meter))
 }
 
 /// The last pair of that child.
+#[inline(always)]
 pub(crate) fn greatest<V: Words + Drop>(
     turn: Option<Turn<'_, V>>,
     meter: &mut Meter,
 ) -> Option<(u64, u64)>
-    requires turn { IsTurnIfAny V.WORDS turn }
+    requires turn { IsEarlier V.WORDS turn }
     requires room { meter.old ≤ 2 ^ 64 - 9 }
     ensures entry { result ≡ earlier_pair turn.entry }
     ensures visits { meter.new ≤ meter.old + 8 }
 {
     let turn = turn?;
-    let start = start_of(turn.branch, turn.place);
+    let start = start_below(turn.branch, turn.place, turn.edge);
     Some(turn.entry_at(start, turn.len() - 1, meter))
 }
 

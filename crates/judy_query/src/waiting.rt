@@ -2,9 +2,10 @@
 
 ghost use Rattle.std.specs.Prelude.{◌≡◌, ◌+◌, ◌*◌, ◌^◌, ◌<◌, ◌≤◌, [], ◌++◌, length, drop, MatchOption};
 ghost use Rattle.judy_model.specs.WordBytes.{number_of};
+ghost use Rattle.judy_bits.specs.ByteSets as set;
 ghost use Rattle.judy_leaf.specs.KeyLists.{shift};
 ghost use Rattle.judy_node.specs.Trees.{join, IsBranch};
-ghost use Rattle.judy_query.specs.Turns.{IsTurn};
+ghost use Rattle.judy_query.specs.Turns.{IsTurn, IsFirst};
 ghost use Rattle.judy_query.specs.Walks.{rest_of_turn, waiting, AreTurns};
 
 use crate::turns::Turn;
@@ -16,14 +17,16 @@ use judy_node::BranchOf;
 /// the one before. An empty place stands for itself alone: none is ever put there.
 pub(crate) type Turns<'a, V> = ArrayVec<Option<Turn<'a, V>>, 8>;
 
-/// Keeps the children of a branch from a place on, if there are any. The branch stands below those of all turns.
+/// Keeps the children of a branch from a place on, the first from a byte on, if there are any. The branch stands below those of all turns.
 pub(crate) fn keep<'a, V: Words + Drop>(
     branch: &'a BranchOf<V>,
     place: usize,
+    from: u64,
     base: u64,
     turns: &mut Turns<'a, V>,
 )
     requires branch { IsBranch V.WORDS branch.now.width branch.now.skip branch.now.bytes branch.now.children.items branch.now.population }
+    requires from { place ≡ set.rank branch.now.bytes from }
     requires fits { base + 256 ^ (length branch.now.skip + 1 + branch.now.width) ≤ 256 ^ 8 }
     requires turns { AreTurns V.WORDS 0 turns.old.items }
     requires room { length turns.old.items + 1 + branch.now.width ≤ 8 }
@@ -36,6 +39,7 @@ pub(crate) fn keep<'a, V: Words + Drop>(
             branch,
             place,
             base,
+            edge: from,
         }));
     }
 }
@@ -45,7 +49,7 @@ pub(crate) fn take<'a, V: Words + Drop>(turns: &mut Turns<'a, V>) -> Option<Turn
     requires turns { AreTurns V.WORDS 0 turns.old.items }
     ensures turns { AreTurns V.WORDS 0 turns.new.items }
     ensures pairs { MatchOption result ((waiting turns.old.items ≡ []) × (waiting turns.new.items ≡ [])) (λ turn. waiting turns.old.items ≡ rest_of_turn turn ++ waiting turns.new.items) }
-    ensures turn { MatchOption result (0 ≤ 0) (λ turn. IsTurn V.WORDS turn × (length turns.new.items + 1 + turn.branch.now.width ≤ 8)) }
+    ensures turn { MatchOption result (0 ≤ 0) (λ turn. IsTurn V.WORDS turn × (length turns.new.items + 1 + turn.branch.now.width ≤ 8) × IsFirst turn) }
 {
     turns.pop()?
 }

@@ -5,10 +5,10 @@ ghost use Rattle.judy_bits.specs.ByteSets as set;
 ghost use Rattle.judy_leaf.specs.KeyLists.{shift, keys_of};
 ghost use Rattle.judy_node.specs.Views.{view_pairs};
 ghost use Rattle.judy_query.specs.Parts.{IsShown, width_of};
-ghost use Rattle.judy_query.specs.Turns.{IsTurn};
+ghost use Rattle.judy_query.specs.Turns.{IsTurn, IsFirst};
 ghost use Rattle.judy_query.specs.Walks.{rest_of_turn, waiting, AreTurns};
 
-use crate::branches::{reached, start_of};
+use crate::branches::{byte_behind, byte_from, reached, start_at};
 use crate::ends::rank_in;
 use crate::stretch::Stretch;
 use crate::turns::Turn;
@@ -79,7 +79,13 @@ fn seek<'a, V: Words + Drop>(tree: &'a NodeOf<V>, key: u64, mut turns: Turns<'a,
     let mut left = key;
     'down: while let ViewOf::Branch(branch) = view {
         let step = branch.step(left);
-        keep(branch, reached(branch, step), key - left, &mut turns);
+        keep(
+            branch,
+            reached(branch, step),
+            byte_behind(step),
+            key - left,
+            &mut turns,
+        );
         let Step::Child(_, place, rest) = step else {
             let stretch = Stretch::new(ViewOf::Null, 0, 0);
             return Walk { stretch, turns };
@@ -95,6 +101,7 @@ fn seek<'a, V: Words + Drop>(tree: &'a NodeOf<V>, key: u64, mut turns: Turns<'a,
 // The pairs of the first node without children among those that a turn leads to; the others are kept.
 fn first_from<'a, V: Words + Drop>(turn: Turn<'a, V>, turns: &mut Turns<'a, V>) -> Stretch<'a, V>
     requires turn { IsTurn V.WORDS turn }
+    requires first { IsFirst turn }
     requires turns { AreTurns V.WORDS 0 turns.old.items }
     requires room { length turns.old.items + 1 + turn.branch.now.width ≤ 8 }
     ensures turns { AreTurns V.WORDS 0 turns.new.items }
@@ -105,10 +112,12 @@ fn first_from<'a, V: Words + Drop>(turn: Turn<'a, V>, turns: &mut Turns<'a, V>) 
         branch,
         place,
         base,
+        edge,
     } = turn;
-    keep(branch, place + 1, base, turns);
+    let byte = byte_from(branch, place, edge);
+    keep(branch, place + 1, u64::from(byte) + 1, base, turns);
     let view = branch.children[place].enter(branch.width, &mut Meter::new());
-    first_of(view, base + start_of(branch, place), turns)
+    first_of(view, base + start_at(branch, byte), turns)
 }
 
 // The pairs of the first node without children below a node that was entered; the others are kept.
@@ -129,8 +138,9 @@ fn first_of<'a, V: Words + Drop>(
     let mut view = top;
     let mut base = start;
     'down: while let ViewOf::Branch(branch) = view {
-        keep(branch, 1, base, turns);
-        base += start_of(branch, 0);
+        let byte = byte_from(branch, 0, 0);
+        keep(branch, 1, u64::from(byte) + 1, base, turns);
+        base += start_at(branch, byte);
         view = branch.children[0].enter(branch.width, &mut Meter::new());
     }
     Stretch::new(view, base, 0)

@@ -1,5 +1,6 @@
 use Rattle.std.proofs.Common.{◌≡◌, ℕ, suc, ◌-◌, ◌*◌, ◌^◌, [], ◌++◌, length, drop, sym, ap, ◌∙◌, subst, arith}
 use Rattle.judy_model.specs.WordBytes.{number_of}
+use Rattle.judy_bits.specs.ByteSets.{rank}
 use Rattle.judy_bits.proofs.FewLemmas.{rank-le}
 use Rattle.judy_leaf.specs.KeyLists.{shift, keys_of}
 use Rattle.judy_node.specs.Trees.{Pairs}
@@ -8,6 +9,7 @@ use Rattle.judy_node.proofs.Maps.{length-keys_of}
 use Rattle.judy_query.specs.Parts.{IsDown, width_of, passed, reached}
 use Rattle.judy_query.specs.Walks.{waiting, AreTurns}
 use Rattle.judy_query.proofs.Downs.{down_root, down_child, down_gap, child_inside, child_is, beside_is, branch_is, passed_few, beside_reached}
+use Rattle.judy_query.proofs.LaterFacts.{reached_rank}
 use Rattle.judy_query.proofs.Splits.{rest_of}
 use Rattle.judy_query.proofs.WalkFacts.{part-rest, end_is}
 use Rattle.judy_query.proofs.walk.seek.Goals as goal
@@ -26,6 +28,18 @@ reached-requires g c =
     let b = c.in-Branch.branch.now in
     let down = subst (λ v. IsDown words pairs v c.args.key c.down.left) c.in-Branch.is c.down.invariant.0 in
     passed_few words b.width b.skip b.bytes b.children.items b.population c.down.left c.step-step.result (branch_is words pairs c.in-Branch.branch c.args.key c.down.left down) c.step-step.ensures
+
+pub keep-requires : goal.keep-requires
+keep-requires g c =
+    let words = g.V.Words.WORDS in
+    let pairs = c.args.tree.now.pairs in
+    let b = c.in-Branch.branch.now in
+    let down = subst (λ v. IsDown words pairs v c.args.key c.down.left) c.in-Branch.is c.down.invariant.0 in
+    let is = branch_is words pairs c.in-Branch.branch c.args.key c.down.left down in
+    let from = c.reached.ensures ∙ reached_rank words b.width b.skip b.bytes b.children.items b.population is c.down.left c.step-step.result c.step-step.ensures ∙ ap (rank b.bytes) (sym c.byte_behind.ensures) in
+    let here = ap width_of c.in-Branch.is in
+    let room = c.down.invariant.3 in
+    (omega arith, (is, (from, (down.part.fits, (c.down.invariant.2, omega arith)))))
 
 pub returns-in_default-step : goal.returns-in_default-step
 returns-in_default-step g c =
