@@ -117,6 +117,8 @@ pub(crate) fn entry_in<V: Words + Drop>(view: &ViewOf<'_, V>, at: u64) -> (u64, 
 }
 
 /// The nearest pair at or above a number.
+// Where a node was just entered its kind is known: by a call it would be written to memory and told anew.
+#[inline(always)]
 pub(crate) fn from_in<V: Words + Drop>(view: &ViewOf<'_, V>, key: u64) -> Option<(u64, u64)>
     requires end { IsEnd view.now }
     requires shown { IsShown V.WORDS view.now }
@@ -141,6 +143,8 @@ pub(crate) fn from_in<V: Words + Drop>(view: &ViewOf<'_, V>, key: u64) -> Option
 }
 
 /// The nearest pair at or below a number.
+// As `from_in`.
+#[inline(always)]
 pub(crate) fn up_to_in<V: Words + Drop>(view: &ViewOf<'_, V>, key: u64) -> Option<(u64, u64)>
     requires end { IsEnd view.now }
     requires shown { IsShown V.WORDS view.now }
