@@ -1,6 +1,6 @@
-use Rattle.std.proofs.Common.{◌≡◌, ◌+◌, ◌/◌, ◌%◌, ◌^◌, cond, Some, None, slice_index, count_ones, sym, ap, ◌∙◌}
+use Rattle.std.proofs.Common.{◌+◌, cond, Some, None, sym, ap, ◌∙◌}
 use Rattle.judy_bits.specs.BitWords.{members_of}
-use Rattle.judy_bits.specs.ByteSets.{has, rank, place}
+use Rattle.judy_bits.specs.ByteSets.{rank, place}
 use Rattle.judy_bits.proofs.MemberLemmas.{has-members_of, rank-members_of}
 use Rattle.judy_bits.proofs.TopLemmas.{some_bit, none_bit}
 use Rattle.judy_bits.proofs.bits_ref.BitsRef.place.Goals as goal
