@@ -10,3 +10,4 @@ pub mod AbsentLemmas
 pub mod ShiftLemmas
 pub mod SkipLemmas
 pub mod LaneLemmas
+pub mod TopLemmas

@@ -1,6 +1,7 @@
 //! The bits of one word, by steps on the whole word.
 
-ghost use Rattle.std.specs.Prelude.{◌≡◌, ◌<◌, ◌≤◌, ◌^◌, ◌-◌, ◌%◌, if◌then◌else◌, MatchOption, count_ones};
+ghost use Rattle.std.specs.Prelude.{◌≡◌, ◌<◌, ◌≤◌, ◌^◌, ◌-◌, ◌%◌, ◌==◌, if◌then◌else◌, Some, None, MatchOption, count_ones};
+ghost use Rattle.std.specs.Int.{bit_at};
 ghost use Rattle.judy_bits.specs.BitWords.{NoneFrom, IsLowestFrom, NoneBelow, IsHighestBelow, IsSelected};
 
 /// How many bits of a word are 1.
@@ -35,6 +36,20 @@ pub(crate) fn fewer_ones(count: usize) -> u64
     ensures { result ≡ 2 ^ count - 1 }
 {
     (1 << count) - 1
+}
+
+/// How many bits below a place are 1, where the bit there is 1 too; none where it is 0. The bits above the place are moved out of the word,
+/// so that its own becomes the highest.
+pub(crate) fn ones_below_one(word: u64, place: u8) -> Option<u32>
+    requires { place < 64 }
+    ensures { result ≡ (if bit_at word place == 1 then Some (count_ones (word % 2 ^ place)) else None) }
+{
+    let up_to = word << (63 - place);
+    if up_to >> 63 == 0 {
+        None
+    } else {
+        Some(up_to.count_ones() - 1)
+    }
 }
 
 /// The place of the lowest 1 that is at or above a place.

@@ -1,10 +1,12 @@
 //! A set of bytes as 256 bits in four words that stand elsewhere, where they are read one by one and not copied.
 
-ghost use Rattle.std.specs.Prelude.{◌≡◌, length};
+ghost use Rattle.std.specs.Prelude.{◌≡◌, ◌+◌, ◌%◌, ◌^◌, ◌≤◌, if◌then◌else◌, nat_lt, count_ones, slice_index, length};
 ghost use Rattle.judy_bits.specs.ByteSets as set;
 ghost use Rattle.judy_bits.specs.BitWords.{members_of};
 
-use crate::bits::{count, count_where, highest_below, low_ones, lowest_from, select};
+use crate::bits::{
+    count, count_where, highest_below, low_ones, lowest_from, ones_below_one, select,
+};
 use crate::bits256::Bits256;
 use std::marker::Model;
 
@@ -23,6 +25,17 @@ impl<'a> Model for BitsRef<'a> {
     ghost view = { λ a. members_of a.words.now };
 
     ghost invariant = { λ a. length a.words.now ≡ 4 };
+}
+
+// How many bits of the words before one of four are 1.
+fn ones_before(words: &[u64], word: usize) -> u32
+    requires four { length words.now ≡ 4 }
+    ensures counted { result ≡ (if nat_lt 0 word then count_ones (slice_index words.now 0 % 2 ^ 64) else 0) + (if nat_lt 1 word then count_ones (slice_index words.now 1 % 2 ^ 64) else 0) + (if nat_lt 2 word then count_ones (slice_index words.now 2 % 2 ^ 64) else 0) }
+    ensures within { result ≤ 192 }
+{
+    count_where(word > 0, words[0])
+        + count_where(word > 1, words[1])
+        + count_where(word > 2, words[2])
 }
 
 impl<'a> BitsRef<'a> {
@@ -47,20 +60,17 @@ impl<'a> BitsRef<'a> {
     {
         let word = (byte / 64) as usize;
         let here = self.words[word] & low_ones((byte % 64) as usize);
-        let words_below = count_where(word > 0, self.words[0])
-            + count_where(word > 1, self.words[1])
-            + count_where(word > 2, self.words[2]);
-        (words_below + here.count_ones()) as usize
+        (ones_before(self.words, word) + here.count_ones()) as usize
     }
 
-    /// The place of a member, which is its rank; none where the byte isn't a member.
+    /// The place of a member, which is its rank; none where the byte isn't a member, and then nothing is counted.
     pub fn place(&self, byte: u8) -> Option<usize>
         ensures { result ≡ set.place self.now byte }
     {
-        if self.has(byte) {
-            Some(self.rank(byte))
-        } else {
-            None
+        let word = (byte / 64) as usize;
+        match ones_below_one(self.words[word], byte % 64) {
+            Some(here) => Some((ones_before(self.words, word) + here) as usize),
+            None => None,
         }
     }
 

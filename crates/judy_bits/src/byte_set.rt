@@ -82,8 +82,7 @@ impl ByteSet {
     {
         match &self.members {
             Members::Linear(few) => few.place(byte),
-            Members::Bitmap(bits) => bits.place(byte),
-            Members::Full(bits) => bits.place(byte),
+            Members::Bitmap(bits) | Members::Full(bits) => bits.place(byte),
         }
     }
 
