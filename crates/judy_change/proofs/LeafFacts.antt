@@ -12,8 +12,8 @@ use Rattle.judy_model.proofs.FormLemmas.{tight-head}
 use Rattle.judy_bits.specs.ByteSets as set
 use Rattle.judy_block.specs.Contents.{Contents}
 use Rattle.judy_leaf.specs.KeyLists.{KeyList, keys_of, values_of, shift}
-use Rattle.judy_leaf.specs.Leaves.{leaf_list}
-use Rattle.judy_leaf.specs.BitLeaves.{bit_list}
+use Rattle.judy_leaf.specs.Leaves.{leaf_list, IsLeafParts}
+use Rattle.judy_leaf.specs.BitLeaves.{bit_list, IsBitParts}
 use Rattle.judy_node.specs.Trees.{Pairs, Tree, IsTight, IsMap, IsChild}
 use Rattle.judy_node.specs.Kinds.{imm_pairs, leaf_tree, IsLeaf, bit_width, bit_tree, IsBit}
 use Rattle.judy_node.proofs.Maps.{map-AllBelow, map-shift, length-shift, length-keys_of}
@@ -21,6 +21,7 @@ use Rattle.judy_node.proofs.Leaves.{leaf_long, leaf_width, bit_map, map_list}
 use Rattle.judy_node.proofs.KindFacts.{level-child}
 use Rattle.judy_node.specs.Kinds.{tree_of, IsLevel}
 use Rattle.judy_node.specs.declared.child.KindOf.{KindOf}
+use Rattle.judy_node.specs.declared.child.KindOf.TheVariants.{Leaf}
 use Rattle.judy_change.specs.LeafTrees.{one_leaf, one_bitmap}
 use Rattle.judy_node.proofs.Shaped.{tight-parts}
 use Rattle.judy_change.specs.Removals.{value_in, without, IsTightOf, IsGone, IsSettled}
@@ -131,6 +132,22 @@ module _ (words width key at count : ℕ) (block : Contents) (level : IsLeaf wor
         short = λ _ never. absurd (true≢false never);
       }
 
+  -- The leaf is changed where it stands, and is one still.
+  pub leaf_stays : (left : ℕ) (after : Contents) → IsLeafParts words left after → leaf_list words left after ≡ left_list (leaf_list words count block) at → immediate_limit words width + 1 < count → IsLeaf words left after
+  leaf_stays left after parts is many =
+      let fewer = (leaf_left (leaf_list words left after) is).fewer in
+      let wide = (leaf_left (leaf_list words left after) is).wide in
+      let long = leaf_long words left after parts in
+      let were = leaf_long words count block level.parts in
+      record { parts = parts; more = subst (λ w. immediate_limit words w < left) (sym wide) (omega arith) }
+
+  pub leaf_gone-here : (left value : ℕ) (after : Contents) → IsLeaf words left after → leaf_list words left after ≡ left_list (leaf_list words count block) at → value ≡ get_or (values_of (leaf_list words count block).pairs) at 0
+      → IsGone words width key (leaf_tree words count block) (leaf_tree words left after) value true
+  leaf_gone-here left value after stays is value_is =
+      let list = leaf_list words left after in
+      let kept = leaf_left list is in
+      leaf_gone value list (leaf_tree words left after) is value_is (leaf_tight {V = ℕ} words width list (Leaf left after) (leaf_tree words left after) stays refl kept.wide child.low_width child.high_width kept.map refl)
+
 -- ---- a bitmap leaf without a key
 
 pub bit_wide : (words width skipped : ℕ) (block : Contents) → IsBit words skipped block → IsChild words width (bit_tree words skipped block) → bit_width block ≡ width
@@ -165,6 +182,9 @@ module _ (words width key at skipped : ℕ) (block : Contents) (level : IsBit wo
   key_is : skipped * 256 + key % 256 ≡ key
   key_is = let same = along in omega arith
 
+  pub bit_there : slice_get (keys_of (bit_list words block).pairs) at ≡ Some (key % 256)
+  bit_there = stands words 1 (key % 256) at (bit_list words block).pairs (omega arith) (omega arith) inner_map place
+
   pub bit_within : at < length (bit_list words block).pairs
   bit_within = taken_within words 1 (key % 256) at (bit_list words block).pairs (omega arith) (omega arith) inner_map place
 
@@ -181,6 +201,13 @@ module _ (words width key at skipped : ℕ) (block : Contents) (level : IsBit wo
 
   pub bit_fits : key < 256 ^ width
   bit_fits = value-fits words 0 (256 ^ width) key (get_or (values_of (bit_list words block).pairs) at 0) (bit_tree words skipped block).pairs child.map bit_found
+
+  -- The bitmap leaf is changed where it stands, and is one still.
+  pub bit_stays : (after : Contents) → IsBitParts words after → bit_list words after ≡ left_list (bit_list words block) at → 33 < length (bit_list words block).pairs → IsBit words skipped after
+  bit_stays after parts is many =
+      let fewer = bit_fewer in
+      let long = ap (λ l. length l.pairs) is in
+      record { parts = parts; some = omega arith; skips = subst (λ w. skipped < 256 ^ (w - 1)) (sym (ap (λ l. l.width) is)) level.skips }
 
 -- The node of what is left.
 pub kind_left : {V : _} (words width key : ℕ) (old : Tree) (kind : KindOf V) → IsLevel words kind → IsChild words width old → (tree_of words kind).width ≡ width → (tree_of words kind).pairs ≡ without key old.pairs → IsChild words width (tree_of words kind)

@@ -1,6 +1,8 @@
 -- What it means to take a key out of a tree.
 use Rattle.std.specs.Prelude.{◌≡◌, ◌≢◌, ℕ, ◌+◌, ◌/◌, ◌^◌, ◌<◌, ◌≤◌, ◌==◌, if◌then◌else◌, Bool, true, false, Option, Some, None, [], ◌∷◌, length}
 use Rattle.judy_model.specs.Forms.{loose_in}
+use Rattle.judy_model.specs.Shapes.{immediate_limit}
+use Rattle.judy_leaf.specs.BitLeaves.{bit_list}
 use Rattle.judy_node.specs.Trees.{Pairs, Tree, IsTight, IsChild, IsBranch, branch_tree, branch_pairs, forms_in}
 use Rattle.judy_node.specs.declared.child.BranchOf.{BranchOf}
 use Rattle.judy_node.specs.declared.child.KindOf.{KindOf}
@@ -120,6 +122,14 @@ IsChildless (Imm head word) = Unit {0}
 IsChildless (Leaf count block) = Unit {0}
 IsChildless (Bit skipped block) = Unit {0}
 IsChildless (Branch b) = ⊥
+
+-- The node has no children, and may become one of another kind where it loses a key: it is an immediate, has at most one key more
+-- than an immediate holds, or is a bitmap leaf of at most 33 keys.
+abbrev pub IsShrinking : {V : _} → ℕ → ℕ → KindOf V → Type 0
+IsShrinking words width (Imm head word) = Unit {0}
+IsShrinking words width (Leaf count block) = count ≤ immediate_limit words width + 1
+IsShrinking words width (Bit skipped block) = length (bit_list words block).pairs ≤ 33
+IsShrinking words width (Branch b) = ⊥
 
 -- The node has children.
 abbrev pub IsParent : {V : _} → KindOf V → Type 0

@@ -7,13 +7,15 @@ ghost use Rattle.judy_node.specs.Trees.{IsChild};
 ghost use Rattle.judy_node.specs.Populations.{AreSums};
 ghost use Rattle.judy_node.specs.Kinds.{tree_of, IsLevel};
 ghost use Rattle.judy_node.specs.Roots.{root_tree, one_tree, IsRoot};
-ghost use Rattle.judy_change.specs.Removals.{IsRemoved, IsTaken, IsTakenBelow, IsWhole, IsChildless, width_of, tree_below};
+ghost use Rattle.judy_change.specs.Removals.{IsRemoved, IsTaken, IsTakenBelow, IsWhole, IsChildless, IsShrinking, width_of, tree_below};
 
-use crate::remove_leaf::{remove_bit, remove_immediate, remove_leaf};
+use crate::remove_leaf::{
+    remove_from_bitmap, remove_from_leaf, remove_immediate, shrink_bitmap, shrink_leaf,
+};
 use crate::removed::{Removed, Taken};
 use crate::settle::settle;
-use judy_leaf::Words;
-use judy_node::{BranchOf, ChildOf, Head, KindOf, NodeOf, RootOf, Step, Sums};
+use judy_leaf::{BitRef, Words};
+use judy_node::{BranchOf, ChildOf, Head, KindOf, NodeOf, RootOf, Step, Sums, most_in_immediate};
 use std::alloc::Global;
 use std::mem;
 
@@ -133,24 +135,69 @@ fn remove_kind<V: Words + Drop>(alloc: Global, width: u8, kind: &mut KindOf<V>, 
                 Taken::Gone(value, both(shrunk, settled))
             }
         },
-        _ => {
-            let old = mem::replace(kind, KindOf::Imm(Head::new(0), 0));
-            let (child, taken) = remove_childless(alloc, width, old, key);
-            *kind = child.open();
-            taken
-        }
+        _ => remove_childless(alloc, width, kind, key),
     }
 }
 
-// From a node without children, taken out of its place.
+// From a node without children. A leaf or a bitmap leaf that stays one is changed where it stands.
 fn remove_childless<V: Words + Drop>(
+    alloc: Global,
+    width: u8,
+    kind: &mut KindOf<V>,
+    key: u64,
+) -> Taken
+    requires one { V.WORDS ≤ 1 }
+    requires childless { IsChildless kind.old }
+    requires level { IsLevel V.WORDS kind.old }
+    requires child { IsChild V.WORDS width (tree_of V.WORDS kind.old) }
+    requires three { width ≡ 8 → 3 ≤ length (tree_of V.WORDS kind.old).pairs }
+    ensures level { IsLevel V.WORDS kind.new }
+    ensures taken { IsTaken V.WORDS width key (tree_of V.WORDS kind.old) (tree_of V.WORDS kind.new) result }
+{
+    match kind {
+        KindOf::Leaf(count, block) => {
+            if usize::from(*count - 1) > most_in_immediate::<V>(width) {
+                remove_from_leaf::<V>(count, block, width, key)
+            } else {
+                replaced(alloc, width, kind, key)
+            }
+        }
+        KindOf::Bit(head, block) => {
+            if BitRef::<V>::new(block).len() > 33 {
+                remove_from_bitmap::<V>(head, block, width, key)
+            } else {
+                replaced(alloc, width, kind, key)
+            }
+        }
+        _ => replaced(alloc, width, kind, key),
+    }
+}
+
+// The same for a node that may become one of another kind, without the key.
+fn replaced<V: Words + Drop>(alloc: Global, width: u8, kind: &mut KindOf<V>, key: u64) -> Taken
+    requires one { V.WORDS ≤ 1 }
+    requires shrinking { IsShrinking V.WORDS width kind.old }
+    requires level { IsLevel V.WORDS kind.old }
+    requires child { IsChild V.WORDS width (tree_of V.WORDS kind.old) }
+    requires three { width ≡ 8 → 3 ≤ length (tree_of V.WORDS kind.old).pairs }
+    ensures level { IsLevel V.WORDS kind.new }
+    ensures taken { IsTaken V.WORDS width key (tree_of V.WORDS kind.old) (tree_of V.WORDS kind.new) result }
+{
+    let old = mem::replace(kind, KindOf::Imm(Head::new(0), 0));
+    let (child, taken) = replacement(alloc, width, old, key);
+    *kind = child.open();
+    taken
+}
+
+// The same for such a node taken out of its place.
+fn replacement<V: Words + Drop>(
     alloc: Global,
     width: u8,
     kind: KindOf<V>,
     key: u64,
 ) -> (ChildOf<V>, Taken)
     requires one { V.WORDS ≤ 1 }
-    requires childless { IsChildless kind }
+    requires shrinking { IsShrinking V.WORDS width kind }
     requires level { IsLevel V.WORDS kind }
     requires child { IsChild V.WORDS width (tree_of V.WORDS kind) }
     requires three { width ≡ 8 → 3 ≤ length (tree_of V.WORDS kind).pairs }
@@ -158,8 +205,8 @@ fn remove_childless<V: Words + Drop>(
 {
     match kind {
         KindOf::Imm(head, word) => remove_immediate(width, head, word, key),
-        KindOf::Leaf(count, block) => remove_leaf(width, count, block, key),
-        KindOf::Bit(head, block) => remove_bit(alloc, width, head, block, key),
+        KindOf::Leaf(count, block) => shrink_leaf(width, count, block, key),
+        KindOf::Bit(head, block) => shrink_bitmap(alloc, width, head, block, key),
         KindOf::Branch(_) => unreachable!(),
     }
 }

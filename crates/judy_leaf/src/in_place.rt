@@ -1,6 +1,8 @@
-//! Pairs put into leaves whose parts stand in a node. A search has told the place of the key, so nothing is looked for here.
+//! Pairs put into leaves whose parts stand in a node, and taken out of them. A search has told the place of the key, so nothing is
+//! looked for here.
 
-ghost use Rattle.std.specs.Prelude.{◌≡◌, ◌+◌, ◌*◌, ◌/◌, ◌<◌, ◌≤◌, ◌^◌, OnOk, OnErr, IsFalse};
+ghost use Rattle.std.specs.Prelude.{◌≡◌, ◌+◌, ◌*◌, ◌/◌, ◌<◌, ◌≤◌, ◌^◌, OnOk, OnErr, IsFalse, Some, length, slice_get};
+ghost use Rattle.std.specs.List.{remove};
 ghost use Rattle.judy_bits.specs.ByteSets as set;
 ghost use Rattle.judy_leaf.specs.KeyLists.{keys_of, with_pair};
 ghost use Rattle.judy_leaf.specs.Leaves.{IsLeafParts, leaf_list};
@@ -79,4 +81,26 @@ pub fn put_in_bit_leaf<V: Words + Drop>(
     pairs::give_room(block, alloc, 4 + V::WORDS * count, capacity_for::<V>(count))?;
     bit_edit::put::<V>(block, at, byte, value);
     Ok(())
+}
+
+/// Takes the key at a place out of a leaf of keys of `width` bytes, with its value. No memory is asked for.
+pub fn take_from_leaf<V: Words + Drop>(count: &mut u8, block: &mut Block, width: u8, at: usize)
+    requires parts { IsLeafParts V.WORDS count.old block.old }
+    requires width { block.old.tag ≡ width }
+    requires inside { at < length (leaf_list V.WORDS count.old block.old).pairs }
+    ensures parts { IsLeafParts V.WORDS count.new block.new }
+    ensures taken { leaf_list V.WORDS count.new block.new ≡ record (leaf_list V.WORDS count.old block.old) { pairs = remove (leaf_list V.WORDS count.old block.old).pairs at } }
+{
+    pairs::take::<V>(block, usize::from(width), usize::from(*count), at);
+    *count -= 1;
+}
+
+/// The same for a bitmap leaf, where the key at the place is the byte.
+pub fn take_from_bit_leaf<V: Words + Drop>(block: &mut Block, at: usize, byte: u8)
+    requires parts { IsBitParts V.WORDS block.old }
+    requires there { slice_get (keys_of (bit_list V.WORDS block.old).pairs) at ≡ Some byte }
+    ensures parts { IsBitParts V.WORDS block.new }
+    ensures taken { bit_list V.WORDS block.new ≡ record (bit_list V.WORDS block.old) { pairs = remove (bit_list V.WORDS block.old).pairs at } }
+{
+    bit_edit::take::<V>(block, at, byte);
 }

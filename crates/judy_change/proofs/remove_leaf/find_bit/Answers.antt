@@ -1,4 +1,4 @@
-use Rattle.std.proofs.Common.{sym, ◌∙◌}
+use Rattle.std.proofs.Common.{sym, ap, ◌∙◌}
 use Rattle.judy_bits.specs.ByteSets as set
 use Rattle.judy_leaf.specs.KeyLists.{keys_of}
 use Rattle.judy_change.proofs.LeafFacts.{find_told}
@@ -9,5 +9,5 @@ returns-then-without_low-skipped g c = λ same. absurd (c.if-without_low-skipped
 
 pub returns : goal.returns
 returns g c =
-    find_told c.find.result (keys_of c.args.bits.now.pairs) c.args.key c.args.skipped
-    (c.find.ensures ∙ (λ t. set.place (keys_of (c.reading.ensures t).pairs) (c.low_part.ensures t))) (sym c.without_low.ensures ∙ c.if-without_low-skipped.false)
+    find_told c.find.result (keys_of c.args.bits.pairs) c.args.key c.args.skipped
+    (c.find.ensures ∙ ap (set.place (keys_of c.args.bits.pairs)) c.low_part.ensures) (sym c.without_low.ensures ∙ c.if-without_low-skipped.false)

@@ -7,7 +7,7 @@ use Rattle.judy_node.proofs.Leaves.{leaf_long}
 use Rattle.judy_change.specs.LeafTrees.{one_leaf}
 use Rattle.judy_change.proofs.Without.{value-none}
 use Rattle.judy_change.proofs.LeafFacts.{left_list, leaf_within, leaf_left, leaf_gone}
-use Rattle.judy_change.proofs.remove_leaf.remove_leaf.Goals as goal
+use Rattle.judy_change.proofs.remove_leaf.shrink_leaf.Goals as goal
 
 pub value_at-value-requires : goal.value_at-value-requires
 value_at-value-requires g c =
@@ -21,23 +21,23 @@ remove-requires g c =
     let place = ap (λ l. set.place (keys_of l.pairs) c.args.key) (sym (c.reading.ensures ∙ c.of_parts-leaf.ensures)) ∙ sym c.find.ensures ∙ c.in-Some.is in
     subst (λ l. c.in-Some.at < length l.pairs) (sym c.of_parts-leaf.ensures) (leaf_within words c.args.width c.args.key c.in-Some.at c.args.count c.args.block c.requires.level c.requires.child place)
 
-pub small_leaf-requires-clause-list : goal.small_leaf-requires-clause-list
-small_leaf-requires-clause-list g c =
+pub immediate_left-requires-clause-list : goal.immediate_left-requires-clause-list
+immediate_left-requires-clause-list g c =
     let words = g.V.Words.WORDS in
     let place = ap (λ l. set.place (keys_of l.pairs) c.args.key) (sym (c.reading.ensures ∙ c.of_parts-leaf.ensures)) ∙ sym c.find.ensures ∙ c.in-Some.is in
     (leaf_left words c.args.width c.args.key c.in-Some.at c.args.count c.args.block c.requires.level c.requires.child place c.remove.new.self (c.remove.ensures ∙ ap (λ l. left_list l c.in-Some.at) c.of_parts-leaf.ensures)).wide
 
-pub small_leaf-requires-clause-width : goal.small_leaf-requires-clause-width
-small_leaf-requires-clause-width g c = (c.requires.child.low_width, c.requires.child.high_width)
+pub immediate_left-requires-clause-width : goal.immediate_left-requires-clause-width
+immediate_left-requires-clause-width g c = (c.requires.child.low_width, c.requires.child.high_width)
 
-pub small_leaf-requires-clause-some : goal.small_leaf-requires-clause-some
-small_leaf-requires-clause-some g c =
+pub immediate_left-requires-clause-some : goal.immediate_left-requires-clause-some
+immediate_left-requires-clause-some g c =
     let words = g.V.Words.WORDS in
     let place = ap (λ l. set.place (keys_of l.pairs) c.args.key) (sym (c.reading.ensures ∙ c.of_parts-leaf.ensures)) ∙ sym c.find.ensures ∙ c.in-Some.is in
     (leaf_left words c.args.width c.args.key c.in-Some.at c.args.count c.args.block c.requires.level c.requires.child place c.remove.new.self (c.remove.ensures ∙ ap (λ l. left_list l c.in-Some.at) c.of_parts-leaf.ensures)).some
 
-pub small_leaf-requires-clause-two : goal.small_leaf-requires-clause-two
-small_leaf-requires-clause-two g c =
+pub immediate_left-requires-clause-two : goal.immediate_left-requires-clause-two
+immediate_left-requires-clause-two g c =
     let words = g.V.Words.WORDS in
     let place = ap (λ l. set.place (keys_of l.pairs) c.args.key) (sym (c.reading.ensures ∙ c.of_parts-leaf.ensures)) ∙ sym c.find.ensures ∙ c.in-Some.is in
     λ wide.
@@ -45,20 +45,29 @@ small_leaf-requires-clause-two g c =
     let fewer = (leaf_left words c.args.width c.args.key c.in-Some.at c.args.count c.args.block c.requires.level c.requires.child place c.remove.new.self (c.remove.ensures ∙ ap (λ l. left_list l c.in-Some.at) c.of_parts-leaf.ensures)).fewer in
     omega arith
 
-pub small_leaf-requires-clause-map : goal.small_leaf-requires-clause-map
-small_leaf-requires-clause-map g c =
+pub immediate_left-requires-clause-map : goal.immediate_left-requires-clause-map
+immediate_left-requires-clause-map g c =
     let words = g.V.Words.WORDS in
     let place = ap (λ l. set.place (keys_of l.pairs) c.args.key) (sym (c.reading.ensures ∙ c.of_parts-leaf.ensures)) ∙ sym c.find.ensures ∙ c.in-Some.is in
     (leaf_left words c.args.width c.args.key c.in-Some.at c.args.count c.args.block c.requires.level c.requires.child place c.remove.new.self (c.remove.ensures ∙ ap (λ l. left_list l c.in-Some.at) c.of_parts-leaf.ensures)).map
+
+pub immediate_left-requires-clause-few : goal.immediate_left-requires-clause-few
+immediate_left-requires-clause-few g c =
+    let words = g.V.Words.WORDS in
+    let place = ap (λ l. set.place (keys_of l.pairs) c.args.key) (sym (c.reading.ensures ∙ c.of_parts-leaf.ensures)) ∙ sym c.find.ensures ∙ c.in-Some.is in
+    let fewer = (leaf_left words c.args.width c.args.key c.in-Some.at c.args.count c.args.block c.requires.level c.requires.child place c.remove.new.self (c.remove.ensures ∙ ap (λ l. left_list l c.in-Some.at) c.of_parts-leaf.ensures)).fewer in
+    let long = leaf_long words c.args.count c.args.block c.requires.level.parts in
+    let few = c.requires.few in
+    omega arith
 
 pub returns-in-Some : goal.returns-in-Some
 returns-in-Some g c =
     let words = g.V.Words.WORDS in
     let place = ap (λ l. set.place (keys_of l.pairs) c.args.key) (sym (c.reading.ensures ∙ c.of_parts-leaf.ensures)) ∙ sym c.find.ensures ∙ c.in-Some.is in
-    leaf_gone words c.args.width c.args.key c.in-Some.at c.args.count c.args.block c.requires.level c.requires.child place c.value_at-value.result c.remove.new.self c.small_leaf.result
+    leaf_gone words c.args.width c.args.key c.in-Some.at c.args.count c.args.block c.requires.level c.requires.child place c.value_at-value.result c.remove.new.self c.immediate_left.result
     (c.remove.ensures ∙ ap (λ l. left_list l c.in-Some.at) c.of_parts-leaf.ensures)
     (c.value_at-value.ensures ∙ ap (λ l. get_or (values_of l.pairs) c.in-Some.at 0) (c.reading-in-Some.ensures ∙ c.of_parts-leaf.ensures))
-    c.small_leaf.ensures
+    c.immediate_left.ensures
 
 pub leaf_kind-requires : goal.leaf_kind-requires
 leaf_kind-requires g c =
