@@ -97,7 +97,7 @@ without-some (short words) part inside some e = cc
 without-some (long group) part (Word word) some e = cc
 without-some (long group) part (Chained place at) some e = cc
 
-pub key-some : (group : Group) (part : ℕ) (key : List ℕ) (inside : Inside) → group ≢ none → group_with_key group part key inside ≢ none
+key-some : (group : Group) (part : ℕ) (key : List ℕ) (inside : Inside) → group ≢ none → group_with_key group part key inside ≢ none
 key-some none part key inside some e = some refl
 key-some (short words) part key inside some e = cc
 key-some (long group) part key (Word word) some e = cc

@@ -26,9 +26,6 @@ pub struct JudyHs<H: ByteHash + Drop> {
     limit: u64,
     count: u64,
     groups: Groups,
-    // Whether the last insert put a key in. The next one is then tried as one that does, which finds its place and puts it in by one way down, and
-    // takes a second one where its key is there.
-    adds: bool,
 }
 
 impl<H: ByteHash + Drop> Model for JudyHs<H> {
@@ -66,7 +63,6 @@ impl<H: ByteHash + Drop> JudyHs<H> {
             limit,
             count: 0,
             groups: Groups::new(alloc),
-            adds: true,
         }
     }
 
@@ -88,32 +84,22 @@ impl<H: ByteHash + Drop> JudyHs<H> {
             return Err(HsError::TooLong);
         }
         let part = part_of(&self.hasher, key);
-        let alloc = self.groups.allocator();
-        let tries = self.adds && !is_full;
-        match self.groups.add_or_way(alloc, tries, part, key) {
-            Ok(spot) => {
-                self.count += 1;
-                self.groups.slot_of(spot)
+        let way = self.groups.way(part, key);
+        match self.groups.find(way, part, key) {
+            Some(spot) => self.groups.slot_of(spot),
+            None => {
+                if is_full {
+                    return Err(HsError::Full);
+                }
+                let alloc = self.groups.allocator();
+                match self.groups.add(alloc, way, part, key) {
+                    Ok(spot) => {
+                        self.count += 1;
+                        self.groups.slot_of(spot)
+                    }
+                    Err(_) => Err(HsError::NoMemory),
+                }
             }
-            Err(way) => match self.groups.find(way, part, key) {
-                Some(spot) => {
-                    self.adds = false;
-                    self.groups.slot_of(spot)
-                }
-                None => {
-                    if is_full {
-                        return Err(HsError::Full);
-                    }
-                    match self.groups.add(alloc, way, part, key) {
-                        Ok(spot) => {
-                            self.count += 1;
-                            self.adds = true;
-                            self.groups.slot_of(spot)
-                        }
-                        Err(_) => Err(HsError::NoMemory),
-                    }
-                }
-            },
         }
     }
 

@@ -1,6 +1,6 @@
 //! The keys of one length.
 
-ghost use Rattle.std.specs.Prelude.{ℕ, ◌≤◌, ◌++◌, ◌≡◌, ◌≢◌, ◌<◌, ◌↔◌, IsTrue, option_copied, IfOk, OnOk, OnErr, IfSome, IfNone, None, Some, MatchOption};
+ghost use Rattle.std.specs.Prelude.{ℕ, ◌≤◌, ◌++◌, ◌≡◌, ◌≢◌, ◌<◌, ◌↔◌, IsTrue, option_copied, IfOk, OnOk, OnErr, IfSome, None, Some, MatchOption};
 ghost use Rattle.std.specs.Borrow.{sem};
 ghost use Rattle.std.specs.FinMap.{get, len as map_len};
 ghost use Rattle.std.specs.Option.{option_copied_mut};
@@ -28,7 +28,7 @@ pub enum GroupPlace {
 }
 
 impl GroupPlace {
-    ghost use Rattle.judy_hs.specs.Groups.{none, in_group, chain_in, words_of, IsInside, IsNewInside, IsUsable, value_inside, group_with_key, group_without, CanTakeKey, IsRemovable, IsEmptyGroup};
+    ghost use Rattle.judy_hs.specs.Groups.{in_group, chain_in, words_of, IsInside, IsNewInside, IsUsable, value_inside, group_with_key, group_without, CanTakeKey, IsRemovable, IsEmptyGroup};
     ghost use Rattle.judy_hs.specs.GroupPlaces.{group_of};
     ghost use Rattle.judy_hs.specs.GroupLends.{LendsInside};
     ghost use Rattle.judy_hs.specs.Listed.{CanList, group_list};
@@ -119,29 +119,6 @@ impl GroupPlace {
                 Err(error) => Err(error),
             },
             GroupPlace::Free(_) => unreachable!(),
-        }
-    }
-
-    // Puts a key in with the value 0, in one way down, and answers where it stands. None, and nothing changes, where it or another key with its
-    // hash is there, or where its place isn't ready.
-    pub fn try_add(&mut self, alloc: Global, part: u64, key: &[u8]) -> Option<Inside>
-        ensures absent { IfSome result (λ _. in_group (group_of self.old) part key.now ≡ None) }
-        ensures place { IfSome result (IsNewInside (group_of self.old) part) }
-        ensures added { IfSome result (λ inside. group_of self.new ≡ group_with_key (group_of self.old) part key.now inside) }
-        ensures some { IfSome result (λ _. group_of self.old ≢ none) }
-        ensures unchanged { IfNone result (self.new ≡ self.old) }
-    {
-        match self {
-            GroupPlace::Short(words) => match words.put_if_absent(part, 0) {
-                Ok(true) => Some(Inside::Word(part)),
-                Ok(false) => None,
-                Err(_) => None,
-            },
-            GroupPlace::Long(group) => match group.try_add(alloc, part, key) {
-                Some(place) => Some(Inside::Chained(place, 0)),
-                None => None,
-            },
-            GroupPlace::Free(_) => None,
         }
     }
 

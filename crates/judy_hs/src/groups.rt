@@ -1,7 +1,7 @@
 //! All groups of an array, by the length of their keys. A new group takes the place that is free first; the list grows
 //! only where none is free.
 
-ghost use Rattle.std.specs.Prelude.{ℕ, ◌++◌, OnOk, ◌≡◌, ◌≢◌, ◌<◌, ◌≤◌, [], option_copied, IfOk, IsOk, OnErr, IfErr, IsSome, IfSome, IfNone, IsTrue, None, Some, MatchOption, length, get_or, vec_len, vec_capacity};
+ghost use Rattle.std.specs.Prelude.{ℕ, ◌++◌, OnOk, ◌≡◌, ◌≢◌, ◌<◌, ◌≤◌, [], option_copied, IfOk, IsOk, OnErr, IsSome, IfSome, None, Some, MatchOption, length, get_or, vec_len, vec_capacity};
 ghost use Rattle.std.specs.Borrow.{sem};
 ghost use Rattle.std.specs.FinMap.{get, len as map_len};
 ghost use Rattle.std.specs.Option.{option_copied_mut};
@@ -109,78 +109,25 @@ impl Groups {
         }
     }
 
-    // The place of the chain of a long key's hash, in the group at a place.
-    fn chain(&self, group: Option<u64>, part: u64) -> Option<u64>
-        ensures { result ≡ chain_led self.now group part }
-    {
-        match self.groups.get(group? as usize) {
-            Some(held) => held.chain(part),
-            None => None,
-        }
-    }
-
     // The way of a key.
     pub fn way(&self, part: u64, key: &[u8]) -> Way
         ensures group { result.group ≡ get self.now.lengths.map (length key.now) }
         ensures chain { result.chain ≡ chain_led self.now result.group part }
     {
-        let group = self.lengths.get(key.len() as u64);
+        let Some(place) = self.lengths.get(key.len() as u64) else {
+            return Way {
+                group: None,
+                chain: None,
+            };
+        };
+        let chain = match self.groups.get(place as usize) {
+            Some(group) => group.chain(part),
+            None => None,
+        };
         Way {
-            group,
-            chain: self.chain(group, part),
+            group: Some(place),
+            chain,
         }
-    }
-
-    // Puts a key in with the value 0, where it is one to try so and that takes one way down its group, and answers where it stands. Else its
-    // way, and nothing changes.
-    pub fn add_or_way(
-        &mut self,
-        alloc: Global,
-        tries: bool,
-        part: u64,
-        key: &[u8],
-    ) -> Result<Spot, Way>
-        ensures tried { OnOk result (IsTrue tries) }
-        ensures absent { OnOk result (in_keyed self.old part key.now ≡ None) }
-        ensures place { IfOk result (λ spot. IsNewSpot self.old part key.now (get self.old.lengths.map (length key.now)) spot.group spot.inside) }
-        ensures added { IfOk result (λ spot. self.new ≡ added_keyed self.old part key.now (get self.old.lengths.map (length key.now)) spot.group spot.inside) }
-        ensures unchanged { OnErr result (self.new ≡ self.old) }
-        ensures group { IfErr result (λ way. way.group ≡ get self.old.lengths.map (length key.now)) }
-        ensures chain { IfErr result (λ way. way.chain ≡ chain_led self.old way.group part) }
-    {
-        let group = self.lengths.get(key.len() as u64);
-        match self.try_add(alloc, tries, group, part, key) {
-            Some(spot) => Ok(spot),
-            None => Err(Way {
-                group,
-                chain: self.chain(group, part),
-            }),
-        }
-    }
-
-    // Puts a key in with the value 0, in one way down its group, where it is one to try so, and answers where it stands. None, and nothing
-    // changes, where it has no group, where it or another key with its hash is there, or where its place isn't ready.
-    fn try_add(
-        &mut self,
-        alloc: Global,
-        tries: bool,
-        group: Option<u64>,
-        part: u64,
-        key: &[u8],
-    ) -> Option<Spot>
-        requires { group ≡ get self.old.lengths.map (length key.now) }
-        ensures tried { IfSome result (λ _. IsTrue tries) }
-        ensures absent { IfSome result (λ _. in_keyed self.old part key.now ≡ None) }
-        ensures place { IfSome result (λ spot. IsNewSpot self.old part key.now (get self.old.lengths.map (length key.now)) spot.group spot.inside) }
-        ensures added { IfSome result (λ spot. self.new ≡ added_keyed self.old part key.now (get self.old.lengths.map (length key.now)) spot.group spot.inside) }
-        ensures unchanged { IfNone result (self.new ≡ self.old) }
-    {
-        if !tries {
-            return None;
-        }
-        let group = group? as usize;
-        let inside = self.groups.get_mut(group)?.try_add(alloc, part, key)?;
-        Some(Spot { group, inside })
     }
 
     // Where a key stands, by its way.

@@ -1,7 +1,7 @@
 //! The keys of one length above 8 bytes, by their hashes. A new chain takes the place that is free first; the list grows
 //! only where none is free.
 
-ghost use Rattle.std.specs.Prelude.{ℕ, ◌≡◌, ◌≢◌, ◌∷◌, [], ◌<◌, ◌≤◌, IfOk, OnOk, OnErr, None, Some, MatchOption, ◌++◌, ◌↔◌, IsTrue, IfSome, IfNone, length, get_or, vec_len, vec_capacity};
+ghost use Rattle.std.specs.Prelude.{ℕ, ◌≡◌, ◌≢◌, ◌∷◌, [], ◌<◌, ◌≤◌, IfOk, OnOk, OnErr, None, Some, MatchOption, ◌++◌, ◌↔◌, IsTrue, IfSome, length, get_or, vec_len, vec_capacity};
 ghost use Rattle.std.specs.FinMap.{get, empty, len as map_len};
 ghost use Rattle.std.specs.Borrow.{sem};
 ghost use Rattle.std.specs.Option.{option_copied_mut};
@@ -79,26 +79,6 @@ fn first_link(chains: &[ChainPlace], free: usize) -> Option<usize>
         Some(ChainPlace::Many(_, _)) => None,
         Some(ChainPlace::Taken(_)) => None,
         None => None,
-    }
-}
-
-// The place that the next chain takes, and the one that is free first then: the first free one, or the end of the list; none where the list
-// has to grow for it.
-fn ready_place(chains: &Vec<ChainPlace>, free: usize) -> Option<(usize, usize)>
-    requires { AreChainPlaces chains.now.items free }
-    ensures next { IfSome result (λ found. IsNextPlace (links_of chains.now.items) free found.0 found.1) }
-    ensures found { IfSome result (λ found. IsFreePlace (chains_of chains.now.items) found.0) }
-    ensures room { IfSome result (λ found. found.0 ≡ length chains.now.items → vec_len chains.now < vec_capacity chains.now) }
-{
-    match first_link(chains, free) {
-        Some(next) => Some((free, next)),
-        None => {
-            if chains.len() < chains.capacity() {
-                Some((chains.len(), free))
-            } else {
-                None
-            }
-        }
     }
 }
 
@@ -419,25 +399,6 @@ impl LongGroup {
         self.free = next;
         put(&mut self.chains, place, chain);
         Ok(place)
-    }
-
-    // Puts a key in whose hash leads nowhere, with the value 0, and answers the place of its chain: the one way down the hashes that shows
-    // this puts it in. None, and nothing changes, where the hash leads to a chain, the list has no place ready, or memory is refused.
-    pub fn try_add(&mut self, alloc: Global, hash: u64, key: &[u8]) -> Option<usize>
-        ensures absent { IfSome result (λ _. get self.old.hashes.map hash ≡ None) }
-        ensures added { IfSome result (λ place. IsAdded self.old self.new hash key.now place 0) }
-        ensures unchanged { IfNone result (self.new ≡ self.old) }
-    {
-        let (place, next) = ready_place(&self.chains, self.free)?;
-        let Ok(chain) = ChainPlace::of(alloc, key) else {
-            return None;
-        };
-        let Ok(true) = self.hashes.put_if_absent(hash, place as u64) else {
-            return None;
-        };
-        self.free = next;
-        put(&mut self.chains, place, chain);
-        Some(place)
     }
 
     // Takes the key at a place of the chain of its hash out. A chain that becomes empty goes, with its hash.

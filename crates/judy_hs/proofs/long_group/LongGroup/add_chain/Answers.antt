@@ -1,3 +1,4 @@
+use Rattle.std.proofs.Common.{refl, sym, ◌∙◌}
 use Rattle.judy_hs.proofs.LongLemmas.{with_chain-put, places-put}
 use Rattle.judy_hs.proofs.long_group.LongGroup.add_chain.Goals as goal
 
