@@ -285,7 +285,7 @@ impl ChainPlace {
 }
 
 impl LongGroup {
-    ghost use Rattle.judy_hs.specs.LongGroups.{one_long, in_long, in_chain, chain_at, IsLongPlace, IsAdded, value_of_place, with_chain, without_key};
+    ghost use Rattle.judy_hs.specs.LongGroups.{one_long, in_long, in_chain, chain_at, IsLongPlace, IsAdded, value_of_place, without_key};
     ghost use Rattle.judy_hs.specs.LongLends.{LendsLong};
     ghost use Rattle.judy_hs.specs.Chains.{AreApart};
     ghost use Rattle.judy_hs.specs.Listed.{chained, long_list};
