@@ -123,7 +123,7 @@ impl GroupPlace {
     }
 
     // Puts a key in with the value 0, in one way down, and answers where it stands. None, and nothing changes, where it or another key with its
-    // hash is there, or where its place isn't ready.
+    // hash is there, or where memory is refused.
     pub fn try_add(&mut self, alloc: Global, part: u64, key: &[u8]) -> Option<Inside>
         ensures absent { IfSome result (λ _. in_group (group_of self.old) part key.now ≡ None) }
         ensures place { IfSome result (IsNewInside (group_of self.old) part) }

@@ -159,7 +159,7 @@ impl Groups {
     }
 
     // Puts a key in with the value 0, in one way down its group, where it is one to try so, and answers where it stands. None, and nothing
-    // changes, where it has no group, where it or another key with its hash is there, or where its place isn't ready.
+    // changes, where it has no group, where it or another key with its hash is there, or where memory is refused.
     fn try_add(
         &mut self,
         alloc: Global,

@@ -82,26 +82,6 @@ fn first_link(chains: &[ChainPlace], free: usize) -> Option<usize>
     }
 }
 
-// The place that the next chain takes, and the one that is free first then: the first free one, or the end of the list; none where the list
-// has to grow for it.
-fn ready_place(chains: &Vec<ChainPlace>, free: usize) -> Option<(usize, usize)>
-    requires { AreChainPlaces chains.now.items free }
-    ensures next { IfSome result (λ found. IsNextPlace (links_of chains.now.items) free found.0 found.1) }
-    ensures found { IfSome result (λ found. IsFreePlace (chains_of chains.now.items) found.0) }
-    ensures room { IfSome result (λ found. found.0 ≡ length chains.now.items → vec_len chains.now < vec_capacity chains.now) }
-{
-    match first_link(chains, free) {
-        Some(next) => Some((free, next)),
-        None => {
-            if chains.len() < chains.capacity() {
-                Some((chains.len(), free))
-            } else {
-                None
-            }
-        }
-    }
-}
-
 // Makes room for one more chain. The list grows by an eighth, and not to its double: it is much of what an array takes.
 fn make_room(chains: &mut Vec<ChainPlace>) -> Result<(), AllocError>
     ensures items { chains.new.items ≡ chains.old.items }
@@ -305,7 +285,7 @@ impl ChainPlace {
 }
 
 impl LongGroup {
-    ghost use Rattle.judy_hs.specs.LongGroups.{one_long, in_long, in_chain, chain_at, IsLongPlace, IsAdded, value_of_place, with_chain, without_key};
+    ghost use Rattle.judy_hs.specs.LongGroups.{one_long, in_long, in_chain, chain_at, IsLongPlace, IsAdded, value_of_place, without_key};
     ghost use Rattle.judy_hs.specs.LongLends.{LendsLong};
     ghost use Rattle.judy_hs.specs.Chains.{AreApart};
     ghost use Rattle.judy_hs.specs.Listed.{chained, long_list};
@@ -393,43 +373,25 @@ impl LongGroup {
                 let at = self.chains[place].add(alloc, key)?;
                 Ok((place, at))
             }
-            None => {
-                let place = self.add_chain(alloc, hash, key)?;
-                Ok((place, 0))
-            }
+            None => match self.try_add(alloc, hash, key) {
+                Some(place) => Ok((place, 0)),
+                None => Err(AllocError),
+            },
         }
     }
 
-    // Puts a chain of one key in, under a hash that leads nowhere, and answers its place. The insert into `hashes` is
-    // the last step that can be refused.
-    fn add_chain(&mut self, alloc: Global, hash: u64, key: &[u8]) -> Result<usize, AllocError>
-        requires room { map_len self.old.hashes.map < self.old.hashes.limit }
-        requires absent { get self.old.hashes.map hash ≡ None }
-        ensures place { IfOk result (IsFreePlace self.old.chains) }
-        ensures added { IfOk result (λ place. self.new ≡ with_chain self.old hash key.now place) }
-        ensures unchanged { OnErr result (self.new ≡ self.old) }
-    {
-        let chain = ChainPlace::of(alloc, key)?;
-        let (place, next) = free_place(&mut self.chains, self.free)?;
-        match self.hashes.put(hash, place as u64) {
-            Ok(_) => {}
-            Err(InsertError::Full) => unreachable!(),
-            Err(InsertError::NoMemory) => return Err(AllocError),
-        }
-        self.free = next;
-        put(&mut self.chains, place, chain);
-        Ok(place)
-    }
-
-    // Puts a key in whose hash leads nowhere, with the value 0, and answers the place of its chain: the one way down the hashes that shows
-    // this puts it in. None, and nothing changes, where the hash leads to a chain, the list has no place ready, or memory is refused.
+    // Puts a key in with the value 0 where its hash leads nowhere, and answers the place of its chain: one way down the hashes shows that and
+    // puts it in. None, and nothing changes, where the hash leads to a chain, or where memory is refused; the insert into `hashes` is the last
+    // step at which it can be.
     pub fn try_add(&mut self, alloc: Global, hash: u64, key: &[u8]) -> Option<usize>
         ensures absent { IfSome result (λ _. get self.old.hashes.map hash ≡ None) }
         ensures added { IfSome result (λ place. IsAdded self.old self.new hash key.now place 0) }
         ensures unchanged { IfNone result (self.new ≡ self.old) }
     {
-        let (place, next) = ready_place(&self.chains, self.free)?;
         let Ok(chain) = ChainPlace::of(alloc, key) else {
+            return None;
+        };
+        let Ok((place, next)) = free_place(&mut self.chains, self.free) else {
             return None;
         };
         let Ok(true) = self.hashes.put_if_absent(hash, place as u64) else {
