@@ -1,5 +1,5 @@
 -- A set of bytes as the list of its members in ascending order, each once.
-use Rattle.std.specs.Prelude.{ℕ, ◌==◌, not, Bool, if◌then◌else◌, List, ◌∷◌, ◌++◌, length, filter, Option, Some, None, slice_get}
+use Rattle.std.specs.Prelude.{ℕ, ◌==◌, not, Bool, if◌then◌else◌, List, [], ◌∷◌, ◌++◌, length, filter, Option, Some, None, slice_get}
 use Rattle.std.specs.List.{list_any, range_with_len}
 use Rattle.std.specs.List.Sorted.{IsStrictlySortedBy}
 use Rattle.std.specs.Ordering.{is_lt, is_le, is_gt}
@@ -18,6 +18,10 @@ has members byte = list_any (λ member. member == byte) members
 -- How many members are below the byte.
 abbrev pub rank : List ℕ → ℕ → ℕ
 rank members byte = length (filter (λ member. is_lt (word_order member byte)) members)
+
+-- The ranks of four bytes that lie 64 apart.
+abbrev pub word_ranks : List ℕ → List ℕ
+word_ranks members = rank members 0 ∷ rank members 64 ∷ rank members 128 ∷ rank members 192 ∷ []
 
 -- How many members are at or below the byte.
 abbrev pub count_up_to : List ℕ → ℕ → ℕ

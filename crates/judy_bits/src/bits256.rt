@@ -2,10 +2,10 @@
 
 ghost use Rattle.std.specs.Prelude.{◌≡◌, ℕ, ◌≤◌, List, [], length};
 ghost use Rattle.judy_bits.specs.ByteSets as set;
-ghost use Rattle.judy_bits.specs.ByteSets.{IsByteSet};
+ghost use Rattle.judy_bits.specs.ByteSets.{IsByteSet, word_ranks};
 ghost use Rattle.judy_bits.specs.BitWords.{members_of};
 
-use crate::bits::count;
+use crate::bits::{count, ones_below_one};
 use crate::bits_ref::BitsRef;
 use std::marker::Model;
 
@@ -13,6 +13,12 @@ use std::marker::Model;
 #[derive(Clone, Debug, Drop)]
 pub struct Bits256 {
     words: [u64; 4],
+}
+
+/// The ranks of the first byte of each word, which stand beside a set.
+#[derive(Clone, Copy, PartialEq, Eq, Debug)]
+pub(crate) struct Ranks {
+    pub(crate) starts: [u8; 4],
 }
 
 impl Model for Bits256 {
@@ -100,6 +106,30 @@ impl Bits256 {
         ensures { result ≡ set.place self.now byte }
     {
         self.by_ref().place(byte)
+    }
+
+    /// The ranks of the first byte of each word.
+    pub(crate) fn ranks(&self) -> Ranks
+        ensures { result.starts ≡ word_ranks self.now }
+    {
+        let first = count(self.words[0]);
+        let second = first + count(self.words[1]);
+        let third = second + count(self.words[2]);
+        Ranks {
+            starts: [0, first as u8, second as u8, third as u8],
+        }
+    }
+
+    /// The place of a member by these ranks, of which it needs one: it counts in the byte's own word alone.
+    pub(crate) fn place_by(&self, ranks: &Ranks, byte: u8) -> Option<usize>
+        requires { ranks.now.starts ≡ word_ranks self.now }
+        ensures { result ≡ set.place self.now byte }
+    {
+        let word = (byte / 64) as usize;
+        match ones_below_one(self.words[word], byte % 64) {
+            Some(here) => Some(usize::from(ranks.starts[word]) + here as usize),
+            None => None,
+        }
     }
 
     /// The member at a place, counted from 0.

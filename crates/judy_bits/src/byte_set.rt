@@ -6,17 +6,17 @@ ghost use Rattle.judy_bits.specs.ByteSets.{IsByteSet};
 ghost use Rattle.judy_bits.specs.Forms.{form_of};
 ghost use Rattle.judy_bits.specs.KeptMembers.{members_in, IsInForm};
 
-use crate::bits256::Bits256;
+use crate::bits256::{Bits256, Ranks};
 use crate::few_bytes::FewBytes;
 use crate::form::Form;
 use std::marker::Model;
 
-/// The members, in one of the three forms.
+/// The members, in one of the three forms. Beside bits stand their ranks at the first byte of each word, so that a place is one count.
 #[derive(Clone, Debug, Drop)]
 enum Members {
     Linear(FewBytes),
-    Bitmap(Bits256),
-    Full(Bits256),
+    Bitmap(Ranks, Bits256),
+    Full(Ranks, Bits256),
 }
 
 /// A set of bytes. Its form follows from the number of its members alone, so a set that grew and shrank is the
@@ -58,8 +58,8 @@ impl ByteSet {
     {
         match &self.members {
             Members::Linear(few) => few.len(),
-            Members::Bitmap(bits) => bits.len(),
-            Members::Full(bits) => bits.len(),
+            Members::Bitmap(_, bits) => bits.len(),
+            Members::Full(_, bits) => bits.len(),
         }
     }
 
@@ -69,8 +69,8 @@ impl ByteSet {
     {
         match &self.members {
             Members::Linear(_) => Form::Linear,
-            Members::Bitmap(_) => Form::Bitmap,
-            Members::Full(_) => Form::Full,
+            Members::Bitmap(_, _) => Form::Bitmap,
+            Members::Full(_, _) => Form::Full,
         }
     }
 
@@ -82,7 +82,7 @@ impl ByteSet {
     {
         match &self.members {
             Members::Linear(few) => few.place(byte),
-            Members::Bitmap(bits) | Members::Full(bits) => bits.place(byte),
+            Members::Bitmap(ranks, bits) | Members::Full(ranks, bits) => bits.place_by(ranks, byte),
         }
     }
 
@@ -92,8 +92,8 @@ impl ByteSet {
     {
         match &self.members {
             Members::Linear(few) => few.rank(byte),
-            Members::Bitmap(bits) => bits.rank(byte),
-            Members::Full(bits) => bits.rank(byte),
+            Members::Bitmap(_, bits) => bits.rank(byte),
+            Members::Full(_, bits) => bits.rank(byte),
         }
     }
 
@@ -103,8 +103,8 @@ impl ByteSet {
     {
         match &self.members {
             Members::Linear(few) => bits_of(few).next_absent(byte),
-            Members::Bitmap(bits) => bits.next_absent(byte),
-            Members::Full(bits) => bits.next_absent(byte),
+            Members::Bitmap(_, bits) => bits.next_absent(byte),
+            Members::Full(_, bits) => bits.next_absent(byte),
         }
     }
 
@@ -114,8 +114,8 @@ impl ByteSet {
     {
         match &self.members {
             Members::Linear(few) => bits_of(few).prev_absent(byte),
-            Members::Bitmap(bits) => bits.prev_absent(byte),
-            Members::Full(bits) => bits.prev_absent(byte),
+            Members::Bitmap(_, bits) => bits.prev_absent(byte),
+            Members::Full(_, bits) => bits.prev_absent(byte),
         }
     }
 
@@ -125,8 +125,8 @@ impl ByteSet {
     {
         match &self.members {
             Members::Linear(few) => few.next_from(byte),
-            Members::Bitmap(bits) => bits.next_from(byte),
-            Members::Full(bits) => bits.next_from(byte),
+            Members::Bitmap(_, bits) => bits.next_from(byte),
+            Members::Full(_, bits) => bits.next_from(byte),
         }
     }
 
@@ -136,8 +136,8 @@ impl ByteSet {
     {
         match &self.members {
             Members::Linear(few) => few.prev_from(byte),
-            Members::Bitmap(bits) => bits.prev_from(byte),
-            Members::Full(bits) => bits.prev_from(byte),
+            Members::Bitmap(_, bits) => bits.prev_from(byte),
+            Members::Full(_, bits) => bits.prev_from(byte),
         }
     }
 
@@ -147,8 +147,8 @@ impl ByteSet {
     {
         match &self.members {
             Members::Linear(few) => few.nth(at),
-            Members::Bitmap(bits) => bits.nth(at),
-            Members::Full(bits) => bits.nth(at),
+            Members::Bitmap(_, bits) => bits.nth(at),
+            Members::Full(_, bits) => bits.nth(at),
         }
     }
 
@@ -181,16 +181,18 @@ fn add_to(members: &mut Members, byte: u8)
                 *members = bits_with(bits_of(few), byte);
             }
         }
-        Members::Bitmap(bits) => {
+        Members::Bitmap(ranks, bits) => {
             if bits.len() < 127 {
                 bits.add(byte);
+                *ranks = bits.ranks();
             } else {
                 *members = bits_with(Bits256::of_words(bits.words()), byte);
             }
         }
-        Members::Full(bits) => {
+        Members::Full(ranks, bits) => {
             bits.told();
             bits.add(byte);
+            *ranks = bits.ranks();
         }
     }
 }
@@ -203,16 +205,18 @@ fn take_from(members: &mut Members, byte: u8)
 {
     match members {
         Members::Linear(few) => few.take(byte),
-        Members::Bitmap(bits) => {
+        Members::Bitmap(ranks, bits) => {
             if bits.len() > 8 {
                 bits.take(byte);
+                *ranks = bits.ranks();
             } else {
                 *members = bits_without(Bits256::of_words(bits.words()), byte);
             }
         }
-        Members::Full(bits) => {
+        Members::Full(ranks, bits) => {
             if bits.len() > 128 {
                 bits.take(byte);
+                *ranks = bits.ranks();
             } else {
                 *members = bits_without(Bits256::of_words(bits.words()), byte);
             }
@@ -247,9 +251,9 @@ fn in_form(bits: Bits256) -> Members
     if count <= 7 {
         Members::Linear(few_of(&bits))
     } else if count <= 127 {
-        Members::Bitmap(bits)
+        Members::Bitmap(bits.ranks(), bits)
     } else {
-        Members::Full(bits)
+        Members::Full(bits.ranks(), bits)
     }
 }
 
