@@ -20,8 +20,6 @@ mod form;
 pub mod laws;
 mod meter;
 mod skip;
-#[cfg(test)]
-mod tests;
 mod word;
 
 pub use bits_ref::BitsRef;

@@ -19,7 +19,5 @@
 mod block;
 mod cells;
 mod header;
-#[cfg(test)]
-mod tests;
 
 pub use block::Block;

@@ -35,6 +35,3 @@ pub use sink::{Sink, write_all};
 pub use source::{Source, read_some};
 pub use stop::{BrokenPipe, Stop};
 pub use tally::Tally;
-
-#[cfg(test)]
-mod tests;

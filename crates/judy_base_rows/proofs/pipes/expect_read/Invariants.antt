@@ -1,5 +1,5 @@
 use Rattle.std.proofs.Common.{◌≡◌}
-use Rattle.judy_pipe.proofs.tests.expect_read.Given as goal
+use Rattle.judy_base_rows.proofs.pipes.expect_read.Given as goal
 
 -- the loop goes on only while no read failed
 abbrev pub invariant-loop-read : goal.invariant-loop-read

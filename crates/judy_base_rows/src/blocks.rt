@@ -3,7 +3,7 @@
 
 ghost use Rattle.std.specs.Prelude.{◌≤◌};
 
-use super::Block;
+use judy_block::Block;
 use std::alloc::{AllocError, Global};
 use std::process::Abort;
 use std::test::Fail;

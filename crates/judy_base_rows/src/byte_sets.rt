@@ -1,7 +1,7 @@
 // Sets of each size beside a limit of a form, against a plain list; growing and shrinking through the limits;
 // and each small tool once.
 
-use crate::{Bits256, ByteSet, Form, Meter, Skip, byte_of};
+use judy_bits::{Bits256, ByteSet, Form, Meter, Skip, byte_of};
 use std::alloc::{AllocError, Global};
 
 // So many of the 256 bytes, evenly spread, in ascending order.

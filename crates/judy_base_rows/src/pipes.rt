@@ -2,8 +2,11 @@
 
 ghost use Rattle.std.specs.Prelude.{◌≡◌, ◌<◌, ◌≤◌};
 
-use super::*;
 use arrayvec::ArrayVec;
+use judy_pipe::{
+    BrokenPipe, BufferedSink, BufferedSource, MemSink, MemSource, Sink, SinkTrouble, Source,
+    SourceTrouble, read_some, write_all,
+};
 use std::process::Abort;
 
 const TEXT: [u8; 6] = *b"abcdef";

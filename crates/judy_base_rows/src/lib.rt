@@ -1,0 +1,12 @@
+//! Tests of the lowest crates by their public calls: sets of bytes, blocks of words, and pipes that meet trouble.
+//!
+//! The crate stands on top of those and has no code of its own. They are proved once so: a crate with tests of its own would be proved
+//! again with them.
+#![tactic(auto)]
+
+#[cfg(test)]
+mod blocks;
+#[cfg(test)]
+mod byte_sets;
+#[cfg(test)]
+mod pipes;
