@@ -1,12 +1,12 @@
 -- The nodes below branches: what is found in a bitmap leaf, whose pairs are its last bytes' behind the skipped ones.
-use Rattle.std.proofs.Common.{◌≡◌, ℕ, ◌+◌, ◌-◌, ◌*◌, ◌^◌, ◌<◌, ◌≤◌, [], length, get_or, Some, None, slice_get, sym, refl, ap, ◌∙◌, subst, arith}
+use Rattle.std.proofs.Common.{◌≡◌, ℕ, ◌+◌, ◌-◌, ◌*◌, ◌^◌, ◌<◌, ◌≤◌, [], length, get_or, Option, Some, None, IfSome, slice_get, sym, refl, ap, ◌∙◌, subst, arith}
 use Rattle.std.proofs.Math.Nat.{pow-le-pow_right}
 use Rattle.std.proofs.lemmas.List.{append-nil}
 use Rattle.judy_leaf.specs.KeyLists.{KeyList, keys_of, values_of, shift}
 use Rattle.std.specs.Ordering.{is_ge}
 use Rattle.judy_model.specs.Keys.{word_order}
 use Rattle.judy_leaf.specs.Nearby.{pair_from, pair_up_to}
-use Rattle.judy_query.proofs.NearFacts.{from-shift, found_below, up_to-shift, up_to-none, up_to_below}
+use Rattle.judy_query.proofs.NearFacts.{from_looked, from-shift, found_below, up_to-shift, up_to-none, up_to_below}
 use Rattle.judy_bits.specs.ByteSets.{rank}
 use Rattle.judy_node.specs.Trees.{IsMap}
 use Rattle.judy_node.specs.Views.{view_pairs}
@@ -14,7 +14,7 @@ use Rattle.judy_node.specs.declared.view.ViewOf.{ViewOf}
 use Rattle.judy_node.specs.declared.view.ViewOf.TheVariants.{BitLeaf}
 use Rattle.judy_node.proofs.Maps.{map-shift, length-shift}
 use Rattle.judy_query.proofs.RankFacts.{rank-above, rank-shift, pair_at, at-shift}
-use Rattle.judy_query.specs.Parts.{value_of, raised, IsShown}
+use Rattle.judy_query.specs.Parts.{value_of, raised, width_of, IsShown}
 use Rattle.judy_query.proofs.Finds.{value-above, value-shift}
 
 module _ {V : _} (words : ℕ) (view : ViewOf V) (skipped : ℕ) (list : KeyList) (is : view ≡ BitLeaf skipped list) (shown : IsShown words view) where
@@ -42,6 +42,10 @@ module _ {V : _} (words : ℕ) (view : ViewOf V) (skipped : ℕ) (list : KeyList
   bits_value key above =
       sym (value-shift (skipped * 256) (key - skipped * 256) key list.pairs [] (omega arith) refl)
       ∙ ap (λ ps. value_of ps key) (append-nil (shift (skipped * 256) list.pairs) ∙ same_pairs)
+
+  -- A key of the leaf is its own nearest one.
+  pub bits_looked : (key : ℕ) (found : Option ℕ) → skipped * 256 ≤ key → found ≡ value_of list.pairs (key - skipped * 256) → IfSome found (λ value. pair_from (view_pairs view) key ≡ Some (key, value))
+  bits_looked key found above is = from_looked words 0 (256 ^ width_of view) (view_pairs view) key found shown.map (is ∙ bits_value key above)
 
   pub rank_below : (key : ℕ) → key < skipped * 256 → 0 ≡ rank (keys_of (view_pairs view)) key
   rank_below key below = sym (rank-above words (skipped * 256 + 0) (skipped * 256 + 256) (shift (skipped * 256) list.pairs) key (omega arith) bits_map) ∙ ap (λ ps. rank (keys_of ps) key) same_pairs

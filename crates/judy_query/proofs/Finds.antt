@@ -20,7 +20,7 @@ tied key other same = unsigned_tied key other ∙ eq-eqb key other same
 untied : (key other : ℕ) → (key ≡ other → ⊥) → eq_by_cmp word_order key other ≡ false
 untied key other apart = unsigned_tied key other ∙ ne_eqb key other apart
 
-here : (key : ℕ) (pair : ℕ × ℕ) (pairs : Pairs) → key ≡ pair.0 → value_of (pair ∷ pairs) key ≡ Some pair.1
+pub here : (key : ℕ) (pair : ℕ × ℕ) (pairs : Pairs) → key ≡ pair.0 → value_of (pair ∷ pairs) key ≡ Some pair.1
 here key pair pairs same = ap (λ t. cond t (Some pair.1) (value_of pairs key)) (tied key pair.0 same)
 
 pub later : (key : ℕ) (pair : ℕ × ℕ) (pairs : Pairs) → (key ≡ pair.0 → ⊥) → value_of (pair ∷ pairs) key ≡ value_of pairs key

@@ -1,7 +1,7 @@
 -- The pairs nearest to a key, in a part of a tree and beside it.
-use Rattle.std.proofs.Common.{◌≡◌, ℕ, ◌+◌, ◌-◌, ◌<◌, ◌≤◌, ⊎_elim, Bool, true, false, cond, nat_le, [], ◌∷◌, ◌++◌, length, find, Option, Some, None, slice_get, sym, refl, ap, ◌∙◌, subst, arith, length-append, leb-true, le-leb, is_le, is_ge}
+use Rattle.std.proofs.Common.{◌≡◌, ℕ, ◌+◌, ◌-◌, ◌<◌, ◌≤◌, ⊎_elim, Bool, true, false, cond, nat_le, [], ◌∷◌, ◌++◌, length, find, Option, Some, None, IfSome, slice_get, sym, refl, ap, ◌∙◌, subst, arith, length-append, leb-true, le-leb, is_le, is_ge}
 use Rattle.std.specs.Option.{option_or}
-use Rattle.std.proofs.lemmas.Bool.{false_from_ne_true, cases_lt}
+use Rattle.std.proofs.lemmas.Bool.{false_from_ne_true, cases_lt, cases_order}
 use Rattle.std.proofs.lemmas.List.{append-nil}
 use Rattle.std.proofs.lemmas.Option.{same_Some, slice_get-get_or}
 use Rattle.judy_model.specs.Keys.{word_order}
@@ -10,8 +10,9 @@ use Rattle.judy_model.proofs.WordOrder.{is_le_word, is_ge_word}
 use Rattle.judy_leaf.specs.KeyLists.{shift}
 use Rattle.judy_leaf.specs.Nearby.{pair_from, pair_up_to}
 use Rattle.judy_node.specs.Trees.{Pairs, IsMap}
-use Rattle.judy_query.specs.Parts.{IsPart, raised}
+use Rattle.judy_query.specs.Parts.{IsPart, raised, value_of}
 use Rattle.judy_query.specs.Turns.{last_pair}
+use Rattle.judy_query.proofs.Finds.{here, later, value-above}
 use Rattle.judy_query.proofs.RankFacts.{at-behind}
 
 -- ---- tests
@@ -81,6 +82,28 @@ found_below words low top p (pair ∷ pairs) key value map =
       | true ↦ λ found. subst (λ (other : ℕ × ℕ). other.0 < top) (same_Some pair (key, value) found) map.1
       | false ↦ λ found. found_below words (pair.0 + 1) top p pairs key value map.3 found
     ]
+
+-- A key's own pair is the first from it on.
+from_value : (words low top : ℕ) (pairs : Pairs) (key value : ℕ) → IsMap words low top pairs → value_of pairs key ≡ Some value → pair_from pairs key ≡ Some (key, value)
+from_value words low top [] key value map found = cc
+from_value words low top (pair ∷ pairs) key value map found =
+    ⊎_elim
+    (λ (same : key ≡ pair.0).
+    ap (λ b. cond b (Some pair) (pair_from pairs key)) (is_ge_word pair.0 key ∙ le-leb key pair.0 (omega arith))
+    ∙ (λ t. Some (sym same t, same_Some pair.1 value (sym (here key pair pairs same) ∙ found) t)))
+    (λ apart. ⊎_elim
+    (λ (less : key < pair.0).
+    let none : None ≡ Some value = sym (later key pair pairs (λ (e : key ≡ pair.0). let never : ⊥ = omega arith in never) ∙ value-above words (pair.0 + 1) top pairs key (omega arith) map.3) ∙ found in
+    cc)
+    (λ (more : pair.0 < key).
+    ap (λ b. cond b (Some pair) (pair_from pairs key)) (is_ge_word pair.0 key ∙ le_false key pair.0 more)
+    ∙ from_value words (pair.0 + 1) top pairs key value map.3 (sym (later key pair pairs (λ (e : key ≡ pair.0). let never : ⊥ = omega arith in never)) ∙ found))
+    apart)
+    (cases_order key pair.0)
+
+pub from_looked : (words low top : ℕ) (pairs : Pairs) (key : ℕ) (found : Option ℕ) → IsMap words low top pairs → found ≡ value_of pairs key → IfSome found (λ value. pair_from pairs key ≡ Some (key, value))
+from_looked words low top pairs key None map is = tt
+from_looked words low top pairs key (Some value) map is = from_value words low top pairs key value map (sym is)
 
 -- ---- the last that passes
 

@@ -6,14 +6,16 @@ ghost use Rattle.judy_leaf.specs.Nearby.{pair_from};
 ghost use Rattle.judy_query.specs.Maps.{map_of};
 
 use crate::branches::{byte_behind, reached};
-use crate::ends::from_in;
-use crate::turns::{later_turn, least};
+use crate::ends::{from_in, value_in_dense};
+use crate::turns::{later_turn, pair_behind};
 use judy_bits::Meter;
 use judy_leaf::Words;
 use judy_node::{NodeOf, Step, ViewOf};
 
 /// The least key that isn't below a word; `None` where all are below. At most 16 visits; the meter stands at most at
 /// `u64::MAX - 16`.
+// As `entry_at_or_after`; the value isn't read.
+#[inline(always)]
 pub fn at_or_after<V: Words + Drop>(tree: &NodeOf<V>, key: u64, meter: &mut Meter) -> Option<u64>
     requires { meter.old ≤ 2 ^ 64 - 17 }
     ensures value { result ≡ neighbours.first (map_of tree.now.pairs) key }
@@ -25,6 +27,8 @@ pub fn at_or_after<V: Words + Drop>(tree: &NodeOf<V>, key: u64, meter: &mut Mete
 }
 
 /// The same with the key's value, 0 where keys have no value.
+// Within the call that asks, the answer needn't be written to memory and read back from there.
+#[inline(always)]
 pub fn entry_at_or_after<V: Words + Drop>(
     tree: &NodeOf<V>,
     key: u64,
@@ -43,21 +47,40 @@ pub fn entry_at_or_after<V: Words + Drop>(
     'down: loop {
         let (branch, left) = at;
         let step = branch.step(left);
-        later = later_turn(
-            branch,
-            reached(branch, step),
-            byte_behind(step),
-            key - left,
-            later,
-        );
         let Step::Child(_, place, rest) = step else {
-            return least(later, meter);
+            return pair_behind(
+                branch,
+                reached(branch, step),
+                byte_behind(step),
+                key - left,
+                later,
+                meter,
+            );
         };
         match branch.children[place].enter(branch.width, meter) {
-            ViewOf::Branch(below) => at = (below, rest),
+            ViewOf::Branch(below) => {
+                later = later_turn(
+                    branch,
+                    reached(branch, step),
+                    byte_behind(step),
+                    key - left,
+                    later,
+                );
+                at = (below, rest);
+            }
             view => {
+                if let Some(value) = value_in_dense(&view, rest) {
+                    return Some((key, value));
+                }
                 let Some(found) = from_in(&view, rest) else {
-                    return least(later, meter);
+                    return pair_behind(
+                        branch,
+                        reached(branch, step),
+                        byte_behind(step),
+                        key - left,
+                        later,
+                        meter,
+                    );
                 };
                 return Some((key - rest + found.0, found.1));
             }

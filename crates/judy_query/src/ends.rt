@@ -1,6 +1,6 @@
 //! What is asked of a node that isn't a branch, where a way down ends.
 
-ghost use Rattle.std.specs.Prelude.{◌≡◌, ◌+◌, ◌<◌, ◌≤◌, length, slice_get, Some};
+ghost use Rattle.std.specs.Prelude.{◌≡◌, ◌+◌, ◌<◌, ◌≤◌, length, slice_get, Some, IfSome};
 ghost use Rattle.judy_bits.specs.ByteSets as set;
 ghost use Rattle.judy_leaf.specs.KeyLists.{keys_of};
 ghost use Rattle.judy_leaf.specs.Nearby.{pair_from, pair_up_to};
@@ -114,6 +114,24 @@ pub(crate) fn entry_in<V: Words + Drop>(view: &ViewOf<'_, V>, at: u64) -> (u64, 
         ViewOf::BitLeaf(skipped, list) => (*skipped * 256 + list.key_at(at), list.value_at(at)),
         ViewOf::Branch(_) => unreachable!(),
     }
+}
+
+/// The value of a key of a bitmap leaf; none for a key that it hasn't, and for other nodes.
+// Among dense keys the nearest one is mostly the number itself, and is found by one test of its bit.
+#[inline(always)]
+pub(crate) fn value_in_dense<V: Words + Drop>(view: &ViewOf<'_, V>, key: u64) -> Option<u64>
+    requires end { IsEnd view.now }
+    requires shown { IsShown V.WORDS view.now }
+    ensures { IfSome result (λ value. pair_from (view_pairs view.now) key ≡ Some (key, value)) }
+{
+    let ViewOf::BitLeaf(skipped, list) = view else {
+        return None;
+    };
+    let start = *skipped * 256;
+    if key < start {
+        return None;
+    }
+    value_in_bits(list, key - start)
 }
 
 /// The nearest pair at or above a number.

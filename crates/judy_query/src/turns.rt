@@ -100,6 +100,51 @@ pub(crate) fn least<V: Words + Drop>(
     Some(turn.entry_at(start, 0, meter))
 }
 
+/// The first pair of the child at a place of a branch whose keys begin at `base`, the first from a byte on; where there is none, that of
+/// the turn before.
+// Mostly there is one, and then the turn before needn't be read.
+#[inline(always)]
+pub(crate) fn pair_behind<V: Words + Drop>(
+    branch: &BranchOf<V>,
+    place: usize,
+    from: u64,
+    base: u64,
+    before: Option<Turn<'_, V>>,
+    meter: &mut Meter,
+) -> Option<(u64, u64)>
+    requires branch { IsBranch V.WORDS branch.now.width branch.now.skip branch.now.bytes branch.now.children.items branch.now.population }
+    requires from { place ≡ set.rank branch.now.bytes from }
+    requires fits { base + 256 ^ (length branch.now.skip + 1 + branch.now.width) ≤ 256 ^ 8 }
+    requires before { IsLater V.WORDS before }
+    requires room { meter.old ≤ 2 ^ 64 - 9 }
+    ensures entry { result ≡ option_or (slice_get (shift base (join (256 ^ branch.now.width) (number_of branch.now.skip * 256) (drop place branch.now.bytes) (drop place branch.now.children.items))) 0) (later_pair before.entry) }
+    ensures visits { meter.new ≤ meter.old + 8 }
+{
+    if place < branch.children.len() {
+        let turn = Turn {
+            branch,
+            place,
+            base,
+            edge: from,
+        };
+        least(Some(turn), meter)
+    } else {
+        least_before(before, meter)
+    }
+}
+
+// As `least`, for a turn further up, which is rare.
+#[cold]
+#[inline(never)]
+fn least_before<V: Words + Drop>(turn: Option<Turn<'_, V>>, meter: &mut Meter) -> Option<(u64, u64)>
+    requires turn { IsLater V.WORDS turn }
+    requires room { meter.old ≤ 2 ^ 64 - 9 }
+    ensures entry { result ≡ later_pair turn.entry }
+    ensures visits { meter.new ≤ meter.old + 8 }
+{
+    least(turn, meter)
+}
+
 /// The last pair of that child.
 #[inline(always)]
 pub(crate) fn greatest<V: Words + Drop>(

@@ -119,6 +119,8 @@ impl Judy1 {
 
     /// The least key from `i` on: `i` itself where it is there. `None` where no key is left.
     /// (Manual: J1F, Judy1First.)
+    // Compiled into the caller, as the search is: the answer doesn't go through memory then.
+    #[inline(always)]
     pub fn first(&self, i: u64) -> Option<u64>
         ensures { result ≡ neighbours.first self.now.map i }
     {
@@ -127,6 +129,8 @@ impl Judy1 {
 
     /// The least key above `i`; `None` where no key is above it, so always above the word 2^64 - 1.
     /// (Manual: J1N, Judy1Next.)
+    // As `first`.
+    #[inline(always)]
     pub fn next(&self, i: u64) -> Option<u64>
         ensures { result ≡ neighbours.next self.now.map i }
     {

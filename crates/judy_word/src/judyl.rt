@@ -160,6 +160,8 @@ impl JudyL {
 
     /// The least key from `i` on: `i` itself where it is there. `None` where no key is left.
     /// (Manual: JLF, JudyLFirst.)
+    // Compiled into the caller, as the search is: the answer doesn't go through memory then.
+    #[inline(always)]
     pub fn first(&self, i: u64) -> Option<u64>
         ensures { result ≡ neighbours.first self.now.map i }
     {
@@ -168,6 +170,8 @@ impl JudyL {
 
     /// The least key above `i`; `None` where no key is above it, so always above the word 2^64 - 1.
     /// (Manual: JLN, JudyLNext.)
+    // As `first`.
+    #[inline(always)]
     pub fn next(&self, i: u64) -> Option<u64>
         ensures { result ≡ neighbours.next self.now.map i }
     {
@@ -264,6 +268,8 @@ impl JudyL {
     }
 
     /// The least key from `i` on with its value, in one way down the tree. `None` where no key is left.
+    // As `first`.
+    #[inline(always)]
     pub fn first_entry(&self, i: u64) -> Option<(u64, u64)>
         ensures key { option_map (λ entry. entry.0) result ≡ neighbours.first self.now.map i }
         ensures value { IfSome result (λ entry. map.get self.now.map entry.0 ≡ Some entry.1) }
@@ -272,6 +278,8 @@ impl JudyL {
     }
 
     /// The least key above `i` with its value; `None` where no key is above it.
+    // As `first`.
+    #[inline(always)]
     pub fn next_entry(&self, i: u64) -> Option<(u64, u64)>
         ensures key { option_map (λ entry. entry.0) result ≡ neighbours.next self.now.map i }
         ensures value { IfSome result (λ entry. map.get self.now.map entry.0 ≡ Some entry.1) }

@@ -14,6 +14,8 @@ use judy_query::{Walk, entry_at_or_after, entry_at_or_before, entry_nth};
 
 impl<V: Words + Drop> TreeArray<V> {
     /// The least key that isn't below a word, with its value, 0 where keys have no value.
+    // Compiled into the caller, as the search is: the answer doesn't go through memory then.
+    #[inline(always)]
     pub fn first_entry(&self, from: u64) -> Option<(u64, u64)>
         ensures key { option_map (λ entry. entry.0) result ≡ neighbours.first (map_in self.now) from }
         ensures value { IfSome result (λ entry. map.get (map_in self.now) entry.0 ≡ Some entry.1) }
@@ -23,6 +25,8 @@ impl<V: Words + Drop> TreeArray<V> {
     }
 
     /// The least key above it, with its value.
+    // As `first_entry`.
+    #[inline(always)]
     pub fn next_entry(&self, from: u64) -> Option<(u64, u64)>
         ensures key { option_map (λ entry. entry.0) result ≡ neighbours.next (map_in self.now) from }
         ensures value { IfSome result (λ entry. map.get (map_in self.now) entry.0 ≡ Some entry.1) }

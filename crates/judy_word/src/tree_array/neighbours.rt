@@ -11,6 +11,8 @@ use judy_query::{at_or_after, at_or_before};
 
 impl<V: Words + Drop> TreeArray<V> {
     /// The least key that isn't below a word.
+    // Compiled into the caller, as the search is: the answer doesn't go through memory then.
+    #[inline(always)]
     pub fn first(&self, from: u64) -> Option<u64>
         ensures { result ≡ neighbours.first (map_in self.now) from }
     {
@@ -18,6 +20,8 @@ impl<V: Words + Drop> TreeArray<V> {
     }
 
     /// The least key above it.
+    // As `first`.
+    #[inline(always)]
     pub fn next(&self, from: u64) -> Option<u64>
         ensures { result ≡ neighbours.next (map_in self.now) from }
     {

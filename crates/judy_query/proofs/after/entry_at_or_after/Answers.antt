@@ -1,10 +1,11 @@
-use Rattle.std.proofs.Common.{◌≡◌, suc, ◌-◌, ◌*◌, ◌^◌, [], length, slice_get, sym, refl, ap, ◌∙◌, arith, is_ge}
+use Rattle.std.proofs.Common.{◌≡◌, suc, ◌+◌, ◌-◌, ◌*◌, ◌^◌, [], length, slice_get, Some, sym, refl, ap, ◌∙◌, arith, is_ge}
 use Rattle.std.specs.Option.{option_or}
 use Rattle.judy_model.specs.Keys.{word_order}
 use Rattle.judy_model.specs.WordBytes.{number_of}
 use Rattle.judy_bits.specs.ByteSets.{rank}
 use Rattle.judy_leaf.specs.KeyLists.{shift}
 use Rattle.judy_node.specs.Views.{view_pairs}
+use Rattle.judy_node.specs.declared.step.Step.TheVariants.{Child}
 use Rattle.judy_node.specs.declared.view.ViewOf.TheVariants.{Branch}
 use Rattle.judy_query.specs.Parts.{raised, width_of, passed, reached}
 use Rattle.judy_query.proofs.Downs.{down_root, down_child, down_gap, child_inside, child_is, beside_is, branch_is, passed_few, beside_reached}
@@ -25,12 +26,21 @@ reached-requires g c =
     let b = c.down.at.0.now in
     passed_few words b.width b.skip b.bytes b.children.items b.population c.down.at.1 c.step-step.result (branch_is words c.args.tree.now.pairs c.down.at.0 c.args.key c.down.at.1 c.down.invariant.0) c.step-step.ensures
 
-pub later_turn-later-requires-clause-from : goal.later_turn-later-requires-clause-from
-later_turn-later-requires-clause-from g c =
+pub pair_behind-requires : goal.pair_behind-requires
+pair_behind-requires g c =
     let words = g.V.Words.WORDS in
     let b = c.down.at.0.now in
-    c.reached.ensures ∙ reached_rank words b.width b.skip b.bytes b.children.items b.population (branch_is words c.args.tree.now.pairs c.down.at.0 c.args.key c.down.at.1 c.down.invariant.0) c.down.at.1 c.step-step.result c.step-step.ensures
-    ∙ ap (rank b.bytes) (sym c.byte_behind.ensures)
+    let way = c.down.invariant in
+    let branch = branch_is words c.args.tree.now.pairs c.down.at.0 c.args.key c.down.at.1 way.0 in
+    let some = way.0.shown.some in
+    let room = c.requires in
+    record {
+      branch = branch;
+      from = c.reached.ensures ∙ reached_rank words b.width b.skip b.bytes b.children.items b.population branch c.down.at.1 c.step-step.result c.step-step.ensures ∙ ap (rank b.bytes) (sym c.byte_behind.ensures);
+      fits = way.0.part.fits;
+      before = way.2;
+      room = omega (arith, way.3, room);
+    }
 
 pub returns-in_default-step : goal.returns-in_default-step
 returns-in_default-step g c =
@@ -44,11 +54,11 @@ returns-in_default-step g c =
     let place : c.reached.result ≡ passed (length b.children.items) c.step-step.result = c.reached.ensures ∙ beside_reached (length b.children.items) c.step-step.result beside in
     let some = way.0.shown.some in
     record {
-      entry = c.least.ensures.entry ∙ c.later_turn-later.ensures.pair
+      entry = c.pair_behind.ensures.entry
           ∙ (λ t. option_or (slice_get (shift base (rest_of (256 ^ b.width) (number_of b.skip * 256) b.bytes b.children.items (place t))) 0) (sym way.1 t))
           ∙ sym (head-append (shift base (rest_of (256 ^ b.width) (number_of b.skip * 256) b.bytes b.children.items (passed (length b.children.items) c.step-step.result))) way.0.back)
           ∙ sym (part-from words (256 ^ 8) pairs c.args.key 1 0 c.args.key [] _ _ part (omega arith) (omega arith));
-      visits = omega (arith, way.3, c.least.ensures.visits);
+      visits = omega (arith, way.3, c.pair_behind.ensures.visits);
     }
 
 pub index-requires : goal.index-requires
@@ -59,6 +69,20 @@ index-requires g c =
 pub enter-requires-in-down-clause-child : goal.enter-requires-in-down-clause-child
 enter-requires-in-down-clause-child g c = child_is g.V.Words.WORDS c.args.tree.now.pairs c.down.at.0 c.args.key c.down.at.1 c.down.invariant.0 c.in-Child.field-0 c.in-Child.place c.in-Child.rest c.in-Child.ensures c.index.result.now c.index.ensures
 
+pub reached-requires-in-Branch-enter : goal.reached-requires-in-Branch-enter
+reached-requires-in-Branch-enter g c =
+    let inside = child_inside g.V.Words.WORDS c.args.tree.now.pairs c.down.at.0 c.args.key c.down.at.1 c.down.invariant.0 c.in-Child.field-0 c.in-Child.place c.in-Child.rest c.in-Child.ensures in
+    omega arith
+
+pub later_turn-later-requires-clause-from : goal.later_turn-later-requires-clause-from
+later_turn-later-requires-clause-from g c =
+    let words = g.V.Words.WORDS in
+    let b = c.down.at.0.now in
+    c.reached-in-Branch-enter.ensures
+    ∙ reached_rank words b.width b.skip b.bytes b.children.items b.population (branch_is words c.args.tree.now.pairs c.down.at.0 c.args.key c.down.at.1 c.down.invariant.0) c.down.at.1
+    (Child c.in-Child.field-0 c.in-Child.place c.in-Child.rest) c.in-Child.ensures
+    ∙ ap (rank b.bytes) (sym c.byte_behind-in-Branch-enter.ensures)
+
 pub down-preserved : goal.down-preserved
 down-preserved g c =
     let words = g.V.Words.WORDS in
@@ -67,7 +91,7 @@ down-preserved g c =
     let base = c.args.key - c.down.at.1 in
     let way = c.down.invariant in
     let next = down_child words pairs c.down.at.0 c.args.key c.down.at.1 way.0 c.in-Child.field-0 c.in-Child.place c.in-Child.rest c.in-Child.ensures c.index.result.now c.index.ensures (Branch c.in-Branch-enter.below) c.in-Branch-enter.ensures.view in
-    let place : c.reached.result ≡ suc c.in-Child.place = c.reached.ensures ∙ ap (reached (length b.children.items)) c.in-Child.is in
+    let place : c.reached-in-Branch-enter.result ≡ suc c.in-Child.place = c.reached-in-Branch-enter.ensures in
     let less = next.width_is in
     let visits = c.enter-in-down.ensures.visits in
     let so_far = way.3 in (
@@ -79,6 +103,52 @@ down-preserved g c =
       omega arith,
     )
 
+pub returns-in-Some : goal.returns-in-Some
+returns-in-Some g c =
+    let words = g.V.Words.WORDS in
+    let pairs = c.args.tree.now.pairs in
+    let base = c.args.key - c.in-Child.rest in
+    let view = c.enter-in-down.result in
+    let next = down_child words pairs c.down.at.0 c.args.key c.down.at.1 c.down.invariant.0 c.in-Child.field-0 c.in-Child.place c.in-Child.rest c.in-Child.ensures c.index.result.now c.index.ensures view c.enter-in-down.ensures.view in
+    let down = next.down in
+    let above = down.above in
+    let less = next.width_is in
+    let some = down.shown.some in
+    let whole : c.args.key ≡ base + c.in-Child.rest = omega arith in
+    record {
+      entry = (λ t. Some (whole t, c.in-Some.value))
+          ∙ sym (part-from words (256 ^ 8) pairs base (256 ^ width_of view) c.in-Child.rest c.args.key (view_pairs view) down.front down.back down.part whole down.inside
+          ∙ ap (λ found. option_or (raised base found) (slice_get down.back 0)) c.in-Some.ensures);
+      visits = omega (arith, c.down.invariant.3, c.enter-in-down.ensures.visits);
+    }
+
+pub reached-requires-in_default-from_in : goal.reached-requires-in_default-from_in
+reached-requires-in_default-from_in g c =
+    let inside = child_inside g.V.Words.WORDS c.args.tree.now.pairs c.down.at.0 c.args.key c.down.at.1 c.down.invariant.0 c.in-Child.field-0 c.in-Child.place c.in-Child.rest c.in-Child.ensures in
+    omega arith
+
+pub pair_behind-requires-in_default-from_in : goal.pair_behind-requires-in_default-from_in
+pair_behind-requires-in_default-from_in g c =
+    let words = g.V.Words.WORDS in
+    let pairs = c.args.tree.now.pairs in
+    let b = c.down.at.0.now in
+    let way = c.down.invariant in
+    let next = down_child words pairs c.down.at.0 c.args.key c.down.at.1 way.0 c.in-Child.field-0 c.in-Child.place c.in-Child.rest c.in-Child.ensures c.index.result.now c.index.ensures c.enter-in-down.result c.enter-in-down.ensures.view in
+    let branch = branch_is words pairs c.down.at.0 c.args.key c.down.at.1 way.0 in
+    let less = next.width_is in
+    let some = next.down.shown.some in
+    let visits = c.enter-in-down.ensures.visits in
+    let room = c.requires in
+    record {
+      branch = branch;
+      from = c.reached-in_default-from_in.ensures
+          ∙ reached_rank words b.width b.skip b.bytes b.children.items b.population branch c.down.at.1 (Child c.in-Child.field-0 c.in-Child.place c.in-Child.rest) c.in-Child.ensures
+          ∙ ap (rank b.bytes) (sym c.byte_behind-in_default-from_in.ensures);
+      fits = way.0.part.fits;
+      before = way.2;
+      room = omega (arith, way.3, visits, room);
+    }
+
 pub returns-in_default-from_in : goal.returns-in_default-from_in
 returns-in_default-from_in g c =
     let words = g.V.Words.WORDS in
@@ -88,20 +158,20 @@ returns-in_default-from_in g c =
     let way = c.down.invariant in
     let view = c.enter-in-down.result in
     let next = down_child words pairs c.down.at.0 c.args.key c.down.at.1 way.0 c.in-Child.field-0 c.in-Child.place c.in-Child.rest c.in-Child.ensures c.index.result.now c.index.ensures view c.enter-in-down.ensures.view in
-    let place : c.reached.result ≡ suc c.in-Child.place = c.reached.ensures ∙ ap (reached (length b.children.items)) c.in-Child.is in
+    let place : c.reached-in_default-from_in.result ≡ suc c.in-Child.place = c.reached-in_default-from_in.ensures in
     let down = next.down in
     let above = down.above in
     let less = next.width_is in
     let some = down.shown.some in
     let visits = c.enter-in-down.ensures.visits in
     record {
-      entry = c.least-in_default-from_in.ensures.entry ∙ c.later_turn-later.ensures.pair
+      entry = c.pair_behind-in_default-from_in.ensures.entry
           ∙ (λ t. option_or (slice_get (shift base (rest_of (256 ^ b.width) (number_of b.skip * 256) b.bytes b.children.items (place t))) 0) (sym way.1 t))
           ∙ sym (head-append (shift base (rest_of (256 ^ b.width) (number_of b.skip * 256) b.bytes b.children.items (suc c.in-Child.place))) way.0.back)
           ∙ sym (ap (λ ps. slice_get ps 0) next.back_is)
           ∙ sym (part-from words (256 ^ 8) pairs (c.args.key - c.in-Child.rest) (256 ^ width_of view) c.in-Child.rest c.args.key (view_pairs view) down.front down.back down.part (omega arith) down.inside
           ∙ ap (λ found. option_or (raised (c.args.key - c.in-Child.rest) found) (slice_get down.back 0)) (sym c.from_in-in_default-enter.ensures ∙ c.in_default-from_in.is));
-      visits = omega (arith, way.3, c.least-in_default-from_in.ensures.visits);
+      visits = omega (arith, way.3, c.pair_behind-in_default-from_in.ensures.visits);
     }
 
 pub overflow_add-result : goal.overflow_add-result
@@ -110,7 +180,7 @@ overflow_add-result g c =
     let next = down_child g.V.Words.WORDS c.args.tree.now.pairs c.down.at.0 c.args.key c.down.at.1 c.down.invariant.0 c.in-Child.field-0 c.in-Child.place c.in-Child.rest c.in-Child.ensures c.index.result.now c.index.ensures view c.enter-in-down.ensures.view in
     let down = next.down in
     let fits = down.part.fits in
-    let below = found_below g.V.Words.WORDS 0 (256 ^ width_of view) (λ pair. is_ge (word_order pair.0 c.in-Child.rest)) (view_pairs view) c.in-Some.found.0 c.in-Some.found.1 down.shown.map (sym c.from_in-in_default-enter.ensures ∙ c.in-Some.is) in
+    let below = found_below g.V.Words.WORDS 0 (256 ^ width_of view) (λ pair. is_ge (word_order pair.0 c.in-Child.rest)) (view_pairs view) c.in-Some-from_in.found.0 c.in-Some-from_in.found.1 down.shown.map (sym c.from_in-in_default-enter.ensures ∙ c.in-Some-from_in.is) in
     omega arith
 
 pub returns-in_default-enter : goal.returns-in_default-enter
@@ -126,6 +196,6 @@ returns-in_default-enter g c =
     let some = down.shown.some in
     record {
       entry = sym (part-from words (256 ^ 8) pairs base (256 ^ width_of view) c.in-Child.rest c.args.key (view_pairs view) down.front down.back down.part (omega arith) down.inside
-          ∙ ap (λ found. option_or (raised base found) (slice_get down.back 0)) (sym c.from_in-in_default-enter.ensures ∙ c.in-Some.is));
+          ∙ ap (λ found. option_or (raised base found) (slice_get down.back 0)) (sym c.from_in-in_default-enter.ensures ∙ c.in-Some-from_in.is));
       visits = omega (arith, c.down.invariant.3, c.enter-in-down.ensures.visits);
     }
