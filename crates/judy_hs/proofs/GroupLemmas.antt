@@ -15,6 +15,9 @@ use Rattle.judy_hs.specs.Groups.{Group, none, short, long, group_with, group_wit
 use Rattle.judy_hs.specs.GroupPlaces.{group_of, groups_of, link_of, links_of}
 use Rattle.judy_hs.specs.GroupLends.{place_with}
 use Rattle.judy_hs.specs.Keyed.{Keyed, keyed_with, IsFreeGroup}
+use Rattle.judy_hs.specs.declared.trial.Trial.{Trial}
+use Rattle.judy_hs.specs.declared.trial.Trial.TheVariants.{Added, Refused, Open}
+use Rattle.judy_hs.specs.Trials.{IfAdded, UnlessAdded}
 use Rattle.judy_hs.proofs.PlaceSteps.{put-places, end-places, set-places, free-places}
 use Rattle.judy_hs.proofs.ListLemmas.{set-twice, set_same, map-put}
 
@@ -171,3 +174,11 @@ module _ (places : List GroupPlace) (free : ℕ) (lost : NoneLost (links_of plac
       -- or goes.
       pub groups-gone : at < length places → NoneLost (links_of (set (set places at new) at (Free free))) at
       groups-gone inside = free-places link_of places free lost at held is inside (link-group held some) new (Free free) refl
+
+    -- A key is tried in it.
+    pub groups-tried : (trial : Trial Inside) (part : ℕ) (key : List ℕ) (new : GroupPlace)
+        → IfAdded trial (λ _. group_of held ≢ none) → IfAdded trial (λ inside. group_of new ≡ group_with_key (group_of held) part key inside) → UnlessAdded trial (new ≡ held)
+        → NoneLost (links_of (set places at new)) free
+    groups-tried (Added inside) part key new some added same = groups-set some new (λ gone. key-some (group_of held) part key inside some (sym added ∙ gone))
+    groups-tried Refused part key new some added same = subst (λ (one : GroupPlace). NoneLost (links_of (set places at one)) free) (sym same) groups-back
+    groups-tried Open part key new some added same = subst (λ (one : GroupPlace). NoneLost (links_of (set places at one)) free) (sym same) groups-back

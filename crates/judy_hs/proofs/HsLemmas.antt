@@ -1,5 +1,5 @@
 -- Arrays: what the changes of their groups make of them.
-use Rattle.std.proofs.Common.{◌≡◌, ◌≢◌, ℕ, ◌+◌, ◌-◌, ◌<◌, ◌≤◌, ◌==◌, true, false, cond, List, length, get_or, set, Option, Some, None, is_some, IsSome, IfSome, Result, Ok, Err, IsOk, IfOk, OnOk, IfErr, MutBor, IsTrue, IsFalse, ◌↔◌, eq-eqb, refl, sym, ap, ◌∙◌, subst, ◌⊎◌, inl, inr, ⊎_elim, arith}
+use Rattle.std.proofs.Common.{◌≡◌, ◌≢◌, ℕ, ◌+◌, ◌-◌, ◌<◌, ◌≤◌, ◌==◌, Bool, true, false, not, cond, List, length, get_or, set, Option, Some, None, is_some, IsSome, IfSome, Result, Ok, Err, IsOk, IfOk, OnOk, IfErr, MutBor, IsTrue, IsFalse, ◌↔◌, eq-eqb, refl, sym, ap, ◌∙◌, subst, ◌⊎◌, inl, inr, ⊎_elim, arith}
 use Rattle.std.specs.FinMap.{FinMap, get, insert, remove, empty, len, contains_key, len-empty, len-insert, len-remove, get-empty, empty_of_len}
 use Rattle.std.specs.Borrow.{name_if_ok}
 use borrow.Follows.Closed.{read_of}
@@ -232,6 +232,10 @@ counts_one map key value count held counted = ⊎_elim
     (same_or_not count 0)
 
 -- ---- an insert
+
+-- Where a key is tried as a new one, there is room.
+pub room-tried : (count limit : ℕ) (tries : Bool) → tries ≡ not (count == limit) → IsTrue tries → count ≢ limit
+room-tried count limit tries is tried full = false≢true (sym (ap not (eq-eqb count limit full)) ∙ sym is ∙ tried)
 
 -- A result that is Ok lends alike where it lends alike for each value.
 pub ok_only : {D : Type 0} (r : Result (MutBor ℕ) HsError) → IsOk r → (one two : ℕ → D) (x y : D) → ((w : ℕ) → one w ≡ two w)

@@ -4,6 +4,7 @@ pub mod PlaceSteps
 pub mod LongLemmas
 pub mod GroupLemmas
 pub mod TwoLevels
+pub mod TrialLemmas
 pub mod PartLemmas
 pub mod GroupSteps
 pub mod GroupChanges

@@ -69,6 +69,16 @@ with_chain-put hashes made places hash place key new is one =
     ap (λ (all : List Pairs). record { hashes = made; chains = all }) (chains_of-put places place new)
     ∙ (λ t. record { hashes = is t; chains = put_at (chains_of places) place (one t) })
 
+-- A hash that led nowhere leads to a chain of one key.
+pub added-new : (hashes made : ArrayOf word_order) (places : List ChainPlace) (hash place : ℕ) (key : List ℕ) (new : ChainPlace)
+    → get hashes.map hash ≡ None → IsFreePlace (chains_of places) place → made ≡ with_map hashes (insert hashes.map hash place) → pairs_at new ≡ (key, 0) ∷ []
+    → IsAdded (long_of hashes places) (long_of made (put_at places place new)) hash key place 0
+added-new hashes made places hash place key new absent free is one =
+    subst (λ (found : Option ℕ). IsFound (long_of hashes places) found place 0 × (long_of made (put_at places place new) ≡ added_long (long_of hashes places) hash key found place)) (sym absent) (
+      (free, refl),
+      with_chain-put hashes made places hash place key new is one,
+    )
+
 -- ---- a key put into a chain
 
 pub added-held : (hashes : ArrayOf word_order) (places : List ChainPlace) (hash place at : ℕ) (key : List ℕ) (new : ChainPlace)

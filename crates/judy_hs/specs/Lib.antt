@@ -17,3 +17,4 @@ pub mod Refusals
 pub mod Slots
 pub mod InnerForm
 pub mod Listed
+pub mod Trials

@@ -11,6 +11,7 @@ use crate::error::HsError;
 use crate::groups::Groups;
 use crate::hash::ByteHash;
 use crate::part::part_of;
+use crate::trial::Trial;
 use judy_word::JudyL;
 use std::alloc::{AllocError, Global};
 use std::marker::Model;
@@ -26,6 +27,9 @@ pub struct JudyHs<H: ByteHash + Drop> {
     limit: u64,
     count: u64,
     groups: Groups,
+    // Whether the last insert put a key in. The next one is then tried as one that does, which finds its place and puts it in by one way down, and
+    // takes a second one where its key is there.
+    adds: bool,
 }
 
 impl<H: ByteHash + Drop> Model for JudyHs<H> {
@@ -63,6 +67,7 @@ impl<H: ByteHash + Drop> JudyHs<H> {
             limit,
             count: 0,
             groups: Groups::new(alloc),
+            adds: true,
         }
     }
 
@@ -84,20 +89,34 @@ impl<H: ByteHash + Drop> JudyHs<H> {
             return Err(HsError::TooLong);
         }
         let part = part_of(&self.hasher, key);
-        let way = self.groups.way(part, key);
-        match self.groups.find(way, part, key) {
-            Some(spot) => self.groups.slot_of(spot),
-            None => {
-                if is_full {
-                    return Err(HsError::Full);
-                }
-                let alloc = self.groups.allocator();
-                match self.groups.add(alloc, way, part, key) {
-                    Ok(spot) => {
-                        self.count += 1;
+        let alloc = self.groups.allocator();
+        let tries = self.adds && !is_full;
+        match self.groups.try_add(alloc, tries, part, key) {
+            Trial::Added(spot) => {
+                self.count += 1;
+                self.groups.slot_of(spot)
+            }
+            Trial::Refused => Err(HsError::NoMemory),
+            Trial::Open => {
+                let way = self.groups.way(part, key);
+                match self.groups.find(way, part, key) {
+                    Some(spot) => {
+                        self.adds = false;
                         self.groups.slot_of(spot)
                     }
-                    Err(_) => Err(HsError::NoMemory),
+                    None => {
+                        if is_full {
+                            return Err(HsError::Full);
+                        }
+                        match self.groups.add(alloc, way, part, key) {
+                            Ok(spot) => {
+                                self.count += 1;
+                                self.adds = true;
+                                self.groups.slot_of(spot)
+                            }
+                            Err(_) => Err(HsError::NoMemory),
+                        }
+                    }
                 }
             }
         }

@@ -8,6 +8,7 @@ ghost use Rattle.judy_hs.specs.Listed.{entries_in, short_list};
 
 use crate::entry::{HsEntry, short_key};
 use crate::long_group::LongGroup;
+use crate::trial::Trial;
 use judy_word::{InsertError, JudyL};
 use std::alloc::{AllocError, Global};
 
@@ -28,8 +29,9 @@ pub enum GroupPlace {
 }
 
 impl GroupPlace {
-    ghost use Rattle.judy_hs.specs.Groups.{in_group, chain_in, words_of, IsInside, IsNewInside, IsUsable, value_inside, group_with_key, group_without, CanTakeKey, IsRemovable, IsEmptyGroup};
+    ghost use Rattle.judy_hs.specs.Groups.{none, in_group, chain_in, words_of, IsInside, IsNewInside, IsUsable, value_inside, group_with_key, group_without, CanTakeKey, IsRemovable, IsEmptyGroup};
     ghost use Rattle.judy_hs.specs.GroupPlaces.{group_of};
+    ghost use Rattle.judy_hs.specs.Trials.{IfAdded, UnlessAdded, UnlessOpen};
     ghost use Rattle.judy_hs.specs.GroupLends.{LendsInside};
     ghost use Rattle.judy_hs.specs.Listed.{CanList, group_list};
     ghost use Rattle.judy_hs.specs.Values.{AreWords};
@@ -119,6 +121,31 @@ impl GroupPlace {
                 Err(error) => Err(error),
             },
             GroupPlace::Free(_) => unreachable!(),
+        }
+    }
+
+    // Puts a key in with the value 0 where it and each key with its hash are absent, by one way down, and answers where it stands.
+    pub fn try_add(&mut self, alloc: Global, part: u64, key: &[u8]) -> Trial<Inside>
+        requires room { IfSome (words_of (group_of self.old)) (λ words. map_len words.map < words.limit) }
+        ensures absent { UnlessOpen result (in_group (group_of self.old) part key.now ≡ None) }
+        ensures place { IfAdded result (IsNewInside (group_of self.old) part) }
+        ensures added { IfAdded result (λ inside. group_of self.new ≡ group_with_key (group_of self.old) part key.now inside) }
+        ensures some { IfAdded result (λ _. group_of self.old ≢ none) }
+        ensures unchanged { UnlessAdded result (self.new ≡ self.old) }
+    {
+        match self {
+            GroupPlace::Short(words) => match words.put_if_absent(part, 0) {
+                Ok(true) => Trial::Added(Inside::Word(part)),
+                Ok(false) => Trial::Open,
+                Err(InsertError::Full) => unreachable!(),
+                Err(InsertError::NoMemory) => Trial::Refused,
+            },
+            GroupPlace::Long(group) => match group.try_add(alloc, part, key) {
+                Trial::Added(place) => Trial::Added(Inside::Chained(place, 0)),
+                Trial::Refused => Trial::Refused,
+                Trial::Open => Trial::Open,
+            },
+            GroupPlace::Free(_) => Trial::Open,
         }
     }
 

@@ -1,7 +1,7 @@
 //! All groups of an array, by the length of their keys. A new group takes the place that is free first; the list grows
 //! only where none is free.
 
-ghost use Rattle.std.specs.Prelude.{ℕ, ◌++◌, OnOk, ◌≡◌, ◌≢◌, ◌<◌, ◌≤◌, [], option_copied, IfOk, IsOk, OnErr, IsSome, IfSome, None, Some, MatchOption, length, get_or, vec_len, vec_capacity};
+ghost use Rattle.std.specs.Prelude.{ℕ, ◌++◌, OnOk, ◌≡◌, ◌≢◌, ◌<◌, ◌≤◌, [], option_copied, IfOk, IsOk, OnErr, IsSome, IfSome, IsTrue, None, Some, MatchOption, length, get_or, vec_len, vec_capacity};
 ghost use Rattle.std.specs.Borrow.{sem};
 ghost use Rattle.std.specs.FinMap.{get, len as map_len};
 ghost use Rattle.std.specs.Option.{option_copied_mut};
@@ -14,6 +14,7 @@ use crate::entry::HsEntry;
 use crate::error::HsError;
 use crate::group::{GroupPlace, Inside};
 use crate::long_group::{LongGroup, put};
+use crate::trial::Trial;
 use judy_word::{InsertError, JudyL};
 use std::alloc::{AllocError, Global};
 use std::marker::Model;
@@ -78,6 +79,7 @@ fn group_of_one(alloc: Global, part: u64, key: &[u8]) -> Result<(GroupPlace, Ins
 impl Groups {
     ghost use Rattle.judy_hs.specs.Groups.{IsUsable, CanTakeKey, IsRemovable, IsEmptyGroup, value_inside, group_without};
     ghost use Rattle.judy_hs.specs.Keyed.{no_keys, in_keyed, chain_led, words_at, group_at, IsSpot, IsNewSpot, added_keyed, with_group, keyed_without, without_group};
+    ghost use Rattle.judy_hs.specs.Trials.{IfAdded, UnlessAdded, UnlessOpen};
     ghost use Rattle.judy_hs.specs.KeyedLends.{LendsSpot, LendsSpotOk};
     ghost use Rattle.judy_hs.specs.Listed.{CanList, entries_in, group_list, keyed_list};
     ghost use Rattle.judy_hs.specs.Values.{AreWords};
@@ -170,6 +172,32 @@ impl Groups {
         match self.slot(spot) {
             Some(slot) => Ok(slot),
             None => unreachable!(),
+        }
+    }
+
+    // Puts a key in with the value 0, by one way down its group, where it is one to try so, and answers where it stands.
+    pub fn try_add(&mut self, alloc: Global, tries: bool, part: u64, key: &[u8]) -> Trial<Spot>
+        requires group { IfSome (words_at self.old (get self.old.lengths.map (length key.now))) (λ words. map_len words.map < words.limit) }
+        ensures tried { UnlessOpen result (IsTrue tries) }
+        ensures absent { UnlessOpen result (in_keyed self.old part key.now ≡ None) }
+        ensures place { IfAdded result (λ spot. IsNewSpot self.old part key.now (get self.old.lengths.map (length key.now)) spot.group spot.inside) }
+        ensures added { IfAdded result (λ spot. self.new ≡ added_keyed self.old part key.now (get self.old.lengths.map (length key.now)) spot.group spot.inside) }
+        ensures unchanged { UnlessAdded result (self.new ≡ self.old) }
+    {
+        if !tries {
+            return Trial::Open;
+        }
+        let Some(place) = self.lengths.get(key.len() as u64) else {
+            return Trial::Open;
+        };
+        let group = place as usize;
+        let Some(held) = self.groups.get_mut(group) else {
+            return Trial::Open;
+        };
+        match held.try_add(alloc, part, key) {
+            Trial::Added(inside) => Trial::Added(Spot { group, inside }),
+            Trial::Refused => Trial::Refused,
+            Trial::Open => Trial::Open,
         }
     }
 

@@ -19,6 +19,7 @@ mod groups;
 mod hash;
 mod long_group;
 mod part;
+mod trial;
 
 pub use bytes::JudyHs;
 pub use entry::{HsEntry, HsKey};

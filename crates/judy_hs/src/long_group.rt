@@ -1,18 +1,19 @@
 //! The keys of one length above 8 bytes, by their hashes. A new chain takes the place that is free first; the list grows
 //! only where none is free.
 
-ghost use Rattle.std.specs.Prelude.{ℕ, ◌≡◌, ◌≢◌, ◌∷◌, [], ◌<◌, ◌≤◌, IfOk, OnOk, OnErr, None, Some, MatchOption, ◌++◌, ◌↔◌, IsTrue, IfSome, length, get_or, vec_len, vec_capacity};
+ghost use Rattle.std.specs.Prelude.{ℕ, ◌≡◌, ◌≢◌, ◌∷◌, [], ◌<◌, ◌≤◌, IfOk, OnOk, OnErr, None, Some, MatchOption, ◌++◌, ◌↔◌, IsTrue, IsSome, IfSome, length, get_or, vec_len, vec_capacity};
 ghost use Rattle.std.specs.FinMap.{get, empty, len as map_len};
 ghost use Rattle.std.specs.Borrow.{sem};
 ghost use Rattle.std.specs.Option.{option_copied_mut};
 ghost use Rattle.std.specs.List.{remove};
 ghost use Rattle.judy_hs.specs.LongGroups.{put_at, IsFreePlace};
-ghost use Rattle.judy_hs.specs.ChainPlaces.{chains_of, links_of, AreChainPlaces};
+ghost use Rattle.judy_hs.specs.ChainPlaces.{pairs_at, IsOne, chains_of, links_of, AreChainPlaces};
 ghost use Rattle.judy_places.specs.Places.{IsNextPlace};
 ghost use Rattle.judy_hs.specs.Listed.{entries_in};
 
 use crate::chain::{Chain, is_word};
 use crate::entry::{HsEntry, HsKey, sort_from};
+use crate::trial::Trial;
 use judy_entry::{Entry, Few, MOST_FEW};
 use judy_word::{InsertError, JudyL};
 use std::alloc::{AllocError, Global};
@@ -93,21 +94,15 @@ fn make_room(chains: &mut Vec<ChainPlace>) -> Result<(), AllocError>
     chains.reserve_exact(chains.len() / 8 + 1)
 }
 
-// The place that the next chain takes, and the one that is free first then: the first free one, or the end of the list,
-// where room is reserved.
-fn free_place(chains: &mut Vec<ChainPlace>, free: usize) -> Result<(usize, usize), AllocError>
-    requires { AreChainPlaces chains.old.items free }
-    ensures next { IfOk result (λ found. IsNextPlace (links_of chains.old.items) free found.0 found.1) }
-    ensures found { IfOk result (λ found. IsFreePlace (chains_of chains.old.items) found.0) }
-    ensures room { IfOk result (λ found. found.0 ≡ length chains.new.items → vec_len chains.new < vec_capacity chains.new) }
-    ensures same { chains.new.items ≡ chains.old.items }
+// The place that the next chain takes, and the one that is free first then: the first free one, or the end of the list.
+fn next_place(chains: &[ChainPlace], free: usize) -> (usize, usize)
+    requires { AreChainPlaces chains.now free }
+    ensures next { IsNextPlace (links_of chains.now) free result.0 result.1 }
+    ensures found { IsFreePlace (chains_of chains.now) result.0 }
 {
     match first_link(chains, free) {
-        Some(next) => Ok((free, next)),
-        None => {
-            make_room(chains)?;
-            Ok((chains.len(), free))
-        }
+        Some(next) => (free, next),
+        None => (chains.len(), free),
     }
 }
 
@@ -284,8 +279,27 @@ impl ChainPlace {
     }
 }
 
+// The chain of one key, with the value 0, and room for it at a place of the list.
+fn chain_for(
+    alloc: Global,
+    chains: &mut Vec<ChainPlace>,
+    place: usize,
+    key: &[u8],
+) -> Result<ChainPlace, AllocError>
+    ensures pairs { IfOk result (λ chain. pairs_at chain ≡ (key.now, 0) ∷ []) }
+    ensures one { IfOk result IsOne }
+    ensures room { OnOk result (place ≡ length chains.new.items → vec_len chains.new < vec_capacity chains.new) }
+    ensures same { chains.new.items ≡ chains.old.items }
+{
+    if place == chains.len() {
+        make_room(chains)?;
+    }
+    ChainPlace::of(alloc, key)
+}
+
 impl LongGroup {
-    ghost use Rattle.judy_hs.specs.LongGroups.{one_long, in_long, in_chain, chain_at, IsLongPlace, IsAdded, value_of_place, with_chain, without_key};
+    ghost use Rattle.judy_hs.specs.LongGroups.{one_long, in_long, in_chain, chain_at, IsLongPlace, IsAdded, value_of_place, without_key};
+    ghost use Rattle.judy_hs.specs.Trials.{IfAdded, UnlessAdded, UnlessOpen, IfOpen};
     ghost use Rattle.judy_hs.specs.LongLends.{LendsLong};
     ghost use Rattle.judy_hs.specs.Chains.{AreApart};
     ghost use Rattle.judy_hs.specs.Listed.{chained, long_list};
@@ -373,32 +387,41 @@ impl LongGroup {
                 let at = self.chains[place].add(alloc, key)?;
                 Ok((place, at))
             }
-            None => {
-                let place = self.add_chain(alloc, hash, key)?;
-                Ok((place, 0))
-            }
+            None => match self.try_add(alloc, hash, key) {
+                Trial::Added(place) => Ok((place, 0)),
+                Trial::Refused => Err(AllocError),
+                Trial::Open => unreachable!(),
+            },
         }
     }
 
-    // Puts a chain of one key in, under a hash that leads nowhere, and answers its place. The insert into `hashes` is
-    // the last step that can be refused.
-    fn add_chain(&mut self, alloc: Global, hash: u64, key: &[u8]) -> Result<usize, AllocError>
+    // Puts a key in with the value 0 where its hash leads nowhere, and answers the place of its chain: one way down the hashes shows that and
+    // puts the hash in. Only then is more memory asked for, so that none is for a key that is there; where it is refused, the hash goes again.
+    pub fn try_add(&mut self, alloc: Global, hash: u64, key: &[u8]) -> Trial<usize>
         requires room { map_len self.old.hashes.map < self.old.hashes.limit }
-        requires absent { get self.old.hashes.map hash ≡ None }
-        ensures place { IfOk result (IsFreePlace self.old.chains) }
-        ensures added { IfOk result (λ place. self.new ≡ with_chain self.old hash key.now place) }
-        ensures unchanged { OnErr result (self.new ≡ self.old) }
+        ensures absent { UnlessOpen result (get self.old.hashes.map hash ≡ None) }
+        ensures held { IfOpen result (IsSome (get self.old.hashes.map hash)) }
+        ensures added { IfAdded result (λ place. IsAdded self.old self.new hash key.now place 0) }
+        ensures unchanged { UnlessAdded result (self.new ≡ self.old) }
     {
-        let chain = ChainPlace::of(alloc, key)?;
-        let (place, next) = free_place(&mut self.chains, self.free)?;
-        match self.hashes.put(hash, place as u64) {
-            Ok(_) => {}
+        let (place, next) = next_place(&self.chains, self.free);
+        match self.hashes.put_if_absent(hash, place as u64) {
+            Ok(true) => {}
+            Ok(false) => return Trial::Open,
             Err(InsertError::Full) => unreachable!(),
-            Err(InsertError::NoMemory) => return Err(AllocError),
+            Err(InsertError::NoMemory) => return Trial::Refused,
         }
-        self.free = next;
-        put(&mut self.chains, place, chain);
-        Ok(place)
+        match chain_for(alloc, &mut self.chains, place, key) {
+            Ok(chain) => {
+                self.free = next;
+                put(&mut self.chains, place, chain);
+                Trial::Added(place)
+            }
+            Err(_) => {
+                self.hashes.del(hash);
+                Trial::Refused
+            }
+        }
     }
 
     // Takes the key at a place of the chain of its hash out. A chain that becomes empty goes, with its hash.
