@@ -7,7 +7,7 @@ use Rattle.judy_leaf.specs.KeyLists.{shift}
 use Rattle.judy_node.specs.Views.{view_pairs}
 use Rattle.judy_node.specs.declared.step.Step.TheVariants.{Child}
 use Rattle.judy_node.specs.declared.view.ViewOf.TheVariants.{Branch}
-use Rattle.judy_query.specs.Parts.{raised, width_of, passed, reached}
+use Rattle.judy_query.specs.Parts.{raised, width_of, passed}
 use Rattle.judy_query.proofs.Downs.{down_root, down_child, down_gap, child_inside, child_is, beside_is, branch_is, passed_few, beside_reached}
 use Rattle.judy_query.proofs.NearFacts.{part-from, head-append, found_below}
 use Rattle.judy_query.proofs.LaterFacts.{reached_rank}
