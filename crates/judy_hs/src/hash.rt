@@ -2,7 +2,7 @@
 
 ghost use Rattle.std.specs.Prelude.{◌≡◌, List, ℕ, fold};
 ghost use Rattle.judy_hs.specs.Fnv.{fnv1a};
-ghost use Rattle.judy_hs.specs.Eights.{by_eights, word_step};
+ghost use Rattle.judy_hs.specs.Eights.{by_eights, last_step, word_step};
 
 /// A hash of byte strings: a function of the bytes alone. A `JudyHs` is right for each, also for one that is the same for
 /// all bytes.
@@ -31,8 +31,8 @@ impl ByteHash for Fnv1a {
 
 /// A hash that takes eight bytes at a step, so that one of a long key takes a third of the time that `Fnv1a` does: a word is xored to
 /// the hash, which is then multiplied by 11400714819323198485 modulo 2^64, and the upper half of that is xored to the lower one. It
-/// begins with 14695981039346656037, reads a word's first byte as its lowest, takes each of the last bytes that are no eight as a word,
-/// and ends with the lower half.
+/// begins with 14695981039346656037, reads a word's first byte as its lowest, and ends with the lower half. Where more than eight bytes
+/// are left it takes the first eight of them, and at last the last eight of all, some of them again; of fewer than eight in all, each is a word.
 #[derive(Clone, Copy)]
 pub struct Eights;
 
@@ -52,7 +52,7 @@ fn word_step(hash: u64, word: u64) -> u64
     multiplied ^ (multiplied / 4294967296)
 }
 
-// The hash with the bytes that are left, each a word.
+// The hash with each of the bytes as a word.
 fn bytes_after(hash: u64, bytes: &[u8]) -> u64
     ensures { result ≡ fold word_step hash bytes.now }
 {
@@ -61,15 +61,28 @@ fn bytes_after(hash: u64, bytes: &[u8]) -> u64
         .fold(hash, |hash, byte| word_step(hash, u64::from(*byte)))
 }
 
+// The hash with the last eight bytes as a word.
+fn last_step(hash: u64, bytes: &[u8]) -> u64
+    ensures { result ≡ last_step hash bytes.now }
+{
+    match bytes.last_chunk::<8>() {
+        Some(last) => word_step(hash, u64::from_le_bytes(*last)),
+        None => bytes_after(hash, bytes),
+    }
+}
+
 // The hash of all bytes.
 fn by_eights(bytes: &[u8]) -> u32
     ensures { result ≡ by_eights bytes.now }
 {
     let mut hash = 14695981039346656037;
     let mut rest = bytes;
-    'chunks: while let Some((chunk, after)) = rest.split_first_chunk::<8>() {
+    'chunks: while rest.len() > 8 {
+        let Some((chunk, after)) = rest.split_first_chunk::<8>() else {
+            unreachable!();
+        };
         hash = word_step(hash, u64::from_le_bytes(*chunk));
         rest = after;
     }
-    (bytes_after(hash, rest) % 4294967296) as u32
+    (last_step(hash, bytes) % 4294967296) as u32
 }
