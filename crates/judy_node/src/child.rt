@@ -117,6 +117,7 @@ impl<V: Words + Drop> ChildOf<V> {
     }
 
     /// Enters the node, whose keys have `width` bytes: one visit.
+    #[inline(always)]
     pub fn enter(&self, width: u8, meter: &mut Meter) -> ViewOf<'_, V>
         requires below { meter.old < 2 ^ 64 - 1 }
         requires child { IsChild V.WORDS width self.now }
