@@ -116,14 +116,14 @@ fn fill(rt: &impl Abort, block: &mut Block, capacity: usize) {
     }
 }
 
-fn expect_word(rt: &impl Abort, block: &Block, place: usize, word: u64) {
+fn expect_word(rt: &impl Abort, block: &Block, place: usize, word: u64, capacity: usize) {
     assert!(rt; place < block.len());
-    assert_eq!(rt; block.get(place), word, "at {place}");
+    assert_eq!(rt; block.get(place), word, "of {capacity}");
 }
 
 fn expect_filled(rt: &impl Abort, block: &Block, capacity: usize) {
     for place in 0..capacity {
-        expect_word(rt, block, place, u64::MAX - place as u64);
+        expect_word(rt, block, place, u64::MAX - place as u64, capacity);
     }
 }
 
@@ -196,7 +196,7 @@ fn the_tag_stands_by_itself(rt: HostRuntime) -> Result<(), AllocError> {
     let mut block = block_of(&rt, rt.alloc(), 65_535, &[5, 6])?;
     for &tag in &[1, 0xFFFF, 0x1_0000, 0, u32::MAX] {
         block.set_tag(tag);
-        expect(&rt, &block, &[5, 6], 65_535, tag, 0, 0);
+        expect(&rt, &block, &[5, 6], 65_535, tag, 0, tag as usize);
     }
     open(&rt, &mut block, 1, 2);
     expect(&rt, &block, &[5, 0, 0, 6], 65_535, u32::MAX, 1, 2);
