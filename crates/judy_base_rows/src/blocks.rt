@@ -1,17 +1,53 @@
 //! Each call against plain lists: blocks of many sizes, gaps at the front, in the middle and at the end,
 //! copies, tags and slots.
 
-ghost use Rattle.std.specs.Prelude.{◌≤◌};
-
 use judy_block::Block;
 use std::alloc::{AllocError, Global};
 use std::process::Abort;
-use std::test::Fail;
 
 // The smallest and the largest, those that leaves have, and some beside them.
 const CAPACITIES: [usize; 8] = [1, 2, 31, 32, 255, 256, 65_534, 65_535];
 
+// Where a gap opens in five words, how many words it has, and what is there then.
+const GAPS: [(usize, usize, &[u64]); 9] = [
+    (0, 0, &[1, 2, 3, 4, 5]),
+    (0, 1, &[0, 1, 2, 3, 4, 5]),
+    (0, 4, &[0, 0, 0, 0, 1, 2, 3, 4, 5]),
+    (2, 0, &[1, 2, 3, 4, 5]),
+    (2, 1, &[1, 2, 0, 3, 4, 5]),
+    (2, 4, &[1, 2, 0, 0, 0, 0, 3, 4, 5]),
+    (5, 0, &[1, 2, 3, 4, 5]),
+    (5, 1, &[1, 2, 3, 4, 5, 0]),
+    (5, 4, &[1, 2, 3, 4, 5, 0, 0, 0, 0]),
+];
+
+// From where words are taken out of five, how many, and what is left.
+const CUTS: [(usize, usize, &[u64]); 8] = [
+    (0, 0, &[1, 2, 3, 4, 5]),
+    (0, 1, &[2, 3, 4, 5]),
+    (0, 3, &[4, 5]),
+    (1, 2, &[1, 4, 5]),
+    (2, 1, &[1, 2, 4, 5]),
+    (4, 1, &[1, 2, 3, 4]),
+    (5, 0, &[1, 2, 3, 4, 5]),
+    (0, 5, &[]),
+];
+
+// Blocks that take a copy of 3 words in a block of 4: smaller, equal and larger, with fewer words and with more.
+const COPIES: [(usize, &[u64]); 5] = [
+    (3, &[7, 7, 7]),
+    (4, &[]),
+    (4, &[7]),
+    (5, &[7, 7, 7, 7, 7]),
+    (65_535, &[7, 7]),
+];
+
 // The calls with a condition, which is tested first.
+fn new_block(rt: &impl Abort, alloc: Global, capacity: usize) -> Result<Block, AllocError> {
+    assert!(rt; 1 <= capacity && capacity <= 65_535);
+    Block::new(alloc, capacity)
+}
+
 fn open(rt: &impl Abort, block: &mut Block, i: usize, n: usize) {
     assert!(rt;
         i <= block.len() && n <= block.capacity() - block.len(),
@@ -36,10 +72,8 @@ fn block_of(
     alloc: Global,
     capacity: usize,
     words: &[u64],
-) -> Result<Block, AllocError>
-    requires within { (1 ≤ capacity) × (capacity ≤ 65535) }
-{
-    let mut block = Block::new(alloc, capacity)?;
+) -> Result<Block, AllocError> {
+    let mut block = new_block(rt, alloc, capacity)?;
     for &word in words {
         let end = block.len();
         open(rt, &mut block, end, 1);
@@ -48,128 +82,142 @@ fn block_of(
     Ok(block)
 }
 
+// All that a block holds, in the case that is told by the two numbers.
+fn expect(
+    rt: &impl Abort,
+    block: &Block,
+    words: &[u64],
+    capacity: usize,
+    tag: u32,
+    i: usize,
+    n: usize,
+) {
+    assert_eq!(rt; block.words(), words, "{n} at {i}");
+    expect_sizes(rt, block, words.len(), capacity, tag, i, n);
+}
+
+fn expect_sizes(
+    rt: &impl Abort,
+    block: &Block,
+    len: usize,
+    capacity: usize,
+    tag: u32,
+    i: usize,
+    n: usize,
+) {
+    let sizes = [block.len(), block.capacity(), block.tag() as usize];
+    assert_eq!(rt; sizes, [len, capacity, tag as usize], "{n} at {i}");
+}
+
+fn fill(rt: &impl Abort, block: &mut Block, capacity: usize) {
+    for place in 0..capacity {
+        open(rt, block, place, 1);
+        put(rt, block, place, u64::MAX - place as u64);
+    }
+}
+
+fn expect_word(rt: &impl Abort, block: &Block, place: usize, word: u64, capacity: usize) {
+    assert!(rt; place < block.len());
+    assert_eq!(rt; block.get(place), word, "of {capacity}");
+}
+
+fn expect_filled(rt: &impl Abort, block: &Block, capacity: usize) {
+    for place in 0..capacity {
+        expect_word(rt, block, place, u64::MAX - place as u64, capacity);
+    }
+}
+
+fn fill_and_empty(rt: &impl Abort, block: &mut Block, capacity: usize) {
+    expect(rt, block, &[], capacity, 0, 0, capacity);
+    fill(rt, block, capacity);
+    expect_sizes(rt, block, capacity, capacity, 0, 0, capacity);
+    expect_filled(rt, block, capacity);
+    close(rt, block, 0, capacity);
+    expect(rt, block, &[], capacity, 0, 0, capacity);
+}
+
 #[test]
-fn a_new_block_is_empty_and_fills_to_its_capacity(rt: HostRuntime) -> Result<(), Fail> {
+fn a_new_block_is_empty_and_fills_to_its_capacity(rt: HostRuntime) -> Result<(), AllocError> {
     for &capacity in &CAPACITIES {
-        assert!(rt; 1 <= capacity && capacity <= 65_535);
-        let mut block = Block::new(rt.alloc(), capacity)?;
-        assert!(rt; block.words().is_empty(), "at {capacity}");
-        assert_eq!(rt; block.capacity(), capacity);
-        assert_eq!(rt; block.tag(), 0, "at {capacity}");
-        for place in 0..capacity {
-            open(&rt, &mut block, place, 1);
-            put(&rt, &mut block, place, u64::MAX - place as u64);
-        }
-        assert_eq!(rt; block.len(), capacity);
-        assert_eq!(rt; block.capacity(), capacity);
-        for place in 0..capacity {
-            assert!(rt; place < block.len());
-            assert_eq!(rt; block.get(place), u64::MAX - place as u64, "of {capacity}");
-        }
-        close(&rt, &mut block, 0, capacity);
-        assert_eq!(rt; block.len(), 0, "at {capacity}");
+        let mut block = new_block(&rt, rt.alloc(), capacity)?;
+        fill_and_empty(&rt, &mut block, capacity);
     }
     Ok(())
 }
 
+fn open_and_close(rt: &impl Abort, block: &mut Block, i: usize, n: usize, opened: &[u64]) {
+    close(rt, block, 0, 4);
+    open(rt, block, i, n);
+    expect(rt, block, opened, 9, 0, i, n);
+    close(rt, block, i, n);
+    expect(rt, block, &[1, 2, 3, 4, 5], 9, 0, i, n);
+}
+
 #[test]
-fn gaps_open_and_close(rt: HostRuntime) -> Result<(), Fail> {
-    let cases: [(usize, usize, &[u64]); 9] = [
-        (0, 0, &[1, 2, 3, 4, 5]),
-        (0, 1, &[0, 1, 2, 3, 4, 5]),
-        (0, 4, &[0, 0, 0, 0, 1, 2, 3, 4, 5]),
-        (2, 0, &[1, 2, 3, 4, 5]),
-        (2, 1, &[1, 2, 0, 3, 4, 5]),
-        (2, 4, &[1, 2, 0, 0, 0, 0, 3, 4, 5]),
-        (5, 0, &[1, 2, 3, 4, 5]),
-        (5, 1, &[1, 2, 3, 4, 5, 0]),
-        (5, 4, &[1, 2, 3, 4, 5, 0, 0, 0, 0]),
-    ];
-    for &(i, n, want) in &cases {
+fn gaps_open_and_close(rt: HostRuntime) -> Result<(), AllocError> {
+    for &(i, n, opened) in &GAPS {
         // Words that were there before, so that a gap that isn't cleared would show.
         let mut block = block_of(&rt, rt.alloc(), 9, &[7, 7, 7, 7, 1, 2, 3, 4, 5])?;
-        close(&rt, &mut block, 0, 4);
-        open(&rt, &mut block, i, n);
-        assert_eq!(rt; block.words(), want, "{n} at {i}");
-        close(&rt, &mut block, i, n);
-        assert_eq!(rt; block.words(), [1, 2, 3, 4, 5].as_slice(), "{n} at {i}");
-        assert_eq!(rt; block.capacity(), 9, "{n} at {i}");
-        assert_eq!(rt; block.tag(), 0, "{n} at {i}");
+        open_and_close(&rt, &mut block, i, n, opened);
     }
     Ok(())
 }
 
 #[test]
-fn words_are_taken_out(rt: HostRuntime) -> Result<(), Fail> {
-    let cases: [(usize, usize, &[u64]); 8] = [
-        (0, 0, &[1, 2, 3, 4, 5]),
-        (0, 1, &[2, 3, 4, 5]),
-        (0, 3, &[4, 5]),
-        (1, 2, &[1, 4, 5]),
-        (2, 1, &[1, 2, 4, 5]),
-        (4, 1, &[1, 2, 3, 4]),
-        (5, 0, &[1, 2, 3, 4, 5]),
-        (0, 5, &[]),
-    ];
-    for &(i, n, want) in &cases {
+fn words_are_taken_out(rt: HostRuntime) -> Result<(), AllocError> {
+    for &(i, n, left) in &CUTS {
         let mut block = block_of(&rt, rt.alloc(), 5, &[1, 2, 3, 4, 5])?;
         close(&rt, &mut block, i, n);
-        assert_eq!(rt; block.words(), want, "{n} from {i}");
-        assert_eq!(rt; block.len(), want.len(), "{n} from {i}");
+        expect(&rt, &block, left, 5, 0, i, n);
     }
     Ok(())
 }
 
+fn copy(rt: &impl Abort, block: &mut Block, other: &Block) {
+    assert!(rt; other.len() <= block.capacity());
+    block.copy_from(other);
+}
+
 #[test]
-fn a_copy_has_the_words_and_the_tag(rt: HostRuntime) -> Result<(), Fail> {
-    // From 3 words in a block of 4 into smaller, equal and larger blocks, with fewer words and with more.
-    let cases: [(usize, &[u64]); 5] = [
-        (3, &[7, 7, 7]),
-        (4, &[]),
-        (4, &[7]),
-        (5, &[7, 7, 7, 7, 7]),
-        (65_535, &[7, 7]),
-    ];
+fn a_copy_has_the_words_and_the_tag(rt: HostRuntime) -> Result<(), AllocError> {
     let mut other = block_of(&rt, rt.alloc(), 4, &[1, 2, 3])?;
     other.set_tag(0xFEDC_BA98);
-    for &(capacity, words) in &cases {
-        assert!(rt; 1 <= capacity && capacity <= 65_535);
+    for &(capacity, words) in &COPIES {
         let mut block = block_of(&rt, rt.alloc(), capacity, words)?;
-        assert!(rt; other.len() <= block.capacity());
-        block.copy_from(&other);
-        assert_eq!(rt; block.words(), [1, 2, 3].as_slice(), "into {capacity}");
-        assert_eq!(rt; block.tag(), 0xFEDC_BA98, "into {capacity}");
-        assert_eq!(rt; block.capacity(), capacity);
+        copy(&rt, &mut block, &other);
+        expect(&rt, &block, &[1, 2, 3], capacity, 0xFEDC_BA98, 0, capacity);
     }
-    assert_eq!(rt; other.words(), [1, 2, 3].as_slice());
+    expect(&rt, &other, &[1, 2, 3], 4, 0xFEDC_BA98, 0, 4);
     Ok(())
 }
 
 #[test]
-fn the_tag_stands_by_itself(rt: HostRuntime) -> Result<(), Fail> {
+fn the_tag_stands_by_itself(rt: HostRuntime) -> Result<(), AllocError> {
     let mut block = block_of(&rt, rt.alloc(), 65_535, &[5, 6])?;
     for &tag in &[1, 0xFFFF, 0x1_0000, 0, u32::MAX] {
         block.set_tag(tag);
-        assert_eq!(rt; block.tag(), tag);
-        assert_eq!(rt; block.words(), [5, 6].as_slice(), "with {tag}");
-        assert_eq!(rt; block.capacity(), 65_535, "with {tag}");
+        expect(&rt, &block, &[5, 6], 65_535, tag, 0, tag as usize);
     }
     open(&rt, &mut block, 1, 2);
-    assert_eq!(rt; block.tag(), u32::MAX);
+    expect(&rt, &block, &[5, 0, 0, 6], 65_535, u32::MAX, 1, 2);
     close(&rt, &mut block, 0, 3);
-    assert_eq!(rt; block.tag(), u32::MAX);
+    expect(&rt, &block, &[6], 65_535, u32::MAX, 0, 3);
     Ok(())
 }
 
+fn put_by_slot(rt: &impl Abort, block: &mut Block, place: usize, before: u64) {
+    assert!(rt; place < block.len());
+    let slot = block.slot(place);
+    assert_eq!(rt; *slot, before, "at {place}");
+    *slot = 9;
+}
+
 #[test]
-fn a_slot_is_one_word(rt: HostRuntime) -> Result<(), Fail> {
-    for &(place, want) in &[(0, [9, 2, 3]), (1, [1, 9, 3]), (2, [1, 2, 9])] {
+fn a_slot_is_one_word(rt: HostRuntime) -> Result<(), AllocError> {
+    for &(place, before, words) in &[(0, 1, [9, 2, 3]), (1, 2, [1, 9, 3]), (2, 3, [1, 2, 9])] {
         let mut block = block_of(&rt, rt.alloc(), 4, &[1, 2, 3])?;
-        assert!(rt; place < block.len());
-        let slot = block.slot(place);
-        assert_eq!(rt; *slot, place as u64 + 1);
-        *slot = 9;
-        assert_eq!(rt; block.words(), want.as_slice(), "at {place}");
+        put_by_slot(&rt, &mut block, place, before);
+        expect(&rt, &block, &words, 4, 0, place, 1);
     }
     Ok(())
 }

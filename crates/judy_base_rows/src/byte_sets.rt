@@ -2,126 +2,274 @@
 // and each small tool once.
 
 use judy_bits::{Bits256, ByteSet, Form, Meter, Skip, byte_of};
-use std::alloc::{AllocError, Global};
+use std::process::Abort;
 
-// So many of the 256 bytes, evenly spread, in ascending order.
-fn spread(alloc: Global, count: usize) -> Result<Vec<u8>, AllocError> {
-    let mut bytes = Vec::new(alloc);
+// The numbers of members of the sets.
+const COUNTS: [usize; 10] = [0, 1, 7, 8, 9, 127, 128, 129, 255, 256];
+
+// The same numbers, and the form of each.
+const FORMS: [(usize, Form); 10] = [
+    (0, Form::Linear),
+    (1, Form::Linear),
+    (7, Form::Linear),
+    (8, Form::Bitmap),
+    (9, Form::Bitmap),
+    (127, Form::Bitmap),
+    (128, Form::Full),
+    (129, Form::Full),
+    (255, Form::Full),
+    (256, Form::Full),
+];
+
+// In the place of a byte or a place, where there is none.
+const NONE: usize = 256;
+
+// So many of the 256 bytes, evenly spread: for each byte, whether it is one of them.
+fn spread(count: usize) -> [bool; 256] {
+    let mut plain = [false; 256];
     for byte in 0..=255u8 {
         let before = (byte as usize).wrapping_mul(count) / 256;
         let after = (byte as usize + 1).wrapping_mul(count) / 256;
-        if before != after {
-            bytes.push(byte)?;
+        plain[byte as usize] = before != after;
+    }
+    plain
+}
+
+fn plain_rank(plain: &[bool; 256], byte: u8) -> usize {
+    let mut below = 0usize;
+    for at in 0..byte {
+        below = below.wrapping_add(plain[at as usize] as usize);
+    }
+    below
+}
+
+fn plain_next(plain: &[bool; 256], byte: u8) -> usize {
+    for at in byte..=255 {
+        if plain[at as usize] {
+            return at as usize;
         }
     }
-    Ok(bytes)
+    NONE
+}
+
+fn plain_prev(plain: &[bool; 256], byte: u8) -> usize {
+    let mut last = NONE;
+    for at in 0..=byte {
+        if plain[at as usize] {
+            last = at as usize;
+        }
+    }
+    last
+}
+
+fn plain_nth(plain: &[bool; 256], place: usize) -> usize {
+    let mut before = 0usize;
+    for at in 0..=255u8 {
+        if plain[at as usize] {
+            if before == place {
+                return at as usize;
+            }
+            before = before.wrapping_add(1);
+        }
+    }
+    NONE
+}
+
+// Whether the byte is a member, how many are below it, its place, and the nearest members from it on and up to it.
+fn plain_answers(plain: &[bool; 256], byte: u8) -> [usize; 5] {
+    let is_member = plain[byte as usize];
+    let rank = plain_rank(plain, byte);
+    let place = if is_member { rank } else { NONE };
+    [
+        is_member as usize,
+        rank,
+        place,
+        plain_next(plain, byte),
+        plain_prev(plain, byte),
+    ]
+}
+
+fn number(answer: Option<u8>) -> usize {
+    match answer {
+        Some(byte) => byte as usize,
+        None => NONE,
+    }
+}
+
+// The same five of a set.
+fn bits_answers(set: &Bits256, byte: u8) -> [usize; 5] {
+    [
+        set.has(byte) as usize,
+        set.rank(byte),
+        set.place(byte).unwrap_or(NONE),
+        number(set.next_from(byte)),
+        number(set.prev_from(byte)),
+    ]
+}
+
+fn set_answers(set: &ByteSet, byte: u8) -> [usize; 5] {
+    [
+        set.place(byte).is_some() as usize,
+        set.rank(byte),
+        set.place(byte).unwrap_or(NONE),
+        number(set.next_from(byte)),
+        number(set.prev_from(byte)),
+    ]
+}
+
+fn expect_answers(
+    rt: &impl Abort,
+    answers: [usize; 5],
+    plain: &[bool; 256],
+    byte: u8,
+    count: usize,
+) {
+    assert_eq!(rt;
+        answers,
+        plain_answers(plain, byte),
+        "byte {byte} of {count}"
+    );
+}
+
+fn expect_nth(rt: &impl Abort, answer: usize, plain: &[bool; 256], place: usize, count: usize) {
+    assert_eq!(rt; answer, plain_nth(plain, place), "place {place} of {count}");
+}
+
+fn bits_of(plain: &[bool; 256]) -> Bits256 {
+    let mut set = Bits256::new();
+    for byte in 0..=255u8 {
+        if plain[byte as usize] {
+            set.add(byte);
+        }
+    }
+    set
+}
+
+fn expect_bits(rt: &impl Abort, set: &Bits256, plain: &[bool; 256], count: usize) {
+    for byte in 0..=255u8 {
+        expect_answers(rt, bits_answers(set, byte), plain, byte, count);
+    }
+}
+
+fn expect_bits_places(rt: &impl Abort, set: &Bits256, plain: &[bool; 256], count: usize) {
+    for place in 0..257 {
+        expect_nth(rt, number(set.nth(place)), plain, place, count);
+    }
+}
+
+fn take(rt: &impl Abort, set: &mut Bits256, byte: u8, count: usize) {
+    set.take(byte);
+    assert!(rt; !set.has(byte), "byte {byte} of {count}");
+}
+
+fn take_all(rt: &impl Abort, set: &mut Bits256, plain: &[bool; 256], count: usize) {
+    for byte in 0..=255u8 {
+        if plain[byte as usize] {
+            take(rt, set, byte, count);
+        }
+    }
+}
+
+fn expect_bits_of(rt: &impl Abort, count: usize) {
+    let plain = spread(count);
+    let mut set = bits_of(&plain);
+    assert_eq!(rt; set.len(), count);
+    expect_bits(rt, &set, &plain, count);
+    expect_bits_places(rt, &set, &plain, count);
+    take_all(rt, &mut set, &plain, count);
+    assert_eq!(rt; set.len(), 0, "of {count}");
 }
 
 #[test]
-fn bits_as_a_plain_list(rt: HostRuntime) -> Result<(), AllocError> {
-    for count in [0, 1, 7, 8, 9, 127, 128, 129, 255, 256] {
-        let plain = spread(rt.alloc(), count)?;
-        let mut set = Bits256::new();
-        for byte in &plain {
-            set.add(*byte);
-        }
-        assert_eq!(rt; set.len(), count);
-        for byte in 0..=255u8 {
-            assert_eq!(rt; set.has(byte), plain.contains(&byte));
-            assert_eq!(rt;
-                set.rank(byte),
-                plain.iter().filter(|member| **member < byte).count()
-            );
-            assert_eq!(rt;
-                set.place(byte),
-                plain.iter().position(|member| *member == byte)
-            );
-            assert_eq!(rt;
-                set.next_from(byte),
-                plain.iter().copied().find(|member| *member >= byte)
-            );
-            assert_eq!(rt;
-                set.prev_from(byte),
-                plain.iter().copied().rev().find(|member| *member <= byte)
-            );
-        }
-        for at in 0..257 {
-            assert_eq!(rt; set.nth(at), plain.get(at).copied());
-        }
-        for byte in &plain {
-            set.take(*byte);
-            assert!(rt; !set.has(*byte));
-        }
-        assert_eq!(rt; set.len(), 0);
+fn bits_as_a_plain_list(rt: HostRuntime) {
+    for &count in &COUNTS {
+        expect_bits_of(&rt, count);
     }
-    Ok(())
+}
+
+fn set_of(plain: &[bool; 256]) -> ByteSet {
+    let mut set = ByteSet::new();
+    for byte in 0..=255u8 {
+        if plain[byte as usize] {
+            set.add(byte);
+        }
+    }
+    set
+}
+
+fn expect_set(rt: &impl Abort, set: &ByteSet, plain: &[bool; 256], count: usize) {
+    for byte in 0..=255u8 {
+        expect_answers(rt, set_answers(set, byte), plain, byte, count);
+    }
+}
+
+fn expect_set_places(rt: &impl Abort, set: &ByteSet, plain: &[bool; 256], count: usize) {
+    for place in 0..257 {
+        expect_nth(rt, number(set.nth(place)), plain, place, count);
+    }
+}
+
+fn expect_size(rt: &impl Abort, set: &ByteSet, count: usize, form: Form) {
+    assert_eq!(rt; set.len(), count);
+    assert_eq!(rt; set.form(), form, "of {count}");
 }
 
 #[test]
-fn set_as_a_plain_list(rt: HostRuntime) -> Result<(), AllocError> {
-    for (count, form) in [
-        (0, Form::Linear),
-        (1, Form::Linear),
-        (7, Form::Linear),
-        (8, Form::Bitmap),
-        (9, Form::Bitmap),
-        (127, Form::Bitmap),
-        (128, Form::Full),
-        (129, Form::Full),
-        (255, Form::Full),
-        (256, Form::Full),
-    ] {
-        let plain = spread(rt.alloc(), count)?;
-        let mut set = ByteSet::new();
-        for byte in &plain {
-            set.add(*byte);
-        }
-        assert_eq!(rt; set.len(), count);
-        assert_eq!(rt; set.form(), form);
-        for byte in 0..=255u8 {
-            assert_eq!(rt;
-                set.place(byte),
-                plain.iter().position(|member| *member == byte)
-            );
-            assert_eq!(rt;
-                set.next_from(byte),
-                plain.iter().copied().find(|member| *member >= byte)
-            );
-            assert_eq!(rt;
-                set.prev_from(byte),
-                plain.iter().copied().rev().find(|member| *member <= byte)
-            );
-        }
-        for at in 0..257 {
-            assert_eq!(rt; set.nth(at), plain.get(at).copied());
-        }
+fn set_as_a_plain_list(rt: HostRuntime) {
+    for &(count, form) in &FORMS {
+        let plain = spread(count);
+        let set = set_of(&plain);
+        expect_size(&rt, &set, count, form);
+        expect_set(&rt, &set, &plain, count);
+        expect_set_places(&rt, &set, &plain, count);
     }
-    Ok(())
+}
+
+// The size and the form of a set, and whether the byte is a member.
+fn expect_member(rt: &impl Abort, set: &ByteSet, count: usize, byte: u8, is_member: bool) {
+    expect_size(rt, set, count, form_for(count));
+    assert_eq!(rt;
+        set.place(byte).is_some(),
+        is_member,
+        "byte {byte} of {count}"
+    );
+}
+
+// To take another byte, and to add a member, changes nothing.
+fn grow(rt: &impl Abort, set: &mut ByteSet, count: usize, byte: u8) {
+    expect_member(rt, set, count, byte, false);
+    set.take(byte);
+    expect_member(rt, set, count, byte, false);
+    set.add(byte);
+    set.add(byte);
+    expect_member(rt, set, count.wrapping_add(1), byte, true);
+}
+
+fn shrink(rt: &impl Abort, set: &mut ByteSet, count: usize, byte: u8) {
+    expect_member(rt, set, count.wrapping_add(1), byte, true);
+    set.take(byte);
+    expect_member(rt, set, count, byte, false);
+}
+
+fn grow_to_all(rt: &impl Abort, set: &mut ByteSet) {
+    for count in 0..=255u8 {
+        grow(rt, set, count as usize, count.wrapping_mul(37));
+    }
+}
+
+fn shrink_to_none(rt: &impl Abort, set: &mut ByteSet) {
+    for count in 0..=255u8 {
+        shrink(rt, set, 255 - count as usize, count.wrapping_mul(91));
+    }
 }
 
 // Each byte goes in and out again, in an order that jumps about; at each number of members the form is the
-// one for that number, on the way up and on the way down, and to add a member or take another changes nothing.
+// one for that number, on the way up and on the way down.
 #[test]
 fn grows_and_shrinks(rt: HostRuntime) {
     let mut set = ByteSet::new();
-    for count in 0..=255u8 {
-        let byte = count.wrapping_mul(37);
-        assert_eq!(rt; set.place(byte), None);
-        set.take(byte);
-        assert_eq!(rt; set.len(), count as usize);
-        set.add(byte);
-        set.add(byte);
-        assert_eq!(rt; set.len(), count as usize + 1);
-        assert_eq!(rt; set.form(), form_for(count as usize + 1));
-    }
-    for count in 0..=255u8 {
-        let byte = count.wrapping_mul(91);
-        assert!(rt; set.place(byte).is_some());
-        set.take(byte);
-        assert_eq!(rt; set.place(byte), None);
-        assert_eq!(rt; set.len(), 255 - count as usize);
-        assert_eq!(rt; set.form(), form_for(255 - count as usize));
-    }
+    grow_to_all(&rt, &mut set);
+    shrink_to_none(&rt, &mut set);
 }
 
 // The table of forms.
@@ -135,16 +283,22 @@ fn form_for(count: usize) -> Form {
 
 #[test]
 fn bytes_of_a_word(rt: HostRuntime) {
-    for (i, byte) in [1, 2, 3, 4, 5, 6, 7, 8].iter().enumerate() {
-        assert_eq!(rt; byte_of(0x0102_0304_0506_0708, i), *byte);
+    for i in 0..8u8 {
+        assert_eq!(rt; byte_of(0x0102_0304_0506_0708, i as usize), i + 1);
     }
+}
+
+fn expect_skip(rt: &impl Abort, bytes: &[u8]) {
+    assert!(rt; bytes.len() <= 7);
+    assert_eq!(rt; Skip::new(bytes).bytes(), bytes);
 }
 
 #[test]
 fn skips(rt: HostRuntime) {
-    for bytes in [b"".as_slice(), b"a", b"\x00\xff", b"abcdefg"] {
-        assert_eq!(rt; Skip::new(bytes).bytes(), bytes);
-    }
+    expect_skip(&rt, b"");
+    expect_skip(&rt, b"a");
+    expect_skip(&rt, b"\x00\xff");
+    expect_skip(&rt, b"abcdefg");
 }
 
 #[test]

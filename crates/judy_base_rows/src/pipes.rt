@@ -1,41 +1,92 @@
 //! Each kind of trouble at each place of a text of six bytes, moved in pieces of every size.
 
-ghost use Rattle.std.specs.Prelude.{◌≡◌, ◌<◌, ◌≤◌};
-
 use arrayvec::ArrayVec;
 use judy_pipe::{
-    BrokenPipe, BufferedSink, BufferedSource, MemSink, MemSource, Sink, SinkTrouble, Source,
-    SourceTrouble, read_some, write_all,
+    BufferedSink, BufferedSource, MemSink, MemSource, Sink, SinkTrouble, Source, SourceTrouble,
+    read_some, write_all,
 };
+use std::fmt::Debug;
 use std::process::Abort;
 
 const TEXT: [u8; 6] = *b"abcdef";
 
+// The calls with a condition, which is tested first; whether they succeeded.
+fn write(rt: &impl Abort, sink: &mut impl Sink, bytes: &[u8]) -> bool {
+    assert!(rt; sink.failures() < u64::MAX);
+    write_all(sink, bytes).is_ok()
+}
+
+fn flush(rt: &impl Abort, sink: &mut impl Sink) -> bool {
+    assert!(rt; sink.failures() < u64::MAX);
+    sink.flush().is_ok()
+}
+
+// Reads up to `size` bytes, and keeps those that came.
+fn read(rt: &impl Abort, source: &mut impl Source, size: usize, got: &mut ArrayVec<u8, 6>) -> bool {
+    assert!(rt; size <= 8 && source.failures() < u64::MAX);
+    let mut room = [0; 8];
+    let Ok(count) = read_some(source, &mut room[..size]) else {
+        return false;
+    };
+    let _ = got.try_extend_from_slice(&room[..count]);
+    true
+}
+
+// The text's first bytes were moved, so many, and with no failure it came to its end.
+fn expect_moved(
+    rt: &impl Abort,
+    moved: &[u8],
+    failed: u64,
+    has_ended: bool,
+    count: usize,
+    failures: u64,
+    case: &impl Debug,
+) {
+    assert!(rt; count <= 6);
+    assert_eq!(rt; moved, &TEXT[..count], "{case:?}");
+    assert_eq!(rt; failed, failures, "{case:?}");
+    assert_eq!(rt; has_ended, failures == 0, "{case:?}");
+}
+
 // Writes the text by pieces of at most `most` bytes, and says what the sink holds and counts then.
-fn expect_written(rt: &impl Abort, most: usize, trouble: SinkTrouble, taken: usize, failures: u64)
-    requires most { 0 < most }
-    requires taken { taken ≤ 6 }
-{
+fn expect_written(rt: &impl Abort, most: usize, trouble: SinkTrouble, taken: usize, failures: u64) {
+    assert!(rt; 0 < most);
     let mut sink = MemSink::<6>::new(most, trouble);
-    let outcome = write_all(&mut sink, &TEXT);
-    assert_eq!(rt; sink.bytes(), &TEXT[..taken], "{trouble:?} by {most}");
-    assert_eq!(rt; sink.failures(), failures, "{trouble:?} by {most}");
-    assert_eq!(rt; outcome.is_ok(), failures == 0, "{trouble:?} by {most}");
+    let is_ok = write(rt, &mut sink, &TEXT);
+    expect_moved(
+        rt,
+        sink.bytes(),
+        sink.failures(),
+        is_ok,
+        taken,
+        failures,
+        &(trouble, most),
+    );
 }
 
 // Writes the text through a buffer of four bytes and flushes it, and says what the sink behind it holds and
 // counts then.
-fn expect_handed_on(rt: &impl Abort, trouble: SinkTrouble, taken: usize, failures: u64)
-    requires taken { taken ≤ 6 }
-{
+fn expect_handed_on(rt: &impl Abort, trouble: SinkTrouble, taken: usize, failures: u64) {
     let mut sink = BufferedSink::<_, 4>::new(MemSink::<6>::new(3, trouble));
-    let outcome = match write_all(&mut sink, &TEXT) {
-        Ok(()) => sink.flush(),
-        Err(broken) => Err(broken),
-    };
-    assert_eq!(rt; outcome.is_ok(), failures == 0, "{trouble:?}");
-    assert_eq!(rt; sink.failures(), failures, "{trouble:?}");
-    assert_eq!(rt; sink.into_inner().bytes(), &TEXT[..taken], "{trouble:?}");
+    let is_ok = write(rt, &mut sink, &TEXT) && flush(rt, &mut sink);
+    let failed = sink.failures();
+    expect_moved(
+        rt,
+        sink.into_inner().bytes(),
+        failed,
+        is_ok,
+        taken,
+        failures,
+        &trouble,
+    );
+}
+
+fn read_on(rt: &impl Abort, source: &mut MemSource, size: usize, got: &mut ArrayVec<u8, 6>) {
+    for _read in 0..8 {
+        if !read(rt, source, size, got) {
+            break;
+        }
+    }
 }
 
 // Reads into buffers of `size` bytes until the end or a failure, and says what the source gave and counts.
@@ -46,90 +97,89 @@ fn expect_read(
     trouble: SourceTrouble,
     given: usize,
     failures: u64,
-)
-    requires most { 0 < most }
-    requires size { size ≤ 8 }
-    requires given { given ≤ 6 }
-{
+) {
+    assert!(rt; 0 < most);
     let mut source = MemSource::new(&TEXT, most, trouble);
-    let mut got = ArrayVec::<u8, 6>::new();
-    let mut room = [0; 8];
-    for _read in 0..8 {
-        let Ok(count) = read_some(&mut source, &mut room[..size]) else {
-            break;
-        };
-        let _ = got.try_extend_from_slice(&room[..count]);
-    }
-    assert_eq!(rt;
+    let mut got = ArrayVec::new();
+    read_on(rt, &mut source, size, &mut got);
+    expect_moved(
+        rt,
         got.as_slice(),
-        &TEXT[..given],
-        "{trouble:?} by {most} into {size}"
-    );
-    assert_eq!(rt;
         source.failures(),
-        failures,
-        "{trouble:?} by {most} into {size}"
-    );
-    assert_eq!(rt;
         source.has_ended(),
-        failures == 0,
-        "{trouble:?} by {most} into {size}"
+        given,
+        failures,
+        &(trouble, most, size),
     );
+}
+
+fn expect_written_at(rt: &impl Abort, most: usize, at: usize) {
+    expect_written(rt, most, SinkTrouble::Fails { at }, at, 1);
+    expect_written(rt, most, SinkTrouble::TakesNothing { at }, at, 1);
+    expect_written(rt, most, SinkTrouble::Interrupts { at, times: 1 }, 6, 0);
+    expect_written(rt, most, SinkTrouble::Interrupts { at, times: 999 }, 6, 0);
+    expect_written(rt, most, SinkTrouble::Interrupts { at, times: 1000 }, at, 1);
+}
+
+fn expect_written_by(rt: &impl Abort, most: usize) {
+    expect_written(rt, most, SinkTrouble::Never, 6, 0);
+    for at in 0..6 {
+        expect_written_at(rt, most, at);
+    }
 }
 
 #[test]
 fn writes_meet_trouble_at_each_place(rt: HostRuntime) {
     for most in 1..8 {
-        expect_written(&rt, most, SinkTrouble::Never, 6, 0);
-        for at in 0..6 {
-            expect_written(&rt, most, SinkTrouble::Fails { at }, at, 1);
-            expect_written(&rt, most, SinkTrouble::TakesNothing { at }, at, 1);
-            expect_written(&rt, most, SinkTrouble::Interrupts { at, times: 1 }, 6, 0);
-            expect_written(&rt, most, SinkTrouble::Interrupts { at, times: 999 }, 6, 0);
-            expect_written(
-                &rt,
-                most,
-                SinkTrouble::Interrupts { at, times: 1000 },
-                at,
-                1,
-            );
-        }
+        expect_written_by(&rt, most);
+    }
+}
+
+fn expect_read_at(rt: &impl Abort, most: usize, size: usize, at: usize) {
+    expect_read(rt, most, size, SourceTrouble::Fails { at }, at, 1);
+    expect_read(
+        rt,
+        most,
+        size,
+        SourceTrouble::Interrupts { at, times: 1 },
+        6,
+        0,
+    );
+    expect_read(
+        rt,
+        most,
+        size,
+        SourceTrouble::Interrupts { at, times: 999 },
+        6,
+        0,
+    );
+    expect_read(
+        rt,
+        most,
+        size,
+        SourceTrouble::Interrupts { at, times: 1000 },
+        at,
+        1,
+    );
+}
+
+fn expect_read_by(rt: &impl Abort, most: usize, size: usize) {
+    expect_read(rt, most, size, SourceTrouble::Never, 6, 0);
+    for at in 0..7 {
+        expect_read_at(rt, most, size, at);
+    }
+}
+
+fn expect_read_into(rt: &impl Abort, size: usize) {
+    for most in 1..8 {
+        expect_read_by(rt, most, size);
     }
 }
 
 #[test]
 fn reads_meet_trouble_at_each_place(rt: HostRuntime) {
     for size in 1..9 {
-        for most in 1..8 {
-            expect_read(&rt, most, size, SourceTrouble::Never, 6, 0);
-            for at in 0..7 {
-                expect_read(&rt, most, size, SourceTrouble::Fails { at }, at, 1);
-                expect_read(
-                    &rt,
-                    most,
-                    size,
-                    SourceTrouble::Interrupts { at, times: 1 },
-                    6,
-                    0,
-                );
-                expect_read(
-                    &rt,
-                    most,
-                    size,
-                    SourceTrouble::Interrupts { at, times: 999 },
-                    6,
-                    0,
-                );
-                expect_read(
-                    &rt,
-                    most,
-                    size,
-                    SourceTrouble::Interrupts { at, times: 1000 },
-                    at,
-                    1,
-                );
-            }
-        }
+        expect_read_into(&rt, size);
     }
 }
 
@@ -151,32 +201,35 @@ fn a_buffer_tries_again(rt: HostRuntime) {
         6,
         SinkTrouble::Interrupts { at: 2, times: 1000 },
     ));
-    assert_eq!(rt; write_all(&mut sink, &TEXT), Ok(()));
-    assert_eq!(rt; sink.flush(), Err(BrokenPipe));
-    assert_eq!(rt; sink.flush(), Ok(()));
+    assert!(rt; write(&rt, &mut sink, &TEXT));
+    assert!(rt; !flush(&rt, &mut sink));
+    assert!(rt; flush(&rt, &mut sink));
     assert_eq!(rt; sink.failures(), 1);
     assert_eq!(rt; sink.into_inner().bytes(), TEXT.as_slice());
 }
 
-// Reads three bytes, one, two, and then the end or a failure, ahead by four, and says what came and counts.
-fn expect_ahead(rt: &impl Abort, trouble: SourceTrouble, given: usize, failures: u64)
-    requires given { given ≤ 6 }
-{
-    let mut source = BufferedSource::<_, 4>::new(MemSource::new(&TEXT, 3, trouble));
-    let mut got = ArrayVec::<u8, 6>::new();
-    let mut room = [0; 3];
-    for size in [3, 1, 2, 3, 3, 3] {
-        let Ok(count) = read_some(&mut source, &mut room[..size]) else {
+fn read_by_sizes(rt: &impl Abort, source: &mut impl Source, got: &mut ArrayVec<u8, 6>) {
+    for &size in &[3, 1, 2, 3, 3, 3] {
+        if !read(rt, source, size, got) {
             break;
-        };
-        let _ = got.try_extend_from_slice(&room[..count]);
+        }
     }
-    assert_eq!(rt; got.as_slice(), &TEXT[..given], "{trouble:?}");
-    assert_eq!(rt; source.failures(), failures, "{trouble:?}");
-    assert_eq!(rt;
+}
+
+// Reads three bytes, one, two, and then the end or a failure, ahead by four, and says what came and counts.
+fn expect_ahead(rt: &impl Abort, trouble: SourceTrouble, given: usize, failures: u64) {
+    let mut source = BufferedSource::<_, 4>::new(MemSource::new(&TEXT, 3, trouble));
+    let mut got = ArrayVec::new();
+    read_by_sizes(rt, &mut source, &mut got);
+    let failed = source.failures();
+    expect_moved(
+        rt,
+        got.as_slice(),
+        failed,
         source.into_inner().has_ended(),
-        failures == 0,
-        "{trouble:?}"
+        given,
+        failures,
+        &trouble,
     );
 }
 
@@ -193,36 +246,47 @@ fn a_buffer_meets_trouble_before_it(rt: HostRuntime) {
 #[test]
 fn full_sink_fails(rt: HostRuntime) {
     let mut sink = MemSink::<4>::new(3, SinkTrouble::Never);
-    assert_eq!(rt; write_all(&mut sink, &TEXT), Err(BrokenPipe));
+    assert!(rt; !write(&rt, &mut sink, &TEXT));
     assert_eq!(rt; sink.bytes(), b"abcd".as_slice());
     assert_eq!(rt; sink.failures(), 1);
+}
+
+// How many bytes a write of one piece took; another number where it stopped.
+fn write_once(rt: &impl Abort, sink: &mut impl Sink, piece: &[u8]) -> usize {
+    assert!(rt; sink.failures() < u64::MAX);
+    sink.write(piece).unwrap_or(usize::MAX)
 }
 
 #[test]
 fn nothing_of_an_empty_piece_is_no_failure(rt: HostRuntime) {
     let mut sink = MemSink::<4>::new(3, SinkTrouble::TakesNothing { at: 0 });
-    assert_eq!(rt; sink.write(b""), Ok(0));
+    assert_eq!(rt; write_once(&rt, &mut sink, b""), 0);
     assert_eq!(rt; sink.failures(), 0);
-    assert_eq!(rt; sink.write(b"a"), Ok(0));
+    assert_eq!(rt; write_once(&rt, &mut sink, b"a"), 0);
     assert_eq!(rt; sink.failures(), 1);
 }
 
 #[test]
 fn interruptions_are_counted_anew_after_a_failure(rt: HostRuntime) {
     let mut sink = MemSink::<6>::new(6, SinkTrouble::Interrupts { at: 2, times: 1999 });
-    assert_eq!(rt; write_all(&mut sink, &TEXT), Err(BrokenPipe));
+    assert!(rt; !write(&rt, &mut sink, &TEXT));
     assert_eq!(rt; sink.bytes(), b"ab".as_slice());
-    assert_eq!(rt; write_all(&mut sink, b"cd"), Ok(()));
+    assert!(rt; write(&rt, &mut sink, b"cd"));
     assert_eq!(rt; sink.bytes(), b"abcd".as_slice());
     assert_eq!(rt; sink.failures(), 1);
+}
+
+fn expect_end(rt: &impl Abort, source: &mut MemSource) {
+    assert!(rt; source.failures() < u64::MAX);
+    let mut room = [0; 4];
+    assert_eq!(rt; source.read(&mut room).unwrap_or(usize::MAX), 0);
+    assert!(rt; source.has_ended());
 }
 
 #[test]
 fn end_goes_on(rt: HostRuntime) {
     let mut source = MemSource::new(b"", 1, SourceTrouble::Never);
-    let mut room = [0; 4];
     for _read in 0..3 {
-        assert_eq!(rt; source.read(&mut room), Ok(0));
-        assert!(rt; source.has_ended());
+        expect_end(&rt, &mut source);
     }
 }
