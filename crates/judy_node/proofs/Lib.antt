@@ -1,3 +1,4 @@
+mod WholeMemory
 pub mod Maps
 pub mod Shaped
 pub mod Leaves

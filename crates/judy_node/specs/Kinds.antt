@@ -10,7 +10,9 @@ use Rattle.judy_leaf.specs.BitLeaves.{bit_list, IsBitParts}
 use Rattle.judy_leaf.specs.Immediates.{parts_list, IsImmParts}
 use Rattle.judy_node.specs.Trees.{Pairs, Tree, IsBranch, branch_tree}
 use Rattle.judy_node.specs.Populations.{AreSums}
+use Rattle.judy_node.specs.Wholes.{held, IsWhole}
 use Rattle.judy_node.specs.declared.child.KindOf.{KindOf}
+use Rattle.judy_node.specs.declared.child.PlaceOf.{PlaceOf}
 use Rattle.judy_node.specs.declared.child.KindOf.TheVariants.{Imm, Leaf, Bit, Branch}
 
 -- ---- immediates
@@ -77,6 +79,14 @@ IsLevel words (Imm head word) = IsImm words head word
 IsLevel words (Leaf count block) = IsLeaf words count block
 IsLevel words (Bit skipped block) = IsBit words skipped block
 IsLevel words (Branch b) = IsBranch words b.value.width b.value.skip b.value.bytes b.value.children.items b.value.population × AreSums b.value.sums b.value.children.items
+
+-- The kind of the node at a place.
+abbrev pub kind_in : {V : _} → PlaceOf V → KindOf V
+kind_in place = held (Imm 0 0) place.kind
+
+-- What each place keeps: one node, and what the node keeps.
+abbrev pub IsPlaced : {V : _} → ℕ → PlaceOf V → Type 0
+IsPlaced words place = IsWhole place.kind × IsLevel words (kind_in place)
 
 -- ---- more bytes to skip
 

@@ -1,3 +1,4 @@
+pub mod Wholes
 pub mod Trees
 pub mod Kinds
 pub mod Falls

@@ -9,6 +9,7 @@ use Rattle.judy_node.specs.Trees.{Tree, IsChild}
 use Rattle.judy_node.specs.Roots.{empty_tree}
 use Rattle.judy_node.specs.Steps.{IsKeyOf}
 use Rattle.judy_node.specs.Slots.{value_of, with_value}
+use Rattle.judy_node.specs.Wholes.{whole}
 use Rattle.judy_node.specs.declared.child.BranchOf.{BranchOf}
 use Rattle.judy_node.specs.declared.child.KindOf.{KindOf}
 use Rattle.judy_node.specs.declared.child.PlaceOf.{PlaceOf}
@@ -26,7 +27,7 @@ IsSeat words (Branch b) key at rest = (byte : ℕ) × IsKeyOf (256 ^ b.value.wid
 
 -- The place of a node of a kind.
 abbrev pub placed : {V : _} → KindOf V → PlaceOf V
-placed kind = record { kind = kind }
+placed kind = record { kind = whole kind }
 
 -- A branch with another child at a place.
 abbrev pub with_child : {V : _} → BranchOf V → ℕ → Tree → BranchOf V

@@ -13,6 +13,7 @@ ghost use Rattle.judy_node.specs.Views.{IsView};
 use crate::head::Head;
 use crate::sums::Sums;
 use crate::view::ViewOf;
+use crate::whole::Whole;
 use judy_bits::{ByteSet, Meter, Skip};
 use judy_block::Block;
 use judy_leaf::{BitRef, ImmOf, LeafRef, Width, Words};
@@ -30,7 +31,7 @@ pub struct ChildOf<V: Words + Drop> {
 #[cycle(node)]
 #[derive(Drop)]
 pub struct PlaceOf<V: Words + Drop> {
-    pub(crate) kind: KindOf<V>,
+    pub(crate) kind: Whole<KindOf<V>>,
 }
 
 /// A node below the root of a tree whose keys have `W` words of value each, 0 or 1.
@@ -81,25 +82,33 @@ impl<V: Words + Drop> Model for ChildOf<V> {
     ghost Value = { Tree };
 
     ghost use Rattle.std.specs.Prelude.{length};
-    ghost use Rattle.judy_node.specs.Kinds.{tree_of, IsLevel};
+    ghost use Rattle.judy_node.specs.Kinds.{tree_of, kind_in, IsPlaced};
 
-    ghost view = { λ a. tree_of V.WORDS a.place.kind };
+    ghost view = { λ a. tree_of V.WORDS (kind_in a.place) };
 
-    ghost invariant = { λ a. IsLevel V.WORDS a.place.kind };
+    ghost invariant = { λ a. IsPlaced V.WORDS a.place };
 
     ghost size = { λ tree. length tree.form };
 
     ghost use Rattle.judy_node.specs.Falls.{falls};
 
-    ghost size_decreases = { λ a h. falls (record { WORDS = V.WORDS }) V.WORDS a.place.kind };
+    ghost size_decreases = { λ a h. falls (record { WORDS = V.WORDS }) V.WORDS a.place h };
 }
 
 impl<V: Words + Drop> ChildOf<V> {
+    // The node by its kind, to be read.
+    pub(crate) fn kind(&self) -> &KindOf<V>
+        ensures tree { tree_of V.WORDS result.now ≡ self.now }
+        ensures level { IsLevel V.WORDS result.now }
+    {
+        self.place.kind.get()
+    }
+
     /// How many keys there are below. It reads no block but a bitmap leaf's header, and the branch of a branch.
     pub fn pop(&self) -> u64
         ensures { result ≡ length self.now.pairs }
     {
-        match &self.place.kind {
+        match self.kind() {
             KindOf::Imm(head, _) => imm_len::<V>(head),
             KindOf::Leaf(count, _) => u64::from(*count),
             KindOf::Bit(_, block) => u64::from(block.tag() % 65_536),
@@ -115,7 +124,7 @@ impl<V: Words + Drop> ChildOf<V> {
         ensures view { IsView V.WORDS width self.now result }
     {
         meter.tick();
-        match &self.place.kind {
+        match self.kind() {
             KindOf::Imm(head, word) => ViewOf::Imm(imm_of(width, head.number(), *word)),
             KindOf::Leaf(count, block) => ViewOf::Leaf(LeafRef::new(*count, width, block)),
             KindOf::Bit(head, block) => ViewOf::BitLeaf(head.number(), BitRef::new(block)),
@@ -128,7 +137,8 @@ impl<V: Words + Drop> ChildOf<V> {
         ensures tree { self ≡ tree_of V.WORDS result }
         ensures level { IsLevel V.WORDS result }
     {
-        self.place.kind
+        let place = self.place;
+        place.kind.into_inner()
     }
 
     /// The node of a kind.
@@ -137,7 +147,9 @@ impl<V: Words + Drop> ChildOf<V> {
         ensures { result ≡ tree_of V.WORDS kind }
     {
         ChildOf {
-            place: PlaceOf { kind },
+            place: PlaceOf {
+                kind: Whole::new(kind),
+            },
         }
     }
 
@@ -161,7 +173,7 @@ impl<V: Words + Drop> PlaceOf<V> {
         ensures* changes { sem 𝓛 (Lends (the_row V.row V.Words) (kind V.row V.Words) self.entry result placed) }
         ensures value { placed result.now ≡ self.old }
     {
-        &mut self.kind
+        self.kind.get_mut()
     }
 }
 

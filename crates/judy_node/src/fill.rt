@@ -18,7 +18,7 @@ impl<V: Words + Drop> ChildOf<V> {
         requires fits { base + 256 ^ width ≤ 2 ^ 64 }
         ensures { out.new ≡ shift base self.now.pairs }
     {
-        match &self.place.kind {
+        match self.kind() {
             KindOf::Imm(head, word) => imm_of::<V>(width, head.number(), *word).fill(base, out),
             KindOf::Leaf(count, block) => LeafRef::<V>::new(*count, width, block).fill(base, out),
             KindOf::Bit(head, block) => BitRef::<V>::new(block).fill(

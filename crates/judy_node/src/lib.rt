@@ -27,6 +27,7 @@ mod slot;
 mod step;
 mod sums;
 mod view;
+mod whole;
 
 pub use build::{
     child_of_sorted, immediate_of_sorted, kind_of_sorted, leaf_of_sorted, most_in_immediate,

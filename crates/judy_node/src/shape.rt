@@ -61,7 +61,7 @@ impl<V: Words + Drop> ChildOf<V> {
         requires { nodes_in (shape_as shape.old) + length self.now.form < 2 ^ 128 }
         ensures { shape_as shape.new ≡ plus (shape_as shape.old) (shape_in self.now.form) }
     {
-        match &self.place.kind {
+        match self.kind() {
             KindOf::Imm(_, _) => shape.immediates += 1,
             KindOf::Leaf(_, _) => shape.leaves += 1,
             KindOf::Bit(_, _) => shape.bitmap_leaves += 1,

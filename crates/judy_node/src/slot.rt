@@ -126,8 +126,33 @@ impl<V: Words + Drop> BranchOf<V> {
         ensures* changes { sem 𝓛 (LendsIf (the_row V.row V.Words) word self.entry result (branch_written self.entry.now at rest) self.entry.now) }
         ensures value { option_copied_mut result ≡ value_of rest (child_at self.old at).pairs }
     {
+        L::slot(self, at, rest)
+    }
+
+    // The same where the children may be branches of a lower level.
+    fn slot_below<L: Level>(&mut self, at: usize, rest: u64) -> Option<&mut u64>
+        requires words { V.WORDS ≡ 1 }
+        requires inside { at < length self.old.children.items }
+        requires child { IsChild V.WORDS self.old.width (child_at self.old at) }
+        requires depth { self.old.width ≤ L.DEPTH + 1 }
+        ensures* changes { sem 𝓛 (LendsIf (the_row V.row V.Words) word self.entry result (branch_written self.entry.now at rest) self.entry.now) }
+        ensures value { option_copied_mut result ≡ value_of rest (child_at self.old at).pairs }
+    {
         let width = self.width;
-        L::slot(self.child_at(at), width, rest)
+        self.child_at(at).slot_at::<L>(width, rest)
+    }
+
+    // The same where no child has a node below it.
+    fn slot_of_leaf(&mut self, at: usize, rest: u64) -> Option<&mut u64>
+        requires words { V.WORDS ≡ 1 }
+        requires inside { at < length self.old.children.items }
+        requires child { IsChild V.WORDS self.old.width (child_at self.old at) }
+        requires depth { self.old.width ≤ 1 }
+        ensures* changes { sem 𝓛 (LendsIf (the_row V.row V.Words) word self.entry result (branch_written self.entry.now at rest) self.entry.now) }
+        ensures value { option_copied_mut result ≡ value_of rest (child_at self.old at).pairs }
+    {
+        let width = self.width;
+        self.child_at(at).slot_of_byte(width, rest)
     }
 }
 
@@ -143,8 +168,9 @@ impl<V: Words + Drop> ChildOf<V> {
         ensures* changes { sem 𝓛 (LendsIf (the_row V.row V.Words) word self.entry result (with_value self.entry.now key) self.entry.now) }
         ensures value { option_copied_mut result ≡ value_of key self.old.pairs }
     {
-        let seat = self.place.kind.seat(width, key)?;
-        self.place.kind.slot_at::<L>(seat.at, seat.rest)
+        let kind = self.place.kind_mut();
+        let seat = kind.seat(width, key)?;
+        kind.slot_at::<L>(seat.at, seat.rest)
     }
 
     // The same of a node whose keys have one byte, which has no node below it.
@@ -155,35 +181,38 @@ impl<V: Words + Drop> ChildOf<V> {
         ensures* changes { sem 𝓛 (LendsIf (the_row V.row V.Words) word self.entry result (with_value self.entry.now key) self.entry.now) }
         ensures value { option_copied_mut result ≡ value_of key self.old.pairs }
     {
-        let seat = self.place.kind.seat(width, key)?;
-        self.place.kind.slot_in_leaf(seat.at, seat.rest)
+        let kind = self.place.kind_mut();
+        let seat = kind.seat(width, key)?;
+        kind.slot_in_leaf(seat.at, seat.rest)
     }
 }
 
-// A level of the tree: it lends the slots of nodes that are no deeper than it.
+// A level of branches: it lends the slots below branches whose children are no deeper than it.
 pub trait Level {
     ghost DEPTH: { ℕ };
 
     ghost use Rattle.std.specs.Borrow.{sem, LendsIf, u64 as word};
-    ghost use Rattle.judy_node.specs.contracts.child.ChildOf.{the_row};
+    ghost use Rattle.judy_node.specs.contracts.child.BranchOf.{the_row};
+    ghost use Rattle.judy_node.specs.Seats.{branch_written, child_at};
 
-    // The slot of a key of a node whose keys have `width` bytes.
-    fn slot<V: Words + Drop>(node: &mut ChildOf<V>, width: u8, key: u64) -> Option<&mut u64>
+    // The slot of a key of the child at a place.
+    fn slot<V: Words + Drop>(branch: &mut BranchOf<V>, at: usize, rest: u64) -> Option<&mut u64>
         requires words { V.WORDS ≡ 1 }
-        requires child { IsChild V.WORDS width node.old }
-        requires depth { width ≤ DEPTH }
-        ensures* changes { sem 𝓛 (LendsIf (the_row V.row V.Words) word node.entry result (with_value node.entry.now key) node.entry.now) }
-        ensures value { option_copied_mut result ≡ value_of key node.old.pairs };
+        requires inside { at < length branch.old.children.items }
+        requires child { IsChild V.WORDS branch.old.width (child_at branch.old at) }
+        requires depth { branch.old.width ≤ DEPTH }
+        ensures* changes { sem 𝓛 (LendsIf (the_row V.row V.Words) word branch.entry result (branch_written branch.entry.now at rest) branch.entry.now) }
+        ensures value { option_copied_mut result ≡ value_of rest (child_at branch.old at).pairs };
 }
 
-// The lowest level, that of nodes whose keys have one byte.
+// The lowest level, that of branches whose children have keys of one byte.
 pub struct Bottom;
 
 impl Level for Bottom {
     ghost DEPTH = { 1 };
 
-    fn slot<V: Words + Drop>(node: &mut ChildOf<V>, width: u8, key: u64) -> Option<&mut u64> {
-        node.slot_of_byte(width, key)
+    fn slot<V: Words + Drop>(branch: &mut BranchOf<V>, at: usize, rest: u64) -> Option<&mut u64> {
+        branch.slot_of_leaf(at, rest)
     }
 }
 
@@ -193,13 +222,13 @@ pub struct Above<L>(PhantomData<L>);
 impl<L: Level> Level for Above<L> {
     ghost DEPTH = { L.DEPTH + 1 };
 
-    fn slot<V: Words + Drop>(node: &mut ChildOf<V>, width: u8, key: u64) -> Option<&mut u64> {
-        node.slot_at::<L>(width, key)
+    fn slot<V: Words + Drop>(branch: &mut BranchOf<V>, at: usize, rest: u64) -> Option<&mut u64> {
+        branch.slot_below::<L>(at, rest)
     }
 }
 
-// The level of the nodes whose keys have eight bytes.
-type Deepest = Above<Above<Above<Above<Above<Above<Above<Bottom>>>>>>>;
+// The level of the branches whose keys have eight bytes.
+type Deepest = Above<Above<Above<Above<Above<Above<Bottom>>>>>>;
 
 impl<V: Words + Drop> RootOf<V> {
     ghost use Rattle.std.specs.Borrow.{sem, LendsIf, u64 as word};
@@ -228,7 +257,7 @@ impl<V: Words + Drop> RootOf<V> {
         match self {
             RootOf::Empty => None,
             RootOf::One(_, value) => Some(value),
-            RootOf::Many(child) => Deepest::slot(child, 8, key),
+            RootOf::Many(child) => child.slot_at::<Deepest>(8, key),
         }
     }
 }

@@ -19,7 +19,7 @@ pub child::ChildOf::fill-fill-requires-in-Bit-clause-room :
     goal.child::ChildOf::fill-fill-requires-in-Bit-clause-room
 child::ChildOf::fill-fill-requires-in-Bit-clause-room g t c =
     let words = g.V.Words.WORDS in
-    c.requires.room ∙ ap (λ tree. length tree.pairs) (sym (ap (tree_of words) (sym c.in-Bit.is) ∙ c.self.view_is))
+    c.requires.room ∙ ap (λ tree. length tree.pairs) (sym (ap (tree_of words) (sym c.in-Bit.is) ∙ c.kind.ensures.tree))
     ∙ length-shift (c.in-Bit.head * 256) (bit_list words c.in-Bit.block).pairs ∙ ap (λ l. length l.pairs) (sym c.new-in-Bit.ensures)
 
 pub child::ChildOf::fill-returns-in-Bit : goal.child::ChildOf::fill-returns-in-Bit
@@ -29,7 +29,7 @@ child::ChildOf::fill-returns-in-Bit g t c =
     c.fill-in-Bit.ensures
     ∙ (λ j. shift (c.args.base + c.number-in-Bit.ensures.value j * 256) (c.new-in-Bit.ensures j).pairs)
     ∙ sym (shift-shift c.args.base (c.in-Bit.head * 256) (c.args.base + c.in-Bit.head * 256) inner refl)
-    ∙ ap (λ tree. shift c.args.base tree.pairs) (ap (tree_of words) (sym c.in-Bit.is) ∙ c.self.view_is)
+    ∙ ap (λ tree. shift c.args.base tree.pairs) (ap (tree_of words) (sym c.in-Bit.is) ∙ c.kind.ensures.tree)
 
 pub fill::fill_branch-overflow_mul-front : goal.fill::fill_branch-overflow_mul-front
 fill::fill_branch-overflow_mul-front g t c =
@@ -128,7 +128,7 @@ fill::fill_branch-fill-requires g t c κs within =
     let long = c.loop-place.auto.out in
     let rest = length-drop c.loop-place.at c.loop-place.out in
     let part = length-take-le (c.loop-place.at + c.pop.result - c.loop-place.at) (drop c.loop-place.at c.loop-place.out) (omega arith) in
-    (omega arith, (within, (kid_is words branch.width branch.skip branch.bytes kids branch.population level c.loop-place.place c.child-item.result c.in-Some.byte c.loop-place-test.true c.child-item.is told, (omega arith, omega arith))))
+    (omega arith, (within, (omega arith, (kid_is words branch.width branch.skip branch.bytes kids branch.population level c.loop-place.place c.child-item.result c.in-Some.byte c.loop-place-test.true c.child-item.is told, (omega arith, omega arith)))))
 
 pub fill::fill_branch-loop-place-preserved : goal.fill::fill_branch-loop-place-preserved
 fill::fill_branch-loop-place-preserved g t c =

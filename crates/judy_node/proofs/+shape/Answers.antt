@@ -14,7 +14,7 @@ shape::count_branch-count_into-requires g t c κs within =
     let started = ap nodes_in c.add_branch.ensures ∙ nodes-branch (length c.args.branch.now.bytes) (shape_as c.args.shape.now) in
     let room = c.requires in
     let falls = c.decreases in
-    (omega arith, (within, shape-room (shape_as c.add_branch.new.self) (shape_as c.loop-child.shape) kids c.loop-child.child-index c.child-item.result (2 ^ 128) c.loop-child-test.true c.child-item.is c.loop-child.invariant (omega arith)))
+    (omega arith, (within, (omega arith, shape-room (shape_as c.add_branch.new.self) (shape_as c.loop-child.shape) kids c.loop-child.child-index c.child-item.result (2 ^ 128) c.loop-child-test.true c.child-item.is c.loop-child.invariant (omega arith))))
 
 pub shape::count_branch-loop-child-preserved : goal.shape::count_branch-loop-child-preserved
 shape::count_branch-loop-child-preserved g t c =

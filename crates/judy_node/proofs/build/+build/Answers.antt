@@ -26,12 +26,15 @@ add_group-child_of_sorted-requires g t c κs within =
       (
         within,
         (
-          c.requires.one,
+          omega arith,
           (
-            c.requires.width,
+            c.requires.one,
             (
-              omega arith,
-              group_map g.V.Words.WORDS c.args.below c.args.pairs.now c.args.rest.now c.args.branch.now.bytes c.args.branch.now.children.items made.0 c.byte_above-byte.result c.group_end-end.result made.1 c.group_end-end.ensures,
+              c.requires.width,
+              (
+                omega arith,
+                group_map g.V.Words.WORDS c.args.below c.args.pairs.now c.args.rest.now c.args.branch.now.bytes c.args.branch.now.children.items made.0 c.byte_above-byte.result c.group_end-end.result made.1 c.group_end-end.ensures,
+              ),
             ),
           ),
         ),

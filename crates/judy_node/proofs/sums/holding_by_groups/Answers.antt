@@ -6,14 +6,19 @@ use Rattle.judy_node.proofs.sums.holding_by_groups.Goals as goal
 pub group_holding-group-requires-clause-all : goal.group_holding-group-requires-clause-all
 group_holding-group-requires-clause-all g c = c.requires.all ∙ sym (groups-all c.args.groups.now c.args.children.now c.requires.groups)
 
-pub child_holding-place-requires-clause-all : goal.child_holding-place-requires-clause-all
-child_holding-place-requires-clause-all g c =
+pub child_holding-place-requires : goal.child_holding-place-requires
+child_holding-place-requires g c =
     let first = 16 * c.group_holding-group.result.0 in
     let there = c.group_holding-group.ensures.there in
     let long = c.requires.groups.groups in
-    let sixteen : 16 ≡ first + 16 - first = omega arith in
-    group-population c.args.groups.now c.args.children.now c.requires.groups c.group_holding-group.result.0 (omega arith)
-    ∙ ap (λ n. population (take n (drop first c.args.children.now))) sixteen
+    let sixteen : 16 ≡ first + 16 - first = omega arith in (
+      omega arith,
+      (
+        group-population c.args.groups.now c.args.children.now c.requires.groups c.group_holding-group.result.0 (omega arith)
+            ∙ ap (λ n. population (take n (drop first c.args.children.now))) sixteen,
+        c.group_holding-group.ensures.inside,
+      ),
+    )
 
 pub overflow_add-result : goal.overflow_add-result
 overflow_add-result g c =

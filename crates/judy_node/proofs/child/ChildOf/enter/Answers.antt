@@ -7,8 +7,8 @@ pub returns-in-Bit-clause-view : goal.returns-in-Bit-clause-view
 returns-in-Bit-clause-view g c =
     let words = g.V.Words.WORDS in
     bit_view words c.args.width c.in-Bit.head c.in-Bit.block c.args.self.now c.new-in-Bit.result c.number-in-Bit.result
-    (subst (λ kind. IsLevel words kind) c.in-Bit.is c.self.invariant)
-    (ap (tree_of words) (sym c.in-Bit.is) ∙ c.self.view_is)
+    (subst (λ kind. IsLevel words kind) c.in-Bit.is c.kind.ensures.level)
+    (ap (tree_of words) (sym c.in-Bit.is) ∙ c.kind.ensures.tree)
     c.requires.child
     c.new-in-Bit.ensures
     c.number-in-Bit.ensures.value
