@@ -13,13 +13,13 @@ use Rattle.judy_change.specs.Inserted.{IsAdded}
 use Rattle.judy_change.proofs.BranchInserts.{BranchParts, AreOf, put_branch, put_added, put_long, put_loose}
 use Rattle.judy_change.proofs.put.put_key.Goals as goal
 
-pub add_child-requires-clause-within : goal.add_child-requires-clause-within
-add_child-requires-clause-within g c =
+pub add_child-requires : goal.add_child-requires
+add_child-requires g c =
     let b = c.args.branch.now in
     let is = c.requires.place in
     let long = children-length g.V.Words.WORDS b.width 0 b.bytes b.children.items c.requires.level.parts.children in
     let within = rank_within b.bytes c.args.byte in
-    omega arith
+    (omega arith, (is, (omega arith, c.requires.spare)))
 
 pub returns-clause-level : goal.returns-clause-level
 returns-clause-level g c =

@@ -26,7 +26,7 @@ pub remove_below-remove_in-requires : goal.remove_below-remove_in-requires
 remove_below-remove_in-requires g t c κs within =
     let falls = c.decreases in
     let within_width = c.requires.branch.parts.within in
-    (omega arith, (within, (c.requires.one, (kid_child g.V.Words.WORDS c.args.key c.in-Child.byte c.in-Child.place c.in-Child.rest c.args.branch.now c.index_mut.result.now c.requires.branch c.in-Child.ensures.0 c.in-Child.ensures.1 c.index_mut.ensures.value, λ wide. let never : ⊥ = omega arith in absurd never))))
+    (omega arith, (within, (omega arith, (c.requires.one, (kid_child g.V.Words.WORDS c.args.key c.in-Child.byte c.in-Child.place c.in-Child.rest c.args.branch.now c.index_mut.result.now c.requires.branch c.in-Child.ensures.0 c.in-Child.ensures.1 c.index_mut.ensures.value, λ wide. let never : ⊥ = omega arith in absurd never)))))
 
 pub remove_below-returns-then-branch-eq1-clause-taken : goal.remove_below-returns-then-branch-eq1-clause-taken
 remove_below-returns-then-branch-eq1-clause-taken g t c = (

@@ -1,11 +1,10 @@
-use Rattle.std.proofs.Common.{sym, ◌∙◌, subst}
+use Rattle.std.proofs.Common.{sym, ◌∙◌, subst, arith}
 use Rattle.judy_node.specs.Roots.{root_tree}
 use Rattle.judy_change.specs.Removals.{IsRemoved}
 use Rattle.judy_change.proofs.removals.remove.Goals as goal
 
 pub close-requires : goal.close-requires
-close-requires g c =
-    c.remove_root-root.ensures.root
+close-requires g c = (omega arith, (omega arith, c.remove_root-root.ensures.root))
 
 pub returns : goal.returns
 returns g c =

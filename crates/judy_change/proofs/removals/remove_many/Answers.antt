@@ -4,19 +4,18 @@ use Rattle.judy_change.specs.Removals.{IsRemoved}
 use Rattle.judy_change.proofs.RootFacts.{absent_kept, gone_many, gone_two}
 use Rattle.judy_change.proofs.removals.remove_many.Goals as goal
 
-pub remove_of_two-requires-clause-two : goal.remove_of_two-requires-clause-two
-remove_of_two-requires-clause-two g c =
-    sym c.pop.ensures ∙ c.if-pop-eq2.true
+pub remove_of_two-requires : goal.remove_of_two-requires
+remove_of_two-requires g c = (omega arith, (omega arith, (c.requires.child, sym c.pop.ensures ∙ c.if-pop-eq2.true)))
 
 pub returns-then-pop-eq2-clause-removed : goal.returns-then-pop-eq2-clause-removed
 returns-then-pop-eq2-clause-removed g c =
     c.remove_of_two.ensures.removed
 
-pub remove_in-requires-clause-three : goal.remove_in-requires-clause-three
-remove_in-requires-clause-three g c =
+pub remove_in-requires : goal.remove_in-requires
+remove_in-requires g c =
     let apart : length c.args.child.pairs ≢ 2 = λ two. c.if-pop-eq2.false (c.pop.ensures ∙ two) in
     let two = c.requires.two in
-    λ wide. omega arith
+    (omega arith, (c.requires.one, (c.requires.child, λ wide. omega arith)))
 
 pub unreachable-requires : goal.unreachable-requires
 unreachable-requires g c =

@@ -3,13 +3,8 @@ use Rattle.judy_node.proofs.Maps.{shift-zero}
 use Rattle.judy_change.proofs.RootFacts.{two_pairs, first_root, second_root, first_gone, second_gone, neither_kept}
 use Rattle.judy_change.proofs.removals.remove_of_two.Goals as goal
 
-pub fill-requires-clause-room : goal.fill-requires-clause-room
-fill-requires-clause-room g c =
-    sym c.requires.two
-
-pub fill-requires-clause-fits : goal.fill-requires-clause-fits
-fill-requires-clause-fits g c =
-    omega arith
+pub fill-requires : goal.fill-requires
+fill-requires g c = (omega arith, (c.requires.child, (sym c.requires.two, omega arith)))
 
 pub returns-then-first-key-clause-root : goal.returns-then-first-key-clause-root
 returns-then-first-key-clause-root g c =

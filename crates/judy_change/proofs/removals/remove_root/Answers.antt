@@ -1,4 +1,4 @@
-use Rattle.std.proofs.Common.{refl, sym, subst}
+use Rattle.std.proofs.Common.{refl, sym, subst, arith}
 use Rattle.judy_node.specs.Roots.{root_tree, IsRoot, empty_tree}
 use Rattle.judy_change.specs.Removals.{IsRemoved}
 use Rattle.judy_change.proofs.RootFacts.{absent_kept}
@@ -10,15 +10,12 @@ returns-in-Empty-clause-removed g c =
 
 pub remove_one-requires : goal.remove_one-requires
 remove_one-requires g c =
-    (subst (IsRoot g.V.Words.WORDS) c.in-One.is c.requires.root).1
+    (omega arith, (subst (IsRoot g.V.Words.WORDS) c.in-One.is c.requires.root).1)
 
-pub remove_many-requires-clause-child : goal.remove_many-requires-clause-child
-remove_many-requires-clause-child g c =
-    (subst (IsRoot g.V.Words.WORDS) c.in-Many.is c.requires.root).0
-
-pub remove_many-requires-clause-two : goal.remove_many-requires-clause-two
-remove_many-requires-clause-two g c =
-    (subst (IsRoot g.V.Words.WORDS) c.in-Many.is c.requires.root).1
+pub remove_many-requires : goal.remove_many-requires
+remove_many-requires g c =
+    let many = subst (IsRoot g.V.Words.WORDS) c.in-Many.is c.requires.root in
+    (omega arith, (omega arith, (c.requires.one, (many.0, many.1))))
 
 pub returns-in-One-clause-removed : goal.returns-in-One-clause-removed
 returns-in-One-clause-removed g c =

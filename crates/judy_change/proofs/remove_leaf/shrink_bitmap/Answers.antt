@@ -1,4 +1,4 @@
-use Rattle.std.proofs.Common.{◌≢◌, ◌-◌, ◌*◌, ◌%◌, ◌^◌, ◌<◌, ◌≤◌, Some, length, get_or, sym, ap, ◌∙◌, subst, arith}
+use Rattle.std.proofs.Common.{◌≡◌, ◌≢◌, ◌-◌, ◌*◌, ◌%◌, ◌^◌, ◌<◌, ◌≤◌, Some, length, get_or, sym, ap, ◌∙◌, subst, arith}
 use Rattle.judy_bits.specs.ByteSets as set
 use Rattle.judy_leaf.specs.KeyLists.{KeyList, keys_of, values_of}
 use Rattle.judy_leaf.specs.BitLeaves.{bit_list}
@@ -71,39 +71,19 @@ bitmap_kind-requires-in-Some-clause-skips g c =
     let left = c.remove.ensures ∙ ap (λ l. left_list l c.in-Some.at) c.of_parts-bits.ensures in
     subst (λ (l : KeyList). c.args.head < 256 ^ (l.width - 1)) (sym left) c.requires.level.skips
 
-pub lessen-child-requires-clause-child : goal.lessen-child-requires-clause-child
-lessen-child-requires-clause-child g c =
+pub lessen-child-requires : goal.lessen-child-requires
+lessen-child-requires g c =
     let words = g.V.Words.WORDS in
     let list = bit_list words c.args.block in
     let along = c.in-Some.ensures.0 ∙ c.number.ensures.value in
     let place = ap (λ (l : KeyList). set.place (keys_of l.pairs) (c.args.key % 256)) (sym (c.reading.ensures ∙ c.of_parts-bits.ensures)) ∙ c.in-Some.ensures.1 in
     let left = c.remove.ensures ∙ ap (λ l. left_list l c.in-Some.at) c.of_parts-bits.ensures in
-    bit_child words c.args.width c.args.key c.in-Some.at c.args.head c.args.block c.requires.level c.requires.child along place c.bitmap_kind-in-Some.result c.close-child.result c.bitmap_kind-in-Some.ensures.level (c.bitmap_kind-in-Some.ensures.tree ∙ ap (one_bitmap c.args.head) left) c.close-child.ensures
-
-pub lessen-child-requires-clause-few : goal.lessen-child-requires-clause-few
-lessen-child-requires-clause-few g c =
-    let words = g.V.Words.WORDS in
-    let list = bit_list words c.args.block in
-    let along = c.in-Some.ensures.0 ∙ c.number.ensures.value in
-    let place = ap (λ (l : KeyList). set.place (keys_of l.pairs) (c.args.key % 256)) (sym (c.reading.ensures ∙ c.of_parts-bits.ensures)) ∙ c.in-Some.ensures.1 in
-    let count = c.len.ensures.count ∙ ap (λ (l : KeyList). length l.pairs) (c.reading-in-Some-2.ensures ∙ c.of_parts-bits.ensures) in
-    let left = c.remove.ensures ∙ ap (λ l. left_list l c.in-Some.at) c.of_parts-bits.ensures in
+    let child = bit_child words c.args.width c.args.key c.in-Some.at c.args.head c.args.block c.requires.level c.requires.child along place c.bitmap_kind-in-Some.result c.close-child.result c.bitmap_kind-in-Some.ensures.level (c.bitmap_kind-in-Some.ensures.tree ∙ ap (one_bitmap c.args.head) left) c.close-child.ensures in
     let few = c.requires.few in
     let long = bit_long words c.args.width c.args.key c.in-Some.at c.args.head c.args.block c.requires.level c.requires.child along place c.bitmap_kind-in-Some.result c.close-child.result c.bitmap_kind-in-Some.ensures.level (c.bitmap_kind-in-Some.ensures.tree ∙ ap (one_bitmap c.args.head) left) c.close-child.ensures in
-    omega arith
-
-pub lessen-child-requires-clause-two : goal.lessen-child-requires-clause-two
-lessen-child-requires-clause-two g c =
-    let words = g.V.Words.WORDS in
-    let list = bit_list words c.args.block in
-    let along = c.in-Some.ensures.0 ∙ c.number.ensures.value in
-    let place = ap (λ (l : KeyList). set.place (keys_of l.pairs) (c.args.key % 256)) (sym (c.reading.ensures ∙ c.of_parts-bits.ensures)) ∙ c.in-Some.ensures.1 in
-    let left = c.remove.ensures ∙ ap (λ l. left_list l c.in-Some.at) c.of_parts-bits.ensures in
-    let long = bit_long words c.args.width c.args.key c.in-Some.at c.args.head c.args.block c.requires.level c.requires.child along place c.bitmap_kind-in-Some.result c.close-child.result c.bitmap_kind-in-Some.ensures.level (c.bitmap_kind-in-Some.ensures.tree ∙ ap (one_bitmap c.args.head) left) c.close-child.ensures in
     let moved = length-shift (c.args.head * 256) list.pairs in
-    λ wide.
-    let three = c.requires.three wide in
-    omega arith
+    let two : c.args.width ≡ 8 → 2 ≤ length c.close-child.result.pairs = λ wide. let three = c.requires.three wide in omega arith in
+    (omega arith, (c.requires.one, (child, (omega arith, two))))
 
 pub returns-else-len-eq1 : goal.returns-else-len-eq1
 returns-else-len-eq1 g c =

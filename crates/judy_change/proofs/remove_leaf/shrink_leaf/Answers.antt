@@ -1,4 +1,4 @@
-use Rattle.std.proofs.Common.{◌<◌, length, get_or, sym, ap, ◌∙◌, subst, arith}
+use Rattle.std.proofs.Common.{◌≡◌, ◌<◌, ◌≤◌, length, get_or, sym, ap, ◌∙◌, subst, arith}
 use Rattle.judy_model.specs.Shapes.{immediate_limit}
 use Rattle.judy_bits.specs.ByteSets as set
 use Rattle.judy_leaf.specs.KeyLists.{keys_of, values_of}
@@ -21,44 +21,16 @@ remove-requires g c =
     let place = ap (λ l. set.place (keys_of l.pairs) c.args.key) (sym (c.reading.ensures ∙ c.of_parts-leaf.ensures)) ∙ sym c.find.ensures ∙ c.in-Some.is in
     subst (λ l. c.in-Some.at < length l.pairs) (sym c.of_parts-leaf.ensures) (leaf_within words c.args.width c.args.key c.in-Some.at c.args.count c.args.block c.requires.level c.requires.child place)
 
-pub immediate_left-requires-clause-list : goal.immediate_left-requires-clause-list
-immediate_left-requires-clause-list g c =
+pub immediate_left-requires : goal.immediate_left-requires
+immediate_left-requires g c =
     let words = g.V.Words.WORDS in
     let place = ap (λ l. set.place (keys_of l.pairs) c.args.key) (sym (c.reading.ensures ∙ c.of_parts-leaf.ensures)) ∙ sym c.find.ensures ∙ c.in-Some.is in
-    (leaf_left words c.args.width c.args.key c.in-Some.at c.args.count c.args.block c.requires.level c.requires.child place c.remove.new.self (c.remove.ensures ∙ ap (λ l. left_list l c.in-Some.at) c.of_parts-leaf.ensures)).wide
-
-pub immediate_left-requires-clause-width : goal.immediate_left-requires-clause-width
-immediate_left-requires-clause-width g c = (c.requires.child.low_width, c.requires.child.high_width)
-
-pub immediate_left-requires-clause-some : goal.immediate_left-requires-clause-some
-immediate_left-requires-clause-some g c =
-    let words = g.V.Words.WORDS in
-    let place = ap (λ l. set.place (keys_of l.pairs) c.args.key) (sym (c.reading.ensures ∙ c.of_parts-leaf.ensures)) ∙ sym c.find.ensures ∙ c.in-Some.is in
-    (leaf_left words c.args.width c.args.key c.in-Some.at c.args.count c.args.block c.requires.level c.requires.child place c.remove.new.self (c.remove.ensures ∙ ap (λ l. left_list l c.in-Some.at) c.of_parts-leaf.ensures)).some
-
-pub immediate_left-requires-clause-two : goal.immediate_left-requires-clause-two
-immediate_left-requires-clause-two g c =
-    let words = g.V.Words.WORDS in
-    let place = ap (λ l. set.place (keys_of l.pairs) c.args.key) (sym (c.reading.ensures ∙ c.of_parts-leaf.ensures)) ∙ sym c.find.ensures ∙ c.in-Some.is in
-    λ wide.
-    let three = c.requires.three wide in
-    let fewer = (leaf_left words c.args.width c.args.key c.in-Some.at c.args.count c.args.block c.requires.level c.requires.child place c.remove.new.self (c.remove.ensures ∙ ap (λ l. left_list l c.in-Some.at) c.of_parts-leaf.ensures)).fewer in
-    omega arith
-
-pub immediate_left-requires-clause-map : goal.immediate_left-requires-clause-map
-immediate_left-requires-clause-map g c =
-    let words = g.V.Words.WORDS in
-    let place = ap (λ l. set.place (keys_of l.pairs) c.args.key) (sym (c.reading.ensures ∙ c.of_parts-leaf.ensures)) ∙ sym c.find.ensures ∙ c.in-Some.is in
-    (leaf_left words c.args.width c.args.key c.in-Some.at c.args.count c.args.block c.requires.level c.requires.child place c.remove.new.self (c.remove.ensures ∙ ap (λ l. left_list l c.in-Some.at) c.of_parts-leaf.ensures)).map
-
-pub immediate_left-requires-clause-few : goal.immediate_left-requires-clause-few
-immediate_left-requires-clause-few g c =
-    let words = g.V.Words.WORDS in
-    let place = ap (λ l. set.place (keys_of l.pairs) c.args.key) (sym (c.reading.ensures ∙ c.of_parts-leaf.ensures)) ∙ sym c.find.ensures ∙ c.in-Some.is in
-    let fewer = (leaf_left words c.args.width c.args.key c.in-Some.at c.args.count c.args.block c.requires.level c.requires.child place c.remove.new.self (c.remove.ensures ∙ ap (λ l. left_list l c.in-Some.at) c.of_parts-leaf.ensures)).fewer in
+    let left = leaf_left words c.args.width c.args.key c.in-Some.at c.args.count c.args.block c.requires.level c.requires.child place c.remove.new.self (c.remove.ensures ∙ ap (λ l. left_list l c.in-Some.at) c.of_parts-leaf.ensures) in
+    let fewer = left.fewer in
     let long = leaf_long words c.args.count c.args.block c.requires.level.parts in
     let few = c.requires.few in
-    omega arith
+    let two : c.args.width ≡ 8 → 2 ≤ length c.remove.new.self.pairs = λ wide. let three = c.requires.three wide in omega arith in
+    (omega arith, (c.requires.one, (left.wide, ((c.requires.child.low_width, c.requires.child.high_width), (left.some, (omega arith, (two, left.map)))))))
 
 pub returns-in-Some : goal.returns-in-Some
 returns-in-Some g c =

@@ -63,10 +63,13 @@ into_child-insert_in-requires g t c κs within =
       (
         within,
         (
-          c.requires.one,
+          omega arith,
           (
-            kid_child g.V.Words.WORDS b.width b.skip b.bytes b.children.items b.population c.requires.level c.args.byte c.args.rest c.requires.fits c.args.place c.index_mut.result.now c.requires.here c.index_mut.ensures.value,
-            (c.requires.fits, (c.requires.no_value, kid_room g.V.Words.WORDS b.width b.skip b.bytes b.children.items b.population c.requires.level c.args.byte c.args.rest c.requires.fits c.args.place c.index_mut.result.now c.requires.here c.index_mut.ensures.value c.requires.room)),
+            c.requires.one,
+            (
+              kid_child g.V.Words.WORDS b.width b.skip b.bytes b.children.items b.population c.requires.level c.args.byte c.args.rest c.requires.fits c.args.place c.index_mut.result.now c.requires.here c.index_mut.ensures.value,
+              (c.requires.fits, (c.requires.no_value, kid_room g.V.Words.WORDS b.width b.skip b.bytes b.children.items b.population c.requires.level c.args.byte c.args.rest c.requires.fits c.args.place c.index_mut.result.now c.requires.here c.index_mut.ensures.value c.requires.room)),
+            ),
           ),
         ),
       ),
