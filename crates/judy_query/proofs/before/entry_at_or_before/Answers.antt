@@ -65,8 +65,9 @@ index-requires g c =
     let inside = child_inside g.V.Words.WORDS c.args.tree.now.pairs c.down.at.0 c.args.key c.down.at.1 c.down.invariant.0 c.in-Child.field-0 c.in-Child.place c.in-Child.rest c.in-Child.ensures in
     omega (arith, c.down.at.0.now.children.ok.0)
 
-pub enter-requires-in-down-clause-child : goal.enter-requires-in-down-clause-child
-enter-requires-in-down-clause-child g c = child_is g.V.Words.WORDS c.args.tree.now.pairs c.down.at.0 c.args.key c.down.at.1 c.down.invariant.0 c.in-Child.field-0 c.in-Child.place c.in-Child.rest c.in-Child.ensures c.index.result.now c.index.ensures
+pub enter-requires-in-down : goal.enter-requires-in-down
+enter-requires-in-down g c =
+    (omega arith, (omega (arith, c.down.invariant.3, c.requires), child_is g.V.Words.WORDS c.args.tree.now.pairs c.down.at.0 c.args.key c.down.at.1 c.down.invariant.0 c.in-Child.field-0 c.in-Child.place c.in-Child.rest c.in-Child.ensures c.index.result.now c.index.ensures))
 
 pub down-preserved : goal.down-preserved
 down-preserved g c =

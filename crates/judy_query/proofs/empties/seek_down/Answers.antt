@@ -70,25 +70,15 @@ returns-then-is_full-clause-room g c =
     let full = all_full (length c.index-child.result.now.pairs) (256 ^ b.width) c.is_full.result c.is_full.ensures c.if-is_full.true in
     room-before words all 0 (key - c.in-Child.rest) (key + 1) c.or-earlier.result (full_before words all c.in-Branch.branch key left down c.in-Child.byte c.in-Child.place c.in-Child.rest c.in-Child.ensures c.index-child.result.now c.index-child.ensures full) room
 
-pub enter-view-requires-in-Branch-clause-child : goal.enter-view-requires-in-Branch-clause-child
-enter-view-requires-in-Branch-clause-child g c =
+pub enter-view-requires-in-Branch : goal.enter-view-requires-in-Branch
+enter-view-requires-in-Branch g c =
     let words = g.V.Words.WORDS in
     let all = c.args.tree.now.pairs in
     let b = c.in-Branch.branch.now in
     let key = c.args.key in
     let left = c.down.left in
     let down = subst (λ v. IsDown words all v key left) c.in-Branch.is c.down.invariant.0 in
-    child_is words all c.in-Branch.branch key left down c.in-Child.byte c.in-Child.place c.in-Child.rest c.in-Child.ensures c.index-child.result.now c.index-child.ensures
-
-pub enter-view-requires-in-Branch-clause-room : goal.enter-view-requires-in-Branch-clause-room
-enter-view-requires-in-Branch-clause-room g c =
-    let words = g.V.Words.WORDS in
-    let all = c.args.tree.now.pairs in
-    let b = c.in-Branch.branch.now in
-    let key = c.args.key in
-    let left = c.down.left in
-    let down = subst (λ v. IsDown words all v key left) c.in-Branch.is c.down.invariant.0 in
-    child_room words all c.in-Branch.branch key left down c.in-Child.byte c.in-Child.place c.in-Child.rest c.in-Child.ensures c.index-child.result.now c.index-child.ensures (not_full (length c.index-child.result.now.pairs) (256 ^ b.width) c.is_full.result c.is_full.ensures c.if-is_full.false)
+    (omega arith, (omega (arith, c.down.invariant.3, c.enter-view.ensures.visits, c.requires), (child_is words all c.in-Branch.branch key left down c.in-Child.byte c.in-Child.place c.in-Child.rest c.in-Child.ensures c.index-child.result.now c.index-child.ensures, child_room words all c.in-Branch.branch key left down c.in-Child.byte c.in-Child.place c.in-Child.rest c.in-Child.ensures c.index-child.result.now c.index-child.ensures (not_full (length c.index-child.result.now.pairs) (256 ^ b.width) c.is_full.result c.is_full.ensures c.if-is_full.false))))
 
 pub down-smaller : goal.down-smaller
 down-smaller g c =

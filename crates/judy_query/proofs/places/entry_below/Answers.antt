@@ -26,13 +26,17 @@ index-requires g c =
     let inside = slice_get_within c.in-Branch.branch.now.children.items c.holding-at.result.0 c.holding-at.ensures.0 c.holding-at.ensures.1.there in
     omega (arith, c.in-Branch.branch.now.children.ok.0)
 
-pub enter-view-requires-clause-child : goal.enter-view-requires-clause-child
-enter-view-requires-clause-child g c =
+pub enter-view-requires : goal.enter-view-requires
+enter-view-requires g c =
     let words = g.V.Words.WORDS in
     let top = view_pairs c.args.top in
     let down = subst (λ v. IsDown words top v c.down.base 0) c.in-Branch.is c.down.invariant.0 in
     let inside = slice_get_within c.in-Branch.branch.now.children.items c.holding-at.result.0 c.holding-at.ensures.0 c.holding-at.ensures.1.there in
-    start_child words top c.in-Branch.branch c.down.base down c.holding-at.result.0 c.start_of-base.result inside c.start_of-base.ensures c.index.result.now c.index.ensures
+    let child = start_child words top c.in-Branch.branch c.down.base down c.holding-at.result.0 c.start_of-base.result inside c.start_of-base.ensures c.index.result.now c.index.ensures in
+    let here = ap width_of c.in-Branch.is in
+    let some = child.low_width in
+    let top_narrow = c.requires.shown.narrow in
+    (omega arith, (omega (arith, c.down.invariant.3, c.requires.room), child))
 
 pub down-smaller : goal.down-smaller
 down-smaller g c =

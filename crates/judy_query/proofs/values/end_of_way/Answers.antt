@@ -74,16 +74,12 @@ index-requires g c =
     let inside = child_inside g.V.Words.WORDS (branch_pairs top.width top.skip top.bytes top.children.items) (record { ref_ptr = (0, 0); now = c.down.branch.now }) c.args.key c.down.left c.down.invariant.0 c.in-Child.field-0 c.in-Child.place c.in-Child.rest c.in-Child.ensures in
     omega (arith, c.down.branch.now.children.ok.0)
 
-pub enter-requires-clause-below : goal.enter-requires-clause-below
-enter-requires-clause-below g c =
+pub enter-requires : goal.enter-requires
+enter-requires g c =
     let some = c.down.invariant.0.shown.some in
     let top_narrow = c.requires.shown.narrow in
-    omega (arith, c.down.invariant.1, c.requires.below)
-
-pub enter-requires-clause-child : goal.enter-requires-clause-child
-enter-requires-clause-child g c =
     let top = c.args.top.now in
-    child_is g.V.Words.WORDS (branch_pairs top.width top.skip top.bytes top.children.items) (record { ref_ptr = (0, 0); now = c.down.branch.now }) c.args.key c.down.left c.down.invariant.0 c.in-Child.field-0 c.in-Child.place c.in-Child.rest c.in-Child.ensures c.index.result.now c.index.ensures
+    (omega arith, (omega (arith, c.down.invariant.1, c.requires.below), child_is g.V.Words.WORDS (branch_pairs top.width top.skip top.bytes top.children.items) (record { ref_ptr = (0, 0); now = c.down.branch.now }) c.args.key c.down.left c.down.invariant.0 c.in-Child.field-0 c.in-Child.place c.in-Child.rest c.in-Child.ensures c.index.result.now c.index.ensures))
 
 pub down-smaller : goal.down-smaller
 down-smaller g c =

@@ -13,11 +13,11 @@ use Rattle.judy_query.proofs.Splits.{rest_of}
 use Rattle.judy_query.proofs.WalkFacts.{entered_width, entered_shown, entered_some, entered_fits, entered_pairs}
 use Rattle.judy_query.proofs.walk.first_from.Goals as goal
 
-pub enter-view-requires-clause-child : goal.enter-view-requires-clause-child
-enter-view-requires-clause-child g c =
+pub enter-view-requires : goal.enter-view-requires
+enter-view-requires g c =
     let turn = c.args.turn in
     let b = turn.branch.now in
-    kid_is g.V.Words.WORDS b.width b.skip b.bytes b.children.items b.population c.requires.turn.branch 0 turn.place c.index.result.now c.requires.turn.inside c.index.ensures
+    (omega arith, (omega (arith, c.new.ensures), kid_is g.V.Words.WORDS b.width b.skip b.bytes b.children.items b.population c.requires.turn.branch 0 turn.place c.index.result.now c.requires.turn.inside c.index.ensures))
 
 pub keep-requires : goal.keep-requires
 keep-requires g c =

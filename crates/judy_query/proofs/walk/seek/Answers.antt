@@ -64,12 +64,12 @@ index-requires g c =
     let inside = child_inside words pairs c.in-Branch.branch c.args.key c.down.left down c.in-Child.field-0 c.in-Child.place c.in-Child.rest c.in-Child.ensures in
     omega (arith, c.in-Branch.branch.now.children.ok.0)
 
-pub enter-view-requires-in-Branch-clause-child : goal.enter-view-requires-in-Branch-clause-child
-enter-view-requires-in-Branch-clause-child g c =
+pub enter-view-requires-in-Branch : goal.enter-view-requires-in-Branch
+enter-view-requires-in-Branch g c =
     let words = g.V.Words.WORDS in
     let pairs = c.args.tree.now.pairs in
     let down = subst (λ v. IsDown words pairs v c.args.key c.down.left) c.in-Branch.is c.down.invariant.0 in
-    child_is words pairs c.in-Branch.branch c.args.key c.down.left down c.in-Child.field-0 c.in-Child.place c.in-Child.rest c.in-Child.ensures c.index.result.now c.index.ensures
+    (omega arith, (omega (arith, c.new-in-Branch.ensures), child_is words pairs c.in-Branch.branch c.args.key c.down.left down c.in-Child.field-0 c.in-Child.place c.in-Child.rest c.in-Child.ensures c.index.result.now c.index.ensures))
 
 pub down-smaller : goal.down-smaller
 down-smaller g c =

@@ -7,11 +7,11 @@ use Rattle.judy_query.proofs.TurnFacts.{turn_is, turn_long}
 use Rattle.judy_query.proofs.RankFacts.{at-shift, at_below}
 use Rattle.judy_query.proofs.turns.Turn.entry_at.Goals as goal
 
-pub enter-view-requires-clause-child : goal.enter-view-requires-clause-child
-enter-view-requires-clause-child g c =
+pub enter-view-requires : goal.enter-view-requires
+enter-view-requires g c =
     let turn = c.args.self.now in
     let b = turn.branch.now in
-    kid_is g.V.Words.WORDS b.width b.skip b.bytes b.children.items b.population c.requires.turn.branch 0 turn.place c.index.result.now c.requires.turn.inside c.index.ensures
+    (omega arith, (omega (arith, c.requires.room), kid_is g.V.Words.WORDS b.width b.skip b.bytes b.children.items b.population c.requires.turn.branch 0 turn.place c.index.result.now c.requires.turn.inside c.index.ensures))
 
 pub overflow_add-base : goal.overflow_add-base
 overflow_add-base g c =
