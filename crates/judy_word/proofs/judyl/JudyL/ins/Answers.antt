@@ -1,10 +1,10 @@
-use Rattle.std.proofs.Common.{refl, ◌∙◌}
+use Rattle.std.proofs.Common.{refl, ◌∙◌, arith}
 use Rattle.judy_model.proofs.Lent.{lent}
 use Rattle.judy_word.proofs.ArrayFacts.{inserted-value, inserted-there, inserted-written}
 use Rattle.judy_word.proofs.judyl.JudyL.ins.Goals as goal
 
-pub slot_of-requires-clause-present : goal.slot_of-requires-clause-present
-slot_of-requires-clause-present c = inserted-there c.self.inside.tree c.set.new.self c.told.ensures c.args.i c.in_ok-set.ensures.set
+pub slot_of-requires : goal.slot_of-requires
+slot_of-requires c = (omega arith, (refl, inserted-there c.self.inside.tree c.set.new.self c.told.ensures c.args.i c.in_ok-set.ensures.set))
 
 pub returns : goal.returns
 returns c =
