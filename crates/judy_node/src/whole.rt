@@ -5,8 +5,7 @@ ghost use Rattle.std.specs.Borrow.{sem, Lends};
 ghost use Rattle.judy_node.specs.contracts.whole.Whole.{the_row};
 ghost use Rattle.judy_node.specs.Wholes.{whole};
 
-/// A value in an array of its own. An array is moved as so many bytes, and not part by part, so a vector moves all that stands behind a
-/// place at once.
+/// A value in an array of its own. An array is moved as so many bytes, and not part by part.
 #[derive(Drop)]
 pub struct Whole<T> {
     items: [T; 1],
