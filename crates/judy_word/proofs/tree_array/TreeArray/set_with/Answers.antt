@@ -18,11 +18,20 @@ returns-in_default-clause-first g c =
     cc)
 
 pub insert_with-requires : goal.insert_with-requires
-insert_with-requires g c = (omega arith, (c.requires.one, (c.requires.no_value, λ absent.
-    let vacant = sym c.is_full.ensures ∙ c.if-is_full.false in
-    let free = rw (← c.self.view_is) at vacant in
-    let room = room-left g.V.Words.WORDS _ c.args.key _ _ c.told.ensures c.self.invariant free absent in
-    omega arith)))
+insert_with-requires g c = (
+  omega arith,
+  (
+    c.requires.one,
+    (
+      c.requires.no_value,
+      λ absent.
+          let vacant = sym c.is_full.ensures ∙ c.if-is_full.false in
+          let free = rw (← c.self.view_is) at vacant in
+          let room = room-left g.V.Words.WORDS _ c.args.key _ _ c.told.ensures c.self.invariant free absent in
+          omega arith,
+    ),
+  ),
+)
 
 pub returns-in_default-clause-refused : goal.returns-in_default-clause-refused
 returns-in_default-clause-refused g c =
