@@ -88,16 +88,13 @@ const FAULTY: [(&[u8], LoadFault); 13] = [
     ),
 ];
 
-#[test]
-fn dump_faults(rt: HostRuntime) {
-    for (bytes, fault) in &FAULTY {
-        check_load(&rt, rt.alloc(), bytes, SourceTrouble::Never, Some(*fault));
-    }
-    for len in 0..SMALLEST.len() {
+// Each front of a dump is truncated.
+fn check_fronts<R: Abort>(rt: &R, alloc: Global, bytes: &[u8]) {
+    for len in 0..bytes.len() {
         check_load(
-            &rt,
-            rt.alloc(),
-            &SMALLEST[..len],
+            rt,
+            alloc,
+            &bytes[..len],
             SourceTrouble::Never,
             Some(LoadFault::Truncated),
         );
@@ -105,24 +102,26 @@ fn dump_faults(rt: HostRuntime) {
 }
 
 #[test]
+fn dump_faults(rt: HostRuntime) {
+    for (bytes, fault) in &FAULTY {
+        check_load(&rt, rt.alloc(), bytes, SourceTrouble::Never, Some(*fault));
+    }
+    check_fronts(&rt, rt.alloc(), SMALLEST);
+}
+
+// A dump of the smallest array that ends behind so many bytes.
+fn check_cut<R: Abort>(rt: &R, shelf: &Shelf, trouble: SinkTrouble, at: usize) {
+    assert!(rt; at <= SMALLEST.len());
+    check_dump(rt, shelf, trouble, Err(DumpFault::Write), &SMALLEST[..at]);
+}
+
+#[test]
 fn failing_at_each_byte(rt: HostRuntime) {
     let mut shelf = Shelf::new(rt.alloc());
     check_answers(&rt, &mut shelf, b"make a judy1\nset a 1\n", b"ok\n1\n");
     for at in 0..SMALLEST.len() {
-        check_dump(
-            &rt,
-            &shelf,
-            SinkTrouble::Fails { at },
-            Err(DumpFault::Write),
-            &SMALLEST[..at],
-        );
-        check_dump(
-            &rt,
-            &shelf,
-            SinkTrouble::TakesNothing { at },
-            Err(DumpFault::Write),
-            &SMALLEST[..at],
-        );
+        check_cut(&rt, &shelf, SinkTrouble::Fails { at }, at);
+        check_cut(&rt, &shelf, SinkTrouble::TakesNothing { at }, at);
     }
     for at in 0..=SMALLEST.len() {
         check_load(
@@ -147,13 +146,7 @@ fn interrupted_dumps(rt: HostRuntime) {
         Ok(()),
         SMALLEST,
     );
-    check_dump(
-        &rt,
-        &shelf,
-        SinkTrouble::Interrupts { at, times: 1000 },
-        Err(DumpFault::Write),
-        &SMALLEST[..at],
-    );
+    check_cut(&rt, &shelf, SinkTrouble::Interrupts { at, times: 1000 }, at);
     check_load(
         &rt,
         rt.alloc(),
@@ -204,44 +197,42 @@ fn dump_and_sorted(rt: HostRuntime) {
     check_changed(&rt, rt.alloc(), DUMP_OF_THREE);
 }
 
+// The dump of the store of three with some bytes changed has a fault.
+fn check_fault<R: Abort>(rt: &R, alloc: Global, at: usize, bytes: &[u8], fault: LoadFault) {
+    let mut changed = *DUMP_OF_THREE;
+    match changed.get_mut(at..at.saturating_add(bytes.len())) {
+        Some(part) if part.len() == bytes.len() => part.copy_from_slice(bytes),
+        _ => assert!(rt; false),
+    }
+    check_load(rt, alloc, &changed, SourceTrouble::Never, Some(fault));
+}
+
 #[test]
 fn faults_in_store_of_three(rt: HostRuntime) {
-    let table = [
-        (62, b"\x04\x01".as_slice(), LoadFault::BadKey),
-        (75, b"\x00", LoadFault::BadKey),
-        (126, b"\x00", LoadFault::BadOrder),
-        (44, b"l", LoadFault::SameName),
-        (46, b"\x00\x00\x00\x00\x00\x00\x00\x01", LoadFault::BadCount),
-    ];
-    for (at, bytes, fault) in &table {
+    check_fault(&rt, rt.alloc(), 62, b"\x04\x01", LoadFault::BadKey);
+    check_fault(&rt, rt.alloc(), 75, b"\x00", LoadFault::BadKey);
+    check_fault(&rt, rt.alloc(), 126, b"\x00", LoadFault::BadOrder);
+    check_fault(&rt, rt.alloc(), 44, b"l", LoadFault::SameName);
+    let one = b"\x00\x00\x00\x00\x00\x00\x00\x01";
+    check_fault(&rt, rt.alloc(), 46, one, LoadFault::BadCount);
+}
+
+// One byte of the dump of the store of three, changed to each value in turn.
+fn check_byte<R: Abort>(rt: &R, alloc: Global, at: usize) {
+    for byte in 0..=255 {
         let mut changed = *DUMP_OF_THREE;
-        changed[*at..*at + bytes.len()].copy_from_slice(bytes);
-        check_load(
-            &rt,
-            rt.alloc(),
-            &changed,
-            SourceTrouble::Never,
-            Some(*fault),
-        );
+        match changed.get_mut(at) {
+            Some(place) => *place = byte,
+            None => assert!(rt; false),
+        }
+        check_changed(rt, alloc, &changed);
     }
 }
 
 #[test]
 fn changed_dumps(rt: HostRuntime) {
-    for len in 0..DUMP_OF_THREE.len() {
-        check_load(
-            &rt,
-            rt.alloc(),
-            &DUMP_OF_THREE[..len],
-            SourceTrouble::Never,
-            Some(LoadFault::Truncated),
-        );
-    }
+    check_fronts(&rt, rt.alloc(), DUMP_OF_THREE);
     for at in 0..DUMP_OF_THREE.len() {
-        for byte in 0..=255 {
-            let mut changed = *DUMP_OF_THREE;
-            changed[at] = byte;
-            check_changed(&rt, rt.alloc(), &changed);
-        }
+        check_byte(&rt, rt.alloc(), at);
     }
 }

@@ -1,73 +1,79 @@
 //! Rows of scripts over byte strings.
 
-use crate::check::{check_answers, check_lines};
+use crate::check::{check_answers, check_lines, check_rows};
 use judy_shelf::Shelf;
 use std::process::Abort;
 
 #[test]
 fn byte_keys(rt: HostRuntime) {
-    let mut shelf = Shelf::new(rt.alloc());
-    let table = [
-        (b"make h judyhs".as_slice(), b"ok\n".as_slice()),
-        (b"ins h # 1", b"was 0\n"),
-        (b"ins h #00 2", b"was 0\n"),
-        (b"ins h #0000 3", b"was 0\n"),
-        (b"get h #00", b"2\n"),
-        (b"get h =", b"1\n"),
-        (b"del h #", b"1\n"),
-        (b"get h #", b"none\n"),
-        (b"list", b"names h:judyhs:2\n"),
-        (b"first h #00", b"error wrong-kind\n"),
-    ];
-    check_lines(&rt, &mut shelf, &table);
+    check_rows(
+        &rt,
+        rt.alloc(),
+        &[
+            ("make h judyhs", "ok\n"),
+            ("ins h # 1", "was 0\n"),
+            ("ins h #00 2", "was 0\n"),
+            ("ins h #0000 3", "was 0\n"),
+            ("get h #00", "2\n"),
+            ("get h =", "1\n"),
+            ("del h #", "1\n"),
+            ("get h #", "none\n"),
+            ("list", "names h:judyhs:2\n"),
+            ("first h #00", "error wrong-kind\n"),
+        ],
+    );
 }
 
 // A key is one of the kind's before the value beside it is read, and its digits are of either case.
 #[test]
 fn bad_byte_keys(rt: HostRuntime) {
-    let mut shelf = Shelf::new(rt.alloc());
-    let table = [
-        (b"make h judyhs 2".as_slice(), b"ok\n".as_slice()),
-        (b"ins h abc x", b"error bad-key\n"),
-        (b"ins h #0 1", b"error bad-key\n"),
-        (b"ins h #0g 1", b"error bad-key\n"),
-        (b"ins h =a x", b"error bad-word\n"),
-        (b"ins h =kl 5", b"was 0\n"),
-        (b"put h #6B6c 6", b"was 5\n"),
-        (b"put h #6B6d 6", b"none\n"),
-        (b"ins h #FF 1", b"was 0\n"),
-        (b"get h #ff", b"1\n"),
-        (b"ins h =m 1", b"error full\n"),
-        (b"ins h =kl 7", b"was 6\n"),
-        (b"fe h 0", b"error wrong-kind\n"),
-        (b"count h x y", b"error wrong-kind\n"),
-        (b"free h", b"freed 2\n"),
-    ];
-    check_lines(&rt, &mut shelf, &table);
+    check_rows(
+        &rt,
+        rt.alloc(),
+        &[
+            ("make h judyhs 2", "ok\n"),
+            ("ins h abc x", "error bad-key\n"),
+            ("ins h #0 1", "error bad-key\n"),
+            ("ins h #0g 1", "error bad-key\n"),
+            ("ins h =a x", "error bad-word\n"),
+            ("ins h =kl 5", "was 0\n"),
+            ("put h #6B6c 6", "was 5\n"),
+            ("put h #6B6d 6", "none\n"),
+            ("ins h #FF 1", "was 0\n"),
+            ("get h #ff", "1\n"),
+            ("ins h =m 1", "error full\n"),
+            ("ins h =kl 7", "was 6\n"),
+            ("fe h 0", "error wrong-kind\n"),
+            ("count h x y", "error wrong-kind\n"),
+            ("free h", "freed 2\n"),
+        ],
+    );
 }
 
 #[test]
 fn string_order(rt: HostRuntime) {
-    let mut shelf = Shelf::new(rt.alloc());
-    let table = [
-        (b"make s judysl".as_slice(), b"ok\n".as_slice()),
-        (b"ins s #ff 6", b"was 0\n"),
-        (b"ins s =abcdefgh 3", b"was 0\n"),
-        (b"ins s = 1", b"was 0\n"),
-        (b"ins s =zz 5", b"was 0\n"),
-        (b"ins s =abcdefghi 4", b"was 0\n"),
-        (b"ins s =abcdefg 2", b"was 0\n"),
-        (b"first s =", b"= 1\n"),
-        (b"next s =", b"=abcdefg 2\n"),
-        (b"next s =abcdefg", b"=abcdefgh 3\n"),
-        (b"next s =abcdefgh", b"=abcdefghi 4\n"),
-        (b"next s =abcdefghi", b"=zz 5\n"),
-        (b"next s =zz", b"#ff 6\n"),
-        (b"next s #FF", b"none\n"),
-        (b"prev s =", b"none\n"),
-        (b"last s #ffff", b"#ff 6\n"),
-    ];
-    check_lines(&rt, &mut shelf, &table);
+    check_rows(
+        &rt,
+        rt.alloc(),
+        &[
+            ("make s judysl", "ok\n"),
+            ("ins s #ff 6", "was 0\n"),
+            ("ins s =abcdefgh 3", "was 0\n"),
+            ("ins s = 1", "was 0\n"),
+            ("ins s =zz 5", "was 0\n"),
+            ("ins s =abcdefghi 4", "was 0\n"),
+            ("ins s =abcdefg 2", "was 0\n"),
+            ("first s =", "= 1\n"),
+            ("next s =", "=abcdefg 2\n"),
+            ("next s =abcdefg", "=abcdefgh 3\n"),
+            ("next s =abcdefgh", "=abcdefghi 4\n"),
+            ("next s =abcdefghi", "=zz 5\n"),
+            ("next s =zz", "#ff 6\n"),
+            ("next s #FF", "none\n"),
+            ("prev s =", "none\n"),
+            ("last s #ffff", "#ff 6\n"),
+        ],
+    );
 }
 
 // The line `ins s =`, 1,025 letters, ` 1`.
@@ -81,52 +87,62 @@ fn too_long_key() -> [u8; 1034] {
 #[test]
 fn bad_keys(rt: HostRuntime) {
     let mut shelf = Shelf::new(rt.alloc());
-    let long = too_long_key();
-    let table = [
-        (b"make s judysl".as_slice(), b"ok\n".as_slice()),
-        (b"ins s =abcdefghij 1", b"was 0\n"),
-        (b"ins s #00 1", b"error bad-key\n"),
-        (b"get s #00", b"error bad-key\n"),
-        (b"get s #0", b"error bad-key\n"),
-        (b"get s abc", b"error bad-key\n"),
-        (&long, b"error bad-key\n"),
-        (b"ins s #00 x", b"error bad-key\n"),
-        (b"ins s =a x", b"error bad-word\n"),
-        (b"del s =abcd", b"0\n"),
-        (b"fe s 0", b"error wrong-kind\n"),
-        (b"count s =a =b", b"error wrong-kind\n"),
-        (b"list", b"names s:judysl:1\n"),
-    ];
-    check_lines(&rt, &mut shelf, &table);
+    check_lines(
+        &rt,
+        &mut shelf,
+        &[
+            ("make s judysl", "ok\n"),
+            ("ins s =abcdefghij 1", "was 0\n"),
+            ("ins s #00 1", "error bad-key\n"),
+            ("get s #00", "error bad-key\n"),
+            ("get s #0", "error bad-key\n"),
+            ("get s abc", "error bad-key\n"),
+        ],
+    );
+    check_answers(&rt, &mut shelf, &too_long_key(), b"error bad-key\n");
+    check_lines(
+        &rt,
+        &mut shelf,
+        &[
+            ("ins s #00 x", "error bad-key\n"),
+            ("ins s =a x", "error bad-word\n"),
+            ("del s =abcd", "0\n"),
+            ("fe s 0", "error wrong-kind\n"),
+            ("count s =a =b", "error wrong-kind\n"),
+            ("list", "names s:judysl:1\n"),
+        ],
+    );
 }
 
 // The same answers as of any map, and the key of a scan is printed as the key found is, in lower case.
 #[test]
 fn every_command_of_a_judysl(rt: HostRuntime) {
-    let mut shelf = Shelf::new(rt.alloc());
-    let table = [
-        (b"make s judysl 2".as_slice(), b"ok\n".as_slice()),
-        (b"put s =a 1", b"none\n"),
-        (b"ins s #61 1", b"was 0\n"),
-        (b"put s =a 2", b"was 1\n"),
-        (b"ins s #6120Ff 3", b"was 0\n"),
-        (b"ins s =c 4", b"error full\n"),
-        (b"ins s =a 5", b"was 2\n"),
-        (b"first s =b", b"none\n"),
-        (b"first s #61", b"=a 5\n"),
-        (b"next s =a", b"#6120ff 3\n"),
-        (b"last s =zz", b"#6120ff 3\n"),
-        (b"prev s #6120FF", b"=a 5\n"),
-        (b"del s #6120ff", b"1\n"),
-        (b"del s #6120ff", b"0\n"),
-        (b"next s =a", b"none\n"),
-        (b"next s #6100", b"error bad-key\n"),
-        (b"test s =a", b"error wrong-kind\n"),
-        (b"bycount s abc", b"error wrong-kind\n"),
-        (b"free s", b"freed 1\n"),
-        (b"get s =a", b"none\n"),
-    ];
-    check_lines(&rt, &mut shelf, &table);
+    check_rows(
+        &rt,
+        rt.alloc(),
+        &[
+            ("make s judysl 2", "ok\n"),
+            ("put s =a 1", "none\n"),
+            ("ins s #61 1", "was 0\n"),
+            ("put s =a 2", "was 1\n"),
+            ("ins s #6120Ff 3", "was 0\n"),
+            ("ins s =c 4", "error full\n"),
+            ("ins s =a 5", "was 2\n"),
+            ("first s =b", "none\n"),
+            ("first s #61", "=a 5\n"),
+            ("next s =a", "#6120ff 3\n"),
+            ("last s =zz", "#6120ff 3\n"),
+            ("prev s #6120FF", "=a 5\n"),
+            ("del s #6120ff", "1\n"),
+            ("del s #6120ff", "0\n"),
+            ("next s =a", "none\n"),
+            ("next s #6100", "error bad-key\n"),
+            ("test s =a", "error wrong-kind\n"),
+            ("bycount s abc", "error wrong-kind\n"),
+            ("free s", "freed 1\n"),
+            ("get s =a", "none\n"),
+        ],
+    );
 }
 
 // Puts in the keys of one byte from 0x21 to 0x41.
@@ -151,22 +167,25 @@ fn delete_signs<R: Abort>(rt: &R, shelf: &mut Shelf) {
 #[test]
 fn refused_string_insert(rt: HostRuntime) {
     let mut shelf = Shelf::new(rt.alloc());
-    let table = [
-        (b"make s judysl".as_slice(), b"ok\n".as_slice()),
-        (b"ins s =abcdefgh 3", b"was 0\n"),
-        (b"get s =abcdefghi", b"none\n"),
-        (b"ins s =abcdefghi 4", b"was 0\n"),
-        (b"get s =abcdefgh", b"3\n"),
-        (b"make a judysl", b"ok\n"),
-    ];
-    check_lines(&rt, &mut shelf, &table);
+    check_lines(
+        &rt,
+        &mut shelf,
+        &[
+            ("make s judysl", "ok\n"),
+            ("ins s =abcdefgh 3", "was 0\n"),
+            ("get s =abcdefghi", "none\n"),
+            ("ins s =abcdefghi 4", "was 0\n"),
+            ("get s =abcdefgh", "3\n"),
+            ("make a judysl", "ok\n"),
+        ],
+    );
     insert_signs(&rt, &mut shelf);
     delete_signs(&rt, &mut shelf);
-    let table = [
-        (b"drop a".as_slice(), b"freed 0\n".as_slice()),
-        (b"make a judyhs", b"ok\n"),
-    ];
-    check_lines(&rt, &mut shelf, &table);
+    check_lines(
+        &rt,
+        &mut shelf,
+        &[("drop a", "freed 0\n"), ("make a judyhs", "ok\n")],
+    );
     insert_signs(&rt, &mut shelf);
     delete_signs(&rt, &mut shelf);
     check_answers(&rt, &mut shelf, b"list", b"names s:judysl:2 a:judyhs:0\n");

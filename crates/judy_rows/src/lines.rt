@@ -1,23 +1,19 @@
 //! Rows of lines.
 
 use crate::check::{check_answers, check_run};
-use judy_pipe::{MemSource, SourceTrouble};
+use crate::scripts::ANSWERS;
+use judy_pipe::SourceTrouble;
 use judy_shelf::Shelf;
 use std::alloc::{AllocError, Global};
 use std::process::Abort;
 
 // Windows line ends, runs of spaces, and a last line without an LF: the same answers.
+const FORMS: &[u8; 75] =
+    b"make  a judyl\r\n ins a 5 7\r\nins   a  5   9  \r\nget a 5\r\n  get a 6 \r\nput a 6 1";
+
 #[test]
 fn line_forms(rt: HostRuntime) {
-    let mut shelf = Shelf::new(rt.alloc());
-    let script =
-        b"make  a judyl\r\n ins a 5 7\r\nins   a  5   9  \r\nget a 5\r\n  get a 6 \r\nput a 6 1";
-    check_answers(
-        &rt,
-        &mut shelf,
-        script,
-        b"ok\nwas 0\nwas 7\n9\nnone\nnone\n",
-    );
+    check_answers(&rt, &mut Shelf::new(rt.alloc()), FORMS, ANSWERS);
 }
 
 // The script that is a line of so many bytes `byte`, an end, and a line that is answered.
@@ -70,32 +66,31 @@ fn line_limits(rt: HostRuntime) -> Result<(), AllocError> {
     check_line(&rt, rt.alloc(), b';', 4097, b"\n", b"error line-too-long\n")
 }
 
+// The row, given in pieces of at most so many bytes.
+fn check_forms<R: Abort>(rt: &R, alloc: Global, most: usize, trouble: SourceTrouble) {
+    check_run(
+        rt,
+        &mut Shelf::new(alloc),
+        (FORMS, most, trouble),
+        1000,
+        Ok(()),
+        ANSWERS,
+    );
+}
+
 // The row in every two pieces, and byte by byte: the same answers, however the script comes.
 #[test]
 fn line_forms_in_pieces(rt: HostRuntime) {
-    let script =
-        b"make  a judyl\r\n ins a 5 7\r\nins   a  5   9  \r\nget a 5\r\n  get a 6 \r\nput a 6 1";
-    for most in 1..=script.len() {
-        let mut source = MemSource::new(script, most, SourceTrouble::Never);
-        check_run(
-            &rt,
-            &mut source,
-            &mut Shelf::new(rt.alloc()),
-            1000,
-            Ok(()),
-            b"ok\nwas 0\nwas 7\n9\nnone\nnone\n",
-        );
+    for most in 1..=FORMS.len() {
+        check_forms(&rt, rt.alloc(), most, SourceTrouble::Never);
     }
     // An interruption at each place cuts the script there into two pieces.
-    for at in 0..=script.len() {
-        let mut source = MemSource::new(script, 1000, SourceTrouble::Interrupts { at, times: 999 });
-        check_run(
+    for at in 0..=FORMS.len() {
+        check_forms(
             &rt,
-            &mut source,
-            &mut Shelf::new(rt.alloc()),
+            rt.alloc(),
             1000,
-            Ok(()),
-            b"ok\nwas 0\nwas 7\n9\nnone\nnone\n",
+            SourceTrouble::Interrupts { at, times: 999 },
         );
     }
 }

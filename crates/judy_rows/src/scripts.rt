@@ -8,15 +8,12 @@ use judy_shelf::Shelf;
 pub const FIRST_SCRIPT: &[u8; 59] =
     b"make a judyl\nins a 5 7\nins a 5 9\nget a 5\nget a 6\nput a 6 1\n";
 
+pub const ANSWERS: &[u8; 27] = b"ok\nwas 0\nwas 7\n9\nnone\nnone\n";
+
 #[test]
 fn first_script(rt: HostRuntime) {
     let mut shelf = Shelf::new(rt.alloc());
-    check_answers(
-        &rt,
-        &mut shelf,
-        FIRST_SCRIPT,
-        b"ok\nwas 0\nwas 7\n9\nnone\nnone\n",
-    );
+    check_answers(&rt, &mut shelf, FIRST_SCRIPT, ANSWERS);
     assert_eq!(rt; value_of(&shelf, b"a", 5), Some(9));
     assert_eq!(rt; value_of(&shelf, b"a", 6), None);
 }

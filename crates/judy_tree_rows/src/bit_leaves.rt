@@ -48,6 +48,12 @@ fn put<V: Words + Drop>(
         return leaf.insert_pair(alloc, key, value);
     }
     leaf.insert(alloc, key)?;
+    write(rt, leaf, key, value);
+    Ok(())
+}
+
+// Writes the value of a key, which is 0, through its slot, where keys have values.
+fn write<V: Words + Drop>(rt: &impl Abort, leaf: &mut BitLeafOf<V>, key: u64, value: u64) {
     if V::WORDS == 1 {
         let at = leaf.reading().rank(key);
         assert!(rt; at < leaf.reading().len());
@@ -55,7 +61,6 @@ fn put<V: Words + Drop>(
         assert_eq!(rt; *slot, 0);
         *slot = value;
     }
-    Ok(())
 }
 
 // A bitmap leaf of all 256 keys, put in from `first` on in steps of `by`, with the plain list beside it.

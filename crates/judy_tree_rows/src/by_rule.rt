@@ -1,6 +1,6 @@
 //! How many nodes of each kind the rule gives a sorted list of keys, counted plainly: the list is cut into groups until each is one node.
 
-ghost use Rattle.std.specs.Prelude.{◌<◌, ◌≤◌};
+ghost use Rattle.std.specs.Prelude.{◌<◌};
 
 use crate::immediates::room_of;
 use crate::nodes::Counts;
@@ -61,9 +61,7 @@ fn count_node<'a, V: Words + Drop>(
     counts: &mut Counts,
     pairs: &'a [(u64, u64)],
     width: u8,
-) -> Result<(), AllocError>
-    requires { 1 ≤ width }
-{
+) -> Result<(), AllocError> {
     if pairs.is_empty() {
         return Ok(());
     }

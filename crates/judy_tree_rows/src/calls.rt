@@ -2,7 +2,9 @@
 
 ghost use Rattle.std.specs.Prelude.{◌-◌, ◌^◌, ◌≤◌};
 
-use crate::plain::{absent_from, absent_up_to, pair_from, pair_up_to, rank as rank_in};
+use crate::plain::{
+    absent_from, absent_up_to, key_of, pair_from, pair_up_to, rank as rank_in, value_in,
+};
 use judy_bits::Meter;
 use judy_leaf::Words;
 use judy_node::NodeOf;
@@ -59,11 +61,11 @@ impl Call {
     // What the plain list of its pairs answers.
     pub(crate) fn by_list(self, plain: &[(u64, u64)], word: u64) -> Option<u64> {
         match self {
-            Lookup => plain.iter().find(|pair| pair.0 == word).map(|pair| pair.1),
+            Lookup => value_in(plain, word),
             Rank => Some(rank_in(plain, word) as u64),
-            Nth => plain.get(word as usize).map(|pair| pair.0),
-            AtOrAfter => pair_from(plain, word).map(|pair| pair.0),
-            AtOrBefore => pair_up_to(plain, word).map(|pair| pair.0),
+            Nth => key_of(plain.get(word as usize).copied()),
+            AtOrAfter => key_of(pair_from(plain, word)),
+            AtOrBefore => key_of(pair_up_to(plain, word)),
             EmptyAtOrAfter => absent_from(plain, word, u64::MAX),
             EmptyAtOrBefore => absent_up_to(plain, word, u64::MAX),
         }

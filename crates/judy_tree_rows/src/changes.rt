@@ -3,7 +3,7 @@
 use crate::draws::Numbers;
 use crate::leaves::value_of;
 use crate::nodes::{Counts, Grid, shape_of, tree_of};
-use crate::plain::note;
+use crate::plain::{note, place_of};
 use crate::random_trees::check_queries;
 use judy_change::{Removed, insert, insert_with, remove, slot};
 use judy_leaf::{Width, Words};
@@ -56,7 +56,7 @@ impl<V: Words + Drop> Twins<V> {
     }
 
     fn put(&mut self, rt: &impl Abort, alloc: Global, key: u64) -> Result<(), AllocError> {
-        let absent = self.plain.iter().all(|pair| pair.0 != key);
+        let absent = place_of(&self.plain, key).is_none();
         let added = self.put_in_tree(rt, alloc, key)?;
         assert_eq!(rt; added, absent, "{key}");
         if absent {
@@ -67,18 +67,27 @@ impl<V: Words + Drop> Twins<V> {
 
     fn take(&mut self, rt: &impl Abort, alloc: Global, key: u64) {
         assert!(rt; V::WORDS <= 1);
-        let mut wanted = Removed {
-            was: false,
-            value: 0,
-            shrunk: true,
-        };
-        if let Some(at) = self.plain.iter().position(|pair| pair.0 == key) {
-            let (_, value) = self.plain.remove(at);
-            wanted.was = true;
-            wanted.value = value;
-        }
+        let wanted = take_plain(rt, &mut self.plain, key);
         let removed = remove(alloc, &mut self.tree, key);
         assert_eq!(rt; removed, wanted, "{key}");
+    }
+
+    fn put_all(
+        &mut self,
+        rt: &impl Abort,
+        alloc: Global,
+        pairs: &[(u64, u64)],
+    ) -> Result<(), AllocError> {
+        for &(key, _) in pairs {
+            self.put(rt, alloc, key)?;
+        }
+        Ok(())
+    }
+
+    fn take_all(&mut self, rt: &impl Abort, alloc: Global, pairs: &[(u64, u64)]) {
+        for &(key, _) in pairs {
+            self.take(rt, alloc, key);
+        }
     }
 
     // Compares the pairs.
@@ -97,6 +106,26 @@ impl<V: Words + Drop> Twins<V> {
     }
 }
 
+// Takes a key out of the plain list, and answers what the removal from the tree is to tell.
+fn take_plain(rt: &impl Abort, plain: &mut Vec<(u64, u64)>, key: u64) -> Removed {
+    match place_of(plain, key) {
+        Some(at) => {
+            assert!(rt; at < plain.len());
+            let (_, value) = plain.remove(at);
+            Removed {
+                was: true,
+                value,
+                shrunk: true,
+            }
+        }
+        None => Removed {
+            was: false,
+            value: 0,
+            shrunk: true,
+        },
+    }
+}
+
 // Makes changes one after the other, and compares the pairs, the shape and all answers after each.
 fn check_changes<V: Words + Drop>(
     rt: &impl Abort,
@@ -106,16 +135,8 @@ fn check_changes<V: Words + Drop>(
     let mut twins: Twins<V> = Twins::new(alloc);
     for (change, counts) in changes {
         match change {
-            Change::In(keys) => {
-                for (key, _) in keys.pairs::<V>(rt, alloc)? {
-                    twins.put(rt, alloc, key)?;
-                }
-            }
-            Change::Out(keys) => {
-                for (key, _) in keys.pairs::<V>(rt, alloc)? {
-                    twins.take(rt, alloc, key);
-                }
-            }
+            Change::In(keys) => twins.put_all(rt, alloc, &keys.pairs::<V>(rt, alloc)?)?,
+            Change::Out(keys) => twins.take_all(rt, alloc, &keys.pairs::<V>(rt, alloc)?),
         }
         twins.check_pairs(rt, alloc)?;
         assert_eq!(rt; twins.tree.shape(), shape_of(*counts));

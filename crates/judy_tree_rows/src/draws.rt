@@ -1,7 +1,7 @@
 //! Keys drawn by chance, the same in each run.
 
 use crate::leaves::value_of;
-use crate::plain::note;
+use crate::plain::{note, place_of};
 use judy_leaf::Words;
 use std::alloc::{AllocError, Global};
 use std::process::Abort;
@@ -41,7 +41,7 @@ pub(crate) fn drawn<V: Words + Drop>(
     for &(fixed, free, times) in patterns {
         for _ in 0..times {
             let key = fixed | (numbers.next() & free);
-            if pairs.iter().all(|pair: &(u64, u64)| pair.0 != key) {
+            if place_of(&pairs, key).is_none() {
                 note(rt, &mut pairs, key, value_of::<V>(key))?;
             }
         }

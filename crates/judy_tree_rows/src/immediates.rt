@@ -9,13 +9,15 @@ use std::alloc::{AllocError, Global};
 use std::process::Abort;
 
 // How many keys an immediate holds: one with its value, else as many as fit into a word.
-pub(crate) fn room_of<V: Words + Drop>(width: u8) -> usize
-    requires { 1 ≤ width }
-{
+pub(crate) fn room_of<V: Words + Drop>(width: u8) -> usize {
     if V::WORDS == 1 {
-        1
-    } else {
-        8 / usize::from(width)
+        return 1;
+    }
+    match width {
+        1 => 8,
+        2 => 4,
+        3 | 4 => 2,
+        _ => 1,
     }
 }
 

@@ -1,5 +1,6 @@
 //! What iterators give beside the keys that went in, for each kind of node.
 
+use crate::plain::key_of;
 use judy_word::{Judy1, JudyL};
 use std::process::Abort;
 
@@ -58,7 +59,7 @@ fn check_firsts(rt: &impl Abort, set: &Judy1, pairs: &JudyL, row: Row) {
         if key < u64::MAX {
             let next = (place + 1 < row.2).then_some(key_at(row, place + 1));
             assert_eq!(rt; set.iter_from(key + 1).next(), next);
-            assert_eq!(rt; pairs.iter_from(key + 1).next().map(|pair| pair.0), next);
+            assert_eq!(rt; key_of(pairs.iter_from(key + 1).next()), next);
         }
     }
 }

@@ -63,11 +63,17 @@ fn key_of(place: u64, top: u64) -> u64
 }
 
 // The greatest key of a width.
-pub(crate) fn top_of(width: u8) -> u64
-    requires some { 1 ≤ width }
-    requires most { width ≤ 8 }
-{
-    u64::MAX >> (64 - 8 * u32::from(width))
+pub(crate) fn top_of(width: u8) -> u64 {
+    match width {
+        1 => 0xff,
+        2 => 0xffff,
+        3 => 0xff_ffff,
+        4 => 0xffff_ffff,
+        5 => 0xff_ffff_ffff,
+        6 => 0xffff_ffff_ffff,
+        7 => 0xff_ffff_ffff_ffff,
+        _ => u64::MAX,
+    }
 }
 
 // The value that a key has, which tells its bytes from the key's.
@@ -94,6 +100,12 @@ fn put<V: Words + Drop>(
         return leaf.insert_pair(alloc, key, value);
     }
     leaf.insert(alloc, key)?;
+    write(rt, leaf, key, value);
+    Ok(())
+}
+
+// Writes the value of a key, which is 0, through its slot, where keys have values.
+fn write<V: Words + Drop>(rt: &impl Abort, leaf: &mut LeafOf<V>, key: u64, value: u64) {
     if V::WORDS == 1 {
         let at = leaf.reading().rank(key);
         assert!(rt; at < leaf.reading().len());
@@ -101,7 +113,6 @@ fn put<V: Words + Drop>(
         assert_eq!(rt; *slot, 0);
         *slot = value;
     }
-    Ok(())
 }
 
 // Compares what a leaf answers with the plain list.

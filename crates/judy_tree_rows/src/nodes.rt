@@ -73,17 +73,28 @@ impl Grid {
     ) -> Result<Vec<(u64, u64)>, AllocError> {
         let mut pairs = Vec::new(alloc);
         for row in 0..self.rows {
-            for column in 0..self.columns {
-                let start = self.from.wrapping_add(row.wrapping_mul(self.by));
-                let key = start.wrapping_add(column);
-                note(rt, &mut pairs, key, value_of::<V>(key))?;
-            }
+            let start = self.from.wrapping_add(row.wrapping_mul(self.by));
+            note_run::<V>(rt, &mut pairs, start, self.columns)?;
         }
         if let Some(key) = self.more {
-            note(rt, &mut pairs, key, value_of::<V>(key))?;
+            note_run::<V>(rt, &mut pairs, key, 1)?;
         }
         Ok(pairs)
     }
+}
+
+// Puts the pairs of so many keys, one behind the other, into a plain list.
+fn note_run<V: Words + Drop>(
+    rt: &impl Abort,
+    pairs: &mut Vec<(u64, u64)>,
+    start: u64,
+    columns: u64,
+) -> Result<(), AllocError> {
+    for column in 0..columns {
+        let key = start.wrapping_add(column);
+        note(rt, pairs, key, value_of::<V>(key))?;
+    }
+    Ok(())
 }
 
 // Whether a pair can come next, where the next key is to be at least `low`.

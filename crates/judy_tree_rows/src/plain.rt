@@ -28,17 +28,61 @@ pub(crate) fn beside(key: u64) -> [u64; 4] {
 
 // How many keys are below a word.
 pub(crate) fn rank(plain: &[(u64, u64)], word: u64) -> usize {
-    plain.iter().filter(|pair| pair.0 < word).count()
+    let mut count = 0usize;
+    for pair in plain {
+        if pair.0 < word {
+            count = count.wrapping_add(1);
+        }
+    }
+    count
+}
+
+// The key of a pair, where there is one.
+pub(crate) fn key_of(pair: Option<(u64, u64)>) -> Option<u64> {
+    match pair {
+        Some((key, _)) => Some(key),
+        None => None,
+    }
+}
+
+// The place of a key, where it is there.
+pub(crate) fn place_of(plain: &[(u64, u64)], key: u64) -> Option<usize> {
+    for (at, pair) in plain.iter().enumerate() {
+        if pair.0 == key {
+            return Some(at);
+        }
+    }
+    None
+}
+
+// The value of a key, where it is there.
+pub(crate) fn value_in(plain: &[(u64, u64)], key: u64) -> Option<u64> {
+    for pair in plain {
+        if pair.0 == key {
+            return Some(pair.1);
+        }
+    }
+    None
 }
 
 // The nearest pair at or above a word.
 pub(crate) fn pair_from(plain: &[(u64, u64)], word: u64) -> Option<(u64, u64)> {
-    plain.iter().copied().find(|pair| pair.0 >= word)
+    for &pair in plain {
+        if pair.0 >= word {
+            return Some(pair);
+        }
+    }
+    None
 }
 
 // The nearest pair at or below a word.
 pub(crate) fn pair_up_to(plain: &[(u64, u64)], word: u64) -> Option<(u64, u64)> {
-    plain.iter().copied().rev().find(|pair| pair.0 <= word)
+    for &pair in plain.iter().rev() {
+        if pair.0 <= word {
+            return Some(pair);
+        }
+    }
+    None
 }
 
 // The nearest number at or above a word that is no key, of all up to a greatest.
@@ -71,9 +115,8 @@ pub(crate) fn check_word(
     found: usize,
     place: Option<usize>,
 ) {
-    let at = plain.iter().position(|pair| pair.0 == word);
     assert_eq!(rt; found, rank(plain, word), "{word}");
-    assert_eq!(rt; place, at, "{word}");
+    assert_eq!(rt; place, place_of(plain, word), "{word}");
 }
 
 // Compares the nearest pairs at or above a word and at or below it.

@@ -69,6 +69,16 @@ pub(crate) fn check_queries<V: Words + Drop>(
     }
 }
 
+// Whether there are nodes of each kind.
+fn are_all(total: &Counts) -> bool {
+    for count in total {
+        if *count == 0 {
+            return false;
+        }
+    }
+    true
+}
+
 // Adds the counts of another tree.
 fn add(total: &mut Counts, counts: Counts) {
     for (sum, count) in total.iter_mut().zip(counts) {
@@ -120,7 +130,7 @@ fn check_all_queries<V: Words + Drop>(rt: &impl Abort, alloc: Global) -> Result<
         let tree = tree_of::<V>(rt, alloc, &pairs)?;
         check_queries(rt, &tree, &pairs);
     }
-    assert!(rt; total.iter().all(|count| *count > 0));
+    assert!(rt; are_all(&total));
     Ok(())
 }
 
@@ -167,7 +177,7 @@ fn check_widths<V: Words + Drop>(rt: &impl Abort, alloc: Global) -> Result<(), A
     for width in 1..=8u8 {
         check_width::<V>(rt, alloc, &mut numbers, &mut total, top_of(width))?;
     }
-    assert!(rt; total.iter().all(|count| *count > 0));
+    assert!(rt; are_all(&total));
     Ok(())
 }
 
