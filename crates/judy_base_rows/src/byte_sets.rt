@@ -1,5 +1,5 @@
-// Sets of each size beside a limit of a form, against a plain list; growing and shrinking through the limits;
-// and each small tool once.
+//! Sets of each size beside a limit of a form, against a plain list; growing and shrinking through the limits;
+//! and each small tool once.
 
 use judy_bits::{Bits256, ByteSet, Form, Meter, Skip, byte_of};
 use std::process::Abort;

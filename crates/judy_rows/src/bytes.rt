@@ -1,6 +1,6 @@
 //! Rows of arrays over byte strings, and the hash of the program.
 
-use judy_hs::{ByteHash, Fnv1a, HsError, JudyHs};
+use judy_hs::{ByteHash, Eights, Fnv1a, HsError, JudyHs};
 use std::alloc::Global;
 use std::process::Abort;
 
@@ -223,4 +223,22 @@ fn fnv1a_values(rt: HostRuntime) {
     assert_eq!(rt; Fnv1a.hash(b""), 0x811c9dc5);
     assert_eq!(rt; Fnv1a.hash(b"a"), 0xe40c292c);
     assert_eq!(rt; Fnv1a.hash(b"foobar"), 0xbf9cf968);
+}
+
+// Worked out apart from the code, by the rule: no word, one byte and six as words, and eight bytes, nine and seventeen by their words of
+// eight, the last of which begins before the one before it ends.
+const EIGHTS: [(&[u8], u32); 6] = [
+    (b"", 0x84222325),
+    (b"a", 0x6cfa84d4),
+    (b"foobar", 0x2de16872),
+    (b"foobarba", 0xd90baa5e),
+    (b"foobarbaz", 0xe3ceaf05),
+    (b"0123456789abcdefg", 0xc8a12769),
+];
+
+#[test]
+fn eights_values(rt: HostRuntime) {
+    for (bytes, hash) in EIGHTS {
+        assert_eq!(rt; Eights.hash(bytes), hash);
+    }
 }
