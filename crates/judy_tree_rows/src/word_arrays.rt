@@ -80,9 +80,19 @@ fn put_full(rt: &impl Abort, pairs: &mut JudyL, key: u64, value: u64) {
     assert_eq!(rt; put(pairs, key, value), Err(InsertError::Full), "{key}");
 }
 
+// Compares whether a call puts a key in, where there is room, with what is wanted.
+fn put_in(rt: &impl Abort, found: Result<bool, InsertError>, wanted: bool) {
+    assert_eq!(rt; found, Ok(wanted));
+}
+
 // Takes note that a call finds no room.
 fn full(rt: &impl Abort, found: Result<bool, InsertError>) {
     assert_eq!(rt; found, Err(InsertError::Full));
+}
+
+// Compares how many nodes of a kind there are with how many are wanted.
+fn same_nodes(rt: &impl Abort, found: u128, wanted: u128) {
+    assert_eq!(rt; found, wanted);
 }
 
 // Takes note that a call answers yes.
@@ -130,12 +140,12 @@ fn full_at_the_limit(rt: HostRuntime) -> Result<(), Fail> {
 
 // A key that is there keeps its value, or gets the new one, by the call.
 #[test]
-fn values_of_present_keys(rt: HostRuntime) -> Result<(), InsertError> {
+fn values_of_present_keys(rt: HostRuntime) -> Result<(), Fail> {
     let mut pairs = JudyL::new(rt.alloc(), 2);
-    yes(&rt, pairs.put_if_absent(5, 50)?);
-    no(&rt, pairs.put_if_absent(5, 51)?);
-    yes(&rt, pairs.put(7, 70)?);
-    no(&rt, pairs.put(7, 71)?);
+    put_in(&rt, pairs.put_if_absent(5, 50), true);
+    put_in(&rt, pairs.put_if_absent(5, 51), false);
+    put_in(&rt, pairs.put(7, 70), true);
+    put_in(&rt, pairs.put(7, 71), false);
     full(&rt, pairs.put_if_absent(9, 90));
     check_value(&rt, &pairs, 5, Some(50));
     check_value(&rt, &pairs, 7, Some(71));
@@ -158,20 +168,14 @@ fn unbounded_takes_more(rt: HostRuntime) -> Result<(), Fail> {
 fn edge_word(rt: HostRuntime) -> Result<(), Fail> {
     let mut set = Judy1::new(rt.alloc(), 1000);
     set_key(&rt, &mut set, 18446744073709551615);
-    for (answer, expected) in [
-        (set.next(18446744073709551615), None),
-        (set.next_empty(18446744073709551615), None),
-        (set.first_empty(18446744073709551615), None),
-        (
-            set.last_empty(18446744073709551615),
-            Some(18446744073709551614),
-        ),
-        (set.first(0), Some(18446744073709551615)),
-        (set.prev(0), None),
-    ] {
-        same_number(&rt, answer, expected, 0);
-    }
-    same(&rt, set.count(0, 18446744073709551615), 1, 0);
+    same_number(&rt, set.next(u64::MAX), None, u64::MAX);
+    same_number(&rt, set.next_empty(u64::MAX), None, u64::MAX);
+    same_number(&rt, set.first_empty(u64::MAX), None, u64::MAX);
+    let last = Some(18446744073709551614);
+    same_number(&rt, set.last_empty(u64::MAX), last, u64::MAX);
+    same_number(&rt, set.first(0), Some(u64::MAX), 0);
+    same_number(&rt, set.prev(0), None, 0);
+    same(&rt, set.count(0, u64::MAX), 1, 0);
     Ok(())
 }
 
@@ -181,12 +185,12 @@ fn count_corners(rt: HostRuntime) -> Result<(), Fail> {
     for word in [3, 5, 9] {
         set_key(&rt, &mut set, word);
     }
-    for (from, to, expected) in [(9, 3, 0), (3, 9, 3), (4, 8, 1)] {
-        same(&rt, set.count(from, to), expected, from);
-    }
-    for (n, expected) in [(0, None), (3, Some(9)), (4, None)] {
-        same_number(&rt, set.by_count(n), expected, n);
-    }
+    same(&rt, set.count(9, 3), 0, 9);
+    same(&rt, set.count(3, 9), 3, 3);
+    same(&rt, set.count(4, 8), 1, 4);
+    same_number(&rt, set.by_count(0), None, 0);
+    same_number(&rt, set.by_count(3), Some(9), 3);
+    same_number(&rt, set.by_count(4), None, 4);
     let mut pairs = JudyL::new(rt.alloc(), 1000);
     put_key(&rt, &mut pairs, 5, 9);
     same_number(&rt, pairs.first(0), Some(5), 0);
@@ -200,15 +204,11 @@ fn full_ranges(rt: HostRuntime) -> Result<(), Fail> {
     for word in 0..256 {
         set_key(&rt, &mut set, word);
     }
-    for (answer, expected) in [
-        (set.first_empty(0), Some(256)),
-        (set.next_empty(255), Some(256)),
-        (set.last_empty(255), None),
-        (set.prev_empty(256), None),
-        (set.by_count(256), Some(255)),
-    ] {
-        same_number(&rt, answer, expected, 0);
-    }
+    same_number(&rt, set.first_empty(0), Some(256), 0);
+    same_number(&rt, set.next_empty(255), Some(256), 255);
+    same_number(&rt, set.last_empty(255), None, 255);
+    same_number(&rt, set.prev_empty(256), None, 256);
+    same_number(&rt, set.by_count(256), Some(255), 256);
     same(&rt, set.count(10, 20), 11, 10);
     for word in 256..512 {
         set_key(&rt, &mut set, word);
@@ -219,12 +219,12 @@ fn full_ranges(rt: HostRuntime) -> Result<(), Fail> {
 
 // The calls of a set that no row has: each once.
 #[test]
-fn set_and_unset(rt: HostRuntime) -> Result<(), InsertError> {
+fn set_and_unset(rt: HostRuntime) -> Result<(), Fail> {
     let mut set = Judy1::new(rt.alloc(), 2);
     yes(&rt, set.is_empty());
-    yes(&rt, set.set(5)?);
-    no(&rt, set.set(5)?);
-    yes(&rt, set.set(7)?);
+    set_key(&rt, &mut set, 5);
+    put_in(&rt, set.set(5), false);
+    set_key(&rt, &mut set, 7);
     full(&rt, set.set(9));
     same(&rt, set.len(), 2, 0);
     same(&rt, set.limit(), 2, 0);
@@ -244,13 +244,14 @@ fn tree_of_a_set(rt: HostRuntime) -> Result<(), AllocError> {
     for word in 0..33 {
         set_key(&rt, &mut set, word);
     }
-    assert_eq!(rt; set.shape().bitmap_leaves, 1);
+    same_nodes(&rt, set.shape().bitmap_leaves, 1);
     yes(&rt, set.unset(32));
-    assert_eq!(rt; (set.shape().leaves, set.shape().bitmap_leaves), (1, 0));
+    same_nodes(&rt, set.shape().leaves, 1);
+    same_nodes(&rt, set.shape().bitmap_leaves, 0);
     no(&rt, set.is_loose());
     yes(&rt, set.tidy().is_ok());
-    assert_eq!(rt; tight_shape(&mut set)?.leaves, 1);
-    assert_eq!(rt; set.root().pop(), 32);
+    same_nodes(&rt, tight_shape(&mut set)?.leaves, 1);
+    same(&rt, set.root().pop(), 32, 0);
     let copy = set.try_clone()?;
     yes(&rt, set.unset(0));
     same(&rt, copy.len(), 32, 0);
