@@ -3,7 +3,9 @@
 ghost use Rattle.std.specs.Prelude.{◌≤◌, ◌<◌};
 
 use crate::leaves::{End, value_of};
-use crate::plain::{beside, check_nearest, check_word, note, same, same_len, same_number, write_first};
+use crate::plain::{
+    beside, check_nearest, check_word, note, same, same_len, same_number, write_first,
+};
 use judy_leaf::{BitLeafOf, BitRef, Width, Words};
 use std::alloc::{AllocError, Global};
 use std::process::Abort;

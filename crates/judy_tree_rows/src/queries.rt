@@ -1,9 +1,9 @@
 //! What the queries of a tree answer, and how many nodes they enter: the worked rows, and the ends of the words.
 
-use crate::calls::{Call, check_call};
 use crate::calls::Call::{
     AtOrAfter, AtOrBefore, EmptyAtOrAfter, EmptyAtOrBefore, Lookup, Nth, Rank,
 };
+use crate::calls::{Call, check_call};
 use crate::nodes::{Grid, check_tree, tree_of};
 use crate::plain::note;
 use judy_leaf::{Width, Words};
