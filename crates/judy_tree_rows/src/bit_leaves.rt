@@ -3,7 +3,9 @@
 ghost use Rattle.std.specs.Prelude.{◌≤◌, ◌<◌};
 
 use crate::leaves::{End, value_of};
-use crate::plain::{beside, check_nearest, check_word, note};
+use crate::plain::{
+    beside, check_nearest, check_word, note, same, same_len, same_number, write_first,
+};
 use judy_leaf::{BitLeafOf, BitRef, Width, Words};
 use std::alloc::{AllocError, Global};
 use std::process::Abort;
@@ -11,25 +13,55 @@ use std::test::Fail;
 
 // Compares what a bitmap leaf answers with the plain list.
 fn check_bits<V: Words + Drop>(rt: &impl Abort, leaf: BitRef<'_, V>, plain: &[(u64, u64)]) {
-    assert_eq!(rt; leaf.len(), plain.len());
+    same_len(rt, leaf.len(), plain);
     for (at, &(key, value)) in plain.iter().enumerate() {
-        assert!(rt; at < leaf.len());
-        assert_eq!(rt; leaf.key_at(at), key);
-        assert_eq!(rt; leaf.value_at(at), value);
-        for word in beside(key) {
-            check_word(rt, word, plain, leaf.rank(word), leaf.find(word));
-        }
+        check_pair(rt, &leaf, at, key, value);
+        check_places(rt, &leaf, plain, key);
         if at % 16 == 0 {
-            let word = key.wrapping_add(1);
-            check_nearest(
-                rt,
-                word,
-                plain,
-                leaf.at_or_after(word),
-                leaf.at_or_before(word),
-            );
+            check_near(rt, &leaf, plain, key.wrapping_add(1));
         }
     }
+}
+
+// Compares the pair at a place.
+fn check_pair<V: Words + Drop>(
+    rt: &impl Abort,
+    leaf: &BitRef<'_, V>,
+    at: usize,
+    key: u64,
+    value: u64,
+) {
+    assert!(rt; at < leaf.len());
+    same(rt, leaf.key_at(at), key, key);
+    same(rt, leaf.value_at(at), value, key);
+}
+
+// Compares the ranks and places of a key and of the words beside it.
+fn check_places<V: Words + Drop>(
+    rt: &impl Abort,
+    leaf: &BitRef<'_, V>,
+    plain: &[(u64, u64)],
+    key: u64,
+) {
+    for word in beside(key) {
+        check_word(rt, word, plain, leaf.rank(word), leaf.find(word));
+    }
+}
+
+// Compares what is nearest to a word.
+fn check_near<V: Words + Drop>(
+    rt: &impl Abort,
+    leaf: &BitRef<'_, V>,
+    plain: &[(u64, u64)],
+    word: u64,
+) {
+    check_nearest(
+        rt,
+        word,
+        plain,
+        leaf.at_or_after(word),
+        leaf.at_or_before(word),
+    );
 }
 
 // Puts an absent key in, with its value: at once or through the slot.
@@ -48,14 +80,17 @@ fn put<V: Words + Drop>(
         return leaf.insert_pair(alloc, key, value);
     }
     leaf.insert(alloc, key)?;
+    write(rt, leaf, key, value);
+    Ok(())
+}
+
+// Writes the value of a key that has none yet, where keys have values.
+fn write<V: Words + Drop>(rt: &impl Abort, leaf: &mut BitLeafOf<V>, key: u64, value: u64) {
     if V::WORDS == 1 {
         let at = leaf.reading().rank(key);
         assert!(rt; at < leaf.reading().len());
-        let slot = leaf.slot_at(at);
-        assert_eq!(rt; *slot, 0);
-        *slot = value;
+        write_first(rt, leaf.slot_at(at), value);
     }
-    Ok(())
 }
 
 // A bitmap leaf of all 256 keys, put in from `first` on in steps of `by`, with the plain list beside it.
@@ -77,10 +112,15 @@ fn filled<V: Words + Drop>(
             check_bits(rt, leaf.reading(), plain);
         }
     }
-    assert_eq!(rt; leaf.reading().width(), 3);
-    assert_eq!(rt; leaf.reading().absent_at_or_after(0), None);
-    assert_eq!(rt; leaf.reading().absent_at_or_before(u64::MAX), None);
+    check_full(rt, leaf.reading());
     Ok(leaf)
+}
+
+// Compares what a leaf of all 256 keys answers of its width and of bytes that are no keys.
+fn check_full<V: Words + Drop>(rt: &impl Abort, leaf: BitRef<'_, V>) {
+    assert!(rt; leaf.width() == 3);
+    same_number(rt, leaf.absent_at_or_after(0), None, 0);
+    same_number(rt, leaf.absent_at_or_before(u64::MAX), None, u64::MAX);
 }
 
 // Takes a full leaf apart and puts it together again, and takes its keys out, one by one.
@@ -92,14 +132,23 @@ fn check_emptying<V: Words + Drop>(
 ) {
     let mut leaf = BitLeafOf::<V>::of_parts(leaf.into_parts());
     for step in 0..256 {
-        let at = end.place(plain.len());
-        assert!(rt; at < plain.len() && at < leaf.reading().len());
-        plain.remove(at);
-        leaf.remove(at);
+        take(rt, &mut leaf, plain, end.place(plain.len()));
         if step % 32 == 31 {
             check_bits(rt, leaf.reading(), plain);
         }
     }
+}
+
+// Takes out the key at a place.
+fn take<V: Words + Drop>(
+    rt: &impl Abort,
+    leaf: &mut BitLeafOf<V>,
+    plain: &mut Vec<(u64, u64)>,
+    at: usize,
+) {
+    assert!(rt; at < plain.len() && at < leaf.reading().len());
+    plain.remove(at);
+    leaf.remove(at);
 }
 
 // Bitmap leaves in ascending, descending and mixed order, emptied from each end and from the middle.
@@ -108,11 +157,25 @@ fn check_orders<V: Words + Drop>(rt: &impl Abort, alloc: Global) -> Result<(), A
 {
     for (first, by) in [(0, 1), (255, 255), (5, 37)] {
         for end in [End::Front, End::Middle, End::Back] {
-            let mut plain = Vec::new(alloc);
-            let leaf = filled::<V>(rt, &mut plain, alloc, first, by)?;
-            check_emptying(rt, leaf, &mut plain, end);
+            check_order::<V>(rt, alloc, first, by, end)?;
         }
     }
+    Ok(())
+}
+
+// The same in one order, emptied from one place.
+fn check_order<V: Words + Drop>(
+    rt: &impl Abort,
+    alloc: Global,
+    first: u64,
+    by: u64,
+    end: End,
+) -> Result<(), AllocError>
+    requires { V.WORDS ≤ 1 }
+{
+    let mut plain = Vec::new(alloc);
+    let leaf = filled::<V>(rt, &mut plain, alloc, first, by)?;
+    check_emptying(rt, leaf, &mut plain, end);
     Ok(())
 }
 
@@ -179,14 +242,22 @@ const NEIGHBOURS: [[u64; 5]; 13] = [
 // Compares what a bitmap leaf of keys without values answers of a word.
 fn check_neighbours(rt: &impl Abort, leaf: BitRef<'_, Width<0>>, wanted: [u64; 5]) {
     let [word, next, previous, next_absent, previous_absent] = wanted;
-    let (key, value) = leaf.at_or_after(word).unwrap_or((NONE, 0));
-    assert!(rt; key == next && value == 0, "{word}");
-    let (key, value) = leaf.at_or_before(word).unwrap_or((NONE, 0));
-    assert!(rt; key == previous && value == 0, "{word}");
-    let absent = leaf.absent_at_or_after(word).unwrap_or(NONE);
-    assert!(rt; absent == next_absent, "{word}");
-    let absent = leaf.absent_at_or_before(word).unwrap_or(NONE);
-    assert!(rt; absent == previous_absent, "{word}");
+    same_key(rt, leaf.at_or_after(word), next, word);
+    same_key(rt, leaf.at_or_before(word), previous, word);
+    same_byte(rt, leaf.absent_at_or_after(word), next_absent, word);
+    same_byte(rt, leaf.absent_at_or_before(word), previous_absent, word);
+}
+
+// Compares a key without a value with the one wanted.
+fn same_key(rt: &impl Abort, found: Option<(u64, u64)>, wanted: u64, word: u64) {
+    let (key, value) = found.unwrap_or((NONE, 0));
+    same(rt, key, wanted, word);
+    same(rt, value, 0, word);
+}
+
+// Compares a byte that is no key with the one wanted.
+fn same_byte(rt: &impl Abort, found: Option<u64>, wanted: u64, word: u64) {
+    same(rt, found.unwrap_or(NONE), wanted, word);
 }
 
 #[test]

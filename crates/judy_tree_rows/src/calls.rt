@@ -9,6 +9,7 @@ use judy_node::NodeOf;
 use judy_query::{
     at_or_after, at_or_before, empty_at_or_after, empty_at_or_before, lookup, nth, rank,
 };
+use std::process::Abort;
 
 // A call that asks a tree about a word, or about a place among its keys.
 #[derive(Clone, Copy, PartialEq, Eq, Debug)]
@@ -76,4 +77,29 @@ impl Call {
             AtOrAfter | AtOrBefore | EmptyAtOrAfter | EmptyAtOrBefore => 16,
         }
     }
+}
+
+// Asks a tree about a word, and compares the answer, and how many nodes the call enters at most.
+pub(crate) fn check_call<V: Words + Drop>(
+    rt: &impl Abort,
+    tree: &NodeOf<V>,
+    call: Call,
+    word: u64,
+    wanted: Option<u64>,
+    most: u64,
+) {
+    let mut meter = Meter::new();
+    let found = call.ask(tree, word, &mut meter);
+    same_answer(rt, call, word, found, wanted);
+    at_most(rt, call, word, meter.visits(), most);
+}
+
+// Compares the answer to a call about a word.
+fn same_answer(rt: &impl Abort, call: Call, word: u64, found: Option<u64>, wanted: Option<u64>) {
+    assert_eq!(rt; found, wanted, "{call:?} {word}");
+}
+
+// Compares how many nodes a call about a word enters with how many it may.
+fn at_most(rt: &impl Abort, call: Call, word: u64, visits: u64, most: u64) {
+    assert!(rt; visits <= most, "{call:?} {word}");
 }

@@ -2,12 +2,12 @@
 
 use crate::draws::Numbers;
 use crate::leaves::value_of;
-use crate::nodes::{Counts, Grid, shape_of, tree_of};
-use crate::plain::note;
+use crate::nodes::{Counts, Grid, check_pairs, same_shape, tree_of};
+use crate::plain::{note, same};
 use crate::random_trees::check_queries;
 use judy_change::{Removed, insert, insert_with, remove, slot};
 use judy_leaf::{Width, Words};
-use judy_node::NodeOf;
+use judy_node::{NodeOf, Shape};
 use std::alloc::{AllocError, Global};
 use std::process::Abort;
 use std::test::Fail;
@@ -58,7 +58,7 @@ impl<V: Words + Drop> Twins<V> {
     fn put(&mut self, rt: &impl Abort, alloc: Global, key: u64) -> Result<(), AllocError> {
         let absent = self.plain.iter().all(|pair| pair.0 != key);
         let added = self.put_in_tree(rt, alloc, key)?;
-        assert_eq!(rt; added, absent, "{key}");
+        same(rt, u64::from(added), u64::from(absent), key);
         if absent {
             note(rt, &mut self.plain, key, value_of::<V>(key))?;
         }
@@ -67,34 +67,93 @@ impl<V: Words + Drop> Twins<V> {
 
     fn take(&mut self, rt: &impl Abort, alloc: Global, key: u64) {
         assert!(rt; V::WORDS <= 1);
-        let mut wanted = Removed {
-            was: false,
-            value: 0,
-            shrunk: true,
-        };
-        if let Some(at) = self.plain.iter().position(|pair| pair.0 == key) {
-            let (_, value) = self.plain.remove(at);
-            wanted.was = true;
-            wanted.value = value;
-        }
+        let wanted = take_from(&mut self.plain, key);
         let removed = remove(alloc, &mut self.tree, key);
-        assert_eq!(rt; removed, wanted, "{key}");
+        same_removed(rt, removed, wanted, key);
     }
 
     // Compares the pairs.
     fn check_pairs(&self, rt: &impl Abort, alloc: Global) -> Result<(), AllocError> {
-        assert_eq!(rt; self.tree.pop(), self.plain.len() as u64);
-        let gathered = self.tree.gather(alloc)?;
-        assert_eq!(rt; gathered, self.plain);
-        Ok(())
+        check_pairs(rt, alloc, &self.tree, &self.plain)
     }
 
     // Compares the shape with that of the tree made of the same pairs at once.
     fn check_shape(&self, rt: &impl Abort, alloc: Global) -> Result<(), AllocError> {
         let made = tree_of::<V>(rt, alloc, &self.plain)?;
-        assert_eq!(rt; self.tree.shape(), made.shape());
+        same_shapes(rt, self.tree.shape(), made.shape());
         Ok(())
     }
+
+    // Puts a key in or takes it out, and compares the pairs and the shape.
+    fn put_or_take(
+        &mut self,
+        rt: &impl Abort,
+        alloc: Global,
+        key: u64,
+        put: bool,
+    ) -> Result<(), AllocError> {
+        if put {
+            self.put(rt, alloc, key)?;
+        } else {
+            self.take(rt, alloc, key);
+        }
+        self.check_pairs(rt, alloc)?;
+        self.check_shape(rt, alloc)
+    }
+
+    // Puts keys in or takes them out.
+    fn change(&mut self, rt: &impl Abort, alloc: Global, change: Change) -> Result<(), AllocError> {
+        match change {
+            Change::In(keys) => self.put_all(rt, alloc, &keys.pairs::<V>(rt, alloc)?),
+            Change::Out(keys) => {
+                self.take_all(rt, alloc, &keys.pairs::<V>(rt, alloc)?);
+                Ok(())
+            }
+        }
+    }
+
+    fn put_all(
+        &mut self,
+        rt: &impl Abort,
+        alloc: Global,
+        pairs: &[(u64, u64)],
+    ) -> Result<(), AllocError> {
+        for pair in pairs {
+            self.put(rt, alloc, pair.0)?;
+        }
+        Ok(())
+    }
+
+    fn take_all(&mut self, rt: &impl Abort, alloc: Global, pairs: &[(u64, u64)]) {
+        for pair in pairs {
+            self.take(rt, alloc, pair.0);
+        }
+    }
+}
+
+// Takes a key out of the plain list, and tells what a tree answers to its removal.
+fn take_from(plain: &mut Vec<(u64, u64)>, key: u64) -> Removed {
+    let mut wanted = Removed {
+        was: false,
+        value: 0,
+        shrunk: true,
+    };
+    if let Some(at) = plain.iter().position(|pair| pair.0 == key) {
+        let (_, value) = plain.remove(at);
+        wanted.was = true;
+        wanted.value = value;
+    }
+    wanted
+}
+
+// Compares what a tree answers to a removal with what is wanted.
+fn same_removed(rt: &impl Abort, found: Removed, wanted: Removed, key: u64) {
+    assert_eq!(rt; found, wanted, "{key}");
+}
+
+// Compares two shapes.
+fn same_shapes(rt: &impl Abort, found: Shape, wanted: Shape) {
+    assert_eq!(rt; found, wanted);
 }
 
 // Makes changes one after the other, and compares the pairs, the shape and all answers after each.
@@ -105,20 +164,9 @@ fn check_changes<V: Words + Drop>(
 ) -> Result<(), AllocError> {
     let mut twins: Twins<V> = Twins::new(alloc);
     for (change, counts) in changes {
-        match change {
-            Change::In(keys) => {
-                for (key, _) in keys.pairs::<V>(rt, alloc)? {
-                    twins.put(rt, alloc, key)?;
-                }
-            }
-            Change::Out(keys) => {
-                for (key, _) in keys.pairs::<V>(rt, alloc)? {
-                    twins.take(rt, alloc, key);
-                }
-            }
-        }
+        twins.change(rt, alloc, *change)?;
         twins.check_pairs(rt, alloc)?;
-        assert_eq!(rt; twins.tree.shape(), shape_of(*counts));
+        same_shape(rt, twins.tree.shape(), *counts);
         check_queries(rt, &twins.tree, &twins.plain);
     }
     Ok(())
@@ -219,13 +267,7 @@ fn check_history<V: Words + Drop>(
     for step in 0..400 {
         let key = numbers.next() & bits;
         let seldom = numbers.next() % 4 == 0;
-        if (step < 200) != seldom {
-            twins.put(rt, alloc, key)?;
-        } else {
-            twins.take(rt, alloc, key);
-        }
-        twins.check_pairs(rt, alloc)?;
-        twins.check_shape(rt, alloc)?;
+        twins.put_or_take(rt, alloc, key, (step < 200) != seldom)?;
     }
     Ok(())
 }

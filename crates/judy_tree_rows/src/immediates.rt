@@ -2,8 +2,10 @@
 
 ghost use Rattle.std.specs.Prelude.{◌≤◌, ◌<◌, ◌^◌};
 
-use crate::leaves::{Order, check_leaf, top_of, value_of};
-use crate::plain::{beside, check_absent, check_nearest, check_word, note};
+use crate::leaves::{End, Order, check_leaf, top_of, value_of};
+use crate::plain::{
+    beside, check_absent, check_nearest, check_word, note, same, same_answer, same_len, write_first,
+};
 use judy_leaf::{ImmOf, Words};
 use std::alloc::{AllocError, Global};
 use std::process::Abort;
@@ -21,17 +23,31 @@ pub(crate) fn room_of<V: Words + Drop>(width: u8) -> usize
 
 // Compares what an immediate answers with the plain list.
 fn check_imm<V: Words + Drop>(rt: &impl Abort, imm: &ImmOf<V>, plain: &[(u64, u64)], room: usize) {
-    assert_eq!(rt; imm.len(), plain.len());
-    assert_eq!(rt; imm.is_full(), plain.len() == room);
+    same_len(rt, imm.len(), plain);
+    same_answer(rt, imm.is_full(), plain.len() == room);
     for (at, &(key, value)) in plain.iter().enumerate() {
-        assert!(rt; at < imm.len());
-        assert_eq!(rt; imm.key_at(at), key);
-        assert_eq!(rt; imm.value_at(at), value);
-        for word in beside(key) {
-            check_imm_at(rt, imm, plain, word);
-        }
+        check_pair(rt, imm, at, key, value);
+        check_imm_beside(rt, imm, plain, key);
     }
-    for word in [0, u64::MAX] {
+    check_imm_at(rt, imm, plain, 0);
+    check_imm_at(rt, imm, plain, u64::MAX);
+}
+
+// Compares the pair at a place.
+fn check_pair<V: Words + Drop>(rt: &impl Abort, imm: &ImmOf<V>, at: usize, key: u64, value: u64) {
+    assert!(rt; at < imm.len());
+    same(rt, imm.key_at(at), key, key);
+    same(rt, imm.value_at(at), value, key);
+}
+
+// Compares what an immediate answers of a key and of the words beside it.
+fn check_imm_beside<V: Words + Drop>(
+    rt: &impl Abort,
+    imm: &ImmOf<V>,
+    plain: &[(u64, u64)],
+    key: u64,
+) {
+    for word in beside(key) {
         check_imm_at(rt, imm, plain, word);
     }
 }
@@ -68,9 +84,7 @@ fn put_imm<V: Words + Drop>(rt: &impl Abort, imm: &mut ImmOf<V>, key: u64)
         imm.insert(key);
         let at = imm.rank(key);
         assert!(rt; at < imm.len());
-        let slot = imm.slot_at(at);
-        assert_eq!(rt; *slot, 0);
-        *slot = value_of::<V>(key);
+        write_first(rt, imm.slot_at(at), value_of::<V>(key));
     } else {
         assert!(rt; imm.len() < 8 / usize::from(imm.width()));
         imm.insert(key);
@@ -119,20 +133,45 @@ pub(crate) fn check_immediate<V: Words + Drop>(
     let room = room_of::<V>(width);
     check_imm(rt, &imm, &plain, room);
     fill_imm(rt, &mut imm, &mut plain, top, order)?;
-    assert!(rt; imm.len() >= 1 && imm.width() == width);
-    let (head, word) = imm.into_parts();
-    let imm = ImmOf::<V>::of_parts(width, head, word);
-    assert!(rt; imm.is_full());
-    let leaf = imm.to_leaf(alloc)?;
-    check_leaf(rt, leaf.reading(), &plain);
-    let mut imm = leaf.reading().to_immediate();
+    let imm = put_together(rt, imm, width);
+    let mut imm = through_leaf(rt, alloc, &imm, &plain)?;
     check_imm(rt, &imm, &plain, room);
     for _ in 0..room {
-        let at = order.end.place(plain.len());
-        assert!(rt; at < plain.len() && at < imm.len());
-        plain.remove(at);
-        imm.remove(at);
+        take(rt, &mut imm, &mut plain, order.end);
         check_imm(rt, &imm, &plain, room);
     }
     Ok(())
+}
+
+// Takes an immediate apart and puts it together again.
+fn put_together<V: Words + Drop>(rt: &impl Abort, imm: ImmOf<V>, width: u8) -> ImmOf<V> {
+    assert!(rt; imm.len() >= 1 && imm.width() == width);
+    let (head, word) = imm.into_parts();
+    ImmOf::<V>::of_parts(width, head, word)
+}
+
+// Makes a full immediate a leaf, which it compares with the plain list, and that an immediate.
+fn through_leaf<V: Words + Drop>(
+    rt: &impl Abort,
+    alloc: Global,
+    imm: &ImmOf<V>,
+    plain: &[(u64, u64)],
+) -> Result<ImmOf<V>, AllocError> {
+    assert!(rt; imm.is_full());
+    let leaf = imm.to_leaf(alloc)?;
+    check_leaf(rt, leaf.reading(), plain);
+    Ok(leaf.reading().to_immediate())
+}
+
+// Takes out a key.
+fn take<V: Words + Drop>(
+    rt: &impl Abort,
+    imm: &mut ImmOf<V>,
+    plain: &mut Vec<(u64, u64)>,
+    end: End,
+) {
+    let at = end.place(plain.len());
+    assert!(rt; at < plain.len() && at < imm.len());
+    plain.remove(at);
+    imm.remove(at);
 }

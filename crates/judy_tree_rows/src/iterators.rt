@@ -1,6 +1,7 @@
 //! What iterators give beside the keys that went in, for each kind of node.
 
-use judy_word::{Judy1, JudyL};
+use crate::plain::{same_number, same_pair};
+use judy_word::{InsertError, Judy1, JudyL};
 use std::process::Abort;
 
 // Keys by ascending order: the first one, how far each is from the next, and how many.
@@ -33,9 +34,14 @@ fn key_at(row: Row, place: u64) -> u64 {
 fn fill(rt: &impl Abort, set: &mut Judy1, pairs: &mut JudyL, row: Row) {
     for place in (0..row.2).rev() {
         let key = key_at(row, place);
-        assert_eq!(rt; set.set(key), Ok(true));
-        assert_eq!(rt; pairs.put(key, place), Ok(true));
+        added(rt, set.set(key));
+        added(rt, pairs.put(key, place));
     }
+}
+
+// Takes note that a key was absent and is put in.
+fn added(rt: &impl Abort, answer: Result<bool, InsertError>) {
+    assert_eq!(rt; answer, Ok(true));
 }
 
 // What is left from a place on, whose key is the first that isn't below a word, and nothing behind it.
@@ -44,23 +50,30 @@ fn check_rest(rt: &impl Abort, set: &Judy1, pairs: &JudyL, row: Row, first: u64,
     let mut entries = pairs.iter_from(from);
     for place in first..row.2 {
         let key = key_at(row, place);
-        assert_eq!(rt; keys.next(), Some(key));
-        assert_eq!(rt; entries.next(), Some((key, place)));
+        same_number(rt, keys.next(), Some(key), from);
+        same_pair(rt, entries.next(), Some((key, place)), from);
     }
-    assert_eq!(rt; (keys.next(), entries.next()), (None, None));
+    same_number(rt, keys.next(), None, from);
+    same_pair(rt, entries.next(), None, from);
 }
 
 // The first of what is left from a key on, and from the word behind it.
 fn check_firsts(rt: &impl Abort, set: &Judy1, pairs: &JudyL, row: Row) {
     for place in 0..row.2 {
         let key = key_at(row, place);
-        assert_eq!(rt; set.iter_from(key).next(), Some(key));
+        same_number(rt, set.iter_from(key).next(), Some(key), key);
         if key < u64::MAX {
             let next = (place + 1 < row.2).then_some(key_at(row, place + 1));
-            assert_eq!(rt; set.iter_from(key + 1).next(), next);
-            assert_eq!(rt; pairs.iter_from(key + 1).next().map(|pair| pair.0), next);
+            check_first(rt, set, pairs, key + 1, next);
         }
     }
+}
+
+// The first of what is left from a word on.
+fn check_first(rt: &impl Abort, set: &Judy1, pairs: &JudyL, from: u64, wanted: Option<u64>) {
+    same_number(rt, set.iter_from(from).next(), wanted, from);
+    let key = pairs.iter_from(from).next().map(|pair| pair.0);
+    same_number(rt, key, wanted, from);
 }
 
 #[test]

@@ -5,7 +5,9 @@ ghost use Rattle.std.specs.List.{AllByRecursion};
 ghost use Rattle.judy_leaf.specs.KeyLists.{low_pairs, IsKeyList};
 
 use crate::immediates::check_immediate;
-use crate::plain::{beside, check_absent, check_nearest, check_word, note};
+use crate::plain::{
+    beside, check_absent, check_nearest, check_word, note, same, same_answer, same_len, write_first,
+};
 use judy_leaf::{LeafOf, LeafRef, Width, Words};
 use std::alloc::{AllocError, Global};
 use std::process::Abort;
@@ -94,14 +96,17 @@ fn put<V: Words + Drop>(
         return leaf.insert_pair(alloc, key, value);
     }
     leaf.insert(alloc, key)?;
+    write(rt, leaf, key, value);
+    Ok(())
+}
+
+// Writes the value of a key that has none yet, where keys have values.
+fn write<V: Words + Drop>(rt: &impl Abort, leaf: &mut LeafOf<V>, key: u64, value: u64) {
     if V::WORDS == 1 {
         let at = leaf.reading().rank(key);
         assert!(rt; at < leaf.reading().len());
-        let slot = leaf.slot_at(at);
-        assert_eq!(rt; *slot, 0);
-        *slot = value;
+        write_first(rt, leaf.slot_at(at), value);
     }
-    Ok(())
 }
 
 // Compares what a leaf answers with the plain list.
@@ -110,19 +115,49 @@ pub(crate) fn check_leaf<V: Words + Drop>(
     leaf: LeafRef<'_, V>,
     plain: &[(u64, u64)],
 ) {
-    assert_eq!(rt; leaf.len(), plain.len());
-    assert_eq!(rt; leaf.is_full(), plain.len() == 32);
+    same_len(rt, leaf.len(), plain);
+    same_answer(rt, leaf.is_full(), plain.len() == 32);
     for (at, &(key, value)) in plain.iter().enumerate() {
-        assert!(rt; at < leaf.len());
-        assert_eq!(rt; leaf.key_at(at), key);
-        assert_eq!(rt; leaf.value_at(at), value);
-        for word in beside(key) {
-            check_word(rt, word, plain, leaf.rank(word), leaf.find(word));
-        }
+        check_pair(rt, &leaf, at, key, value);
+        check_places(rt, &leaf, plain, key);
     }
-    for word in [0, u64::MAX] {
-        check_word(rt, word, plain, leaf.rank(word), leaf.find(word));
+    check_place(rt, &leaf, plain, 0);
+    check_place(rt, &leaf, plain, u64::MAX);
+}
+
+// Compares the pair at a place.
+fn check_pair<V: Words + Drop>(
+    rt: &impl Abort,
+    leaf: &LeafRef<'_, V>,
+    at: usize,
+    key: u64,
+    value: u64,
+) {
+    assert!(rt; at < leaf.len());
+    same(rt, leaf.key_at(at), key, key);
+    same(rt, leaf.value_at(at), value, key);
+}
+
+// Compares the ranks and places of a key and of the words beside it.
+fn check_places<V: Words + Drop>(
+    rt: &impl Abort,
+    leaf: &LeafRef<'_, V>,
+    plain: &[(u64, u64)],
+    key: u64,
+) {
+    for word in beside(key) {
+        check_place(rt, leaf, plain, word);
     }
+}
+
+// Compares the rank and the place of a word.
+fn check_place<V: Words + Drop>(
+    rt: &impl Abort,
+    leaf: &LeafRef<'_, V>,
+    plain: &[(u64, u64)],
+    word: u64,
+) {
+    check_word(rt, word, plain, leaf.rank(word), leaf.find(word));
 }
 
 // Compares what a leaf answers of what is nearest.
@@ -200,15 +235,24 @@ fn check_emptying<V: Words + Drop>(
     let (count, block) = leaf.into_parts();
     let mut leaf = LeafOf::<V>::of_parts(count, block);
     for _ in 0..32 {
-        let at = end.place(plain.len());
-        assert!(rt; at < plain.len() && at < leaf.reading().len());
-        plain.remove(at);
-        leaf.remove(at);
+        take(rt, &mut leaf, plain, end.place(plain.len()));
         check_leaf(rt, leaf.reading(), plain);
         if plain.len() % 8 == 0 {
             check_neighbours(rt, leaf.reading(), plain);
         }
     }
+}
+
+// Takes out the key at a place.
+fn take<V: Words + Drop>(
+    rt: &impl Abort,
+    leaf: &mut LeafOf<V>,
+    plain: &mut Vec<(u64, u64)>,
+    at: usize,
+) {
+    assert!(rt; at < plain.len() && at < leaf.reading().len());
+    plain.remove(at);
+    leaf.remove(at);
 }
 
 // Leaves and immediates of a width in ascending, descending and mixed order, emptied from each end and from the middle.

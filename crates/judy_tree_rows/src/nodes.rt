@@ -4,7 +4,7 @@ ghost use Rattle.std.specs.Prelude.{◌≡◌, ◌<◌, ◌≤◌, ◌^◌, IsTr
 ghost use Rattle.judy_node.specs.Trees.{IsMap};
 
 use crate::leaves::value_of;
-use crate::plain::note;
+use crate::plain::{note, same, same_len, same_pair, same_pairs};
 use judy_leaf::{Width, Words};
 use judy_node::{NodeOf, Shape};
 use std::alloc::{AllocError, Global};
@@ -25,7 +25,7 @@ pub(crate) struct Grid {
 }
 
 // The shape of these numbers.
-pub(crate) fn shape_of(counts: Counts) -> Shape {
+fn shape_of(counts: Counts) -> Shape {
     let [immediates, leaves, bitmap_leaves, linear, bitmap, full] = counts;
     Shape {
         immediates,
@@ -120,18 +120,40 @@ fn check_slots<V: Words + Drop>(
     if V::WORDS != 1 {
         return Ok(());
     }
-    for pair in pairs {
-        if let Some(slot) = tree.slot(pair.0) {
-            assert_eq!(rt; *slot, pair.1);
-            *slot = !pair.1;
-        }
+    for &(key, value) in pairs {
+        change_slot(rt, tree, key, value);
     }
     let changed = tree.gather(alloc)?;
-    assert_eq!(rt; changed.len(), pairs.len());
-    for (new, old) in changed.iter().zip(pairs) {
-        assert_eq!(rt; *new, (old.0, !old.1));
-    }
+    check_changed(rt, &changed, pairs);
     Ok(())
+}
+
+// Writes another value into the slot of a key.
+fn change_slot<V: Words + Drop>(rt: &impl Abort, tree: &mut NodeOf<V>, key: u64, value: u64)
+    requires { V.WORDS ≡ 1 }
+{
+    if let Some(slot) = tree.slot(key) {
+        write_other(rt, slot, value);
+    }
+}
+
+// Compares the value in a slot, and writes another one.
+fn write_other(rt: &impl Abort, slot: &mut u64, value: u64) {
+    same(rt, *slot, value, value);
+    *slot = !value;
+}
+
+// Compares the pairs whose values are changed with those from before.
+fn check_changed(rt: &impl Abort, changed: &[(u64, u64)], pairs: &[(u64, u64)]) {
+    same_len(rt, changed.len(), pairs);
+    for (new, old) in changed.iter().zip(pairs) {
+        same_pair(rt, Some(*new), Some((old.0, !old.1)), old.0);
+    }
+}
+
+// Compares the shape of a tree with the counts wanted.
+pub(crate) fn same_shape(rt: &impl Abort, shape: Shape, counts: Counts) {
+    assert_eq!(rt; shape, shape_of(counts));
 }
 
 // The tree of pairs.
@@ -154,11 +176,23 @@ pub(crate) fn check_tree<V: Words + Drop>(
     counts: Counts,
 ) -> Result<(), AllocError> {
     let mut tree = tree_of::<V>(rt, alloc, pairs)?;
-    assert_eq!(rt; tree.pop(), pairs.len() as u64);
-    assert_eq!(rt; tree.shape(), shape_of(counts));
-    let gathered = tree.gather(alloc)?;
-    assert_eq!(rt; gathered.as_slice(), pairs);
+    check_pairs(rt, alloc, &tree, pairs)?;
+    same_shape(rt, tree.shape(), counts);
     check_slots(rt, alloc, &mut tree, pairs)
+}
+
+// Compares the pairs of a tree, and how many they are.
+pub(crate) fn check_pairs<V: Words + Drop>(
+    rt: &impl Abort,
+    alloc: Global,
+    tree: &NodeOf<V>,
+    pairs: &[(u64, u64)],
+) -> Result<(), AllocError> {
+    let count = pairs.len() as u64;
+    same(rt, tree.pop(), count, count);
+    let gathered = tree.gather(alloc)?;
+    same_pairs(rt, &gathered, pairs);
+    Ok(())
 }
 
 // Compares the trees of such keys with the counts beside them.

@@ -63,6 +63,62 @@ pub(crate) fn absent_up_to(plain: &[(u64, u64)], word: u64, top: u64) -> Option<
     Some(number)
 }
 
+// Where a key stands.
+fn place_of(plain: &[(u64, u64)], word: u64) -> Option<usize> {
+    plain.iter().position(|pair| pair.0 == word)
+}
+
+// Compares what is found with what is wanted, of a word.
+pub(crate) fn same(rt: &impl Abort, found: u64, wanted: u64, word: u64) {
+    assert_eq!(rt; found, wanted, "{word}");
+}
+
+// The same of a number that there may be.
+pub(crate) fn same_number(rt: &impl Abort, found: Option<u64>, wanted: Option<u64>, word: u64) {
+    assert_eq!(rt; found, wanted, "{word}");
+}
+
+// The same of a pair that there may be.
+pub(crate) fn same_pair(
+    rt: &impl Abort,
+    found: Option<(u64, u64)>,
+    wanted: Option<(u64, u64)>,
+    word: u64,
+) {
+    assert_eq!(rt; found, wanted, "{word}");
+}
+
+// The same of a count of keys.
+fn same_rank(rt: &impl Abort, found: usize, wanted: usize, word: u64) {
+    assert_eq!(rt; found, wanted, "{word}");
+}
+
+// The same of a place that there may be.
+fn same_place(rt: &impl Abort, found: Option<usize>, wanted: Option<usize>, word: u64) {
+    assert_eq!(rt; found, wanted, "{word}");
+}
+
+// Compares a number of pairs with that of the plain list.
+pub(crate) fn same_len(rt: &impl Abort, found: usize, plain: &[(u64, u64)]) {
+    assert_eq!(rt; found, plain.len());
+}
+
+// Compares an answer with the one wanted.
+pub(crate) fn same_answer(rt: &impl Abort, found: bool, wanted: bool) {
+    assert_eq!(rt; found, wanted);
+}
+
+// Compares the pairs that are found with the plain list.
+pub(crate) fn same_pairs(rt: &impl Abort, found: &[(u64, u64)], plain: &[(u64, u64)]) {
+    assert_eq!(rt; found, plain);
+}
+
+// Writes a value into a slot that has none yet.
+pub(crate) fn write_first(rt: &impl Abort, slot: &mut u64, value: u64) {
+    assert_eq!(rt; *slot, 0);
+    *slot = value;
+}
+
 // Compares the rank and the place of a word.
 pub(crate) fn check_word(
     rt: &impl Abort,
@@ -71,9 +127,8 @@ pub(crate) fn check_word(
     found: usize,
     place: Option<usize>,
 ) {
-    let at = plain.iter().position(|pair| pair.0 == word);
-    assert_eq!(rt; found, rank(plain, word), "{word}");
-    assert_eq!(rt; place, at, "{word}");
+    same_rank(rt, found, rank(plain, word), word);
+    same_place(rt, place, place_of(plain, word), word);
 }
 
 // Compares the nearest pairs at or above a word and at or below it.
@@ -84,8 +139,8 @@ pub(crate) fn check_nearest(
     after: Option<(u64, u64)>,
     before: Option<(u64, u64)>,
 ) {
-    assert_eq!(rt; after, pair_from(plain, word), "{word}");
-    assert_eq!(rt; before, pair_up_to(plain, word), "{word}");
+    same_pair(rt, after, pair_from(plain, word), word);
+    same_pair(rt, before, pair_up_to(plain, word), word);
 }
 
 // Compares the nearest numbers at or above a word and at or below it that are no keys, of all up to the greatest key of a width.
@@ -97,6 +152,6 @@ pub(crate) fn check_absent(
     after: Option<u64>,
     before: Option<u64>,
 ) {
-    assert_eq!(rt; after, absent_from(plain, word, top), "{word}");
-    assert_eq!(rt; before, absent_up_to(plain, word, top), "{word}");
+    same_number(rt, after, absent_from(plain, word, top), word);
+    same_number(rt, before, absent_up_to(plain, word, top), word);
 }

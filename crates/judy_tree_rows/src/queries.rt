@@ -1,12 +1,11 @@
 //! What the queries of a tree answer, and how many nodes they enter: the worked rows, and the ends of the words.
 
-use crate::calls::Call;
 use crate::calls::Call::{
     AtOrAfter, AtOrBefore, EmptyAtOrAfter, EmptyAtOrBefore, Lookup, Nth, Rank,
 };
+use crate::calls::{Call, check_call};
 use crate::nodes::{Grid, check_tree, tree_of};
 use crate::plain::note;
-use judy_bits::Meter;
 use judy_leaf::{Width, Words};
 use std::alloc::{AllocError, Global};
 use std::process::Abort;
@@ -24,10 +23,7 @@ fn check_asked<V: Words + Drop>(
 ) -> Result<(), AllocError> {
     let tree = tree_of::<V>(rt, alloc, pairs)?;
     for &(call, word, answer, most) in table {
-        let mut meter = Meter::new();
-        let found = call.ask(&tree, word, &mut meter);
-        assert_eq!(rt; found, answer, "{call:?} {word}");
-        assert!(rt; meter.visits() <= most, "{call:?} {word}");
+        check_call(rt, &tree, call, word, answer, most);
     }
     Ok(())
 }

@@ -1,11 +1,11 @@
 //! Trees of keys drawn by chance: their shapes beside a plain count of the rule, and each query at each key beside the plain list.
 
 use crate::by_rule::counts_by_rule;
-use crate::calls::CALLS;
+use crate::calls::{CALLS, check_call};
 use crate::draws::{Numbers, Pattern, drawn};
 use crate::leaves::top_of;
 use crate::nodes::{Counts, check_tree, tree_of};
-use crate::plain::{beside, check_nearest};
+use crate::plain::{beside, check_nearest, same_pair};
 use judy_bits::Meter;
 use judy_leaf::{Width, Words};
 use judy_node::NodeOf;
@@ -22,10 +22,8 @@ fn check_calls<V: Words + Drop>(
     word: u64,
 ) {
     for call in CALLS {
-        let mut meter = Meter::new();
-        let found = call.ask(tree, word, &mut meter);
-        assert_eq!(rt; found, call.by_list(plain, word), "{call:?} {word}");
-        assert!(rt; meter.visits() <= call.most_visits(), "{call:?} {word}");
+        let wanted = call.by_list(plain, word);
+        check_call(rt, tree, call, word, wanted, call.most_visits());
     }
 }
 
@@ -38,15 +36,20 @@ fn check_entries<V: Words + Drop>(
 ) {
     let mut meter = Meter::new();
     let after = entry_at_or_after(tree, word, &mut meter);
-    assert!(rt; meter.visits() <= 16, "{word}");
+    at_most(rt, word, &meter, 16);
     let mut meter = Meter::new();
     let before = entry_at_or_before(tree, word, &mut meter);
-    assert!(rt; meter.visits() <= 16, "{word}");
+    at_most(rt, word, &meter, 16);
     check_nearest(rt, word, plain, after, before);
     let mut meter = Meter::new();
     let entry = entry_nth(tree, word, &mut meter);
-    assert!(rt; meter.visits() <= 8, "{word}");
-    assert_eq!(rt; entry, plain.get(word as usize).copied(), "{word}");
+    at_most(rt, word, &meter, 8);
+    same_pair(rt, entry, plain.get(word as usize).copied(), word);
+}
+
+// Compares how many nodes a call about a word entered with how many it may.
+fn at_most(rt: &impl Abort, word: u64, meter: &Meter, most: u64) {
+    assert!(rt; meter.visits() <= most, "{word}");
 }
 
 // Compares all that the tree of a plain list answers: at each key, beside it, at its place, and at the ends of the words.
@@ -56,17 +59,20 @@ pub(crate) fn check_queries<V: Words + Drop>(
     plain: &[(u64, u64)],
 ) {
     for word in [0, plain.len() as u64, u64::MAX] {
-        check_calls(rt, tree, plain, word);
-        check_entries(rt, tree, plain, word);
+        check_all(rt, tree, plain, word);
     }
     for (place, &(key, _)) in plain.iter().enumerate() {
-        check_calls(rt, tree, plain, place as u64);
-        check_entries(rt, tree, plain, place as u64);
+        check_all(rt, tree, plain, place as u64);
         for word in beside(key) {
-            check_calls(rt, tree, plain, word);
-            check_entries(rt, tree, plain, word);
+            check_all(rt, tree, plain, word);
         }
     }
+}
+
+// Compares all that the tree answers of a word or a place.
+fn check_all<V: Words + Drop>(rt: &impl Abort, tree: &NodeOf<V>, plain: &[(u64, u64)], word: u64) {
+    check_calls(rt, tree, plain, word);
+    check_entries(rt, tree, plain, word);
 }
 
 // Adds the counts of another tree.

@@ -7,9 +7,11 @@ ghost use Rattle.judy_model.specs.Shapes.{shape_of};
 ghost use Rattle.judy_change.specs.Removals.{Has33};
 ghost use Rattle.judy_node.specs.ShapeSums.{shape_as};
 
+use crate::plain::{same, same_number, same_pair};
 use judy_node::Shape;
 use judy_word::{InsertError, Judy1, JudyL};
-use std::alloc::AllocError;
+use std::alloc::{AllocError, Global};
+use std::process::Abort;
 use std::test::Fail;
 
 // Inserts a key and writes its value.
@@ -58,49 +60,95 @@ fn loosened(array_l: &mut JudyL, key: u64) -> bool
     !loose && tree.is_loose()
 }
 
+// Inserts a key and writes its value, where there is room.
+fn put_key(rt: &impl Abort, pairs: &mut JudyL, key: u64, value: u64) {
+    assert_eq!(rt; put(pairs, key, value), Ok(()), "{key}");
+}
+
+// Inserts a key that is absent into a set, where there is room.
+fn set_key(rt: &impl Abort, set: &mut Judy1, key: u64) {
+    assert_eq!(rt; set.set(key), Ok(true), "{key}");
+}
+
+// Compares the value of a key with the one wanted.
+fn check_value(rt: &impl Abort, pairs: &JudyL, key: u64, wanted: Option<u64>) {
+    same_number(rt, pairs.get(key), wanted, key);
+}
+
+// Inserts a key where there is no room left.
+fn put_full(rt: &impl Abort, pairs: &mut JudyL, key: u64, value: u64) {
+    assert_eq!(rt; put(pairs, key, value), Err(InsertError::Full), "{key}");
+}
+
+// Compares whether a call puts a key in, where there is room, with what is wanted.
+fn put_in(rt: &impl Abort, found: Result<bool, InsertError>, wanted: bool) {
+    assert_eq!(rt; found, Ok(wanted));
+}
+
+// Takes note that a call finds no room.
+fn full(rt: &impl Abort, found: Result<bool, InsertError>) {
+    assert_eq!(rt; found, Err(InsertError::Full));
+}
+
+// Compares how many nodes of a kind there are with how many are wanted.
+fn same_nodes(rt: &impl Abort, found: u128, wanted: u128) {
+    assert_eq!(rt; found, wanted);
+}
+
+// Takes note that a call answers yes.
+fn yes(rt: &impl Abort, answer: bool) {
+    assert!(rt; answer);
+}
+
+// Takes note that a call answers no.
+fn no(rt: &impl Abort, answer: bool) {
+    assert!(rt; !answer);
+}
+
 #[test]
 fn always_no_memory(rt: HostRuntime) -> Result<(), Fail> {
     let mut pairs = JudyL::new(rt.alloc(), 1000);
     for (key, value) in [(7, 70), (0, 1), (18446744073709551615, 5), (7, 71)] {
-        assert_eq!(rt; put(&mut pairs, key, value), Ok(()));
+        put_key(&rt, &mut pairs, key, value);
     }
-    assert_eq!(rt; pairs.len(), 3);
-    assert_eq!(rt; pairs.get(0), Some(1));
-    assert_eq!(rt; pairs.get(7), Some(71));
-    assert_eq!(rt; pairs.get(18446744073709551615), Some(5));
-    assert_eq!(rt; pairs.get(8), None);
+    same(&rt, pairs.len(), 3, 0);
+    check_value(&rt, &pairs, 0, Some(1));
+    check_value(&rt, &pairs, 7, Some(71));
+    check_value(&rt, &pairs, 18446744073709551615, Some(5));
+    check_value(&rt, &pairs, 8, None);
     Ok(())
 }
 
 #[test]
 fn full_at_the_limit(rt: HostRuntime) -> Result<(), Fail> {
     let mut pairs = JudyL::new(rt.alloc(), 2);
-    assert_eq!(rt; put(&mut pairs, 5, 50), Ok(()));
-    assert_eq!(rt; put(&mut pairs, 3, 30), Ok(()));
-    assert_eq!(rt; put(&mut pairs, 4, 40), Err(InsertError::Full));
-    assert_eq!(rt; put(&mut pairs, 5, 51), Ok(()));
-    assert_eq!(rt; replace(&mut pairs, 3, 31), Some(30));
-    assert_eq!(rt; replace(&mut pairs, 4, 40), None);
-    assert!(rt; pairs.del(5));
-    assert!(rt; !pairs.del(5));
-    assert_eq!(rt; put(&mut pairs, 4, 41), Ok(()));
-    assert_eq!(rt; pairs.limit(), 2);
-    assert_eq!(rt; pairs.free_array(), 2);
-    assert!(rt; pairs.is_empty());
-    assert_eq!(rt; pairs.free_array(), 0);
+    put_key(&rt, &mut pairs, 5, 50);
+    put_key(&rt, &mut pairs, 3, 30);
+    put_full(&rt, &mut pairs, 4, 40);
+    put_key(&rt, &mut pairs, 5, 51);
+    same_number(&rt, replace(&mut pairs, 3, 31), Some(30), 3);
+    same_number(&rt, replace(&mut pairs, 4, 40), None, 4);
+    yes(&rt, pairs.del(5));
+    no(&rt, pairs.del(5));
+    put_key(&rt, &mut pairs, 4, 41);
+    same(&rt, pairs.limit(), 2, 0);
+    same(&rt, pairs.free_array(), 2, 0);
+    yes(&rt, pairs.is_empty());
+    same(&rt, pairs.free_array(), 0, 0);
     Ok(())
 }
 
 // A key that is there keeps its value, or gets the new one, by the call.
 #[test]
-fn values_of_present_keys(rt: HostRuntime) -> Result<(), InsertError> {
+fn values_of_present_keys(rt: HostRuntime) -> Result<(), Fail> {
     let mut pairs = JudyL::new(rt.alloc(), 2);
-    assert!(rt; pairs.put_if_absent(5, 50)?);
-    assert!(rt; !pairs.put_if_absent(5, 51)?);
-    assert!(rt; pairs.put(7, 70)?);
-    assert!(rt; !pairs.put(7, 71)?);
-    assert_eq!(rt; pairs.put_if_absent(9, 90), Err(InsertError::Full));
-    assert_eq!(rt; (pairs.get(5), pairs.get(7)), (Some(50), Some(71)));
+    put_in(&rt, pairs.put_if_absent(5, 50), true);
+    put_in(&rt, pairs.put_if_absent(5, 51), false);
+    put_in(&rt, pairs.put(7, 70), true);
+    put_in(&rt, pairs.put(7, 71), false);
+    full(&rt, pairs.put_if_absent(9, 90));
+    check_value(&rt, &pairs, 5, Some(50));
+    check_value(&rt, &pairs, 7, Some(71));
     Ok(())
 }
 
@@ -108,32 +156,26 @@ fn values_of_present_keys(rt: HostRuntime) -> Result<(), InsertError> {
 fn unbounded_takes_more(rt: HostRuntime) -> Result<(), Fail> {
     let mut pairs = JudyL::unbounded(rt.alloc());
     for key in 0..500 {
-        assert_eq!(rt; put(&mut pairs, 1000 - key, key), Ok(()));
+        put_key(&rt, &mut pairs, 1000 - key, key);
     }
-    assert_eq!(rt; pairs.len(), 500);
-    assert_eq!(rt; pairs.get(501), Some(499));
-    assert_eq!(rt; pairs.limit(), u64::MAX);
+    same(&rt, pairs.len(), 500, 0);
+    check_value(&rt, &pairs, 501, Some(499));
+    same(&rt, pairs.limit(), u64::MAX, 0);
     Ok(())
 }
 
 #[test]
 fn edge_word(rt: HostRuntime) -> Result<(), Fail> {
     let mut set = Judy1::new(rt.alloc(), 1000);
-    assert_eq!(rt; set.set(18446744073709551615), Ok(true));
-    for (answer, expected) in [
-        (set.next(18446744073709551615), None),
-        (set.next_empty(18446744073709551615), None),
-        (set.first_empty(18446744073709551615), None),
-        (
-            set.last_empty(18446744073709551615),
-            Some(18446744073709551614),
-        ),
-        (set.first(0), Some(18446744073709551615)),
-        (set.prev(0), None),
-    ] {
-        assert_eq!(rt; answer, expected);
-    }
-    assert_eq!(rt; set.count(0, 18446744073709551615), 1);
+    set_key(&rt, &mut set, 18446744073709551615);
+    same_number(&rt, set.next(u64::MAX), None, u64::MAX);
+    same_number(&rt, set.next_empty(u64::MAX), None, u64::MAX);
+    same_number(&rt, set.first_empty(u64::MAX), None, u64::MAX);
+    let last = Some(18446744073709551614);
+    same_number(&rt, set.last_empty(u64::MAX), last, u64::MAX);
+    same_number(&rt, set.first(0), Some(u64::MAX), 0);
+    same_number(&rt, set.prev(0), None, 0);
+    same(&rt, set.count(0, u64::MAX), 1, 0);
     Ok(())
 }
 
@@ -141,18 +183,18 @@ fn edge_word(rt: HostRuntime) -> Result<(), Fail> {
 fn count_corners(rt: HostRuntime) -> Result<(), Fail> {
     let mut set = Judy1::new(rt.alloc(), 1000);
     for word in [3, 5, 9] {
-        assert_eq!(rt; set.set(word), Ok(true));
+        set_key(&rt, &mut set, word);
     }
-    for (from, to, expected) in [(9, 3, 0), (3, 9, 3), (4, 8, 1)] {
-        assert_eq!(rt; set.count(from, to), expected);
-    }
-    for (n, expected) in [(0, None), (3, Some(9)), (4, None)] {
-        assert_eq!(rt; set.by_count(n), expected);
-    }
+    same(&rt, set.count(9, 3), 0, 9);
+    same(&rt, set.count(3, 9), 3, 3);
+    same(&rt, set.count(4, 8), 1, 4);
+    same_number(&rt, set.by_count(0), None, 0);
+    same_number(&rt, set.by_count(3), Some(9), 3);
+    same_number(&rt, set.by_count(4), None, 4);
     let mut pairs = JudyL::new(rt.alloc(), 1000);
-    assert_eq!(rt; put(&mut pairs, 5, 9), Ok(()));
-    assert_eq!(rt; pairs.first(0), Some(5));
-    assert_eq!(rt; pairs.by_count(1), Some(5));
+    put_key(&rt, &mut pairs, 5, 9);
+    same_number(&rt, pairs.first(0), Some(5), 0);
+    same_number(&rt, pairs.by_count(1), Some(5), 1);
     Ok(())
 }
 
@@ -160,41 +202,38 @@ fn count_corners(rt: HostRuntime) -> Result<(), Fail> {
 fn full_ranges(rt: HostRuntime) -> Result<(), Fail> {
     let mut set = Judy1::new(rt.alloc(), 1000);
     for word in 0..256 {
-        assert_eq!(rt; set.set(word), Ok(true));
+        set_key(&rt, &mut set, word);
     }
-    for (answer, expected) in [
-        (set.first_empty(0), Some(256)),
-        (set.next_empty(255), Some(256)),
-        (set.last_empty(255), None),
-        (set.prev_empty(256), None),
-        (set.by_count(256), Some(255)),
-    ] {
-        assert_eq!(rt; answer, expected);
-    }
-    assert_eq!(rt; set.count(10, 20), 11);
+    same_number(&rt, set.first_empty(0), Some(256), 0);
+    same_number(&rt, set.next_empty(255), Some(256), 255);
+    same_number(&rt, set.last_empty(255), None, 255);
+    same_number(&rt, set.prev_empty(256), None, 256);
+    same_number(&rt, set.by_count(256), Some(255), 256);
+    same(&rt, set.count(10, 20), 11, 10);
     for word in 256..512 {
-        assert_eq!(rt; set.set(word), Ok(true));
+        set_key(&rt, &mut set, word);
     }
-    assert_eq!(rt; set.first_empty(0), Some(512));
+    same_number(&rt, set.first_empty(0), Some(512), 0);
     Ok(())
 }
 
 // The calls of a set that no row has: each once.
 #[test]
-fn set_and_unset(rt: HostRuntime) -> Result<(), InsertError> {
+fn set_and_unset(rt: HostRuntime) -> Result<(), Fail> {
     let mut set = Judy1::new(rt.alloc(), 2);
-    assert!(rt; set.is_empty());
-    assert!(rt; set.set(5)?);
-    assert!(rt; !set.set(5)?);
-    assert!(rt; set.set(7)?);
-    assert_eq!(rt; set.set(9), Err(InsertError::Full));
-    assert_eq!(rt; (set.len(), set.limit()), (2, 2));
-    assert!(rt; set.test(7));
-    assert!(rt; set.unset(5));
-    assert!(rt; !set.unset(5));
-    assert!(rt; !set.test(5));
-    assert_eq!(rt; set.free_array(), 1);
-    assert!(rt; set.is_empty());
+    yes(&rt, set.is_empty());
+    set_key(&rt, &mut set, 5);
+    put_in(&rt, set.set(5), false);
+    set_key(&rt, &mut set, 7);
+    full(&rt, set.set(9));
+    same(&rt, set.len(), 2, 0);
+    same(&rt, set.limit(), 2, 0);
+    yes(&rt, set.test(7));
+    yes(&rt, set.unset(5));
+    no(&rt, set.unset(5));
+    no(&rt, set.test(5));
+    same(&rt, set.free_array(), 1, 0);
+    yes(&rt, set.is_empty());
     Ok(())
 }
 
@@ -203,18 +242,20 @@ fn set_and_unset(rt: HostRuntime) -> Result<(), InsertError> {
 fn tree_of_a_set(rt: HostRuntime) -> Result<(), AllocError> {
     let mut set = Judy1::new(rt.alloc(), 1000);
     for word in 0..33 {
-        assert_eq!(rt; set.set(word), Ok(true));
+        set_key(&rt, &mut set, word);
     }
-    assert_eq!(rt; set.shape().bitmap_leaves, 1);
-    assert!(rt; set.unset(32));
-    assert_eq!(rt; (set.shape().leaves, set.shape().bitmap_leaves), (1, 0));
-    assert!(rt; !set.is_loose());
-    assert!(rt; set.tidy().is_ok());
-    assert_eq!(rt; tight_shape(&mut set)?.leaves, 1);
-    assert_eq!(rt; set.root().pop(), 32);
+    same_nodes(&rt, set.shape().bitmap_leaves, 1);
+    yes(&rt, set.unset(32));
+    same_nodes(&rt, set.shape().leaves, 1);
+    same_nodes(&rt, set.shape().bitmap_leaves, 0);
+    no(&rt, set.is_loose());
+    yes(&rt, set.tidy().is_ok());
+    same_nodes(&rt, tight_shape(&mut set)?.leaves, 1);
+    same(&rt, set.root().pop(), 32, 0);
     let copy = set.try_clone()?;
-    assert!(rt; set.unset(0));
-    assert_eq!(rt; (copy.len(), set.len()), (32, 31));
+    yes(&rt, set.unset(0));
+    same(&rt, copy.len(), 32, 0);
+    same(&rt, set.len(), 31, 0);
     Ok(())
 }
 
@@ -223,7 +264,7 @@ fn tree_of_a_set(rt: HostRuntime) -> Result<(), AllocError> {
 fn entries(rt: HostRuntime) -> Result<(), AllocError> {
     let mut pairs = JudyL::new(rt.alloc(), 1000);
     for (key, value) in [(3, 30), (5, 50), (18446744073709551615, 9)] {
-        assert_eq!(rt; put(&mut pairs, key, value), Ok(()));
+        put_key(&rt, &mut pairs, key, value);
     }
     for (entry, expected) in [
         (pairs.first_entry(4), Some((5, 50))),
@@ -234,13 +275,53 @@ fn entries(rt: HostRuntime) -> Result<(), AllocError> {
         (pairs.by_count_entry(2), Some((5, 50))),
         (pairs.by_count_entry(0), None),
     ] {
-        assert_eq!(rt; entry, expected);
+        same_pair(&rt, entry, expected, 0);
     }
     let copy = pairs.try_clone()?;
-    assert_eq!(rt; copy.get(5), Some(50));
-    assert!(rt; !loosened(&mut pairs, 5));
-    assert_eq!(rt; pairs.get(5), None);
+    check_value(&rt, &copy, 5, Some(50));
+    no(&rt, loosened(&mut pairs, 5));
+    check_value(&rt, &pairs, 5, None);
     Ok(())
+}
+
+// The key at a step from a front on, by sevens.
+fn step_of(front: u64, step: u64) -> u64 {
+    front.wrapping_add(step.wrapping_mul(7))
+}
+
+// Puts 300 keys from a front on into both arrays.
+fn put_run(rt: &impl Abort, set: &mut Judy1, pairs: &mut JudyL, front: u64) {
+    for step in 0..300 {
+        let key = step_of(front, step);
+        set_key(rt, set, key);
+        put_key(rt, pairs, key, step);
+    }
+}
+
+// Compares the first two keys of a set from a word on.
+fn check_set_from(
+    rt: &impl Abort,
+    set: &Judy1,
+    from: u64,
+    first: Option<u64>,
+    second: Option<u64>,
+) {
+    let mut rest = set.iter_from(from);
+    same_number(rt, rest.next(), first, from);
+    same_number(rt, rest.next(), second, from);
+}
+
+// Compares the keys of the first two pairs from a word on.
+fn check_pairs_from(
+    rt: &impl Abort,
+    pairs: &JudyL,
+    from: u64,
+    first: Option<u64>,
+    second: Option<u64>,
+) {
+    let mut rest = pairs.iter_from(from);
+    same_number(rt, rest.next().map(|pair| pair.0), first, from);
+    same_number(rt, rest.next().map(|pair| pair.0), second, from);
 }
 
 // An iterator gives each key once, by ascending order, across leaves and branches of every depth.
@@ -250,21 +331,21 @@ fn iterators(rt: HostRuntime) -> Result<(), AllocError> {
     let mut pairs = JudyL::new(rt.alloc(), 10_000);
     let fronts = [0, 65_536, 1 << 40, 18446744073709547520];
     for front in fronts {
-        for step in 0..300 {
-            assert_eq!(rt; set.set(front + 7 * step), Ok(true));
-            assert_eq!(rt; put(&mut pairs, front + 7 * step, step), Ok(()));
-        }
+        put_run(&rt, &mut set, &mut pairs, front);
     }
     let mut keys = set.iter();
     let mut entries = pairs.iter();
     for front in fronts {
         for step in 0..300 {
-            assert_eq!(rt; keys.next(), Some(front + 7 * step));
-            assert_eq!(rt; entries.next(), Some((front + 7 * step, step)));
+            let key = step_of(front, step);
+            same_number(&rt, keys.next(), Some(key), key);
+            same_pair(&rt, entries.next(), Some((key, step)), key);
         }
     }
-    assert_eq!(rt; (keys.next(), entries.next()), (None, None));
-    assert_eq!(rt; (keys.next(), entries.next()), (None, None));
+    for _ in 0..2 {
+        same_number(&rt, keys.next(), None, 0);
+        same_pair(&rt, entries.next(), None, 0);
+    }
     for (from, first, second) in [
         (0, Some(0), Some(7)),
         (1, Some(7), Some(14)),
@@ -275,15 +356,22 @@ fn iterators(rt: HostRuntime) -> Result<(), AllocError> {
         (18446744073709549614, None, None),
         (18446744073709551615, None, None),
     ] {
-        let mut rest = set.iter_from(from);
-        assert_eq!(rt; (rest.next(), rest.next()), (first, second));
-        let mut rest = pairs.iter_from(from);
-        let given = (
-            rest.next().map(|pair| pair.0),
-            rest.next().map(|pair| pair.0),
-        );
-        assert_eq!(rt; given, (first, second));
+        check_set_from(&rt, &set, from, first, second);
+        check_pairs_from(&rt, &pairs, from, first, second);
     }
+    Ok(())
+}
+
+// Compares how two arrays are printed with the text wanted.
+fn check_printed(
+    rt: &impl Abort,
+    alloc: Global,
+    set: &Judy1,
+    pairs: &JudyL,
+    wanted: &str,
+) -> Result<(), AllocError> {
+    let text = format!(in alloc; "{set:?} {pairs:?}")?;
+    assert_eq!(rt; text.as_str(), wanted);
     Ok(())
 }
 
@@ -291,17 +379,11 @@ fn iterators(rt: HostRuntime) -> Result<(), AllocError> {
 fn arrays_printed(rt: HostRuntime) -> Result<(), AllocError> {
     let mut set = Judy1::new(rt.alloc(), 10);
     let mut pairs = JudyL::new(rt.alloc(), 10);
-    assert_eq!(rt;
-        format!(in rt.alloc(); "{set:?} {pairs:?}")?.as_str(),
-        "{} {}"
-    );
+    check_printed(&rt, rt.alloc(), &set, &pairs, "{} {}")?;
     for key in [5, 1] {
-        assert_eq!(rt; set.set(key), Ok(true));
-        assert_eq!(rt; put(&mut pairs, key, key * 10), Ok(()));
+        set_key(&rt, &mut set, key);
+        put_key(&rt, &mut pairs, key, key * 10);
     }
-    assert_eq!(rt;
-        format!(in rt.alloc(); "{set:?} {pairs:?}")?.as_str(),
-        "{1, 5} {1: 10, 5: 50}"
-    );
+    check_printed(&rt, rt.alloc(), &set, &pairs, "{1, 5} {1: 10, 5: 50}")?;
     Ok(())
 }
