@@ -1,4 +1,4 @@
-use Rattle.std.proofs.Common.{◌≡◌, ◌+◌, ◌-◌, ◌^◌, ap, sym, ◌∙◌, arith}
+use Rattle.std.proofs.Common.{rules, ap, sym, arith, ◌≡◌, ◌+◌, ◌-◌, ◌^◌, ◌∙◌}
 use Rattle.judy_bits.specs.ByteSets as set
 use Rattle.judy_leaf.specs.Packing.{keys_in}
 use Rattle.judy_leaf.proofs.KeysIn.{length-keys, there_in}
@@ -59,3 +59,6 @@ returns g c =
     let inv = c.loop-at.invariant in
     let past = c.loop-at-test.false in
     last_absent (256 ^ g.row.W) keys c.args.number c.loop-at.absent inv.0 inv.1 (none_up_to keys c.requires.ascending c.loop-at.absent (sym inv.2 ∙ omega arith)) inv.3
+
+pub loop-at-init : goal.loop-at-init
+loop-at-init g c = search rules

@@ -1,4 +1,4 @@
-use Rattle.std.proofs.Common.{◌≡◌, ◌-◌, ◌≤◌, ◌<◌, ◌∙◌, List, ℕ, length, take, drop, arith, ap, length-drop}
+use Rattle.std.proofs.Common.{rules, List, ℕ, length, take, drop, arith, ap, length-drop, ◌≡◌, ◌-◌, ◌≤◌, ◌<◌, ◌∙◌}
 use Rattle.std.specs.Result.{result_unwrap_or}
 use Rattle.std.proofs.lemmas.List.{take_rest}
 use Rattle.judy_pipe.specs.Pipe.{grown}
@@ -36,3 +36,6 @@ loop-count-smaller g c =
     let grew = after_write-failures tally piece c.write.result in
     let fewer = after_write-fewer tally piece c.write.result some c.write.ensures.count (omega (arith, ap (λ t. t.failures) c.write.ensures.tally)) in
     rw c.write.ensures.tally (omega arith)
+
+pub returns-clause-ok : goal.returns-clause-ok
+returns-clause-ok g c = search rules

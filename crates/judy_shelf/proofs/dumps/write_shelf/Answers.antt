@@ -1,4 +1,4 @@
-use Rattle.std.proofs.Common.{◌≡◌, ◌+◌, length, take, slice_get, sym, ap, subst, ◌∙◌, arith}
+use Rattle.std.proofs.Common.{rules, length, take, slice_get, sym, ap, subst, arith, ◌≡◌, ◌+◌, ◌∙◌}
 use Rattle.std.proofs.lemmas.Option.{slice_get_within}
 use Rattle.judy_shelf.specs.Sorted.{sorted_lists}
 use Rattle.judy_shelf.proofs.SortedLemmas.{lists_counted, list_at, found_list}
@@ -70,3 +70,6 @@ returns g c =
     let before = sunk (g.W.Sink.taken c.args.sink.now) (g.W.Sink.tally c.args.sink.now).failures in
     let now = sunk (g.W.Sink.taken c.arrays.sink) (g.W.Sink.tally c.arrays.sink).failures in
     dump_done entries before now (written_all array_text (store_of entries) (headed entries before) c.arrays.place now c.arrays.invariant.2 (not_stored_at entries c.arrays.place c.in_default.ensures.entry))
+
+pub arrays-init : goal.arrays-init
+arrays-init g c = search rules

@@ -1,4 +1,4 @@
-use Rattle.std.proofs.Common.{◌∙◌, ap, ℕ}
+use Rattle.std.proofs.Common.{rules, ap, ℕ, ◌∙◌}
 use Rattle.std.specs.FinMap.{FinMap}
 use Rattle.judy_model.specs.Keys.{byte_order}
 use Rattle.judy_model.specs.Arrays.{ArrayOf, empty_array}
@@ -13,3 +13,6 @@ pub returns-clause-emptied : goal.returns-clause-emptied
 returns-clause-emptied c =
     ap (λ (map : FinMap byte_order ℕ). record { limit = c.self.inside.limit; map = map }) (empty-map c.new.result c.new.ensures.items c.new.ensures.root)
     ∙ ap (λ (strings : ArrayOf byte_order). empty_array strings.limit) c.self.view_is
+
+pub returns-clause-freed : goal.returns-clause-freed
+returns-clause-freed c = search rules
