@@ -16,7 +16,7 @@
  *     are told beside it; it isn't NULL, also where these are none. No two of one call overlap.
  *   - No call is made from within a signal handler.
  *
- * Calls that answer through a pointer write there only where they answer true.
+ * Calls that answer through a pointer write there only where they answer true, or SELLUMAQ_FOUND.
  */
 #ifndef SELLUMAQ_H
 #define SELLUMAQ_H
