@@ -6,10 +6,10 @@ ghost use Rattle.judy_model.specs.WordBytes.{number_of};
 ghost use Rattle.judy_bits.specs.ByteSets as set;
 ghost use Rattle.judy_leaf.specs.KeyLists.{shift};
 ghost use Rattle.judy_node.specs.Trees.{join, IsBranch};
-ghost use Rattle.judy_query.specs.Parts.{passed, reached, byte_behind, IsStart};
+ghost use Rattle.judy_query.specs.Parts.{passed, reached, byte_passed, byte_behind, IsStart};
 ghost use Rattle.judy_query.specs.Turns.{turn_pairs, IsTurn, IsLater, IsEarlier, last_pair, later_pair, earlier_pair};
 
-use crate::branches::{byte_behind, reached, start_below, start_from};
+use crate::branches::{byte_behind, byte_passed, passed, reached, start_below, start_from};
 use crate::places::entry_below;
 use judy_bits::Meter;
 use judy_leaf::Words;
@@ -55,30 +55,30 @@ pub(crate) fn later_turn<'a, V: Words + Drop>(
     }
 }
 
-/// The turn to the child before a place of a branch whose keys begin at `base`, the last below a byte; where there is none, the one
+/// The turn to the last child before a key in a branch whose keys begin at `base`, by the key's step there; where there is none, the one
 /// before.
 pub(crate) fn earlier_turn<'a, V: Words + Drop>(
     branch: &'a BranchOf<V>,
-    place: usize,
-    below: u64,
+    step: Step,
     base: u64,
     before: Option<Turn<'a, V>>,
 ) -> Option<Turn<'a, V>>
     requires branch { IsBranch V.WORDS branch.now.width branch.now.skip branch.now.bytes branch.now.children.items branch.now.population }
-    requires place { place ≤ length branch.now.children.items }
-    requires below { place ≡ set.rank branch.now.bytes below }
-    requires small { below ≤ 256 }
+    requires inside { passed (length branch.now.children.items) step ≤ length branch.now.children.items }
+    requires step { passed (length branch.now.children.items) step ≡ set.rank branch.now.bytes (byte_passed step) }
+    requires small { byte_passed step ≤ 256 }
     requires fits { base + 256 ^ (length branch.now.skip + 1 + branch.now.width) ≤ 256 ^ 8 }
     requires before { IsEarlier V.WORDS before }
     ensures turn { IsEarlier V.WORDS result }
-    ensures pair { earlier_pair result ≡ option_or (last_pair (shift base (join (256 ^ branch.now.width) (number_of branch.now.skip * 256) (take place branch.now.bytes) (take place branch.now.children.items)))) (earlier_pair before.entry) }
+    ensures pair { earlier_pair result ≡ option_or (last_pair (shift base (join (256 ^ branch.now.width) (number_of branch.now.skip * 256) (take (passed (length branch.now.children.items) step) branch.now.bytes) (take (passed (length branch.now.children.items) step) branch.now.children.items)))) (earlier_pair before.entry) }
 {
+    let place = passed(branch, step);
     if place > 0 {
         Some(Turn {
             branch,
             place: place - 1,
             base,
-            edge: below,
+            edge: byte_passed(step),
         })
     } else {
         before
