@@ -34,6 +34,7 @@ Err refusal >>= rest = Err refusal
 abbrev pub provided : Bool → Refusal → Result (Unit {0}) Refusal
 provided holds refusal = if holds then Ok tt else Err refusal
 
+-- What a token says as a name, as a word, or as a key of a kind of strings; or the refusal of a token that says none.
 abbrev pub name_at : List ℕ → Result (List ℕ) Refusal
 name_at token = ok_or (name_of token) bad_name
 
@@ -46,6 +47,7 @@ string_key_at token = ok_or (string_key_of token) bad_key
 abbrev pub bytes_key_at : List ℕ → Result (List ℕ) Refusal
 bytes_key_at token = ok_or (bytes_key_of token) bad_key
 
+-- The array of a name, or the refusal where there is none.
 abbrev pub array_at : Store → List ℕ → Result ArrayValue Refusal
 array_at store name = ok_or (array_named store name) no_such_array
 
@@ -105,13 +107,14 @@ abbrev pub removed : {K : Type 0} {order : K → K → Ordering} → (ArrayOf or
 removed kind array key =
     record { answer = flag (contains_key array.map key); after = kind (with_map array (del array.map key)); grows = false }
 
--- The neighbour of a key, and that among the words that are no keys.
+-- The neighbour of a key on a side.
 abbrev pub neighbour_of : {K : Type 0} {order : K → K → Ordering} → Neighbour → FinMap order ℕ → K → Option K
 neighbour_of command.first = neighbours.first
 neighbour_of command.next = neighbours.next
 neighbour_of command.last = neighbours.last
 neighbour_of command.prev = neighbours.prev
 
+-- The neighbour of a word among the words that are no keys.
 abbrev pub empty_neighbour_of : Neighbour → FinMap word_order ℕ → ℕ → Option ℕ
 empty_neighbour_of command.first = empties.first_empty
 empty_neighbour_of command.next = empties.next_empty
@@ -254,6 +257,7 @@ dropped store name = do
 
 -- ---- which arguments each command takes
 
+-- What a command does with its arguments, or why it is refused; so where they aren't as many as it takes.
 abbrev pub carried_out : Store → Command → List (List ℕ) → Result (Outcome Store) Refusal
 carried_out store command.make (name ∷ kind ∷ []) = made store name kind None
 carried_out store command.make (name ∷ kind ∷ limit ∷ []) = made store name kind (Some limit)
