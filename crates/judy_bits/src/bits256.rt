@@ -71,7 +71,7 @@ impl Bits256 {
         self.words[(byte / 64) as usize] &= !(1 << (byte % 64));
     }
 
-    /// A law without a body: the members ascend, and all are bytes.
+    /// A law, told by a call that does nothing: the members ascend, and all are bytes.
     pub fn told(&self)
         ensures { IsByteSet self.now }
     {

@@ -59,7 +59,7 @@ impl<V: Words + Drop> NodeOf<V> {
         }
     }
 
-    /// A law without a body, what every tree keeps: its keys ascend, and where no node is loose, its form is that of the rule.
+    /// A law, told by a call that does nothing, of what every tree keeps: its keys ascend, and where no node is loose, its form is that of the rule.
     pub fn told(&self)
         ensures { IsNode V.WORDS self.now }
     {
