@@ -8,7 +8,7 @@
 //! - stores and the script: Kinds, Stores, Sizes; Lines, LineLists, Tokens, KeyTokens; CommandWords, Commands, Steps, Replies;
 //! - runs of a script: Runs, AmpleRuns (with memory for all), CutRuns, Remaining, RunEnds;
 //! - dumps: DumpText (the bytes of a store), Fields, DumpGrammar and DumpPlaces (what bytes give);
-//! - the nodes of a tree, of which no answer of an array speaks: Forms, Shapes.
+//! - the nodes of a tree: Forms, and Shapes with the rule by which a set of keys has its nodes.
 //!
 //! [`laws`] says what follows from these, each law as the contract of a function with an empty body, which the check proves.
 //! [`examples`] and [`dump_examples`] have short cases that the check computes (specs/Examples.antt, specs/DumpExamples.antt). proofs/
