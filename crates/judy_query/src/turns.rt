@@ -1,4 +1,4 @@
-//! Where the search for a neighbour turns off the way of its key: to the last child on that side of the way.
+//! Where the search for a neighbour turns off the way of its key: to the nearest child beside the way, on the neighbour's side.
 
 ghost use Rattle.std.specs.Prelude.{◌≡◌, ◌+◌, ◌-◌, ◌*◌, ◌^◌, ◌<◌, ◌≤◌, length, take, drop, slice_get, Some};
 ghost use Rattle.std.specs.Option.{option_or};
@@ -85,7 +85,7 @@ pub(crate) fn earlier_turn<'a, V: Words + Drop>(
     }
 }
 
-/// The first pair of the child that a turn leads to.
+/// The first pair of the child that a turn leads to; none where there is no turn. At most 8 visits.
 // Inside the search that asks for it a turn needn't be put together in memory.
 #[inline(always)]
 pub(crate) fn least<V: Words + Drop>(
@@ -148,7 +148,7 @@ fn least_before<V: Words + Drop>(turn: Option<Turn<'_, V>>, meter: &mut Meter) -
     least(turn, meter)
 }
 
-/// The last pair of that child.
+/// The last pair of the child that a turn leads to; none where there is no turn. At most 8 visits.
 #[inline(always)]
 pub(crate) fn greatest<V: Words + Drop>(
     turn: Option<Turn<'_, V>>,

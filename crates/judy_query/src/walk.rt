@@ -21,8 +21,8 @@ use std::iter::Iterator;
 use std::marker::Model;
 
 /// The pairs of a tree that are still to come, by ascending key: each is a key with its value, 0 where keys have no values. A step
-/// inside a node enters none, and a step to another one enters the nodes between the branch that both are below and that node. To its
-/// callers it is the list of those pairs.
+/// inside a node enters none, and a step to another one enters the nodes between the branch that both are below and that node. It is
+/// lent no meter: its visits go to meters that nobody reads. To its callers it is the list of those pairs.
 #[derive(Drop)]
 pub struct Walk<'a, V: Words + Drop> {
     stretch: Stretch<'a, V>,
@@ -41,7 +41,7 @@ impl<'a, V: Words + Drop> Model for Walk<'a, V> {
 }
 
 impl<'a, V: Words + Drop> Walk<'a, V> {
-    /// The pairs of a tree whose keys aren't below a word.
+    /// The pairs of a tree whose keys aren't below a word. No memory is asked for.
     pub fn from_key(tree: &'a NodeOf<V>, key: u64) -> Walk<'a, V>
         ensures { result ≡ drop (set.rank (keys_of tree.now.pairs) key) tree.now.pairs }
     {
