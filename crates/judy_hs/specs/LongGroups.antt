@@ -83,7 +83,7 @@ IsFound long (Some held) place at = (place ≡ held) × (at ≡ length (chain_at
 abbrev pub IsAdded : Long → Long → ℕ → List ℕ → ℕ → ℕ → Type 0
 IsAdded before after hash key place at = IsFound before (get before.hashes.map hash) place at × (after ≡ added_long before hash key (get before.hashes.map hash) place)
 
--- The hashes where so many pairs are left of a chain: of an empty one the hash goes.
+-- The hashes where these pairs are left of a chain: where none is, its hash goes.
 abbrev pub hashes_without : Long → ℕ → Pairs → ArrayOf word_order
 hashes_without long hash [] = with_map long.hashes (remove long.hashes.map hash)
 hashes_without long hash (pair ∷ rest) = long.hashes
