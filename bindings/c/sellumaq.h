@@ -11,12 +11,12 @@
  *   - A handle is used by one call at a time. A copy of its word is the same array, so after a change of the one the other must
  *     not be used.
  *   - A slot, the pointer to the value of a key, may be read and written until the next call that is handed the array to change
- *     it: `ins`, `del` or `free`.
+ *     it: `ins`, `put`, `del` or `free`.
  *   - A pointer through which a call answers points to a word of the caller's, and a pointer to a key or a buffer to as many bytes as
  *     are told beside it; it isn't NULL, also where these are none. No two of one call overlap.
  *   - No call is made from within a signal handler.
  *
- * Calls that answer through a pointer write there only where they answer true.
+ * Calls that answer through a pointer write there only where they answer true or SELLUMAQ_FOUND.
  */
 #ifndef SELLUMAQ_H
 #define SELLUMAQ_H
