@@ -103,7 +103,7 @@ impl Array {
     }
 
     /// A law of every array that a program holds: it is one of the definitions, its keys those of its kind, its
-    /// limit and values words, and no more keys than its limit. It answers nothing and reads each value, for a
+    /// limit and values words, and no more keys than its limit. It answers nothing and reads what it holds, for a
     /// caller whose proof is to know it.
     pub fn is_array(&self)
         ensures { IsArray (value_of self.now) }
