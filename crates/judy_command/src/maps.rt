@@ -1,4 +1,4 @@
-//! The commands that a judyl array has.
+//! The commands that a judyl array has; those of all arrays with values are in `values`.
 
 ghost use Rattle.std.specs.Prelude.{◌≡◌, Ok};
 ghost use Rattle.std.specs.FinMap.{get};

@@ -175,7 +175,8 @@ impl Groups {
         }
     }
 
-    // Puts a key in with the value 0, by one way down its group, where it is one to try so, and answers where it stands.
+    // Puts a key in with the value 0, by one way down its group, where `tries` says so and its length has a group, and
+    // answers where it stands.
     pub fn try_add(&mut self, alloc: Global, tries: bool, part: u64, key: &[u8]) -> Trial<Spot>
         requires group { IfSome (words_at self.old (get self.old.lengths.map (length key.now))) (λ words. map_len words.map < words.limit) }
         ensures tried { UnlessOpen result (IsTrue tries) }

@@ -27,6 +27,7 @@ abbrev pub free_or : Option ℕ → ℕ → ℕ → ℕ
 free_or None free end = end
 free_or (Some next) free end = free
 
+-- The same of an arena.
 abbrev pub next_place : Arena → ℕ
 next_place arena = free_or (get_or (links_of arena) arena.free None) arena.free (length arena.children.items)
 

@@ -1,6 +1,6 @@
-//! How an arena takes a new key. What is new is built beside the array, and its places are reserved; only then does the
-//! array change, and nothing of that can be refused. A new child takes the place that is free first; the list grows only
-//! where none is free.
+//! How an arena takes a new key. What is new is built beside the array, and its places are reserved; then comes at most
+//! one insert into a level of the array, the last step that can be refused; and then the new children are put in their
+//! places. A new child takes the place that is free first; the list grows only where none is free.
 
 ghost use Rattle.std.specs.Prelude.{ℕ, List, ◌≡◌, ◌≢◌, ◌+◌, ◌<◌, ◌≤◌, None, IfOk, OnOk, IfErr, OnErr, IsTrue, length, get_or, vec_len, vec_capacity};
 ghost use Rattle.std.specs.FinMap as map;

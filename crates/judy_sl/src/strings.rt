@@ -59,8 +59,8 @@ impl JudySl {
     /// and is never refused. What the caller leaves in the slot is then the key's value. (Manual: JSLI, JudySLIns.)
     ///
     /// `BadKey` where the bytes are no key. `Full` where they are an absent one and the array holds as many keys as its
-    /// limit (limit: this project's own). `NoMemory` only where they are an absent one and the array isn't full. Each
-    /// leaves the array as it was.
+    /// limit (both limits are this project's own). `NoMemory` only where they are an absent one and the array isn't full.
+    /// Each leaves the array as it was.
     pub fn ins(&mut self, key: &[u8]) -> Result<&mut u64, SlError>
         ensures* writes_back { sem 𝓛 (LendsIns self.entry key.now result) }
         ensures value { IfOk result (λ slot. Some slot.now ≡ map.get (array.ins self.old.map key.now) key.now) }

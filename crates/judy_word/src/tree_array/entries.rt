@@ -1,4 +1,4 @@
-//! The nearest keys and the n-th with their values, each in one way down the tree.
+//! The nearest keys and the n-th with their values, each in one way down the tree, and all of them one after another.
 
 ghost use Rattle.std.specs.Prelude.{◌≡◌, Some, IfSome, drop};
 ghost use Rattle.std.specs.FinMap as map;
@@ -13,7 +13,7 @@ use judy_leaf::Words;
 use judy_query::{Walk, entry_at_or_after, entry_at_or_before, entry_nth};
 
 impl<V: Words + Drop> TreeArray<V> {
-    /// The least key that isn't below a word, with its value, 0 where keys have no value.
+    /// The least key that isn't below a word, with its value, 0 where keys have no value; `None` where there is none.
     // Compiled into the caller, as the search is: the answer doesn't go through memory then.
     #[inline(always)]
     pub fn first_entry(&self, from: u64) -> Option<(u64, u64)>
@@ -24,7 +24,7 @@ impl<V: Words + Drop> TreeArray<V> {
         entry_at_or_after(&self.root, from, &mut Meter::new())
     }
 
-    /// The least key above it, with its value.
+    /// The least key above it, with its value, or `None`.
     // As `first_entry`.
     #[inline(always)]
     pub fn next_entry(&self, from: u64) -> Option<(u64, u64)>
@@ -39,7 +39,7 @@ impl<V: Words + Drop> TreeArray<V> {
         }
     }
 
-    /// The greatest key that isn't above it, with its value.
+    /// The greatest key that isn't above it, with its value, or `None`.
     pub fn last_entry(&self, from: u64) -> Option<(u64, u64)>
         ensures key { option_map (λ entry. entry.0) result ≡ neighbours.last (map_in self.now) from }
         ensures value { IfSome result (λ entry. map.get (map_in self.now) entry.0 ≡ Some entry.1) }
@@ -48,7 +48,7 @@ impl<V: Words + Drop> TreeArray<V> {
         entry_at_or_before(&self.root, from, &mut Meter::new())
     }
 
-    /// The greatest key below it, with its value.
+    /// The greatest key below it, with its value, or `None`.
     pub fn prev_entry(&self, from: u64) -> Option<(u64, u64)>
         ensures key { option_map (λ entry. entry.0) result ≡ neighbours.prev (map_in self.now) from }
         ensures value { IfSome result (λ entry. map.get (map_in self.now) entry.0 ≡ Some entry.1) }
