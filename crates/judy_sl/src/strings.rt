@@ -71,7 +71,7 @@ impl JudySl {
         ensures accepted { OnOk result (IsStringKey key.now × IsFalse (array.is_full self.old key.now)) }
         ensures refused { IfErr result (IsRefusal self.old key.now) }
     {
-        let tries = self.adds && self.count < self.limit;
+        let tries = self.adds & (self.count != self.limit);
         if ends_in_zero(key) {
             return Err(SlError::BadKey);
         }

@@ -45,6 +45,6 @@ pub returns-in-Err-clause-refused : goal.returns-in-Err-clause-refused
 returns-in-Err-clause-refused c =
     let added = sym c.in-Ok-true.field-0-test ∙ c.in-Ok-true.ensures.answer in
     let undone = c.del.ensures.deleted
-        ∙ ap (λ (made : ArrayOf word_order). with_map made (remove made.map c.first_piece-piece.result)) (c.in-Err.ensures.refused.0.root ∙ c.in-Ok-true.ensures.put)
-        ∙ ap (with_map c.args.self.now.root) (put-undone c.args.self.now.root.map c.first_piece-piece.result c.next_place-next.result added) in
+    ∙ ap (λ (made : ArrayOf word_order). with_map made (remove made.map c.first_piece-piece.result)) (c.in-Err.ensures.refused.0.root ∙ c.in-Ok-true.ensures.put)
+    ∙ ap (with_map c.args.self.now.root) (put-undone c.args.self.now.root.map c.first_piece-piece.result c.next_place-next.result added) in
     (record { root = undone; items = c.in-Err.ensures.refused.0.items }, c.in-Err.ensures.refused.1)
