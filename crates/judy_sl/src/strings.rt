@@ -22,6 +22,9 @@ pub struct JudySl {
     limit: u64,
     count: u64,
     pub(crate) arena: Arena,
+    // Whether the last insert put a key in whose first piece led nowhere. The next one is then tried as such a one, which finds its place and
+    // puts it in by one way down the first level.
+    adds: bool,
 }
 
 impl Model for JudySl {
@@ -52,6 +55,7 @@ impl JudySl {
             limit,
             count: 0,
             arena: Arena::new(alloc),
+            adds: true,
         }
     }
 
@@ -67,26 +71,38 @@ impl JudySl {
         ensures accepted { OnOk result (IsStringKey key.now × IsFalse (array.is_full self.old key.now)) }
         ensures refused { IfErr result (IsRefusal self.old key.now) }
     {
-        let arena = &self.arena;
+        let tries = self.adds & (self.count != self.limit);
         if ends_in_zero(key) {
             return Err(SlError::BadKey);
         }
-        match arena.walk(key) {
-            Way::At(place) => self.arena.ins(place),
-            way => {
-                if !is_key(key) {
-                    return Err(SlError::BadKey);
-                }
-                if self.count == self.limit {
-                    return Err(SlError::Full);
-                }
-                let made = match self.arena.add(key, way) {
-                    Ok(made) => made,
-                    Err(error) => return Err(error),
-                };
+        match self.arena.try_add(key, tries) {
+            Ok(Some(place)) => {
                 self.count += 1;
-                self.arena.ins(made)
+                self.arena.ins(place)
             }
+            Err(error) => Err(error),
+            Ok(None) => match self.arena.walk(key) {
+                Way::At(place) => {
+                    self.adds = false;
+                    self.arena.ins(place)
+                }
+                way => {
+                    if !is_key(key) {
+                        return Err(SlError::BadKey);
+                    }
+                    if self.count == self.limit {
+                        return Err(SlError::Full);
+                    }
+                    match self.arena.add(key, way) {
+                        Ok(made) => {
+                            self.count += 1;
+                            self.adds = way.ends_first();
+                            self.arena.ins(made)
+                        }
+                        Err(error) => Err(error),
+                    }
+                }
+            },
         }
     }
 
