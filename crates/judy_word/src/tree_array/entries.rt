@@ -78,7 +78,7 @@ impl<V: Words + Drop> TreeArray<V> {
         ensures { result ≡ map.entries (map_in self.now) }
     {
         self.root.told();
-        Walk::from_key(&self.root, 0)
+        Walk::from_key(&self.root, 0, &mut Meter::new())
     }
 
     /// The same from the first key that isn't below a word.
@@ -86,6 +86,6 @@ impl<V: Words + Drop> TreeArray<V> {
         ensures { result ≡ drop (counts.rank (map_in self.now) from) (map.entries (map_in self.now)) }
     {
         self.root.told();
-        Walk::from_key(&self.root, from)
+        Walk::from_key(&self.root, from, &mut Meter::new())
     }
 }
