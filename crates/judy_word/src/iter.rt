@@ -5,45 +5,19 @@ ghost use Rattle.judy_model.specs.Counts as counts;
 
 use crate::judy1::Judy1;
 use crate::judyl::JudyL;
-use judy_bits::Meter;
+use crate::tree_array::TreeEntries;
 use judy_leaf::Width;
-use judy_query::Walk;
 use std::fmt::{Debug, Formatter, Result, Write};
 use std::iter::{IntoIterator, Iterator};
 use std::marker::Model;
 
-/// The keys of a map with their values that are still to come, by ascending key: to its callers it is their list.
-#[derive(Drop)]
-pub struct Entries<'a> {
-    pub(crate) walk: Walk<'a, Width<1>>,
-}
-
-impl<'a> Model for Entries<'a> {
-    ghost use Rattle.std.specs.Prelude.{ℕ, List};
-
-    ghost Value = { List (ℕ × ℕ) };
-
-    ghost view = { λ a. a.walk };
-}
-
-impl<'a> Iterator for Entries<'a> {
-    ghost use Rattle.std.specs.Iterator.{YieldsFirst, item_count};
-
-    type Item = (u64, u64);
-
-    ghost next_gives = { YieldsFirst (λ entries. entries) };
-
-    ghost remaining = { item_count (λ entries. entries) };
-
-    fn next(&mut self) -> Option<(u64, u64)> {
-        self.walk.next(&mut Meter::new())
-    }
-}
+/// The keys of a map with their values that are still to come, by ascending key.
+pub type Entries<'a> = TreeEntries<'a, Width<1>>;
 
 /// The keys of a set that are still to come, by ascending order: to its callers it is their list.
 #[derive(Drop)]
 pub struct Keys<'a> {
-    pub(crate) walk: Walk<'a, Width<0>>,
+    entries: TreeEntries<'a, Width<0>>,
 }
 
 impl<'a> Model for Keys<'a> {
@@ -52,7 +26,7 @@ impl<'a> Model for Keys<'a> {
 
     ghost Value = { List ℕ };
 
-    ghost view = { λ a. keys_of a.walk };
+    ghost view = { λ a. keys_of a.entries };
 }
 
 impl<'a> Iterator for Keys<'a> {
@@ -65,7 +39,7 @@ impl<'a> Iterator for Keys<'a> {
     ghost remaining = { item_count (λ keys. keys) };
 
     fn next(&mut self) -> Option<u64> {
-        let (key, _) = self.walk.next(&mut Meter::new())?;
+        let (key, _) = self.entries.next()?;
         Some(key)
     }
 }
@@ -76,7 +50,7 @@ impl Judy1 {
         ensures { result ≡ map.keys self.now.map }
     {
         Keys {
-            walk: self.tree().iter(),
+            entries: self.tree().iter(),
         }
     }
 
@@ -85,7 +59,7 @@ impl Judy1 {
         ensures { result ≡ drop (counts.rank self.now.map i) (map.keys self.now.map) }
     {
         Keys {
-            walk: self.tree().iter_from(i),
+            entries: self.tree().iter_from(i),
         }
     }
 }
@@ -96,18 +70,14 @@ impl JudyL {
     pub fn iter(&self) -> Entries<'_>
         ensures { result ≡ map.entries self.now.map }
     {
-        Entries {
-            walk: self.tree().iter(),
-        }
+        self.tree().iter()
     }
 
     /// The same from the first key that isn't below `i`.
     pub fn iter_from(&self, i: u64) -> Entries<'_>
         ensures { result ≡ drop (counts.rank self.now.map i) (map.entries self.now.map) }
     {
-        Entries {
-            walk: self.tree().iter_from(i),
-        }
+        self.tree().iter_from(i)
     }
 }
 

@@ -21,4 +21,4 @@ pub use error::InsertError;
 pub use iter::{Entries, Keys};
 pub use judy1::Judy1;
 pub use judyl::JudyL;
-pub use tree_array::TreeArray;
+pub use tree_array::{TreeArray, TreeEntries};

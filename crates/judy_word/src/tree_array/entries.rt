@@ -11,6 +11,37 @@ use crate::tree_array::TreeArray;
 use judy_bits::Meter;
 use judy_leaf::Words;
 use judy_query::{Walk, entry_at_or_after, entry_at_or_before, entry_nth};
+use std::iter::Iterator;
+use std::marker::Model;
+
+/// The keys of an array that are still to come, by ascending key, each with its value, 0 where keys have no value: to its callers it is
+/// their list. A step to the next key begins where the last one ended, not at the root.
+#[derive(Drop)]
+pub struct TreeEntries<'a, V: Words + Drop> {
+    walk: Walk<'a, V>,
+}
+
+impl<'a, V: Words + Drop> Model for TreeEntries<'a, V> {
+    ghost use Rattle.std.specs.Prelude.{ℕ, List};
+
+    ghost Value = { List (ℕ × ℕ) };
+
+    ghost view = { λ a. a.walk };
+}
+
+impl<'a, V: Words + Drop> Iterator for TreeEntries<'a, V> {
+    ghost use Rattle.std.specs.Iterator.{YieldsFirst, item_count};
+
+    type Item = (u64, u64);
+
+    ghost next_gives = { YieldsFirst (λ entries. entries) };
+
+    ghost remaining = { item_count (λ entries. entries) };
+
+    fn next(&mut self) -> Option<(u64, u64)> {
+        self.walk.next(&mut Meter::new())
+    }
+}
 
 impl<V: Words + Drop> TreeArray<V> {
     /// The least key that isn't below a word, with its value, 0 where keys have no value; `None` where there is none.
@@ -74,18 +105,22 @@ impl<V: Words + Drop> TreeArray<V> {
     }
 
     /// All keys by ascending order, each with its value, one after another.
-    pub fn iter(&self) -> Walk<'_, V>
+    pub fn iter(&self) -> TreeEntries<'_, V>
         ensures { result ≡ map.entries (map_in self.now) }
     {
         self.root.told();
-        Walk::from_key(&self.root, 0, &mut Meter::new())
+        TreeEntries {
+            walk: Walk::from_key(&self.root, 0, &mut Meter::new()),
+        }
     }
 
     /// The same from the first key that isn't below a word.
-    pub fn iter_from(&self, from: u64) -> Walk<'_, V>
+    pub fn iter_from(&self, from: u64) -> TreeEntries<'_, V>
         ensures { result ≡ drop (counts.rank (map_in self.now) from) (map.entries (map_in self.now)) }
     {
         self.root.told();
-        Walk::from_key(&self.root, from, &mut Meter::new())
+        TreeEntries {
+            walk: Walk::from_key(&self.root, from, &mut Meter::new()),
+        }
     }
 }
