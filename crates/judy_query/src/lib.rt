@@ -6,8 +6,7 @@
 //!
 //! Each call goes down the tree once, or, for a neighbour, once and then once more from a branch that it remembers; so it enters at
 //! most 8 nodes, or 16, whatever the tree, loose ones too. Each is a loop over branches and one look at the node below them. None asks
-//! for memory. The visits are counted on the caller's [`judy_bits::Meter`], and no call that is lent one makes another; a [`Walk`] is
-//! lent none, and nobody is told how many nodes it enters.
+//! for memory. The visits are counted on the caller's [`judy_bits::Meter`], those of a [`Walk`] too, and none makes a meter of its own.
 //!
 //! values.rt has the value of a key, counts.rt how many keys are below a word, places.rt the key at a place, after.rt and before.rt the
 //! nearest keys, turns.rt where the search for one of these turns off the key's way. empties.rt has the nearest words that are no keys,

@@ -21,8 +21,8 @@ use judy_node::{NodeOf, Step, ViewOf};
 use std::marker::Model;
 
 /// The pairs of a tree that are still to come, by ascending key: each is a key with its value, 0 where keys have no values. A step
-/// inside a node enters none, and a step to another one enters the nodes between the branch that both are below and that node. It is
-/// lent no meter: its visits go to meters that nobody reads. To its callers it is the list of those pairs.
+/// inside a node enters none, and a step to another one enters the nodes between the branch that both are below and that node. To its
+/// callers it is the list of those pairs.
 #[derive(Drop)]
 pub struct Walk<'a, V: Words + Drop> {
     stretch: Stretch<'a, V>,
