@@ -1,23 +1,20 @@
 -- The entries of a map of strings, one after another by `first` and `next`, and lists whose items are written in turn.
-use Rattle.std.proofs.Common.{◌≡◌, ℕ, zero, suc, ◌-◌, ◌^◌, ◌<◌, Bool, true, false, cond, List, [], ◌∷◌, ◌++◌, length, take, drop, filter, slice_get, Option, Some, None, option_map, unwrap_or, refl, sym, ap, subst, ◌∙◌, append_assoc, append-nil, arith, ◌==◌, ltb, Less, Equal, Greater}
+use Rattle.std.proofs.Common.{◌≡◌, ℕ, zero, suc, ◌-◌, ◌<◌, List, [], ◌∷◌, ◌++◌, length, take, drop, filter, slice_get, Option, Some, None, option_map, unwrap_or, refl, sym, ap, subst, ◌∙◌, append_assoc, append-nil, arith}
 use Rattle.std.specs.List.{flat_map}
-use Rattle.std.specs.Cmp.{IsTotalOrder, nat_cmp_total, tied_itself}
+use Rattle.std.specs.Cmp.{IsTotalOrder, tied_itself}
 use Rattle.std.specs.Cmp.Lexicographic.{nat_list_cmp_total}
 use Rattle.std.specs.declared.cmp.Ordering.{Ordering}
-use Rattle.std.specs.Ordering.{nat_cmp, is_lt, is_gt}
-use Rattle.std.specs.FinMap.{FinMap, keys, entries, entries_sorted, contains_key, get, get-entries, nat_cmp-IsAntisymmetric}
-use Rattle.std.proofs.lemmas.Bool.{le-ltb, ltb-false, eqb-false, and_parts}
+use Rattle.std.specs.Ordering.{is_lt}
+use Rattle.std.specs.FinMap.{FinMap, keys, entries, entries_sorted, get, get-entries}
 use Rattle.std.proofs.lemmas.List.{take-append-drop}
 use Rattle.std.proofs.lemmas.Grind.{flat_map-append}
 use Rattle.std.proofs.lemmas.Option.{slice_get-map, slice_get_within, get_or_from_slice_get}
-use Rattle.judy_model.specs.Keys.{word_order, byte_order}
+use Rattle.judy_model.specs.Keys.{byte_order}
 use Rattle.judy_model.specs.Neighbours.{first, next}
 use Rattle.judy_model.specs.Counts.{rank}
-use Rattle.judy_model.specs.Nearest.{IsNext}
 use Rattle.judy_model.proofs.RankLemmas.{first-slice_get, next-slice_get, count_up_to_at, rank_at}
 use Rattle.std.proofs.lemmas.Option.{same_Some}
 use Rattle.judy_sl.specs.Scans.{value_found}
-use Rattle.judy_model.proofs.NearestLemmas.{next-IsNext}
 use Rattle.judy_model.proofs.Pairs.{find-at}
 use Rattle.judy_pipe.specs.Pipe.{grown}
 use Rattle.judy_shelf.specs.Writes.{Sunk, WroteAll, WroteFront}
