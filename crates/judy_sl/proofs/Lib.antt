@@ -25,7 +25,6 @@ pub mod Filled
 pub mod Cuts
 pub mod Shrinks
 pub mod Tailed
-pub mod TrialLemmas
 pub mod Tried
 pub mod ScanMaps
 pub mod Inserted

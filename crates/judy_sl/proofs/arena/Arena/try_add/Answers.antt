@@ -6,7 +6,7 @@ use Rattle.judy_model.specs.Keys.{word_order}
 use Rattle.judy_model.specs.Arrays.{ArrayOf, with_map}
 use Rattle.judy_sl.proofs.Rooms.{room-in_first}
 use Rattle.judy_sl.proofs.Tried.{first-absent, first-added}
-use Rattle.judy_sl.proofs.TrialLemmas.{put-absent, put-new, put-undone}
+use Rattle.judy_word.proofs.TrialLemmas.{put-absent, put-new, put-undone}
 use Rattle.judy_sl.proofs.arena.Arena.try_add.Goals as goal
 
 pub unreachable-requires : goal.unreachable-requires
