@@ -232,6 +232,8 @@ Word_t JudyHSFreeArray(PPvoid_t array, PJError_t error) {
 }
 
 PPvoid_t JudyHSGet(Pcvoid_t array, void *bytes, Word_t length) {
+    /* The call has nowhere to put an error. */
+    if (!bytes && length) return NULL;
     sellumaq_judyhs map = {(void *)array};
     uint64_t *slot;
     return sellumaq_judyhs_slot(&map, bytes_at(bytes), length, &slot) ? (PPvoid_t)slot : NULL;

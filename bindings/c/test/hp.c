@@ -107,6 +107,7 @@ static void byte_strings(void) {
     JHSG(slot, map, bytes, 1024); CHECK(*slot == 2);
     JHSG(slot, map, NULL, 0); CHECK(*slot == 3);
     JHSG(slot, map, bytes, 1025); CHECK(slot == NULL);
+    JHSG(slot, map, NULL, 1); CHECK(slot == NULL);
     JHSD(found, map, bytes, 1025); CHECK(found == 0);
     JHSD(found, map, bytes, 4); CHECK(found == 1);
     JHSD(found, map, bytes, 4); CHECK(found == 0);

@@ -60,7 +60,7 @@ macro_rules! keyed_map {
             /// The value of a key, to read and to change; the key is put in with the value 0 where it is absent.
             pub fn slot(&mut self, key: impl AsRef<[u8]>) -> Result<&mut u64, InsertError> {
                 let (key, mut slot) = (key.as_ref(), std::ptr::null_mut());
-                // SAFETY: a slot lives until the map is changed, which the reference, borrowed of the map, outlives never.
+                // SAFETY: a slot lives until the map is changed, and the reference, which is borrowed of the map, ends before that.
                 match unsafe { $calls::ins(&mut self.handle, key.as_ptr(), key.len(), &mut slot) } {
                     sys::FOUND => Ok(unsafe { &mut *slot }),
                     sys::FULL => Err(InsertError::Full),

@@ -46,7 +46,7 @@ impl JudyL {
     /// The value of a key, to read and to change; the key is put in with the value 0 where it is absent.
     pub fn slot(&mut self, key: u64) -> Result<&mut u64, NoMemory> {
         let mut slot = null_mut();
-        // SAFETY: a slot lives until the map is changed, which the reference, borrowed of the map, outlives never.
+        // SAFETY: a slot lives until the map is changed, and the reference, which is borrowed of the map, ends before that.
         match unsafe { judyl::ins(&mut self.handle, key, &mut slot) } {
             true => Ok(unsafe { &mut *slot }),
             false => Err(NoMemory),

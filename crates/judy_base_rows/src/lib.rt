@@ -1,7 +1,7 @@
 //! Tests of the lowest crates by their public calls: sets of bytes, blocks of words, and pipes that meet trouble.
 //!
-//! The crate stands on top of those and has no code of its own. They are proved once so: a crate with tests of its own would be proved
-//! again with them.
+//! The crate stands on top of those and has no code of its own. So each of them is proved once: a crate with tests of its own would be
+//! proved again with them.
 #![tactic(auto)]
 
 #[cfg(test)]

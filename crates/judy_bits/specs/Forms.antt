@@ -1,4 +1,4 @@
--- The form of a set of bytes.
+-- The form of a set of bytes. (This project's own; the limits are those of a branch's children in judy_model's Forms.antt.)
 use Rattle.std.specs.Prelude.{ℕ, nat_le, if◌then◌else◌}
 use Rattle.judy_bits.specs.declared.form.Form.{Form}
 use Rattle.judy_bits.specs.declared.form.Form.TheVariants.{Linear, Bitmap, Full}

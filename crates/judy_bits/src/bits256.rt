@@ -57,21 +57,21 @@ impl Bits256 {
         self.by_ref().has(byte)
     }
 
-    /// Makes the byte a member.
+    /// Makes the byte a member; one that is a member changes nothing.
     pub fn add(&mut self, byte: u8)
         ensures { self.new ≡ set.with_byte self.old byte }
     {
         self.words[(byte / 64) as usize] |= 1 << (byte % 64);
     }
 
-    /// Takes the byte out, where it is a member.
+    /// Takes the byte out; a byte that is no member changes nothing.
     pub fn take(&mut self, byte: u8)
         ensures { self.new ≡ set.without_byte self.old byte }
     {
         self.words[(byte / 64) as usize] &= !(1 << (byte % 64));
     }
 
-    /// A law without a body: the members ascend, and all are bytes.
+    /// A law, told by a call that does nothing: the members ascend, and all are bytes.
     pub fn told(&self)
         ensures { IsByteSet self.now }
     {
@@ -102,35 +102,35 @@ impl Bits256 {
         self.by_ref().place(byte)
     }
 
-    /// The member at a place, counted from 0.
+    /// The member at a place, counted from 0; none from the number of members on.
     pub fn nth(&self, at: usize) -> Option<u8>
         ensures { result ≡ set.nth self.now at }
     {
         self.by_ref().nth(at)
     }
 
-    /// The nearest byte at or above the given one that is no member.
+    /// The nearest byte at or above the given one that is no member; none where all of these are members.
     pub fn next_absent(&self, byte: u8) -> Option<u8>
         ensures { result ≡ set.next_absent self.now byte }
     {
         self.by_ref().next_absent(byte)
     }
 
-    /// The nearest byte at or below the given one that is no member.
+    /// The nearest byte at or below the given one that is no member; none where all of these are members.
     pub fn prev_absent(&self, byte: u8) -> Option<u8>
         ensures { result ≡ set.prev_absent self.now byte }
     {
         self.by_ref().prev_absent(byte)
     }
 
-    /// The nearest member at or above the byte.
+    /// The nearest member at or above the byte; none where all are below.
     pub fn next_from(&self, byte: u8) -> Option<u8>
         ensures { result ≡ set.next_from self.now byte }
     {
         self.by_ref().next_from(byte)
     }
 
-    /// The nearest member at or below the byte.
+    /// The nearest member at or below the byte; none where all are above.
     pub fn prev_from(&self, byte: u8) -> Option<u8>
         ensures { result ≡ set.prev_from self.now byte }
     {

@@ -39,7 +39,7 @@ fn ones_before(words: &[u64], word: usize) -> u32
 }
 
 impl<'a> BitsRef<'a> {
-    /// The set of the bytes whose bit is 1 in four words.
+    /// The set of the bytes whose bit is 1 in four words; no other number of words is taken.
     pub fn of_words(words: &'a [u64]) -> BitsRef<'a>
         requires { length words.now ≡ 4 }
         ensures { result ≡ members_of words.now }
@@ -74,7 +74,7 @@ impl<'a> BitsRef<'a> {
         }
     }
 
-    /// The member at a place, counted from 0.
+    /// The member at a place, counted from 0; none from the number of members on.
     pub fn nth(&self, at: usize) -> Option<u8>
         ensures { result ≡ set.nth self.now at }
     {
@@ -100,21 +100,21 @@ impl<'a> BitsRef<'a> {
         Bits256::of_words([first, second, third, fourth])
     }
 
-    /// The nearest byte at or above the given one that is no member.
+    /// The nearest byte at or above the given one that is no member; none where all of these are members.
     pub fn next_absent(&self, byte: u8) -> Option<u8>
         ensures { result ≡ set.next_absent self.now byte }
     {
         self.absent().next_from(byte)
     }
 
-    /// The nearest byte at or below the given one that is no member.
+    /// The nearest byte at or below the given one that is no member; none where all of these are members.
     pub fn prev_absent(&self, byte: u8) -> Option<u8>
         ensures { result ≡ set.prev_absent self.now byte }
     {
         self.absent().prev_from(byte)
     }
 
-    /// The nearest member at or above the byte.
+    /// The nearest member at or above the byte; none where all are below.
     // Mostly it stands in the byte's own word, and no other is looked at.
     pub fn next_from(&self, byte: u8) -> Option<u8>
         ensures { result ≡ set.next_from self.now byte }
@@ -131,7 +131,7 @@ impl<'a> BitsRef<'a> {
         None
     }
 
-    /// The nearest member at or below the byte.
+    /// The nearest member at or below the byte; none where all are above.
     pub fn prev_from(&self, byte: u8) -> Option<u8>
         ensures { result ≡ set.prev_from self.now byte }
     {

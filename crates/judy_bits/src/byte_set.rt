@@ -97,7 +97,7 @@ impl ByteSet {
         }
     }
 
-    /// The nearest byte at or above the given one that is no member.
+    /// The nearest byte at or above the given one that is no member; none where all of these are members.
     pub fn next_absent(&self, byte: u8) -> Option<u8>
         ensures { result ≡ set.next_absent self.now byte }
     {
@@ -108,7 +108,7 @@ impl ByteSet {
         }
     }
 
-    /// The nearest byte at or below the given one that is no member.
+    /// The nearest byte at or below the given one that is no member; none where all of these are members.
     pub fn prev_absent(&self, byte: u8) -> Option<u8>
         ensures { result ≡ set.prev_absent self.now byte }
     {
@@ -119,7 +119,7 @@ impl ByteSet {
         }
     }
 
-    /// The nearest member at or above the byte.
+    /// The nearest member at or above the byte; none where all are below.
     pub fn next_from(&self, byte: u8) -> Option<u8>
         ensures { result ≡ set.next_from self.now byte }
     {
@@ -130,7 +130,7 @@ impl ByteSet {
         }
     }
 
-    /// The nearest member at or below the byte.
+    /// The nearest member at or below the byte; none where all are above.
     pub fn prev_from(&self, byte: u8) -> Option<u8>
         ensures { result ≡ set.prev_from self.now byte }
     {
@@ -141,7 +141,7 @@ impl ByteSet {
         }
     }
 
-    /// The member at a place, counted from 0.
+    /// The member at a place, counted from 0; none from the number of members on.
     pub fn nth(&self, at: usize) -> Option<u8>
         ensures { result ≡ set.nth self.now at }
     {
@@ -152,14 +152,14 @@ impl ByteSet {
         }
     }
 
-    /// Makes the byte a member.
+    /// Makes the byte a member; one that is a member changes nothing.
     pub fn add(&mut self, byte: u8)
         ensures { self.new ≡ set.with_byte self.old byte }
     {
         add_to(&mut self.members, byte);
     }
 
-    /// Takes the byte out, where it is a member.
+    /// Takes the byte out; a byte that is no member changes nothing.
     pub fn take(&mut self, byte: u8)
         ensures { self.new ≡ set.without_byte self.old byte }
     {

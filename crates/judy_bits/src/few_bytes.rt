@@ -1,4 +1,4 @@
-//! A set of at most seven bytes in one word.
+//! A set of at most seven bytes, in eight bytes with their count.
 
 ghost use Rattle.std.specs.Prelude.{◌≡◌, ◌≢◌, ℕ, ◌-◌, ◌<◌, ◌≤◌, [], ◌∷◌, ◌++◌, length, take, drop, slice_index};
 ghost use Rattle.std.specs.List.{remove};
@@ -112,7 +112,7 @@ impl FewBytes {
         }
     }
 
-    /// The member at a place, counted from 0.
+    /// The member at a place, counted from 0; none from the number of members on.
     pub(crate) fn nth(&self, at: usize) -> Option<u8>
         ensures { result ≡ set.nth self.now at }
     {
@@ -123,7 +123,7 @@ impl FewBytes {
         }
     }
 
-    /// The nearest member at or above the byte.
+    /// The nearest member at or above the byte; none where all are below.
     pub(crate) fn next_from(&self, byte: u8) -> Option<u8>
         ensures { result ≡ set.next_from self.now byte }
     {

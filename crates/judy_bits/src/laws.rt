@@ -1,5 +1,5 @@
 //! Laws of sets of bytes, for those who cite the definitions of this crate. Each is the contract of a function
-//! without a body, so that the check proves it; no program calls these.
+//! with an empty body, so that the check proves it; no program calls these.
 
 ghost use Rattle.std.specs.Prelude.{◌≡◌, ◌↔◌, ◌==◌, ◌-◌, ◌+◌, ◌<◌, ◌&&◌, ◌||◌, not, if◌then◌else◌, IsFalse, ℕ, List, [], length, Some};
 ghost use Rattle.judy_model.specs.Keys.{word_order};

@@ -1,14 +1,16 @@
 //! The small tools of the tree: the bytes of a word, sets of bytes, skipped bytes and the meter of visits. None
 //! of them takes memory.
 //!
-//! Both sets, `Bits256` and `ByteSet`, have one model, the list of their members in ascending order; what each
-//! call answers and leaves is a definition over that list, in specs/ByteSets.antt, and laws.rt says what follows
-//! for those who cite these. A `Skip` is the list of its bytes, and a `Meter` a number. The bytes of a word and
+//! All sets have one model, the list of their members in ascending order; what each call answers and leaves is a
+//! definition over that list, in specs/ByteSets.antt, and laws.rt says what follows for those who cite these. A
+//! [`Skip`] is the list of its bytes, and a [`Meter`] a number. The definitions of a word's bytes (word.rt) and
 //! their laws are judy_model's, since strings and formats speak of them too.
 //!
-//! What lies below shows in no contract: four words of bits (bits256.rt, and to read them bits_ref.rt, by the steps on one word of bits.rt), and
-//! up to seven bytes in a word (few_bytes.rt). A `ByteSet` is one or the other by its number of members. The
-//! crate stands on judy_model, and the leaves and nodes of the tree stand on it.
+//! A [`Bits256`] is four words of bits (bits256.rt), and a [`BitsRef`] reads four words that stand elsewhere
+//! (bits_ref.rt), both by the steps on one word in bits.rt; specs/BitWords.antt says which members four words
+//! have. A [`ByteSet`] (byte_set.rt) shows no words: it is up to seven bytes (few_bytes.rt) or bits, and its
+//! [`Form`] (form.rt) follows from the number of its members. The crate stands on judy_model, and the crates of the
+//! tree stand on it.
 #![tactic(auto)]
 
 mod bits;

@@ -80,7 +80,7 @@ impl Block {
         self.cells.front_mut(1)[0] = header.bits;
     }
 
-    /// The word at place `i`.
+    /// The word at place `i`, which is below the number of words.
     pub fn get(&self, i: usize) -> u64
         requires { i < length self.now.words }
         ensures { result ≡ slice_index self.now.words i }
@@ -88,7 +88,7 @@ impl Block {
         self.words()[i]
     }
 
-    /// Writes the word at place `i`, and changes nothing else.
+    /// Writes the word at place `i`, which is below the number of words, and changes nothing else.
     pub fn put(&mut self, i: usize, word: u64)
         requires { i < length self.old.words }
         ensures { self.new ≡ record self.old { words = slice_set self.old.words i word } }
@@ -96,7 +96,7 @@ impl Block {
         *self.slot(i) = word;
     }
 
-    /// Lends the word at place `i`; nothing else changes.
+    /// Lends the word at place `i`, which is below the number of words; nothing else changes.
     #[tactic(auto, using(crate::proofs::Writes::word_written, crate::proofs::Writes::word_read))]
     pub fn slot(&mut self, i: usize) -> &mut u64
         requires { i < length self.old.words }
@@ -156,6 +156,7 @@ impl Block {
         cells[1..].copy_from_slice(words);
     }
 
+    // The header, whose parts are the number of words, the capacity and the tag.
     fn header(&self) -> Header
         ensures used { used_of result.bits ≡ length self.now.words }
         ensures capacity { capacity_of result.bits ≡ self.now.capacity }

@@ -4,11 +4,13 @@
 ghost use Rattle.std.specs.Prelude.{◌≡◌, ◌<◌, ◌≤◌, ◌^◌};
 ghost use Rattle.judy_block.specs.Layout.{used_of, capacity_of, tag_of};
 
-// One of the capacity, and one of the tag.
+// One of the capacity.
 const CAPACITY: u64 = 1 << 16;
 
+// One of the tag.
 const TAG: u64 = 1 << 32;
 
+// The word, whose parts are read from it.
 #[derive(Clone, Copy)]
 pub(crate) struct Header {
     pub(crate) bits: u64,

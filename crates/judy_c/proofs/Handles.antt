@@ -27,6 +27,6 @@ null_map m (Some array) none = tt
 pub nothing_deleted : (m : FinMap word_order ℕ) (key : ℕ) → m ≡ map.empty → m ≡ array.del m key
 nothing_deleted m key is = sym (remove_absent nat_cmp_total nat_cmp-IsAntisymmetric m key (ap (λ n. map.get n key) is ∙ get-empty word_order key))
 
--- a handle that holds none stands for no key
+-- and so no key is there
 pub null_has_none : (o : Option (ArrayOf word_order)) (key : ℕ) → o ≡ None → IsFalse (map.contains_key (array_of o).map key)
 null_has_none o key is = ap (λ (n : Option (ArrayOf word_order)). map.contains_key (array_of n).map key) is ∙ ap is_some (get-empty word_order key)

@@ -1,4 +1,5 @@
--- The call of `hand_out`, for a walk of a call of C that hands out a slot. The machine has the slot, or none, in one word of the type `Found`. Assumes `Logic`.
+-- The call of `hand_out`, for a walk of a call of C that hands out a slot. The machine has the slot, or none, in one word of the type
+-- `Found`. Assumes `Logic`.
 use Rattle.std.proofs.Common.{◌≡◌, ℕ, Bool, Option, Some, None, List, [], ◌∷◌, refl, ap, ◌∙◌, MutBor}
 use lib.Dec.{T}
 use base.Logic.{id⊢}

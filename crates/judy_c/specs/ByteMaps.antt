@@ -1,4 +1,4 @@
--- The array over byte strings that a handle stands for.
+-- The array over byte strings that a handle stands for: where it holds none, the empty one that may hold the most keys.
 use Rattle.judy_c.specs.declared.bytes.Bytes.{Bytes}
 use Rattle.judy_c.specs.StringMaps.{array_of}
 use Rattle.judy_model.specs.Keys.{byte_order}

@@ -20,6 +20,7 @@ pub record Room : Type 0 where
   pub count : ℕ
   pub value : ℕ
 
+-- That string.
 abbrev pub start : Room → List ℕ
 start room = take room.count room.buffer
 

@@ -15,10 +15,11 @@ abbrev pub array_of : Option (ArrayOf word_order) → ArrayOf word_order
 array_of None = unbounded
 array_of (Some array) = array
 
+-- The map of a handle.
 abbrev pub map_of : Map → FinMap word_order ℕ
 map_of handle = (array_of handle.array).map
 
--- A set is the map whose every value is 0.
+-- The set of a handle, as the map whose every value is 0.
 abbrev pub set_of : Set → FinMap word_order ℕ
 set_of handle = (array_of handle.array).map
 

@@ -15,6 +15,7 @@ use Rattle.judy_hs.specs.contracts.bytes.JudyHs as judyhs
 use Rattle.judy_hs.specs.contracts.hash.Eights as eights
 use Rattle.judy_hs.specs.contracts.hash.EightsByteHash.TheImpl as hash
 
+-- The heap that the boxes are from.
 abbrev pub heap : Global
 heap = record { memory = record { seal = tt } }
 
@@ -25,18 +26,21 @@ held R null_ptr (Some x) = ffalse
 held R (block_ptr b o) None = ffalse
 held R (block_ptr b o) (Some x) = box_owns (ghosts.dealloc_token heap) R (block_ptr b o) x
 
+-- Of a map from words: what its handle owns, and the code of what it holds.
 abbrev pub held_judyl : Ptr → Option judyl.the_row.Denot → Fml
 held_judyl = held judyl.the_row
 
 abbrev pub map_coded : Coded (Option judyl.the_row.Denot)
 map_coded = coded_option judyl.the_row.coded
 
+-- The same of a set.
 abbrev pub held_judy1 : Ptr → Option judy1.the_row.Denot → Fml
 held_judy1 = held judy1.the_row
 
 abbrev pub set_coded : Coded (Option judy1.the_row.Denot)
 set_coded = coded_option judy1.the_row.coded
 
+-- The same of a map from strings.
 abbrev pub held_judysl : Ptr → Option judysl.the_row.Denot → Fml
 held_judysl = held judysl.the_row
 
@@ -47,6 +51,7 @@ strings_coded = coded_option judysl.the_row.coded
 abbrev pub judyhs_row : RattleType
 judyhs_row = judyhs.the_row eights.the_row hash.ghosts
 
+-- The same of a map from byte strings.
 abbrev pub held_judyhs : Ptr → Option judyhs_row.Denot → Fml
 held_judyhs = held judyhs_row
 

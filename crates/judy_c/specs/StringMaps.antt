@@ -9,5 +9,6 @@ abbrev pub array_of : Option (ArrayOf byte_order) → ArrayOf byte_order
 array_of None = empty_array 4294967295
 array_of (Some array) = array
 
+-- The array of a handle.
 abbrev pub array_in : Strings → ArrayOf byte_order
 array_in handle = array_of handle.array

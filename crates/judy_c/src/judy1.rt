@@ -207,7 +207,7 @@ pub extern "C" fn sellumaq_judy1_len(alloc: Global, handle: &mut Set) -> u64
     }
 }
 
-/// How many keys there are from one word to another, both included; 0 where the first is above the second. (Manual: JLC,
+/// How many keys there are from one word to another, both included; 0 where the first is above the second. (Manual: J1C,
 /// Judy1Count.)
 #[unsafe(no_mangle)]
 pub extern "C" fn sellumaq_judy1_count(alloc: Global, handle: &mut Set, from: u64, to: u64) -> u64
@@ -220,7 +220,7 @@ pub extern "C" fn sellumaq_judy1_count(alloc: Global, handle: &mut Set, from: u6
     }
 }
 
-/// The n-th key, counted from 1. (Manual: J1BC, Judy1ByCount.)
+/// The n-th key in ascending order, counted from 1. (Manual: J1BC, Judy1ByCount.)
 #[unsafe(no_mangle)]
 pub extern "C" fn sellumaq_judy1_by_count(
     alloc: Global,

@@ -1,7 +1,8 @@
 //! The calls of C on maps from byte strings to words.
 //!
 //! C knows a map by its handle, one word (bytes.rt); a handle of zeros is the map without keys. Each call answers what the
-//! call of `judy_hs::JudyHs` of the same name does for that map. A key is a pointer and a length.
+//! call of `judy_hs::JudyHs` of the same name does for that map. A key is a pointer and a length. A call that may have no answer
+//! tells it through its last parameter, where it answers true or `FOUND`, and leaves that alone else.
 
 ghost use Rattle.std.specs.Prelude.{◌≡◌, None};
 ghost use Rattle.std.specs.FinMap as map;

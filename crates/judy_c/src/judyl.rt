@@ -257,7 +257,7 @@ pub extern "C" fn sellumaq_judyl_count(alloc: Global, handle: &mut Map, from: u6
     }
 }
 
-/// The n-th key, counted from 1. (Manual: JLBC, JudyLByCount.)
+/// The n-th key in ascending order, counted from 1. (Manual: JLBC, JudyLByCount.)
 #[unsafe(no_mangle)]
 pub extern "C" fn sellumaq_judyl_by_count(
     alloc: Global,

@@ -1,7 +1,12 @@
 //! The calls of C on maps from strings to words.
 //!
 //! C knows a map by its handle, one word (strings.rt); a handle of zeros is the map without keys. Each call answers what the
-//! call of `judy_sl::JudySl` of the same name does for that map. A key is a pointer and a length.
+//! call of `judy_sl::JudySl` of the same name does for that map. A key is a pointer and a length. A call that may have no answer
+//! tells it through its last parameter, where it answers true or `FOUND`, and leaves that alone else.
+//!
+//! A scan begins at the string in a buffer of the caller's, of so many bytes as the count says, and answers `FOUND` with the key
+//! there, its length in the count and its value; or `NONE` where there is no such key, `BAD_KEY` where the buffer holds no such
+//! string or the count is above its length, or `TOO_SMALL` where the key doesn't fit: then buffer, count and value stay.
 
 ghost use Rattle.std.specs.Prelude.{◌≡◌, None};
 ghost use Rattle.std.specs.FinMap as map;

@@ -4,16 +4,16 @@
 //! [`judy_word::Judy1`], a [`judy_word::JudyL`], a [`judy_sl::JudySl`] or a [`judy_hs::JudyHs`], which the handle owns. To contracts
 //! a handle is that array or none (specs/Maps.antt, StringMaps.antt, ByteMaps.antt), and each call's contract says by it what the
 //! call answers and what the handle is then. Where a call hands out a slot the contract says what value is behind it, and that what
-//! is left there is the key's value, and no other's.
+//! is left there is the key's value, and no other's. A call whose comment names none of the manual is this project's own.
 //!
 //! What C owes, and nothing checks: a handle is in one call at a time, a slot is used only up to the next call that may change its
 //! array, and the pointers that a call is given are to words of the caller's, or to as many bytes as are told beside them, and not
 //! null; no two of one call overlap.
 //!
-//! set.rt, map.rt, strings.rt and bytes.rt have the handles, judy1.rt, judyl.rt, judysl.rt and judyhs.rt the calls, entries.rt those that
-//! tell a key with its value, told.rt how a call
-//! answers a word or a slot that may not be there, answers.rt how one answers by a number, scans.rt the scans over strings, and
-//! loose.rt a box as its pointer. The crate is a static library, and no other stands on it.
+//! set.rt, map.rt, strings.rt and bytes.rt have the handles, and in the folders of these names stand the array behind one, its pointer
+//! and a map's slots. judy1.rt, judyl.rt, judysl.rt and judyhs.rt have the calls, entries.rt those that tell a key with its value, told.rt
+//! how a call answers a word or a slot that may not be there, answers.rt how one answers by a number, scans.rt the scans over strings,
+//! and loose.rt a box as its pointer. The crate is a static library, and no other stands on it.
 #![tactic(auto)]
 
 mod answers;

@@ -24,7 +24,8 @@ IsInserted key value old new (Ok true) = IsAdded key value old new
 IsInserted key value old new (Ok false) = (has_key key old ≡ true) × (new ≡ old)
 IsInserted key value old new (Err refused) = (has_key key old ≡ false) × (new ≡ old)
 
--- A key has no room in a node: a leaf is full, or the key doesn't begin with the bytes that a bitmap leaf or a branch skips.
+-- A key may have no room in a node: it is an immediate, a full leaf, or a bitmap leaf or a branch that skips bytes that the key doesn't
+-- begin with.
 abbrev pub IsPast : {V : _} → ℕ → KindOf V → Type 0
 IsPast key (Imm head word) = Unit {0}
 IsPast key (Leaf count block) = 32 ≤ count

@@ -34,7 +34,8 @@ pub record Has33 (width : ℕ) (pairs : Pairs) (key : ℕ) : Type 0 where
   pub count : sharing (256 ^ bytes) key pairs ≡ 33
 
 -- A key is taken out of a tree: its pair is gone, and nothing else. An absent key changes nothing. A tight tree stays tight where
--- the nodes shrank, and they do but where a node on the way had 33 keys.
+-- there was memory for each smaller node that was wanted on the way, and such memory can be short only where a node there had 33 keys.
+-- (That the larger node stays then is this project's own.)
 pub record IsRemoved (key : ℕ) (old new : Tree) (removed : Removed) : Type 0 where
   pub found : value_in old.pairs key ≡ (if removed.was then Some removed.value else None)
   pub gone : new.pairs ≡ without key old.pairs

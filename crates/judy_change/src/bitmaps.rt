@@ -22,7 +22,8 @@ pub(crate) fn bitmap_kind<V: Words + Drop>(head: Head, bits: BitLeafOf<V>) -> Ki
     KindOf::Bit(head, bits.into_parts())
 }
 
-// Puts a key with its value into a bitmap leaf, where the leaf stands; the key begins with the bytes that the leaf skips.
+// Puts a key with its value into a bitmap leaf, where the leaf stands; the key begins with the bytes that the leaf skips. The error is
+// want of memory; the leaf is unchanged then.
 pub(crate) fn into_bitmap<V: Words + Drop>(
     alloc: Global,
     head: &Head,

@@ -28,7 +28,8 @@ pub(crate) fn keys_kind<V: Words + Drop>(imm: ImmOf<V>) -> KindOf<V>
     KindOf::Imm(Head::new(count + 256 * u64::from(width)), keys)
 }
 
-// Puts a key with its value into an immediate; where it is full, a leaf takes its place.
+// Puts a key with its value into an immediate; where it is full, a leaf takes its place. The error is want of memory for that; the
+// immediate stays then.
 pub(crate) fn into_immediate<V: Words + Drop>(
     alloc: Global,
     head: Head,
@@ -60,7 +61,7 @@ pub(crate) fn into_immediate<V: Words + Drop>(
     (keys_kind(imm), Ok(true))
 }
 
-// The leaf of a full immediate's keys and one more.
+// The leaf of a full immediate's keys and one more. The error is want of memory.
 fn past_immediate<V: Words + Drop>(
     alloc: Global,
     full: &ImmOf<V>,

@@ -15,7 +15,7 @@ use judy_node::{ChildOf, NodeOf, RootOf, kind_of_sorted};
 use std::alloc::{AllocError, Global};
 use std::mem;
 
-/// Puts a key into a tree. True: it was absent, and stands there now with the value 0. False: it was there, with its value, and
+/// Puts a key into a tree. True: it was absent, and stands there with the value 0. False: it was there, with its value, and
 /// nothing has changed; no memory is asked for. The error is want of memory, for an absent key alone; the tree is the old one then,
 /// its form included. A tree without keys is never refused a key, and a tight tree stays tight.
 pub fn insert<V: Words + Drop>(

@@ -26,7 +26,7 @@ pub(crate) fn leaf_kind<V: Words + Drop>(leaf: LeafOf<V>) -> KindOf<V>
     KindOf::Leaf(count, block)
 }
 
-// Puts a key with its value into a leaf that isn't full, where the leaf stands.
+// Puts a key with its value into a leaf that isn't full, where the leaf stands. The error is want of memory; the leaf is unchanged then.
 pub(crate) fn into_leaf<V: Words + Drop>(
     alloc: Global,
     count: &mut u8,
@@ -84,7 +84,7 @@ pub(crate) fn into_full_leaf<V: Words + Drop>(
     }
 }
 
-// The node of a full leaf's pairs and one more, with the place of its key.
+// The node of a full leaf's pairs and one more, whose key's place is given. The error is want of memory.
 fn past_leaf<V: Words + Drop>(
     alloc: Global,
     full: LeafRef<'_, V>,

@@ -9,7 +9,8 @@ pub struct Removed {
     pub was: bool,
     /// Its value; 0 where it wasn't there, and where keys have no values.
     pub value: u64,
-    /// Whether each node on the key's way is as small as its keys allow. It isn't where memory for a smaller node was refused.
+    /// False where a smaller node was wanted on the key's way and there was no memory for it: the larger one stays then, loose. Else
+    /// true, also where the key wasn't there.
     pub shrunk: bool,
 }
 
@@ -20,12 +21,12 @@ pub enum Taken {
     Absent,
     /// The key is the node's only one: its value. The node is as it was, and is to go as a whole.
     Only(u64),
-    /// The key is gone: its value, and whether the nodes on its way are as small as their keys allow.
+    /// The key is gone: its value, and whether there was memory for each smaller node that was wanted on its way.
     Gone(u64, bool),
 }
 
 impl Removed {
-    // The key wasn't there.
+    // The answer where the key wasn't there.
     pub(crate) fn none() -> Removed
         ensures { result ≡ record { was = false; value = 0; shrunk = true } }
     {
@@ -36,7 +37,7 @@ impl Removed {
         }
     }
 
-    // The key was there.
+    // The answer where the key was there: its value, and whether there was memory for each smaller node that was wanted.
     pub(crate) fn gone(value: u64, shrunk: bool) -> Removed
         ensures { result ≡ record { was = true; value = value; shrunk = shrunk } }
     {

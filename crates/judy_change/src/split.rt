@@ -116,7 +116,8 @@ fn above<V: Words + Drop>(
     Ok(branch)
 }
 
-// Puts a key with its value into a node that skips other bytes than the key begins with: a branch for both takes its place.
+// Puts a key with its value into a node that skips other bytes than the key begins with: a branch for both takes its place. The error
+// is want of memory; the node stays then.
 pub(crate) fn split<V: Words + Drop>(
     alloc: Global,
     kind: KindOf<V>,

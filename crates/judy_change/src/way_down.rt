@@ -1,4 +1,4 @@
-//! A key put into a tree.
+//! A key put into a node below the root, down the key's way.
 
 ghost use Rattle.std.specs.Prelude.{◌≡◌, ◌≢◌, ◌+◌, ◌-◌, ◌*◌, ◌/◌, ◌^◌, ◌<◌, ◌≤◌, false, length, Some, slice_get};
 ghost use Rattle.judy_model.specs.WordBytes.{number_of};
@@ -20,7 +20,7 @@ use judy_node::{BranchOf, ChildOf, Head, KindOf, Step};
 use std::alloc::{AllocError, Global};
 use std::mem;
 
-// Puts a key with its value into a node below the root, whose keys have `width` bytes.
+// Puts a key with its value into a node below the root, whose keys have `width` bytes. The answer is that of `insert`.
 #[cycle(insert)]
 pub(crate) fn insert_in<V: Words + Drop>(
     alloc: Global,

@@ -7,6 +7,7 @@ use Rattle.judy_command.specs.declared.command.PairCommand.TheVariants as on_pai
 use Rattle.judy_command.specs.declared.command.Command.{Command}
 use Rattle.judy_command.specs.declared.command.Command.TheVariants as command
 
+-- A command that names one key or word beside the array.
 abbrev pub key_command_of : KeyCommand → model.KeyCommand
 key_command_of on_key.Set = model.set
 key_command_of on_key.Unset = model.unset
@@ -23,11 +24,13 @@ key_command_of on_key.LastEmpty = model.empty model.last
 key_command_of on_key.PrevEmpty = model.empty model.prev
 key_command_of on_key.ByCount = model.by_count
 
+-- One that names two.
 abbrev pub pair_command_of : PairCommand → model.PairCommand
 pair_command_of on_pair.Ins = model.ins
 pair_command_of on_pair.Put = model.put
 pair_command_of on_pair.Count = model.count
 
+-- Any command.
 abbrev pub command_of : Command → model.Command
 command_of command.Make = model.make
 command_of command.List = model.list

@@ -9,6 +9,7 @@ use Rattle.judy_command.specs.declared.reply.Refusal.TheVariants.{LineTooLong, U
 use Rattle.judy_command.specs.declared.reply.LineReply.{LineReply}
 use Rattle.judy_command.specs.declared.reply.LineReply.TheVariants.{Silent, Listed, Said}
 
+-- A refusal.
 abbrev pub refusal_of : Refusal → model.Refusal
 refusal_of LineTooLong = model.line_too_long
 refusal_of UnknownCommand = model.unknown_command
@@ -24,6 +25,7 @@ refusal_of TooManyArrays = model.too_many_arrays
 refusal_of Full = model.full
 refusal_of NoMemory = model.no_memory
 
+-- An answer; the key of a `StringEntry` is what its buffer holds.
 abbrev pub answer_of : Answer → model.Answer
 answer_of Done = model.done
 answer_of (Was value) = model.was value
@@ -39,6 +41,7 @@ abbrev pub checked : {A : Type 0} → Result A Refusal → Result A model.Refusa
 checked (Ok value) = Ok value
 checked (Err refusal) = Err (refusal_of refusal)
 
+-- The reply of a command.
 abbrev pub reply_of : Result Answer Refusal → model.Reply
 reply_of (Ok answer) = Ok (answer_of answer)
 reply_of (Err refusal) = Err (refusal_of refusal)

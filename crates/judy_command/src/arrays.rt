@@ -73,6 +73,7 @@ pub(crate) fn on_key_at<'k>(
     on_key(array_at(shelf, name)?, command, token, key)
 }
 
+// What it does to the array, by its kind.
 fn on_key<'k>(
     array: &mut Array,
     command: KeyCommand,
@@ -105,6 +106,7 @@ pub(crate) fn on_pair_at(
     on_pair(array_at(shelf, name)?, command, first, second, key)
 }
 
+// What it does to the array, by its kind.
 fn on_pair(
     array: &mut Array,
     command: PairCommand,

@@ -20,8 +20,8 @@ use judy_sl::KeyBuf;
 /// its arguments; without a token, or where the first one begins with `;`, nothing is done.
 ///
 /// A refusal is the first that applies, in the order of [`Refusal`], and leaves the shelf as it was.
-/// `NoMemory` comes only where the command would add a key or an array. Five tokens say all: no command has
-/// more. (This project's own script.)
+/// `NoMemory` comes only where the command would add a key or an array. The first five tokens say all: no command
+/// has more than three arguments. (This project's own script.)
 pub fn execute<'k>(shelf: &mut Shelf, tokens: &[&[u8]], key: &'k mut KeyBuf) -> LineReply<'k>
     ensures { let before = store_of shelf.old in let after = store_of shelf.new in
         Follows before (outcome_of_tokens before (texts tokens.now)) (line_reply_of after result) after }
@@ -33,6 +33,7 @@ pub fn execute<'k>(shelf: &mut Shelf, tokens: &[&[u8]], key: &'k mut KeyBuf) -> 
     }
 }
 
+// Carries out the command that a word names.
 fn execute_word<'k>(
     shelf: &mut Shelf,
     word: &[u8],
@@ -48,6 +49,7 @@ fn execute_word<'k>(
     }
 }
 
+// Carries out a command, whose arguments must be as many as it takes.
 fn carry_out<'k>(
     shelf: &mut Shelf,
     command: Command,

@@ -1,8 +1,10 @@
-//! The commands that a judyl array has.
+//! The commands that a judyl array has; those of all arrays with values are in `values`.
 
-ghost use Rattle.std.specs.Prelude.{◌≡◌, Ok};
-ghost use Rattle.std.specs.FinMap.{get};
+ghost use Rattle.std.specs.Prelude.{◌≡◌, ℕ, Ok, Some, IfSome};
+ghost use Rattle.std.specs.Option.{option_map};
+ghost use Rattle.std.specs.FinMap.{FinMap, get};
 ghost use Rattle.judy_model.specs.Arrays.{judyl};
+ghost use Rattle.judy_model.specs.Keys.{word_order};
 ghost use Rattle.judy_model.specs.Commands as model;
 ghost use Rattle.judy_model.specs.Replies.{entry};
 ghost use Rattle.judy_command.specs.CommandsOf.{key_command_of, pair_command_of};
@@ -20,15 +22,15 @@ pub(crate) fn words_on_key(words: &mut JudyL, command: KeyCommand, token: &[u8])
     ensures { Follows (judyl words.old) (model.words_on_key (key_command_of command) words.old token.now) (reply_of result) (judyl words.new) }
 {
     match command {
-        KeyCommand::First => Ok(entry_or_nothing(words, words.first(word(token)?))),
-        KeyCommand::Next => Ok(entry_or_nothing(words, words.next(word(token)?))),
-        KeyCommand::Last => Ok(entry_or_nothing(words, words.last(word(token)?))),
-        KeyCommand::Prev => Ok(entry_or_nothing(words, words.prev(word(token)?))),
+        KeyCommand::First => Ok(entry_or_nothing(words.first_entry(word(token)?))),
+        KeyCommand::Next => Ok(entry_or_nothing(words.next_entry(word(token)?))),
+        KeyCommand::Last => Ok(entry_or_nothing(words.last_entry(word(token)?))),
+        KeyCommand::Prev => Ok(entry_or_nothing(words.prev_entry(word(token)?))),
         KeyCommand::FirstEmpty => Ok(number_or_nothing(words.first_empty(word(token)?))),
         KeyCommand::NextEmpty => Ok(number_or_nothing(words.next_empty(word(token)?))),
         KeyCommand::LastEmpty => Ok(number_or_nothing(words.last_empty(word(token)?))),
         KeyCommand::PrevEmpty => Ok(number_or_nothing(words.prev_empty(word(token)?))),
-        KeyCommand::ByCount => Ok(entry_or_nothing(words, words.by_count(word(token)?))),
+        KeyCommand::ByCount => Ok(entry_or_nothing(words.by_count_entry(word(token)?))),
         _ => map_on_key(words, command, word(token)),
     }
 }
@@ -49,11 +51,11 @@ pub(crate) fn words_on_pair(
 }
 
 // The key that was found and its value, or `none`.
-fn entry_or_nothing(words: &JudyL, found: Option<u64>) -> Answer<'static>
-    ensures { answer_of result ≡ model.entry_or_nothing entry words.now.map found }
+fn entry_or_nothing(found: Option<(u64, u64)>) -> Answer<'static>
+    ensures { (map : FinMap word_order ℕ) → IfSome found (λ pair. get map pair.0 ≡ Some pair.1) → answer_of result ≡ model.entry_or_nothing entry map (option_map (λ pair. pair.0) found) }
 {
-    let Some(key) = found else {
-        return Answer::Nothing;
-    };
-    Answer::Entry(key, words.get(key).unwrap_or(0))
+    match found {
+        Some((key, value)) => Answer::Entry(key, value),
+        None => Answer::Nothing,
+    }
 }

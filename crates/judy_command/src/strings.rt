@@ -1,4 +1,4 @@
-//! The commands that a judysl array has.
+//! The commands of one key that a judysl array has; those of all arrays with values are in `values`.
 
 ghost use Rattle.std.specs.Prelude.{◌≡◌};
 ghost use Rattle.judy_model.specs.Arrays.{judysl};

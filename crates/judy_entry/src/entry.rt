@@ -16,7 +16,7 @@ enum Bytes {
 }
 
 impl Bytes {
-    // A copy of the bytes.
+    // A copy of the bytes. Only for more than 30 is memory asked for; the error is want of it.
     fn copied(alloc: Global, bytes: &[u8]) -> Result<Bytes, AllocError>
         ensures { IfOk result (λ kept. bytes_of kept ≡ bytes.now) }
     {
@@ -60,7 +60,8 @@ impl Model for Entry {
 impl Entry {
     ghost use Rattle.judy_entry.specs.Lends.{LendsValue};
 
-    /// The entry of a copy of the bytes. The error is want of memory.
+    /// The entry of a copy of the bytes, with a value. Only for more than 30 bytes is memory asked for; the error is want of it, and
+    /// nothing is kept then.
     pub fn new(alloc: Global, bytes: &[u8], value: u64) -> Result<Entry, AllocError>
         ensures { IfOk result (λ entry. entry ≡ (bytes.now, value)) }
     {
@@ -70,7 +71,7 @@ impl Entry {
         })
     }
 
-    /// The entry of bytes in place.
+    /// The entry of bytes in place, with a value. No memory is asked for.
     pub fn of_few(few: Few, value: u64) -> Entry
         ensures { result ≡ (few, value) }
     {
@@ -80,7 +81,7 @@ impl Entry {
         }
     }
 
-    /// The entry of the bytes of a vector.
+    /// The entry of the bytes of a vector, however many, with a value. The vector stays as it is, and no memory is asked for.
     pub fn of_many(many: Vec<u8>, value: u64) -> Entry
         ensures { result ≡ (many.items, value) }
     {
@@ -104,7 +105,7 @@ impl Entry {
         self.value
     }
 
-    /// The slot of the value.
+    /// Lends the value; the bytes stay.
     pub fn slot(&mut self) -> &mut u64
         ensures* writes_back { sem 𝓛 (LendsValue self.entry result) }
         ensures value { result.now ≡ self.old.1 }

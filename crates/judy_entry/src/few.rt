@@ -27,7 +27,7 @@ impl Model for Few {
 }
 
 impl Few {
-    /// A copy of the bytes.
+    /// A copy of the bytes, which are at most 30.
     pub fn copied(bytes: &[u8]) -> Few
         requires { length bytes.now ≤ 30 }
         ensures { result ≡ bytes.now }
@@ -40,7 +40,7 @@ impl Few {
         }
     }
 
-    /// The bytes.
+    /// The bytes, in order.
     pub fn as_slice(&self) -> &[u8]
         ensures { result.now ≡ self.now }
     {

@@ -1,10 +1,9 @@
 //! A byte string with a value, as the arrays over strings and byte strings keep them where their words don't reach: the tail
 //! of a string, or a key of more than eight bytes.
 //!
-//! To contracts an [`Entry`] is the pair of its bytes and its value. Up to 16 bytes stand in the entry itself; more take
-//! memory of their own, which is all that can be refused here. The crate stands on the kit alone, and judy_sl and judy_hs on it.
-//! A byte string with a value, as the arrays over strings and byte strings keep them where their words don't reach. Up to
-//! 30 bytes stand in the entry itself; more take memory of their own.
+//! To contracts an [`Entry`] is the pair of its bytes and its value, and a [`Few`] the list of its bytes. Up to 30 bytes
+//! ([`MOST_FEW`]) stand in the entry itself; more take memory of their own, which is all that can be refused here. The crate stands
+//! on std alone, and judy_sl and judy_hs stand on it.
 #![tactic(auto)]
 
 mod entry;

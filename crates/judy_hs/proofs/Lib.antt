@@ -4,7 +4,6 @@ pub mod PlaceSteps
 pub mod LongLemmas
 pub mod GroupLemmas
 pub mod TwoLevels
-pub mod TrialLemmas
 pub mod PartLemmas
 pub mod GroupSteps
 pub mod GroupChanges

@@ -1,119 +1,38 @@
--- A walk over an array of words, from its first key to the next and so on: what was seen so far are the entries up to a
--- place.
-use Rattle.std.proofs.Common.{◌≡◌, ℕ, zero, suc, drop, ◌+◌, ◌-◌, ◌<◌, ◌≤◌, List, [], ◌∷◌, ◌++◌, map, length, get_or, take, slice_get, Option, Some, None, option_map, sym, ap, subst, ◌∙◌, arith, ⊎_elim}
+-- A walk through the entries of an array of words: what came of them is listed, part by part.
+use Rattle.std.proofs.Common.{◌≡◌, ℕ, zero, suc, drop, ◌+◌, ◌<◌, List, [], ◌∷◌, ◌++◌, length, get_or, Some, sym, ap, subst, ◌∙◌, arith}
 use Rattle.std.specs.List.{flat_map}
 use Rattle.std.specs.Int.{to_be_bytes, w64}
 use Rattle.std.proofs.Common.{rules}
-use Rattle.std.specs.Prelude.{unwrap_or}
 use Rattle.std.specs.Cmp.{nat_cmp_total, tied_itself}
-use Rattle.std.specs.FinMap.{FinMap, entries, entries_sorted, get, get-entries, keys, len, len-entries}
-use Rattle.std.proofs.lemmas.Bool.{cases_lt, le-leb}
-use Rattle.std.proofs.lemmas.List.Concat.{flat_map-append}
-use Rattle.std.proofs.lemmas.List.{take_more, take_all, append-nil, append_assoc, length-map, map-append}
-use Rattle.std.proofs.lemmas.Option.{slice_get-map, slice_get-get_or, slice_get_within, none-some}
+use Rattle.std.specs.Ordering.{nat_cmp}
+use Rattle.std.specs.FinMap.{FinMap, entries, entries_sorted, get, get-entries}
+use Rattle.std.proofs.lemmas.List.{append-nil, append_assoc, flat_map_more, map-append, length-append}
+use Rattle.std.proofs.Math.Seq.{get_or-append_seam}
 use Rattle.judy_model.specs.Keys.{word_order}
-use Rattle.judy_model.specs.Neighbours.{first, next}
-use Rattle.judy_model.specs.Counts.{count_up_to}
 use Rattle.judy_model.proofs.Pairs.{find-at}
-use Rattle.judy_model.proofs.RankLemmas.{first-slice_get, next-slice_get, rank_is, count_up_to_at}
-use Rattle.judy_model.proofs.WordOrder.{is_le_word}
 use Rattle.judy_model.specs.WordBytes.{low_bytes}
 use Rattle.judy_hs.specs.Chains.{Pairs}
 use Rattle.judy_hs.specs.Listed.{key_bytes, entries_in}
 use Rattle.judy_hs.specs.declared.entry.HsEntry.{HsEntry}
 
--- The walk stands at a key, or at the end, and what was there before has got the parts of the entries up to it.
-pub record IsWalk (map : FinMap word_order ℕ) (part : ℕ × ℕ → Pairs) (found : Option ℕ) (before now : Pairs) : Type 0 where
-  pub place : ℕ
-  pub stands : found ≡ slice_get (keys map) place
-  pub so_far : now ≡ before ++ flat_map part (take place (entries map))
+-- The next of all that are to come came.
+pub came_on : {A : Type 0} (all came left rest : List A) (next : A) → all ≡ came ++ left → left ≡ next ∷ rest → all ≡ (came ++ next ∷ []) ++ rest
+came_on all came left rest next is steps = is ∙ ap (λ r. came ++ r) steps ∙ sym (append_assoc came (next ∷ []) rest)
 
--- How far it may be to the end.
-abbrev pub ahead : FinMap word_order ℕ → Option ℕ → ℕ
-ahead map None = 0
-ahead map (Some key) = suc (len map) - count_up_to map key
+-- None is left, so all came.
+pub came_all : {A : Type 0} (all came left : List A) → all ≡ came ++ left → left ≡ [] → came ≡ all
+came_all all came left is none = sym (is ∙ ap (λ r. came ++ r) none ∙ append-nil came)
 
-same_some : (left right : ℕ) → ◌≡◌ {A = Option ℕ} (Some left) (Some right) → left ≡ right
-same_some left right e = cc
+-- What is listed goes on with the part of the next entry.
+pub listed_on : (part : ℕ × ℕ → Pairs) (before now after : Pairs) (came : List (ℕ × ℕ)) (entry : ℕ × ℕ) → now ≡ before ++ flat_map part came → after ≡ now ++ part entry → after ≡ before ++ flat_map part (came ++ entry ∷ [])
+listed_on part before now after came entry is more = more ∙ ap (λ all. all ++ part entry) is ∙ flat_map_more part before came entry
 
--- Where nothing stands the list has ended.
-past_end : (xs : List ℕ) (place : ℕ) → slice_get xs place ≡ None → length xs ≤ place
-past_end xs place none = ⊎_elim
-    (λ below. absurd (none-some (get_or xs place 0) (sym none ∙ slice_get-get_or xs place 0 below)))
-    (λ at_most. omega arith)
-    (cases_lt place (length xs))
-
--- One more part.
-one_more : {X : Type 0} (part : X → Pairs) (xs : List X) (place : ℕ) (d : X) → place < length xs → flat_map part (take place xs) ++ part (get_or xs place d) ≡ flat_map part (take (suc place) xs)
-one_more part xs place d within =
-    let next : place + 1 ≡ suc place = omega arith in
-    let last = ap (λ (more : Pairs). flat_map part (take place xs) ++ more) (append-nil (part (get_or xs place d))) in
-    sym last ∙ sym (flat_map-append part (take place xs) (get_or xs place d ∷ [])) ∙ ap (flat_map part) (sym (take_more xs place d within)) ∙ ap (λ n. flat_map part (take n xs)) next
-
-module _ (m : FinMap word_order ℕ) (part : ℕ × ℕ → Pairs) (before : Pairs) where
-  pub walk_start : IsWalk m part (first m 0) before before
-  walk_start = record {
-    place = 0;
-    stands = first-slice_get nat_cmp_total m 0 ∙ ap (slice_get (keys m)) (rank_is nat_cmp_total m 0 0 (omega arith) (λ k x at below. absurd (omega arith)) (λ k x at past. is_le_word 0 x ∙ le-leb 0 x (omega arith)));
-    so_far = sym (append-nil before);
-  }
-
-  -- The key that the walk stands at has a value.
-  module _ (now : Pairs) (key : ℕ) (walk : IsWalk m part (Some key) before now) where
-    within : walk.place < length (entries m)
-    within = subst (λ n. walk.place < n) (length-map (entries m) (λ e. e.0)) (slice_get_within (keys m) walk.place key (sym walk.stands))
-
-    entry : ℕ × ℕ
-    entry = get_or (entries m) walk.place (0, 0)
-
-    key_is : entry.0 ≡ key
-    unfolding entry
-    key_is = same_some entry.0 key (ap (option_map (λ (e : ℕ × ℕ). e.0)) (sym (slice_get-get_or (entries m) walk.place (0, 0) within)) ∙ sym (slice_get-map (λ (e : ℕ × ℕ). e.0) (entries m) walk.place) ∙ sym walk.stands)
-
-    value_is : get m key ≡ Some entry.1
-    unfolding entry
-    value_is = ap (get m) (sym key_is) ∙ get-entries m entry.0 ∙ find-at word_order nat_cmp_total (entries m) entry.0 walk.place (0, 0) (entries_sorted m) within (tied_itself nat_cmp_total entry.0)
-
-    value_read : unwrap_or (get m key) 0 ≡ entry.1
-    value_read = ap (λ (found : Option ℕ). unwrap_or found 0) value_is
-
-    pub walk_held : get m key ≡ Some (unwrap_or (get m key) 0)
-    walk_held = value_is ∙ ap (λ (n : ℕ). Some n) (sym value_read)
-
-    entry_is : entry ≡ (key, unwrap_or (get m key) 0)
-    entry_is = λ t. (key_is t, sym value_read t)
-
-    -- The way to the end gets shorter.
-    nearer_by : (found : Option ℕ) → found ≡ slice_get (keys m) (suc walk.place) → ahead m found < suc (len m) - suc walk.place
-    nearer_by None stands = let long = len-entries m in let inside = within in omega arith
-    nearer_by (Some following) stands =
-        let counted = count_up_to_at nat_cmp_total m (suc walk.place) following (sym stands) in
-        let long = len-entries m in
-        let inside = within in
-        omega arith
-
-    pub walk_nearer : ahead m (next m key) < ahead m (Some key)
-    walk_nearer =
-        let counted = count_up_to_at nat_cmp_total m walk.place key (sym walk.stands) in
-        let shorter = nearer_by (next m key) (next-slice_get nat_cmp_total m key ∙ ap (slice_get (keys m)) counted) in
-        omega arith
-
-    pub walk_step : IsWalk m part (next m key) before (now ++ part (key, unwrap_or (get m key) 0))
-    unfolding entry
-    walk_step = record {
-      place = suc walk.place;
-      stands = next-slice_get nat_cmp_total m key ∙ ap (slice_get (keys m)) (count_up_to_at nat_cmp_total m walk.place key (sym walk.stands));
-      so_far =
-          ap (λ (all : Pairs). all ++ part (key, unwrap_or (get m key) 0)) walk.so_far
-          ∙ append_assoc before (flat_map part (take walk.place (entries m))) (part (key, unwrap_or (get m key) 0))
-          ∙ ap (λ (more : Pairs). before ++ more) (ap (λ (e : ℕ × ℕ). flat_map part (take walk.place (entries m)) ++ part e) (sym entry_is) ∙ one_more part (entries m) walk.place (0, 0) within);
-    }
-
-  pub walk_end : (now : Pairs) → IsWalk m part None before now → now ≡ before ++ flat_map part (entries m)
-  walk_end now walk =
-      walk.so_far ∙ ap (λ all. before ++ flat_map part all) (take_all walk.place (entries m) (subst (λ n. n ≤ walk.place) (length-map (entries m) (λ e. e.0)) (past_end (keys m) walk.place (sym walk.stands))))
-
--- ---- lists of entries
+-- The value of an entry that comes is its key's.
+pub entry_held : (m : FinMap word_order ℕ) (came rest : List (ℕ × ℕ)) (key value : ℕ) → entries m ≡ came ++ (key, value) ∷ rest → get m key ≡ Some value
+entry_held m came rest key value is =
+    let there : get_or (entries m) (length came) (key, value) ≡ (key, value) = ap (λ es. get_or es (length came) (key, value)) is ∙ get_or-append_seam came (key, value) rest (key, value) in
+    let within : length came < length (entries m) = subst (λ es. length came < length es) (sym is) (omega (arith, length-append came ((key, value) ∷ rest))) in
+    get-entries m key ∙ find-at word_order nat_cmp_total (entries m) key (length came) (key, value) (entries_sorted m) within (ap (λ e. nat_cmp e.0 key) there ∙ tied_itself nat_cmp_total key) ∙ ap (λ e. Some e.1) there
 
 -- A short key, spelled by a word, with its value.
 abbrev pub spelled : ℕ → ℕ × ℕ → Pairs

@@ -12,6 +12,7 @@ pairs_at (Few few value) = (few, value) ∷ []
 pairs_at (Many many value) = (many.items, value) ∷ []
 pairs_at (Taken chain) = chain
 
+-- The chains at all places.
 abbrev pub chains_of : List ChainPlace → List Pairs
 chains_of places = map pairs_at places
 
@@ -22,6 +23,7 @@ link_of (Few few value) = None
 link_of (Many many value) = None
 link_of (Taken chain) = None
 
+-- The links of all places.
 abbrev pub links_of : List ChainPlace → Links
 links_of places = map link_of places
 

@@ -2,10 +2,11 @@
 use Rattle.std.specs.Prelude.{ℕ, zero, suc, ◌-◌, ◌*◌, ◌/◌, ◌%◌, ◌^◌, List, length, take, drop, fold, bit_xor, nat_lt, if◌then◌else◌}
 use Rattle.std.specs.Int.{from_le_bytes, w64}
 
--- A word is xored to the hash, which is then multiplied by an odd number, and the upper half of that is xored to the lower one.
+-- A word is xored to the hash, which is then multiplied by an odd number.
 abbrev pub multiplied : ℕ → ℕ → ℕ
 multiplied hash word = bit_xor hash word * 11400714819323198485 % 2 ^ 64
 
+-- The upper half of that is xored to the lower one.
 abbrev pub word_step : ℕ → ℕ → ℕ
 word_step hash word = bit_xor (multiplied hash word) (multiplied hash word / 4294967296)
 

@@ -17,5 +17,6 @@ place_with (Short words) (Chained place at) value = Short words
 place_with (Long group) (Word word) value = Long group
 place_with (Long group) (Chained place at) value = Long (long_with group place at value)
 
+-- It ends with the value that is left behind the slot there; where there is none, it stays.
 abbrev pub LendsInside : MutBor GroupPlace → Inside → Option (MutBor ℕ) → Fml
 LendsInside group inside slot = LendsIf the_row u64 group slot (place_with group.now inside) group.now

@@ -11,6 +11,7 @@ group_of (Free next) = none
 group_of (Short words) = short words
 group_of (Long group) = long group
 
+-- The groups at all places.
 abbrev pub groups_of : List GroupPlace → List Group
 groups_of places = map group_of places
 
@@ -20,5 +21,6 @@ link_of (Free next) = Some next
 link_of (Short words) = None
 link_of (Long group) = None
 
+-- The links of all places.
 abbrev pub links_of : List GroupPlace → Links
 links_of places = map link_of places

@@ -24,19 +24,23 @@ stored none = None
 stored (short words) = Some (inl words)
 stored (long group) = Some (inr group)
 
+-- And read again: a group, from the sum of the two kinds,
 abbrev pub restored_one : ArrayOf word_order ⊎ Long → Group
 restored_one (inl words) = short words
 restored_one (inr group) = long group
 
+-- or none.
 abbrev pub restored : Option (ArrayOf word_order ⊎ Long) → Group
 restored None = none
 restored (Some one) = restored_one one
 
+-- What was stored is read again as it was.
 pub restored-stored : (group : Group) → restored (stored group) ≡ group
 restored-stored none = refl
 restored-stored (short words) = refl
 restored-stored (long group) = refl
 
+-- So groups have a code.
 abbrev pub group_code : Coded Group
 group_code = code_by (Option (ArrayOf word_order ⊎ Long)) (coded_option (coded⊎ (array_code coded_ℕ) long_code)) stored restored restored-stored
 
@@ -124,10 +128,11 @@ IsEmptyGroup none = Unit {0}
 IsEmptyGroup (short words) = words.map ≡ empty
 IsEmptyGroup (long group) = group.hashes.map ≡ empty
 
--- The group of one key, with the value 0, and where the key stands in it.
+-- The group of one key, with the value 0.
 abbrev pub one_group : ℕ → List ℕ → Group
 one_group part key = if nat_le (length key) 8 then short (one_word part 0) else long (one_long part key)
 
+-- Where the key stands in it.
 abbrev pub one_inside : ℕ → List ℕ → Inside
 one_inside part key = if nat_le (length key) 8 then Word part else Chained 0 0
 

@@ -6,8 +6,10 @@ use Rattle.judy_hs.specs.declared.group.Inside.{Inside}
 use Rattle.judy_hs.specs.declared.error.HsError.{HsError}
 use Rattle.judy_hs.specs.contracts.groups.Groups.{the_row}
 
+-- They end with the value that is left behind the slot there; where there is none, they stay.
 abbrev pub LendsSpot : MutBor Keyed → ℕ → Inside → Option (MutBor ℕ) → Fml
 LendsSpot groups place inside slot = LendsIf the_row u64 groups slot (keyed_with groups.now place inside) groups.now
 
+-- The same where the answer is Ok.
 abbrev pub LendsSpotOk : MutBor Keyed → ℕ → Inside → Result (MutBor ℕ) HsError → Fml
 LendsSpotOk groups place inside slot = LendsIfOk the_row u64 groups slot (keyed_with groups.now place inside) groups.now

@@ -12,10 +12,11 @@ pub record Long : Type 0 where
   pub hashes : ArrayOf word_order
   pub chains : List Pairs
 
--- A group is stored as the pair of these.
+-- Pairs are stored as a list.
 abbrev pub pairs_code : Coded Pairs
 pairs_code = coded_list (coded× (coded_list coded_ℕ) coded_ℕ)
 
+-- A group is stored as the pair of its array and its chains.
 abbrev pub long_code : Coded Long
 long_code = code_by (ArrayOf word_order × List Pairs) (coded× (array_code coded_ℕ) (coded_list pairs_code)) (λ long. (long.hashes, long.chains)) (λ pair. record { hashes = pair.0; chains = pair.1 }) (λ _. refl)
 
@@ -78,14 +79,16 @@ abbrev pub IsFound : Long → Option ℕ → ℕ → ℕ → Type 0
 IsFound long None place at = IsFreePlace long.chains place × (at ≡ 0)
 IsFound long (Some held) place at = (place ≡ held) × (at ≡ length (chain_at long held))
 
+-- A key was added, and stands at that place of a chain.
 abbrev pub IsAdded : Long → Long → ℕ → List ℕ → ℕ → ℕ → Type 0
 IsAdded before after hash key place at = IsFound before (get before.hashes.map hash) place at × (after ≡ added_long before hash key (get before.hashes.map hash) place)
 
--- The group without the key at a place of a chain: a chain that becomes empty goes, with its hash.
+-- The hashes where these pairs are left of a chain: where none is, its hash goes.
 abbrev pub hashes_without : Long → ℕ → Pairs → ArrayOf word_order
 hashes_without long hash [] = with_map long.hashes (remove long.hashes.map hash)
 hashes_without long hash (pair ∷ rest) = long.hashes
 
+-- The group without the key at a place of a chain: a chain that becomes empty goes, with its hash.
 abbrev pub without_key : Long → ℕ → ℕ → ℕ → Long
 without_key long hash place at =
     let left = list.remove (chain_at long place) at in

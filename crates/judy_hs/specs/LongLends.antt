@@ -15,8 +15,10 @@ place_with (Few few held) at value = cond (nat_eq at 0) (Few few value) (Few few
 place_with (Many many held) at value = cond (nat_eq at 0) (Many many value) (Many many held)
 place_with (Taken chain) at value = Taken (with_value_at chain at value)
 
+-- The place ends with the value that is left behind the slot in its chain; where there is none, it stays.
 abbrev pub LendsPlace : MutBor ChainPlace → ℕ → Option (MutBor ℕ) → Fml
 LendsPlace place at slot = LendsIf place_row.the_row u64 place slot (place_with place.now at) place.now
 
+-- The same of the group.
 abbrev pub LendsLong : MutBor Long → ℕ → ℕ → Option (MutBor ℕ) → Fml
 LendsLong group place at slot = LendsIf the_row u64 group slot (long_with group.now place at) group.now

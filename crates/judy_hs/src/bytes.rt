@@ -140,8 +140,8 @@ impl<H: ByteHash + Drop> JudyHs<H> {
         }
     }
 
-    /// Takes a key out, and answers whether it was there; a key of more than 1,024 bytes never is. It asks for no memory.
-    /// (Manual: JHSD, JudyHSDel.)
+    /// Takes a key out, and answers whether it was there; a key of more than 1,024 bytes never is. It can't fail and asks
+    /// for no memory of its own. (Manual: JHSD, JudyHSDel.)
     pub fn del(&mut self, key: &[u8]) -> bool
         ensures answer { result ≡ map.contains_key self.old.map key.now }
         ensures deleted { self.new ≡ array.with_map self.old (array.del self.old.map key.now) }

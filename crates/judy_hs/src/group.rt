@@ -218,14 +218,11 @@ fn list_words(
     requires { key_length ≤ 8 }
     ensures { OnOk result (entries_in list.new.items ≡ entries_in list.old.items ++ short_list key_length words.now) }
 {
-    let mut found = words.first(0);
-    'words: while let Some(word) = found {
-        let value = words.get(word).unwrap_or(0);
+    'words: for (word, value) in words {
         list.push(HsEntry {
             key: short_key(word, key_length),
             value,
         })?;
-        found = words.next(word);
     }
     Ok(())
 }

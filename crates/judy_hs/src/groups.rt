@@ -175,7 +175,8 @@ impl Groups {
         }
     }
 
-    // Puts a key in with the value 0, by one way down its group, where it is one to try so, and answers where it stands.
+    // Puts a key in with the value 0, by one way down its group, where `tries` says so and its length has a group, and
+    // answers where it stands.
     pub fn try_add(&mut self, alloc: Global, tries: bool, part: u64, key: &[u8]) -> Trial<Spot>
         requires group { IfSome (words_at self.old (get self.old.lengths.map (length key.now))) (λ words. map_len words.map < words.limit) }
         ensures tried { UnlessOpen result (IsTrue tries) }
@@ -290,11 +291,8 @@ impl Groups {
         requires { (key_length place : ℕ) → get self.now.lengths.map key_length ≡ Some place → CanList key_length (group_at self.now place) }
         ensures { OnOk result (entries_in list.new.items ≡ entries_in list.old.items ++ keyed_list self.now) }
     {
-        let mut found = self.lengths.first(0);
-        'lengths: while let Some(key_length) = found {
-            let place = self.lengths.get(key_length).unwrap_or(0);
+        'lengths: for (key_length, place) in &self.lengths {
             self.list_group(key_length as usize, place as usize, list)?;
-            found = self.lengths.next(key_length);
         }
         Ok(())
     }

@@ -29,10 +29,10 @@ impl ByteHash for Fnv1a {
     }
 }
 
-/// A hash that takes eight bytes at a step, so that one of a long key takes a third of the time that `Fnv1a` does: a word is xored to
-/// the hash, which is then multiplied by 11400714819323198485 modulo 2^64, and the upper half of that is xored to the lower one. It
-/// begins with 14695981039346656037, reads a word's first byte as its lowest, and ends with the lower half. Where more than eight bytes
-/// are left it takes the first eight of them, and at last the last eight of all, some of them again; of fewer than eight in all, each is a word.
+/// A hash that takes eight bytes at a step, where `Fnv1a` takes one: a word is xored to the hash, which is then multiplied by
+/// 11400714819323198485 modulo 2^64, and the upper half of that is xored to the lower one. It begins with 14695981039346656037, reads a
+/// word's first byte as its lowest, and ends with the lower half. Where more than eight bytes are left it takes the first eight of them,
+/// and at last the last eight of all, some of them again; of fewer than eight in all, each is a word. (This project's own.)
 #[derive(Clone, Copy)]
 pub struct Eights;
 

@@ -3,11 +3,13 @@
 //!
 //! `JudyHs` maps such keys to words. Its model is the array of judy_model over byte strings, a limit and a finite
 //! map, and its contracts cite judy_model's definitions. They hold for every hash, one that is the same for all
-//! keys included. The crate stands on the word arrays of judy_word.
+//! keys included. A call whose comment names none of the manual is this project's own. The crate stands on the word
+//! arrays of judy_word.
 //!
-//! Inside, keys are grouped by their length (groups.rt). A key of at most 8 bytes is a word, and its group a
-//! `JudyL` from these words to the values; longer keys are found by their hash, in a chain of the keys that share
-//! it (long_group.rt, chain.rt), where their bytes decide.
+//! Inside, keys are grouped by their length (groups.rt, group.rt). A key of at most 8 bytes is a word (part.rt), and its
+//! group a `JudyL` from these words to the values; longer keys are found by their hash (hash.rt), in a chain of the keys
+//! that share it (long_group.rt, chain.rt), where their bytes decide. An insert is tried as that of a new key where the
+//! last one was (trial.rt).
 #![tactic(auto)]
 
 mod bytes;

@@ -467,11 +467,8 @@ impl LongGroup {
     fn list_chains<'a>(&'a self, list: &mut Vec<HsEntry<'a>>) -> Result<(), AllocError>
         ensures { OnOk result (entries_in list.new.items ≡ entries_in list.old.items ++ chained self.now) }
     {
-        let mut found = self.hashes.first(0);
-        'hashes: while let Some(hash) = found {
-            let place = self.hashes.get(hash).unwrap_or(0);
+        'hashes: for (_, place) in &self.hashes {
             self.list_chain(place as usize, list)?;
-            found = self.hashes.next(hash);
         }
         Ok(())
     }

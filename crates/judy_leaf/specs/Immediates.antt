@@ -25,13 +25,15 @@ pub record IsWordChange (width count later : ℕ) (change : List ℕ → List �
   pub packed : IsPacked width later (after ∷ [])
   pub changed : keys_in width later (after ∷ []) ≡ change (keys_in width count (before ∷ []))
 
--- How many keys the two words of an immediate in a node stand for, the word that holds them, and the value.
+-- How many keys the two words of an immediate in a node stand for: one where keys have a value, else the number in the first word.
 abbrev pub count_in : ℕ → ℕ → ℕ
 count_in words head = if words == 1 then 1 else head
 
+-- The word that holds them.
 abbrev pub keys_part : ℕ → ℕ → ℕ → ℕ
 keys_part words head word = if words == 1 then head else word
 
+-- The value, 0 where keys have none.
 abbrev pub value_part : ℕ → ℕ → ℕ
 value_part words word = if words == 1 then word else 0
 

@@ -60,7 +60,7 @@ impl<V: Words + Drop> BitLeafOf<V> {
     ghost use Rattle.std.specs.Borrow.{sem, Lends, u64 as word};
     ghost use Rattle.judy_leaf.specs.contracts.bit_leaf.BitLeafOf.{the_row};
 
-    /// The bitmap leaf of a block.
+    /// The bitmap leaf of a block that is laid out as one.
     pub fn of_parts(block: Block) -> BitLeafOf<V>
         requires { IsBitParts V.WORDS block }
         ensures { result ≡ bit_list V.WORDS block }
@@ -110,7 +110,7 @@ impl<V: Words + Drop> BitLeafOf<V> {
         put_in_bit_leaf::<V>(alloc, &mut self.block, at, key as u8, value)
     }
 
-    /// Takes the key at a place out, with its value. No memory is asked for.
+    /// Takes the key at a place out, with its value; the place is below the number of keys. No memory is asked for.
     pub fn remove(&mut self, at: usize)
         requires { at < length self.old.pairs }
         ensures { self.new ≡ record self.old { pairs = remove self.old.pairs at } }
@@ -143,7 +143,7 @@ impl<V: Words + Drop> BitLeafOf<V> {
         })
     }
 
-    /// Lends the value at a place; nothing else changes.
+    /// Lends the value at a place below the number of keys, where keys have values; nothing else changes.
     pub fn slot_at(&mut self, at: usize) -> &mut u64
         requires map { V.WORDS ≡ 1 }
         requires inside { at < length self.old.pairs }

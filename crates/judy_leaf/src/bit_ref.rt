@@ -38,7 +38,7 @@ impl<'a, V: Words + Drop> Model for BitRef<'a, V> {
 }
 
 impl<'a, V: Words + Drop> BitRef<'a, V> {
-    /// The bitmap leaf of a block.
+    /// The bitmap leaf of a block that is laid out as one.
     pub fn new(block: &'a Block) -> BitRef<'a, V>
         requires { IsBitParts V.WORDS block.now }
         ensures { result ≡ bit_list V.WORDS block.now }
@@ -57,14 +57,14 @@ impl<'a, V: Words + Drop> BitRef<'a, V> {
         BitsRef::of_words(&self.block.words()[..4])
     }
 
-    /// A law without a body: the keys are a set of bytes.
+    /// A law, told by a call that does nothing: the keys are a set of bytes.
     pub fn told(&self)
         ensures { IsByteSet (keys_of self.now.pairs) }
     {
         let _ = &self.block;
     }
 
-    /// A law without a body: a key has at most one word of value, and where it has none, each value is 0.
+    /// A law, told by a call that does nothing: a key has at most one word of value, and where it has none, each value is 0.
     pub fn told_values(&self)
         ensures words { V.WORDS ≤ 1 }
         ensures none { V.WORDS ≡ 0 → AllByRecursion (λ pair. pair.1 ≡ 0) self.now.pairs }
@@ -115,7 +115,7 @@ impl<'a, V: Words + Drop> BitRef<'a, V> {
         }
     }
 
-    /// The place of a byte, or, where it isn't one of the keys, the place that it would have.
+    /// The place of a byte, as `Ok`; or, where it isn't one of the keys, the place that it would have, as `Err`.
     pub fn search(&self, byte: u8) -> Result<usize, usize>
         ensures { IsSearched (keys_of self.now.pairs) byte result }
     {
@@ -124,7 +124,7 @@ impl<'a, V: Words + Drop> BitRef<'a, V> {
         if bits.has(byte) { Ok(at) } else { Err(at) }
     }
 
-    /// The key at a place, counted from 0.
+    /// The key at a place, counted from 0 and below the number of keys.
     pub fn key_at(&self, at: usize) -> u64
         requires { at < length self.now.pairs }
         ensures key { result ≡ slice_index (keys_of self.now.pairs) at }
@@ -136,7 +136,7 @@ impl<'a, V: Words + Drop> BitRef<'a, V> {
         }
     }
 
-    /// The value at a place, 0 where keys have no value.
+    /// The value at such a place, 0 where keys have no value.
     pub fn value_at(&self, at: usize) -> u64
         requires { at < length self.now.pairs }
         ensures { result ≡ slice_index (values_of self.now.pairs) at }
@@ -209,28 +209,28 @@ impl<'a, V: Words + Drop> BitRef<'a, V> {
         }
     }
 
-    /// The nearest key at or above a byte.
+    /// The nearest key at or above a byte; none where all are below.
     pub fn next_from(&self, byte: u8) -> Option<u8>
         ensures { result ≡ set.next_from (keys_of self.now.pairs) byte }
     {
         self.bits().next_from(byte)
     }
 
-    /// The nearest key at or below a byte.
+    /// The nearest key at or below a byte; none where all are above.
     pub fn prev_from(&self, byte: u8) -> Option<u8>
         ensures { result ≡ set.prev_from (keys_of self.now.pairs) byte }
     {
         self.bits().prev_from(byte)
     }
 
-    /// The nearest byte at or above the given one that is no key.
+    /// The nearest byte at or above the given one that is no key; none where all of these are keys.
     pub fn next_absent(&self, byte: u8) -> Option<u8>
         ensures { result ≡ set.next_absent (keys_of self.now.pairs) byte }
     {
         self.bits().next_absent(byte)
     }
 
-    /// The nearest byte at or below the given one that is no key.
+    /// The nearest byte at or below the given one that is no key; none where all of these are keys.
     pub fn prev_absent(&self, byte: u8) -> Option<u8>
         ensures { result ≡ set.prev_absent (keys_of self.now.pairs) byte }
     {

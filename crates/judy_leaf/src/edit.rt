@@ -39,7 +39,7 @@ pub(crate) fn push_key<const W: usize>(block: &mut Block, start: usize, at: usiz
     block.put(word, here);
 }
 
-// Moves the keys of all words after one down by a place, the last place is 0 then, and gives the first of them, or 0.
+// Moves the keys of all words after one down by a place, so that the last place is 0, and gives the first of them; 0 where there is none.
 fn pull_words<const W: usize>(block: &mut Block, word: usize) -> u64
     requires width { IsWidth W }
     requires inside { word < length block.old.words }

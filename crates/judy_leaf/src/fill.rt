@@ -9,7 +9,8 @@ use crate::leaf_ref::LeafRef;
 use crate::words::Words;
 
 impl<V: Words + Drop> ImmOf<V> {
-    /// Writes the pairs, by ascending key, into a slice that has just the places for them. Each key is so much higher there.
+    /// Writes the pairs, by ascending key, into a slice that has just the places for them. Each key is higher by `base` there,
+    /// and still a word.
     pub fn fill(&self, base: u64, out: &mut [(u64, u64)])
         requires room { length out.old ≡ length self.now.pairs }
         requires fits { base + 256 ^ self.now.width ≤ 2 ^ 64 }
@@ -23,7 +24,8 @@ impl<V: Words + Drop> ImmOf<V> {
 }
 
 impl<'a, V: Words + Drop> LeafRef<'a, V> {
-    /// Writes the pairs, by ascending key, into a slice that has just the places for them. Each key is so much higher there.
+    /// Writes the pairs, by ascending key, into a slice that has just the places for them. Each key is higher by `base` there,
+    /// and still a word.
     pub fn fill(&self, base: u64, out: &mut [(u64, u64)])
         requires room { length out.old ≡ length self.now.pairs }
         requires fits { base + 256 ^ self.now.width ≤ 2 ^ 64 }
@@ -37,8 +39,8 @@ impl<'a, V: Words + Drop> LeafRef<'a, V> {
 }
 
 impl<'a, V: Words + Drop> BitRef<'a, V> {
-    /// Writes the pairs, by ascending key, into a slice that has just the places for them. Each key, of one byte here, is so
-    /// much higher there.
+    /// Writes the pairs, by ascending key, into a slice that has just the places for them. Each key, of one byte here, is
+    /// higher by `base` there, and still a word.
     pub fn fill(&self, base: u64, out: &mut [(u64, u64)])
         requires room { length out.old ≡ length self.now.pairs }
         requires fits { base + 256 ≤ 2 ^ 64 }

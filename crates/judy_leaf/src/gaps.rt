@@ -19,7 +19,7 @@ fn top<const W: usize>() -> u64
     low_part(u64::MAX, W)
 }
 
-// The nearest number at or above another that is no key and has the width of one.
+// The nearest number at or above another that is no key, among those that a key of the width could be; none where all these are keys.
 pub(crate) fn absent_from_in<const W: usize>(
     count: usize,
     words: &[u64],
@@ -47,7 +47,7 @@ pub(crate) fn absent_from_in<const W: usize>(
     Some(absent)
 }
 
-// The nearest number at or below another that is no key and has the width of one.
+// The nearest number at or below another that is no key, among those that a key of the width could be; none where all these are keys.
 pub(crate) fn absent_up_to_in<const W: usize>(
     count: usize,
     words: &[u64],

@@ -62,14 +62,14 @@ impl<V: Words + Drop> ImmOf<V> {
         }
     }
 
-    /// A law without a body: the keys ascend and have `width` bytes.
+    /// A law, told by a call that does nothing: the keys ascend and have `width` bytes.
     pub fn told(&self)
         ensures { IsKeyList self.now }
     {
         let _ = &self.count;
     }
 
-    /// A law without a body: a key has at most one word of value, and where it has none, each value is 0.
+    /// A law, told by a call that does nothing: a key has at most one word of value, and where it has none, each value is 0.
     pub fn told_values(&self)
         ensures words { V.WORDS ≤ 1 }
         ensures none { V.WORDS ≡ 0 → AllByRecursion (λ pair. pair.1 ≡ 0) self.now.pairs }
@@ -120,7 +120,7 @@ impl<V: Words + Drop> ImmOf<V> {
         one_word::find(self.width, usize::from(self.count), self.keys, key)
     }
 
-    /// The place of a key, or, where the word isn't one of the keys, the place that it would have.
+    /// The place of a key, as `Ok`; or, where the word isn't one of the keys, the place that it would have, as `Err`.
     pub fn search(&self, key: u64) -> Result<usize, usize>
         ensures { IsSearched (keys_of self.now.pairs) key result }
     {
@@ -131,7 +131,7 @@ impl<V: Words + Drop> ImmOf<V> {
         }
     }
 
-    /// The key at a place, counted from 0.
+    /// The key at a place, counted from 0 and below the number of keys.
     pub fn key_at(&self, at: usize) -> u64
         requires { at < length self.now.pairs }
         ensures { result ≡ slice_index (keys_of self.now.pairs) at }
@@ -139,7 +139,7 @@ impl<V: Words + Drop> ImmOf<V> {
         one_word::key_at(self.width, usize::from(self.count), self.keys, at)
     }
 
-    /// The value at a place, 0 where keys have no value.
+    /// The value at such a place, 0 where keys have no value.
     pub fn value_at(&self, at: usize) -> u64
         requires { at < length self.now.pairs }
         ensures { result ≡ slice_index (values_of self.now.pairs) at }
@@ -223,7 +223,7 @@ impl<V: Words + Drop> ImmOf<V> {
         imm
     }
 
-    /// Takes the key at a place out, with its value.
+    /// Takes the key at a place out, with its value; the place is below the number of keys.
     pub fn remove(&mut self, at: usize)
         requires { at < length self.old.pairs }
         ensures { self.new ≡ record self.old { pairs = remove self.old.pairs at } }
@@ -270,7 +270,7 @@ impl<V: Words + Drop> ImmOf<V> {
         }
     }
 
-    /// Lends the value at a place; nothing else changes.
+    /// Lends the value at a place below the number of keys, where keys have values; nothing else changes.
     pub fn slot_at(&mut self, at: usize) -> &mut u64
         requires map { V.WORDS ≡ 1 }
         requires inside { at < length self.old.pairs }

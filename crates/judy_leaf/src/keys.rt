@@ -129,7 +129,7 @@ pub(crate) fn previous(
     }
 }
 
-// The nearest number at or above another that is no key and has the width of one.
+// The nearest number at or above another that is no key, among those that a key of the width could be; none where all these are keys.
 pub(crate) fn absent_from(
     width: usize,
     block: &Block,
@@ -154,7 +154,7 @@ pub(crate) fn absent_from(
     }
 }
 
-// The nearest number at or below another that is no key and has the width of one.
+// The nearest number at or below another that is no key, among those that a key of the width could be; none where all these are keys.
 pub(crate) fn absent_up_to(
     width: usize,
     block: &Block,

@@ -109,7 +109,7 @@ impl<V: Words + Drop> LeafOf<V> {
         )
     }
 
-    /// Takes the key at a place out, with its value. No memory is asked for.
+    /// Takes the key at a place out, with its value; the place is below the number of keys. No memory is asked for.
     pub fn remove(&mut self, at: usize)
         requires { at < length self.old.pairs }
         ensures { self.new ≡ record self.old { pairs = remove self.old.pairs at } }
@@ -144,7 +144,7 @@ impl<V: Words + Drop> LeafOf<V> {
         })
     }
 
-    /// Lends the value at a place; nothing else changes.
+    /// Lends the value at a place below the number of keys, where keys have values; nothing else changes.
     pub fn slot_at(&mut self, at: usize) -> &mut u64
         requires map { V.WORDS ≡ 1 }
         requires inside { at < length self.old.pairs }

@@ -55,14 +55,14 @@ impl<'a, V: Words + Drop> LeafRef<'a, V> {
         }
     }
 
-    /// A law without a body: the keys ascend and have `width` bytes.
+    /// A law, told by a call that does nothing: the keys ascend and have `width` bytes.
     pub fn told(&self)
         ensures { IsKeyList self.now }
     {
         let _ = &self.count;
     }
 
-    /// A law without a body: a key has at most one word of value, and where it has none, each value is 0.
+    /// A law, told by a call that does nothing: a key has at most one word of value, and where it has none, each value is 0.
     pub fn told_values(&self)
         ensures words { V.WORDS ≤ 1 }
         ensures none { V.WORDS ≡ 0 → AllByRecursion (λ pair. pair.1 ≡ 0) self.now.pairs }
@@ -123,7 +123,7 @@ impl<'a, V: Words + Drop> LeafRef<'a, V> {
         )
     }
 
-    /// The place of a key, or, where the word isn't one of the keys, the place that it would have.
+    /// The place of a key, as `Ok`; or, where the word isn't one of the keys, the place that it would have, as `Err`.
     pub fn search(&self, key: u64) -> Result<usize, usize>
         ensures { IsSearched (keys_of self.now.pairs) key result }
     {
@@ -135,7 +135,7 @@ impl<'a, V: Words + Drop> LeafRef<'a, V> {
         }
     }
 
-    /// The key at a place, counted from 0.
+    /// The key at a place, counted from 0 and below the number of keys.
     pub fn key_at(&self, at: usize) -> u64
         requires { at < length self.now.pairs }
         ensures { result ≡ slice_index (keys_of self.now.pairs) at }
@@ -150,7 +150,7 @@ impl<'a, V: Words + Drop> LeafRef<'a, V> {
         )
     }
 
-    /// The value at a place, 0 where keys have no value.
+    /// The value at such a place, 0 where keys have no value.
     pub fn value_at(&self, at: usize) -> u64
         requires { at < length self.now.pairs }
         ensures { result ≡ slice_index (values_of self.now.pairs) at }

@@ -134,7 +134,7 @@ pub(crate) fn previous(width: u8, count: usize, word: u64, number: u64) -> Optio
     }
 }
 
-// The nearest number at or above another that is no key and has the width of one.
+// The nearest number at or above another that is no key, among those that a key of the width could be; none where all these are keys.
 pub(crate) fn absent_from(width: u8, count: usize, word: u64, number: u64) -> Option<u64>
     requires packed { IsPacked width count (word ∷ []) }
     requires ascending { IsStrictlySortedBy word_order (keys_in width count (word ∷ [])) }
@@ -152,7 +152,7 @@ pub(crate) fn absent_from(width: u8, count: usize, word: u64, number: u64) -> Op
     }
 }
 
-// The nearest number at or below another that is no key and has the width of one.
+// The nearest number at or below another that is no key, among those that a key of the width could be; none where all these are keys.
 pub(crate) fn absent_up_to(width: u8, count: usize, word: u64, number: u64) -> Option<u64>
     requires packed { IsPacked width count (word ∷ []) }
     requires ascending { IsStrictlySortedBy word_order (keys_in width count (word ∷ [])) }

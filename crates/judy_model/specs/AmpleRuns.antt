@@ -15,9 +15,10 @@ abbrev pub ample_store : Store → List Line → Store
 ample_store store [] = store
 ample_store store (line ∷ lines) = ample_store (step store line).1 lines
 
--- What a script puts out, and the store that it leaves.
+-- What a script puts out with ample memory.
 abbrev pub ample_output : Store → List ℕ → List ℕ
 ample_output store script = flat_map output_of (ample_replies store (lines_of script))
 
+-- The store that it leaves.
 abbrev pub store_after : Store → List ℕ → Store
 store_after store script = ample_store store (lines_of script)

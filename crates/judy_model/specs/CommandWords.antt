@@ -1,7 +1,8 @@
 -- The commands, and the word of each. (The words are this project's own; most stand for calls of the manual.)
 use Rattle.std.specs.Prelude.{ℕ, Bool, true, false, if◌then◌else◌, List, codes, bytes_eq, Option, Some, None}
 
--- On which side of a key its neighbour is sought, and whether the key itself counts.
+-- On which side of a key its neighbour is sought, and whether the key itself counts: `first` from the key on upwards, `next` above it,
+-- `last` from it downwards, `prev` below it.
 pub data Neighbour : Type 0 where
   first : Neighbour
   next : Neighbour
@@ -25,6 +26,7 @@ pub data PairCommand : Type 0 where
   put : PairCommand
   count : PairCommand
 
+-- A command: of the store, of one array as a whole, or of one array by one key or two.
 pub data Command : Type 0 where
   make : Command
   list : Command

@@ -34,18 +34,23 @@ Err refusal >>= rest = Err refusal
 abbrev pub provided : Bool → Refusal → Result (Unit {0}) Refusal
 provided holds refusal = if holds then Ok tt else Err refusal
 
+-- The name that a token says, or the refusal of one that says none.
 abbrev pub name_at : List ℕ → Result (List ℕ) Refusal
 name_at token = ok_or (name_of token) bad_name
 
+-- The word.
 abbrev pub word_at : List ℕ → Result ℕ Refusal
 word_at token = ok_or (word_of token) bad_word
 
+-- The key of a judysl array.
 abbrev pub string_key_at : List ℕ → Result (List ℕ) Refusal
 string_key_at token = ok_or (string_key_of token) bad_key
 
+-- The key of a judyhs array.
 abbrev pub bytes_key_at : List ℕ → Result (List ℕ) Refusal
 bytes_key_at token = ok_or (bytes_key_of token) bad_key
 
+-- The array of a name, or the refusal where there is none.
 abbrev pub array_at : Store → List ℕ → Result ArrayValue Refusal
 array_at store name = ok_or (array_named store name) no_such_array
 
@@ -105,13 +110,14 @@ abbrev pub removed : {K : Type 0} {order : K → K → Ordering} → (ArrayOf or
 removed kind array key =
     record { answer = flag (contains_key array.map key); after = kind (with_map array (del array.map key)); grows = false }
 
--- The neighbour of a key, and that among the words that are no keys.
+-- The neighbour of a key on a side.
 abbrev pub neighbour_of : {K : Type 0} {order : K → K → Ordering} → Neighbour → FinMap order ℕ → K → Option K
 neighbour_of command.first = neighbours.first
 neighbour_of command.next = neighbours.next
 neighbour_of command.last = neighbours.last
 neighbour_of command.prev = neighbours.prev
 
+-- The neighbour of a word among the words that are no keys.
 abbrev pub empty_neighbour_of : Neighbour → FinMap word_order ℕ → ℕ → Option ℕ
 empty_neighbour_of command.first = empties.first_empty
 empty_neighbour_of command.next = empties.next_empty
@@ -120,7 +126,7 @@ empty_neighbour_of command.prev = empties.prev_empty
 
 -- ---- the commands that each kind has, beside `free` and `drop`, which all have
 
--- A judy1 array is a set of words.
+-- A judy1 array is a set of words: what its commands of one word do.
 abbrev pub set_on_key : KeyCommand → ArrayOf word_order → List ℕ → Result (Outcome ArrayValue) Refusal
 set_on_key command.set set token = do
   key ← word_at token
@@ -142,6 +148,7 @@ set_on_key command.by_count set token = do
   Ok (unchanged (judy1 set) (number_or_nothing (counts.by_count set.map n)))
 set_on_key other set token = Err wrong_kind
 
+-- And of two words.
 abbrev pub set_on_pair : PairCommand → ArrayOf word_order → List ℕ → List ℕ → Result (Outcome ArrayValue) Refusal
 set_on_pair command.count set from to = do
   from ← word_at from
@@ -152,6 +159,7 @@ set_on_pair other set key value = Err wrong_kind
 -- What all maps have: the value of a key is looked up, put in, overwritten and deleted. The key is what a
 -- token says, or why it is refused.
 module _ {K : Type 0} {order : K → K → Ordering} (kind : ArrayOf order → ArrayValue) where
+  -- The commands of one key.
   abbrev pub map_on_key : KeyCommand → ArrayOf order → Result K Refusal → Result (Outcome ArrayValue) Refusal
   map_on_key command.get array said = do
     key ← said
@@ -161,6 +169,7 @@ module _ {K : Type 0} {order : K → K → Ordering} (kind : ArrayOf order → A
     Ok (removed kind array key)
   map_on_key other array said = Err wrong_kind
 
+  -- The commands of a key and its value.
   abbrev pub map_on_pair : PairCommand → ArrayOf order → Result K Refusal → List ℕ → Result (Outcome ArrayValue) Refusal
   map_on_pair command.ins array said value = do
     key ← said
@@ -172,7 +181,7 @@ module _ {K : Type 0} {order : K → K → Ordering} (kind : ArrayOf order → A
     Ok (overwritten kind array key value (get array.map key))
   map_on_pair other array said value = Err wrong_kind
 
--- A judyl array is a map from words to words, which has the order of the words beside.
+-- A judyl array is a map from words to words, which has the order of the words beside: what its commands of one word do.
 abbrev pub words_on_key : KeyCommand → ArrayOf word_order → List ℕ → Result (Outcome ArrayValue) Refusal
 words_on_key (command.neighbour side) array token = do
   key ← word_at token
@@ -185,6 +194,7 @@ words_on_key command.by_count array token = do
   Ok (unchanged (judyl array) (entry_or_nothing entry array.map (counts.by_count array.map n)))
 words_on_key other array token = map_on_key judyl other array (word_at token)
 
+-- And of two words, or of a word and its value.
 abbrev pub words_on_pair : PairCommand → ArrayOf word_order → List ℕ → List ℕ → Result (Outcome ArrayValue) Refusal
 words_on_pair command.count array from to = do
   from ← word_at from
@@ -201,13 +211,14 @@ strings_on_key other array token = map_on_key judysl other array (string_key_at 
 
 -- ---- the commands of one array
 
--- What a command does, by the kind of the array. A judyhs array is a map from byte strings, and no more.
+-- What a command of one key does, by the kind of the array. A judyhs array is a map from byte strings, and no more.
 abbrev pub on_key : KeyCommand → List ℕ → ArrayValue → Result (Outcome ArrayValue) Refusal
 on_key command key (judy1 set) = set_on_key command set key
 on_key command key (judyl array) = words_on_key command array key
 on_key command key (judysl array) = strings_on_key command array key
 on_key command key (judyhs array) = map_on_key judyhs command array (bytes_key_at key)
 
+-- And a command of two keys, or of a key and its value.
 abbrev pub on_pair : PairCommand → List ℕ → List ℕ → ArrayValue → Result (Outcome ArrayValue) Refusal
 on_pair command key value (judy1 set) = set_on_pair command set key value
 on_pair command key value (judyl array) = words_on_pair command array key value
@@ -254,6 +265,7 @@ dropped store name = do
 
 -- ---- which arguments each command takes
 
+-- What a command does with its arguments, or why it is refused; so where they aren't as many as it takes.
 abbrev pub carried_out : Store → Command → List (List ℕ) → Result (Outcome Store) Refusal
 carried_out store command.make (name ∷ kind ∷ []) = made store name kind None
 carried_out store command.make (name ∷ kind ∷ limit ∷ []) = made store name kind (Some limit)

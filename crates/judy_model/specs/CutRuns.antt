@@ -1,4 +1,4 @@
--- What it is for a run to be cut off in the answer of a line, said by runs alone.
+-- What it is for a run to be cut off in the answer of a line, said by runs alone. (This project's own.)
 use Rattle.std.specs.Prelude.{◌≡◌, ℕ, ◌⊎◌, IsTrue, List, [], ◌++◌, length}
 use Rattle.judy_model.specs.Lines.{lines_of}
 use Rattle.judy_model.specs.LineLists.{are_whole_lines}

@@ -15,39 +15,47 @@ use Rattle.judy_model.specs.DumpText.{magic, length_order}
 
 -- ---- an array's head: its name, its kind, its limit, how many keys follow
 
+-- A name has 1 to 32 bytes.
 abbrev pub is_name_length : ℕ → Bool
 is_name_length length = nat_lt 0 length && nat_le length 32
 
+-- No array before it has the name.
 abbrev pub is_new : Store → List ℕ → Bool
 is_new earlier name = is_none (array_named earlier name)
 
+-- The kinds are 1 for judy1, 2 for judyl, 3 for judysl and 4 for judyhs.
 abbrev pub is_kind : ℕ → Bool
 is_kind kind = nat_lt 0 kind && nat_le kind 4
 
+-- A limit is 1 to 4,294,967,295.
 abbrev pub is_limit : ℕ → Bool
 is_limit limit = nat_lt 0 limit && nat_le limit 4294967295
 
--- What a name must be: it isn't that of an array before it.
+-- What a name must be: bytes of names, and not the name of an array before it.
 abbrev pub name_checks : Store → List ((List ℕ → Bool) × Fault)
 name_checks earlier = (list_all is_name_byte, bad_name) ∷ (is_new earlier, same_name) ∷ []
 
+-- A name behind its length, in one byte.
 abbrev pub name : Store → Part (List ℕ)
 name earlier = do
   length ← field (number 1) ((is_name_length, bad_name) ∷ [])
   field (bytes length) (name_checks earlier)
 
+-- A kind takes one byte.
 abbrev pub kind : Part ℕ
 kind = field (number 1) ((is_kind, bad_kind) ∷ [])
 
+-- A limit takes eight bytes.
 abbrev pub limit : Part ℕ
 limit = field (number 8) ((is_limit, bad_limit) ∷ [])
 
+-- How many keys follow takes eight bytes, and is no more than the limit.
 abbrev pub key_count : ℕ → Part ℕ
 key_count limit = field (number 8) (((λ count. nat_le count limit), bad_count) ∷ [])
 
 -- ---- an array's entries
 
--- A word takes eight bytes, each word being one that may stand there.
+-- A word takes eight bytes, and every word may stand there.
 abbrev pub word : Part ℕ
 word = number 8
 
@@ -55,7 +63,7 @@ word = number 8
 abbrev pub no_value : Part ℕ
 no_value = done 0
 
--- A byte string behind its length.
+-- A byte string of at most 1,024 bytes behind its length, in two bytes.
 abbrev pub string : Part (List ℕ)
 string = do
   length ← field (number 2) (((λ length. nat_le length 1024), bad_key) ∷ [])
@@ -91,7 +99,7 @@ filled made limit listed = do
   held ← listed
   done (made (record { limit = limit; map = from_entries held }))
 
--- The entries of each kind.
+-- An array by its kind, its limit and the number of its keys: so many entries, in the order in which a dump lists the kind's keys.
 abbrev pub contents : ℕ → ℕ → ℕ → Part ArrayValue
 contents kind limit count =
     if kind == 1 then filled judy1 limit (entries word_order word no_value None count)

@@ -50,9 +50,10 @@ name_text name = low_bytes 1 (length name) ++ name
 abbrev pub body : ArrayValue → List ℕ
 body array = low_bytes 1 (kind_number array) ++ word (limit_of array) ++ word (len_of array) ++ contents array
 
+-- Its name, and then the array.
 abbrev pub array_text : List ℕ × ArrayValue → List ℕ
 array_text array = name_text array.0 ++ body array.1
 
--- The store: the number of its arrays, and each in the order of making.
+-- The dump of a store: the format's name, the number of its arrays in four bytes, and each array in the order of making.
 abbrev pub dump_of : Store → List ℕ
 dump_of store = magic ++ low_bytes 4 (length store) ++ flat_map array_text store

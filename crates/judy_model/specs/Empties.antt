@@ -14,14 +14,18 @@ numbers_below bound = range_with_len 0 bound
 unfoldable pub empties : FinMap word_order ℕ → List ℕ
 empties map = filter (λ word. not (contains_key map word)) (numbers_below (2 ^ 64))
 
+-- The least of these words that isn't below a word.
 unfoldable pub first_empty : FinMap word_order ℕ → ℕ → Option ℕ
 first_empty map = first_of word_order (empties map)
 
+-- The least that is above it.
 unfoldable pub next_empty : FinMap word_order ℕ → ℕ → Option ℕ
 next_empty map = next_of word_order (empties map)
 
+-- The greatest that isn't above it.
 unfoldable pub last_empty : FinMap word_order ℕ → ℕ → Option ℕ
 last_empty map = last_of word_order (empties map)
 
+-- The greatest that is below it.
 unfoldable pub prev_empty : FinMap word_order ℕ → ℕ → Option ℕ
 prev_empty map = prev_of word_order (empties map)

@@ -22,7 +22,7 @@ two_arrays = (codes "a", judyl (empty_array 1)) ∷ (codes "s", judy1 (empty_arr
 abbrev pub string_arrays : Store
 string_arrays = (codes "t", judysl (empty_array 1)) ∷ (codes "h", judyhs (empty_array 2)) ∷ []
 
--- The script of two lines that makes them. An LF ends the first.
+-- The script of two lines that makes the arrays of `two_arrays`. An LF ends the first.
 abbrev pub two_lines : List ℕ
 two_lines = codes "make a judyl 1" ++ 10 ∷ codes "make s judy1 2"
 

@@ -26,6 +26,7 @@ abbrev pub followed_by : {A B : Type 0} → Result (A × List ℕ) Fault → (A 
 followed_by (Ok read) rest = rest read.0 read.1
 followed_by (Err fault) rest = Err fault
 
+-- A part, and what stands after it, by the part's value.
 infixl 10 ◌>>=◌
 abbrev pub ◌>>=◌ : {A B : Type 0} → Part A → (A → Part B) → Part B
 part >>= rest = λ bytes. followed_by (part bytes) rest
@@ -65,10 +66,11 @@ abbrev pub value_of : {A : Type 0} → Result (A × List ℕ) Fault → Result A
 value_of (Ok read) = Ok read.0
 value_of (Err fault) = Err fault
 
--- Bytes begin with a part that has no fault, and this holds of its value and of the bytes behind it.
+-- A part has no fault, and this holds of its value and of the bytes behind it.
 abbrev pub Behind : {A : Type 0} → Result (A × List ℕ) Fault → (A → List ℕ → Type 0) → Type 0
 Behind (Ok read) Holds = Holds read.0 read.1
 Behind (Err fault) Holds = ⊥
 
+-- Bytes begin with such a part.
 abbrev pub Begins : {A : Type 0} → Part A → (A → List ℕ → Type 0) → List ℕ → Type 0
 Begins part Holds = λ bytes. Behind (part bytes) Holds

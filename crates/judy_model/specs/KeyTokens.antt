@@ -35,11 +35,11 @@ key_of (sign ∷ signs) =
     else if sign == 35 then bytes_of_digits signs
     else None
 
--- Whether a byte string may be a key of a judyhs array, and of a judysl array: at most 1,024 bytes, and for
--- judysl no zero byte.
+-- Whether a byte string may be a key of a judyhs array: it has at most 1,024 bytes.
 abbrev pub is_bytes_key : List ℕ → Bool
 is_bytes_key key = nat_le (length key) 1024
 
+-- Whether it may be one of a judysl array: it has no zero byte either.
 abbrev pub is_string_key : List ℕ → Bool
 is_string_key key = is_bytes_key key && list_all (λ byte. not (byte == 0)) key
 
@@ -48,10 +48,11 @@ abbrev pub passing : (List ℕ → Bool) → Option (List ℕ) → Option (List 
 passing test None = None
 passing test (Some key) = if test key then Some key else None
 
--- The key of each of these kinds that a token says.
+-- The key of a judyhs array that a token says.
 abbrev pub bytes_key_of : List ℕ → Option (List ℕ)
 bytes_key_of token = passing is_bytes_key (key_of token)
 
+-- The key of a judysl array that it says.
 abbrev pub string_key_of : List ℕ → Option (List ℕ)
 string_key_of token = passing is_string_key (key_of token)
 

@@ -18,15 +18,19 @@ IsGreatest order = IsLeast (λ left right. order right left)
 
 -- The four neighbours of a key among the members of a set, which a test gives.
 module _ {K : Type 0} (order : K → K → Ordering) (member : K → Bool) (from : K) where
+  -- The least at or above the key.
   abbrev pub IsFirst : Option K → Type 0
   IsFirst = IsLeast order (λ key. member key && is_ge (order key from))
 
+  -- The least above it.
   abbrev pub IsNext : Option K → Type 0
   IsNext = IsLeast order (λ key. member key && is_gt (order key from))
 
+  -- The greatest at or below it.
   abbrev pub IsLast : Option K → Type 0
   IsLast = IsGreatest order (λ key. member key && is_le (order key from))
 
+  -- The greatest below it.
   abbrev pub IsPrev : Option K → Type 0
   IsPrev = IsGreatest order (λ key. member key && is_lt (order key from))
 

@@ -24,14 +24,18 @@ module _ {K : Type 0} (order : K → K → Ordering) where
 
 -- The same over the keys of a map.
 module _ {K : Type 0} {order : K → K → Ordering} where
+  -- The least key at or above the given one, a key of the map or not. (Manual: First.)
   unfoldable pub first : FinMap order ℕ → K → Option K
   first map = first_of order (keys map)
 
+  -- The least key above it. (Manual: Next.)
   unfoldable pub next : FinMap order ℕ → K → Option K
   next map = next_of order (keys map)
 
+  -- The greatest key at or below it. (Manual: Last.)
   unfoldable pub last : FinMap order ℕ → K → Option K
   last map = last_of order (keys map)
 
+  -- The greatest key below it. (Manual: Prev.)
   unfoldable pub prev : FinMap order ℕ → K → Option K
   prev map = prev_of order (keys map)

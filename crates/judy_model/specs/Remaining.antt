@@ -13,10 +13,11 @@ wants_memory reply = false
 abbrev pub remaining : List Line → List Reply → List (Line × Reply)
 remaining lines replies = filter (λ pair. not (wants_memory pair.1)) (zip lines replies)
 
--- These lines, and these replies.
+-- These lines.
 abbrev pub remaining_lines : List Line → List Reply → List Line
 remaining_lines lines replies = map (λ pair. pair.0) (remaining lines replies)
 
+-- These replies.
 abbrev pub remaining_replies : List Line → List Reply → List Reply
 remaining_replies lines replies = map (λ pair. pair.1) (remaining lines replies)
 

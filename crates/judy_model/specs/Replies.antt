@@ -9,6 +9,7 @@ use Rattle.judy_model.specs.Stores.{Store}
 pub data Answer : Type 0 where
   -- none at all: a blank line or a comment
   silent : Answer
+  -- an array was made
   done : Answer
   -- what a slot held before
   was : ℕ → Answer
@@ -23,9 +24,11 @@ pub data Answer : Type 0 where
   freed : ℕ → Answer
   -- the arrays of a store
   listed : Store → Answer
+  -- there is no such key, word or value
   nothing : Answer
 
--- Why a line is refused. A line to which several apply is refused for the first of them.
+-- Why a line is refused, in the order in which that is asked: a line to which several apply is refused for the first of them. A bad
+-- word and a bad key go by the first bad argument.
 pub data Refusal : Type 0 where
   line_too_long : Refusal
   unknown_command : Refusal

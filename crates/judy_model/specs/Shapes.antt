@@ -17,7 +17,7 @@ abbrev pub with_key : ℕ → ℕ → List Group → List Group
 with_key byte rest [] = (byte, rest ∷ []) ∷ []
 with_key byte rest (group ∷ groups) = if byte == group.0 then (byte, rest ∷ group.1) ∷ groups else (byte, rest ∷ []) ∷ group ∷ groups
 
--- Ascending keys by their first byte, which counts units of 256 to the number of the bytes behind it.
+-- Ascending keys by their first byte. A unit is 256 to the power of the number of bytes behind it.
 abbrev pub groups_of : ℕ → List ℕ → List Group
 groups_of unit [] = []
 groups_of unit (key ∷ keys) = with_key (key / unit) (key % unit) (groups_of unit keys)

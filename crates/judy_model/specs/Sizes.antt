@@ -1,4 +1,4 @@
--- How much a store holds.
+-- How much a store holds. (This project's own.)
 use Rattle.std.specs.Prelude.{ℕ, ◌+◌, [], ◌∷◌}
 use Rattle.judy_model.specs.Arrays.{len_of}
 use Rattle.judy_model.specs.Stores.{Store}

@@ -26,19 +26,21 @@ outcome_of_tokens store (word ∷ arguments) =
 abbrev pub outcome_of : Store → Line → Result (Outcome Store) Refusal
 outcome_of store line = if is_too_long line then Err line_too_long else outcome_of_tokens store (tokens_of (text_of line))
 
--- The reply of a line and the store after it: a refused line leaves the store as it was.
+-- What an outcome is replied, and the store after it: a refused line leaves the store as it was.
 abbrev pub settled : Store → Result (Outcome Store) Refusal → Reply × Store
 settled store (Ok outcome) = (Ok outcome.answer, outcome.after)
 settled store (Err refusal) = (Err refusal, store)
 
+-- The reply of a line and the store after it, with memory for all.
 abbrev pub step : Store → Line → Reply × Store
 step store line = settled store (outcome_of store line)
 
--- Whether a line that isn't refused adds a key or an array.
+-- Whether an outcome adds a key or an array; a refusal doesn't.
 abbrev pub outcome_grows : Result (Outcome Store) Refusal → Bool
 outcome_grows (Ok outcome) = outcome.grows
 outcome_grows (Err refusal) = false
 
+-- Whether a line adds a key or an array, where there is memory.
 abbrev pub grows : Store → Line → Bool
 grows store line = outcome_grows (outcome_of store line)
 

@@ -5,7 +5,7 @@ use Rattle.std.specs.Map.{lookup, set_value, remove_entry, keys_of, values_of}
 use Rattle.judy_model.specs.Arrays.{ArrayValue, IsArray, limit_of}
 use Rattle.judy_model.specs.Tokens.{is_name}
 
--- The pairs of a name and an array. (The functions below serve whatever stands beside the names.)
+-- The pairs of a name and an array. (The functions below serve lists of whatever stands beside names.)
 abbrev pub Store : Type 0
 Store = List (List ℕ × ArrayValue)
 

@@ -1,4 +1,4 @@
-//! Laws above the definitions. Each is the contract of a function without a body, so that the check
+//! Laws above the definitions. Each is the contract of a function with an empty body, so that the check
 //! proves it; no program calls these.
 
 pub mod bytes;

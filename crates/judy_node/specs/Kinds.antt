@@ -23,10 +23,12 @@ abbrev pub imm_width : ℕ → ℕ → ℕ
 imm_width zero head = head / 256
 imm_width (suc words) head = 0
 
+-- Its keys with their values.
 abbrev pub imm_pairs : ℕ → ℕ → ℕ → Pairs
 imm_pairs zero head word = (parts_list 0 (head / 256) (head % 256) word).pairs
 imm_pairs (suc words) head word = (head, word) ∷ []
 
+-- An immediate as a tree of one node.
 abbrev pub imm_tree : ℕ → ℕ → ℕ → Tree
 imm_tree words head word = record { width = imm_width words head; pairs = imm_pairs words head word; form = immediate (keys_of (imm_pairs words head word)) ∷ [] }
 
@@ -37,6 +39,7 @@ IsImm (suc words) head word = suc words ≤ 1
 
 -- ---- leaves
 
+-- A leaf as a tree of one node.
 abbrev pub leaf_tree : ℕ → ℕ → Contents → Tree
 leaf_tree words count block = record { width = block.tag; pairs = (leaf_list words count block).pairs; form = leaf (keys_of (leaf_list words count block).pairs) ∷ [] }
 
@@ -51,6 +54,7 @@ pub record IsLeaf (words count : ℕ) (block : Contents) : Type 0 where
 abbrev pub bit_width : Contents → ℕ
 bit_width block = block.tag / 65536
 
+-- A bitmap leaf as a tree of one node: each key is the skipped bytes and a last byte.
 abbrev pub bit_tree : ℕ → ℕ → Contents → Tree
 bit_tree words skipped block = record {
   width = bit_width block;

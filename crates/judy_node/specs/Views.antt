@@ -26,7 +26,7 @@ view_form width (Leaf list) = leaf (keys_of list.pairs) ∷ []
 view_form width (BitLeaf skipped list) = bitmap_leaf (low_bytes (width - 1) skipped) (keys_of list.pairs) ∷ []
 view_form width (Branch b) = branch b.now.skip b.now.bytes b.now.population ∷ forms_in b.now.children.items
 
--- What holds of the parts.
+-- What holds of the parts, in a tree whose keys have so many value words and such a width.
 abbrev pub IsPlace : {V : _} → ℕ → ℕ → ViewOf V → Type 0
 IsPlace words width Null = Unit {0}
 IsPlace words width (One key value) = width ≡ 8

@@ -2,6 +2,7 @@
 use Rattle.std.specs.Prelude.{◌≡◌, [], ◌∷◌, length, get_or}
 use Rattle.judy_node.specs.declared.whole.Whole.{Whole}
 
+-- The value in its array.
 abbrev pub whole : {T : Type 0} → T → Whole T
 whole value = record { items = value ∷ [] }
 

@@ -41,7 +41,7 @@ impl<V: Words + Drop> BranchOf<V> {
         }
     }
 
-    /// The place of the child of a byte. Where all 256 children stand, a byte is its place.
+    /// The place of the child of a byte; none where no child has it. Where all 256 children stand, a byte is its place.
     #[inline(always)]
     pub fn place(&self, byte: u8) -> Option<usize>
         requires { IsBranch V.WORDS self.now.width self.now.skip self.now.bytes self.now.children.items self.now.population }
@@ -86,7 +86,8 @@ impl<V: Words + Drop> BranchOf<V> {
         Sums::of(alloc, &self.children)
     }
 
-    /// How many keys there are below the first children, so many. It adds from the nearer end, sums of sixteen children where there are any.
+    /// How many keys there are below the first children, so many, and at most all. It adds from the nearer end, by sums of sixteen
+    /// children where there are any.
     pub fn keys_before(&self, place: usize) -> u64
         requires branch { IsBranch V.WORDS self.now.width self.now.skip self.now.bytes self.now.children.items self.now.population }
         requires sums { AreSums self.now.sums self.now.children.items }
@@ -100,8 +101,8 @@ impl<V: Words + Drop> BranchOf<V> {
         }
     }
 
-    /// The child that has the n-th of the keys below, counted from 0, and which of its own keys it is. It is looked for from the nearer
-    /// end.
+    /// The place of the child that has the n-th of the keys below, counted from 0 and below their number, and which of its own keys it
+    /// is. It is looked for from the end that fewer keys part it from.
     pub fn holding(&self, n: u64) -> (usize, u64)
         requires branch { IsBranch V.WORDS self.now.width self.now.skip self.now.bytes self.now.children.items self.now.population }
         requires sums { AreSums self.now.sums self.now.children.items }

@@ -52,7 +52,7 @@ fn group_end(pairs: &[(u64, u64)], below: u8, byte: u8) -> usize
     pairs.len()
 }
 
-/// How many keys of a width an immediate holds.
+/// How many keys of a width, 1 to 8 bytes, an immediate holds.
 pub fn most_in_immediate<V: Words + Drop>(width: u8) -> usize
     requires { 1 ≤ width }
     ensures { result ≡ immediate_limit V.WORDS width }
@@ -64,7 +64,8 @@ pub fn most_in_immediate<V: Words + Drop>(width: u8) -> usize
     }
 }
 
-/// The immediate of sorted pairs, whose keys are read by their lowest bytes, `width` of them. It takes no memory.
+/// The immediate of sorted pairs, at least one and no more than it holds, whose keys are read by their lowest bytes, `width` of them, 1
+/// to 7. It takes no memory.
 pub fn immediate_of_sorted<V: Words + Drop>(width: u8, pairs: &[(u64, u64)]) -> KindOf<V>
     requires one { V.WORDS ≤ 1 }
     requires width { (1 ≤ width) × (width ≤ 7) }
@@ -83,7 +84,8 @@ pub fn immediate_of_sorted<V: Words + Drop>(width: u8, pairs: &[(u64, u64)]) -> 
     }
 }
 
-/// The leaf of sorted pairs, whose keys are read by their lowest bytes, `width` of them. The error is want of memory.
+/// The leaf of sorted pairs, more than an immediate holds and at most 32, whose keys are read by their lowest bytes, `width` of them.
+/// The error is want of memory; nothing is kept then.
 pub fn leaf_of_sorted<V: Words + Drop>(
     alloc: Global,
     width: u8,
@@ -169,7 +171,7 @@ pub fn child_of_sorted<V: Words + Drop>(
     Ok(ChildOf::close(kind))
 }
 
-/// The same for more pairs than an immediate holds.
+/// The same for more pairs than an immediate holds, by the node's kind; `width` may be 8 here.
 #[cycle(build)]
 pub fn kind_of_sorted<V: Words + Drop>(
     alloc: Global,

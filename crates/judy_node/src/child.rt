@@ -1,7 +1,7 @@
 //! The nodes below the root.
 //!
-//! A node stands in its parent in 16 bytes. So a leaf is kept as its parts, the number of its keys and its block, and its width,
-//! which the way down knows, is in the block's tag for contracts alone; a bitmap leaf keeps the number that its skipped bytes
+//! A node stands in its parent in 16 bytes. So a leaf is kept as its parts, the number of its keys and its block; its width is in the
+//! block's tag, but the way down knows it and needn't read it there. A bitmap leaf keeps the number that its skipped bytes
 //! spell beside its block, and a branch is behind one pointer. Where keys have values an immediate is its one key and its
 //! value; else its head is the number of its keys and 256 times their width, and its word holds them.
 
@@ -116,7 +116,7 @@ impl<V: Words + Drop> ChildOf<V> {
         }
     }
 
-    /// Enters the node, whose keys have `width` bytes: one visit.
+    /// Enters the node, whose keys have `width` bytes: one visit more on the meter, which stands below `u64::MAX`.
     #[inline(always)]
     pub fn enter(&self, width: u8, meter: &mut Meter) -> ViewOf<'_, V>
         requires below { meter.old < 2 ^ 64 - 1 }

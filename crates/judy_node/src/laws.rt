@@ -1,5 +1,5 @@
-//! Laws of trees. Each is the contract of a function without a body, or with one that only looks at what every tree
-//! keeps, so that the check proves it; no program calls these.
+//! Laws of trees. Each is the contract of a function with an empty body, or with one that only looks at what every
+//! tree keeps, so that the check proves it; no program calls these.
 
 ghost use Rattle.std.specs.Prelude.{◌≡◌, ◌+◌, ℕ, List, length};
 ghost use Rattle.judy_model.specs.Shapes.{form_of};

@@ -5,12 +5,18 @@
 //! ([`NodeOf::told`], laws.rt), and so two tight trees with the same keys are alike.
 //!
 //! The root, a [`Node`], has keys of eight bytes: it is empty, one pair, or a [`Child`] with two keys or more. A child is an
-//! immediate, a leaf, a bitmap leaf or a branch, in 16 bytes: seven bytes and a word, a number of keys and a block, or one pointer. It
-//! doesn't keep the width of its keys, which those who come down the tree know. Both are entered, which is one visit on a
-//! [`judy_bits::Meter`], and give the same [`View`]; a branch answers by [`BranchOf::step`] where a key goes.
+//! immediate, a leaf, a bitmap leaf or a branch, in 16 bytes: seven bytes and a word, a number of keys and a block, or one pointer. Not
+//! each child tells the width of its keys, so those who come down the tree bring it. Root and children are entered, which is one visit
+//! on a [`judy_bits::Meter`], and give the same [`View`]; a branch answers by [`BranchOf::step`] where a key goes.
 //!
-//! child.rt has the nodes, node.rt the root, branch.rt what is asked of a branch, populations.rt how many keys its children have, shape.rt and fill.rt what goes over a whole tree, build.rt
-//! makes the tight tree of sorted pairs, room.rt makes room for a child, slot.rt lends the slot of a value. The crate stands on judy_model, judy_bits, judy_block and judy_leaf.
+//! child.rt has the nodes (whole.rt the array that one is moved in, head.rt the seven bytes beside its word), node.rt the root, and
+//! view.rt what a node shows to those who enter it. branch.rt has what is asked of a branch, step.rt where a key goes there, populations.rt
+//! how many keys its children have, and sums.rt the same by sixteens, where all 256 stand. shape.rt and fill.rt go over a whole tree,
+//! build.rt makes the tight tree of sorted pairs, room.rt makes room for a child, slot.rt lends the slot of a value. The parts for
+//! writing ([`KindOf`], [`RootOf`], [`BranchOf`], [`Sums`]) are for judy_change. Which nodes there are and how they lie is this
+//! project's own.
+//!
+//! The crate stands on judy_model, judy_bits, judy_block and judy_leaf; judy_query, judy_change and judy_word stand on it.
 #![tactic(auto)]
 
 mod branch;

@@ -59,14 +59,14 @@ impl<V: Words + Drop> NodeOf<V> {
         }
     }
 
-    /// A law without a body, what every tree keeps: its keys ascend, and where no node is loose, its form is that of the rule.
+    /// A law, told by a call that does nothing, of what every tree keeps: its keys ascend, and where no node is loose, its form is that of the rule.
     pub fn told(&self)
         ensures { IsNode V.WORDS self.now }
     {
         let _ = &self.kind;
     }
 
-    /// How many keys there are. It enters no node.
+    /// How many keys there are. No node is entered.
     pub fn pop(&self) -> u64
         ensures { result ≡ length self.now.pairs }
     {
@@ -77,7 +77,7 @@ impl<V: Words + Drop> NodeOf<V> {
         }
     }
 
-    /// Enters the root: one visit.
+    /// Enters the root: one visit more on the meter, which stands below `u64::MAX`.
     pub fn enter(&self, meter: &mut Meter) -> ViewOf<'_, V>
         requires { meter.old < 2 ^ 64 - 1 }
         ensures visits { meter.new ≡ meter.old + 1 }
@@ -112,7 +112,7 @@ impl<V: Words + Drop> NodeOf<V> {
         NodeOf { kind }
     }
 
-    /// How many nodes of each kind the tree has.
+    /// How many nodes of each kind the tree has. It goes over all of them, and counts no visit.
     pub fn shape(&self) -> Shape
         ensures { shape_as result ≡ shape_in self.now.form }
     {
@@ -128,7 +128,7 @@ impl<V: Words + Drop> NodeOf<V> {
         shape
     }
 
-    /// The pairs by ascending key, in a vector of their own. The error is want of memory.
+    /// The pairs by ascending key, in a vector of their own; no visit is counted. The error is want of memory.
     pub fn gather(&self, alloc: Global) -> Result<Vec<(u64, u64)>, AllocError>
         ensures { IfOk result (λ pairs. pairs.items ≡ self.now.pairs) }
     {

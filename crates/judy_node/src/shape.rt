@@ -55,7 +55,7 @@ impl Shape {
 }
 
 impl<V: Words + Drop> ChildOf<V> {
-    /// Counts the node and those below it.
+    /// Counts the node and those below it, beside what is counted already.
     #[cycle(shape)]
     pub fn count_into(&self, shape: &mut Shape)
         requires { nodes_in (shape_as shape.old) + length self.now.form < 2 ^ 128 }
@@ -70,6 +70,7 @@ impl<V: Words + Drop> ChildOf<V> {
     }
 }
 
+// Counts a branch and the nodes below it.
 #[cycle(shape)]
 fn count_branch<V: Words + Drop>(branch: &BranchOf<V>, shape: &mut Shape)
     requires { nodes_in (shape_as shape.old) + (1 + length (forms_in branch.now.children.items)) < 2 ^ 128 }

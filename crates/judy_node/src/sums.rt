@@ -1,5 +1,5 @@
-//! The populations of the children of a full branch by sixteens: where all 256 children stand, a rank or the n-th key reads at most
-//! eight sums and eight children in place of 128 children.
+//! The populations of the children of a full branch by sixteens: where all 256 children stand, a rank reads at most eight sums and
+//! eight children in place of 128 children, and the n-th key at most 16 of each in place of 256 children.
 
 ghost use Rattle.std.specs.Prelude.{◌≡◌, ◌+◌, ◌-◌, ◌*◌, ◌^◌, ◌<◌, ◌≤◌, ℕ, List, length, get_or, set, take, sum};
 ghost use Rattle.judy_node.specs.Trees.{Tree};

@@ -35,7 +35,7 @@ impl<T> Whole<T> {
         &self.items[0]
     }
 
-    /// The value, to be changed.
+    /// Lends the value, to be changed.
     pub fn get_mut(&mut self) -> &mut T
         ensures* changes { sem 𝓛 (Lends (the_row T.row) T.row self.entry result whole) }
         ensures value { self.old ≡ whole result.now }

@@ -1,4 +1,4 @@
--- That a source over a slice keeps to what a source keeps to.
+-- That a source over a slice keeps to what a source keeps to, and one that reads ahead from another too.
 use Rattle.std.specs.Prelude.{◌≡◌, ℕ, ◌-◌, ◌<◌, ◌≤◌, Bool, true, false, List, ◌++◌, length, take, drop, Option, Some, None, IfSome, refl}
 use Rattle.std.proofs.Common.{sym, ap, ◌∙◌, append_assoc, arith}
 use Rattle.std.proofs.Math.Seq.{take-length}

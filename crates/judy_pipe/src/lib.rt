@@ -14,8 +14,8 @@
 //!
 //! [`BufferedSource`] reads ahead from another source in large pieces, and [`BufferedSink`] hands on to another sink
 //! in large pieces. [`MemSource`] and [`MemSink`] are the pipes over memory, which can be made to fail or to be
-//! interrupted at a stated place. The crate stands lowest among those that move bytes: it knows
-//! neither files nor what the bytes mean, and it takes no memory.
+//! interrupted at a stated place, and [`MemSink`] to take 0 bytes there. The crate stands lowest among those that move
+//! bytes: it knows neither files nor what the bytes mean, and it takes no memory.
 #![tactic(auto)]
 
 mod buffered_sink;

@@ -10,8 +10,9 @@ const RETRIED_INTERRUPTIONS: u64 = 999;
 
 /// How often a pipe failed in all, and how often it was interrupted in a row.
 ///
-/// Every pipe holds one and tells it of each call, by `count_read` or `count_write`. A call asks that
-/// the failures stand below `u64::MAX`, and adds at most one.
+/// A pipe that counts for itself holds one and tells it of each call, by `count_read` or `count_write`; a
+/// buffered one goes by that of the pipe that it stands over. A call asks that the failures stand below
+/// `u64::MAX`, and adds at most one.
 #[derive(Clone, Copy, Debug, PartialEq, Eq)]
 pub struct Tally {
     /// The failures so far.

@@ -1,5 +1,5 @@
-//! Laws of free places. Each is the contract of a function without a body, so that the check proves it; no program
-//! calls these.
+//! Laws of free places. Each is the contract of a function with an empty body, so that the check proves it; no
+//! program calls these.
 
 ghost use Rattle.std.specs.Prelude.{◌≡◌, ◌<◌, ◌≤◌, ◌⊎◌, ℕ, length, get_or, set, None, Some};
 ghost use Rattle.judy_places.specs.Places.{Links, AllTaken, AreLinked, NoneLost, free_places, taken_places, IsPlaceTaken, AreReused, AreFreed};

@@ -1,4 +1,4 @@
--- What the definitions of the product say of the map of a tree's pairs, told by these pairs: which words are keys, how many keys are
+-- What judy_model's definitions say of the map of a tree's pairs, told by these pairs: which words are keys, how many keys are
 -- below a word, and which key stands at a place.
 use Rattle.std.proofs.Common.{◌≡◌, ℕ, ◌+◌, ◌<◌, Bool, true, false, cond, ◌&&◌, T, [], ◌∷◌, map, length, filter, find, slice_get, Option, Some, None, refl, sym, ap, ◌∙◌, subst, arith, is_lt, is_le, is_ge, reverse, option_map}
 use Rattle.std.specs.Cmp.{nat_cmp_total}

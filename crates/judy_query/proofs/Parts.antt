@@ -1,4 +1,4 @@
--- Parts of trees: of parts, and what they make of a search.
+-- Parts of trees, and parts of these: what they make of a search.
 use Rattle.std.proofs.Common.{◌≡◌, ℕ, ◌+◌, [], ◌++◌, sym, ap, ◌∙◌, arith}
 use Rattle.std.proofs.lemmas.List.{append_assoc, append-nil}
 use Rattle.judy_leaf.specs.KeyLists.{shift}

@@ -139,7 +139,7 @@ full-run words low top (pair ∷ pairs) map run =
     }) in
     omega arith
 
--- ---- as leaves and the product say it
+-- ---- as leaves and judy_model say it
 
 module _ (pairs : Pairs) (from bound : ℕ) where
   is_free : (word : ℕ) → word < bound → has (keys_of pairs) word ≡ false → (nat_lt word bound && not (has (keys_of pairs) word)) ≡ true

@@ -11,7 +11,7 @@ use Rattle.judy_node.specs.declared.step.Step.TheVariants.{Child, Missing, Below
 use Rattle.judy_node.specs.declared.view.ViewOf.{ViewOf}
 use Rattle.judy_node.specs.declared.view.ViewOf.TheVariants.{Null, One, Imm, Leaf, BitLeaf, Branch}
 
--- The value of a key.
+-- The value of a key among pairs; none where it is absent.
 abbrev pub value_of : Pairs → ℕ → Option ℕ
 value_of pairs key = find word_order key pairs
 

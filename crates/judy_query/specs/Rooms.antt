@@ -38,13 +38,13 @@ HasWidth wide Nowhere = Unit {0}
 HasWidth wide (At word) = Unit {0}
 HasWidth wide (In child width start) = width ≡ wide
 
--- Where the first word from one on and below another is that is no key.
+-- Where the first word is that is no key, from one word on and below another.
 abbrev pub IsRoomFrom : {V : _} → ℕ → Pairs → ℕ → ℕ → Room V → Type 0
 IsRoomFrom words all from top Nowhere = IsRun all from top
 IsRoomFrom words all from top (At word) = (word < top) × IsRun all from word × IsFalse (has (keys_of all) word)
 IsRoomFrom words all from top (In child width start) = (start + 256 ^ width ≤ top) × IsRun all from start × HasRoom words all child.now width start
 
--- Where the last one is.
+-- Where the last such word is.
 abbrev pub IsRoomUpTo : {V : _} → ℕ → Pairs → ℕ → ℕ → Room V → Type 0
 IsRoomUpTo words all from top Nowhere = IsRun all from top
 IsRoomUpTo words all from top (At word) = (from ≤ word) × IsRun all (word + 1) top × IsFalse (has (keys_of all) word)

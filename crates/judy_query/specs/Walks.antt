@@ -15,6 +15,7 @@ use Rattle.judy_query.specs.Turns.{IsTurn, IsFirst}
 abbrev pub rest_of_turn : {V : _} → Turn V → Pairs
 rest_of_turn turn = shift turn.base (join (256 ^ turn.branch.now.width) (number_of turn.branch.now.skip * 256) (drop turn.place turn.branch.now.bytes) (drop turn.place turn.branch.now.children.items))
 
+-- The same, and none where there is no turn.
 abbrev pub rest_if_any : {V : _} → Option (Turn V) → Pairs
 rest_if_any None = []
 rest_if_any (Some turn) = rest_of_turn turn

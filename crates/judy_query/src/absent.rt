@@ -12,7 +12,7 @@ use crate::rooms::has_next;
 use judy_leaf::{BitRef, Words};
 use judy_node::ViewOf;
 
-/// The first word from a key on, of a node's width, that is no key of the node.
+/// The first word from a key on, of a node's width, that is no key of the node; none where all of these are keys.
 pub fn first_absent<V: Words + Drop>(end: &ViewOf<'_, V>, width: u8, key: u64) -> Option<u64>
     requires end { IsEnd end.now }
     requires shown { IsShown V.WORDS end.now }
@@ -56,7 +56,7 @@ fn first_absent_bit<V: Words + Drop>(
     }
 }
 
-/// The last word up to a key that is no key of the node.
+/// The last word up to a key that is no key of the node; none where all of these are keys.
 pub fn last_absent<V: Words + Drop>(end: &ViewOf<'_, V>, width: u8, key: u64) -> Option<u64>
     requires end { IsEnd end.now }
     requires shown { IsShown V.WORDS end.now }

@@ -5,7 +5,6 @@ ghost use Rattle.judy_model.specs.Neighbours as neighbours;
 ghost use Rattle.judy_leaf.specs.Nearby.{pair_from};
 ghost use Rattle.judy_query.specs.Maps.{map_of};
 
-use crate::branches::{byte_behind, reached};
 use crate::ends::{from_in, value_in_dense};
 use crate::turns::{later_turn, pair_behind};
 use judy_bits::Meter;
@@ -48,24 +47,11 @@ pub fn entry_at_or_after<V: Words + Drop>(
         let (branch, left) = at;
         let step = branch.step(left);
         let Step::Child(_, place, rest) = step else {
-            return pair_behind(
-                branch,
-                reached(branch, step),
-                byte_behind(step),
-                key - left,
-                later,
-                meter,
-            );
+            return pair_behind(branch, step, key - left, later, meter);
         };
         match branch.children[place].enter(branch.width, meter) {
             ViewOf::Branch(below) => {
-                later = later_turn(
-                    branch,
-                    reached(branch, step),
-                    byte_behind(step),
-                    key - left,
-                    later,
-                );
+                later = later_turn(branch, step, key - left, later);
                 at = (below, rest);
             }
             view => {
@@ -73,14 +59,7 @@ pub fn entry_at_or_after<V: Words + Drop>(
                     return Some((key, value));
                 }
                 let Some(found) = from_in(&view, rest) else {
-                    return pair_behind(
-                        branch,
-                        reached(branch, step),
-                        byte_behind(step),
-                        key - left,
-                        later,
-                        meter,
-                    );
+                    return pair_behind(branch, step, key - left, later, meter);
                 };
                 return Some((key - rest + found.0, found.1));
             }

@@ -5,7 +5,6 @@ ghost use Rattle.judy_model.specs.Neighbours as neighbours;
 ghost use Rattle.judy_leaf.specs.Nearby.{pair_up_to};
 ghost use Rattle.judy_query.specs.Maps.{map_of};
 
-use crate::branches::{byte_passed, passed};
 use crate::ends::up_to_in;
 use crate::turns::{earlier_turn, greatest};
 use judy_bits::Meter;
@@ -43,13 +42,7 @@ pub fn entry_at_or_before<V: Words + Drop>(
     'down: loop {
         let (branch, left) = at;
         let step = branch.step(left);
-        earlier = earlier_turn(
-            branch,
-            passed(branch, step),
-            byte_passed(step),
-            key - left,
-            earlier,
-        );
+        earlier = earlier_turn(branch, step, key - left, earlier);
         let Step::Child(_, place, rest) = step else {
             return greatest(earlier, meter);
         };

@@ -95,7 +95,7 @@ pub(crate) fn byte_from<V: Words + Drop>(branch: &BranchOf<V>, place: usize, fro
     }
 }
 
-/// The same for the last child below a byte, whose place is known: its own byte is the one before in the set.
+/// Where the keys of the last child below a byte begin, whose place is known: its own byte is the one before in the set.
 pub(crate) fn start_below<V: Words + Drop>(branch: &BranchOf<V>, place: usize, below: u64) -> u64
     requires branch { IsBranch V.WORDS branch.now.width branch.now.skip branch.now.bytes branch.now.children.items branch.now.population }
     requires place { place < length branch.now.children.items }

@@ -10,7 +10,7 @@ ghost use Rattle.judy_query.specs.Parts.{value_of, IsEnd, IsShown};
 use judy_leaf::{BitRef, ImmOf, LeafRef, Words};
 use judy_node::ViewOf;
 
-/// The value of a key.
+/// The value of a key, 0 where keys have no value; none where the key is absent.
 pub(crate) fn value_in<V: Words + Drop>(view: &ViewOf<'_, V>, key: u64) -> Option<u64>
     requires end { IsEnd view.now }
     requires shown { IsShown V.WORDS view.now }
@@ -134,7 +134,7 @@ pub(crate) fn value_in_dense<V: Words + Drop>(view: &ViewOf<'_, V>, key: u64) ->
     value_in_bits(list, key - start)
 }
 
-/// The nearest pair at or above a number.
+/// The nearest pair at or above a number; none where all are below.
 // Where a node was just entered its kind is known: by a call it would be written to memory and told anew.
 #[inline(always)]
 pub(crate) fn from_in<V: Words + Drop>(view: &ViewOf<'_, V>, key: u64) -> Option<(u64, u64)>
@@ -160,7 +160,7 @@ pub(crate) fn from_in<V: Words + Drop>(view: &ViewOf<'_, V>, key: u64) -> Option
     }
 }
 
-/// The nearest pair at or below a number.
+/// The nearest pair at or below a number; none where all are above.
 // As `from_in`.
 #[inline(always)]
 pub(crate) fn up_to_in<V: Words + Drop>(view: &ViewOf<'_, V>, key: u64) -> Option<(u64, u64)>

@@ -1,19 +1,21 @@
-//! The queries of a tree of words: what is the value of a key, how many keys are below a word, which key is the n-th, and which is
-//! nearest to a word.
-//!
-//! Each goes down the tree once, or, for a neighbour, once and then once more from a branch that it remembers; so it enters at most
-//! 8 nodes, or 16, whatever the tree, loose ones too. Each is a loop over branches and one look at the node below them (ends.rt). None
-//! asks for memory, and none makes a [`judy_bits::Meter`]: the visits are counted on the caller's.
-//!
-//! values.rt has the value of a key, counts.rt how many keys are below a word, places.rt the key at a place, after.rt and before.rt the
-//! nearest keys, turns.rt where the search for one of these turns off the key's way, branches.rt what the ways ask of a branch.
+//! The queries of a tree of words: what is the value of a key, how many keys are below a word, which key is the n-th, which key is
+//! nearest to a word, which word that is no key is, and which pairs follow each other from a key on.
 //!
 //! To its callers a tree is the map of its pairs (specs/Maps.antt), and each answer is that of judy_model's definitions. The calls whose
-//! names begin with `entry` give the value with the key in the same way down. The crate stands on judy_node's public contracts
-//! alone: it enters nodes and never opens one.
+//! names begin with `entry` give the value with the key in the same way down.
 //!
-//! The words that are no keys are found by the same ways down (empties.rt). There no full node is entered: rooms.rt passes full children
-//! over by the number of their keys.
+//! Each call goes down the tree once, or, for a neighbour, once and then once more from a branch that it remembers; so it enters at
+//! most 8 nodes, or 16, whatever the tree, loose ones too. Each is a loop over branches and one look at the node below them. None asks
+//! for memory. The visits are counted on the caller's [`judy_bits::Meter`], those of a [`Walk`] too, and none makes a meter of its own.
+//!
+//! values.rt has the value of a key, counts.rt how many keys are below a word, places.rt the key at a place, after.rt and before.rt the
+//! nearest keys, turns.rt where the search for one of these turns off the key's way. empties.rt has the nearest words that are no keys,
+//! absent.rt what a node without children tells of them, rooms.rt where a branch has some: no full child is entered, but passed over by
+//! the number of its keys. walk.rt has the walk, waiting.rt the children that it comes back to, stretch.rt the pairs of one node in turn,
+//! and scan.rt those of a bitmap leaf. branches.rt has what all ways down ask of a branch, ends.rt what they ask where they end.
+//!
+//! The crate enters nodes and never opens one. It stands on judy_model, judy_bits, judy_leaf, judy_node and `arrayvec`, and judy_word
+//! stands on it.
 #![tactic(auto)]
 
 mod absent;

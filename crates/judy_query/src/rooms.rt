@@ -67,7 +67,7 @@ fn byte_at<V: Words + Drop>(branch: &BranchOf<V>, place: usize) -> u8
     }
 }
 
-/// The least word of the block of a byte, or behind the block of byte 255.
+/// The least word of the block of a byte, or the one behind the block of byte 255, where the branch's words begin at a base.
 fn start_of<V: Words + Drop>(branch: &BranchOf<V>, byte: u64, base: u64) -> u64
     requires branch { IsBranch V.WORDS branch.now.width branch.now.skip branch.now.bytes branch.now.children.items branch.now.population }
     requires within { base + (number_of branch.now.skip * 256 + byte) * 256 ^ branch.now.width < 2 ^ 64 }

@@ -57,7 +57,7 @@ impl<'a, V: Words + Drop> Stretch<'a, V> {
         }
     }
 
-    /// The next pair.
+    /// The next pair; none where none is left.
     pub(crate) fn next(&mut self) -> Option<(u64, u64)>
         ensures { YieldsFirst (λ pairs. pairs) self.old result self.new }
     {

@@ -1,4 +1,4 @@
-//! Where the search for a neighbour turns off the way of its key: to the last child on that side of the way.
+//! Where the search for a neighbour turns off the way of its key: to the nearest child beside the way, on the neighbour's side.
 
 ghost use Rattle.std.specs.Prelude.{◌≡◌, ◌+◌, ◌-◌, ◌*◌, ◌^◌, ◌<◌, ◌≤◌, length, take, drop, slice_get, Some};
 ghost use Rattle.std.specs.Option.{option_or};
@@ -6,14 +6,14 @@ ghost use Rattle.judy_model.specs.WordBytes.{number_of};
 ghost use Rattle.judy_bits.specs.ByteSets as set;
 ghost use Rattle.judy_leaf.specs.KeyLists.{shift};
 ghost use Rattle.judy_node.specs.Trees.{join, IsBranch};
-ghost use Rattle.judy_query.specs.Parts.{IsStart};
+ghost use Rattle.judy_query.specs.Parts.{passed, reached, byte_passed, byte_behind, IsStart};
 ghost use Rattle.judy_query.specs.Turns.{turn_pairs, IsTurn, IsLater, IsEarlier, last_pair, later_pair, earlier_pair};
 
-use crate::branches::{start_below, start_from};
+use crate::branches::{byte_behind, byte_passed, passed, reached, start_below, start_from};
 use crate::places::entry_below;
 use judy_bits::Meter;
 use judy_leaf::Words;
-use judy_node::BranchOf;
+use judy_node::{BranchOf, Step};
 
 /// A child beside the way: its branch, its place there, and where the keys of the branch begin. Its own byte is found without a count,
 /// from its edge: the byte from which on it is the first child, for what is behind the way, or below which it is the last, for what is
@@ -26,64 +26,66 @@ pub(crate) struct Turn<'a, V: Words + Drop> {
     pub(crate) edge: u64,
 }
 
-/// The turn to the child at a place of a branch whose keys begin at `base`, the first from a byte on; where there is none, the one before.
+/// The turn to the first child behind a key in a branch whose keys begin at `base`, by the key's step there; where there is none, the
+/// one before.
 pub(crate) fn later_turn<'a, V: Words + Drop>(
     branch: &'a BranchOf<V>,
-    place: usize,
-    from: u64,
+    step: Step,
     base: u64,
     before: Option<Turn<'a, V>>,
 ) -> Option<Turn<'a, V>>
     requires branch { IsBranch V.WORDS branch.now.width branch.now.skip branch.now.bytes branch.now.children.items branch.now.population }
-    requires from { place ≡ set.rank branch.now.bytes from }
+    requires inside { passed (length branch.now.children.items) step ≤ length branch.now.children.items }
+    requires step { reached (length branch.now.children.items) step ≡ set.rank branch.now.bytes (byte_behind step) }
     requires fits { base + 256 ^ (length branch.now.skip + 1 + branch.now.width) ≤ 256 ^ 8 }
     requires before { IsLater V.WORDS before }
     ensures turn { IsLater V.WORDS result }
-    ensures pair { later_pair result ≡ option_or (slice_get (shift base (join (256 ^ branch.now.width) (number_of branch.now.skip * 256) (drop place branch.now.bytes) (drop place branch.now.children.items))) 0) (later_pair before.entry) }
+    ensures pair { later_pair result ≡ option_or (slice_get (shift base (join (256 ^ branch.now.width) (number_of branch.now.skip * 256) (drop (reached (length branch.now.children.items) step) branch.now.bytes) (drop (reached (length branch.now.children.items) step) branch.now.children.items))) 0) (later_pair before.entry) }
 {
+    let place = reached(branch, step);
     if place < branch.children.len() {
         Some(Turn {
             branch,
             place,
             base,
-            edge: from,
+            edge: byte_behind(step),
         })
     } else {
         before
     }
 }
 
-/// The turn to the child before a place of a branch whose keys begin at `base`, the last below a byte; where there is none, the one
+/// The turn to the last child before a key in a branch whose keys begin at `base`, by the key's step there; where there is none, the one
 /// before.
 pub(crate) fn earlier_turn<'a, V: Words + Drop>(
     branch: &'a BranchOf<V>,
-    place: usize,
-    below: u64,
+    step: Step,
     base: u64,
     before: Option<Turn<'a, V>>,
 ) -> Option<Turn<'a, V>>
     requires branch { IsBranch V.WORDS branch.now.width branch.now.skip branch.now.bytes branch.now.children.items branch.now.population }
-    requires place { place ≤ length branch.now.children.items }
-    requires below { place ≡ set.rank branch.now.bytes below }
-    requires small { below ≤ 256 }
+    requires inside { passed (length branch.now.children.items) step ≤ length branch.now.children.items }
+    requires step { passed (length branch.now.children.items) step ≡ set.rank branch.now.bytes (byte_passed step) }
+    requires small { byte_passed step ≤ 256 }
     requires fits { base + 256 ^ (length branch.now.skip + 1 + branch.now.width) ≤ 256 ^ 8 }
     requires before { IsEarlier V.WORDS before }
     ensures turn { IsEarlier V.WORDS result }
-    ensures pair { earlier_pair result ≡ option_or (last_pair (shift base (join (256 ^ branch.now.width) (number_of branch.now.skip * 256) (take place branch.now.bytes) (take place branch.now.children.items)))) (earlier_pair before.entry) }
+    ensures pair { earlier_pair result ≡ option_or (last_pair (shift base (join (256 ^ branch.now.width) (number_of branch.now.skip * 256) (take (passed (length branch.now.children.items) step) branch.now.bytes) (take (passed (length branch.now.children.items) step) branch.now.children.items)))) (earlier_pair before.entry) }
 {
+    let place = passed(branch, step);
     if place > 0 {
         Some(Turn {
             branch,
             place: place - 1,
             base,
-            edge: below,
+            edge: byte_passed(step),
         })
     } else {
         before
     }
 }
 
-/// The first pair of the child that a turn leads to.
+/// The first pair of the child that a turn leads to; none where there is no turn. At most 8 visits.
 // Inside the search that asks for it a turn needn't be put together in memory.
 #[inline(always)]
 pub(crate) fn least<V: Words + Drop>(
@@ -100,32 +102,33 @@ pub(crate) fn least<V: Words + Drop>(
     Some(turn.entry_at(start, 0, meter))
 }
 
-/// The first pair of the child at a place of a branch whose keys begin at `base`, the first from a byte on; where there is none, that of
-/// the turn before.
+/// The first pair behind a key in a branch whose keys begin at `base`, by the key's step there; where there is none, that of the turn
+/// before.
 // Mostly there is one, and then the turn before needn't be read.
 #[inline(always)]
 pub(crate) fn pair_behind<V: Words + Drop>(
     branch: &BranchOf<V>,
-    place: usize,
-    from: u64,
+    step: Step,
     base: u64,
     before: Option<Turn<'_, V>>,
     meter: &mut Meter,
 ) -> Option<(u64, u64)>
     requires branch { IsBranch V.WORDS branch.now.width branch.now.skip branch.now.bytes branch.now.children.items branch.now.population }
-    requires from { place ≡ set.rank branch.now.bytes from }
+    requires inside { passed (length branch.now.children.items) step ≤ length branch.now.children.items }
+    requires step { reached (length branch.now.children.items) step ≡ set.rank branch.now.bytes (byte_behind step) }
     requires fits { base + 256 ^ (length branch.now.skip + 1 + branch.now.width) ≤ 256 ^ 8 }
     requires before { IsLater V.WORDS before }
     requires room { meter.old ≤ 2 ^ 64 - 9 }
-    ensures entry { result ≡ option_or (slice_get (shift base (join (256 ^ branch.now.width) (number_of branch.now.skip * 256) (drop place branch.now.bytes) (drop place branch.now.children.items))) 0) (later_pair before.entry) }
+    ensures entry { result ≡ option_or (slice_get (shift base (join (256 ^ branch.now.width) (number_of branch.now.skip * 256) (drop (reached (length branch.now.children.items) step) branch.now.bytes) (drop (reached (length branch.now.children.items) step) branch.now.children.items))) 0) (later_pair before.entry) }
     ensures visits { meter.new ≤ meter.old + 8 }
 {
+    let place = reached(branch, step);
     if place < branch.children.len() {
         let turn = Turn {
             branch,
             place,
             base,
-            edge: from,
+            edge: byte_behind(step),
         };
         least(Some(turn), meter)
     } else {
@@ -145,7 +148,7 @@ fn least_before<V: Words + Drop>(turn: Option<Turn<'_, V>>, meter: &mut Meter) -
     least(turn, meter)
 }
 
-/// The last pair of that child.
+/// The last pair of the child that a turn leads to; none where there is no turn. At most 8 visits.
 #[inline(always)]
 pub(crate) fn greatest<V: Words + Drop>(
     turn: Option<Turn<'_, V>>,

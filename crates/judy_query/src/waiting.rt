@@ -14,7 +14,7 @@ use judy_leaf::Words;
 use judy_node::BranchOf;
 
 /// Turns, the lowest one last: each leads to the next child of its branch that the walk hasn't come to, and each branch stands below
-/// the one before. An empty place stands for itself alone: none is ever put there.
+/// the one before. No place among them is empty.
 pub(crate) type Turns<'a, V> = ArrayVec<Option<Turn<'a, V>>, 8>;
 
 /// Keeps the children of a branch from a place on, the first from a byte on, if there are any. The branch stands below those of all turns.
@@ -44,7 +44,7 @@ pub(crate) fn keep<'a, V: Words + Drop>(
     }
 }
 
-/// Takes the lowest turn.
+/// Takes the lowest turn; none where none is kept.
 pub(crate) fn take<'a, V: Words + Drop>(turns: &mut Turns<'a, V>) -> Option<Turn<'a, V>>
     requires turns { AreTurns V.WORDS 0 turns.old.items }
     ensures turns { AreTurns V.WORDS 0 turns.new.items }

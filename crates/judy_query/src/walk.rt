@@ -1,6 +1,7 @@
 //! A walk through the pairs of a tree by ascending key, which remembers its way.
 
-ghost use Rattle.std.specs.Prelude.{◌≡◌, ◌+◌, ◌^◌, ◌<◌, ◌≤◌, [], ◌++◌, length, drop};
+ghost use Rattle.std.specs.Prelude.{◌≡◌, ◌+◌, ◌-◌, ◌^◌, ◌<◌, ◌≤◌, [], ◌++◌, length, drop};
+ghost use Rattle.std.specs.Iterator.{YieldsFirst};
 ghost use Rattle.judy_bits.specs.ByteSets as set;
 ghost use Rattle.judy_leaf.specs.KeyLists.{shift, keys_of};
 ghost use Rattle.judy_node.specs.Views.{view_pairs};
@@ -17,7 +18,6 @@ use arrayvec::ArrayVec;
 use judy_bits::Meter;
 use judy_leaf::Words;
 use judy_node::{NodeOf, Step, ViewOf};
-use std::iter::Iterator;
 use std::marker::Model;
 
 /// The pairs of a tree that are still to come, by ascending key: each is a key with its value, 0 where keys have no values. A step
@@ -41,41 +41,48 @@ impl<'a, V: Words + Drop> Model for Walk<'a, V> {
 }
 
 impl<'a, V: Words + Drop> Walk<'a, V> {
-    /// The pairs of a tree whose keys aren't below a word.
-    pub fn from_key(tree: &'a NodeOf<V>, key: u64) -> Walk<'a, V>
-        ensures { result ≡ drop (set.rank (keys_of tree.now.pairs) key) tree.now.pairs }
+    /// The pairs of a tree whose keys aren't below a word. At most 8 visits; the meter stands at most at `u64::MAX - 16`. No
+    /// memory is asked for.
+    pub fn from_key(tree: &'a NodeOf<V>, key: u64, meter: &mut Meter) -> Walk<'a, V>
+        requires { meter.old ≤ 2 ^ 64 - 17 }
+        ensures pairs { result ≡ drop (set.rank (keys_of tree.now.pairs) key) tree.now.pairs }
+        ensures visits { meter.new ≤ meter.old + 8 }
     {
-        seek(tree, key, ArrayVec::new())
+        seek(tree, key, ArrayVec::new(), meter)
     }
-}
 
-impl<'a, V: Words + Drop> Iterator for Walk<'a, V> {
-    ghost use Rattle.std.specs.Iterator.{YieldsFirst, item_count};
-
-    type Item = (u64, u64);
-
-    ghost next_gives = { YieldsFirst (λ pairs. pairs) };
-
-    ghost remaining = { item_count (λ pairs. pairs) };
-
-    fn next(&mut self) -> Option<(u64, u64)> {
+    /// The next pair; `None` where none is left. At most 7 visits; the meter stands at most at `u64::MAX - 16`.
+    // Within the call that makes the meter, which mostly isn't used.
+    #[inline(always)]
+    pub fn next(&mut self, meter: &mut Meter) -> Option<(u64, u64)>
+        requires { meter.old ≤ 2 ^ 64 - 17 }
+        ensures pair { YieldsFirst (λ pairs. pairs) self.old result self.new }
+        ensures visits { meter.new ≤ meter.old + 7 }
+    {
         let pair = self.stretch.next();
         if pair.is_some() {
             return pair;
         }
         let turn = take(&mut self.turns)?;
-        self.stretch = first_from(turn, &mut self.turns);
+        self.stretch = first_from(turn, &mut self.turns, meter);
         self.stretch.next()
     }
 }
 
 // The pairs of a tree whose keys aren't below a word; no turns are kept so far.
-fn seek<'a, V: Words + Drop>(tree: &'a NodeOf<V>, key: u64, mut turns: Turns<'a, V>) -> Walk<'a, V>
-    requires { turns.items ≡ [] }
-    ensures { result ≡ drop (set.rank (keys_of tree.now.pairs) key) tree.now.pairs }
+fn seek<'a, V: Words + Drop>(
+    tree: &'a NodeOf<V>,
+    key: u64,
+    mut turns: Turns<'a, V>,
+    meter: &mut Meter,
+) -> Walk<'a, V>
+    requires none { turns.items ≡ [] }
+    requires below { meter.old ≤ 2 ^ 64 - 17 }
+    ensures pairs { result ≡ drop (set.rank (keys_of tree.now.pairs) key) tree.now.pairs }
+    ensures visits { meter.new ≤ meter.old + 8 }
 {
     tree.told();
-    let mut view = tree.enter(&mut Meter::new());
+    let mut view = tree.enter(meter);
     let mut left = key;
     'down: while let ViewOf::Branch(branch) = view {
         let step = branch.step(left);
@@ -91,7 +98,7 @@ fn seek<'a, V: Words + Drop>(tree: &'a NodeOf<V>, key: u64, mut turns: Turns<'a,
             return Walk { stretch, turns };
         };
         left = rest;
-        view = branch.children[place].enter(branch.width, &mut Meter::new());
+        view = branch.children[place].enter(branch.width, meter);
     }
     let at = rank_in(&view, left);
     let stretch = Stretch::new(view, key - left, at);
@@ -99,14 +106,20 @@ fn seek<'a, V: Words + Drop>(tree: &'a NodeOf<V>, key: u64, mut turns: Turns<'a,
 }
 
 // The pairs of the first node without children among those that a turn leads to; the others are kept.
-fn first_from<'a, V: Words + Drop>(turn: Turn<'a, V>, turns: &mut Turns<'a, V>) -> Stretch<'a, V>
+fn first_from<'a, V: Words + Drop>(
+    turn: Turn<'a, V>,
+    turns: &mut Turns<'a, V>,
+    meter: &mut Meter,
+) -> Stretch<'a, V>
     requires turn { IsTurn V.WORDS turn }
     requires first { IsFirst turn }
     requires turns { AreTurns V.WORDS 0 turns.old.items }
     requires room { length turns.old.items + 1 + turn.branch.now.width ≤ 8 }
+    requires below { meter.old ≤ 2 ^ 64 - 17 }
     ensures turns { AreTurns V.WORDS 0 turns.new.items }
     ensures pairs { result ++ waiting turns.new.items ≡ rest_of_turn turn.entry ++ waiting turns.old.items }
     ensures some { 0 < length result }
+    ensures visits { meter.new ≤ meter.old + 7 }
 {
     let Turn {
         branch,
@@ -116,8 +129,8 @@ fn first_from<'a, V: Words + Drop>(turn: Turn<'a, V>, turns: &mut Turns<'a, V>) 
     } = turn;
     let byte = byte_from(branch, place, edge);
     keep(branch, place + 1, u64::from(byte) + 1, base, turns);
-    let view = branch.children[place].enter(branch.width, &mut Meter::new());
-    first_of(view, base + start_at(branch, byte), turns)
+    let view = branch.children[place].enter(branch.width, meter);
+    first_of(view, base + start_at(branch, byte), turns, meter)
 }
 
 // The pairs of the first node without children below a node that was entered; the others are kept.
@@ -125,15 +138,18 @@ fn first_of<'a, V: Words + Drop>(
     top: ViewOf<'a, V>,
     start: u64,
     turns: &mut Turns<'a, V>,
+    meter: &mut Meter,
 ) -> Stretch<'a, V>
     requires shown { IsShown V.WORDS top }
     requires fits { start + 256 ^ width_of top ≤ 256 ^ 8 }
     requires some { 0 < length (view_pairs top) }
     requires turns { AreTurns V.WORDS 0 turns.old.items }
     requires room { length turns.old.items + width_of top ≤ 8 }
+    requires below { meter.old ≤ 2 ^ 64 - 16 }
     ensures turns { AreTurns V.WORDS 0 turns.new.items }
     ensures pairs { result ++ waiting turns.new.items ≡ shift start (view_pairs top.entry) ++ waiting turns.old.items }
     ensures some { 0 < length result }
+    ensures visits { meter.new + 1 ≤ meter.old + width_of top.entry }
 {
     let mut view = top;
     let mut base = start;
@@ -141,7 +157,7 @@ fn first_of<'a, V: Words + Drop>(
         let byte = byte_from(branch, 0, 0);
         keep(branch, 1, u64::from(byte) + 1, base, turns);
         base += start_at(branch, byte);
-        view = branch.children[0].enter(branch.width, &mut Meter::new());
+        view = branch.children[0].enter(branch.width, meter);
     }
     Stretch::new(view, base, 0)
 }

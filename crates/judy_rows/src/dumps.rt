@@ -57,11 +57,18 @@ fn smallest_dumps(rt: HostRuntime) {
 }
 
 // Bytes that are no dump, with their fault.
-const FAULTY: [(&[u8], LoadFault); 13] = [
+const FAULTY: [(&[u8], LoadFault); 14] = [
     (b"", LoadFault::Truncated),
     (b"JDY2\x00\x00\x00\x00", LoadFault::BadMagic),
     (b"JDY1\x00\x00\x00\x41", LoadFault::TooMany),
-    (b"JDY1\x00\x00\x00\x00\x00", LoadFault::Trailing),
+    (
+        b"KDY1\x00\x00\x00\x01\x01a\x01\x00\x00\x00\x00\xff\xff\xff\xff\x00\x00\x00\x00\x00\x00\x00\x01\x00\x00\x00\x00\x00\x00\x00\x01",
+        LoadFault::BadMagic,
+    ),
+    (
+        b"JDY1\x00\x00\x00\x01\x01a\x01\x00\x00\x00\x00\xff\xff\xff\xff\x00\x00\x00\x00\x00\x00\x00\x01\x00\x00\x00\x00\x00\x00\x00\x01\x00",
+        LoadFault::Trailing,
+    ),
     (b"JDY1\x00\x00\x00\x01\x00", LoadFault::BadName),
     (b"JDY1\x00\x00\x00\x01\x21", LoadFault::BadName),
     (b"JDY1\x00\x00\x00\x01\x01!", LoadFault::BadName),
@@ -177,14 +184,19 @@ const STORE_OF_THREE: &[u8] =
 const DUMP_OF_THREE: &[u8; 135] =
     b"JDY1\x00\x00\x00\x03\x01l\x02\x00\x00\x00\x00\xff\xff\xff\xff\x00\x00\x00\x00\x00\x00\x00\x01\x00\x00\x00\x00\x00\x00\x00\x05\x00\x00\x00\x00\x00\x00\x00\x09\x01s\x03\x00\x00\x00\x00\x00\x00\x00\x03\x00\x00\x00\x00\x00\x00\x00\x02\x00\x00\x00\x00\x00\x00\x00\x00\x00\x01\x00\x02ab\x00\x00\x00\x00\x00\x00\x00\x02\x01h\x04\x00\x00\x00\x00\xff\xff\xff\xff\x00\x00\x00\x00\x00\x00\x00\x03\x00\x00\x00\x00\x00\x00\x00\x00\x00\x09\x00\x01\x00\x00\x00\x00\x00\x00\x00\x00\x07\x00\x01b\x00\x00\x00\x00\x00\x00\x00\x08";
 
+// Dumps a store whose dump has at most 135 bytes, and compares them.
+fn check_bytes<R: Abort>(rt: &R, shelf: &Shelf, bytes: &[u8]) {
+    let mut sink = MemSink::<135>::new(135, SinkTrouble::Never);
+    assert_eq!(rt; dump(shelf, &mut sink), Ok(()));
+    assert_eq!(rt; sink.bytes(), bytes);
+}
+
 // The dump of the store of three with a byte changed is loaded, and what it gives is dumped as the same bytes; or
 // it has a fault.
 fn check_changed<R: Abort>(rt: &R, alloc: Global, bytes: &[u8]) {
     let mut source = MemSource::new(bytes, 64, SourceTrouble::Never);
     if let Ok(loaded) = load(alloc, &mut source) {
-        let mut sink = MemSink::<135>::new(135, SinkTrouble::Never);
-        assert_eq!(rt; dump(&loaded, &mut sink), Ok(()));
-        assert_eq!(rt; sink.bytes(), bytes);
+        check_bytes(rt, &loaded, bytes);
     }
 }
 
@@ -198,10 +210,14 @@ fn dump_and_sorted(rt: HostRuntime) {
         STORE_OF_THREE,
         b"ok\nwas 0\nok\nwas 0\nwas 0\nok\nwas 0\nwas 0\nwas 0\n",
     );
-    let mut sink = MemSink::<135>::new(135, SinkTrouble::Never);
-    assert_eq!(rt; dump(&shelf, &mut sink), Ok(()));
-    assert_eq!(rt; sink.bytes(), DUMP_OF_THREE.as_slice());
-    check_changed(&rt, rt.alloc(), DUMP_OF_THREE);
+    check_bytes(&rt, &shelf, DUMP_OF_THREE);
+
+    // What is loaded is dumped as the same bytes.
+    let mut source = MemSource::new(DUMP_OF_THREE, 64, SourceTrouble::Never);
+    match load(rt.alloc(), &mut source) {
+        Ok(loaded) => check_bytes(&rt, &loaded, DUMP_OF_THREE),
+        Err(_) => assert!(rt; false),
+    }
 }
 
 #[test]
@@ -226,8 +242,21 @@ fn faults_in_store_of_three(rt: HostRuntime) {
     }
 }
 
+// The dump of the store of three with another byte at a place has this fault.
+fn check_fault<R: Abort>(rt: &R, alloc: Global, at: usize, byte: u8, fault: LoadFault) {
+    let mut changed = *DUMP_OF_THREE;
+    assert!(rt; at < changed.len());
+    changed[at] = byte;
+    check_load(rt, alloc, &changed, SourceTrouble::Never, Some(fault));
+}
+
 #[test]
 fn changed_dumps(rt: HostRuntime) {
+    // The number of arrays ends at byte 7, the number of keys of `l` at byte 26.
+    check_fault(&rt, rt.alloc(), 7, 2, LoadFault::Trailing);
+    check_fault(&rt, rt.alloc(), 7, 4, LoadFault::Truncated);
+    check_fault(&rt, rt.alloc(), 26, 2, LoadFault::BadName);
+    check_fault(&rt, rt.alloc(), 26, 0, LoadFault::BadName);
     for len in 0..DUMP_OF_THREE.len() {
         check_load(
             &rt,

@@ -1,7 +1,7 @@
 //! The worked rows that cross crates, as tests by the rows' names: scripts with the answers that the
-//! specification gives, run over memory, dumps, and arrays over strings.
+//! specification gives, run over memory, dumps, and arrays over strings and byte strings; and some tests beside them.
 //!
-//! The crate stands on top of all others and has no code of its own.
+//! The crate stands on top of those that it tries, and has no code of its own.
 #![tactic(auto)]
 
 #[cfg(test)]

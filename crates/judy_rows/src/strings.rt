@@ -150,9 +150,11 @@ fn long_keys_and_one_hash(rt: HostRuntime) {
     strings.is_array();
     assert_eq!(rt; strings.len(), 2);
     assert!(rt; !strings.del(&p[..1023]));
+    assert!(rt; strings.del(&q));
+    assert_eq!(rt; strings.get(&q), None);
+    assert_eq!(rt; strings.get(&p), Some(1));
     assert!(rt; strings.del(&p));
-    assert_eq!(rt; strings.get(&p), None);
-    assert_eq!(rt; strings.get(&q), Some(2));
+    check_scan(&rt, &strings, Scan::First, b"", None);
 }
 
 // The part of the row with ample memory.

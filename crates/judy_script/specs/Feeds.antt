@@ -25,21 +25,23 @@ pub record Fed (first : Store) (fed : List ℕ) (before : Option (List ℕ)) (bu
   pub steps : Steps first (lines_of front) replies now
   pub written : taken ≡ grown before (flat_map output_of replies)
 
--- A line was executed and its reply written, whole or, where the writer failed, a front of it.
+-- A line was executed and its reply written whole.
 pub record Served (before : Store) (line : Line) (taken_before taken_after : Option (List ℕ)) (after : Store) : Type 0 where
   pub reply : Reply
   pub step : Step before line reply after
   pub written : taken_after ≡ grown taken_before (output_of reply)
 
+-- The same, where the writer failed: a front of the reply was written.
 pub record ServedInPart (before : Store) (line : Line) (taken_before taken_after : Option (List ℕ)) (after : Store) : Type 0 where
   pub reply : Reply
   pub step : Step before line reply after
   pub written : GrewByFront taken_before (output_of reply) taken_after
 
--- What was put out since a time is the output of a run, or of one that a failed writer cut off.
+-- What was put out since a time is the output of a run.
 abbrev pub Ran : Store → List ℕ → Option (List ℕ) → Option (List ℕ) → Store → Type 0
 Ran before script taken_before taken_after after = Since taken_before taken_after (λ output. Run before script output after)
 
+-- It is that of a run that a failed writer cut off.
 abbrev pub RanInPart : Store → List ℕ → Option (List ℕ) → Option (List ℕ) → Store → Type 0
 RanInPart before script taken_before taken_after after = Since taken_before taken_after (λ output. CutOff before script output after)
 

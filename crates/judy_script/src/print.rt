@@ -30,6 +30,7 @@ pub(crate) fn print(reply: LineReply<'_>, shelf: &Shelf, text: &mut Text)
     }
 }
 
+// Puts the answer into the empty buffer, with its LF.
 fn print_answer(answer: Answer<'_>, text: &mut Text)
     requires { text.old ≡ [] }
     ensures { text.new ≡ output_of (Ok (answer_of answer.entry)) }
@@ -75,6 +76,7 @@ fn print_list(shelf: &Shelf, text: &mut Text)
     text.append(b"\n");
 }
 
+// Puts a space, an array's name, kind and number of keys behind what the buffer holds.
 fn append_listing(text: &mut Text, name: &Name, array: &Array)
     requires { length text.old ≤ 4096 }
     ensures items { text.new ≡ text.old ++ listing_text (name.now, value_of array.now) }

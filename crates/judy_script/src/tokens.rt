@@ -58,6 +58,7 @@ fn front_len(text: &[u8], spaces: bool) -> usize
     count + short_front_len(rest, spaces)
 }
 
+// The same for a few bytes, one by one.
 #[inline(always)]
 fn short_front_len(text: &[u8], spaces: bool) -> usize
     ensures within { result ≤ length text.now }

@@ -1,44 +1,26 @@
--- The entries of a map, one after another by `first` and `next`, and lists whose items are written in turn.
-use Rattle.std.proofs.Common.{◌≡◌, ℕ, zero, suc, ◌-◌, ◌^◌, ◌<◌, Bool, true, false, cond, List, [], ◌∷◌, ◌++◌, length, take, drop, filter, slice_get, Option, Some, None, option_map, unwrap_or, refl, sym, ap, subst, ◌∙◌, append_assoc, append-nil, arith, ◌==◌, ltb, Less, Equal, Greater}
+-- The entries of a map of strings, one after another by `first` and `next`, and lists whose items are written in turn.
+use Rattle.std.proofs.Common.{◌≡◌, ℕ, zero, suc, ◌-◌, ◌<◌, List, [], ◌∷◌, ◌++◌, length, take, drop, filter, slice_get, Option, Some, None, option_map, unwrap_or, refl, sym, ap, subst, ◌∙◌, append_assoc, append-nil, arith}
 use Rattle.std.specs.List.{flat_map}
-use Rattle.std.specs.Cmp.{IsTotalOrder, nat_cmp_total, tied_itself}
+use Rattle.std.specs.Cmp.{IsTotalOrder, tied_itself}
 use Rattle.std.specs.Cmp.Lexicographic.{nat_list_cmp_total}
 use Rattle.std.specs.declared.cmp.Ordering.{Ordering}
-use Rattle.std.specs.Ordering.{nat_cmp, is_lt, is_gt}
-use Rattle.std.specs.FinMap.{FinMap, keys, entries, entries_sorted, contains_key, get, get-entries, nat_cmp-IsAntisymmetric}
-use Rattle.std.proofs.lemmas.Bool.{le-ltb, ltb-false, eqb-false, and_parts}
+use Rattle.std.specs.Ordering.{is_lt}
+use Rattle.std.specs.FinMap.{FinMap, keys, entries, entries_sorted, get, get-entries}
 use Rattle.std.proofs.lemmas.List.{take-append-drop}
 use Rattle.std.proofs.lemmas.Grind.{flat_map-append}
 use Rattle.std.proofs.lemmas.Option.{slice_get-map, slice_get_within, get_or_from_slice_get}
-use Rattle.judy_model.specs.Keys.{word_order, byte_order}
+use Rattle.judy_model.specs.Keys.{byte_order}
 use Rattle.judy_model.specs.Neighbours.{first, next}
 use Rattle.judy_model.specs.Counts.{rank}
-use Rattle.judy_model.specs.Nearest.{IsNext}
 use Rattle.judy_model.proofs.RankLemmas.{first-slice_get, next-slice_get, count_up_to_at, rank_at}
 use Rattle.std.proofs.lemmas.Option.{same_Some}
 use Rattle.judy_sl.specs.Scans.{value_found}
-use Rattle.judy_model.proofs.NearestLemmas.{next-IsNext}
 use Rattle.judy_model.proofs.Pairs.{find-at}
 use Rattle.judy_pipe.specs.Pipe.{grown}
 use Rattle.judy_shelf.specs.Writes.{Sunk, WroteAll, WroteFront}
 use Rattle.judy_shelf.proofs.WriteLemmas.{wrote_both, wrote_second, wrote_first, grown_nothing}
 
 -- ---- the entries of a map in turn
-
-test_zero : (below same : Bool) → below ≡ false → is_lt (cond below Less (cond same Equal Greater)) ≡ true → ⊥
-test_zero true same none is = absurd cc
-test_zero false true none is = absurd cc
-test_zero false false none is = absurd cc
-
-below_zero : (key : ℕ) → is_lt (nat_cmp key 0) ≡ true → ⊥
-below_zero key e = let none : ltb key 0 ≡ false = le-ltb key 0 (omega arith) in let below : is_lt (cond (ltb key 0) Less (cond (key == 0) Equal Greater)) ≡ true = e in absurd (test_zero (ltb key 0) (key == 0) none below)
-
-none_below_zero : (ks : List ℕ) → length (filter (λ key. is_lt (nat_cmp key 0)) ks) ≡ 0
-none_below_zero [] = refl
-none_below_zero (key ∷ ks) = elim (is_lt (nat_cmp key 0)) as (λ b. is_lt (nat_cmp key 0) ≡ b → length (cond b (key ∷ filter (λ k. is_lt (nat_cmp k 0)) ks) (filter (λ k. is_lt (nat_cmp k 0)) ks)) ≡ 0) [
-  | true ↦ λ e. absurd (below_zero key e)
-  | false ↦ λ e. none_below_zero ks
-] refl
 
 module _ {K : Type 0} {order : K → K → Ordering} (total : IsTotalOrder order) (m : FinMap order ℕ) where
   -- A walk goes on from each entry to the one behind it.
@@ -64,23 +46,6 @@ module _ {K : Type 0} {order : K → K → Ordering} (total : IsTotalOrder order
 
   pub no_entry_there : (place : ℕ) → slice_get (keys m) place ≡ None → slice_get (entries m) place ≡ None
   no_entry_there place at = no_entry_of place (slice_get (entries m) place) (sym (slice_get-map (λ e. e.0) (entries m) place) ∙ at)
-
-module _ (m : FinMap word_order ℕ) where
-  -- The walk begins at the first entry.
-  pub walk_first : first m 0 ≡ slice_get (keys m) 0
-  unfolding rank
-  walk_first = first-slice_get nat_cmp_total m 0 ∙ ap (slice_get (keys m)) (none_below_zero (keys m))
-
-  pub walk_next : (place key : ℕ) → slice_get (keys m) place ≡ Some key → next m key ≡ slice_get (keys m) (suc place)
-  walk_next place key at = walk_on nat_cmp_total m place key at
-
-  pub entry_at : (place key : ℕ) → slice_get (keys m) place ≡ Some key → slice_get (entries m) place ≡ Some (key, unwrap_or (get m key) 0)
-  entry_at place key at =
-      let there = entry_there nat_cmp_total m place key at in
-      there.2 ∙ ap Some (λ t. (key, ap (λ o. unwrap_or o 0) (sym there.1) t))
-
-  pub no_entry_at : (place : ℕ) → slice_get (keys m) place ≡ None → slice_get (entries m) place ≡ None
-  no_entry_at place at = no_entry_there nat_cmp_total m place at
 
 -- ---- the entries of a map of strings in turn
 
@@ -173,33 +138,19 @@ module _ {A : Type 0} (text : A → List ℕ) where
     pub written_all : (place : ℕ) (now : Sunk) → Written place now → slice_get items place ≡ None → WroteAll (flat_map text items) before now
     written_all place now written at = (written.0 ∙ ap (λ xs. grown before.taken (flat_map text xs)) (take_none text items place at), written.1)
 
--- ---- how far a walk has to go
+-- ---- items that an iterator gives
 
--- The words above a key.
-abbrev pub above : Option ℕ → ℕ
-above None = 0
-above (Some key) = 2 ^ 64 - key
+module _ {A : Type 0} (text : A → List ℕ) (before : Sunk) where
+  pub wrote_nothing : WroteAll [] before before
+  wrote_nothing = (sym (grown_nothing before.taken), refl)
 
-greater_by : (below same : Bool) → is_gt (cond below Less (cond same Equal Greater)) ≡ true → (below ≡ false) × (same ≡ false)
-greater_by true same is = absurd cc
-greater_by false true is = absurd cc
-greater_by false false is = (refl, refl)
+  -- One item more is written.
+  pub wrote_more : (done : List A) (item : A) (mid after : Sunk) → WroteAll (flat_map text done) before mid → WroteAll (text item) mid after → WroteAll (flat_map text (done ++ item ∷ [])) before after
+  wrote_more done item mid after written wrote =
+      subst (λ t. WroteAll t before after) (sym (flat_map-append text done (item ∷ []) ∙ ap (λ t. flat_map text done ++ t) (append-nil (text item)))) (wrote_both (flat_map text done) (text item) before mid after written wrote)
 
-greater : (key other : ℕ) → is_gt (nat_cmp other key) ≡ true → key < other
-greater key other is =
-    let by = greater_by (ltb other key) (other == key) is in
-    let low = ltb-false other key by.0 in
-    let apart = eqb-false other key by.1 in
-    omega arith
-
-module _ (m : FinMap word_order ℕ) (key : ℕ) (word : key < 2 ^ 64) where
-  falls_to : (found : Option ℕ) → IsNext word_order (contains_key m) key found → above found < above (Some key)
-  falls_to None is = omega arith
-  falls_to (Some other) is =
-      let later = greater key other (and_parts (contains_key m other) (is_gt (nat_cmp other key)) is.0).1 in
-      omega arith
-
-  -- Each step of the walk leaves fewer words above.
-  pub above_falls : (before after : Option ℕ) → before ≡ Some key → after ≡ next m key → above after < above before
-  above_falls before after at is =
-      subst (λ b. above after < above b) (sym at) (subst (λ a. above a < above (Some key)) (sym is) (falls_to (next m key) (next-IsNext nat_cmp_total nat_cmp-IsAntisymmetric m key)))
+  -- A front of the next item is one of all items.
+  pub wrote_part : (done rest : List A) (item : A) (mid after : Sunk) → WroteAll (flat_map text done) before mid → WroteFront (text item) mid after → WroteFront (flat_map text (done ++ item ∷ rest)) before after
+  wrote_part done rest item mid after written wrote =
+      let here = wrote_first (flat_map text done ++ text item) (flat_map text rest) before after (wrote_second (flat_map text done) (text item) before mid after written wrote) in
+      subst (λ t. WroteFront t before after) (append_assoc (flat_map text done) (text item) (flat_map text rest) ∙ sym (flat_map-append text done (item ∷ rest))) here

@@ -18,6 +18,7 @@ pub record Drawn : Type 0 where
   pub ended : Option Bool
   pub failures : ℕ
 
+-- The same put together.
 abbrev pub drawn : Option (List ℕ) → Option Bool → ℕ → Drawn
 drawn given ended failures = record { given = given; ended = ended; failures = failures }
 
@@ -32,6 +33,7 @@ pub data Cause : Type 0 where
   -- a fault of the grammar
   told : Fault → Cause
 
+-- The cause of a fault of the code.
 abbrev pub cause_of : LoadFault → Cause
 cause_of load.Read = reader
 cause_of load.Truncated = cut
@@ -107,12 +109,15 @@ AtSome part count input = (listed : ℕ) × (listed ≤ count) × Begins (part l
 abbrev pub InBody : List ℕ → Type 0
 InBody = Begins grammar.kind (λ kind. Begins grammar.limit (λ limit. Begins (grammar.key_count limit) (λ count. AtSome (grammar.contents kind limit) count)))
 
+-- The same in an array whose name no earlier one has.
 abbrev pub InArray : Store → List ℕ → Type 0
 InArray earlier = Begins (grammar.name earlier) (λ name. InBody)
 
+-- In one of so many arrays.
 abbrev pub InArrays : ℕ → List ℕ → Type 0
 InArrays count input = (earlier : ℕ) × (earlier < count) × Begins (grammar.arrays [] earlier) InArray input
 
+-- In a dump.
 abbrev pub InStore : List ℕ → Type 0
 InStore = Begins grammar.begins (λ magic. Begins grammar.array_count InArrays)
 

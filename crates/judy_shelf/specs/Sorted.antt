@@ -14,6 +14,7 @@ use Rattle.judy_shelf.specs.Shelves.{Entries}
 abbrev pub pairs_in : SortedKeys → List (List ℕ × ℕ)
 pairs_in list = entries_in list.entries.items
 
+-- Those of some lists.
 abbrev pub lists_in : List SortedKeys → List (List (List ℕ × ℕ))
 lists_in lists = map pairs_in lists
 

@@ -14,6 +14,7 @@ pub record Sunk : Type 0 where
   pub taken : Option (List ℕ)
   pub failures : ℕ
 
+-- The same put together.
 abbrev pub sunk : Option (List ℕ) → ℕ → Sunk
 sunk taken failures = record { taken = taken; failures = failures }
 

@@ -102,9 +102,9 @@ impl Array {
         }
     }
 
-    /// A law of every array that a program holds: it is one of the definitions, its keys and values words and
-    /// no more keys than its limit. It answers nothing and reads each key and value, for a caller whose proof
-    /// is to know it.
+    /// A law of every array that a program holds: it is one of the definitions, its keys those of its kind, its
+    /// limit and values words, and no more keys than its limit. It answers nothing and reads what it holds, for a
+    /// caller whose proof is to know it.
     pub fn is_array(&self)
         ensures { IsArray (value_of self.now) }
     {

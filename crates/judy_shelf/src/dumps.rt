@@ -84,10 +84,8 @@ fn write_set<W: Sink>(set: &Judy1, sink: &mut W) -> Result<(), BrokenPipe>
     requires { (W.tally sink.old).failures < 2 ^ 64 - 1 }
     ensures { Wrote (text.contents (judy1 set.now)) (sunk (W.taken sink.old) (W.tally sink.old).failures) result (sunk (W.taken sink.new) (W.tally sink.new).failures) }
 {
-    let mut next = set.first(0);
-    'keys: while let Some(key) = next {
+    'keys: for key in set {
         put_word(sink, key)?;
-        next = set.next(key);
     }
     Ok(())
 }
@@ -97,10 +95,8 @@ fn write_words<W: Sink>(words: &JudyL, sink: &mut W) -> Result<(), BrokenPipe>
     requires { (W.tally sink.old).failures < 2 ^ 64 - 1 }
     ensures { Wrote (text.contents (judyl words.now)) (sunk (W.taken sink.old) (W.tally sink.old).failures) result (sunk (W.taken sink.new) (W.tally sink.new).failures) }
 {
-    let mut next = words.first(0);
-    'keys: while let Some(key) = next {
-        put_entry(sink, key, words.get(key).unwrap_or(0))?;
-        next = words.next(key);
+    'entries: for (key, value) in words {
+        put_entry(sink, key, value)?;
     }
     Ok(())
 }

@@ -3,6 +3,9 @@
 //!
 //! Its model is the store of the definitions: `store_of` gives the store that a shelf is, `value_of` the
 //! array value that an array is. It stands on the crates of the arrays; scripts run over it.
+//!
+//! [`dump`] writes a shelf to a sink and [`load`] reads one from a source, both of judy_pipe, in the format that
+//! docs/FORMATS.md tells. dumps.rt, write.rt and sorted.rt write it; loads.rt, head.rt, keys.rt and fields.rt read it.
 #![tactic(auto)]
 
 mod array;

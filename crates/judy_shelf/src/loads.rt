@@ -34,8 +34,8 @@ use std::alloc::Global;
 /// gave the end. Every other answer is the first fault in the order of the fields: what the source gave has that
 /// fault, whatever came after it, and `Truncated` comes only where its last read gave the end. `Read` comes only
 /// where the source failed, which it then did once; `NoMemory` where there is none for an array or a key, and only
-/// where what the source gave has no fault and ends behind a key count or an entry. No byte is
-/// asked for beyond the fields, but for the one that is `Trailing`, so that a source that never ends is left.
+/// where what the source gave has no fault and ends behind a key count or an entry. No byte is asked for beyond the
+/// fields, but for the one that is `Trailing`, so that a source that never ends is left.
 ///
 /// Memory is asked for by the keys that were read, one after another, and never by a number that the bytes say.
 pub fn load<R: Source>(alloc: Global, source: &mut R) -> Result<Shelf, LoadFault>

@@ -20,7 +20,7 @@ use std::marker::Model;
 /// The most arrays of a shelf. (This project's own.)
 pub const MAX_ARRAYS: usize = 64;
 
-/// The greatest limit that `make` gives an array. (This project's own.)
+/// The greatest limit that `make` and `load` give an array. (This project's own.)
 pub const MAX_LIMIT: u64 = 4294967295;
 
 /// Named arrays in order of making: at most 64, whose names differ. In contracts it is the list of its
@@ -163,6 +163,7 @@ impl Shelf {
         }
     }
 
+    // What every shelf keeps.
     fn is_shelf(&self)
         ensures { IsShelf self.now }
     {

@@ -16,7 +16,7 @@ use arrayvec::ArrayVec;
 use byteorder::{BigEndian, ByteOrder};
 use judy_pipe::{BrokenPipe, Sink, write_all};
 
-// What stands before an array's keys: a name behind its length, the kind, the limit, the number of keys.
+// The most bytes of what stands before an array's keys: a name behind its length, the kind, the limit, the number of keys.
 const MAX_HEAD_LEN: usize = 50;
 
 // Writes bytes.

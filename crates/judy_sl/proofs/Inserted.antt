@@ -1,6 +1,6 @@
 -- What an insert makes of an array of strings.
-use Rattle.std.proofs.Common.{◌≡◌, ◌≢◌, ℕ, ◌+◌, List, None, Some, Result, Ok, Err, IfOk, OnOk, IfErr, IsTrue, IsFalse, refl, sym, ap, subst, ◌∙◌, arith, eq-eqb}
-use Rattle.std.proofs.lemmas.Bool.{ne_eqb}
+use Rattle.std.proofs.Common.{◌≡◌, ◌≢◌, ℕ, ◌+◌, List, None, Some, Result, Ok, Err, IfOk, OnOk, IfErr, IsTrue, IsFalse, Bool, true, false, not, ◌&&◌, ◌==◌, refl, sym, ap, subst, ◌∙◌, arith, eq-eqb}
+use Rattle.std.proofs.lemmas.Bool.{ne_eqb, false≢true}
 use Rattle.std.proofs.lemmas.Option.{none-some}
 use Rattle.std.specs.Borrow.{name_if_ok, MutBor}
 use borrow.Follows.Closed.{read_of}
@@ -73,6 +73,11 @@ pub way-none : (arena : Arena) (key : List ℕ) (way : Way) → IsWay arena key 
 way-none arena key (At place) is new = absurd new
 way-none arena key (Gap place left) is new = gap-none (world_of arena) key place left is
 way-none arena key (Clash at left) is new = clash-none (world_of arena) key at left is
+
+-- A key is tried only where there is room.
+pub tried-room : (adds : Bool) (count limit : ℕ) → IsTrue (adds && not (count == limit)) → count ≢ limit
+tried-room false count limit tried full = false≢true tried
+tried-room true count limit tried full = false≢true (sym (ap not (eq-eqb count limit full)) ∙ tried)
 
 module _ (limit count : ℕ) (arena : Arena) (is : IsStrings limit count arena) (key : List ℕ) (is_key : IsStringKey key) where
   -- Where the key is, the array isn't full for it, and the value stays.

@@ -25,6 +25,7 @@ pub mod Filled
 pub mod Cuts
 pub mod Shrinks
 pub mod Tailed
+pub mod Tried
 pub mod ScanMaps
 pub mod Inserted
 pub mod Removed

@@ -1,5 +1,5 @@
 -- No level holds more entries than the array holds keys, so none is full.
-use Rattle.std.proofs.Common.{◌≡◌, ℕ, suc, ◌+◌, ◌<◌, ◌≤◌, cond, Bool, true, false, List, ◌∷◌, ◌++◌, length, get_or, Option, Some, is_some, IsTrue, refl, sym, ap, subst, ◌∙◌, arith}
+use Rattle.std.proofs.Common.{◌≡◌, ℕ, suc, ◌+◌, ◌<◌, ◌≤◌, cond, Bool, true, false, List, [], ◌∷◌, ◌++◌, length, get_or, Option, Some, is_some, IsTrue, refl, sym, ap, subst, ◌∙◌, arith}
 use Rattle.std.proofs.Math.Seq.{get_or-append_seam}
 use Rattle.std.specs.Cmp.{nat_cmp_total}
 use Rattle.std.specs.FinMap.{FinMap, contains_key, len, len-insert, len-empty}
@@ -54,6 +54,11 @@ room-gap arena is key (Root piece) left gap few =
     array-room arena.root piece is.root_limit (let most = level-few arena is key 0 _ gap.leads arena.root.map refl in omega arith)
 room-gap arena is key (Below at piece) left gap few =
     child-room (child_at arena at) piece gap.map gap.is_level (is.limits at) (let most = level-few arena is key (suc at) _ gap.leads gap.map gap.is_level in omega arith)
+
+-- The first level has room for any piece.
+pub room-in_first : (arena : Arena) → IsArena arena → len (map_of arena) ≤ 4294967295 → (piece : ℕ) → HasRoom (Level arena.root) piece
+room-in_first arena is few piece =
+    array-room arena.root piece is.root_limit (let most = level-few arena is [] 0 (pieces []) (record { front = []; inner = tt; way = refl; parts = refl }) arena.root.map refl in omega arith)
 
 -- Where nothing has changed, there is as much room.
 pub room-same : (before after : Arena) → IsSame before after → (place : Place) → PlaceHasRoom before place → PlaceHasRoom after place

@@ -1,14 +1,13 @@
 -- The two ways of a scan: down the pieces of a key, and down from the entry where it turns.
-use Rattle.std.proofs.Common.{◌≡◌, ℕ, suc, ◌-◌, ◌<◌, ◌≤◌, Bool, false, IsTrue, List, [], ◌∷◌, ◌++◌, length, take, drop, Option, Some, None, IfSome, is_some, sym, refl, ap, ◌∙◌, subst, arith}
-use Rattle.std.specs.FinMap.{FinMap, get, contains_key}
-use Rattle.std.proofs.lemmas.Bool.{and_parts}
+use Rattle.std.proofs.Common.{◌≡◌, ℕ, suc, ◌-◌, ◌<◌, ◌≤◌, false, IsTrue, List, [], ◌∷◌, ◌++◌, length, take, drop, Option, Some, None, IfSome, sym, refl, ap, ◌∙◌, subst, arith}
+use Rattle.std.specs.FinMap.{FinMap, get}
 use Rattle.std.proofs.lemmas.List.{append_assoc, take-append-drop, take_at, length-append, append-nil}
 use Rattle.judy_model.specs.Keys.{word_order}
 use Rattle.judy_sl.specs.declared.scans.Look.{Look}
 use Rattle.judy_sl.specs.declared.scans.Turn.{Turn}
 use Rattle.judy_sl.specs.Pieces.{piece_of, pieces, piece_bytes, spelling, IsInner, AreInner, IsText}
 use Rattle.judy_sl.specs.World.{World, tail, level, walk}
-use Rattle.judy_sl.specs.Scans.{along, is_beyond, IsNearestEntry, piece_in, IsEntryOf, turn_or, meets, IsNone, IsNear, IsEnd, IsTurn, IsTurnAt}
+use Rattle.judy_sl.specs.Scans.{IsNearestEntry, piece_in, IsEntryOf, turn_or, meets, IsNone, IsNear, IsEnd, IsTurn, IsTurnAt}
 use Rattle.judy_sl.proofs.Ways.{pieces_short, pieces_long, walk-more}
 use Rattle.judy_sl.proofs.PieceLemmas.{text-drop, piece-IsFinal, piece-IsInner}
 use Rattle.judy_sl.proofs.PieceBytes.{bytes-piece, spelling-append}

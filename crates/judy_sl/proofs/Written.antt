@@ -10,8 +10,8 @@ use Rattle.judy_sl.specs.Pieces.{pieces}
 use Rattle.judy_sl.specs.World.{World, Node, gone, tail, level, lookup, at_entry, walk}
 use Rattle.judy_sl.specs.Worlds.{IsWorld, AllLed}
 use Rattle.judy_sl.specs.Arenas.{world_of, node_of, child_at, IsArena}
-use Rattle.judy_sl.specs.Children.{value_at}
-use Rattle.judy_sl.specs.Places.{IsInside, place_with, place_value}
+use Rattle.judy_sl.specs.Children.{value_at, IsTaken}
+use Rattle.judy_sl.specs.Places.{IsInside, IsPlace, place_with, place_value}
 use Rattle.judy_sl.specs.Ways.{seat_of, piece_at, HasValue, IsFound, LeadsTo}
 use Rattle.judy_sl.proofs.Ways.{look_in, lookup-walk, walk-behind, tail-same}
 use Rattle.judy_sl.proofs.Seats.{set_node, cond-same, cond-other, NodeFits, IsUsed}
@@ -55,6 +55,19 @@ module _ (arena : Arena) (is : IsArena arena) (key : List ℕ) (place : Place) (
 
   pub inside-there : IsInside arena place
   inside-there = inside-place place found.rest found.value found.has
+
+  taken-child : (child : Child) (piece : ℕ) (rest : List ℕ) (value : ℕ) → HasValue (node_of child) piece rest value → IsTaken child
+  taken-child (Free next) piece rest value has = absurd has
+  taken-child (Tail kept) piece rest value has = tt
+  taken-child (Level words) piece rest value has = tt
+
+  taken-place : (p : Place) (rest : List ℕ) (value : ℕ) → HasValue (world_of arena (seat_of p)) (piece_at p) rest value → IsPlace arena p
+  taken-place (Root piece) rest value has = tt
+  taken-place (Below at piece) rest value has = (inside-place (Below at piece) rest value has, taken-child (child_at arena at) piece rest value has)
+
+  -- Something stands there.
+  pub place-there : IsPlace arena place
+  place-there = taken-place place found.rest found.value found.has
 
   -- And it is what is found under the key.
   found-node : (node : Node) (piece : ℕ) (rest : List ℕ) (value : ℕ) → HasValue node piece rest value → (rest ≢ []) × (look_in (world_of arena) node rest ≡ Some value)

@@ -53,6 +53,7 @@ link_of (Free next) = Some next
 link_of (Tail rest) = None
 link_of (Level words) = None
 
+-- The links of all places.
 abbrev pub links_of : Arena → Links
 links_of arena = map link_of arena.children.items
 

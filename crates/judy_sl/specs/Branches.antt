@@ -17,7 +17,7 @@ abbrev pub AreSingle : List (ℕ × ArrayOf word_order) → Type 0
 AreSingle [] = Unit {0}
 AreSingle (entry ∷ rest) = (entry.1 ≡ single entry.0) × AreSingle rest
 
--- The entry under the first piece of a rest: its value where that is the last piece.
+-- What stands under the first piece of a rest: its value where that is the last piece, and else 0, until it leads on.
 abbrev pub entry_of : Option Twig → ℕ → ℕ
 entry_of None value = value
 entry_of (Some twig) value = 0

@@ -1,9 +1,10 @@
 -- What an arena becomes where it takes something new.
-use Rattle.std.specs.Prelude.{◌≡◌, ◌≢◌, ℕ, List, Option, None, Some, length, get_or, IsTrue}
+use Rattle.std.specs.Prelude.{◌≡◌, ◌≢◌, ℕ, List, Option, None, Some, Result, Ok, Err, length, get_or, IsTrue}
 use Rattle.judy_sl.specs.declared.child.Child.{Child}
 use Rattle.judy_sl.specs.declared.child.Child.TheVariants.{Tail}
 use Rattle.judy_sl.specs.declared.arena.Arena.{Arena}
 use Rattle.judy_sl.specs.declared.arena.Place.{Place}
+use Rattle.judy_sl.specs.declared.error.SlError.{SlError}
 use Rattle.judy_sl.specs.Pieces.{pieces, ArePieces}
 use Rattle.judy_sl.specs.World.{World, gone, lookup}
 use Rattle.judy_sl.specs.Worlds.{AllLed}
@@ -27,6 +28,7 @@ abbrev pub free_or : Option ℕ → ℕ → ℕ → ℕ
 free_or None free end = end
 free_or (Some next) free end = free
 
+-- The same of an arena.
 abbrev pub next_place : Arena → ℕ
 next_place arena = free_or (get_or (links_of arena) arena.free None) arena.free (length arena.children.items)
 
@@ -36,6 +38,16 @@ pub record IsPut (before after : Arena) (child : Child) (at : ℕ) : Type 0 wher
   pub here : child_at after at ≡ child
   pub elsewhere : (k : ℕ) → k ≢ at → child_at after k ≡ child_at before k
   pub root : after.root ≡ before.root
+
+-- The tail of a new key was put there, with the value 0.
+abbrev pub IsTailPut : Arena → Arena → List ℕ → ℕ → Type 0
+IsTailPut before after rest at = (tail : List ℕ × ℕ) × (tail ≡ (rest, 0)) × IsPut before after (Tail tail) at
+
+-- What holds where a trial of a key as a new one showed that it was absent: where it put it in, and where memory was refused.
+abbrev pub IfShown : Result (Option Place) SlError → Type 0 → Type 0
+IfShown (Ok (Some place)) Holds = Holds
+IfShown (Ok None) Holds = Unit {0}
+IfShown (Err error) Holds = Holds
 
 -- A key was added with the value 0, which stands at the place.
 pub record IsAdded (before after : Arena) (key : List ℕ) (place : Place) : Type 0 where

@@ -20,7 +20,7 @@ abbrev pub along : Side → ℕ → ℕ → Ordering
 along Above = word_order
 along Below = λ left right. word_order right left
 
--- That of bytes.
+-- The order of byte strings from one side.
 abbrev pub along_bytes : Side → List ℕ → List ℕ → Ordering
 along_bytes Above = byte_order
 along_bytes Below = λ left right. byte_order right left

@@ -48,6 +48,7 @@ EntryLone None rest go = ⊥
 EntryLone (Some found) [] go = Unit {0}
 EntryLone (Some found) (piece ∷ rest) go = go found
 
+-- The same at a node: a tail has just these pieces, and a level this one entry, behind which one key goes on.
 abbrev pub NodeLone : Node → ℕ → List ℕ → (ℕ → Type 0) → Type 0
 NodeLone gone piece rest go = ⊥
 NodeLone (tail held value) piece rest go = held ≡ piece ∷ rest
@@ -98,7 +99,7 @@ IsUnled world at = (seat : ℕ) (map : FinMap word_order ℕ) (piece : ℕ) → 
 abbrev pub IsLedOnce : World → Type 0
 IsLedOnce world = (seat other : ℕ) (map more : FinMap word_order ℕ) (piece next at : ℕ) → world seat ≡ level map → get map piece ≡ Some at → IsInner piece → world other ≡ level more → get more next ≡ Some at → IsInner next → seat ≡ other
 
--- To one child alone no entry leads any more; there stands one key, with these pieces.
+-- To one child alone no entry leads; there stands one key, with these pieces.
 pub record IsLoose (world : World) (at : ℕ) (ps : List ℕ) : Type 0 where
   pub unled : IsUnled world at
   pub led : (other : ℕ) → other ≢ at → world (suc other) ≢ gone → IsLed world other

@@ -11,11 +11,12 @@ use Rattle.judy_sl.specs.Pieces.{pieces, piece_of, IsFinal, IsText, AreInner}
 use Rattle.judy_sl.specs.World.{World, Node, gone, tail, level, walk}
 use Rattle.judy_sl.specs.Arenas.{world_of}
 
--- The seat of a place, and the piece.
+-- The seat of a place: 0 for the first level, and else that of the child.
 abbrev pub seat_of : Place → ℕ
 seat_of (Root piece) = 0
 seat_of (Below at piece) = suc at
 
+-- The piece of a place.
 abbrev pub piece_at : Place → ℕ
 piece_at (Root piece) = piece
 piece_at (Below at piece) = piece

@@ -33,11 +33,12 @@ abbrev pub lookup : World → ℕ → List ℕ → Option ℕ
 lookup world seat [] = None
 lookup world seat (piece ∷ rest) = at_node (world seat) piece rest (λ found. lookup world (suc found) rest)
 
--- One step of a way of levels.
+-- One step of a way of levels, by what the level has under the piece.
 abbrev pub step_entry : Option ℕ → (ℕ → Option ℕ) → Option ℕ
 step_entry None go = None
 step_entry (Some found) go = go found
 
+-- The same at a node: only a level leads on.
 abbrev pub step_node : Node → ℕ → (ℕ → Option ℕ) → Option ℕ
 step_node gone piece go = None
 step_node (tail held value) piece go = None

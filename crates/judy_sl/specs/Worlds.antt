@@ -30,6 +30,6 @@ pub record IsLed (world : World) (at : ℕ) : Type 0 where
   pub inner : IsInner piece
   pub entry : get map piece ≡ Some at
 
--- An entry leads to each child that is there, so a place to which none leads any more is free.
+-- An entry leads to each child that is there, so a place to which none leads is free.
 abbrev pub AllLed : World → Type 0
 AllLed world = (at : ℕ) → world (suc at) ≢ gone → IsLed world at

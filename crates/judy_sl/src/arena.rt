@@ -44,6 +44,13 @@ pub enum Way {
     Clash(usize, usize),
 }
 
+impl Way {
+    // Whether it ends in the first level, which has no entry for the key's first piece.
+    pub fn ends_first(self) -> bool {
+        matches!(self, Way::Gap(Place::Root(_), _))
+    }
+}
+
 // The place of a piece of the first level, or of the level of a child.
 pub fn place_in(child: Option<usize>, piece: u64) -> Place
     ensures { result ≡ place_in child piece }

@@ -1,8 +1,8 @@
-//! How an arena takes a new key. What is new is built beside the array, and its places are reserved; only then does the
-//! array change, and nothing of that can be refused. A new child takes the place that is free first; the list grows only
-//! where none is free.
+//! How an arena takes a new key. What is new is built beside the array, and its places are reserved; then comes at most
+//! one insert into a level of the array, the last step that can be refused; and then the new children are put in their
+//! places. A new child takes the place that is free first; the list grows only where none is free.
 
-ghost use Rattle.std.specs.Prelude.{ℕ, List, ◌≡◌, ◌≢◌, ◌+◌, ◌<◌, ◌≤◌, None, IfOk, OnOk, IfErr, OnErr, IsTrue, length, get_or, vec_len, vec_capacity};
+ghost use Rattle.std.specs.Prelude.{ℕ, List, ◌≡◌, ◌≢◌, ◌+◌, ◌<◌, ◌≤◌, None, IfOk, OnOk, IfErr, OnErr, IfSome, IsTrue, length, get_or, vec_len, vec_capacity};
 ghost use Rattle.std.specs.FinMap as map;
 ghost use Rattle.judy_word.specs.Writes.{with_value};
 ghost use Rattle.judy_model.specs.Keys.{IsStringKey};
@@ -10,14 +10,16 @@ ghost use Rattle.judy_sl.specs.declared.error.SlError.TheVariants.{NoMemory};
 ghost use Rattle.judy_sl.specs.World.{gone};
 ghost use Rattle.judy_sl.specs.Arenas.{world_of, node_of, child_at, map_of, link_of, links_of, IsArena, TakesPlaces};
 ghost use Rattle.judy_sl.specs.Ways.{IsGap, IsClash, IsWay, IsNew};
-ghost use Rattle.judy_sl.specs.Grown.{IsPut, IsHung, HasTwig, IsSound, IsGraft, IsGrafted, IsAdded, IsSame, next_place};
+ghost use Rattle.judy_sl.specs.Grown.{IsPut, IsTailPut, IfShown, IsHung, HasTwig, IsSound, IsGraft, IsGrafted, IsAdded, IsSame, next_place};
 
 use crate::arena::{Arena, Place, Way};
 use crate::branches::{Branch, Twig, branch_of};
 use crate::child::Child;
 use crate::error::SlError;
+use crate::keys::is_key;
+use crate::pieces::first_piece;
 use judy_entry::Entry;
-use judy_word::JudyL;
+use judy_word::{InsertError, JudyL};
 use std::alloc::AllocError;
 
 // Lets an entry of a level lead to the child at a place.
@@ -87,6 +89,57 @@ impl Arena {
                 let at = self.children.len();
                 self.children.push_reserved(child);
                 at
+            }
+        }
+    }
+
+    // Puts the tail of a new key, with the value 0, at the next place, and answers that place.
+    fn put_tail(&mut self, rest: &[u8]) -> Result<usize, SlError>
+        ensures place { IfOk result (λ at. at ≡ next_place self.old) }
+        ensures put { IfOk result (λ at. IsTailPut self.old self.new rest.now at) }
+        ensures refused { IfErr result (λ error. IsSame self.old self.new × (error ≡ NoMemory)) }
+        ensures places { TakesPlaces self.old self.new }
+    {
+        let alloc = *self.children.allocator();
+        let Ok(tail) = Entry::new(alloc, rest, 0) else {
+            return Err(SlError::NoMemory);
+        };
+        if make_room(&mut self.children, 1).is_err() {
+            return Err(SlError::NoMemory);
+        }
+        Ok(self.put(Child::Tail(tail)))
+    }
+
+    // Tries a key as one whose first piece leads nowhere, and puts it in with the value 0 if so: one way down the first level shows that and
+    // puts the piece in. Only then is more memory asked for, so that none is for a key that is there; where it is refused, the piece goes
+    // again. Answers where the key stands, and `None` where it isn't to be tried or its piece leads somewhere: then it is to be looked up.
+    pub fn try_add(&mut self, key: &[u8], tries: bool) -> Result<Option<Place>, SlError>
+        requires is_arena { IsArena self.old }
+        requires few { map.len (map_of self.old) ≤ 4294967295 }
+        ensures tried { IfShown result (IsTrue tries) }
+        ensures key { IfShown result (IsStringKey key.now) }
+        ensures absent { IfShown result (map.get (map_of self.old) key.now ≡ None) }
+        ensures added { IfOk result (λ found. IfSome found (λ place. IsAdded self.old self.new key.now place)) }
+        ensures open { IfOk result (λ found. found ≡ None → self.new ≡ self.old) }
+        ensures refused { IfErr result (λ error. IsSame self.old self.new × (error ≡ NoMemory)) }
+        ensures places { TakesPlaces self.old self.new }
+    {
+        if !tries || key.len() < 8 || !is_key(key) {
+            return Ok(None);
+        }
+        let next = self.next_place();
+        let piece = first_piece(key);
+        match self.root.put_if_absent(piece, next as u64) {
+            Ok(true) => {}
+            Ok(false) => return Ok(None),
+            Err(InsertError::Full) => unreachable!(),
+            Err(InsertError::NoMemory) => return Err(SlError::NoMemory),
+        }
+        match self.put_tail(&key[8..]) {
+            Ok(at) => Ok(Some(Place::Below(at, 0))),
+            Err(error) => {
+                self.root.del(piece);
+                Err(error)
             }
         }
     }

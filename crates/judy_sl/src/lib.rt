@@ -2,10 +2,13 @@
 //! how many an array holds.
 //!
 //! `JudySl` maps such keys to words. Its model is the array of judy_model over byte strings, a limit and a finite
-//! map, and its contracts cite judy_model's definitions. It stands on the word arrays of judy_word.
+//! map, and its contracts cite judy_model's definitions. A call whose comment names none of the manual is this
+//! project's own. It stands on the word arrays of judy_word.
 //!
 //! Inside, a key is cut into pieces of eight bytes (specs/Pieces.antt), and a tree of `JudyL`s finds them piece by
-//! piece (specs/World.antt); `Arena` keeps all levels and tails of an array in one list (specs/Arenas.antt).
+//! piece (specs/World.antt); `Arena` keeps all levels and tails of an array in one list (specs/Arenas.antt). arena.rt
+//! has the way of a key, grow.rt and branches.rt how a key comes in, shrink.rt how one goes, and scans.rt the
+//! neighbours.
 #![tactic(auto)]
 
 mod arena;

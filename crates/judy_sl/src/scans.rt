@@ -154,8 +154,8 @@ impl Arena {
         }
     }
 
-    // The same, where the last level on its way has it: each level is asked
-    // once, and the last one once more where it leads to a tail that isn't met.
+    // The same, where the last level on its way has it: each level is asked once, and the last one once more where it
+    // leads to a tail that isn't met.
     fn last_turn(&self, look: Look, key: &[u8]) -> Option<Turn>
         requires is_arena { IsArena self.now }
         requires without_zero { All (λ byte. byte ≢ 0) key.now }

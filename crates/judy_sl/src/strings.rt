@@ -22,6 +22,9 @@ pub struct JudySl {
     limit: u64,
     count: u64,
     pub(crate) arena: Arena,
+    // Whether the last insert put a key in whose first piece led nowhere. The next one is then tried as such a one, which finds its place and
+    // puts it in by one way down the first level.
+    adds: bool,
 }
 
 impl Model for JudySl {
@@ -52,6 +55,7 @@ impl JudySl {
             limit,
             count: 0,
             arena: Arena::new(alloc),
+            adds: true,
         }
     }
 
@@ -59,34 +63,46 @@ impl JudySl {
     /// and is never refused. What the caller leaves in the slot is then the key's value. (Manual: JSLI, JudySLIns.)
     ///
     /// `BadKey` where the bytes are no key. `Full` where they are an absent one and the array holds as many keys as its
-    /// limit (limit: this project's own). `NoMemory` only where they are an absent one and the array isn't full. Each
-    /// leaves the array as it was.
+    /// limit (both limits are this project's own). `NoMemory` only where they are an absent one and the array isn't full.
+    /// Each leaves the array as it was.
     pub fn ins(&mut self, key: &[u8]) -> Result<&mut u64, SlError>
         ensures* writes_back { sem 𝓛 (LendsIns self.entry key.now result) }
         ensures value { IfOk result (λ slot. Some slot.now ≡ map.get (array.ins self.old.map key.now) key.now) }
         ensures accepted { OnOk result (IsStringKey key.now × IsFalse (array.is_full self.old key.now)) }
         ensures refused { IfErr result (IsRefusal self.old key.now) }
     {
-        let arena = &self.arena;
+        let tries = self.adds & (self.count != self.limit);
         if ends_in_zero(key) {
             return Err(SlError::BadKey);
         }
-        match arena.walk(key) {
-            Way::At(place) => self.arena.ins(place),
-            way => {
-                if !is_key(key) {
-                    return Err(SlError::BadKey);
-                }
-                if self.count == self.limit {
-                    return Err(SlError::Full);
-                }
-                let made = match self.arena.add(key, way) {
-                    Ok(made) => made,
-                    Err(error) => return Err(error),
-                };
+        match self.arena.try_add(key, tries) {
+            Ok(Some(place)) => {
                 self.count += 1;
-                self.arena.ins(made)
+                self.arena.ins(place)
             }
+            Err(error) => Err(error),
+            Ok(None) => match self.arena.walk(key) {
+                Way::At(place) => {
+                    self.adds = false;
+                    self.arena.ins(place)
+                }
+                way => {
+                    if !is_key(key) {
+                        return Err(SlError::BadKey);
+                    }
+                    if self.count == self.limit {
+                        return Err(SlError::Full);
+                    }
+                    match self.arena.add(key, way) {
+                        Ok(made) => {
+                            self.count += 1;
+                            self.adds = way.ends_first();
+                            self.arena.ins(made)
+                        }
+                        Err(error) => Err(error),
+                    }
+                }
+            },
         }
     }
 

@@ -18,7 +18,7 @@ pub enum End {
     Help(String),
     /// The command line was refused; the text says why.
     BadWords(String),
-    /// There is no memory to read the command line.
+    /// There is no memory to read the command line, or for the name of a file that couldn't be opened.
     NoMemory,
     /// The file of that name couldn't be opened or created.
     Open(String),

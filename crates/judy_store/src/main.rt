@@ -5,6 +5,10 @@
 //! for a reader and a writer that tell their bytes, and to read its command line by the meaning that `clap` gives it.
 //! Of the bytes of real files and terminals nothing is claimed: the program's own pipes count their failures and
 //! tell no bytes.
+//!
+//! command_line.rt reads the words into what request.rt has, and work.rt does what they ask, in the program's order:
+//! files.rt opens the files, pipes.rt has the pipes over them, and store.rt what is done with these. end.rt tells how
+//! the program ends.
 #![tactic(auto)]
 
 ghost use Rattle.std.specs.Prelude.{◌<◌, ◌-◌, ◌^◌};

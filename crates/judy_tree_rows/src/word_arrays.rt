@@ -48,7 +48,7 @@ fn tight_shape(set: &mut Judy1) -> Result<Shape, AllocError>
     Ok(tree.shape())
 }
 
-// Takes a key out, and answers whether the array is loose from there on: only where 33 keys stood together.
+// Takes a key out, and answers whether that made the array loose: only where 33 keys stood together.
 fn loosened(array_l: &mut JudyL, key: u64) -> bool
     ensures deleted { array_l.new ≡ array.with_map array_l.old (array.del array_l.old.map key) }
     ensures loosened { IsTrue result → Has33 8 (map.entries array_l.old.map) key }
@@ -217,7 +217,7 @@ fn full_ranges(rt: HostRuntime) -> Result<(), Fail> {
     Ok(())
 }
 
-// The calls of a set that no row has: each once.
+// The calls that change a set and those that tell of it, each once or twice.
 #[test]
 fn set_and_unset(rt: HostRuntime) -> Result<(), Fail> {
     let mut set = Judy1::new(rt.alloc(), 2);

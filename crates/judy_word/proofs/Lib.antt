@@ -7,3 +7,4 @@ mod InsertionFacts
 mod ArrayFacts
 mod EntryFacts
 pub mod IterFacts
+pub mod TrialLemmas

@@ -5,19 +5,19 @@ ghost use Rattle.judy_model.specs.Counts as counts;
 
 use crate::judy1::Judy1;
 use crate::judyl::JudyL;
+use crate::tree_array::TreeEntries;
 use judy_leaf::Width;
-use judy_query::Walk;
 use std::fmt::{Debug, Formatter, Result, Write};
 use std::iter::{IntoIterator, Iterator};
 use std::marker::Model;
 
-/// The keys of a map with their values that are still to come, by ascending key: to its callers it is their list.
-pub type Entries<'a> = Walk<'a, Width<1>>;
+/// The keys of a map with their values that are still to come, by ascending key.
+pub type Entries<'a> = TreeEntries<'a, Width<1>>;
 
 /// The keys of a set that are still to come, by ascending order: to its callers it is their list.
 #[derive(Drop)]
 pub struct Keys<'a> {
-    pub(crate) walk: Walk<'a, Width<0>>,
+    entries: TreeEntries<'a, Width<0>>,
 }
 
 impl<'a> Model for Keys<'a> {
@@ -26,7 +26,7 @@ impl<'a> Model for Keys<'a> {
 
     ghost Value = { List ℕ };
 
-    ghost view = { λ a. keys_of a.walk };
+    ghost view = { λ a. keys_of a.entries };
 }
 
 impl<'a> Iterator for Keys<'a> {
@@ -39,7 +39,7 @@ impl<'a> Iterator for Keys<'a> {
     ghost remaining = { item_count (λ keys. keys) };
 
     fn next(&mut self) -> Option<u64> {
-        let (key, _) = self.walk.next()?;
+        let (key, _) = self.entries.next()?;
         Some(key)
     }
 }
@@ -50,7 +50,7 @@ impl Judy1 {
         ensures { result ≡ map.keys self.now.map }
     {
         Keys {
-            walk: self.tree().iter(),
+            entries: self.tree().iter(),
         }
     }
 
@@ -59,7 +59,7 @@ impl Judy1 {
         ensures { result ≡ drop (counts.rank self.now.map i) (map.keys self.now.map) }
     {
         Keys {
-            walk: self.tree().iter_from(i),
+            entries: self.tree().iter_from(i),
         }
     }
 }

@@ -83,8 +83,8 @@ impl Judy1 {
         self.tree.set(i)
     }
 
-    /// Takes the key `i` out, and answers whether it was there. It can't fail.
-    /// (Manual: J1U, Judy1Unset.)
+    /// Takes the key `i` out, and answers whether it was there. It can't fail: where memory for a smaller node is refused, the larger
+    /// one stays. (Manual: J1U, Judy1Unset.)
     pub fn unset(&mut self, i: u64) -> bool
         ensures answer { result ≡ map.contains_key self.old.map i }
         ensures unset { self.new ≡ array.with_map self.old (array.del self.old.map i) }

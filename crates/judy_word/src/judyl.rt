@@ -134,7 +134,8 @@ impl JudyL {
         self.tree.slot(i)
     }
 
-    /// Takes the key `i` out, and answers whether it was there. It can't fail. (Manual: JLD, JudyLDel.)
+    /// Takes the key `i` out, and answers whether it was there. It can't fail: where memory for a smaller node is refused, the larger
+    /// one stays. (Manual: JLD, JudyLDel.)
     pub fn del(&mut self, i: u64) -> bool
         ensures answer { result ≡ map.contains_key self.old.map i }
         ensures deleted { self.new ≡ array.with_map self.old (array.del self.old.map i) }
@@ -267,7 +268,8 @@ impl JudyL {
         self.tree.is_array();
     }
 
-    /// The least key from `i` on with its value, in one way down the tree. `None` where no key is left.
+    /// The least key from `i` on with its value, in one way down the tree. `None` where no key is left. (Manual: JLF, JudyLFirst, which
+    /// gives both.)
     // As `first`.
     #[inline(always)]
     pub fn first_entry(&self, i: u64) -> Option<(u64, u64)>
@@ -277,7 +279,7 @@ impl JudyL {
         self.tree.first_entry(i)
     }
 
-    /// The least key above `i` with its value; `None` where no key is above it.
+    /// The least key above `i` with its value; `None` where no key is above it. (Manual: JLN, JudyLNext, which gives both.)
     // As `first`.
     #[inline(always)]
     pub fn next_entry(&self, i: u64) -> Option<(u64, u64)>
@@ -287,7 +289,7 @@ impl JudyL {
         self.tree.next_entry(i)
     }
 
-    /// The greatest key up to `i` with its value; `None` where each key is above it.
+    /// The greatest key up to `i` with its value; `None` where each key is above it. (Manual: JLL, JudyLLast, which gives both.)
     pub fn last_entry(&self, i: u64) -> Option<(u64, u64)>
         ensures key { option_map (λ entry. entry.0) result ≡ neighbours.last self.now.map i }
         ensures value { IfSome result (λ entry. map.get self.now.map entry.0 ≡ Some entry.1) }
@@ -295,7 +297,7 @@ impl JudyL {
         self.tree.last_entry(i)
     }
 
-    /// The greatest key below `i` with its value; `None` where no key is below it.
+    /// The greatest key below `i` with its value; `None` where no key is below it. (Manual: JLP, JudyLPrev, which gives both.)
     pub fn prev_entry(&self, i: u64) -> Option<(u64, u64)>
         ensures key { option_map (λ entry. entry.0) result ≡ neighbours.prev self.now.map i }
         ensures value { IfSome result (λ entry. map.get self.now.map entry.0 ≡ Some entry.1) }
@@ -303,7 +305,8 @@ impl JudyL {
         self.tree.prev_entry(i)
     }
 
-    /// The `n`-th key in ascending order, counted from 1, with its value; `None` for 0, and for an `n` above the number of keys.
+    /// The `n`-th key in ascending order, counted from 1, with its value; `None` for 0, and for an `n` above the number of keys (both
+    /// corners are this project's own). (Manual: JLBC, JudyLByCount, which gives both.)
     pub fn by_count_entry(&self, n: u64) -> Option<(u64, u64)>
         ensures key { option_map (λ entry. entry.0) result ≡ counts.by_count self.now.map n }
         ensures value { IfSome result (λ entry. map.get self.now.map entry.0 ≡ Some entry.1) }

@@ -2,11 +2,13 @@
 //
 // `JudyL` maps words to words, and `Judy1` is a set of words. The crate stands on judy_model, whose definitions
 // its contracts cite: both are the model's array, a limit and a finite map from words to words, and in a
-// `Judy1` each value is 0. The kinds over byte strings and the script layer stand on this crate.
+// `Judy1` each value is 0. A call whose comment names none of the manual is this project's own. The kinds over
+// byte strings and the script layer stand on this crate.
 //
 // What lies below both is a `TreeArray`, which is a limit, a tree of judy_node and whether that may be loose, and whose contracts say
-// what becomes of the nodes too: each public call hands on to one of its calls. tree_array.rt has it, and in the folder of that name
-// stand what is asked of a key (counts.rt), neighbours and empties, changes and slots, each over judy_query or judy_change.
+// what becomes of the nodes too: each public call hands on to its calls. tree_array.rt has it, and in the folder of that name stand what
+// is asked of a key (counts.rt), neighbours, the same with values (entries.rt) and empties, all over judy_query; changes, over judy_change;
+// slots; and the law of what every array keeps (kept.rt). iter.rt has the iterators, and how an array is printed.
 #![tactic(auto)]
 
 mod error;
@@ -19,4 +21,4 @@ pub use error::InsertError;
 pub use iter::{Entries, Keys};
 pub use judy1::Judy1;
 pub use judyl::JudyL;
-pub use tree_array::TreeArray;
+pub use tree_array::{TreeArray, TreeEntries};

@@ -20,8 +20,10 @@ mod kept;
 mod neighbours;
 mod slots;
 
-/// An array of words over a tree, with `V` words of value a key: a set or a map. It holds at most as many keys as its limit. To its
-/// callers it is that limit, its tree with all nodes, and whether the tree may have a node that is larger than its keys need.
+pub use entries::TreeEntries;
+
+/// An array of words over a tree, with `V` words of value a key, none or one: a set or a map. It holds at most as many keys as its
+/// limit. To its callers it is that limit, its tree with all nodes, and whether the tree may have a node that is larger than its keys need.
 pub struct TreeArray<V: Words + Drop> {
     limit: u64,
     root: NodeOf<V>,

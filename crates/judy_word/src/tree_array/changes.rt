@@ -64,8 +64,8 @@ impl<V: Words + Drop> TreeArray<V> {
         Ok(added)
     }
 
-    /// Gives a key a value, in an array whose keys have values, and answers whether it was absent. Refused as `set` is, and never
-    /// where the key is there.
+    /// Gives a key a value, in an array whose keys have values, and answers whether it was absent. Refused as `set` is, and then the
+    /// array is as it was; never where the key is there.
     pub fn put(&mut self, key: u64, value: u64) -> Result<bool, InsertError>
         requires words { V.WORDS ≡ 1 }
         ensures answer { IfOk result (λ added. added ≡ not (map.contains_key (map_in self.old) key)) }

@@ -10,14 +10,14 @@ use judy_leaf::Words;
 use judy_query::{empty_at_or_after, empty_at_or_before};
 
 impl<V: Words + Drop> TreeArray<V> {
-    /// The least word that is no key and isn't below a word.
+    /// The least word that is no key and isn't below a word; `None` where each word from there on is a key.
     pub fn first_empty(&self, from: u64) -> Option<u64>
         ensures { result ≡ empties.first_empty (map_in self.now) from }
     {
         empty_at_or_after(&self.root, from, &mut Meter::new())
     }
 
-    /// The least word above it that is no key.
+    /// The least word above it that is no key; `None` where there is none.
     pub fn next_empty(&self, from: u64) -> Option<u64>
         ensures { result ≡ empties.next_empty (map_in self.now) from }
     {
@@ -28,14 +28,14 @@ impl<V: Words + Drop> TreeArray<V> {
         }
     }
 
-    /// The greatest word that is no key and isn't above it.
+    /// The greatest word that is no key and isn't above it; `None` where each word up to it is a key.
     pub fn last_empty(&self, from: u64) -> Option<u64>
         ensures { result ≡ empties.last_empty (map_in self.now) from }
     {
         empty_at_or_before(&self.root, from, &mut Meter::new())
     }
 
-    /// The greatest word below it that is no key.
+    /// The greatest word below it that is no key; `None` where there is none.
     pub fn prev_empty(&self, from: u64) -> Option<u64>
         ensures { result ≡ empties.prev_empty (map_in self.now) from }
     {

@@ -1,4 +1,4 @@
-//! The nearest keys and the n-th with their values, each in one way down the tree.
+//! The nearest keys and the n-th with their values, each in one way down the tree, and all of them one after another.
 
 ghost use Rattle.std.specs.Prelude.{◌≡◌, Some, IfSome, drop};
 ghost use Rattle.std.specs.FinMap as map;
@@ -11,9 +11,40 @@ use crate::tree_array::TreeArray;
 use judy_bits::Meter;
 use judy_leaf::Words;
 use judy_query::{Walk, entry_at_or_after, entry_at_or_before, entry_nth};
+use std::iter::Iterator;
+use std::marker::Model;
+
+/// The keys of an array that are still to come, by ascending key, each with its value, 0 where keys have no value: to its callers it is
+/// their list. A step to the next key begins where the last one ended, not at the root.
+#[derive(Drop)]
+pub struct TreeEntries<'a, V: Words + Drop> {
+    walk: Walk<'a, V>,
+}
+
+impl<'a, V: Words + Drop> Model for TreeEntries<'a, V> {
+    ghost use Rattle.std.specs.Prelude.{ℕ, List};
+
+    ghost Value = { List (ℕ × ℕ) };
+
+    ghost view = { λ a. a.walk };
+}
+
+impl<'a, V: Words + Drop> Iterator for TreeEntries<'a, V> {
+    ghost use Rattle.std.specs.Iterator.{YieldsFirst, item_count};
+
+    type Item = (u64, u64);
+
+    ghost next_gives = { YieldsFirst (λ entries. entries) };
+
+    ghost remaining = { item_count (λ entries. entries) };
+
+    fn next(&mut self) -> Option<(u64, u64)> {
+        self.walk.next(&mut Meter::new())
+    }
+}
 
 impl<V: Words + Drop> TreeArray<V> {
-    /// The least key that isn't below a word, with its value, 0 where keys have no value.
+    /// The least key that isn't below a word, with its value, 0 where keys have no value; `None` where there is none.
     // Compiled into the caller, as the search is: the answer doesn't go through memory then.
     #[inline(always)]
     pub fn first_entry(&self, from: u64) -> Option<(u64, u64)>
@@ -24,7 +55,7 @@ impl<V: Words + Drop> TreeArray<V> {
         entry_at_or_after(&self.root, from, &mut Meter::new())
     }
 
-    /// The least key above it, with its value.
+    /// The least key above it, with its value, or `None`.
     // As `first_entry`.
     #[inline(always)]
     pub fn next_entry(&self, from: u64) -> Option<(u64, u64)>
@@ -39,7 +70,7 @@ impl<V: Words + Drop> TreeArray<V> {
         }
     }
 
-    /// The greatest key that isn't above it, with its value.
+    /// The greatest key that isn't above it, with its value, or `None`.
     pub fn last_entry(&self, from: u64) -> Option<(u64, u64)>
         ensures key { option_map (λ entry. entry.0) result ≡ neighbours.last (map_in self.now) from }
         ensures value { IfSome result (λ entry. map.get (map_in self.now) entry.0 ≡ Some entry.1) }
@@ -48,7 +79,7 @@ impl<V: Words + Drop> TreeArray<V> {
         entry_at_or_before(&self.root, from, &mut Meter::new())
     }
 
-    /// The greatest key below it, with its value.
+    /// The greatest key below it, with its value, or `None`.
     pub fn prev_entry(&self, from: u64) -> Option<(u64, u64)>
         ensures key { option_map (λ entry. entry.0) result ≡ neighbours.prev (map_in self.now) from }
         ensures value { IfSome result (λ entry. map.get (map_in self.now) entry.0 ≡ Some entry.1) }
@@ -74,18 +105,22 @@ impl<V: Words + Drop> TreeArray<V> {
     }
 
     /// All keys by ascending order, each with its value, one after another.
-    pub fn iter(&self) -> Walk<'_, V>
+    pub fn iter(&self) -> TreeEntries<'_, V>
         ensures { result ≡ map.entries (map_in self.now) }
     {
         self.root.told();
-        Walk::from_key(&self.root, 0)
+        TreeEntries {
+            walk: Walk::from_key(&self.root, 0, &mut Meter::new()),
+        }
     }
 
     /// The same from the first key that isn't below a word.
-    pub fn iter_from(&self, from: u64) -> Walk<'_, V>
+    pub fn iter_from(&self, from: u64) -> TreeEntries<'_, V>
         ensures { result ≡ drop (counts.rank (map_in self.now) from) (map.entries (map_in self.now)) }
     {
         self.root.told();
-        Walk::from_key(&self.root, from)
+        TreeEntries {
+            walk: Walk::from_key(&self.root, from, &mut Meter::new()),
+        }
     }
 }

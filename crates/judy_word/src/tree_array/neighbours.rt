@@ -10,7 +10,7 @@ use judy_leaf::Words;
 use judy_query::{at_or_after, at_or_before};
 
 impl<V: Words + Drop> TreeArray<V> {
-    /// The least key that isn't below a word.
+    /// The least key that isn't below a word; `None` where there is none.
     // Compiled into the caller, as the search is: the answer doesn't go through memory then.
     #[inline(always)]
     pub fn first(&self, from: u64) -> Option<u64>
@@ -19,7 +19,7 @@ impl<V: Words + Drop> TreeArray<V> {
         at_or_after(&self.root, from, &mut Meter::new())
     }
 
-    /// The least key above it.
+    /// The least key above it, or `None`.
     // As `first`.
     #[inline(always)]
     pub fn next(&self, from: u64) -> Option<u64>
@@ -33,14 +33,14 @@ impl<V: Words + Drop> TreeArray<V> {
         }
     }
 
-    /// The greatest key that isn't above it.
+    /// The greatest key that isn't above it, or `None`.
     pub fn last(&self, from: u64) -> Option<u64>
         ensures { result ≡ neighbours.last (map_in self.now) from }
     {
         at_or_before(&self.root, from, &mut Meter::new())
     }
 
-    /// The greatest key below it.
+    /// The greatest key below it, or `None`.
     pub fn prev(&self, from: u64) -> Option<u64>
         ensures { result ≡ neighbours.prev (map_in self.now) from }
     {

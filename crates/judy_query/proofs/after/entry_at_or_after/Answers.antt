@@ -2,7 +2,6 @@ use Rattle.std.proofs.Common.{◌≡◌, suc, ◌+◌, ◌-◌, ◌*◌, ◌^◌
 use Rattle.std.specs.Option.{option_or}
 use Rattle.judy_model.specs.Keys.{word_order}
 use Rattle.judy_model.specs.WordBytes.{number_of}
-use Rattle.judy_bits.specs.ByteSets.{rank}
 use Rattle.judy_leaf.specs.KeyLists.{shift}
 use Rattle.judy_node.specs.Views.{view_pairs}
 use Rattle.judy_node.specs.declared.step.Step.TheVariants.{Child}
@@ -20,12 +19,6 @@ down-init g c =
     let narrow = down.shown.narrow in
     (down, refl, tt, omega (arith, c.enter.ensures.visits))
 
-pub reached-requires : goal.reached-requires
-reached-requires g c =
-    let words = g.V.Words.WORDS in
-    let b = c.down.at.0.now in
-    passed_few words b.width b.skip b.bytes b.children.items b.population c.down.at.1 c.step-step.result (branch_is words c.args.tree.now.pairs c.down.at.0 c.args.key c.down.at.1 c.down.invariant.0) c.step-step.ensures
-
 pub pair_behind-requires : goal.pair_behind-requires
 pair_behind-requires g c =
     let words = g.V.Words.WORDS in
@@ -36,7 +29,8 @@ pair_behind-requires g c =
     let room = c.requires in
     record {
       branch = branch;
-      from = c.reached.ensures ∙ reached_rank words b.width b.skip b.bytes b.children.items b.population branch c.down.at.1 c.step-step.result c.step-step.ensures ∙ ap (rank b.bytes) (sym c.byte_behind.ensures);
+      inside = passed_few words b.width b.skip b.bytes b.children.items b.population c.down.at.1 c.step-step.result branch c.step-step.ensures;
+      step = reached_rank words b.width b.skip b.bytes b.children.items b.population branch c.down.at.1 c.step-step.result c.step-step.ensures;
       fits = way.0.part.fits;
       before = way.2;
       room = omega (arith, way.3, room);
@@ -51,7 +45,7 @@ returns-in_default-step g c =
     let way = c.down.invariant in
     let beside = beside_is c.step-step.result c.in_default-step.not-Child in
     let part = down_gap words pairs c.down.at.0 c.args.key c.down.at.1 way.0 c.step-step.result beside c.step-step.ensures in
-    let place : c.reached.result ≡ passed (length b.children.items) c.step-step.result = c.reached.ensures ∙ beside_reached (length b.children.items) c.step-step.result beside in
+    let place = beside_reached (length b.children.items) c.step-step.result beside in
     let some = way.0.shown.some in
     record {
       entry = c.pair_behind.ensures.entry
@@ -70,19 +64,17 @@ pub enter-requires-in-down : goal.enter-requires-in-down
 enter-requires-in-down g c =
     (omega arith, (omega (arith, c.down.invariant.3, c.requires), child_is g.V.Words.WORDS c.args.tree.now.pairs c.down.at.0 c.args.key c.down.at.1 c.down.invariant.0 c.in-Child.field-0 c.in-Child.place c.in-Child.rest c.in-Child.ensures c.index.result.now c.index.ensures))
 
-pub reached-requires-in-Branch-enter : goal.reached-requires-in-Branch-enter
-reached-requires-in-Branch-enter g c =
+pub later_turn-later-requires-clause-inside : goal.later_turn-later-requires-clause-inside
+later_turn-later-requires-clause-inside g c =
     let inside = child_inside g.V.Words.WORDS c.args.tree.now.pairs c.down.at.0 c.args.key c.down.at.1 c.down.invariant.0 c.in-Child.field-0 c.in-Child.place c.in-Child.rest c.in-Child.ensures in
     omega arith
 
-pub later_turn-later-requires-clause-from : goal.later_turn-later-requires-clause-from
-later_turn-later-requires-clause-from g c =
+pub later_turn-later-requires-clause-step : goal.later_turn-later-requires-clause-step
+later_turn-later-requires-clause-step g c =
     let words = g.V.Words.WORDS in
     let b = c.down.at.0.now in
-    c.reached-in-Branch-enter.ensures
-    ∙ reached_rank words b.width b.skip b.bytes b.children.items b.population (branch_is words c.args.tree.now.pairs c.down.at.0 c.args.key c.down.at.1 c.down.invariant.0) c.down.at.1
+    reached_rank words b.width b.skip b.bytes b.children.items b.population (branch_is words c.args.tree.now.pairs c.down.at.0 c.args.key c.down.at.1 c.down.invariant.0) c.down.at.1
     (Child c.in-Child.field-0 c.in-Child.place c.in-Child.rest) c.in-Child.ensures
-    ∙ ap (rank b.bytes) (sym c.byte_behind-in-Branch-enter.ensures)
 
 pub down-preserved : goal.down-preserved
 down-preserved g c =
@@ -92,13 +84,12 @@ down-preserved g c =
     let base = c.args.key - c.down.at.1 in
     let way = c.down.invariant in
     let next = down_child words pairs c.down.at.0 c.args.key c.down.at.1 way.0 c.in-Child.field-0 c.in-Child.place c.in-Child.rest c.in-Child.ensures c.index.result.now c.index.ensures (Branch c.in-Branch-enter.below) c.in-Branch-enter.ensures.view in
-    let place : c.reached-in-Branch-enter.result ≡ suc c.in-Child.place = c.reached-in-Branch-enter.ensures in
     let less = next.width_is in
     let visits = c.enter-in-down.ensures.visits in
     let so_far = way.3 in (
       next.down,
       ap (λ ps. slice_get ps 0) next.back_is ∙ head-append (shift base (rest_of (256 ^ b.width) (number_of b.skip * 256) b.bytes b.children.items (suc c.in-Child.place))) way.0.back
-          ∙ (λ t. option_or (slice_get (shift base (rest_of (256 ^ b.width) (number_of b.skip * 256) b.bytes b.children.items (sym place t))) 0) (way.1 t))
+          ∙ (λ t. option_or (slice_get (shift base (rest_of (256 ^ b.width) (number_of b.skip * 256) b.bytes b.children.items (suc c.in-Child.place))) 0) (way.1 t))
           ∙ sym c.later_turn-later.ensures.pair,
       c.later_turn-later.ensures.turn,
       omega arith,
@@ -123,11 +114,6 @@ returns-in-Some g c =
       visits = omega (arith, c.down.invariant.3, c.enter-in-down.ensures.visits);
     }
 
-pub reached-requires-in_default-from_in : goal.reached-requires-in_default-from_in
-reached-requires-in_default-from_in g c =
-    let inside = child_inside g.V.Words.WORDS c.args.tree.now.pairs c.down.at.0 c.args.key c.down.at.1 c.down.invariant.0 c.in-Child.field-0 c.in-Child.place c.in-Child.rest c.in-Child.ensures in
-    omega arith
-
 pub pair_behind-requires-in_default-from_in : goal.pair_behind-requires-in_default-from_in
 pair_behind-requires-in_default-from_in g c =
     let words = g.V.Words.WORDS in
@@ -135,6 +121,7 @@ pair_behind-requires-in_default-from_in g c =
     let b = c.down.at.0.now in
     let way = c.down.invariant in
     let next = down_child words pairs c.down.at.0 c.args.key c.down.at.1 way.0 c.in-Child.field-0 c.in-Child.place c.in-Child.rest c.in-Child.ensures c.index.result.now c.index.ensures c.enter-in-down.result c.enter-in-down.ensures.view in
+    let kid = child_inside words pairs c.down.at.0 c.args.key c.down.at.1 way.0 c.in-Child.field-0 c.in-Child.place c.in-Child.rest c.in-Child.ensures in
     let branch = branch_is words pairs c.down.at.0 c.args.key c.down.at.1 way.0 in
     let less = next.width_is in
     let some = next.down.shown.some in
@@ -142,9 +129,8 @@ pair_behind-requires-in_default-from_in g c =
     let room = c.requires in
     record {
       branch = branch;
-      from = c.reached-in_default-from_in.ensures
-          ∙ reached_rank words b.width b.skip b.bytes b.children.items b.population branch c.down.at.1 (Child c.in-Child.field-0 c.in-Child.place c.in-Child.rest) c.in-Child.ensures
-          ∙ ap (rank b.bytes) (sym c.byte_behind-in_default-from_in.ensures);
+      inside = omega (arith, kid);
+      step = reached_rank words b.width b.skip b.bytes b.children.items b.population branch c.down.at.1 (Child c.in-Child.field-0 c.in-Child.place c.in-Child.rest) c.in-Child.ensures;
       fits = way.0.part.fits;
       before = way.2;
       room = omega (arith, way.3, visits, room);
@@ -159,7 +145,6 @@ returns-in_default-from_in g c =
     let way = c.down.invariant in
     let view = c.enter-in-down.result in
     let next = down_child words pairs c.down.at.0 c.args.key c.down.at.1 way.0 c.in-Child.field-0 c.in-Child.place c.in-Child.rest c.in-Child.ensures c.index.result.now c.index.ensures view c.enter-in-down.ensures.view in
-    let place : c.reached-in_default-from_in.result ≡ suc c.in-Child.place = c.reached-in_default-from_in.ensures in
     let down = next.down in
     let above = down.above in
     let less = next.width_is in
@@ -167,7 +152,7 @@ returns-in_default-from_in g c =
     let visits = c.enter-in-down.ensures.visits in
     record {
       entry = c.pair_behind-in_default-from_in.ensures.entry
-          ∙ (λ t. option_or (slice_get (shift base (rest_of (256 ^ b.width) (number_of b.skip * 256) b.bytes b.children.items (place t))) 0) (sym way.1 t))
+          ∙ (λ t. option_or (slice_get (shift base (rest_of (256 ^ b.width) (number_of b.skip * 256) b.bytes b.children.items (suc c.in-Child.place))) 0) (sym way.1 t))
           ∙ sym (head-append (shift base (rest_of (256 ^ b.width) (number_of b.skip * 256) b.bytes b.children.items (suc c.in-Child.place))) way.0.back)
           ∙ sym (ap (λ ps. slice_get ps 0) next.back_is)
           ∙ sym (part-from words (256 ^ 8) pairs (c.args.key - c.in-Child.rest) (256 ^ width_of view) c.in-Child.rest c.args.key (view_pairs view) down.front down.back down.part (omega arith) down.inside

@@ -19,27 +19,23 @@ down-init g c =
     let narrow = down.shown.narrow in
     (down, refl, tt, omega (arith, c.enter.ensures.visits))
 
-pub earlier_turn-earlier-requires-clause-place : goal.earlier_turn-earlier-requires-clause-place
-earlier_turn-earlier-requires-clause-place g c =
+pub earlier_turn-earlier-requires-clause-inside : goal.earlier_turn-earlier-requires-clause-inside
+earlier_turn-earlier-requires-clause-inside g c =
     let words = g.V.Words.WORDS in
     let b = c.down.at.0.now in
-    let few = passed_few words b.width b.skip b.bytes b.children.items b.population c.down.at.1 c.step-step.result (branch_is words c.args.tree.now.pairs c.down.at.0 c.args.key c.down.at.1 c.down.invariant.0) c.step-step.ensures in
-    let same = c.passed.ensures in
-    omega arith
+    passed_few words b.width b.skip b.bytes b.children.items b.population c.down.at.1 c.step-step.result (branch_is words c.args.tree.now.pairs c.down.at.0 c.args.key c.down.at.1 c.down.invariant.0) c.step-step.ensures
 
-pub earlier_turn-earlier-requires-clause-below : goal.earlier_turn-earlier-requires-clause-below
-earlier_turn-earlier-requires-clause-below g c =
+pub earlier_turn-earlier-requires-clause-step : goal.earlier_turn-earlier-requires-clause-step
+earlier_turn-earlier-requires-clause-step g c =
     let words = g.V.Words.WORDS in
     let b = c.down.at.0.now in
-    c.passed.ensures ∙ passed_rank words b.width b.skip b.bytes b.children.items b.population (branch_is words c.args.tree.now.pairs c.down.at.0 c.args.key c.down.at.1 c.down.invariant.0) c.down.at.1 c.step-step.result c.step-step.ensures
-    ∙ ap (rank b.bytes) (sym c.byte_passed.ensures)
+    passed_rank words b.width b.skip b.bytes b.children.items b.population (branch_is words c.args.tree.now.pairs c.down.at.0 c.args.key c.down.at.1 c.down.invariant.0) c.down.at.1 c.step-step.result c.step-step.ensures
 
 pub earlier_turn-earlier-requires-clause-small : goal.earlier_turn-earlier-requires-clause-small
 earlier_turn-earlier-requires-clause-small g c =
     let words = g.V.Words.WORDS in
     let b = c.down.at.0.now in
-    subst (λ n. n ≤ 256) (sym c.byte_passed.ensures)
-    (passed_small words b.width b.skip b.bytes b.children.items b.population (branch_is words c.args.tree.now.pairs c.down.at.0 c.args.key c.down.at.1 c.down.invariant.0) c.down.at.1 c.step-step.result c.step-step.ensures)
+    passed_small words b.width b.skip b.bytes b.children.items b.population (branch_is words c.args.tree.now.pairs c.down.at.0 c.args.key c.down.at.1 c.down.invariant.0) c.down.at.1 c.step-step.result c.step-step.ensures
 
 pub returns-in_default-step : goal.returns-in_default-step
 returns-in_default-step g c =
@@ -50,11 +46,10 @@ returns-in_default-step g c =
     let way = c.down.invariant in
     let beside = beside_is c.step-step.result c.in_default-step.not-Child in
     let part = down_gap words pairs c.down.at.0 c.args.key c.down.at.1 way.0 c.step-step.result beside c.step-step.ensures in
-    let place : c.passed.result ≡ passed (length b.children.items) c.step-step.result = c.passed.ensures in
     let some = way.0.shown.some in
     record {
       entry = c.greatest.ensures.entry ∙ c.earlier_turn-earlier.ensures.pair
-          ∙ (λ t. option_or (last_pair (shift base (first_of (256 ^ b.width) (number_of b.skip * 256) b.bytes b.children.items (place t)))) (sym way.1 t))
+          ∙ (λ t. option_or (last_pair (shift base (first_of (256 ^ b.width) (number_of b.skip * 256) b.bytes b.children.items (passed (length b.children.items) c.step-step.result)))) (sym way.1 t))
           ∙ sym (last_pair-append way.0.front (shift base (first_of (256 ^ b.width) (number_of b.skip * 256) b.bytes b.children.items (passed (length b.children.items) c.step-step.result))))
           ∙ sym (part-up_to words (256 ^ 8) pairs c.args.key 1 0 c.args.key [] _ _ part (omega arith) (omega arith));
       visits = omega (arith, way.3, c.greatest.ensures.visits);
@@ -77,7 +72,7 @@ down-preserved g c =
     let base = c.args.key - c.down.at.1 in
     let way = c.down.invariant in
     let next = down_child words pairs c.down.at.0 c.args.key c.down.at.1 way.0 c.in-Child.field-0 c.in-Child.place c.in-Child.rest c.in-Child.ensures c.index.result.now c.index.ensures (Branch c.in-Branch-enter.below) c.in-Branch-enter.ensures.view in
-    let place : c.passed.result ≡ c.in-Child.place = c.passed.ensures ∙ ap (passed (length b.children.items)) c.in-Child.is in
+    let place = ap (passed (length b.children.items)) c.in-Child.is in
     let less = next.width_is in
     let visits = c.enter-in-down.ensures.visits in
     let so_far = way.3 in (
@@ -98,7 +93,7 @@ returns-in_default-up_to_in g c =
     let way = c.down.invariant in
     let view = c.enter-in-down.result in
     let next = down_child words pairs c.down.at.0 c.args.key c.down.at.1 way.0 c.in-Child.field-0 c.in-Child.place c.in-Child.rest c.in-Child.ensures c.index.result.now c.index.ensures view c.enter-in-down.ensures.view in
-    let place : c.passed.result ≡ c.in-Child.place = c.passed.ensures ∙ ap (passed (length b.children.items)) c.in-Child.is in
+    let place = ap (passed (length b.children.items)) c.in-Child.is in
     let down = next.down in
     let above = down.above in
     let less = next.width_is in

@@ -17,7 +17,7 @@ pub enter-view-requires : goal.enter-view-requires
 enter-view-requires g c =
     let turn = c.args.turn in
     let b = turn.branch.now in
-    (omega arith, (omega (arith, c.new.ensures), kid_is g.V.Words.WORDS b.width b.skip b.bytes b.children.items b.population c.requires.turn.branch 0 turn.place c.index.result.now c.requires.turn.inside c.index.ensures))
+    (omega arith, (omega (arith, c.requires.below), kid_is g.V.Words.WORDS b.width b.skip b.bytes b.children.items b.population c.requires.turn.branch 0 turn.place c.index.result.now c.requires.turn.inside c.index.ensures))
 
 pub keep-requires : goal.keep-requires
 keep-requires g c =
@@ -53,7 +53,7 @@ first_of-requires g c =
     let shown = entered_shown words b.width b.skip b.bytes b.children.items b.population is turn.place c.start_at.result c.requires.turn.inside start c.index.result.now c.index.ensures c.enter-view.result c.enter-view.ensures.view in
     let fits = entered_fits words b.width b.skip b.bytes b.children.items b.population is turn.place c.start_at.result c.requires.turn.inside start c.index.result.now c.index.ensures c.enter-view.result c.enter-view.ensures.view turn.base c.requires.turn.fits in
     let some = entered_some words b.width b.skip b.bytes b.children.items b.population is turn.place c.start_at.result c.requires.turn.inside start c.index.result.now c.index.ensures c.enter-view.result c.enter-view.ensures.view in
-    (omega arith, (shown, (fits, (some, (c.keep.ensures.turns, omega arith)))))
+    (omega arith, (shown, (fits, (some, (c.keep.ensures.turns, (omega arith, omega (arith, c.requires.below, c.enter-view.ensures.visits)))))))
 
 pub returns-clause-pairs : goal.returns-clause-pairs
 returns-clause-pairs g c =
@@ -67,3 +67,13 @@ returns-clause-pairs g c =
     (c.keep.ensures.pairs ∙ ap (λ n. shift turn.base (rest_of (256 ^ b.width) (number_of b.skip * 256) b.bytes b.children.items n) ++ others) behind)
     ∙ sym (entered_pairs g.V.Words.WORDS b.width b.skip b.bytes b.children.items b.population c.requires.turn.branch turn.place c.start_at.result c.requires.turn.inside start
     c.index.result.now c.index.ensures c.enter-view.result c.enter-view.ensures.view turn.base others)
+
+pub returns-clause-visits : goal.returns-clause-visits
+returns-clause-visits g c =
+    let words = g.V.Words.WORDS in
+    let turn = c.args.turn in
+    let b = turn.branch.now in
+    let start : IsStart (256 ^ b.width) (number_of b.skip * 256) b.bytes turn.place c.start_at.result = (c.byte_from-byte.result, c.byte_from-byte.ensures, c.start_at.ensures) in
+    let wide = entered_width words b.width b.skip b.bytes b.children.items b.population c.requires.turn.branch turn.place c.start_at.result c.requires.turn.inside start c.index.result.now c.index.ensures c.enter-view.result c.enter-view.ensures.view in
+    let room = c.requires.room in
+    omega (arith, c.enter-view.ensures.visits, c.first_of.ensures.visits)

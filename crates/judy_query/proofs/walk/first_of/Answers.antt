@@ -5,12 +5,12 @@ use Rattle.judy_bits.specs.ByteSets.{rank}
 use Rattle.judy_leaf.specs.KeyLists.{shift}
 use Rattle.judy_node.specs.Views.{view_pairs}
 use Rattle.judy_node.proofs.Maps.{length-shift}
-use Rattle.judy_query.specs.Parts.{IsStart}
+use Rattle.judy_query.specs.Parts.{IsStart, width_of}
 use Rattle.judy_query.specs.Walks.{waiting}
 use Rattle.judy_query.proofs.BranchRooms.{bytes_ascend, rank_zero}
 use Rattle.judy_query.proofs.ScanFacts.{rank_behind}
 use Rattle.judy_query.proofs.Downs.{start_room}
-use Rattle.judy_query.proofs.WalkFacts.{IsWalked, first_inside, walked_child}
+use Rattle.judy_query.proofs.WalkFacts.{IsWalked, first_inside, entered_width, walked_child}
 use Rattle.judy_query.proofs.walk.first_of.Goals as goal
 
 pub byte_from-byte-requires-clause-from : goal.byte_from-byte-requires-clause-from
@@ -21,7 +21,7 @@ keep-requires g c =
     let words = g.V.Words.WORDS in
     let b = c.in-Branch.branch.now in
     let all = shift c.args.start (view_pairs c.args.top) ++ waiting c.args.turns.now.items in
-    let walked = subst (λ v. IsWalked words v c.down.base c.down.turns.items all) c.in-Branch.is c.down.invariant in
+    let walked = subst (λ v. IsWalked words v c.down.base c.down.turns.items all) c.in-Branch.is c.down.invariant.0 in
     let is = walked.shown.place.1 in
     let from : 1 ≡ rank b.bytes (c.from.result + 1) = sym (ap (λ n. rank b.bytes (n + 1)) c.from.ensures
     ∙ rank_behind b.bytes 0 c.byte_from-byte.result (bytes_ascend words b.width b.skip b.bytes b.children.items b.population is) c.byte_from-byte.ensures) in
@@ -33,7 +33,7 @@ byte_from-byte-requires-clause-place g c =
     let words = g.V.Words.WORDS in
     let b = c.in-Branch.branch.now in
     let all = shift c.args.start (view_pairs c.args.top) ++ waiting c.args.turns.now.items in
-    let walked = subst (λ v. IsWalked words v c.down.base c.down.turns.items all) c.in-Branch.is c.down.invariant in
+    let walked = subst (λ v. IsWalked words v c.down.base c.down.turns.items all) c.in-Branch.is c.down.invariant.0 in
     let is = walked.shown.place.1 in
     first_inside words b.width b.skip b.bytes b.children.items b.population is
 
@@ -42,7 +42,7 @@ start_at-base-requires-clause-byte g c =
     let words = g.V.Words.WORDS in
     let b = c.in-Branch.branch.now in
     let all = shift c.args.start (view_pairs c.args.top) ++ waiting c.args.turns.now.items in
-    let walked = subst (λ v. IsWalked words v c.down.base c.down.turns.items all) c.in-Branch.is c.down.invariant in
+    let walked = subst (λ v. IsWalked words v c.down.base c.down.turns.items all) c.in-Branch.is c.down.invariant.0 in
     let is = walked.shown.place.1 in
     (0, first_inside words b.width b.skip b.bytes b.children.items b.population is, c.byte_from-byte.ensures)
 
@@ -52,7 +52,7 @@ overflow_add-base g c =
     let b = c.in-Branch.branch.now in
     let start : IsStart (256 ^ b.width) (number_of b.skip * 256) b.bytes 0 c.start_at-base.result = (c.byte_from-byte.result, c.byte_from-byte.ensures, c.start_at-base.ensures) in
     let all = shift c.args.start (view_pairs c.args.top) ++ waiting c.args.turns.now.items in
-    let walked = subst (λ v. IsWalked words v c.down.base c.down.turns.items all) c.in-Branch.is c.down.invariant in
+    let walked = subst (λ v. IsWalked words v c.down.base c.down.turns.items all) c.in-Branch.is c.down.invariant.0 in
     let is = walked.shown.place.1 in
     let room = start_room words b.width b.skip b.bytes b.children.items b.population 0 c.start_at-base.result is (first_inside words b.width b.skip b.bytes b.children.items b.population is) start in
     let fits = walked.fits in
@@ -65,17 +65,25 @@ down-preserved g c =
     let b = c.in-Branch.branch.now in
     let start : IsStart (256 ^ b.width) (number_of b.skip * 256) b.bytes 0 c.start_at-base.result = (c.byte_from-byte.result, c.byte_from-byte.ensures, c.start_at-base.ensures) in
     let all = shift c.args.start (view_pairs c.args.top) ++ waiting c.args.turns.now.items in
-    let walked = subst (λ v. IsWalked words v c.down.base c.down.turns.items all) c.in-Branch.is c.down.invariant in
-    walked_child words c.in-Branch.branch c.down.base c.down.turns.items all walked c.start_at-base.result start c.index.result.now c.index.ensures
-    c.enter-view.result c.enter-view.ensures.view c.keep.new.turns.items c.keep.ensures.turns c.keep.ensures.pairs c.keep.ensures.one
+    let walked = subst (λ v. IsWalked words v c.down.base c.down.turns.items all) c.in-Branch.is c.down.invariant.0 in
+    let is = walked.shown.place.1 in
+    let wide = entered_width words b.width b.skip b.bytes b.children.items b.population is 0 c.start_at-base.result (first_inside words b.width b.skip b.bytes b.children.items b.population is) start c.index.result.now c.index.ensures c.enter-view.result c.enter-view.ensures.view in
+    let here = ap width_of c.in-Branch.is in
+    let visits = c.enter-view.ensures.visits in
+    let so_far = c.down.invariant.1 in (
+      walked_child words c.in-Branch.branch c.down.base c.down.turns.items all walked c.start_at-base.result start c.index.result.now c.index.ensures
+          c.enter-view.result c.enter-view.ensures.view c.keep.new.turns.items c.keep.ensures.turns c.keep.ensures.pairs c.keep.ensures.one,
+      omega arith,
+    )
 
 pub returns : goal.returns
 returns g c =
     let pairs = view_pairs c.down.view in
-    let some = c.down.invariant.some in
-    let long = ap length c.new-2.ensures ∙ length-shift c.down.base pairs in
+    let some = c.down.invariant.0.some in
+    let long = ap length c.new.ensures ∙ length-shift c.down.base pairs in
     record {
-      turns = c.down.invariant.turns;
-      pairs = ap (λ ps. ps ++ waiting c.down.turns.items) c.new-2.ensures ∙ c.down.invariant.pairs;
+      turns = c.down.invariant.0.turns;
+      pairs = ap (λ ps. ps ++ waiting c.down.turns.items) c.new.ensures ∙ c.down.invariant.0.pairs;
       some = omega arith;
+      visits = (let shown = c.down.invariant.0.shown.some in omega (arith, c.down.invariant.1));
     }

@@ -18,8 +18,8 @@ pub down-init : goal.down-init
 down-init g c =
     let down = down_root g.V.Words.WORDS c.args.tree.now c.enter-view.result c.args.key c.told.ensures c.enter-view.ensures.view (omega (arith, c.ranges.key)) in
     let narrow = down.shown.narrow in
-    let none = ap length c.requires in
-    (down, sym (ap waiting c.requires), subst (AreTurns g.V.Words.WORDS 0) (sym c.requires) tt, omega arith)
+    let none = ap length c.requires.none in
+    (down, sym (ap waiting c.requires.none), subst (AreTurns g.V.Words.WORDS 0) (sym c.requires.none) tt, omega arith, omega arith)
 
 pub reached-requires : goal.reached-requires
 reached-requires g c =
@@ -51,10 +51,14 @@ returns-in_default-step g c =
     let beside = beside_is c.step-step.result c.in_default-step.not-Child in
     let part = down_gap words pairs c.in-Branch.branch c.args.key c.down.left way.0 c.step-step.result beside c.step-step.ensures in
     let place : c.reached.result ≡ passed (length b.children.items) c.step-step.result = c.reached.ensures ∙ beside_reached (length b.children.items) c.step-step.result beside in
-    ap (λ ps. ps ++ waiting c.keep.new.turns.items) c.new-stretch.ensures
-    ∙ c.keep.ensures.pairs
-    ∙ (λ t. shift base (rest_of (256 ^ b.width) (number_of b.skip * 256) b.bytes b.children.items (place t)) ++ sym way.1 t)
-    ∙ sym (part-rest words (256 ^ 8) pairs c.args.key 1 0 c.args.key [] _ _ part (omega arith) (omega arith))
+    let some = c.down.invariant.0.shown.some in
+    record {
+      pairs = ap (λ ps. ps ++ waiting c.keep.new.turns.items) c.new-stretch.ensures
+          ∙ c.keep.ensures.pairs
+          ∙ (λ t. shift base (rest_of (256 ^ b.width) (number_of b.skip * 256) b.bytes b.children.items (place t)) ++ sym way.1 t)
+          ∙ sym (part-rest words (256 ^ 8) pairs c.args.key 1 0 c.args.key [] _ _ part (omega arith) (omega arith));
+      visits = omega (arith, c.down.invariant.4);
+    }
 
 pub index-requires : goal.index-requires
 index-requires g c =
@@ -69,7 +73,7 @@ enter-view-requires-in-Branch g c =
     let words = g.V.Words.WORDS in
     let pairs = c.args.tree.now.pairs in
     let down = subst (λ v. IsDown words pairs v c.args.key c.down.left) c.in-Branch.is c.down.invariant.0 in
-    (omega arith, (omega (arith, c.new-in-Branch.ensures), child_is words pairs c.in-Branch.branch c.args.key c.down.left down c.in-Child.field-0 c.in-Child.place c.in-Child.rest c.in-Child.ensures c.index.result.now c.index.ensures))
+    (omega arith, (omega (arith, c.down.invariant.4, c.requires.below), child_is words pairs c.in-Branch.branch c.args.key c.down.left down c.in-Child.field-0 c.in-Child.place c.in-Child.rest c.in-Child.ensures c.index.result.now c.index.ensures))
 
 pub down-smaller : goal.down-smaller
 down-smaller g c =
@@ -94,10 +98,13 @@ down-preserved g c =
     let here = ap width_of c.in-Branch.is in
     let less = next.width_is in
     let one = c.keep.ensures.one in
-    let room = c.down.invariant.3 in (
+    let room = c.down.invariant.3 in
+    let visits = c.enter-view-in-Branch.ensures.visits in
+    let so_far = c.down.invariant.4 in (
       next.down,
       next.back_is ∙ (λ t. rest (sym place t) ++ way.1 t) ∙ sym c.keep.ensures.pairs,
       c.keep.ensures.turns,
+      omega arith,
       omega arith,
     )
 
@@ -122,5 +129,9 @@ returns g c =
     let down = c.down.invariant.0 in
     let above = down.above in
     let here = view_pairs c.down.view in
-    (λ t. (c.new-stretch-2.ensures ∙ ap (λ n. shift base (drop n here)) c.rank_in-at.ensures) t ++ sym c.down.invariant.1 t)
-    ∙ sym (part-rest words (256 ^ 8) pairs base (256 ^ width_of c.down.view) c.down.left c.args.key here down.front down.back down.part (omega arith) (let inside = down.inside in omega arith))
+    let some = down.shown.some in
+    record {
+      pairs = (λ t. (c.new-stretch-2.ensures ∙ ap (λ n. shift base (drop n here)) c.rank_in-at.ensures) t ++ sym c.down.invariant.1 t)
+          ∙ sym (part-rest words (256 ^ 8) pairs base (256 ^ width_of c.down.view) c.down.left c.args.key here down.front down.back down.part (omega arith) (let inside = down.inside in omega arith));
+      visits = omega (arith, c.down.invariant.4);
+    }

@@ -1,50 +1,40 @@
-use Rattle.std.proofs.Common.{◌≡◌, ℕ, suc, sym, ◌∙◌, slice_get, Some, unwrap_or, arith}
-use Rattle.std.specs.FinMap.{keys, entries, get}
+use Rattle.std.proofs.Common.{ℕ, List, ◌++◌, sym, ap, subst, ◌∙◌}
+use Rattle.std.specs.List.{flat_map}
+use Rattle.std.specs.FinMap.{keys, entries}
+use Rattle.std.proofs.lemmas.List.Folds.{flat_map-map}
 use Rattle.judy_model.specs.DumpText as text
-use Rattle.judy_shelf.specs.Writes.{sunk}
+use Rattle.judy_hs.proofs.WalkLemmas.{came_on, came_all}
+use Rattle.judy_shelf.specs.Writes.{sunk, WroteAll, WroteFront}
 use Rattle.judy_shelf.proofs.WriteLemmas.{wrote_err}
-use Rattle.judy_shelf.proofs.WalkLemmas.{walk_first, walk_next, entry_at, no_entry_at, written_none, written_more, written_stop, written_all, above_falls}
+use Rattle.judy_shelf.proofs.WalkLemmas.{wrote_nothing, wrote_more, wrote_part}
 use Rattle.judy_shelf.proofs.dumps.write_set.Goals as goal
 
 pub keys-init : goal.keys-init
 keys-init g c =
-    let m = c.args.set.now.map in
-    (0, c.first-next.ensures ∙ walk_first m, written_none (λ (entry : ℕ × ℕ). text.word entry.0) (entries m) (sunk (g.W.Sink.taken c.args.sink.now) (g.W.Sink.tally c.args.sink.now).failures))
+    (sym c.into_iter-key-iterator.ensures.into_iter_gives, wrote_nothing text.word (sunk (g.W.Sink.taken c.args.sink.now) (g.W.Sink.tally c.args.sink.now).failures))
 
 pub returns-in_err-put_word : goal.returns-in_err-put_word
 returns-in_err-put_word g c =
-    let m = c.args.set.now.map in
-    let key = c.in-Some.key in
-    let place = c.keys.invariant.0 in
     let before = sunk (g.W.Sink.taken c.args.sink.now) (g.W.Sink.tally c.args.sink.now).failures in
     let mid = sunk (g.W.Sink.taken c.keys.sink) (g.W.Sink.tally c.keys.sink).failures in
     let after = sunk (g.W.Sink.taken c.put_word.new.sink) (g.W.Sink.tally c.put_word.new.sink).failures in
-    let at : slice_get (keys m) place ≡ Some key = sym c.keys.invariant.1 ∙ c.in-Some.is in
+    let all = ap (flat_map text.word) (sym (c.keys.invariant.0 ∙ ap (λ left. c.keys.yielded ++ left) c.in-Some.ensures.steps)) ∙ flat_map-map text.word (λ (entry : ℕ × ℕ). entry.0) (entries c.args.set.now.map) in
     wrote_err _ before after _ c.from_residual.result c.from_residual.ensures.1
-    (written_stop (λ (entry : ℕ × ℕ). text.word entry.0) (entries m) before place (key, unwrap_or (get m key) 0) mid after c.keys.invariant.2 (entry_at m place key at) c.in_err-put_word.ensures)
+    (subst (λ (bytes : List ℕ). WroteFront bytes before after) all
+    (wrote_part text.word before c.keys.yielded c.next.new.self c.in-Some.key mid after c.keys.invariant.1 c.in_err-put_word.ensures))
 
 pub keys-preserved : goal.keys-preserved
 keys-preserved g c =
-    let m = c.args.set.now.map in
-    let key = c.in-Some.key in
-    let place = c.keys.invariant.0 in
     let before = sunk (g.W.Sink.taken c.args.sink.now) (g.W.Sink.tally c.args.sink.now).failures in
     let mid = sunk (g.W.Sink.taken c.keys.sink) (g.W.Sink.tally c.keys.sink).failures in
-    let after = sunk (g.W.Sink.taken c.put_word.new.sink) (g.W.Sink.tally c.put_word.new.sink).failures in
-    let at : slice_get (keys m) place ≡ Some key = sym c.keys.invariant.1 ∙ c.in-Some.is in (
-      suc place,
-      c.next-next.ensures ∙ walk_next m place key at,
-      written_more (λ (entry : ℕ × ℕ). text.word entry.0) (entries m) before place (key, unwrap_or (get m key) 0) mid after c.keys.invariant.2 (entry_at m place key at) c.in_ok-put_word.ensures,
+    let after = sunk (g.W.Sink.taken c.put_word.new.sink) (g.W.Sink.tally c.put_word.new.sink).failures in (
+      came_on (keys c.args.set.now.map) c.keys.yielded c.keys.key-iterator c.next.new.self c.in-Some.key c.keys.invariant.0 c.in-Some.ensures.steps,
+      wrote_more text.word before c.keys.yielded c.in-Some.key mid after c.keys.invariant.1 c.in_ok-put_word.ensures,
     )
-
-pub keys-smaller : goal.keys-smaller
-keys-smaller g c = above_falls c.args.set.now.map c.in-Some.key (omega arith) c.keys.next c.next-next.result c.in-Some.is c.next-next.ensures
 
 pub returns : goal.returns
 returns g c =
-    let m = c.args.set.now.map in
-    let place = c.keys.invariant.0 in
     let before = sunk (g.W.Sink.taken c.args.sink.now) (g.W.Sink.tally c.args.sink.now).failures in
     let now = sunk (g.W.Sink.taken c.keys.sink) (g.W.Sink.tally c.keys.sink).failures in
-    written_all (λ (entry : ℕ × ℕ). text.word entry.0) (entries m) before place now c.keys.invariant.2
-    (no_entry_at m place (sym c.keys.invariant.1 ∙ c.in_default.is))
+    let all = came_all (keys c.args.set.now.map) c.keys.yielded c.keys.key-iterator c.keys.invariant.0 c.in-None.ensures.steps.0 in
+    subst (λ (bytes : List ℕ). WroteAll bytes before now) (ap (flat_map text.word) all ∙ flat_map-map text.word (λ (entry : ℕ × ℕ). entry.0) (entries c.args.set.now.map)) c.keys.invariant.1

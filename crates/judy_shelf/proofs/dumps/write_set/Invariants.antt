@@ -1,15 +1,12 @@
-use Rattle.std.proofs.Common.{◌≡◌, ℕ, slice_get}
-use Rattle.std.specs.FinMap.{keys, entries}
+use Rattle.std.proofs.Common.{◌≡◌, ◌++◌}
+use Rattle.std.specs.List.{flat_map}
+use Rattle.std.specs.FinMap.{keys}
 use Rattle.judy_model.specs.DumpText as text
-use Rattle.judy_shelf.specs.Writes.{sunk}
-use Rattle.judy_shelf.proofs.WalkLemmas.{Written, above}
+use Rattle.judy_shelf.specs.Writes.{sunk, WroteAll}
 use Rattle.judy_shelf.proofs.dumps.write_set.Given as goal
 
--- the entries before a place are written, and the next key is the one there
+-- the keys that came are written
 abbrev pub invariant-keys : goal.invariant-keys
 invariant-keys g l =
-    (place : ℕ) × (l.next ≡ slice_get (keys l.set.map) place)
-    × Written (λ entry. text.word entry.0) (entries l.set.map) (sunk (g.W.Sink.taken l.fn.sink) (g.W.Sink.tally l.fn.sink).failures) place (sunk (g.W.Sink.taken l.sink) (g.W.Sink.tally l.sink).failures)
-
-abbrev pub decreases-keys : goal.decreases-keys
-decreases-keys g l = above l.next
+    (keys l.set.map ≡ l.yielded ++ l.key-iterator)
+    × WroteAll (flat_map text.word l.yielded) (sunk (g.W.Sink.taken l.fn.sink) (g.W.Sink.tally l.fn.sink).failures) (sunk (g.W.Sink.taken l.sink) (g.W.Sink.tally l.sink).failures)

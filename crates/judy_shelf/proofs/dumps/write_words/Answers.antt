@@ -1,50 +1,43 @@
-use Rattle.std.proofs.Common.{◌≡◌, ℕ, suc, ◌++◌, sym, ap, ◌∙◌, slice_get, Some, unwrap_or, arith}
-use Rattle.std.specs.FinMap.{keys, entries}
+use Rattle.std.proofs.Common.{ℕ, List, ◌++◌, sym, ap, subst, ◌∙◌}
+use Rattle.std.specs.List.{flat_map}
+use Rattle.std.specs.FinMap.{entries}
 use Rattle.judy_model.specs.DumpText as text
-use Rattle.judy_shelf.specs.Writes.{sunk}
+use Rattle.judy_hs.proofs.WalkLemmas.{came_on, came_all}
+use Rattle.judy_shelf.specs.Writes.{sunk, WroteAll, WroteFront}
 use Rattle.judy_shelf.proofs.WriteLemmas.{wrote_err}
-use Rattle.judy_shelf.proofs.WalkLemmas.{walk_first, walk_next, entry_at, no_entry_at, written_none, written_more, written_stop, written_all, above_falls}
+use Rattle.judy_shelf.proofs.WalkLemmas.{wrote_nothing, wrote_more, wrote_part}
 use Rattle.judy_shelf.proofs.dumps.write_words.Goals as goal
 
-pub keys-init : goal.keys-init
-keys-init g c =
-    let m = c.args.words.now.map in
-    (0, c.first-next.ensures ∙ walk_first m, written_none (λ (entry : ℕ × ℕ). text.word entry.0 ++ text.word entry.1) (entries m) (sunk (g.W.Sink.taken c.args.sink.now) (g.W.Sink.tally c.args.sink.now).failures))
+pub entries-init : goal.entries-init
+entries-init g c =
+    (sym c.into_iter-key-iterator.ensures.into_iter_gives, wrote_nothing (λ (entry : ℕ × ℕ). text.word entry.0 ++ text.word entry.1) (sunk (g.W.Sink.taken c.args.sink.now) (g.W.Sink.tally c.args.sink.now).failures))
 
 pub returns-in_err-put_entry : goal.returns-in_err-put_entry
 returns-in_err-put_entry g c =
-    let m = c.args.words.now.map in
-    let key = c.in-Some.key in
-    let place = c.keys.invariant.0 in
+    let line : ℕ × ℕ → List ℕ = λ entry. text.word entry.0 ++ text.word entry.1 in
     let before = sunk (g.W.Sink.taken c.args.sink.now) (g.W.Sink.tally c.args.sink.now).failures in
-    let mid = sunk (g.W.Sink.taken c.keys.sink) (g.W.Sink.tally c.keys.sink).failures in
+    let mid = sunk (g.W.Sink.taken c.entries.sink) (g.W.Sink.tally c.entries.sink).failures in
     let after = sunk (g.W.Sink.taken c.put_entry.new.sink) (g.W.Sink.tally c.put_entry.new.sink).failures in
-    let at : slice_get (keys m) place ≡ Some key = sym c.keys.invariant.1 ∙ c.in-Some.is in
+    let all = c.entries.invariant.0 ∙ ap (λ left. c.entries.yielded ++ left) c.in-Some.ensures.steps in
     wrote_err _ before after _ c.from_residual.result c.from_residual.ensures.1
-    (written_stop (λ (entry : ℕ × ℕ). text.word entry.0 ++ text.word entry.1) (entries m) before place (key, c.unwrap_or.result) mid after c.keys.invariant.2 (entry_at m place key at ∙ ap (λ value. Some (key, value)) (sym (c.unwrap_or.ensures ∙ ap (λ o. unwrap_or o 0) c.get.ensures))) c.in_err-put_entry.ensures)
+    (subst (λ (pairs : List (ℕ × ℕ)). WroteFront (flat_map line pairs) before after) (sym all)
+    (wrote_part line before c.entries.yielded c.next.new.self (c.in-Some.key, c.in-Some.value) mid after c.entries.invariant.1 c.in_err-put_entry.ensures))
 
-pub keys-preserved : goal.keys-preserved
-keys-preserved g c =
-    let m = c.args.words.now.map in
-    let key = c.in-Some.key in
-    let place = c.keys.invariant.0 in
+pub entries-preserved : goal.entries-preserved
+entries-preserved g c =
+    let line : ℕ × ℕ → List ℕ = λ entry. text.word entry.0 ++ text.word entry.1 in
+    let entry : ℕ × ℕ = (c.in-Some.key, c.in-Some.value) in
     let before = sunk (g.W.Sink.taken c.args.sink.now) (g.W.Sink.tally c.args.sink.now).failures in
-    let mid = sunk (g.W.Sink.taken c.keys.sink) (g.W.Sink.tally c.keys.sink).failures in
-    let after = sunk (g.W.Sink.taken c.put_entry.new.sink) (g.W.Sink.tally c.put_entry.new.sink).failures in
-    let at : slice_get (keys m) place ≡ Some key = sym c.keys.invariant.1 ∙ c.in-Some.is in (
-      suc place,
-      c.next-next.ensures ∙ walk_next m place key at,
-      written_more (λ (entry : ℕ × ℕ). text.word entry.0 ++ text.word entry.1) (entries m) before place (key, c.unwrap_or.result) mid after c.keys.invariant.2 (entry_at m place key at ∙ ap (λ value. Some (key, value)) (sym (c.unwrap_or.ensures ∙ ap (λ o. unwrap_or o 0) c.get.ensures))) c.in_ok-put_entry.ensures,
+    let mid = sunk (g.W.Sink.taken c.entries.sink) (g.W.Sink.tally c.entries.sink).failures in
+    let after = sunk (g.W.Sink.taken c.put_entry.new.sink) (g.W.Sink.tally c.put_entry.new.sink).failures in (
+      came_on (entries c.args.words.now.map) c.entries.yielded c.entries.key-iterator c.next.new.self entry c.entries.invariant.0 c.in-Some.ensures.steps,
+      wrote_more line before c.entries.yielded entry mid after c.entries.invariant.1 c.in_ok-put_entry.ensures,
     )
-
-pub keys-smaller : goal.keys-smaller
-keys-smaller g c = above_falls c.args.words.now.map c.in-Some.key (omega arith) c.keys.next c.next-next.result c.in-Some.is c.next-next.ensures
 
 pub returns : goal.returns
 returns g c =
-    let m = c.args.words.now.map in
-    let place = c.keys.invariant.0 in
+    let line : ℕ × ℕ → List ℕ = λ entry. text.word entry.0 ++ text.word entry.1 in
     let before = sunk (g.W.Sink.taken c.args.sink.now) (g.W.Sink.tally c.args.sink.now).failures in
-    let now = sunk (g.W.Sink.taken c.keys.sink) (g.W.Sink.tally c.keys.sink).failures in
-    written_all (λ (entry : ℕ × ℕ). text.word entry.0 ++ text.word entry.1) (entries m) before place now c.keys.invariant.2
-    (no_entry_at m place (sym c.keys.invariant.1 ∙ c.in_default.is))
+    let now = sunk (g.W.Sink.taken c.entries.sink) (g.W.Sink.tally c.entries.sink).failures in
+    let all = came_all (entries c.args.words.now.map) c.entries.yielded c.entries.key-iterator c.entries.invariant.0 c.in-None.ensures.steps.0 in
+    subst (λ (pairs : List (ℕ × ℕ)). WroteAll (flat_map line pairs) before now) all c.entries.invariant.1

@@ -1,4 +1,4 @@
--- `into_box` hands what the pieces own to `from_raw`. How to read it: Lib.antt. Assumes `Logic`.
+-- `into_box` hands what the pieces own to `from_raw`. How to read it: judy_block's proofs/Lib.antt. Assumes `Logic`.
 use Rattle.std.proofs.Common.{◌≡◌, List, [], ◌∷◌, ◌++◌, refl, sym, ap, subst}
 use mir.Val.{Val, vptr, has_ty, WT}
 use mir.MapTy.{inst_fn}

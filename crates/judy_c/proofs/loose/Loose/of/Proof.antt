@@ -1,4 +1,4 @@
--- `of` keeps what `into_raw_with_allocator` hands out. How to read it: Lib.antt. Assumes `Logic`.
+-- `of` keeps what `into_raw_with_allocator` hands out. How to read it: judy_block's proofs/Lib.antt. Assumes `Logic`.
 use Rattle.std.proofs.Common.{◌≡◌, List, [], ◌∷◌, ◌++◌, refl, sym, ap, ◌∙◌, subst}
 use mir.Syntax.{a_type, dcons, dnil}
 use mir.Val.{Val, vstruct, of_list}

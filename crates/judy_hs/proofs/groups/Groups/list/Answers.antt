@@ -1,55 +1,32 @@
-use Rattle.std.proofs.Common.{◌<◌, ◌++◌, ℕ, Option, sym, ap, subst, ◌∙◌, unwrap_or}
-use Rattle.std.specs.FinMap.{get}
-use Rattle.judy_model.specs.Neighbours.{first, next}
+use Rattle.std.proofs.Common.{◌++◌, ℕ, sym, ap, ◌∙◌, append-nil}
+use Rattle.std.specs.List.{flat_map}
+use Rattle.std.specs.FinMap.{entries}
 use Rattle.judy_hs.specs.Chains.{Pairs}
 use Rattle.judy_hs.specs.Keyed.{Keyed, group_at}
-use Rattle.judy_hs.specs.Listed.{CanList, entries_in, group_list}
-use Rattle.judy_hs.proofs.WalkLemmas.{IsWalk, ahead, walk_start, walk_step, walk_nearer, walk_end, walk_held}
+use Rattle.judy_hs.specs.Listed.{entries_in, group_list}
+use Rattle.judy_hs.proofs.WalkLemmas.{came_on, came_all, listed_on, entry_held}
 use Rattle.judy_hs.proofs.groups.Groups.list.Goals as goal
 
 pub lengths-init : goal.lengths-init
 lengths-init c =
-    let map = c.args.self.now.lengths.map in
-    let part : ℕ × ℕ → Pairs = λ entry. group_list entry.0 (group_at c.args.self.now entry.1) in
-    let before = entries_in c.args.list.now.items in
-    subst (λ (found : Option ℕ). IsWalk map part found before before) (sym (c.first-found.ensures ∙ ap (λ (all : Keyed). first all.lengths.map 0) c.self.view_is)) (walk_start map part before)
-
-pub lengths-smaller : goal.lengths-smaller
-lengths-smaller c =
-    let map = c.args.self.now.lengths.map in
-    let part : ℕ × ℕ → Pairs = λ entry. group_list entry.0 (group_at c.args.self.now entry.1) in
-    let before = entries_in c.args.list.now.items in
-    let now = entries_in c.lengths.list.items in
-    let walk = subst (λ (found : Option ℕ). IsWalk map part found before now) c.in-Some.is c.lengths.invariant in
-    subst (λ (found : Option ℕ). ahead map found < ahead map c.lengths.found) (sym (c.next-found.ensures ∙ ap (λ (all : Keyed). next all.lengths.map c.in-Some.key_length) c.self.view_is))
-    (subst (λ (found : Option ℕ). ahead map (next map c.in-Some.key_length) < ahead map found) (sym c.in-Some.is) (walk_nearer map part before now c.in-Some.key_length walk))
+    (sym (c.into_iter-key_length-iterator.ensures.into_iter_gives ∙ ap (λ (all : Keyed). entries all.lengths.map) c.self.view_is), sym (append-nil (entries_in c.args.list.now.items)))
 
 pub lengths-preserved : goal.lengths-preserved
 lengths-preserved c =
-    let map = c.args.self.now.lengths.map in
     let part : ℕ × ℕ → Pairs = λ entry. group_list entry.0 (group_at c.args.self.now entry.1) in
-    let before = entries_in c.args.list.now.items in
-    let now = entries_in c.lengths.list.items in
-    let walk = subst (λ (found : Option ℕ). IsWalk map part found before now) c.in-Some.is c.lengths.invariant in
-    let place = c.unwrap_or-place.ensures ∙ ap (λ (found : Option ℕ). unwrap_or found 0) (c.get.ensures ∙ ap (λ (all : Keyed). get all.lengths.map c.in-Some.key_length) c.self.view_is) in
-    let more = c.in_ok-list_group.ensures ∙ ap (λ (p : ℕ). now ++ part (c.in-Some.key_length, p)) place in
-    subst (λ (found : Option ℕ). IsWalk map part found before (entries_in c.list_group.new.list.items)) (sym (c.next-found.ensures ∙ ap (λ (all : Keyed). next all.lengths.map c.in-Some.key_length) c.self.view_is))
-    (subst (λ (now : Pairs). IsWalk map part (next map c.in-Some.key_length) before now) (sym more) (walk_step map part before now c.in-Some.key_length walk))
+    let entry : ℕ × ℕ = (c.in-Some.key_length, c.in-Some.place) in (
+      came_on (entries c.args.self.now.lengths.map) c.lengths.yielded c.lengths.key_length-iterator c.next.new.self entry c.lengths.invariant.0 c.in-Some.ensures.steps,
+      listed_on part (entries_in c.args.list.now.items) (entries_in c.lengths.list.items) (entries_in c.list_group.new.list.items) c.lengths.yielded entry c.lengths.invariant.1 c.in_ok-list_group.ensures,
+    )
 
 pub returns : goal.returns
 returns c =
-    let map = c.args.self.now.lengths.map in
     let part : ℕ × ℕ → Pairs = λ entry. group_list entry.0 (group_at c.args.self.now entry.1) in
-    let before = entries_in c.args.list.now.items in
-    let now = entries_in c.lengths.list.items in
-    walk_end map part before now (subst (λ (found : Option ℕ). IsWalk map part found before now) c.in_default.is c.lengths.invariant)
+    let all = came_all (entries c.args.self.now.lengths.map) c.lengths.yielded c.lengths.key_length-iterator c.lengths.invariant.0 c.in-None.ensures.steps.0 in
+    c.lengths.invariant.1 ∙ ap (λ came. entries_in c.args.list.now.items ++ flat_map part came) all
 
 pub list_group-requires : goal.list_group-requires
 list_group-requires c =
     let map = c.args.self.now.lengths.map in
-    let part : ℕ × ℕ → Pairs = λ entry. group_list entry.0 (group_at c.args.self.now entry.1) in
-    let before = entries_in c.args.list.now.items in
-    let now = entries_in c.lengths.list.items in
-    let walk = subst (λ (found : Option ℕ). IsWalk map part found before now) c.in-Some.is c.lengths.invariant in
-    let place = c.unwrap_or-place.ensures ∙ ap (λ (found : Option ℕ). unwrap_or found 0) (c.get.ensures ∙ ap (λ (all : Keyed). get all.lengths.map c.in-Some.key_length) c.self.view_is) in
-    subst (λ (p : ℕ). CanList c.in-Some.key_length (group_at c.args.self.now p)) (sym place) (c.requires c.in-Some.key_length _ (walk_held map part before now c.in-Some.key_length walk))
+    let is = c.lengths.invariant.0 ∙ ap (λ left. c.lengths.yielded ++ left) c.in-Some.ensures.steps in
+    c.requires c.in-Some.key_length c.in-Some.place (entry_held map c.lengths.yielded c.next.new.self c.in-Some.key_length c.in-Some.place is)

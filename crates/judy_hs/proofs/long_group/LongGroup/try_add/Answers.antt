@@ -4,7 +4,7 @@ use Rattle.judy_model.specs.Keys.{word_order}
 use Rattle.judy_model.specs.Arrays.{ArrayOf, with_map}
 use Rattle.judy_hs.specs.ChainPlaces.{chains_of}
 use Rattle.judy_hs.proofs.LongLemmas.{added-new, places-put}
-use Rattle.judy_hs.proofs.TrialLemmas.{put-absent, put-new, put-undone}
+use Rattle.judy_word.proofs.TrialLemmas.{put-absent, put-new, put-undone}
 use Rattle.judy_hs.proofs.long_group.LongGroup.try_add.Goals as goal
 
 pub invariant_of-self-in-Ok : goal.invariant_of-self-in-Ok

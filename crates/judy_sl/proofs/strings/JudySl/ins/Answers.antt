@@ -4,63 +4,131 @@ use borrow.Follows.Closed.{read_of}
 use Rattle.judy_model.specs.Arrays.{ArrayOf}
 use Rattle.judy_model.specs.Keys.{byte_order}
 use Rattle.judy_sl.specs.Lends.{with_value, IsRefusal}
+use Rattle.judy_sl.specs.Arenas.{array_of, IsStrings}
 use Rattle.judy_sl.proofs.PieceLemmas.{text_of_key}
 use Rattle.judy_sl.proofs.Maps.{get-map}
+use Rattle.judy_sl.proofs.Written.{value-there, place-there}
+use Rattle.judy_sl.proofs.Rooms.{room-there}
 use Rattle.judy_sl.proofs.Keeping.{strings-written, array-written}
-use Rattle.judy_sl.proofs.Inserted.{ok-then, on-ok, no-err, lent_ok, is-new, way-none, there-not_full, there-value, there-some, absent-full, absent-room, strings-added, array-added, added-value, added-some, strings-same, array-same}
+use Rattle.judy_sl.proofs.Inserted.{ok-then, on-ok, no-err, lent_ok, is-new, way-none, there-not_full, there-value, there-some, absent-full, absent-room, tried-room, strings-added, array-added, added-value, added-some, strings-same, array-same}
 use Rattle.judy_sl.proofs.strings.JudySl.ins.Goals as goal
+
+-- ---- put in by one way down
 
 pub invariant_of-self-lent : goal.invariant_of-self-lent
 invariant_of-self-lent c _ =
-    let key = c.in-At.ensures.there c.in-At.place refl in
-    (λ w. strings-written _ _ _ c.self.invariant c.args.key.now key c.in-At.place (c.in-At.ensures.way (text_of_key _ key)) w, c.self.invariant)
+    let key = rw c.in-Ok-Some.field-0-is at c.in-Ok-Some.ensures.key in
+    let none = rw c.in-Ok-Some.field-0-is at c.in-Ok-Some.ensures.absent in
+    let tried = rw c.in-Ok-Some.field-0-is at c.in-Ok-Some.ensures.tried in
+    let added = rw c.in-Ok-Some.field-0-is at c.in-Ok-Some.ensures.added in
+    let room = tried-room c.self.inside.adds c.self.inside.count c.self.inside.limit tried in
+    let after = strings-added _ _ _ c.self.invariant c.args.key.now key none c.try_add.new.self c.in-Ok-Some.place added room c.try_add.ensures.places in
+    (λ w. strings-written _ _ _ after c.args.key.now key c.in-Ok-Some.place added.found w, after)
 
-pub returns-in-At : goal.returns-in-At
-returns-in-At c =
-    let key = c.in-At.ensures.there c.in-At.place refl in (
-      λ t. read_of (name_if_ok (λ (x : MutBor ℕ). x.ghost_name) c.ins.result) (λ w. (array-written _ _ _ c.self.invariant c.args.key.now key c.in-At.place (c.in-At.ensures.way (text_of_key _ key)) w ∙ ap (λ (s : ArrayOf byte_order). with_value s c.args.key.now w) c.self.view_is) t) (c.self.view_is t),
+pub returns-in-Ok-Some : goal.returns-in-Ok-Some
+returns-in-Ok-Some c =
+    let key = rw c.in-Ok-Some.field-0-is at c.in-Ok-Some.ensures.key in
+    let none = rw c.in-Ok-Some.field-0-is at c.in-Ok-Some.ensures.absent in
+    let tried = rw c.in-Ok-Some.field-0-is at c.in-Ok-Some.ensures.tried in
+    let added = rw c.in-Ok-Some.field-0-is at c.in-Ok-Some.ensures.added in
+    let room = tried-room c.self.inside.adds c.self.inside.count c.self.inside.limit tried in (
+      lent_ok c.ins.result c.ins.ensures.refused (λ e p. added-some _ _ _ c.self.invariant c.args.key.now key none c.try_add.new.self c.in-Ok-Some.place added room c.try_add.ensures.places p.0) _ _ _ _ (λ w. array-added _ _ _ c.self.invariant c.args.key.now key none c.try_add.new.self c.in-Ok-Some.place added room c.try_add.ensures.places w ∙ ap (λ (s : ArrayOf byte_order). with_value s c.args.key.now w) c.self.view_is),
       rw (← c.self.view_is) (record {
         writes_back = tt;
-        value = ok-then c.ins.result c.ins.ensures.value (λ slot e. e ∙ there-value _ _ _ c.self.invariant c.args.key.now key c.in-At.place (c.in-At.ensures.way (text_of_key _ key)));
-        accepted = on-ok c.ins.result (key, there-not_full _ _ _ c.self.invariant c.args.key.now key c.in-At.place (c.in-At.ensures.way (text_of_key _ key)));
-        refused = no-err _ c.ins.result c.ins.ensures.refused (λ e p. there-some _ _ _ c.self.invariant c.args.key.now key c.in-At.place (c.in-At.ensures.way (text_of_key _ key)) p.0);
+        value = ok-then c.ins.result c.ins.ensures.value (λ slot e. e ∙ added-value _ _ _ c.self.invariant c.args.key.now key none c.try_add.new.self c.in-Ok-Some.place added room c.try_add.ensures.places);
+        accepted = on-ok c.ins.result (key, absent-room _ _ _ c.self.invariant c.args.key.now key none room);
+        refused = no-err _ c.ins.result c.ins.ensures.refused (λ e p. added-some _ _ _ c.self.invariant c.args.key.now key none c.try_add.new.self c.in-Ok-Some.place added room c.try_add.ensures.places p.0);
       }),
     )
 
+pub invariant_of-self-in-Err-try_add : goal.invariant_of-self-in-Err-try_add
+invariant_of-self-in-Err-try_add c =
+    strings-same _ _ _ c.self.invariant c.args.key.now c.in-Err.ensures.key c.try_add.new.self c.in-Err.ensures.refused.0 c.try_add.ensures.places
+
+-- ---- there
+
+pub invariant_of-self-lent-in-At : goal.invariant_of-self-lent-in-At
+invariant_of-self-lent-in-At c _ =
+    let same = c.in-Ok-None.ensures.open c.in-Ok-None.field-0-is in
+    let is : IsStrings c.self.inside.limit c.self.inside.count c.try_add.new.self = subst (IsStrings c.self.inside.limit c.self.inside.count) (sym same) c.self.invariant in
+    let key = c.in-At.ensures.there c.in-At.place refl in
+    let found = c.in-At.ensures.way (text_of_key _ key) in
+    (λ w. strings-written _ _ _ is c.args.key.now key c.in-At.place found w, is)
+
+pub returns-in-At : goal.returns-in-At
+returns-in-At c =
+    let same = c.in-Ok-None.ensures.open c.in-Ok-None.field-0-is in
+    let is : IsStrings c.self.inside.limit c.self.inside.count c.try_add.new.self = subst (IsStrings c.self.inside.limit c.self.inside.count) (sym same) c.self.invariant in
+    let view = ap (array_of c.self.inside.limit) same ∙ c.self.view_is in
+    let key = c.in-At.ensures.there c.in-At.place refl in
+    let found = c.in-At.ensures.way (text_of_key _ key) in (
+      λ t. read_of (name_if_ok (λ (x : MutBor ℕ). x.ghost_name) c.ins-in-At.result) (λ w. (array-written _ _ _ is c.args.key.now key c.in-At.place found w ∙ ap (λ (s : ArrayOf byte_order). with_value s c.args.key.now w) view) t) (view t),
+      rw (← view) (record {
+        writes_back = tt;
+        value = ok-then c.ins-in-At.result c.ins-in-At.ensures.value (λ slot e. e ∙ there-value _ _ _ is c.args.key.now key c.in-At.place found);
+        accepted = on-ok c.ins-in-At.result (key, there-not_full _ _ _ is c.args.key.now key c.in-At.place found);
+        refused = no-err _ c.ins-in-At.result c.ins-in-At.ensures.refused (λ e p. there-some _ _ _ is c.args.key.now key c.in-At.place found p.0);
+      }),
+    )
+
+-- ---- absent
+
 pub returns-then-self : goal.returns-then-self
 returns-then-self c =
+    let same = c.in-Ok-None.ensures.open c.in-Ok-None.field-0-is in
+    let is : IsStrings c.self.inside.limit c.self.inside.count c.try_add.new.self = subst (IsStrings c.self.inside.limit c.self.inside.count) (sym same) c.self.invariant in
+    let view = ap (array_of c.self.inside.limit) same ∙ c.self.view_is in
     let key = c.is_key.ensures.0 c.if-not-is_key.false in
-    let none = get-map c.self.inside.arena c.args.key.now key ∙ way-none c.self.inside.arena c.args.key.now c.walk.result (c.walk.ensures.way (text_of_key _ key)) (is-new c.walk.result c.in_default.not-At) in
-    rw (← c.self.view_is) (refl, record { writes_back = tt; value = tt; accepted = tt; refused = (key, absent-full _ _ _ c.self.invariant c.args.key.now key none c.if-self.true) })
+    let none = get-map c.try_add.new.self c.args.key.now key ∙ way-none c.try_add.new.self c.args.key.now c.walk.result (c.walk.ensures.way (text_of_key _ key)) (is-new c.walk.result c.in_default.not-At) in
+    (ap (λ a. inr a) view, rw (← view) (record { writes_back = tt; value = tt; accepted = tt; refused = (key, absent-full _ _ _ is c.args.key.now key none c.if-self.true) }))
 
 pub invariant_of-self-in-Err-1 : goal.invariant_of-self-in-Err-1
 invariant_of-self-in-Err-1 c =
-    strings-same _ _ _ c.self.invariant c.args.key.now (c.is_key.ensures.0 c.if-not-is_key.false) c.add.new.self c.in-Err.ensures.refused.0 c.add.ensures.places
+    let same = c.in-Ok-None.ensures.open c.in-Ok-None.field-0-is in
+    let is : IsStrings c.self.inside.limit c.self.inside.count c.try_add.new.self = subst (IsStrings c.self.inside.limit c.self.inside.count) (sym same) c.self.invariant in
+    strings-same _ _ _ is c.args.key.now (c.is_key.ensures.0 c.if-not-is_key.false) c.add.new.self c.in-Err-add.ensures.refused.0 c.add.ensures.places
 
-pub returns-in-Err : goal.returns-in-Err
-returns-in-Err c =
+pub returns-in-Err-add : goal.returns-in-Err-add
+returns-in-Err-add c =
+    let same = c.in-Ok-None.ensures.open c.in-Ok-None.field-0-is in
+    let is : IsStrings c.self.inside.limit c.self.inside.count c.try_add.new.self = subst (IsStrings c.self.inside.limit c.self.inside.count) (sym same) c.self.invariant in
+    let view = ap (array_of c.self.inside.limit) same ∙ c.self.view_is in
     let key = c.is_key.ensures.0 c.if-not-is_key.false in
-    let none = get-map c.self.inside.arena c.args.key.now key ∙ way-none c.self.inside.arena c.args.key.now c.walk.result (c.walk.ensures.way (text_of_key _ key)) (is-new c.walk.result c.in_default.not-At) in (
-      ap (λ a. inr a) (array-same _ _ _ c.self.invariant c.args.key.now key c.add.new.self c.in-Err.ensures.refused.0 ∙ c.self.view_is),
-      record { writes_back = tt; value = tt; accepted = tt; refused = rw (← c.self.view_is) (subst (IsRefusal _ c.args.key.now) (sym c.in-Err.ensures.refused.1) (key, none, absent-room _ _ _ c.self.invariant c.args.key.now key none c.if-self.false)) },
+    let none = get-map c.try_add.new.self c.args.key.now key ∙ way-none c.try_add.new.self c.args.key.now c.walk.result (c.walk.ensures.way (text_of_key _ key)) (is-new c.walk.result c.in_default.not-At) in (
+      ap (λ a. inr a) (array-same _ _ _ is c.args.key.now key c.add.new.self c.in-Err-add.ensures.refused.0 ∙ view),
+      record { writes_back = tt; value = tt; accepted = tt; refused = rw (← view) (subst (IsRefusal _ c.args.key.now) (sym c.in-Err-add.ensures.refused.1) (key, none, absent-room _ _ _ is c.args.key.now key none c.if-self.false)) },
     )
 
-pub invariant_of-self-lent-in_default : goal.invariant_of-self-lent-in_default
-invariant_of-self-lent-in_default c _ =
+pub ins-requires-in-Ok : goal.ins-requires-in-Ok
+ins-requires-in-Ok c =
+    let after = c.in-Ok.ensures.added.is_arena in
+    let found = c.in-Ok.ensures.added.found in
+    record {
+      place = place-there c.add.new.self after c.args.key.now c.in-Ok.made found;
+      room = room-there c.add.new.self c.in-Ok.made found.value (value-there c.add.new.self after c.args.key.now c.in-Ok.made found);
+    }
+
+pub invariant_of-self-lent-in-Ok : goal.invariant_of-self-lent-in-Ok
+invariant_of-self-lent-in-Ok c _ =
+    let same = c.in-Ok-None.ensures.open c.in-Ok-None.field-0-is in
+    let is : IsStrings c.self.inside.limit c.self.inside.count c.try_add.new.self = subst (IsStrings c.self.inside.limit c.self.inside.count) (sym same) c.self.invariant in
     let key = c.is_key.ensures.0 c.if-not-is_key.false in
-    let none = get-map c.self.inside.arena c.args.key.now key ∙ way-none c.self.inside.arena c.args.key.now c.walk.result (c.walk.ensures.way (text_of_key _ key)) (is-new c.walk.result c.in_default.not-At) in
-    let after = strings-added _ _ _ c.self.invariant c.args.key.now key none c.add.new.self c.in-Ok.made c.in-Ok.ensures.added c.if-self.false c.add.ensures.places in
+    let none = get-map c.try_add.new.self c.args.key.now key ∙ way-none c.try_add.new.self c.args.key.now c.walk.result (c.walk.ensures.way (text_of_key _ key)) (is-new c.walk.result c.in_default.not-At) in
+    let after = strings-added _ _ _ is c.args.key.now key none c.add.new.self c.in-Ok.made c.in-Ok.ensures.added c.if-self.false c.add.ensures.places in
     (λ w. strings-written _ _ _ after c.args.key.now key c.in-Ok.made c.in-Ok.ensures.added.found w, after)
 
 pub returns-in-Ok : goal.returns-in-Ok
 returns-in-Ok c =
+    let same = c.in-Ok-None.ensures.open c.in-Ok-None.field-0-is in
+    let is : IsStrings c.self.inside.limit c.self.inside.count c.try_add.new.self = subst (IsStrings c.self.inside.limit c.self.inside.count) (sym same) c.self.invariant in
+    let view = ap (array_of c.self.inside.limit) same ∙ c.self.view_is in
     let key = c.is_key.ensures.0 c.if-not-is_key.false in
-    let none = get-map c.self.inside.arena c.args.key.now key ∙ way-none c.self.inside.arena c.args.key.now c.walk.result (c.walk.ensures.way (text_of_key _ key)) (is-new c.walk.result c.in_default.not-At) in (
-      lent_ok c.ins-in_default.result c.ins-in_default.ensures.refused (λ e p. added-some _ _ _ c.self.invariant c.args.key.now key none c.add.new.self c.in-Ok.made c.in-Ok.ensures.added c.if-self.false c.add.ensures.places p.0) _ _ _ _ (λ w. array-added _ _ _ c.self.invariant c.args.key.now key none c.add.new.self c.in-Ok.made c.in-Ok.ensures.added c.if-self.false c.add.ensures.places w ∙ ap (λ (s : ArrayOf byte_order). with_value s c.args.key.now w) c.self.view_is),
-      rw (← c.self.view_is) (record {
+    let none = get-map c.try_add.new.self c.args.key.now key ∙ way-none c.try_add.new.self c.args.key.now c.walk.result (c.walk.ensures.way (text_of_key _ key)) (is-new c.walk.result c.in_default.not-At) in (
+      lent_ok c.ins-in-Ok.result c.ins-in-Ok.ensures.refused (λ e p. added-some _ _ _ is c.args.key.now key none c.add.new.self c.in-Ok.made c.in-Ok.ensures.added c.if-self.false c.add.ensures.places p.0) _ _ _ _ (λ w. array-added _ _ _ is c.args.key.now key none c.add.new.self c.in-Ok.made c.in-Ok.ensures.added c.if-self.false c.add.ensures.places w ∙ ap (λ (s : ArrayOf byte_order). with_value s c.args.key.now w) view),
+      rw (← view) (record {
         writes_back = tt;
-        value = ok-then c.ins-in_default.result c.ins-in_default.ensures.value (λ slot e. e ∙ added-value _ _ _ c.self.invariant c.args.key.now key none c.add.new.self c.in-Ok.made c.in-Ok.ensures.added c.if-self.false c.add.ensures.places);
-        accepted = on-ok c.ins-in_default.result (key, absent-room _ _ _ c.self.invariant c.args.key.now key none c.if-self.false);
-        refused = no-err _ c.ins-in_default.result c.ins-in_default.ensures.refused (λ e p. added-some _ _ _ c.self.invariant c.args.key.now key none c.add.new.self c.in-Ok.made c.in-Ok.ensures.added c.if-self.false c.add.ensures.places p.0);
+        value = ok-then c.ins-in-Ok.result c.ins-in-Ok.ensures.value (λ slot e. e ∙ added-value _ _ _ is c.args.key.now key none c.add.new.self c.in-Ok.made c.in-Ok.ensures.added c.if-self.false c.add.ensures.places);
+        accepted = on-ok c.ins-in-Ok.result (key, absent-room _ _ _ is c.args.key.now key none c.if-self.false);
+        refused = no-err _ c.ins-in-Ok.result c.ins-in-Ok.ensures.refused (λ e p. added-some _ _ _ is c.args.key.now key none c.add.new.self c.in-Ok.made c.in-Ok.ensures.added c.if-self.false c.add.ensures.places p.0);
       }),
     )

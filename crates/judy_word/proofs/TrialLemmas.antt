@@ -1,21 +1,14 @@
--- What a word tells of an array in which it is put where it is absent.
-use Rattle.std.proofs.Common.{◌≡◌, ◌≢◌, ℕ, Bool, true, false, not, if◌then◌else◌, is_some, IsSome, Option, None, Some, refl, sym, ap, ◌∙◌, subst, ⊎_elim}
+-- What follows for an array from the answer that a word was put in.
+use Rattle.std.proofs.Common.{◌≡◌, ◌≢◌, ℕ, Bool, true, false, not, if◌then◌else◌, is_some, Option, None, Some, refl, sym, ap, ◌∙◌, subst, ⊎_elim}
 use Rattle.std.specs.FinMap.{FinMap, get, insert, remove, contains_key, same_map, nat_cmp-IsAntisymmetric}
 use Rattle.std.specs.Cmp.{nat_cmp_total}
 use Rattle.judy_model.specs.Keys.{word_order}
 use Rattle.judy_model.proofs.ChangesLemmas.{get-write_other, get-del_same, get-del_other}
 use Rattle.judy_word.specs.Held.{with_new}
-use Rattle.judy_hs.proofs.TwoLevels.{same_or_not}
+use Rattle.std.proofs.lemmas.Bool.{cases_eq}
 
 module _ (map : FinMap word_order ℕ) (word : ℕ) where
-  -- Where the word wasn't added, it was there.
-  pub put-held : false ≡ not (contains_key map word) → IsSome (get map word)
-  put-held = elim (get map word) as (λ (found : Option ℕ). false ≡ not (is_some found) → IsSome found) [
-    | None ↦ λ held. cc
-    | Some value ↦ λ held. refl
-  ]
-
-  -- Where it was, it was absent,
+  -- A word that was put in was absent,
   pub put-absent : true ≡ not (contains_key map word) → get map word ≡ None
   put-absent = elim (get map word) as (λ (found : Option ℕ). true ≡ not (is_some found) → found ≡ None) [
     | None ↦ λ added. refl
@@ -37,4 +30,4 @@ module _ (map : FinMap word_order ℕ) (word : ℕ) where
       same other = ⊎_elim
           (λ (is : word ≡ other). subst (λ (at : ℕ). get (remove (insert map word value) word) at ≡ get map at) is (get-del_same nat_cmp_total (insert map word value) word ∙ sym (put-absent added)))
           (λ (differ : word ≢ other). get-del_other nat_cmp_total (insert map word value) word nat_cmp-IsAntisymmetric other differ ∙ get-write_other nat_cmp_total map word nat_cmp-IsAntisymmetric value other differ)
-          (same_or_not word other)
+          (cases_eq word other)

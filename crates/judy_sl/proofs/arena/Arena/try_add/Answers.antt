@@ -1,0 +1,50 @@
+use Rattle.std.proofs.Common.{sym, ap, ◌∙◌, arith}
+use Rattle.std.proofs.lemmas.Bool.{false≢true}
+use Rattle.std.proofs.lemmas.List.{take_rest}
+use Rattle.std.specs.FinMap.{remove}
+use Rattle.judy_model.specs.Keys.{word_order}
+use Rattle.judy_model.specs.Arrays.{ArrayOf, with_map}
+use Rattle.judy_sl.proofs.Rooms.{room-in_first}
+use Rattle.judy_sl.proofs.Tried.{first-absent, first-added}
+use Rattle.judy_word.proofs.TrialLemmas.{put-absent, put-new, put-undone}
+use Rattle.judy_sl.proofs.arena.Arena.try_add.Goals as goal
+
+pub unreachable-requires : goal.unreachable-requires
+unreachable-requires c =
+    let full = rw c.in-Err-Full.field-0-is at c.in-Err-Full.ensures.refused in
+    false≢true (sym (room-in_first c.args.self.now c.requires.is_arena c.requires.few c.first_piece-piece.result) ∙ full)
+
+pub returns-in-Err-NoMemory-clause-absent : goal.returns-in-Err-NoMemory-clause-absent
+returns-in-Err-NoMemory-clause-absent c =
+    let key = c.is_key.ensures.0 c.if-not-is_key.false in
+    let refused = rw c.in-Err-NoMemory.field-0-is at c.in-Err-NoMemory.ensures.refused in
+    first-absent c.args.self.now c.requires.is_arena c.args.key.now key c.first_piece-piece.result c.first_piece-piece.ensures refused.0
+
+pub returns-in-Ok-clause-absent : goal.returns-in-Ok-clause-absent
+returns-in-Ok-clause-absent c =
+    let key = c.is_key.ensures.0 c.if-not-is_key.false in
+    let added = sym c.in-Ok-true.field-0-test ∙ c.in-Ok-true.ensures.answer in
+    first-absent c.args.self.now c.requires.is_arena c.args.key.now key c.first_piece-piece.result c.first_piece-piece.ensures (put-absent c.args.self.now.root.map c.first_piece-piece.result added)
+
+pub returns-in-Ok-clause-added : goal.returns-in-Ok-clause-added
+returns-in-Ok-clause-added c =
+    let key = c.is_key.ensures.0 c.if-not-is_key.false in
+    let long = c.if-key-lt8.false in
+    let added = sym c.in-Ok-true.field-0-test ∙ c.in-Ok-true.ensures.answer in
+    let words = c.in-Ok-true.ensures.put ∙ ap (with_map c.args.self.now.root) (put-new c.args.self.now.root.map c.first_piece-piece.result c.next_place-next.result added) in
+    first-added c.args.self.now c.requires.is_arena c.args.key.now key c.first_piece-piece.result c.first_piece-piece.ensures (put-absent c.args.self.now.root.map c.first_piece-piece.result added)
+    c.put_if_absent.new.self c.put_tail.new.self c.next_place-next.result c.in-Ok.at _ (omega arith) c.next_place-next.ensures words c.in-Ok.ensures.place (take_rest c.args.key.now 8) c.in-Ok.ensures.put
+
+pub returns-in-Err-clause-absent : goal.returns-in-Err-clause-absent
+returns-in-Err-clause-absent c =
+    let key = c.is_key.ensures.0 c.if-not-is_key.false in
+    let added = sym c.in-Ok-true.field-0-test ∙ c.in-Ok-true.ensures.answer in
+    first-absent c.args.self.now c.requires.is_arena c.args.key.now key c.first_piece-piece.result c.first_piece-piece.ensures (put-absent c.args.self.now.root.map c.first_piece-piece.result added)
+
+pub returns-in-Err-clause-refused : goal.returns-in-Err-clause-refused
+returns-in-Err-clause-refused c =
+    let added = sym c.in-Ok-true.field-0-test ∙ c.in-Ok-true.ensures.answer in
+    let undone = c.del.ensures.deleted
+    ∙ ap (λ (made : ArrayOf word_order). with_map made (remove made.map c.first_piece-piece.result)) (c.in-Err.ensures.refused.0.root ∙ c.in-Ok-true.ensures.put)
+    ∙ ap (with_map c.args.self.now.root) (put-undone c.args.self.now.root.map c.first_piece-piece.result c.next_place-next.result added) in
+    (record { root = undone; items = c.in-Err.ensures.refused.0.items }, c.in-Err.ensures.refused.1)
