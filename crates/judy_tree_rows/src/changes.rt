@@ -1,5 +1,7 @@
-//! Trees changed key by key: their shapes by the worked rows, and histories of keys drawn by chance, beside a plain list.
+//! Trees changed key by key, and the arrays of words over them: their shapes by the worked rows, and histories of keys drawn by chance, beside
+//! a plain list.
 
+use crate::array_shapes::{check_map, check_set, set_of};
 use crate::draws::Numbers;
 use crate::leaves::value_of;
 use crate::nodes::{Counts, Grid, check_pairs, same_shape, tree_of};
@@ -14,7 +16,7 @@ use std::test::Fail;
 
 // Keys put in or taken out.
 #[derive(Clone, Copy)]
-enum Change {
+pub(crate) enum Change {
     In(Grid),
     Out(Grid),
 }
@@ -180,6 +182,7 @@ fn leaf_and_bitmap_leaf(rt: HostRuntime) -> Result<(), Fail> {
         (Change::Out(Grid::run(0, Some(32))), [0, 1, 0, 0, 0, 0]),
     ];
     check_changes::<Width<0>>(&rt, rt.alloc(), &set)?;
+    check_set(&rt, rt.alloc(), &set)?;
     Ok(())
 }
 
@@ -192,6 +195,10 @@ fn skip_and_merge(rt: HostRuntime) -> Result<(), Fail> {
         (Change::Out(far), [0, 0, 1, 0, 0, 0]),
     ];
     check_changes::<Width<0>>(&rt, rt.alloc(), &set)?;
+    check_set(&rt, rt.alloc(), &set)?;
+    let pairs = Grid::run(33, Some(1 << 56)).pairs::<Width<0>>(&rt, rt.alloc())?;
+    let set = set_of(&rt, rt.alloc(), &pairs);
+    check_pairs(&rt, rt.alloc(), set.root(), &pairs)?;
     Ok(())
 }
 
@@ -206,6 +213,7 @@ fn branch_forms(rt: HostRuntime) -> Result<(), Fail> {
         ),
     ];
     check_changes::<Width<0>>(&rt, rt.alloc(), &eight)?;
+    check_set(&rt, rt.alloc(), &eight)?;
     let full = [
         (
             Change::In(Grid::rows(128, far, 1, None)),
@@ -217,13 +225,16 @@ fn branch_forms(rt: HostRuntime) -> Result<(), Fail> {
         ),
     ];
     check_changes::<Width<0>>(&rt, rt.alloc(), &full)?;
+    check_set(&rt, rt.alloc(), &full)?;
     let near = [
         (Change::In(Grid::rows(5, 256, 8, None)), [5, 0, 0, 1, 0, 0]),
         (Change::In(Grid::run(0, Some(8))), [4, 1, 0, 1, 0, 0]),
     ];
     check_changes::<Width<0>>(&rt, rt.alloc(), &near)?;
+    check_set(&rt, rt.alloc(), &near)?;
     let map = [(Change::In(Grid::rows(5, 256, 8, None)), [0, 5, 0, 1, 0, 0])];
     check_changes::<Width<1>>(&rt, rt.alloc(), &map)?;
+    check_map(&rt, rt.alloc(), &map)?;
     Ok(())
 }
 
@@ -234,6 +245,7 @@ fn full_ranges(rt: HostRuntime) -> Result<(), Fail> {
         (Change::In(Grid::run(512, None)), [0, 0, 2, 1, 0, 0]),
     ];
     check_changes::<Width<0>>(&rt, rt.alloc(), &set)?;
+    check_set(&rt, rt.alloc(), &set)?;
     Ok(())
 }
 

@@ -5,6 +5,8 @@
 #![tactic(auto)]
 
 #[cfg(test)]
+mod array_shapes;
+#[cfg(test)]
 mod bit_leaves;
 #[cfg(test)]
 mod by_rule;

@@ -1,12 +1,14 @@
 //! What the queries of a tree answer, and how many nodes they enter: the worked rows, and the ends of the words.
 
+use crate::array_shapes::set_of;
 use crate::calls::Call::{
     AtOrAfter, AtOrBefore, EmptyAtOrAfter, EmptyAtOrBefore, Lookup, Nth, Rank,
 };
 use crate::calls::{Call, check_call};
-use crate::nodes::{Grid, check_tree, tree_of};
+use crate::nodes::{Grid, check_tree, same_shape, tree_of};
 use crate::plain::note;
 use judy_leaf::{Width, Words};
+use judy_node::NodeOf;
 use std::alloc::{AllocError, Global};
 use std::process::Abort;
 use std::test::Fail;
@@ -14,7 +16,14 @@ use std::test::Fail;
 // A call, the word or place that it is asked about, the answer, and the most nodes that it enters.
 type Asked = (Call, u64, Option<u64>, u64);
 
-// Asks the tree of these pairs, each time with a new meter.
+// Asks a tree, each time with a new meter.
+fn ask_all<V: Words + Drop>(rt: &impl Abort, tree: &NodeOf<V>, table: &[Asked]) {
+    for &(call, word, answer, most) in table {
+        check_call(rt, tree, call, word, answer, most);
+    }
+}
+
+// Asks the tree of these pairs.
 fn check_asked<V: Words + Drop>(
     rt: &impl Abort,
     alloc: Global,
@@ -22,9 +31,7 @@ fn check_asked<V: Words + Drop>(
     table: &[Asked],
 ) -> Result<(), AllocError> {
     let tree = tree_of::<V>(rt, alloc, pairs)?;
-    for &(call, word, answer, most) in table {
-        check_call(rt, &tree, call, word, answer, most);
-    }
+    ask_all(rt, &tree, table);
     Ok(())
 }
 
@@ -38,7 +45,8 @@ const EIGHT_LEVELS: [Asked; 7] = [
     (EmptyAtOrBefore, 256, Some(255), 16),
 ];
 
-// Eight nodes stand below one another on the way of the least keys: seven branches and a bitmap leaf.
+// Eight nodes stand below one another on the way of the least keys, seven branches and a bitmap leaf: in a tree made at once, and in the one
+// of a set.
 #[test]
 fn visit_bounds(rt: HostRuntime) -> Result<(), Fail> {
     let mut pairs = Grid::run(33, None).pairs::<Width<0>>(&rt, rt.alloc())?;
@@ -47,6 +55,9 @@ fn visit_bounds(rt: HostRuntime) -> Result<(), Fail> {
     }
     check_tree::<Width<0>>(&rt, rt.alloc(), &pairs, [7, 0, 1, 7, 0, 0])?;
     check_asked::<Width<0>>(&rt, rt.alloc(), &pairs, &EIGHT_LEVELS)?;
+    let set = set_of(&rt, rt.alloc(), &pairs);
+    same_shape(&rt, set.shape(), [7, 0, 1, 7, 0, 0]);
+    ask_all(&rt, set.root(), &EIGHT_LEVELS);
     Ok(())
 }
 
