@@ -22,7 +22,6 @@ use Rattle.judy_leaf.proofs.LeafLists as leaves
 use Rattle.judy_leaf.proofs.BitLists as bits
 use Rattle.judy_leaf.proofs.ImmLists as imms
 use Rattle.judy_node.specs.Trees.{Pairs, IsMap}
-use Rattle.judy_node.specs.Kinds.{IsImm, imm_pairs}
 
 less_from : (left right : ℕ) → nat_cmp left right ≡ Less → left < right
 less_from left right less = ⊎_elim
@@ -118,28 +117,6 @@ imm_width_fits width count word is = (is.imm.packed.is_width.some, is.imm.packed
 -- It has a key, and no more than a word holds.
 pub imm_some : (width count word : ℕ) → IsImmParts 0 width count word → (1 ≤ count) × (count ≤ 8 / width)
 imm_some width count word is = let most = is.imm.packed.enough in (is.some, omega arith)
-
--- The immediate whose one key is the byte 0, without a value.
-imm_zero : IsImmParts 0 1 1 0
-unfolding IsStrictlySortedBy
-imm_zero = record {
-  imm = record {
-    one = omega arith;
-    few = λ (never : 0 ≡ 1). let no_way : ⊥ = omega arith in absurd no_way;
-    packed = record { is_width = record { some = omega arith; most = omega arith }; enough = omega arith; clear = refl; tight = (omega arith, tt) };
-    ascending = (tt, tt);
-  };
-  some = omega arith;
-}
-
--- The immediate that stands in the place of a child.
-pub vacant_level : (words : ℕ) → words ≤ 1 → IsImm words 257 0
-vacant_level zero one = imm_zero
-vacant_level (suc words) one = one
-
-pub vacant_length : (words : ℕ) → length (imm_pairs words 257 0) ≡ 1
-vacant_length zero = refl
-vacant_length (suc words) = refl
 
 -- One key with its value.
 digits-zero : (base count : ℕ) → 0 < base → digits base count 0 ≡ replicate count 0

@@ -17,5 +17,4 @@ pub mod SlotFacts
 pub mod SeatFacts
 pub mod Loans
 pub mod RootFacts
-pub mod ImmFacts
 pub mod SumFacts

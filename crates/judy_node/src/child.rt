@@ -6,7 +6,7 @@
 //! value; else its head is the number of its keys and 256 times their width, and its word holds them.
 
 ghost use Rattle.std.specs.Prelude.{◌≡◌, ◌+◌, ◌-◌, ◌%◌, ◌^◌, ◌<◌, ◌≤◌, length, if◌then◌else◌, ◌==◌};
-ghost use Rattle.judy_node.specs.Trees.{IsChild, IsTight};
+ghost use Rattle.judy_node.specs.Trees.{IsChild};
 ghost use Rattle.judy_node.specs.Kinds.{tree_of, IsLevel, IsImm, imm_tree, imm_pairs};
 ghost use Rattle.judy_node.specs.Views.{IsView};
 
@@ -153,14 +153,6 @@ impl<V: Words + Drop> ChildOf<V> {
             },
         }
     }
-
-    /// A child without memory, to stand for a moment in the place of one that is changed. It has one key.
-    pub fn vacant() -> ChildOf<V>
-        requires { V.WORDS ≤ 1 }
-        ensures { length result.pairs ≡ 1 }
-    {
-        ChildOf::close(KindOf::Imm(Head::new(257), 0))
-    }
 }
 
 impl<V: Words + Drop> PlaceOf<V> {
@@ -175,27 +167,6 @@ impl<V: Words + Drop> PlaceOf<V> {
         ensures value { placed result.now ≡ self.old }
     {
         self.kind.get_mut()
-    }
-}
-
-impl<V: Words + Drop> KindOf<V> {
-    /// The node of an immediate that has a key, of at most seven bytes.
-    pub fn of_imm(imm: ImmOf<V>) -> KindOf<V>
-        requires one { V.WORDS ≤ 1 }
-        requires width { imm.width ≤ 7 }
-        requires some { 1 ≤ length imm.pairs }
-        ensures level { IsLevel V.WORDS result }
-        ensures child { IsChild V.WORDS imm.width (tree_of V.WORDS result) }
-        ensures pairs { (tree_of V.WORDS result).pairs ≡ imm.pairs }
-        ensures tight { IsTight (tree_of V.WORDS result) }
-    {
-        let width = imm.width();
-        let (head, word) = imm.into_parts();
-        if V::WORDS == 0 {
-            KindOf::Imm(Head::new(head + 256 * u64::from(width)), word)
-        } else {
-            KindOf::Imm(Head::new(head), word)
-        }
     }
 }
 

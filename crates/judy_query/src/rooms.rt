@@ -52,21 +52,6 @@ pub fn last_word(width: u8) -> u64
     moved_up(1, usize::from(width)) - 1
 }
 
-/// The byte of the child at a place.
-fn byte_at<V: Words + Drop>(branch: &BranchOf<V>, place: usize) -> u8
-    requires branch { IsBranch V.WORDS branch.now.width branch.now.skip branch.now.bytes branch.now.children.items branch.now.population }
-    requires place { place < length branch.now.children.items }
-    ensures { slice_get branch.now.bytes place ≡ Some result }
-{
-    if branch.children.len() == 256 {
-        return place as u8;
-    }
-    match branch.bytes.nth(place) {
-        Some(byte) => byte,
-        None => unreachable!(),
-    }
-}
-
 /// The least word of the block of a byte, or the one behind the block of byte 255, where the branch's words begin at a base.
 fn start_of<V: Words + Drop>(branch: &BranchOf<V>, byte: u64, base: u64) -> u64
     requires branch { IsBranch V.WORDS branch.now.width branch.now.skip branch.now.bytes branch.now.children.items branch.now.population }
@@ -103,7 +88,7 @@ pub fn room_from<V: Words + Drop>(
     let mut byte = first;
     for at in place..branch.children.len() {
         let start = start_of(branch, byte, base);
-        if u64::from(byte_at(branch, at)) != byte {
+        if u64::from(branch.byte_at(at)) != byte {
             return Room::At(start);
         }
         let child = &branch.children[at];
@@ -143,7 +128,7 @@ pub fn room_up_to<V: Words + Drop>(
         at -= 1;
         byte -= 1;
         let start = start_of(branch, byte, base);
-        if u64::from(byte_at(branch, at)) != byte {
+        if u64::from(branch.byte_at(at)) != byte {
             return Room::At(start + last_word(branch.width));
         }
         let child = &branch.children[at];
