@@ -8,19 +8,19 @@ use Rattle.std.specs.Cmp.{nat_cmp_total}
 use Rattle.judy_model.specs.Keys.{word_order}
 use Rattle.judy_model.specs.Arrays as array
 use Rattle.judy_model.proofs.SortedMaps.{remove_absent}
-use Rattle.judy_model.specs.Arrays.{ArrayOf}
+use Rattle.judy_word.specs.WordArrays.{WordArray}
 use Rattle.judy_c.specs.declared.map.Map.{Map}
 use Rattle.judy_c.specs.MapLends.{with_array}
 use Rattle.judy_c.specs.Maps.{map_of, array_of}
 
 -- the handle with the array that it holds is the handle
-pub held_again : (m : Map) (lent : Option (MutBor (ArrayOf word_order))) → option_copied_mut lent ≡ m.array → IfSome lent (λ array. with_array m array.now ≡ m)
+pub held_again : (m : Map) (lent : Option (MutBor WordArray)) → option_copied_mut lent ≡ m.array → IfSome lent (λ array. with_array m array.now ≡ m)
 held_again m None held = tt
-held_again m (Some array) held = ap (λ (o : Option (ArrayOf word_order)). record m { array = o }) held
+held_again m (Some array) held = ap (λ (o : Option WordArray). record m { array = o }) held
 
 -- a handle that holds none stands for no key
-pub null_map : (m : Map) (lent : Option (MutBor (ArrayOf word_order))) → option_copied_mut lent ≡ m.array → IfNone lent (map_of m ≡ map.empty)
-null_map m None none = ap (λ (o : Option (ArrayOf word_order)). (array_of o).map) (sym none)
+pub null_map : (m : Map) (lent : Option (MutBor WordArray)) → option_copied_mut lent ≡ m.array → IfNone lent (map_of m ≡ map.empty)
+null_map m None none = ap (λ (o : Option WordArray). (array_of o).map) (sym none)
 null_map m (Some array) none = tt
 
 -- a map without keys has none to take out
@@ -28,5 +28,5 @@ pub nothing_deleted : (m : FinMap word_order ℕ) (key : ℕ) → m ≡ map.empt
 nothing_deleted m key is = sym (remove_absent nat_cmp_total nat_cmp-IsAntisymmetric m key (ap (λ n. map.get n key) is ∙ get-empty word_order key))
 
 -- and so no key is there
-pub null_has_none : (o : Option (ArrayOf word_order)) (key : ℕ) → o ≡ None → IsFalse (map.contains_key (array_of o).map key)
-null_has_none o key is = ap (λ (n : Option (ArrayOf word_order)). map.contains_key (array_of n).map key) is ∙ ap is_some (get-empty word_order key)
+pub null_has_none : (o : Option WordArray) (key : ℕ) → o ≡ None → IsFalse (map.contains_key (array_of o).map key)
+null_has_none o key is = ap (λ (n : Option WordArray). map.contains_key (array_of n).map key) is ∙ ap is_some (get-empty word_order key)

@@ -4,14 +4,14 @@ use Rattle.std.specs.FinMap.{FinMap, get}
 use Rattle.judy_c.specs.declared.map.Map.{Map}
 use Rattle.judy_c.specs.declared.set.Set.{Set}
 use Rattle.judy_model.specs.Keys.{word_order}
-use Rattle.judy_model.specs.Arrays.{ArrayOf, empty_array}
+use Rattle.judy_word.specs.WordArrays.{WordArray, no_keys}
 
 -- The empty array that may hold any number of keys.
-abbrev pub unbounded : ArrayOf word_order
-unbounded = empty_array 18446744073709551615
+abbrev pub unbounded : WordArray
+unbounded = no_keys 18446744073709551615
 
 -- A handle that holds none stands for it.
-abbrev pub array_of : Option (ArrayOf word_order) → ArrayOf word_order
+abbrev pub array_of : Option WordArray → WordArray
 array_of None = unbounded
 array_of (Some array) = array
 

@@ -1,8 +1,7 @@
 //! The handle of a map.
 
 ghost use Rattle.std.specs.Prelude.{Option};
-ghost use Rattle.judy_model.specs.Keys.{word_order};
-ghost use Rattle.judy_model.specs.Arrays.{ArrayOf};
+ghost use Rattle.judy_word.specs.WordArrays.{WordArray};
 ghost use Rattle.judy_c.specs.Owned.{map_coded};
 
 mod array;
@@ -16,7 +15,7 @@ use std::marker::Model;
 pub struct Map {
     at: *mut u8,
     // The array in the box; none where the handle is null.
-    pub ghost array: { Option (ArrayOf word_order) } by { map_coded },
+    pub ghost array: { Option WordArray } by { map_coded },
 }
 
 impl Model for Map {

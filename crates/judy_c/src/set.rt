@@ -1,8 +1,7 @@
 //! The handle of a set.
 
 ghost use Rattle.std.specs.Prelude.{Option};
-ghost use Rattle.judy_model.specs.Keys.{word_order};
-ghost use Rattle.judy_model.specs.Arrays.{ArrayOf};
+ghost use Rattle.judy_word.specs.WordArrays.{WordArray};
 ghost use Rattle.judy_c.specs.Owned.{set_coded};
 
 mod array;
@@ -15,7 +14,7 @@ use std::marker::Model;
 pub struct Set {
     at: *mut u8,
     // The array in the box; none where the handle is null.
-    pub ghost array: { Option (ArrayOf word_order) } by { set_coded },
+    pub ghost array: { Option WordArray } by { set_coded },
 }
 
 impl Model for Set {

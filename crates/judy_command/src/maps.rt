@@ -7,6 +7,7 @@ ghost use Rattle.judy_model.specs.Arrays.{judyl};
 ghost use Rattle.judy_model.specs.Keys.{word_order};
 ghost use Rattle.judy_model.specs.Commands as model;
 ghost use Rattle.judy_model.specs.Replies.{entry};
+ghost use Rattle.judy_word.specs.WordArrays.{array_of};
 ghost use Rattle.judy_command.specs.CommandsOf.{key_command_of, pair_command_of};
 ghost use Rattle.judy_command.specs.Replies.{reply_of, answer_of};
 ghost use Rattle.judy_command.specs.Follows.{Follows};
@@ -19,7 +20,7 @@ use judy_word::JudyL;
 
 /// What a command of one key or word does to the array.
 pub(crate) fn words_on_key(words: &mut JudyL, command: KeyCommand, token: &[u8]) -> Reply<'static>
-    ensures { Follows (judyl words.old) (model.words_on_key (key_command_of command) words.old token.now) (reply_of result) (judyl words.new) }
+    ensures { Follows (judyl (array_of words.old)) (model.words_on_key (key_command_of command) (array_of words.old) token.now) (reply_of result) (judyl (array_of words.new)) }
 {
     match command {
         KeyCommand::First => Ok(entry_or_nothing(words.first_entry(word(token)?))),
@@ -42,7 +43,7 @@ pub(crate) fn words_on_pair(
     first: &[u8],
     second: &[u8],
 ) -> Reply<'static>
-    ensures { Follows (judyl words.old) (model.words_on_pair (pair_command_of command) words.old first.now second.now) (reply_of result) (judyl words.new) }
+    ensures { Follows (judyl (array_of words.old)) (model.words_on_pair (pair_command_of command) (array_of words.old) first.now second.now) (reply_of result) (judyl (array_of words.new)) }
 {
     match command {
         PairCommand::Count => Ok(Answer::Number(words.count(word(first)?, word(second)?))),

@@ -3,7 +3,7 @@
 
 ghost use Rattle.std.specs.Prelude.{◌≡◌, ℕ, List, Some, Ok, IfOk, IfErr, OnOk, IsTrue, IsFalse};
 ghost use Rattle.std.specs.declared.cmp.Ordering.{Ordering};
-ghost use Rattle.std.specs.Borrow.{sem, LendsIf, LendsIfOk, u64};
+ghost use Rattle.std.specs.Borrow.{sem, LendsIf, LendsSoOk, u64};
 ghost use Rattle.std.specs.Option.{option_copied_mut};
 ghost use Rattle.std.specs.Cmp.{IsTotalOrder, nat_cmp_total};
 ghost use Rattle.std.specs.FinMap as finite;
@@ -40,14 +40,14 @@ pub(crate) trait ValueMap<K> {
 
     ghost kind_of: { ArrayOf order → ArrayValue };
 
-    // The array with a value written at a key.
+    // The array with a value written at a key that is there.
     ghost written: { Self → K → ℕ → Self };
 
     /// The slot of the key, which is put in with the value 0 where it is absent. `Full` or `NoMemory`, only
     /// where it is absent, and then the array is as it was.
     fn ins(&mut self, key: K) -> Result<&mut u64, Refusal>
         requires { IsKey (key_of key) }
-        ensures* writes_back { sem 𝓛 (LendsIfOk Self.row u64 self.entry result (written self.entry.now key) self.entry.now) }
+        ensures* writes_back { sem 𝓛 (LendsSoOk Self.row u64 self.entry result (λ after left. array_of after ≡ with_value (array_of self.entry.now) (key_of key) left) (λ after. array_of after ≡ array_of self.entry.now)) }
         ensures value { IfOk result (λ slot. Some slot.now ≡ finite.get (array.ins (array_of self.old).map (key_of key)) (key_of key)) }
         ensures accepted { OnOk result (IsFalse (array.is_full (array_of self.old) (key_of key))) }
         ensures refused { IfErr result (IsInsertRefusal (array_of self.old) (key_of key)) };
@@ -78,6 +78,7 @@ impl ValueMap<u64> for JudyL {
     ghost use Rattle.std.specs.Prelude.{refl};
     ghost use Rattle.judy_model.specs.Keys.{IsWord, word_order};
     ghost use Rattle.judy_model.specs.Arrays.{judyl};
+    ghost use Rattle.judy_word.specs.WordArrays as words;
 
     ghost Key = { ℕ };
 
@@ -87,11 +88,11 @@ impl ValueMap<u64> for JudyL {
 
     ghost IsKey = { IsWord };
 
-    ghost array_of = { λ array. array };
+    ghost array_of = { words.array_of };
 
     ghost kind_of = { judyl };
 
-    ghost written = { with_value };
+    ghost written = { words.with_value };
 
     fn ins(&mut self, key: u64) -> Result<&mut u64, Refusal> {
         Ok(JudyL::ins(self, key)?)
@@ -237,7 +238,10 @@ fn insert<K, M: ValueMap<K>>(map: &mut M, key: K, value: u64) -> Reply<'static>
     requires { M.IsKey (M.key_of key) }
     ensures { Follows (M.kind_of (M.array_of map.old)) (model.inserted M.kind_of (M.array_of map.old) (M.key_of key) value) (reply_of result) (M.kind_of (M.array_of map.new)) }
 {
-    Ok(Answer::Was(replace(map.ins(key)?, value)))
+    match map.ins(key) {
+        Ok(slot) => Ok(Answer::Was(replace(slot, value))),
+        Err(refusal) => Err(refusal),
+    }
 }
 
 // Writes the value through the slot of the key, where it is there.

@@ -12,7 +12,7 @@ use crate::groups::Groups;
 use crate::hash::ByteHash;
 use crate::part::part_of;
 use crate::trial::Trial;
-use judy_word::JudyL;
+use judy_word::{JudyL, WordMap};
 use std::alloc::{AllocError, Global};
 use std::marker::Model;
 
@@ -214,13 +214,25 @@ impl<H: ByteHash + Drop> JudyHs<H> {
     pub fn lengths(&self) -> &JudyL
         ensures { IsLengths self.now.map result.now.map }
     {
-        self.groups.lengths()
+        self.groups.lengths().array()
     }
 
     /// The array by which the keys of `n` bytes are found, and `None` where there is no such key. For `n` up to 8 it maps
     /// these keys, as the words that they spell, to their values; above 8 its keys are exactly their hashes, and its values
     /// are of no meaning to callers. (This project's own.)
     pub fn group(&self, n: usize) -> Option<&JudyL>
+        ensures there { IsSome result ↔ HasLength self.now.map n }
+        ensures short { n ≤ 8 → IfSome result (λ group. IsShortGroup self.now.map n group.now.map) }
+        ensures long { 8 < n → IfSome result (λ group. IsLongGroup H.hash_of self.now.map n group.now.map) }
+    {
+        match self.group_map(n) {
+            Some(words) => Some(words.array()),
+            None => None,
+        }
+    }
+
+    // The same as a map that tells no nodes.
+    fn group_map(&self, n: usize) -> Option<&WordMap>
         ensures there { IsSome result ↔ HasLength self.now.map n }
         ensures short { n ≤ 8 → IfSome result (λ group. IsShortGroup self.now.map n group.now.map) }
         ensures long { 8 < n → IfSome result (λ group. IsLongGroup H.hash_of self.now.map n group.now.map) }

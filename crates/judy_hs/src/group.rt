@@ -9,7 +9,7 @@ ghost use Rattle.judy_hs.specs.Listed.{entries_in, short_list};
 use crate::entry::{HsEntry, short_key};
 use crate::long_group::LongGroup;
 use crate::trial::Trial;
-use judy_word::{InsertError, JudyL};
+use judy_word::{InsertError, WordMap};
 use std::alloc::{AllocError, Global};
 
 // Where a key stands in its group: a short key's word, or the places of a long key's chain and of the key in it.
@@ -24,7 +24,7 @@ pub enum Inside {
 #[derive(Drop)]
 pub enum GroupPlace {
     Free(usize),
-    Short(JudyL),
+    Short(WordMap),
     Long(LongGroup),
 }
 
@@ -171,7 +171,7 @@ impl GroupPlace {
     }
 
     // The array by which the group finds its keys.
-    pub fn words(&self) -> Option<&JudyL>
+    pub fn words(&self) -> Option<&WordMap>
         ensures { option_copied result ≡ words_of (group_of self.now) }
     {
         match self {
@@ -211,7 +211,7 @@ impl GroupPlace {
 
 // Adds the keys of so many bytes that the words of an array spell to a list, with their values.
 fn list_words(
-    words: &JudyL,
+    words: &WordMap,
     key_length: usize,
     list: &mut Vec<HsEntry<'_>>,
 ) -> Result<(), AllocError>

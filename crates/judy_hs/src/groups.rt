@@ -15,7 +15,7 @@ use crate::error::HsError;
 use crate::group::{GroupPlace, Inside};
 use crate::long_group::{LongGroup, put};
 use crate::trial::Trial;
-use judy_word::{InsertError, JudyL};
+use judy_word::{InsertError, WordMap};
 use std::alloc::{AllocError, Global};
 use std::marker::Model;
 
@@ -33,11 +33,11 @@ pub struct Way {
     pub chain: Option<u64>,
 }
 
-// A `JudyL` from the lengths of keys to the places of their groups, and the groups. In contracts: that array and the
+// A map from the lengths of keys to the places of their groups, and the groups. In contracts: that array and the
 // list of the groups, a free place being none.
 #[derive(Drop)]
 pub struct Groups {
-    lengths: JudyL,
+    lengths: WordMap,
     groups: Vec<GroupPlace>,
     free: usize,
 }
@@ -63,7 +63,7 @@ fn group_of_one(alloc: Global, part: u64, key: &[u8]) -> Result<(GroupPlace, Ins
     ensures inside { IfOk result (λ made. made.1 ≡ one_inside part key.now) }
 {
     if key.len() <= 8 {
-        let mut words = JudyL::unbounded(alloc);
+        let mut words = WordMap::unbounded(alloc);
         match words.put(part, 0) {
             Ok(_) => {}
             Err(InsertError::Full) => unreachable!(),
@@ -89,7 +89,7 @@ impl Groups {
         ensures { result ≡ no_keys }
     {
         Groups {
-            lengths: JudyL::unbounded(alloc),
+            lengths: WordMap::unbounded(alloc),
             groups: Vec::new(alloc),
             free: 0,
         }
@@ -269,14 +269,14 @@ impl Groups {
     }
 
     // The array of the lengths.
-    pub fn lengths(&self) -> &JudyL
+    pub fn lengths(&self) -> &WordMap
         ensures { result.now ≡ self.now.lengths }
     {
         &self.lengths
     }
 
     // The array by which the group of keys of a length finds them.
-    pub fn group(&self, key_length: u64) -> Option<&JudyL>
+    pub fn group(&self, key_length: u64) -> Option<&WordMap>
         ensures { option_copied result ≡ words_at self.now (get self.now.lengths.map key_length) }
     {
         let place = self.lengths.get(key_length)?;

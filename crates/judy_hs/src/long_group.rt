@@ -15,7 +15,7 @@ use crate::chain::{Chain, is_word};
 use crate::entry::{HsEntry, HsKey, sort_from};
 use crate::trial::Trial;
 use judy_entry::{Entry, Few, MOST_FEW};
-use judy_word::{InsertError, JudyL};
+use judy_word::{InsertError, WordMap};
 use std::alloc::{AllocError, Global};
 use std::marker::Model;
 use std::mem;
@@ -32,11 +32,11 @@ pub enum ChainPlace {
 
 const _: () = prove!(size_of::<ChainPlace>() == 40);
 
-// A `JudyL` from the hashes of keys to the places of their chains, and the chains. In contracts: that array and the
+// A map from the hashes of keys to the places of their chains, and the chains. In contracts: that array and the
 // list of the chains, a free place being one of no key.
 #[derive(Drop)]
 pub struct LongGroup {
-    hashes: JudyL,
+    hashes: WordMap,
     chains: Vec<ChainPlace>,
     free: usize,
 }
@@ -311,7 +311,7 @@ impl LongGroup {
     {
         let mut chains = Vec::with_capacity(alloc, 1)?;
         chains.push_reserved(ChainPlace::of(alloc, key)?);
-        let mut hashes = JudyL::unbounded(alloc);
+        let mut hashes = WordMap::unbounded(alloc);
         match hashes.put(hash, 0) {
             Ok(_) => {}
             Err(InsertError::Full) => unreachable!(),
@@ -446,7 +446,7 @@ impl LongGroup {
     }
 
     // The array of the hashes.
-    pub fn hashes(&self) -> &JudyL
+    pub fn hashes(&self) -> &WordMap
         ensures { result.now ≡ self.now.hashes }
     {
         &self.hashes

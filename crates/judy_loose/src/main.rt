@@ -6,6 +6,7 @@
 
 ghost use Rattle.std.specs.Prelude.{◌≡◌, ◌⊎◌};
 ghost use Rattle.judy_model.specs.Arrays as array;
+ghost use Rattle.judy_word.specs.WordArrays.{array_of};
 
 mod told;
 
@@ -81,7 +82,7 @@ fn tidy_twice(rt: &impl Print, set: &mut Judy1) -> io::Result<()> {
 
 // Puts a key in, or leaves the set as it was.
 fn put(rt: &impl Print, set: &mut Judy1, word: u64) -> io::Result<()>
-    ensures { (set.new ≡ set.old) ⊎ (set.new ≡ array.with_map set.old (array.ins set.old.map word)) }
+    ensures { (set.new ≡ set.old) ⊎ (array_of set.new ≡ array.with_map (array_of set.old) (array.ins set.old.map word)) }
 {
     let answer = match set.set(word) {
         Ok(true) => "1",
@@ -94,7 +95,7 @@ fn put(rt: &impl Print, set: &mut Judy1, word: u64) -> io::Result<()>
 
 // Takes a key out, whatever memory there is.
 fn take(rt: &impl Print, set: &mut Judy1, word: u64) -> io::Result<()>
-    ensures { set.new ≡ array.with_map set.old (array.del set.old.map word) }
+    ensures { array_of set.new ≡ array.with_map (array_of set.old) (array.del set.old.map word) }
 {
     let answer = u8::from(set.unset(word));
     println!(rt; "unset {word}: {answer}")
@@ -102,7 +103,7 @@ fn take(rt: &impl Print, set: &mut Judy1, word: u64) -> io::Result<()>
 
 // Makes the nodes tight, or leaves them; the keys stay.
 fn tidy(rt: &impl Print, set: &mut Judy1) -> io::Result<()>
-    ensures { set.new ≡ set.old }
+    ensures { array_of set.new ≡ array_of set.old }
 {
     let answer = match set.tidy() {
         Ok(()) => "ok",

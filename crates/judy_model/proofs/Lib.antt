@@ -44,3 +44,9 @@ pub mod EndLemmas
 pub mod FormLemmas
 pub mod GroupLemmas
 pub mod Counting
+pub mod CommandLemmas
+pub mod ValueCommands
+pub mod SearchCommands
+pub mod WholeCommands
+pub mod MakeCommands
+pub mod RankLaws

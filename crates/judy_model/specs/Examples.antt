@@ -4,7 +4,8 @@ use Rattle.std.specs.List.{range_with_len}
 use Rattle.judy_model.specs.Arrays.{judy1, judyl, judysl, judyhs, empty_array}
 use Rattle.judy_model.specs.Lines.{Line}
 use Rattle.judy_model.specs.Stores.{Store}
-use Rattle.judy_model.specs.Forms.{Shape}
+use Rattle.judy_model.specs.Forms.{Shape, shape_in}
+use Rattle.judy_model.specs.Shapes.{form_of}
 
 -- A line that an LF ends.
 abbrev pub line : List ℕ → Line
@@ -35,3 +36,14 @@ shape immediates leaves bitmap_leaves linear bitmap full =
 abbrev pub runs : ℕ → ℕ → ℕ → List ℕ
 runs unit size zero = []
 runs unit size (suc count) = runs unit size count ++ range_with_len (count * unit) size
+
+-- The shape of one immediate alone, and of one leaf.
+abbrev pub one_immediate : Shape
+one_immediate = shape 1 0 0 0 0 0
+
+abbrev pub one_leaf : Shape
+one_leaf = shape 0 1 0 0 0 0
+
+-- The shape of a tree with so many value words a key, of keys of a width: the numbers from 0 on, so many of them.
+abbrev pub first_keys : ℕ → ℕ → ℕ → Shape
+first_keys words width count = shape_in (form_of words width (range_with_len 0 count))

@@ -1,5 +1,5 @@
 -- The laws of maps that hold at words and at byte strings alike, each stated of an order of keys.
-use Rattle.std.specs.Prelude.{◌≡◌, ◌≢◌, ℕ, ◌+◌, ◌-◌, ◌<◌, Bool, IsTrue, if◌then◌else◌, ◌⊎◌, ◌↔◌, length, Option, Some, None, unwrap_or, Contains}
+use Rattle.std.specs.Prelude.{◌≡◌, ◌≢◌, ℕ, ◌+◌, ◌-◌, ◌<◌, ◌≤◌, Bool, IsTrue, if◌then◌else◌, ◌⊎◌, ◌↔◌, length, Option, Some, None, unwrap_or, Contains}
 use Rattle.std.specs.declared.cmp.Ordering.{Ordering}
 use Rattle.std.specs.Ordering.{is_le}
 use Rattle.std.specs.List.Sorted.{IsStrictlySortedBy}
@@ -7,7 +7,7 @@ use Rattle.std.specs.FinMap.{FinMap, contains_key, get, insert, len}
 use Rattle.judy_model.specs.Arrays.{ins, write, del}
 use Rattle.judy_model.specs.Neighbours.{first, next, last, prev}
 use Rattle.judy_model.specs.Nearest.{IsLeast, IsGreatest, IsFirst, IsNext, IsLast, IsPrev}
-use Rattle.judy_model.specs.Counts.{keys_between, count, by_count}
+use Rattle.judy_model.specs.Counts.{keys_between, count, rank, count_up_to, nth, by_count}
 
 module _ {K : Type 0} (order : K → K → Ordering) where
   -- ---- the nearest key
@@ -66,6 +66,32 @@ module _ {K : Type 0} (order : K → K → Ordering) where
   -- There is an n-th key for each n from 1 to the number of keys, and for no other.
   abbrev pub NthIsNoneOutside : Type 0
   NthIsNoneOutside = (map : FinMap order ℕ) (n : ℕ) → (by_count map n ≡ None) ↔ ((n ≡ 0) ⊎ (len map < n))
+
+  -- ---- ranks and places
+
+  -- The key at a place is a key of the map, and so many keys are below it.
+  abbrev pub NthHasItsRank : Type 0
+  NthHasItsRank = (map : FinMap order ℕ) (place : ℕ) (key : K) → nth map place ≡ Some key → IsTrue (contains_key map key) × (rank map key ≡ place)
+
+  -- A key of the map stands at the place that is its rank.
+  abbrev pub RankHasItsKey : Type 0
+  RankHasItsKey = (map : FinMap order ℕ) (key : K) → IsTrue (contains_key map key) → nth map (rank map key) ≡ Some key
+
+  -- There is a key at each place below the number of keys, and at no other.
+  abbrev pub NoPlaceIsOutside : Type 0
+  NoPlaceIsOutside = (map : FinMap order ℕ) (place : ℕ) → (nth map place ≡ None) ↔ (len map ≤ place)
+
+  -- At the rank of a key, in the map or not, stands the first key at or above it: just the keys before that place are below.
+  abbrev pub FirstStandsAtTheRank : Type 0
+  FirstStandsAtTheRank = (map : FinMap order ℕ) (key : K) → (nth map (rank map key) ≡ first map key) × (rank map key ≤ len map)
+
+  -- At the count up to a key stands the next key above it: just the keys before that place are at or below.
+  abbrev pub NextStandsAtTheCount : Type 0
+  NextStandsAtTheCount = (map : FinMap order ℕ) (key : K) → (nth map (count_up_to map key) ≡ next map key) × (count_up_to map key ≤ len map)
+
+  -- The count up to a key is the count from the least key there can be.
+  abbrev pub CountUpToIsFromTheLeast : K → Type 0
+  CountUpToIsFromTheLeast least = (map : FinMap order ℕ) (key : K) → count_up_to map key ≡ count map least key
 
   -- ---- changes
 

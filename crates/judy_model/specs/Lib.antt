@@ -17,12 +17,14 @@ pub mod Replies
 pub mod CommandWords
 pub mod Commands
 pub mod Steps
+pub mod CommandLaws
 pub mod Runs
 pub mod Fields
 pub mod DumpText
 pub mod DumpGrammar
 pub mod DumpPlaces
 pub mod DumpExamples
+pub mod DumpOrder
 pub mod Forms
 pub mod Shapes
 pub mod Examples

@@ -1,7 +1,10 @@
 //! Short cases of the definitions, each computed by the check: what a reader would work out by hand.
 
+pub mod dump_order;
+pub mod immediates;
 pub mod keys;
 pub mod runs;
+pub mod words;
 
 ghost use Rattle.std.specs.Prelude.{◌≡◌, ◌+◌, ◌*◌, ◌-◌, ◌^◌, true, false, [], ◌∷◌, ◌++◌, codes, drop, replicate, Some, None, Ok, Err};
 ghost use Rattle.judy_model.specs.Arrays.{judy1, judysl, judyhs, empty_array};
@@ -13,8 +16,6 @@ ghost use Rattle.judy_model.specs.Steps.{step};
 ghost use Rattle.judy_model.specs.Forms.{immediate, leaf, bitmap_leaf, branch};
 ghost use Rattle.judy_model.specs.Shapes.{form_of, shape_of};
 ghost use Rattle.std.specs.List.{range_with_len};
-ghost use Rattle.judy_model.specs.CommandWords as command;
-ghost use Rattle.judy_model.specs.CommandWords.{command_named};
 ghost use Rattle.judy_model.specs.Examples.{line, one_array, two_arrays, string_arrays, shape, runs};
 
 /// An LF ends a line; what stands after the last LF is a line if it isn't empty.
@@ -131,15 +132,6 @@ pub fn each_kind_has_its_commands()
     ensures no_kind { step [] (line (codes "make b judyh")) ≡ (Err wrong_kind, []) }
 {}
 
-/// A command's word is spelled in lower case and whole.
-pub fn commands_have_their_words()
-    ensures next { command_named (codes "next") ≡ Some (command.on_key (command.neighbour command.next)) }
-    ensures next_empty { command_named (codes "ne") ≡ Some (command.on_key (command.empty command.next)) }
-    ensures upper { command_named (codes "SET") ≡ None }
-    ensures longer { command_named (codes "sets") ≡ None }
-    ensures none { command_named [] ≡ None }
-{}
-
 /// The commands of the store: a list has the arrays in their order, and a drop keeps the order of the rest.
 pub fn arrays_are_listed_and_dropped()
     ensures list { step two_arrays (line (codes "list")) ≡ (Ok (listed two_arrays), two_arrays) }
@@ -171,7 +163,6 @@ pub fn answers_are_lines()
     ensures list { output_of (Ok (listed [])) ≡ codes "names" ++ 10 ∷ [] }
     ensures number { output_of (Ok (number (2 ^ 64 - 1))) ≡ codes "18446744073709551615" ++ 10 ∷ [] }
     ensures nothing { output_of (Ok nothing) ≡ codes "none" ++ 10 ∷ [] }
-    ensures refusal { output_of (Err no_such_array) ≡ codes "error no-such-array" ++ 10 ∷ [] }
 {}
 
 /// Shapes of small sets: nodes by kind, without values (0 value words a key) and with them (1).

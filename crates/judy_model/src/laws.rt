@@ -3,6 +3,7 @@
 
 pub mod bytes;
 pub mod changes;
+pub mod commands;
 pub mod counts;
 pub mod dumps;
 pub mod empties;
@@ -11,6 +12,8 @@ pub mod kept;
 pub mod keys;
 pub mod lines;
 pub mod neighbours;
+pub mod orders;
+pub mod ranks;
 pub mod remaining;
 pub mod run_ends;
 pub mod runs;

@@ -6,6 +6,7 @@
 //! - keys and arrays: Keys, WordBytes, StringOrder; Arrays (a limit and a finite map; what an insert, a write and a delete leave),
 //!   Neighbours, Empties, Counts, Tables; Nearest and Laws, of which the laws speak;
 //! - stores and the script: Kinds, Stores, Sizes; Lines, LineLists, Tokens, KeyTokens; CommandWords, Commands, Steps, Replies;
+//!   CommandLaws, of which the laws of commands speak;
 //! - runs of a script: Runs, AmpleRuns (with memory for all), CutRuns, Remaining, RunEnds;
 //! - dumps: DumpText (the bytes of a store), Fields, DumpGrammar and DumpPlaces (what bytes give);
 //! - the nodes of a tree: Forms, and Shapes with the rule by which a set of keys has its nodes.

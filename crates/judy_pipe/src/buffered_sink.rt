@@ -28,6 +28,7 @@ impl<W: Sink + Drop, const N: usize> BufferedSink<W, N> {
     pub fn new(inner: W) -> Self
         requires { 0 < N }
         ensures taken { ⟦<BufferedSink<W, N> as Sink>⟧.taken result ≡ grown (W.taken inner) [] }
+        ensures kept { ⟦<BufferedSink<W, N> as Sink>⟧.kept result ≡ [] }
         ensures failures { (⟦<BufferedSink<W, N> as Sink>⟧.tally result).failures ≡ (W.tally inner).failures }
     {
         BufferedSink {

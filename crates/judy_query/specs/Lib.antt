@@ -2,4 +2,5 @@ pub mod Maps
 pub mod Parts
 pub mod Rooms
 pub mod Turns
+pub mod Visits
 pub mod Walks

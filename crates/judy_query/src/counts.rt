@@ -3,6 +3,7 @@
 ghost use Rattle.std.specs.Prelude.{◌≡◌, ◌+◌, ◌-◌, ◌^◌, ◌≤◌};
 ghost use Rattle.judy_model.specs.Counts as counts;
 ghost use Rattle.judy_query.specs.Maps.{map_of};
+ghost use Rattle.judy_query.specs.Visits.{most_visits_down};
 
 use crate::branches::passed;
 use crate::ends::rank_in;
@@ -15,7 +16,8 @@ use judy_node::{NodeOf, Step, ViewOf};
 pub fn rank<V: Words + Drop>(tree: &NodeOf<V>, key: u64, meter: &mut Meter) -> u64
     requires { meter.old ≤ 2 ^ 64 - 17 }
     ensures value { result ≡ counts.rank (map_of tree.now.pairs) key }
-    ensures visits { meter.new ≤ meter.old + 8 }
+    ensures no_fewer { meter.old ≤ meter.new }
+    ensures visits { meter.new ≤ meter.old + most_visits_down }
 {
     tree.told();
     if key == 0 {

@@ -6,6 +6,7 @@ ghost use Rattle.judy_node.specs.Trees.{IsMap, IsChild};
 ghost use Rattle.judy_node.specs.Views.{IsView};
 ghost use Rattle.judy_query.specs.Maps.{map_of};
 ghost use Rattle.judy_query.specs.Rooms.{IsFirstAbsent, IsLastAbsent, IsRoomFrom, IsRoomUpTo};
+ghost use Rattle.judy_query.specs.Visits.{most_visits_down, most_visits_near};
 
 use crate::absent::{first_absent, last_absent};
 use crate::rooms::{Room, has_next, is_full, last_word, room_from, room_up_to};
@@ -13,7 +14,7 @@ use judy_bits::Meter;
 use judy_leaf::Words;
 use judy_node::{ChildOf, NodeOf, Step, ViewOf};
 
-/// The least word at or above a key that is no key of the tree; `None` where all of these are keys. At most 16 visits; the meter stands at
+/// The least word at or above a key that is no key of the tree; `None` where all of these are keys. At most 15 visits; the meter stands at
 /// most at `u64::MAX - 16`.
 pub fn empty_at_or_after<V: Words + Drop>(
     tree: &NodeOf<V>,
@@ -22,7 +23,8 @@ pub fn empty_at_or_after<V: Words + Drop>(
 ) -> Option<u64>
     requires { meter.old ≤ 2 ^ 64 - 17 }
     ensures word { result ≡ first_empty (map_of tree.now.pairs) key }
-    ensures visits { meter.new ≤ meter.old + 16 }
+    ensures no_fewer { meter.old ≤ meter.new }
+    ensures visits { meter.new ≤ meter.old + most_visits_near }
 {
     tree.told();
     match seek_up(tree, key, meter) {
@@ -47,7 +49,8 @@ fn enter<'a, V: Words + Drop>(child: &'a ChildOf<V>, width: u8, meter: &mut Mete
 fn seek_up<'a, V: Words + Drop>(tree: &'a NodeOf<V>, key: u64, meter: &mut Meter) -> Room<'a, V>
     requires { meter.old ≤ 2 ^ 64 - 17 }
     ensures room { IsRoomFrom V.WORDS tree.now.pairs key (2 ^ 64) result }
-    ensures visits { meter.new ≤ meter.old + 8 }
+    ensures no_fewer { meter.old ≤ meter.new }
+    ensures visits { meter.new ≤ meter.old + most_visits_down }
 {
     tree.told();
     let mut view = tree.enter(meter);
@@ -80,6 +83,7 @@ fn least_absent<V: Words + Drop>(child: &ChildOf<V>, width: u8, meter: &mut Mete
     requires narrow { width ≤ 7 }
     requires room { length child.now.pairs < 256 ^ width }
     ensures word { IsFirstAbsent child.now.pairs 0 (256 ^ width) (Some result) }
+    ensures no_fewer { meter.old ≤ meter.new }
     ensures visits { meter.new ≤ meter.old + width }
 {
     let mut view = enter(child, width, meter);
@@ -105,7 +109,7 @@ fn least_absent<V: Words + Drop>(child: &ChildOf<V>, width: u8, meter: &mut Mete
     }
 }
 
-/// The greatest word at or below a key that is no key of the tree; `None` where all of these are keys. At most 16 visits; the meter stands
+/// The greatest word at or below a key that is no key of the tree; `None` where all of these are keys. At most 15 visits; the meter stands
 /// at most at `u64::MAX - 16`.
 pub fn empty_at_or_before<V: Words + Drop>(
     tree: &NodeOf<V>,
@@ -114,7 +118,8 @@ pub fn empty_at_or_before<V: Words + Drop>(
 ) -> Option<u64>
     requires { meter.old ≤ 2 ^ 64 - 17 }
     ensures word { result ≡ last_empty (map_of tree.now.pairs) key }
-    ensures visits { meter.new ≤ meter.old + 16 }
+    ensures no_fewer { meter.old ≤ meter.new }
+    ensures visits { meter.new ≤ meter.old + most_visits_near }
 {
     tree.told();
     match seek_down(tree, key, meter) {
@@ -128,7 +133,8 @@ pub fn empty_at_or_before<V: Words + Drop>(
 fn seek_down<'a, V: Words + Drop>(tree: &'a NodeOf<V>, key: u64, meter: &mut Meter) -> Room<'a, V>
     requires { meter.old ≤ 2 ^ 64 - 17 }
     ensures room { IsRoomUpTo V.WORDS tree.now.pairs 0 (key + 1) result }
-    ensures visits { meter.new ≤ meter.old + 8 }
+    ensures no_fewer { meter.old ≤ meter.new }
+    ensures visits { meter.new ≤ meter.old + most_visits_down }
 {
     tree.told();
     let mut view = tree.enter(meter);
@@ -161,6 +167,7 @@ fn greatest_absent<V: Words + Drop>(child: &ChildOf<V>, width: u8, meter: &mut M
     requires narrow { width ≤ 7 }
     requires room { length child.now.pairs < 256 ^ width }
     ensures word { IsLastAbsent child.now.pairs 0 (256 ^ width) (Some result) }
+    ensures no_fewer { meter.old ≤ meter.new }
     ensures visits { meter.new ≤ meter.old + width }
 {
     let mut view = enter(child, width, meter);

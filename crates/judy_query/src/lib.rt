@@ -4,9 +4,10 @@
 //! To its callers a tree is the map of its pairs (specs/Maps.antt), and each answer is that of judy_model's definitions. The calls whose
 //! names begin with `entry` give the value with the key in the same way down.
 //!
-//! Each call goes down the tree once, or, for a neighbour, once and then once more from a branch that it remembers; so it enters at
-//! most 8 nodes, or 16, whatever the tree, loose ones too. Each is a loop over branches and one look at the node below them. None asks
-//! for memory. The visits are counted on the caller's [`judy_bits::Meter`], those of a [`Walk`] too, and none makes a meter of its own.
+//! Each call goes down the tree once, or, for a neighbour, once and then once more from a child that it remembers; so it enters at
+//! most 8 nodes, or 15, whatever the tree, loose ones too (specs/Visits.antt, laws.rt). Each is a loop over branches and one look at the
+//! node below them. None asks for memory. The visits are counted on the caller's [`judy_bits::Meter`], those of a [`Walk`] too: no call
+//! leaves fewer there than it found, and none makes a meter of its own.
 //!
 //! values.rt has the value of a key, counts.rt how many keys are below a word, places.rt the key at a place, after.rt and before.rt the
 //! nearest keys, turns.rt where the search for one of these turns off the key's way. empties.rt has the nearest words that are no keys,
@@ -25,6 +26,7 @@ mod branches;
 mod counts;
 mod empties;
 mod ends;
+pub mod laws;
 mod places;
 mod rooms;
 mod scan;

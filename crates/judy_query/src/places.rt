@@ -5,6 +5,7 @@ ghost use Rattle.judy_model.specs.Counts as counts;
 ghost use Rattle.judy_node.specs.Views.{view_pairs};
 ghost use Rattle.judy_query.specs.Maps.{map_of};
 ghost use Rattle.judy_query.specs.Parts.{IsShown, width_of};
+ghost use Rattle.judy_query.specs.Visits.{most_visits_down};
 
 use crate::branches::{holding, start_of};
 use crate::ends::entry_in;
@@ -17,7 +18,8 @@ use judy_node::{NodeOf, ViewOf};
 pub fn nth<V: Words + Drop>(tree: &NodeOf<V>, place: u64, meter: &mut Meter) -> Option<u64>
     requires { meter.old ≤ 2 ^ 64 - 17 }
     ensures value { result ≡ counts.nth (map_of tree.now.pairs) place }
-    ensures visits { meter.new ≤ meter.old + 8 }
+    ensures no_fewer { meter.old ≤ meter.new }
+    ensures visits { meter.new ≤ meter.old + most_visits_down }
 {
     tree.told();
     let (key, _) = entry_nth(tree, place, meter)?;
@@ -34,7 +36,8 @@ pub fn entry_nth<V: Words + Drop>(
 ) -> Option<(u64, u64)>
     requires { meter.old ≤ 2 ^ 64 - 17 }
     ensures entry { result ≡ slice_get tree.now.pairs place }
-    ensures visits { meter.new ≤ meter.old + 8 }
+    ensures no_fewer { meter.old ≤ meter.new }
+    ensures visits { meter.new ≤ meter.old + most_visits_down }
 {
     tree.told();
     if place >= tree.pop() {
@@ -56,6 +59,7 @@ pub(crate) fn entry_below<V: Words + Drop>(
     requires inside { place < length (view_pairs top) }
     requires room { meter.old ≤ 2 ^ 64 - 8 }
     ensures entry { slice_get (view_pairs top.entry) place ≡ Some result }
+    ensures no_fewer { meter.old ≤ meter.new }
     ensures visits { meter.new + 1 ≤ meter.old + width_of top.entry }
 {
     let mut view = top;

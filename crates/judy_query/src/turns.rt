@@ -8,6 +8,7 @@ ghost use Rattle.judy_leaf.specs.KeyLists.{shift};
 ghost use Rattle.judy_node.specs.Trees.{join, IsBranch};
 ghost use Rattle.judy_query.specs.Parts.{passed, reached, byte_passed, byte_behind, IsStart};
 ghost use Rattle.judy_query.specs.Turns.{turn_pairs, IsTurn, IsLater, IsEarlier, last_pair, later_pair, earlier_pair};
+ghost use Rattle.judy_query.specs.Visits.{most_visits_below};
 
 use crate::branches::{byte_behind, byte_passed, passed, reached, start_below, start_from};
 use crate::places::entry_below;
@@ -85,7 +86,7 @@ pub(crate) fn earlier_turn<'a, V: Words + Drop>(
     }
 }
 
-/// The first pair of the child that a turn leads to; none where there is no turn. At most 8 visits.
+/// The first pair of the child that a turn leads to; none where there is no turn. At most 7 visits.
 // Inside the search that asks for it a turn needn't be put together in memory.
 #[inline(always)]
 pub(crate) fn least<V: Words + Drop>(
@@ -95,7 +96,8 @@ pub(crate) fn least<V: Words + Drop>(
     requires turn { IsLater V.WORDS turn }
     requires room { meter.old ≤ 2 ^ 64 - 9 }
     ensures entry { result ≡ later_pair turn.entry }
-    ensures visits { meter.new ≤ meter.old + 8 }
+    ensures no_fewer { meter.old ≤ meter.new }
+    ensures visits { meter.new ≤ meter.old + most_visits_below }
 {
     let turn = turn?;
     let start = start_from(turn.branch, turn.place, turn.edge);
@@ -120,7 +122,8 @@ pub(crate) fn pair_behind<V: Words + Drop>(
     requires before { IsLater V.WORDS before }
     requires room { meter.old ≤ 2 ^ 64 - 9 }
     ensures entry { result ≡ option_or (slice_get (shift base (join (256 ^ branch.now.width) (number_of branch.now.skip * 256) (drop (reached (length branch.now.children.items) step) branch.now.bytes) (drop (reached (length branch.now.children.items) step) branch.now.children.items))) 0) (later_pair before.entry) }
-    ensures visits { meter.new ≤ meter.old + 8 }
+    ensures no_fewer { meter.old ≤ meter.new }
+    ensures visits { meter.new ≤ meter.old + most_visits_below }
 {
     let place = reached(branch, step);
     if place < branch.children.len() {
@@ -143,12 +146,13 @@ fn least_before<V: Words + Drop>(turn: Option<Turn<'_, V>>, meter: &mut Meter) -
     requires turn { IsLater V.WORDS turn }
     requires room { meter.old ≤ 2 ^ 64 - 9 }
     ensures entry { result ≡ later_pair turn.entry }
-    ensures visits { meter.new ≤ meter.old + 8 }
+    ensures no_fewer { meter.old ≤ meter.new }
+    ensures visits { meter.new ≤ meter.old + most_visits_below }
 {
     least(turn, meter)
 }
 
-/// The last pair of the child that a turn leads to; none where there is no turn. At most 8 visits.
+/// The last pair of the child that a turn leads to; none where there is no turn. At most 7 visits.
 #[inline(always)]
 pub(crate) fn greatest<V: Words + Drop>(
     turn: Option<Turn<'_, V>>,
@@ -157,7 +161,8 @@ pub(crate) fn greatest<V: Words + Drop>(
     requires turn { IsEarlier V.WORDS turn }
     requires room { meter.old ≤ 2 ^ 64 - 9 }
     ensures entry { result ≡ earlier_pair turn.entry }
-    ensures visits { meter.new ≤ meter.old + 8 }
+    ensures no_fewer { meter.old ≤ meter.new }
+    ensures visits { meter.new ≤ meter.old + most_visits_below }
 {
     let turn = turn?;
     let start = start_below(turn.branch, turn.place, turn.edge);
@@ -182,7 +187,8 @@ impl<'a, V: Words + Drop> Turn<'a, V> {
         requires inside { place < length (turn_pairs self.now) }
         requires room { meter.old ≤ 2 ^ 64 - 9 }
         ensures entry { slice_get (turn_pairs self.now) place ≡ Some result }
-        ensures visits { meter.new ≤ meter.old + 8 }
+        ensures no_fewer { meter.old ≤ meter.new }
+        ensures visits { meter.new ≤ meter.old + most_visits_below }
     {
         let view = self.branch.children[self.place].enter(self.branch.width, meter);
         let base = self.base + start;

@@ -7,6 +7,7 @@ ghost use Rattle.judy_node.specs.Views.{view_pairs};
 ghost use Rattle.judy_node.specs.declared.view.ViewOf.TheVariants.{Branch};
 ghost use Rattle.judy_query.specs.Maps.{map_of};
 ghost use Rattle.judy_query.specs.Parts.{value_of, IsEnd, IsShown};
+ghost use Rattle.judy_query.specs.Visits.{most_visits_down};
 
 use crate::ends::value_in;
 use judy_bits::Meter;
@@ -18,7 +19,8 @@ use judy_node::{BranchOf, NodeOf, Step, ViewOf};
 pub fn lookup<V: Words + Drop>(tree: &NodeOf<V>, key: u64, meter: &mut Meter) -> Option<u64>
     requires { meter.old ≤ 2 ^ 64 - 17 }
     ensures value { result ≡ map.get (map_of tree.now.pairs) key }
-    ensures visits { meter.new ≤ meter.old + 8 }
+    ensures no_fewer { meter.old ≤ meter.new }
+    ensures visits { meter.new ≤ meter.old + most_visits_down }
 {
     tree.told();
     let (end, left) = match tree.enter(meter) {
@@ -41,6 +43,7 @@ fn end_of_way<'a, V: Words + Drop>(
     requires below { meter.old ≤ 2 ^ 64 - 16 }
     ensures value { MatchOption result (value_of (branch_pairs top.now.width top.now.skip top.now.bytes top.now.children.items) key ≡ None) (λ end. value_of (branch_pairs top.now.width top.now.skip top.now.bytes top.now.children.items) key ≡ value_of (view_pairs end.0) end.1) }
     ensures end { MatchOption result Unit (λ end. IsEnd end.0 × IsShown V.WORDS end.0) }
+    ensures no_fewer { meter.old ≤ meter.new }
     ensures visits { meter.new + 1 ≤ meter.old + length top.now.skip + 1 + top.now.width }
 {
     let mut branch = top;

@@ -8,6 +8,7 @@ ghost use Rattle.judy_node.specs.Views.{view_pairs};
 ghost use Rattle.judy_query.specs.Parts.{IsShown, width_of};
 ghost use Rattle.judy_query.specs.Turns.{IsTurn, IsFirst};
 ghost use Rattle.judy_query.specs.Walks.{rest_of_turn, waiting, AreTurns};
+ghost use Rattle.judy_query.specs.Visits.{most_visits_below, most_visits_down};
 
 use crate::branches::{byte_behind, byte_from, reached, start_at};
 use crate::ends::rank_in;
@@ -46,7 +47,8 @@ impl<'a, V: Words + Drop> Walk<'a, V> {
     pub fn from_key(tree: &'a NodeOf<V>, key: u64, meter: &mut Meter) -> Walk<'a, V>
         requires { meter.old ≤ 2 ^ 64 - 17 }
         ensures pairs { result ≡ drop (set.rank (keys_of tree.now.pairs) key) tree.now.pairs }
-        ensures visits { meter.new ≤ meter.old + 8 }
+        ensures no_fewer { meter.old ≤ meter.new }
+        ensures visits { meter.new ≤ meter.old + most_visits_down }
     {
         seek(tree, key, ArrayVec::new(), meter)
     }
@@ -57,7 +59,8 @@ impl<'a, V: Words + Drop> Walk<'a, V> {
     pub fn next(&mut self, meter: &mut Meter) -> Option<(u64, u64)>
         requires { meter.old ≤ 2 ^ 64 - 17 }
         ensures pair { YieldsFirst (λ pairs. pairs) self.old result self.new }
-        ensures visits { meter.new ≤ meter.old + 7 }
+        ensures no_fewer { meter.old ≤ meter.new }
+        ensures visits { meter.new ≤ meter.old + most_visits_below }
     {
         let pair = self.stretch.next();
         if pair.is_some() {
@@ -79,7 +82,8 @@ fn seek<'a, V: Words + Drop>(
     requires none { turns.items ≡ [] }
     requires below { meter.old ≤ 2 ^ 64 - 17 }
     ensures pairs { result ≡ drop (set.rank (keys_of tree.now.pairs) key) tree.now.pairs }
-    ensures visits { meter.new ≤ meter.old + 8 }
+    ensures no_fewer { meter.old ≤ meter.new }
+    ensures visits { meter.new ≤ meter.old + most_visits_down }
 {
     tree.told();
     let mut view = tree.enter(meter);
@@ -119,7 +123,8 @@ fn first_from<'a, V: Words + Drop>(
     ensures turns { AreTurns V.WORDS 0 turns.new.items }
     ensures pairs { result ++ waiting turns.new.items ≡ rest_of_turn turn.entry ++ waiting turns.old.items }
     ensures some { 0 < length result }
-    ensures visits { meter.new ≤ meter.old + 7 }
+    ensures no_fewer { meter.old ≤ meter.new }
+    ensures visits { meter.new ≤ meter.old + most_visits_below }
 {
     let Turn {
         branch,
@@ -149,6 +154,7 @@ fn first_of<'a, V: Words + Drop>(
     ensures turns { AreTurns V.WORDS 0 turns.new.items }
     ensures pairs { result ++ waiting turns.new.items ≡ shift start (view_pairs top.entry) ++ waiting turns.old.items }
     ensures some { 0 < length result }
+    ensures no_fewer { meter.old ≤ meter.new }
     ensures visits { meter.new + 1 ≤ meter.old + width_of top.entry }
 {
     let mut view = top;

@@ -2,7 +2,7 @@
 
 use crate::check::check_answers;
 use judy_pipe::{MemSink, MemSource, SinkTrouble, SourceTrouble};
-use judy_shelf::{DumpFault, LoadFault, Shelf, dump, load};
+use judy_shelf::{Array, DumpFault, LoadFault, Name, Shelf, dump, load};
 use std::alloc::Global;
 use std::process::Abort;
 
@@ -273,4 +273,54 @@ fn changed_dumps(rt: HostRuntime) {
             check_changed(&rt, rt.alloc(), &changed);
         }
     }
+}
+
+// Puts a word into an array over words.
+fn put_word<R: Abort>(rt: &R, shelf: &mut Shelf, name: &[u8], word: u64) {
+    let added = match Name::new(name) {
+        Some(name) => match shelf.get_mut(&name) {
+            Some(Array::Judy1(set)) => set.set(word),
+            Some(Array::JudyL(words)) => words.put(word, !word),
+            _ => Ok(false),
+        },
+        None => Ok(false),
+    };
+    assert_eq!(rt; added, Ok(true));
+}
+
+// Whether an array over words is loose, and how many bitmap leaves it has.
+fn nodes_of(shelf: &Shelf, name: &[u8]) -> Option<(bool, u128)> {
+    match shelf.get(&Name::new(name)?)? {
+        Array::Judy1(set) => Some((set.is_loose(), set.shape().bitmap_leaves)),
+        Array::JudyL(words) => Some((words.is_loose(), words.shape().bitmap_leaves)),
+        Array::JudySl(_) => None,
+        Array::JudyHs(_) => None,
+    }
+}
+
+// Dumps and loads two arrays of so many words, and asks both for their nodes.
+fn check_loaded<R: Abort>(rt: &R, alloc: Global, count: u64, bitmap_leaves: u128) {
+    let mut shelf = Shelf::new(alloc);
+    check_answers(rt, &mut shelf, b"make a judy1\nmake l judyl\n", b"ok\nok\n");
+    for word in 0..count {
+        put_word(rt, &mut shelf, b"a", word);
+        put_word(rt, &mut shelf, b"l", word);
+    }
+    let mut sink = MemSink::<8192>::new(8192, SinkTrouble::Never);
+    assert_eq!(rt; dump(&shelf, &mut sink), Ok(()));
+    let mut source = MemSource::new(sink.bytes(), 64, SourceTrouble::Never);
+    match load(alloc, &mut source) {
+        Ok(loaded) => {
+            for name in [b"a", b"l"] {
+                assert_eq!(rt; nodes_of(&loaded, name), Some((false, bitmap_leaves)));
+            }
+        }
+        Err(_) => assert!(rt; false),
+    }
+}
+
+#[test]
+fn loaded_arrays_are_tight(rt: HostRuntime) {
+    check_loaded(&rt, rt.alloc(), 33, 1);
+    check_loaded(&rt, rt.alloc(), 300, 2);
 }

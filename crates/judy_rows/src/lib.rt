@@ -7,6 +7,8 @@
 #[cfg(test)]
 mod arrays;
 #[cfg(test)]
+mod bad_pairs;
+#[cfg(test)]
 mod bytes;
 #[cfg(test)]
 mod check;

@@ -1,5 +1,5 @@
 -- A run that is fed piece by piece.
-use Rattle.std.proofs.Common.{◌≡◌, ℕ, ◌<◌, Bool, true, false, ◌&&◌, List, [], ◌∷◌, ◌++◌, length, take, Option, Some, None, refl, sym, ap, ◌∙◌, arith, append_assoc, append-nil}
+use Rattle.std.proofs.Common.{◌≡◌, ℕ, ◌<◌, Bool, true, false, ◌&&◌, List, [], ◌∷◌, ◌++◌, length, take, Option, Some, None, refl, sym, ap, ◌∙◌, arith, append_assoc, append-nil, length-append}
 use Rattle.std.specs.Prelude.{flat_map, Result, Ok, Err, OnErr}
 use Rattle.std.proofs.Math.Seq.{take-length}
 use Rattle.std.specs.List.{list_all}
@@ -160,6 +160,11 @@ Feeding-nothing piece buffer taken store =
 module _ (piece rest : List ℕ) (buffer_before buffer : LineBuffer) (taken_before taken : Option (List ℕ)) (store_before store : Store) (feeding : Feeding piece rest buffer_before buffer taken_before taken store_before store) where
   piece_is : (head after : List ℕ) → rest ≡ head ++ 10 ∷ after → piece ≡ feeding.done ++ (head ++ 10 ∷ after)
   piece_is head after cut = feeding.split ∙ ap (λ bytes. feeding.done ++ bytes) cut
+
+  -- behind a line that was cut off less than the piece is left
+  pub Feeding-shorter : (head after : List ℕ) → rest ≡ head ++ 10 ∷ after → length after < length piece
+  Feeding-shorter head after cut =
+      omega (arith, ap length (piece_is head after cut), length-append feeding.done (head ++ 10 ∷ after), length-append head (10 ∷ after))
 
   -- one more line of the piece was fed
   pub Feeding-line : (head after : List ℕ) (cleared : LineBuffer) (taken_after : Option (List ℕ)) (store_after : Store) → IsCutAt 10 rest head (Some after) → Holds cleared [] → ((kept : List ℕ) → Holds buffer kept → Served store (record { bytes = kept ++ head; ended = true }) taken taken_after store_after) → Feeding piece after buffer_before cleared taken_before taken_after store_before store_after

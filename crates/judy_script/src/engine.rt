@@ -1,6 +1,6 @@
 //! The engine of a run: it is fed the script in whatever pieces it comes.
 
-ghost use Rattle.std.specs.Prelude.{◌≡◌, ℕ, ◌+◌, ◌-◌, ◌<◌, ◌^◌, true, List, [], ◌++◌, Option, is_ok, if◌then◌else◌, IsTrue, IfOk, IfErr, OnOk, OnErr};
+ghost use Rattle.std.specs.Prelude.{◌≡◌, ℕ, ◌+◌, ◌-◌, ◌<◌, ◌^◌, true, false, List, [], ◌++◌, Option, Ok, is_ok, if◌then◌else◌, IsTrue, IfOk, IfErr, OnOk, OnErr};
 ghost use Rattle.judy_model.specs.Stores.{Store};
 ghost use Rattle.judy_model.specs.Replies.{output_of};
 ghost use Rattle.judy_model.specs.Steps.{Step};
@@ -64,6 +64,8 @@ pub(crate) fn feed<W: Sink>(
     ensures err { OnErr result ((first : Store) (fed : List ℕ) (before : Option (List ℕ)) →
         Fed first fed before buffers.old.line (W.taken sink.old) (store_of shelf.old) →
         RanInWholeLines first (fed ++ piece.now) before (W.taken sink.new) (store_of shelf.new)) }
+    // Where no line ended nothing was answered, so the sink keeps back what it kept back before.
+    ensures kept { result ≡ Ok false → W.kept sink.new ≡ W.kept sink.old }
     ensures fault { IfErr result (λ fault. fault ≡ Write) }
     ensures failures { let before = (W.tally sink.old).failures in
         (W.tally sink.new).failures ≡ (if is_ok result then before else before + 1) }
@@ -98,6 +100,7 @@ pub(crate) fn serve<W: Sink>(
     ensures err { OnErr result ((first : Store) (fed : List ℕ) (before : Option (List ℕ)) →
         Fed first fed before buffers.old.line (W.taken sink.old) (store_of shelf.old) →
         RanInWholeLines first (fed ++ piece.now) before (W.taken sink.new) (store_of shelf.new)) }
+    ensures handed_on { OnOk result (W.kept sink.old ≡ [] → W.kept sink.new ≡ []) }
     ensures fault { IfErr result (λ fault. fault ≡ Write) }
     ensures failures { let before = (W.tally sink.old).failures in
         (W.tally sink.new).failures ≡ (if is_ok result then before else before + 1) }

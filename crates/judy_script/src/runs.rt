@@ -1,11 +1,11 @@
 //! The runs of a script: over a reader, and over bytes in hand.
 
-ghost use Rattle.std.specs.Prelude.{◌≡◌, ℕ, ◌+◌, ◌-◌, ◌<◌, ◌^◌, List, true, is_ok, if◌then◌else◌, OnOk, OnErr, IfErr};
+ghost use Rattle.std.specs.Prelude.{◌≡◌, ℕ, ◌+◌, ◌-◌, ◌<◌, ◌^◌, List, [], true, Err, is_ok, if◌then◌else◌, OnOk, OnErr, IfErr};
 ghost use Rattle.judy_model.specs.Runs.{Run, CutOff};
 ghost use Rattle.judy_model.specs.RunEnds.{RanToEnd, LeftBy};
 ghost use Rattle.judy_pipe.specs.Pipe.{told};
 ghost use Rattle.judy_shelf.specs.Shelves.{store_of};
-ghost use Rattle.judy_script.specs.declared.fault.RunFault.TheVariants.{Write};
+ghost use Rattle.judy_script.specs.declared.fault.RunFault.TheVariants.{Read, Write};
 ghost use Rattle.judy_script.specs.RunEnds.{Since, fault_of, read_failures, write_failures};
 
 use crate::engine::{Buffers, feed, finish, serve};
@@ -19,7 +19,8 @@ const PIECE_LEN: usize = 65536;
 /// Runs the script that a source gives, in whatever pieces it comes: each line is executed, then its answer
 /// is written whole, then the next line begins. No more than a piece and a line are kept of the script.
 /// Before it asks the source for more, it flushes the sink where a line was answered, so that whoever waits
-/// for an answer before giving the next line gets it. The last answers are for the caller to flush.
+/// for an answer before giving the next line gets it: a sink that kept nothing back at first keeps nothing back where a
+/// read fails. The last answers are for the caller to flush.
 ///
 /// At Ok the source gave at most `max_bytes` bytes and then the end, and the shelf and what was written are
 /// those of a run of these bytes by the definitions. Else the fault is
@@ -42,6 +43,8 @@ pub fn run<R: Source, W: Sink>(
         RanToEnd (store_of shelf.old) max_bytes script (R.ended source.new ≡ told (R.ended source.old) true) output (store_of shelf.new)))) }
     ensures left { IfErr result (λ fault. Since (R.given source.old) (R.given source.new) (λ bytes. Since (W.taken sink.old) (W.taken sink.new) (λ output.
         LeftBy (store_of shelf.old) max_bytes bytes (R.ended source.new ≡ told (R.ended source.old) true) output (store_of shelf.new) (fault_of fault)))) }
+    // A read may fail, so answers that were kept back until then couldn't be handed on without a fault more.
+    ensures handed_on { result ≡ Err Read → W.kept sink.old ≡ [] → W.kept sink.new ≡ [] }
     ensures read_failures { (R.tally source.new).failures ≡ (R.tally source.old).failures + read_failures result }
     ensures write_failures { (W.tally sink.new).failures ≡ (W.tally sink.old).failures + write_failures result }
     ensures content { R.content source.new ≡ R.content source.old }

@@ -4,7 +4,7 @@ use Rattle.std.proofs.lemmas.List.Elements.{All-nil, All-append}
 use Rattle.judy_model.specs.Arrays.{ArrayValue}
 use Rattle.judy_model.specs.Stores.{Store, with_new_array}
 use Rattle.judy_model.specs.Keys.{IsByteString}
-use Rattle.judy_model.specs.Fields.{Fault, Part, followed_by, ◌>>=◌, done, end, value_of, Behind, Begins}
+use Rattle.judy_model.specs.Fields.{Fault, truncated, Part, followed_by, ◌>>=◌, done, end, value_of, Behind, Begins}
 use Rattle.judy_model.specs.DumpGrammar as grammar
 use Rattle.judy_model.specs.DumpGrammar.{IsDump}
 use Rattle.judy_model.specs.DumpPlaces.{up_to_entry, EndsAtEntry}
@@ -12,10 +12,11 @@ use Rattle.judy_model.proofs.DumpLemmas.{dump_back}
 use Rattle.judy_model.proofs.FieldLemmas.{followed_ok, done_ok}
 use Rattle.judy_pipe.specs.Pipe.{grown}
 use Rattle.judy_pipe.proofs.Moves.{grown-grown}
-use Rattle.judy_shelf.specs.Reads.{Drawn, Cause, memory, ReadsValue, ReadsFault, Nowhere, AtSome, InBody, InArray, InArrays, InStore, up_to_end, LoadsWhole, Loaded, cause_of}
+use Rattle.judy_shelf.specs.Reads.{Drawn, Cause, reader, memory, cut, told, OfFronts, IsWholeOrCut, Stops, ReadsValue, ReadsFault, EndFault, LoadsFault, Nowhere, AtSome, InBody, InArray, InArrays, InStore, up_to_end, LoadsWhole, Loaded, cause_of}
 use Rattle.std.specs.Result.{IsErrAnd}
 use Rattle.judy_shelf.specs.declared.fault.LoadFault.{LoadFault}
 use Rattle.judy_shelf.specs.Shelves.{Entries}
+use Rattle.judy_shelf.proofs.FrontLemmas.{no_fronts, fronts_of_both}
 use Rattle.judy_shelf.proofs.ReadLemmas.{stops_too, fault_first, fault_within, fault_then, Reading, reading_end, reading_fault}
 use Rattle.judy_shelf.proofs.WriteLemmas.{grown_nothing}
 
@@ -42,6 +43,7 @@ pub record ArraysRead (earlier : ℕ) (made : Store) (before now : Drawn) : Type
   pub bytes : IsByteString input
   pub failures : now.failures ≡ before.failures
   pub goes : (left total : ℕ) → earlier + left ≡ total → (more : List ℕ) → grammar.arrays [] total (input ++ more) ≡ grammar.arrays made left more
+  pub cut_before : (total : ℕ) → earlier ≤ total → OfFronts (λ front. grammar.arrays [] total front ≡ Err truncated) input
 
 pub arrays_none : (now : Drawn) → ArraysRead 0 [] now now
 arrays_none now = record {
@@ -50,11 +52,12 @@ arrays_none now = record {
   bytes = All-nil (λ byte. byte < 256);
   failures = refl;
   goes = λ left total is more. let same : total ≡ left = omega (arith, is) in ap (λ n. grammar.arrays [] n more) same;
+  cut_before = λ total few. no_fronts (λ front. grammar.arrays [] total front ≡ Err truncated);
 }
 
 module _ (earlier : ℕ) (made : Store) (before mid : Drawn) (far : ArraysRead earlier made before mid) where
   abbrev far_reading : (left total : ℕ) → earlier + left ≡ total → Reading (grammar.arrays [] total) (grammar.arrays made left) before mid
-  far_reading left total is = record { input = far.input; given = far.given; bytes = far.bytes; failures = far.failures; goes = far.goes left total is }
+  far_reading left total is = record { input = far.input; given = far.given; bytes = far.bytes; failures = far.failures; goes = far.goes left total is; cut_before = far.cut_before total (omega (arith, is)) }
 
   far_begins : (input : List ℕ) → InArray made input → Begins (grammar.arrays [] earlier) InArray (far.input ++ input)
   far_begins input inside =
@@ -77,6 +80,11 @@ module _ (earlier : ℕ) (made : Store) (before mid : Drawn) (far : ArraysRead e
           let one : earlier + suc left ≡ total = omega (arith, is) in
           ap (grammar.arrays [] total) (append_assoc far.input next.input more) ∙ far.goes (suc left) total one (next.input ++ more)
           ∙ ap (λ r. followed_by r (λ next. grammar.arrays (with_new_array made next.0 next.1) left)) (next.gives more);
+      cut_before = λ total few.
+          let left = total - (earlier + 1) in
+          let one : earlier + suc left ≡ total = omega (arith, few) in
+          fronts_of_both (λ front. grammar.arrays [] total front ≡ Err truncated) far.input next.input (far.cut_before total (omega (arith, few))) (λ front later byte is.
+          far.goes (suc left) total one front ∙ ap (λ r. followed_by r (λ next. grammar.arrays (with_new_array made next.0 next.1) left)) (next.cut_before front later byte is));
     }
 
     pub arrays_fault : (total : ℕ) → earlier < total → (cause : Cause) → ReadsFault (InArray made) (grammar.array made) cause mid after → ReadsFault (InArrays total) (grammar.arrays [] total) cause before after
@@ -146,12 +154,22 @@ ends_at_entry dump inside =
     ∙ ap (λ r. followed_by r (λ _. done (arrays.0.0, count.0.0))) contents.1 in
     (earlier, listed, subst (λ r. Behind r (λ said rest. (earlier < said.0) × (listed ≤ said.1) × (rest ≡ []))) (sym is) (arrays.2.1, count.2.1, contents.2))
 
+-- A dump that is cut off.
+cut_whole : (front : List ℕ) → (up_to_end >>= at_last) front ≡ Err truncated → IsWholeOrCut (grammar.store front)
+cut_whole front is = subst IsWholeOrCut (sym (store_parts front ∙ is)) refl
+
 module _ (before after : Drawn) where
-  told_whole : (cause : Cause) → ReadsFault EndsAtEntry (up_to_end >>= at_last) cause before after → ReadsFault EndsAtEntry grammar.store cause before after
-  told_whole cause read = record { input = read.input; given = read.given; bytes = read.bytes; stops = stops_too EndsAtEntry EndsAtEntry (up_to_end >>= at_last) grammar.store read.input before after (λ input fault is. store_parts input ∙ is) (λ ends. ends) cause read.stops }
+  told_whole : (cause : Cause) → ReadsFault EndsAtEntry (up_to_end >>= at_last) cause before after → LoadsFault cause before after
+  told_whole cause read = record {
+    input = read.input;
+    given = read.given;
+    bytes = read.bytes;
+    stops = stops_too EndsAtEntry EndsAtEntry (λ front. (up_to_end >>= at_last) front ≡ Err truncated) (λ front. IsWholeOrCut (grammar.store front)) (up_to_end >>= at_last) grammar.store read.input before after
+        (λ input fault is. store_parts input ∙ is) (λ ends. ends) cut_whole cause read.stops;
+  }
 
   -- What stops the reading before the end.
-  pub stopped_early : (cause : Cause) → ReadsFault InStore up_to_end cause before after → ReadsFault EndsAtEntry grammar.store cause before after
+  pub stopped_early : (cause : Cause) → ReadsFault InStore up_to_end cause before after → LoadsFault cause before after
   stopped_early cause read = told_whole cause (fault_within up_to_end at_last InStore EndsAtEntry ends_at_entry cause before after read)
 
 module _ (store : Store) (before mid after : Drawn) (first : ReadsValue up_to_end store before mid) where
@@ -162,11 +180,38 @@ module _ (store : Store) (before mid after : Drawn) (first : ReadsValue up_to_en
       let known = dump_back first.input store first.bytes is in
       record { input = first.input; given = given ∙ first.given; bytes = first.bytes; failures = failures ∙ first.failures; ended = ended; is_dump = is; is_store = known.1; is_regular = known.2 }
 
+  -- Behind the arrays the end is asked for.
+  end_behind : (input : List ℕ) → grammar.store (first.input ++ input) ≡ at_last store input
+  end_behind input = store_parts (first.input ++ input) ∙ ap (λ r. followed_by r at_last) (first.gives input)
+
+  whole_at_end : (read : Result (Unit {0} × List ℕ) Fault) → IsWholeOrCut read → IsWholeOrCut (followed_by read (λ _. done store))
+  whole_at_end (Ok given) is = tt
+  whole_at_end (Err fault) is = is
+
+  whole_behind : (input : List ℕ) → IsWholeOrCut (end input) → IsWholeOrCut (grammar.store (first.input ++ input))
+  whole_behind input is = subst IsWholeOrCut (sym (end_behind input)) (whole_at_end (end input) is)
+
+  end_stops : (input : List ℕ) (cause : Cause) → Stops (λ input. ⊥) (λ front. IsWholeOrCut (end front)) end input mid after cause → Stops EndsAtEntry (λ front. IsWholeOrCut (grammar.store front)) grammar.store (first.input ++ input) before after cause
+  end_stops input reader stops = (stops.0 ∙ ap (λ n. n + 1) first.failures, whole_behind input stops.1)
+  end_stops input memory stops = absurd stops.1
+  end_stops input cut stops = (stops.0 ∙ first.failures, stops.1, end_behind input ∙ ap (λ r. followed_by r (λ _. done store)) stops.2)
+  end_stops input (told fault) stops = (
+    stops.0 ∙ first.failures,
+    (λ more. ap grammar.store (append_assoc first.input input more) ∙ end_behind (input ++ more) ∙ ap (λ r. followed_by r (λ _. done store)) (stops.1 more)),
+    fronts_of_both (λ front. IsWholeOrCut (grammar.store front)) first.input input (λ front later byte is. cut_whole front (ap (λ r. followed_by r at_last) (first.cut_before front later byte is)))
+        (λ front later byte is. whole_behind front (stops.2 front later byte is)),
+  )
+
   -- What stops the reading behind the arrays stops the whole.
-  pub loads_fault : (cause : Cause) → ReadsFault Nowhere end cause mid after → ReadsFault EndsAtEntry grammar.store cause before after
-  loads_fault cause read = told_whole before after cause (fault_then up_to_end at_last store before mid first cause after (fault_first end (λ _. done store) cause mid after read))
+  pub loads_fault : (cause : Cause) → EndFault cause mid after → LoadsFault cause before after
+  loads_fault cause read = record {
+    input = first.input ++ read.input;
+    given = read.given ∙ ap (λ known. grown known read.input) first.given ∙ grown-grown before.given first.input read.input;
+    bytes = All-append (λ byte. byte < 256) first.input read.input first.bytes read.bytes;
+    stops = end_stops read.input cause read.stops;
+  }
 
 -- What is answered where the load was stopped.
-pub loaded_err : (before after : Drawn) (fault : LoadFault) (result : Result Entries LoadFault) → IsErrAnd result (λ told. told ≡ fault) → ReadsFault EndsAtEntry grammar.store (cause_of fault) before after → Loaded before result after
+pub loaded_err : (before after : Drawn) (fault : LoadFault) (result : Result Entries LoadFault) → IsErrAnd result (λ told. told ≡ fault) → LoadsFault (cause_of fault) before after → Loaded before result after
 loaded_err before after fault (Ok entries) is read = absurd is
-loaded_err before after fault (Err other) is read = subst (λ f. ReadsFault EndsAtEntry grammar.store (cause_of f) before after) (sym is) read
+loaded_err before after fault (Err other) is read = subst (λ f. LoadsFault (cause_of f) before after) (sym is) read

@@ -11,12 +11,13 @@ use Rattle.judy_model.specs.Arrays.{ArrayOf, ArrayValue, ins}
 use Rattle.judy_model.specs.Keys.{IsByteString, word_order, byte_order}
 use Rattle.judy_model.specs.DumpText.{length_order}
 use Rattle.judy_model.proofs.KindLemmas.{length_order-total}
-use Rattle.judy_model.specs.Fields.{Fault, bad_order, Part, field, followed_by, ◌>>=◌, done, Behind}
+use Rattle.judy_model.specs.Fields.{Fault, truncated, bad_order, Part, field, followed_by, ◌>>=◌, done, Behind}
 use Rattle.judy_model.specs.DumpGrammar.{is_above, entry, entries, filled}
 use Rattle.judy_model.proofs.Inserts.{ins_absent}
 use Rattle.judy_pipe.specs.Pipe.{grown}
 use Rattle.judy_pipe.proofs.Moves.{grown-grown}
-use Rattle.judy_shelf.specs.Reads.{Drawn, Cause, memory, ReadsValue, ReadsFault, Nowhere, AtSome}
+use Rattle.judy_shelf.specs.Reads.{Drawn, Cause, memory, OfFronts, ReadsValue, ReadsFault, Nowhere, AtSome}
+use Rattle.judy_shelf.proofs.FrontLemmas.{no_fronts, fronts_of_both}
 use Rattle.judy_shelf.proofs.WriteLemmas.{grown_nothing}
 use Rattle.judy_shelf.proofs.ReadLemmas.{fault_first, fault_then, value_then, value_done, Reading, reading_fault}
 
@@ -95,6 +96,7 @@ module _ {K : Type 0} (order : K → K → Ordering) (key : Part K) (value : Par
     pub bytes : IsByteString input
     pub failures : now.failures ≡ before.failures
     pub goes : (left total : ℕ) → listed + left ≡ total → (more : List ℕ) → whole order key value total (input ++ more) ≡ to_come order key value total last left held more
+    pub cut_before : (total : ℕ) → listed ≤ total → OfFronts (λ front. whole order key value total front ≡ Err truncated) input
 
   pub listing_none : (now : Drawn) → Listing 0 None [] now now
   listing_none now = record {
@@ -105,11 +107,12 @@ module _ {K : Type 0} (order : K → K → Ordering) (key : Part K) (value : Par
     goes = λ left total is more.
         let same : total ≡ left = omega (arith, is) in
         nothing_more (whole order key value total more) ∙ ap (λ n. to_come order key value total None n [] more) same;
+    cut_before = λ total few. no_fronts (λ front. whole order key value total front ≡ Err truncated);
   }
 
   module _ (listed : ℕ) (last : Option K) (held : List (K × ℕ)) (before mid : Drawn) (far : Listing listed last held before mid) where
     abbrev listing_reading : (left total : ℕ) → listed + left ≡ total → Reading (whole order key value total) (to_come order key value total last left held) before mid
-    listing_reading left total is = record { input = far.input; given = far.given; bytes = far.bytes; failures = far.failures; goes = far.goes left total is }
+    listing_reading left total is = record { input = far.input; given = far.given; bytes = far.bytes; failures = far.failures; goes = far.goes left total is; cut_before = far.cut_before total (omega (arith, is)) }
 
     pub listing_next : (pair : K × ℕ) (after : Drawn) → ReadsValue (entry order key value last) pair mid after → Listing (listed + 1) (Some pair.0) (held ++ pair ∷ []) before after
     listing_next pair after next = record {
@@ -121,6 +124,11 @@ module _ {K : Type 0} (order : K → K → Ordering) (key : Part K) (value : Par
           let one : listed + suc left ≡ total = omega (arith, is) in
           ap (whole order key value total) (append_assoc far.input next.input more) ∙ far.goes (suc left) total one (next.input ++ more)
           ∙ one_entry order key value total last left held pair next.input more (next.gives more);
+      cut_before = λ total few.
+          let left = total - (listed + 1) in
+          let one : listed + suc left ≡ total = omega (arith, few) in
+          fronts_of_both (λ front. whole order key value total front ≡ Err truncated) far.input next.input (far.cut_before total (omega (arith, few))) (λ front later byte is.
+          far.goes (suc left) total one front ∙ ap (λ r. followed_by (followed_by r (λ first. entries order key value (Some first.0) left >>= λ others. done (first ∷ others))) (λ others. done (held ++ others))) (next.cut_before front later byte is));
     }
 
     pub listing_fault : (total : ℕ) → listed < total → (cause : Cause) (after : Drawn) → ReadsFault Nowhere (entry order key value last) cause mid after → ReadsFault Nowhere (whole order key value total) cause before after
@@ -136,7 +144,7 @@ module _ {K : Type 0} (order : K → K → Ordering) (key : Part K) (value : Par
 
     -- These are all of so many.
     pub listing_whole : ReadsValue (whole order key value listed) held before mid
-    listing_whole = record { input = far.input; given = far.given; bytes = far.bytes; failures = far.failures; gives = listed_behind }
+    listing_whole = record { input = far.input; given = far.given; bytes = far.bytes; failures = far.failures; gives = listed_behind; cut_before = far.cut_before listed (omega arith) }
 
     listed_end : whole order key value listed far.input ≡ Ok (held, [])
     listed_end = ap (whole order key value listed) (sym (append-nil far.input)) ∙ listed_behind []

@@ -3,6 +3,7 @@ pub mod StoreLemmas
 pub mod WriteLemmas
 pub mod WalkLemmas
 pub mod DumpParts
+pub mod FrontLemmas
 pub mod ReadLemmas
 pub mod Rooms
 pub mod NumberLemmas

@@ -7,18 +7,19 @@ use Rattle.judy_model.specs.Fields.{Fault, truncated, Part, followed_by, ◌>>=�
 use Rattle.judy_pipe.specs.Pipe.{grown}
 use Rattle.judy_pipe.proofs.Moves.{grown-grown}
 use Rattle.judy_shelf.specs.declared.fault.LoadFault.{LoadFault}
-use Rattle.judy_shelf.specs.Reads.{Drawn, Cause, reader, memory, cut, told, cause_of, Stops, ReadsValue, ReadsFault, ReadsWanting, Nowhere, Reads}
+use Rattle.judy_shelf.specs.Reads.{Drawn, Cause, reader, memory, cut, told, cause_of, OfFronts, Stops, ReadsValue, ReadsFault, ReadsWanting, Nowhere, Reads}
+use Rattle.judy_shelf.proofs.FrontLemmas.{no_fronts, fronts_of_both}
 use Rattle.judy_shelf.proofs.WriteLemmas.{grown_nothing}
 
 -- ---- one part behind another
 
-module _ {A B : Type 0} (Wants Also : List ℕ → Type 0) (part : Part A) (other : Part B) (input : List ℕ) (before after : Drawn) (same : (read : List ℕ) (fault : Fault) → part read ≡ Err fault → other read ≡ Err fault) (also : Wants input → Also input) where
+module _ {A B : Type 0} (Wants Also Early Before : List ℕ → Type 0) (part : Part A) (other : Part B) (input : List ℕ) (before after : Drawn) (same : (read : List ℕ) (fault : Fault) → part read ≡ Err fault → other read ≡ Err fault) (also : Wants input → Also input) (early : (read : List ℕ) → Early read → Before read) where
   -- What stops a part stops all that begins with it.
-  pub stops_too : (cause : Cause) → Stops Wants part input before after cause → Stops Also other input before after cause
-  stops_too reader stops = stops
+  pub stops_too : (cause : Cause) → Stops Wants Early part input before after cause → Stops Also Before other input before after cause
+  stops_too reader stops = (stops.0, early input stops.1)
   stops_too memory stops = (stops.0, also stops.1)
   stops_too cut stops = (stops.0, stops.1, same input truncated stops.2)
-  stops_too (told fault) stops = (stops.0, λ more. same (input ++ more) fault (stops.1 more))
+  stops_too (told fault) stops = (stops.0, (λ more. same (input ++ more) fault (stops.1 more)), λ front later byte is. early front (stops.2 front later byte is))
 
 -- No memory is wanted nowhere.
 pub nowhere : (Also : List ℕ → Type 0) (input : List ℕ) → Nowhere input → Also input
@@ -34,7 +35,8 @@ module _ {A B : Type 0} (part : Part A) (rest : A → Part B) where
     input = read.input;
     given = read.given;
     bytes = read.bytes;
-    stops = stops_too Wants Also part (part >>= rest) read.input before after (λ input fault is. ap (λ r. followed_by r rest) is) (also read.input) cause read.stops;
+    stops = stops_too Wants Also (λ front. part front ≡ Err truncated) (λ front. (part >>= rest) front ≡ Err truncated) part (part >>= rest) read.input before after
+        (λ input fault is. ap (λ r. followed_by r rest) is) (also read.input) (λ front is. ap (λ r. followed_by r rest) is) cause read.stops;
   }
 
   pub fault_first : {Also : List ℕ → Type 0} → (cause : Cause) (before after : Drawn) → ReadsFault Nowhere part cause before after → ReadsFault Also (part >>= rest) cause before after
@@ -51,11 +53,17 @@ module _ {A B : Type 0} (part : Part A) (rest : A → Part B) where
     goes_on_more : (input more : List ℕ) → (part >>= rest) ((first.input ++ input) ++ more) ≡ rest value (input ++ more)
     goes_on_more input more = ap (part >>= rest) (append_assoc first.input input more) ∙ goes_on (input ++ more)
 
-    later_stops : (Wants Also : List ℕ → Type 0) (after : Drawn) (input : List ℕ) → (Wants input → Also (first.input ++ input)) → (cause : Cause) → Stops Wants (rest value) input mid after cause → Stops Also (part >>= rest) (first.input ++ input) before after cause
-    later_stops Wants Also after input also reader stops = stops ∙ ap (λ n. n + 1) first.failures
+    -- Fewer bytes are cut off, in the first part or behind it.
+    cut_before_both : (input : List ℕ) → OfFronts (λ front. rest value front ≡ Err truncated) input → OfFronts (λ front. (part >>= rest) front ≡ Err truncated) (first.input ++ input)
+    cut_before_both input cut_later =
+        fronts_of_both (λ front. (part >>= rest) front ≡ Err truncated) first.input input (λ front later byte is. ap (λ r. followed_by r rest) (first.cut_before front later byte is))
+        (λ front later byte is. goes_on front ∙ cut_later front later byte is)
+
+    later_stops : (Wants Also : List ℕ → Type 0) (after : Drawn) (input : List ℕ) → (Wants input → Also (first.input ++ input)) → (cause : Cause) → Stops Wants (λ front. rest value front ≡ Err truncated) (rest value) input mid after cause → Stops Also (λ front. (part >>= rest) front ≡ Err truncated) (part >>= rest) (first.input ++ input) before after cause
+    later_stops Wants Also after input also reader stops = (stops.0 ∙ ap (λ n. n + 1) first.failures, goes_on input ∙ stops.1)
     later_stops Wants Also after input also memory stops = (stops.0 ∙ first.failures, also stops.1)
     later_stops Wants Also after input also cut stops = (stops.0 ∙ first.failures, stops.1, goes_on input ∙ stops.2)
-    later_stops Wants Also after input also (told fault) stops = (stops.0 ∙ first.failures, λ more. goes_on_more input more ∙ stops.1 more)
+    later_stops Wants Also after input also (told fault) stops = (stops.0 ∙ first.failures, (λ more. goes_on_more input more ∙ stops.1 more), cut_before_both input stops.2)
 
     pub fault_behind : (Wants Also : List ℕ → Type 0) → ((input : List ℕ) → Wants input → Also (first.input ++ input)) → (cause : Cause) (after : Drawn) → ReadsFault Wants (rest value) cause mid after → ReadsFault Also (part >>= rest) cause before after
     fault_behind Wants Also also cause after read = record {
@@ -75,6 +83,7 @@ module _ {A B : Type 0} (part : Part A) (rest : A → Part B) where
       bytes = All-append (λ byte. byte < 256) first.input read.input first.bytes read.bytes;
       failures = read.failures ∙ first.failures;
       gives = λ more. goes_on_more read.input more ∙ read.gives more;
+      cut_before = cut_before_both read.input read.cut_before;
     }
 
     pub reads_then : {X : Type 0} (view : X → B) (after : Drawn) (result : Result X LoadFault) → Reads view (rest value) mid result after → Reads view (part >>= rest) before result after
@@ -87,7 +96,7 @@ module _ {A B : Type 0} (part : Part A) (rest : A → Part B) where
 
 -- A value for which nothing is read.
 pub value_done : {A : Type 0} (value : A) (now : Drawn) → ReadsValue (done value) value now now
-value_done value now = record { input = []; given = sym (grown_nothing now.given); bytes = All-nil (λ byte. byte < 256); failures = refl; gives = λ more. refl }
+value_done value now = record { input = []; given = sym (grown_nothing now.given); bytes = All-nil (λ byte. byte < 256); failures = refl; gives = λ more. refl; cut_before = no_fronts (λ front. done value front ≡ Err truncated) }
 
 -- What is answered where the reading was stopped.
 pub reads_err : {X A : Type 0} {Wants : List ℕ → Type 0} (view : X → A) (part : Part A) (before after : Drawn) (fault : LoadFault) (result : Result X LoadFault) → IsErrAnd result (λ told. told ≡ fault) → ReadsFault Wants part (cause_of fault) before after → ReadsWanting Wants view part before result after
@@ -105,6 +114,7 @@ module _ {A : Type 0} (part : Part A) (value : A) (before after : Drawn) (read :
     bytes = read.bytes;
     failures = read.failures;
     gives = λ more. ap (λ r. followed_by r (checked ((test, fault) ∷ []))) (read.gives more) ∙ ap (λ b. cond b (Ok (value, more)) (Err fault)) passes;
+    cut_before = λ front later byte is. ap (λ r. followed_by r (checked ((test, fault) ∷ []))) (read.cut_before front later byte is);
   }
 
   -- A value that doesn't pass the first of some checks.
@@ -113,7 +123,11 @@ module _ {A : Type 0} (part : Part A) (value : A) (before after : Drawn) (read :
     input = read.input;
     given = read.given;
     bytes = read.bytes;
-    stops = (read.failures, λ more. ap (λ r. followed_by r (checked ((test, fault) ∷ checks))) (read.gives more) ∙ ap (λ b. cond b (checked checks value more) (Err fault)) fails);
+    stops = (
+      read.failures,
+      (λ more. ap (λ r. followed_by r (checked ((test, fault) ∷ checks))) (read.gives more) ∙ ap (λ b. cond b (checked checks value more) (Err fault)) fails),
+      (λ front later byte is. ap (λ r. followed_by r (checked ((test, fault) ∷ checks))) (read.cut_before front later byte is)),
+    );
   }
 
 -- ---- a whole of which a part is read
@@ -125,10 +139,11 @@ pub record Reading {A : Type 0} (whole rest : Part A) (before now : Drawn) : Typ
   pub bytes : IsByteString input
   pub failures : now.failures ≡ before.failures
   pub goes : (more : List ℕ) → whole (input ++ more) ≡ rest more
+  pub cut_before : OfFronts (λ front. whole front ≡ Err truncated) input
 
 -- At first all is to come.
 pub reading_none : {A : Type 0} (whole : Part A) (now : Drawn) → Reading whole whole now now
-reading_none whole now = record { input = []; given = sym (grown_nothing now.given); bytes = All-nil (λ byte. byte < 256); failures = refl; goes = λ more. refl }
+reading_none whole now = record { input = []; given = sym (grown_nothing now.given); bytes = All-nil (λ byte. byte < 256); failures = refl; goes = λ more. refl; cut_before = no_fronts (λ front. whole front ≡ Err truncated) }
 
 module _ {A B : Type 0} (whole : Part B) (before mid after : Drawn) where
   -- The next part is read.
@@ -139,26 +154,31 @@ module _ {A B : Type 0} (whole : Part B) (before mid after : Drawn) where
     bytes = All-append (λ byte. byte < 256) far.input next.input far.bytes next.bytes;
     failures = next.failures ∙ far.failures;
     goes = λ more. ap whole (append_assoc far.input next.input more) ∙ far.goes (next.input ++ more) ∙ ap (λ r. followed_by r rest) (next.gives more);
+    cut_before = fronts_of_both (λ front. whole front ≡ Err truncated) far.input next.input far.cut_before (λ front later byte is. far.goes front ∙ ap (λ r. followed_by r rest) (next.cut_before front later byte is));
   }
 
 module _ {B : Type 0} (whole : Part B) where
   -- What is to come, told in another way.
   pub reading_told : (rest other : Part B) (before now : Drawn) → ((more : List ℕ) → rest more ≡ other more) → Reading whole rest before now → Reading whole other before now
-  reading_told rest other before now same far = record { input = far.input; given = far.given; bytes = far.bytes; failures = far.failures; goes = λ more. far.goes more ∙ same more }
+  reading_told rest other before now same far = record { input = far.input; given = far.given; bytes = far.bytes; failures = far.failures; goes = λ more. far.goes more ∙ same more; cut_before = far.cut_before }
 
   -- Nothing is to come.
   pub reading_end : (value : B) (before now : Drawn) → Reading whole (done value) before now → ReadsValue whole value before now
-  reading_end value before now far = record { input = far.input; given = far.given; bytes = far.bytes; failures = far.failures; gives = far.goes }
+  reading_end value before now far = record { input = far.input; given = far.given; bytes = far.bytes; failures = far.failures; gives = far.goes; cut_before = far.cut_before }
 
   module _ (rest : Part B) (before mid after : Drawn) (far : Reading whole rest before mid) where
     far_more : (input more : List ℕ) → whole ((far.input ++ input) ++ more) ≡ rest (input ++ more)
     far_more input more = ap whole (append_assoc far.input input more) ∙ far.goes (input ++ more)
 
-    far_stops : (Wants Also : List ℕ → Type 0) (input : List ℕ) → (Wants input → Also (far.input ++ input)) → (cause : Cause) → Stops Wants rest input mid after cause → Stops Also whole (far.input ++ input) before after cause
-    far_stops Wants Also input also reader stops = stops ∙ ap (λ n. n + 1) far.failures
+    far_stops : (Wants Also : List ℕ → Type 0) (input : List ℕ) → (Wants input → Also (far.input ++ input)) → (cause : Cause) → Stops Wants (λ front. rest front ≡ Err truncated) rest input mid after cause → Stops Also (λ front. whole front ≡ Err truncated) whole (far.input ++ input) before after cause
+    far_stops Wants Also input also reader stops = (stops.0 ∙ ap (λ n. n + 1) far.failures, far.goes input ∙ stops.1)
     far_stops Wants Also input also memory stops = (stops.0 ∙ far.failures, also stops.1)
     far_stops Wants Also input also cut stops = (stops.0 ∙ far.failures, stops.1, far.goes input ∙ stops.2)
-    far_stops Wants Also input also (told fault) stops = (stops.0 ∙ far.failures, λ more. far_more input more ∙ stops.1 more)
+    far_stops Wants Also input also (told fault) stops = (
+      stops.0 ∙ far.failures,
+      (λ more. far_more input more ∙ stops.1 more),
+      fronts_of_both (λ front. whole front ≡ Err truncated) far.input input far.cut_before (λ front later byte is. far.goes front ∙ stops.2 front later byte is),
+    )
 
     -- What stops the rest stops the whole.
     pub reading_fault : (Wants Also : List ℕ → Type 0) → ((input : List ℕ) → Wants input → Also (far.input ++ input)) → (cause : Cause) → ReadsFault Wants rest cause mid after → ReadsFault Also whole cause before after
@@ -175,10 +195,13 @@ module _ {A : Type 0} (part : Part A) (value : A) (before after : Drawn) (read :
   twice : (more : List ℕ) → field part ((one, fault) ∷ (two, other) ∷ []) (read.input ++ more) ≡ cond (two value) (Ok (value, more)) (Err other)
   twice more = ap (λ r. followed_by r (checked ((one, fault) ∷ (two, other) ∷ []))) (read.gives more) ∙ ap (λ b. cond b (cond (two value) (Ok (value, more)) (Err other)) (Err fault)) first
 
+  cut_twice : OfFronts (λ front. field part ((one, fault) ∷ (two, other) ∷ []) front ≡ Err truncated) read.input
+  cut_twice front later byte is = ap (λ r. followed_by r (checked ((one, fault) ∷ (two, other) ∷ []))) (read.cut_before front later byte is)
+
   -- A value that passes both.
   pub value_passes_both : two value ≡ true → ReadsValue (field part ((one, fault) ∷ (two, other) ∷ [])) value before after
-  value_passes_both second = record { input = read.input; given = read.given; bytes = read.bytes; failures = read.failures; gives = λ more. twice more ∙ ap (λ b. cond b (Ok (value, more)) (Err other)) second }
+  value_passes_both second = record { input = read.input; given = read.given; bytes = read.bytes; failures = read.failures; gives = λ more. twice more ∙ ap (λ b. cond b (Ok (value, more)) (Err other)) second; cut_before = cut_twice }
 
   -- A value that doesn't pass the second.
   pub value_fails_second : two value ≡ false → ReadsFault Nowhere (field part ((one, fault) ∷ (two, other) ∷ [])) (told other) before after
-  value_fails_second second = record { input = read.input; given = read.given; bytes = read.bytes; stops = (read.failures, λ more. twice more ∙ ap (λ b. cond b (Ok (value, more)) (Err other)) second) }
+  value_fails_second second = record { input = read.input; given = read.given; bytes = read.bytes; stops = (read.failures, (λ more. twice more ∙ ap (λ b. cond b (Ok (value, more)) (Err other)) second), cut_twice) }

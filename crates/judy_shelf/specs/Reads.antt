@@ -53,27 +53,46 @@ cause_of load.NoMemory = memory
 abbrev pub IsFaulty : {A : Type 0} → Part A → List ℕ → Fault → Type 0
 IsFaulty part input fault = (more : List ℕ) → part (input ++ more) ≡ Err fault
 
--- What stopped the reading of a part behind these bytes; behind which of them memory may be wanted is told.
-abbrev pub Stops : {A : Type 0} → (List ℕ → Type 0) → Part A → List ℕ → Drawn → Drawn → Cause → Type 0
-Stops Wants part input before after reader = after.failures ≡ before.failures + 1
-Stops Wants part input before after memory = (after.failures ≡ before.failures) × Wants input
-Stops Wants part input before after cut = (after.failures ≡ before.failures) × IfSome after.ended (λ ended. ended ≡ true) × (part input ≡ Err fields.truncated)
-Stops Wants part input before after (told fault) = (after.failures ≡ before.failures) × IsFaulty part input fault
+-- This holds of each proper front of bytes.
+abbrev pub OfFronts : (List ℕ → Type 0) → List ℕ → Type 0
+OfFronts Holds input = (front later : List ℕ) (byte : ℕ) → input ≡ front ++ byte ∷ later → Holds front
 
--- A part was read whole, and gives a value, whatever comes after it.
+-- A part has no fault, or finds the bytes cut off.
+abbrev pub IsWholeOrCut : {A : Type 0} → Result (A × List ℕ) Fault → Type 0
+IsWholeOrCut (Ok read) = Unit {0}
+IsWholeOrCut (Err fault) = fault ≡ fields.truncated
+
+-- What stopped the reading of a part behind these bytes. Told are the bytes behind which memory may be wanted, and
+-- what holds of those that were read before a fault or a failure of the reader.
+abbrev pub Stops : {A : Type 0} → (List ℕ → Type 0) → (List ℕ → Type 0) → Part A → List ℕ → Drawn → Drawn → Cause → Type 0
+Stops Wants Early part input before after reader = (after.failures ≡ before.failures + 1) × Early input
+Stops Wants Early part input before after memory = (after.failures ≡ before.failures) × Wants input
+Stops Wants Early part input before after cut = (after.failures ≡ before.failures) × IfSome after.ended (λ ended. ended ≡ true) × (part input ≡ Err fields.truncated)
+Stops Wants Early part input before after (told fault) = (after.failures ≡ before.failures) × IsFaulty part input fault × OfFronts Early input
+
+-- A part was read whole, and no byte behind it, and gives a value, whatever comes after it.
 pub record ReadsValue {A : Type 0} (part : Part A) (value : A) (before after : Drawn) : Type 0 where
   pub input : List ℕ
   pub given : after.given ≡ grown before.given input
   pub bytes : IsByteString input
   pub failures : after.failures ≡ before.failures
   pub gives : (more : List ℕ) → part (input ++ more) ≡ Ok (value, more)
+  pub cut_before : OfFronts (λ front. part front ≡ Err fields.truncated) input
 
 -- The reading of a part was stopped.
-pub record ReadsFault {A : Type 0} (Wants : List ℕ → Type 0) (part : Part A) (cause : Cause) (before after : Drawn) : Type 0 where
+pub record StopsSo {A : Type 0} (Wants Early : List ℕ → Type 0) (part : Part A) (cause : Cause) (before after : Drawn) : Type 0 where
   pub input : List ℕ
   pub given : after.given ≡ grown before.given input
   pub bytes : IsByteString input
-  pub stops : Stops Wants part input before after cause
+  pub stops : Stops Wants Early part input before after cause
+
+-- The same of a part that is cut off where fewer bytes are there.
+abbrev pub ReadsFault : {A : Type 0} → (List ℕ → Type 0) → Part A → Cause → Drawn → Drawn → Type 0
+ReadsFault Wants part cause before after = StopsSo Wants (λ front. part front ≡ Err fields.truncated) part cause before after
+
+-- The same of the end of the bytes, which is there where fewer are.
+abbrev pub EndFault : Cause → Drawn → Drawn → Type 0
+EndFault cause before after = StopsSo (λ input. ⊥) (λ front. IsWholeOrCut (fields.end front)) fields.end cause before after
 
 -- One or the other, by what was answered.
 abbrev pub ReadsWanting : {X A : Type 0} → (List ℕ → Type 0) → (X → A) → Part A → Drawn → Result X LoadFault → Drawn → Type 0
@@ -92,12 +111,12 @@ Reads view part before result after = ReadsWanting Nowhere view part before resu
 abbrev pub ReadsOne : Drawn → Result Bool LoadFault → Drawn → Type 0
 ReadsOne before (Ok false) after = (after.given ≡ before.given) × (after.failures ≡ before.failures) × IfSome after.ended (λ ended. ended ≡ true)
 ReadsOne before (Ok true) after = (byte : ℕ) × (after.given ≡ grown before.given (byte ∷ [])) × (after.failures ≡ before.failures) × (byte < 256)
-ReadsOne before (Err fault) after = ReadsFault Nowhere fields.end (cause_of fault) before after
+ReadsOne before (Err fault) after = EndFault (cause_of fault) before after
 
 -- The end was met where one more byte was asked for; or one came, or the source failed.
 abbrev pub Ends : Drawn → Result (Unit {0}) LoadFault → Drawn → Type 0
 Ends before (Ok done) after = (after.given ≡ before.given) × (after.failures ≡ before.failures) × IfSome after.ended (λ ended. ended ≡ true)
-Ends before (Err fault) after = ReadsFault Nowhere fields.end (cause_of fault) before after
+Ends before (Err fault) after = EndFault (cause_of fault) before after
 
 -- ---- where memory is wanted
 
@@ -141,7 +160,12 @@ pub record LoadsWhole (store : Store) (before after : Drawn) : Type 0 where
   pub is_store : IsStore store
   pub is_regular : IsRegular store
 
+-- The load was stopped. What was read before a fault, each proper front of it, has no fault, but that it may be cut off;
+-- so has all that was read before a failure of the reader.
+abbrev pub LoadsFault : Cause → Drawn → Drawn → Type 0
+LoadsFault cause before after = StopsSo EndsAtEntry (λ front. IsWholeOrCut (grammar.store front)) grammar.store cause before after
+
 -- The store of a dump was loaded, or the load was stopped by the first fault of what was read.
 abbrev pub Loaded : Drawn → Result Entries LoadFault → Drawn → Type 0
 Loaded before (Ok entries) after = LoadsWhole (store_of entries) before after
-Loaded before (Err fault) after = ReadsFault EndsAtEntry grammar.store (cause_of fault) before after
+Loaded before (Err fault) after = LoadsFault (cause_of fault) before after

@@ -4,6 +4,7 @@ ghost use Rattle.std.specs.Prelude.{◌≡◌, ◌<◌, ◌-◌, ◌^◌, ◌++�
 ghost use Rattle.judy_model.specs.Arrays.{judy1, judyl, judysl};
 ghost use Rattle.judy_model.specs.DumpText as text;
 ghost use Rattle.judy_model.specs.DumpText.{dump_of, array_text};
+ghost use Rattle.judy_word.specs.WordArrays.{array_of};
 ghost use Rattle.judy_shelf.specs.Arrays.{value_of};
 ghost use Rattle.judy_shelf.specs.Shelves.{store_of};
 ghost use Rattle.judy_shelf.specs.Sorted.{pairs_in, lists_in, sorted_in, sorted_lists};
@@ -82,7 +83,7 @@ fn write_array<W: Sink>(
 // Writes the keys of a set.
 fn write_set<W: Sink>(set: &Judy1, sink: &mut W) -> Result<(), BrokenPipe>
     requires { (W.tally sink.old).failures < 2 ^ 64 - 1 }
-    ensures { Wrote (text.contents (judy1 set.now)) (sunk (W.taken sink.old) (W.tally sink.old).failures) result (sunk (W.taken sink.new) (W.tally sink.new).failures) }
+    ensures { Wrote (text.contents (judy1 (array_of set.now))) (sunk (W.taken sink.old) (W.tally sink.old).failures) result (sunk (W.taken sink.new) (W.tally sink.new).failures) }
 {
     'keys: for key in set {
         put_word(sink, key)?;
@@ -93,7 +94,7 @@ fn write_set<W: Sink>(set: &Judy1, sink: &mut W) -> Result<(), BrokenPipe>
 // Writes the keys of a map, and the value of each behind it.
 fn write_words<W: Sink>(words: &JudyL, sink: &mut W) -> Result<(), BrokenPipe>
     requires { (W.tally sink.old).failures < 2 ^ 64 - 1 }
-    ensures { Wrote (text.contents (judyl words.now)) (sunk (W.taken sink.old) (W.tally sink.old).failures) result (sunk (W.taken sink.new) (W.tally sink.new).failures) }
+    ensures { Wrote (text.contents (judyl (array_of words.now))) (sunk (W.taken sink.old) (W.tally sink.old).failures) result (sunk (W.taken sink.new) (W.tally sink.new).failures) }
 {
     'entries: for (key, value) in words {
         put_entry(sink, key, value)?;

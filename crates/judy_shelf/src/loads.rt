@@ -2,6 +2,7 @@
 
 ghost use Rattle.std.specs.Prelude.{◌<◌, ◌≤◌, ◌-◌, ◌^◌, ◌≡◌, [], None, IfOk};
 ghost use Rattle.judy_model.specs.Arrays.{judy1, judyl, judysl, judyhs};
+ghost use Rattle.judy_word.specs.WordArrays.{array_of};
 ghost use Rattle.judy_model.specs.Keys.{word_order, byte_order};
 ghost use Rattle.judy_model.specs.DumpText.{length_order};
 ghost use Rattle.judy_model.specs.DumpGrammar as grammar;
@@ -32,10 +33,11 @@ use std::alloc::Global;
 ///
 /// At Ok what the source gave in the call is the dump of the shelf's store, which is regular, and its last read
 /// gave the end. Every other answer is the first fault in the order of the fields: what the source gave has that
-/// fault, whatever came after it, and `Truncated` comes only where its last read gave the end. `Read` comes only
-/// where the source failed, which it then did once; `NoMemory` where there is none for an array or a key, and only
-/// where what the source gave has no fault and ends behind a key count or an entry. No byte is asked for beyond the
-/// fields, but for the one that is `Trailing`, so that a source that never ends is left.
+/// fault, whatever came after it, and no proper front of it has one, but that it is cut off; `Truncated` comes only
+/// where the source's last read gave the end. `Read` comes only where the source failed, which it then did once, and
+/// what it gave before has no fault, but that it may be cut off; `NoMemory` where there is none for an array or a key,
+/// and only where what the source gave has no fault and ends behind a key count or an entry. So no byte is taken behind
+/// the field that decides, and a source that never ends is left.
 ///
 /// Memory is asked for by the keys that were read, one after another, and never by a number that the bytes say.
 pub fn load<R: Source>(alloc: Global, source: &mut R) -> Result<Shelf, LoadFault>
@@ -67,7 +69,7 @@ fn read_set<R: Source>(
     requires below { (R.tally source.old).failures < 2 ^ 64 - 1 }
     requires some { 1 ≤ limit }
     requires most { limit ≤ 4294967295 }
-    ensures { ReadsWanting (AtSome (λ listed. grammar.filled judy1 limit (grammar.entries word_order grammar.word grammar.no_value None listed)) count) judy1 (grammar.filled judy1 limit (grammar.entries word_order grammar.word grammar.no_value None count)) (drawn (R.given source.old) (R.ended source.old) (R.tally source.old).failures) result (drawn (R.given source.new) (R.ended source.new) (R.tally source.new).failures) }
+    ensures { ReadsWanting (AtSome (λ listed. grammar.filled judy1 limit (grammar.entries word_order grammar.word grammar.no_value None listed)) count) (λ set. judy1 (array_of set)) (grammar.filled judy1 limit (grammar.entries word_order grammar.word grammar.no_value None count)) (drawn (R.given source.old) (R.ended source.old) (R.tally source.old).failures) result (drawn (R.given source.new) (R.ended source.new) (R.tally source.new).failures) }
 {
     let mut set = Judy1::new(alloc, limit);
     let mut before = None;
@@ -91,7 +93,7 @@ fn read_words<R: Source>(
     requires below { (R.tally source.old).failures < 2 ^ 64 - 1 }
     requires some { 1 ≤ limit }
     requires most { limit ≤ 4294967295 }
-    ensures { ReadsWanting (AtSome (λ listed. grammar.filled judyl limit (grammar.entries word_order grammar.word grammar.word None listed)) count) judyl (grammar.filled judyl limit (grammar.entries word_order grammar.word grammar.word None count)) (drawn (R.given source.old) (R.ended source.old) (R.tally source.old).failures) result (drawn (R.given source.new) (R.ended source.new) (R.tally source.new).failures) }
+    ensures { ReadsWanting (AtSome (λ listed. grammar.filled judyl limit (grammar.entries word_order grammar.word grammar.word None listed)) count) (λ words. judyl (array_of words)) (grammar.filled judyl limit (grammar.entries word_order grammar.word grammar.word None count)) (drawn (R.given source.old) (R.ended source.old) (R.tally source.old).failures) result (drawn (R.given source.new) (R.ended source.new) (R.tally source.new).failures) }
 {
     let mut words = JudyL::new(alloc, limit);
     let mut before = None;

@@ -16,13 +16,13 @@ ghost use Rattle.judy_sl.specs.Ways.{place_in, IsWay};
 use crate::child::{Child, put_in};
 use crate::error::SlError;
 use crate::pieces::first_piece;
-use judy_word::{InsertError, JudyL};
+use judy_word::{InsertError, WordMap};
 use std::alloc::Global;
 
 // The value of a piece that isn't final is the place of its child in the list. Free places are linked from `free`.
 #[derive(Drop)]
 pub struct Arena {
-    pub root: JudyL,
+    pub root: WordMap,
     pub children: Vec<Child>,
     pub free: usize,
 }
@@ -68,7 +68,7 @@ impl Arena {
         ensures root { result.root ≡ empty_array 18446744073709551615 }
     {
         Arena {
-            root: JudyL::unbounded(alloc),
+            root: WordMap::unbounded(alloc),
             children: Vec::new(alloc),
             free: usize::MAX,
         }

@@ -9,7 +9,7 @@ ghost use Rattle.judy_sl.specs.Branches.{IsSprout, IsBuilt, single};
 use crate::error::SlError;
 use crate::pieces::first_piece;
 use judy_entry::Entry;
-use judy_word::{InsertError, JudyL};
+use judy_word::{InsertError, WordMap};
 use std::alloc::Global;
 
 // A tail to be, and the piece that is to lead to it.
@@ -23,18 +23,18 @@ pub struct Twig {
 // piece at which they differ; and what goes on behind it.
 #[derive(Drop)]
 pub struct Branch {
-    pub upper: Vec<(u64, JudyL)>,
-    pub fork: JudyL,
+    pub upper: Vec<(u64, WordMap)>,
+    pub fork: WordMap,
     pub old: Option<Twig>,
     pub new: Option<Twig>,
 }
 
 // A level with one entry.
-fn one_entry(alloc: Global, piece: u64) -> Result<JudyL, SlError>
+fn one_entry(alloc: Global, piece: u64) -> Result<WordMap, SlError>
     ensures made { IfOk result (λ level. level ≡ single piece) }
     ensures refused { IfErr result (λ error. error ≡ NoMemory) }
 {
-    let mut level = JudyL::unbounded(alloc);
+    let mut level = WordMap::unbounded(alloc);
     match level.put(piece, 0) {
         Ok(_) => {}
         Err(InsertError::Full) => unreachable!(),
@@ -47,7 +47,7 @@ fn one_entry(alloc: Global, piece: u64) -> Result<JudyL, SlError>
 // lead to a tail.
 fn sprout(
     alloc: Global,
-    level: &mut JudyL,
+    level: &mut WordMap,
     rest: &[u8],
     value: u64,
 ) -> Result<Option<Twig>, SlError>
@@ -96,7 +96,7 @@ pub fn branch_of(alloc: Global, tail: &Entry, key: &[u8]) -> Result<Branch, SlEr
         held = &held[8..];
         rest = &rest[8..];
     }
-    let mut fork = JudyL::unbounded(alloc);
+    let mut fork = WordMap::unbounded(alloc);
     let old = match sprout(alloc, &mut fork, held, tail.value()) {
         Ok(old) => old,
         Err(error) => return Err(error),

@@ -7,7 +7,7 @@ ghost use Rattle.judy_sl.specs.declared.error.SlError.TheVariants.{NoMemory};
 
 use crate::error::SlError;
 use judy_entry::Entry;
-use judy_word::{InsertError, JudyL};
+use judy_word::{InsertError, WordMap};
 
 // A place of the list: free, with the place that was free before it; a tail, which is the rest of one key with the key's
 // value; or a level.
@@ -15,11 +15,11 @@ use judy_word::{InsertError, JudyL};
 pub enum Child {
     Free(usize),
     Tail(Entry),
-    Level(JudyL),
+    Level(WordMap),
 }
 
 // Gives a piece of a level a value, whether it is there or not.
-pub fn put_in(level: &mut JudyL, piece: u64, value: u64) -> Result<(), SlError>
+pub fn put_in(level: &mut WordMap, piece: u64, value: u64) -> Result<(), SlError>
     requires { IsFalse (is_full level.old piece) }
     ensures entered { OnOk result (level.new ≡ with_value level.old piece value) }
     ensures unchanged { OnErr result (level.new ≡ level.old) }

@@ -19,11 +19,11 @@ use crate::error::SlError;
 use crate::keys::is_key;
 use crate::pieces::first_piece;
 use judy_entry::Entry;
-use judy_word::{InsertError, JudyL};
+use judy_word::{InsertError, WordMap};
 use std::alloc::AllocError;
 
 // Lets an entry of a level lead to the child at a place.
-fn link(level: &mut JudyL, piece: u64, place: usize)
+fn link(level: &mut WordMap, piece: u64, place: usize)
     requires { IsTrue (map.contains_key level.old.map piece) }
     ensures { level.new ≡ with_value level.old piece place }
 {
@@ -178,7 +178,7 @@ impl Arena {
     }
 
     // Lets an entry of a level that stands beside the array lead to a new tail, where one is to be.
-    fn hang(&mut self, level: &mut JudyL, twig: Option<Twig>)
+    fn hang(&mut self, level: &mut WordMap, twig: Option<Twig>)
         requires room { vec_len self.old.children < vec_capacity self.old.children }
         requires there { HasTwig level.old twig }
         ensures hung { IsHung self.old self.new level.old level.new twig }

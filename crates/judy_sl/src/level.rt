@@ -9,11 +9,11 @@ use crate::arena::Arena;
 use crate::child::Child;
 use crate::pieces::first_piece;
 use crate::strings::JudySl;
-use judy_word::JudyL;
+use judy_word::{JudyL, WordMap};
 
 impl Arena {
     // The level behind the pieces of bytes, eight each.
-    fn level(&self, at: &[u8]) -> Option<&JudyL>
+    fn level(&self, at: &[u8]) -> Option<&WordMap>
         requires is_arena { IsArena self.now }
         requires is_key { IsStringKey at.now }
         requires whole { length at.now % 8 ≡ 0 }
@@ -47,6 +47,9 @@ impl JudySl {
         ensures there { HasBranch self.now.map at.now → IsSome result }
         ensures keys { IfSome result (λ level. IsLevelOf self.now.map at.now level.now.map) }
     {
-        self.arena.level(at)
+        match self.arena.level(at) {
+            Some(level) => Some(level.array()),
+            None => None,
+        }
     }
 }

@@ -14,7 +14,7 @@ use crate::child::Child;
 use crate::keys::KeyBuf;
 use crate::pieces::{first_piece, push_piece};
 use crate::strings::JudySl;
-use judy_word::JudyL;
+use judy_word::WordMap;
 use std::cmp::Ordering;
 
 // On which side of a key its neighbour is sought.
@@ -52,7 +52,7 @@ impl Side {
     }
 
     // The entry of a level that is met first beyond a piece.
-    fn beyond(self, level: &JudyL, piece: u64) -> Option<(u64, u64)>
+    fn beyond(self, level: &WordMap, piece: u64) -> Option<(u64, u64)>
         ensures nearest { IsNearestEntry self false level.now.map piece (piece_in result) }
         ensures value { IsEntryOf level.now.map result }
     {
@@ -63,7 +63,7 @@ impl Side {
     }
 
     // The entry of a level that is met first from a piece on.
-    fn from(self, level: &JudyL, piece: u64) -> Option<(u64, u64)>
+    fn from(self, level: &WordMap, piece: u64) -> Option<(u64, u64)>
         ensures nearest { IsNearestEntry self true level.now.map piece (piece_in result) }
         ensures value { IsEntryOf level.now.map result }
     {
@@ -74,7 +74,7 @@ impl Side {
     }
 
     // The entry of a level that is met first.
-    fn end(self, level: &JudyL) -> Option<(u64, u64)>
+    fn end(self, level: &WordMap) -> Option<(u64, u64)>
         requires { (piece : ℕ) → IsTrue (contains_key level.now.map piece) → IsWord piece }
         ensures first { IsFirstEntry self level.now.map (piece_in result) }
         ensures value { IsEntryOf level.now.map result }
@@ -105,7 +105,7 @@ impl Look {
     }
 
     // The entry of a key's last level that is met first.
-    fn last_entry(self, level: &JudyL, piece: u64) -> Option<(u64, u64)>
+    fn last_entry(self, level: &WordMap, piece: u64) -> Option<(u64, u64)>
         ensures nearest { IsNearestEntry self.side self.itself level.now.map piece (piece_in result) }
         ensures value { IsEntryOf level.now.map result }
     {

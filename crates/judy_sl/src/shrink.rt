@@ -13,7 +13,7 @@ ghost use Rattle.judy_sl.specs.Shrunk.{place_without, vacated, IsCut, IsDeeper, 
 use crate::arena::{Arena, Place, place_in};
 use crate::child::Child;
 use crate::pieces::first_piece;
-use judy_word::JudyL;
+use judy_word::WordMap;
 use std::mem;
 
 // Where a key is cut off: at an entry of the last level on its way that has another one, or of the first level; the
@@ -27,7 +27,7 @@ pub struct Cut {
 
 // The cut that stands once the way has come to a level: the one there, where the level is the first or has another
 // entry, and else the one before.
-fn deeper(before: Option<Cut>, level: &JudyL, here: Cut) -> Cut
+fn deeper(before: Option<Cut>, level: &WordMap, here: Cut) -> Cut
     ensures { IsDeeper before level.now.map here result }
 {
     match before {

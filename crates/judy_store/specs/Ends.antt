@@ -1,5 +1,5 @@
 -- How an end of the program shows.
-use Rattle.std.specs.Prelude.{ℕ, ◌⊎◌, List, [], ◌∷◌, ◌++◌, codes, string_bytes, Result, Ok, Err}
+use Rattle.std.specs.Prelude.{◌≡◌, ℕ, ◌+◌, ◌⊎◌, List, [], ◌∷◌, ◌++◌, codes, string_bytes, Result, Ok, Err}
 use Rattle.judy_script.specs.declared.fault.RunFault.{RunFault}
 use Rattle.judy_script.specs.declared.fault.RunFault.TheVariants.{Read, Write, TooLong}
 use Rattle.judy_script.specs.Faults.{fault_word}
@@ -37,3 +37,12 @@ EndsRun Ran Left (Ok done) = Ran
 EndsRun Ran Left (Err Read) = Left Read
 EndsRun Ran Left (Err Write) = Left Write ⊎ Ran
 EndsRun Ran Left (Err TooLong) = Left TooLong
+
+-- What the end of a run says of the writer, by its failures before, what it keeps back at last, and its failures then:
+-- at the end of the script it has handed all on and not failed; at `Write` it failed once more; at any other fault
+-- either.
+abbrev pub HandsOn : ℕ → Result (Unit {0}) RunFault → List ℕ → ℕ → Type 0
+HandsOn before (Ok done) kept now = (kept ≡ []) × (now ≡ before)
+HandsOn before (Err Read) kept now = ((kept ≡ []) × (now ≡ before)) ⊎ (now ≡ before + 1)
+HandsOn before (Err Write) kept now = now ≡ before + 1
+HandsOn before (Err TooLong) kept now = ((kept ≡ []) × (now ≡ before)) ⊎ (now ≡ before + 1)

@@ -7,7 +7,7 @@ ghost use Rattle.judy_pipe.specs.Pipe.{told};
 ghost use Rattle.judy_shelf.specs.Shelves.{store_of};
 ghost use Rattle.judy_shelf.specs.Writes.{sunk, Dumped};
 ghost use Rattle.judy_script.specs.RunEnds.{Since, fault_of, read_failures};
-ghost use Rattle.judy_store.specs.Ends.{EndsRun};
+ghost use Rattle.judy_store.specs.Ends.{EndsRun, HandsOn};
 
 use judy_pipe::{Sink, Source};
 use judy_script::{RunFault, run};
@@ -16,9 +16,9 @@ use judy_shelf::{DumpFault, Shelf, dump};
 /// Runs the script that a source gives, of at most `max_bytes` bytes, and hands its answers on.
 ///
 /// At Ok the whole script was run and the sink keeps no answer back. The fault is the run's where that has one;
-/// the answers given by then are handed on too, and where this fails the fault stays that; where the sink failed,
-/// nothing more is tried. It is `Write` too where the whole script was run and its last answers couldn't be handed
-/// on.
+/// at `Read` and `TooLong` the answers given by then are handed on too, and where this fails the fault stays that and
+/// the sink has one failure more; where the sink failed in the run, nothing more is tried. It is `Write` too where the
+/// whole script was run and its last answers couldn't be handed on.
 ///
 /// Neither must have failed `u64::MAX` times before.
 pub fn run_store<R: Source, W: Sink>(
@@ -35,7 +35,7 @@ pub fn run_store<R: Source, W: Sink>(
         (λ fault. Since (R.given source.old) (R.given source.new) (λ bytes. Since (W.taken sink.old) (W.taken sink.new) (λ output.
         LeftBy (store_of shelf.old) max_bytes bytes (R.ended source.new ≡ told (R.ended source.old) true) output (store_of shelf.new) (fault_of fault))))
         result }
-    ensures handed_on { OnOk result (W.kept sink.new ≡ []) }
+    ensures handed_on { HandsOn (W.tally sink.old).failures result (W.kept sink.new) (W.tally sink.new).failures }
     ensures read_failures { (R.tally source.new).failures ≡ (R.tally source.old).failures + read_failures result }
 {
     match run(source, shelf, sink, max_bytes) {

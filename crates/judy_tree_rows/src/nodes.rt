@@ -3,6 +3,8 @@
 ghost use Rattle.std.specs.Prelude.{◌≡◌, ◌<◌, ◌≤◌, ◌^◌, IsTrue};
 ghost use Rattle.judy_node.specs.Trees.{IsMap};
 
+use crate::array_shapes::{check_map, check_set};
+use crate::changes::Change;
 use crate::leaves::value_of;
 use crate::plain::{note, same, same_len, same_pair, same_pairs};
 use judy_leaf::{Width, Words};
@@ -234,6 +236,13 @@ fn shape_table(rt: HostRuntime) -> Result<(), Fail> {
     check_table::<Width<1>>(&rt, rt.alloc(), &both)?;
     let sets = [(Grid::run(257, None), [1, 0, 1, 1, 0, 0])];
     check_table::<Width<0>>(&rt, rt.alloc(), &sets)?;
+    for (grid, counts) in both {
+        check_set(&rt, rt.alloc(), &[(Change::In(grid), counts)])?;
+        check_map(&rt, rt.alloc(), &[(Change::In(grid), counts)])?;
+    }
+    for (grid, counts) in sets {
+        check_set(&rt, rt.alloc(), &[(Change::In(grid), counts)])?;
+    }
     Ok(())
 }
 

@@ -1,11 +1,12 @@
 //! Arrays of words. What no clause says: that calls succeed while there is memory. Callers whose contracts show what a write through
-//! a slot is known to do, and what an array that is lent says of its nodes. And what neighbours and counts are at their corners.
+//! a slot is known to do, and what the calls say of nodes. And what neighbours and counts are at their corners.
 ghost use Rattle.std.specs.Prelude.{◌≡◌, OnOk, IfOk, OnErr, OnSome, IsTrue};
 ghost use Rattle.std.specs.FinMap as map;
 ghost use Rattle.judy_model.specs.Arrays as array;
 ghost use Rattle.judy_model.specs.Shapes.{shape_of};
 ghost use Rattle.judy_change.specs.Removals.{Has33};
 ghost use Rattle.judy_node.specs.ShapeSums.{shape_as};
+ghost use Rattle.judy_word.specs.WordArrays.{array_of, with_value};
 
 use crate::plain::{same, same_number, same_pair};
 use judy_node::Shape;
@@ -16,7 +17,7 @@ use std::test::Fail;
 
 // Inserts a key and writes its value.
 fn put(array_l: &mut JudyL, key: u64, value: u64) -> Result<(), InsertError>
-    ensures ok { OnOk result (array_l.new ≡ array.with_map array_l.old (array.write array_l.old.map key value)) }
+    ensures ok { OnOk result (array_of array_l.new ≡ array.with_map (array_of array_l.old) (array.write array_l.old.map key value)) }
     ensures err { OnErr result (array_l.new ≡ array_l.old) }
 {
     *array_l.ins(key)? = value;
@@ -26,7 +27,7 @@ fn put(array_l: &mut JudyL, key: u64, value: u64) -> Result<(), InsertError>
 // Writes the value of a key that is there, and answers the one before.
 fn replace(array_l: &mut JudyL, key: u64, value: u64) -> Option<u64>
     ensures answer { result ≡ map.get array_l.old.map key }
-    ensures some { OnSome result (array_l.new ≡ array.with_map array_l.old (array.write array_l.old.map key value)) }
+    ensures some { OnSome result (array_l.new ≡ with_value array_l.old key value) }
 {
     match array_l.slot(key) {
         Some(slot) => {
@@ -38,26 +39,23 @@ fn replace(array_l: &mut JudyL, key: u64, value: u64) -> Option<u64>
     }
 }
 
-// Makes the nodes of a set tight and counts them: no history is in them, by the clauses of the array that `tree_mut` lends.
+// Makes the nodes of a set tight and counts them: no history is in them.
 fn tight_shape(set: &mut Judy1) -> Result<Shape, AllocError>
     ensures rule { IfOk result (λ shape. shape_as shape ≡ shape_of 0 (map.keys set.old.map)) }
-    ensures same { set.new ≡ set.old }
+    ensures same { array_of set.new ≡ array_of set.old }
 {
-    let tree = set.tree_mut();
-    tree.tidy()?;
-    Ok(tree.shape())
+    set.tidy()?;
+    Ok(set.shape())
 }
 
 // Takes a key out, and answers whether that made the array loose: only where 33 keys stood together.
 fn loosened(array_l: &mut JudyL, key: u64) -> bool
-    ensures deleted { array_l.new ≡ array.with_map array_l.old (array.del array_l.old.map key) }
+    ensures deleted { array_of array_l.new ≡ array.with_map (array_of array_l.old) (array.del array_l.old.map key) }
     ensures loosened { IsTrue result → Has33 8 (map.entries array_l.old.map) key }
 {
-    let tree = array_l.tree_mut();
-    tree.told();
-    let loose = tree.is_loose();
-    tree.remove(key);
-    !loose && tree.is_loose()
+    let loose = array_l.is_loose();
+    array_l.del(key);
+    !loose && array_l.is_loose()
 }
 
 // Inserts a key and writes its value, where there is room.

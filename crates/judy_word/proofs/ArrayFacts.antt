@@ -10,18 +10,19 @@ use Rattle.judy_model.proofs.SortedMaps.{from_sorted-nil}
 use Rattle.judy_model.proofs.ChangesLemmas.{write-ins, get-ins_same}
 use Rattle.judy_word.specs.Held.{Held, map_in, array_in, nothing_held, IsHeld}
 use Rattle.judy_word.specs.Held as held
-use Rattle.judy_word.specs.Writes.{with_value}
+use Rattle.judy_word.specs.Writes as writes
+use Rattle.judy_word.specs.WordArrays.{WordArray, array_of, seen_as, no_keys, with_value, IsWritten}
 use Rattle.judy_word.proofs.MapFacts.{get-value, map_of-written}
 
--- No tree is the empty array.
-pub nothing-empty : (limit : ℕ) → array_in (nothing_held limit) ≡ empty_array limit
-nothing-empty limit = ap (λ (map : FinMap word_order ℕ). record { limit = limit; map = map }) (from_sorted-nil word_order)
+-- No tree is the array without keys.
+pub nothing-empty : (limit : ℕ) → seen_as (nothing_held limit) ≡ no_keys limit
+nothing-empty limit = ap (λ (map : FinMap word_order ℕ). record (no_keys limit) { map = map }) (from_sorted-nil word_order)
 
 module _ (array : Held) (is : IsHeld 1 array) (key : ℕ) (present : is_some (get (map_in array) key) ≡ true) where
   -- A value that is written in the tree is written in the array.
-  pub array-written : (value : ℕ) → array_in (held.with_value array key value) ≡ with_value (array_in array) key value
+  pub array-written : (value : ℕ) → seen_as (held.with_value array key value) ≡ with_value (seen_as array) key value
   array-written value =
-      ap (λ (map : FinMap word_order ℕ). record { limit = array.limit; map = map })
+      ap (λ (map : FinMap word_order ℕ). record (seen_as array) { map = map })
       (map_of-written 1 (256 ^ 8) key value array.tree.pairs refl is.node.map (ap is_some (sym (get-value 1 (256 ^ 8) array.tree.pairs is.node.map key)) ∙ present))
 
 -- Where the key was put in before.
@@ -34,11 +35,28 @@ module _ (old new : Held) (is : IsHeld 1 new) (key : ℕ) (inserted : array_in n
   inserted-there = ap is_some (inserted-value ∙ get-ins_same nat_cmp_total (map_in old) key)
 
   -- The value that is written then is that of the insert.
-  pub inserted-written : (value : ℕ) → array_in (held.with_value new key value) ≡ with_value (array_in old) key value
+  pub inserted-written : (value : ℕ) → array_in (held.with_value new key value) ≡ writes.with_value (array_in old) key value
   inserted-written value =
-      array-written new is key inserted-there value
-      ∙ ap (λ (array : ArrayOf word_order). with_value array key value) inserted
+      ap array_of (array-written new is key inserted-there value)
+      ∙ ap (λ (array : ArrayOf word_order). writes.with_value array key value) inserted
       ∙ ap (λ (map : FinMap word_order ℕ). record { limit = old.limit; map = map }) (write-ins nat_cmp_total (map_in old) key nat_cmp-IsAntisymmetric value)
+
+-- The same of arrays as callers see them.
+module _ (old new : WordArray) (key : ℕ) (put : array_of new ≡ with_map (array_of old) (ins old.map key)) where
+  pub put-value : get new.map key ≡ get (ins old.map key) key
+  put-value = ap (λ (array : ArrayOf word_order). get array.map key) put
+
+  pub put-there : contains_key new.map key ≡ true
+  put-there = ap is_some (put-value ∙ get-ins_same nat_cmp_total old.map key)
+
+  pub put-written : (value : ℕ) → array_of (with_value new key value) ≡ writes.with_value (array_of old) key value
+  put-written value =
+      ap (λ (array : ArrayOf word_order). writes.with_value array key value) put
+      ∙ ap (λ (map : FinMap word_order ℕ). record { limit = old.limit; map = map }) (write-ins nat_cmp_total old.map key nat_cmp-IsAntisymmetric value)
+
+-- What has a value is there.
+pub value-there : {value : ℕ} {found : Option ℕ} → Some value ≡ found → is_some found ≡ true
+value-there some = ap is_some (sym some)
 
 -- Two loans that may be none are equal where they end alike for each value that may be left.
 pub lent_if : {D : Type 0} (result : Option (MutBor ℕ)) (first second : ℕ → D) (none : D) → ((before : ℕ) → option_copied_mut result ≡ Some before → (left : ℕ) → first left ≡ second left) → read_of (ghost_name_of result) first none ≡ read_of (ghost_name_of result) second none

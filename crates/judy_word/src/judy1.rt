@@ -1,12 +1,16 @@
 // The array that is a set of words.
-ghost use Rattle.std.specs.Prelude.{◌≡◌, ◌≤◌, ◌↔◌, not, IfOk, IsOk, OnOk, IfErr, OnErr, IsTrue, IsFalse};
+ghost use Rattle.std.specs.Prelude.{◌≡◌, ◌≤◌, ◌↔◌, not, true, false, IfOk, IsOk, OnOk, IfErr, OnErr, IsTrue, IsFalse};
 ghost use Rattle.std.specs.FinMap as map;
 ghost use Rattle.judy_model.specs.Arrays as array;
 ghost use Rattle.judy_model.specs.Counts as counts;
 ghost use Rattle.judy_model.specs.Neighbours as neighbours;
 ghost use Rattle.judy_model.specs.Empties as empties;
+ghost use Rattle.judy_model.specs.Forms.{loose_in, shape_in};
+ghost use Rattle.judy_model.specs.Shapes.{form_of, shape_of};
+ghost use Rattle.judy_change.specs.Removals.{Has33};
+ghost use Rattle.judy_node.specs.ShapeSums.{shape_as};
 ghost use Rattle.judy_query.specs.Maps.{map_of};
-ghost use Rattle.judy_word.specs.Held.{array_in};
+ghost use Rattle.judy_word.specs.WordArrays.{array_of, no_keys, seen_as};
 ghost use Rattle.judy_word.specs.Refusals.{IsRefusal};
 ghost use Rattle.judy_word.specs.Sets.{IsSet};
 
@@ -20,38 +24,31 @@ use std::marker::Model;
 /// A set of words: each from 0 to 2^64 - 1 is a key or none. It holds at most as many keys as its limit
 /// (limit: this project's own).
 ///
-/// Contracts see it as the array whose every value is 0, and `test` and `len` say so.
+/// Contracts see it as the array whose every value is 0 (`test` and `len` say so), with its nodes and whether one may be larger than its
+/// keys need.
 #[derive(Drop)]
 pub struct Judy1 {
     tree: TreeArray<Width<0>>,
 }
 
 impl Model for Judy1 {
-    ghost use Rattle.std.specs.Coded.{coded_ℕ};
-    ghost use Rattle.judy_model.specs.Keys.{word_order};
-    ghost use Rattle.judy_model.specs.Arrays.{ArrayOf, array_code};
-    ghost use Rattle.judy_word.specs.Held.{array_in};
+    ghost use Rattle.judy_word.specs.WordArrays.{WordArray, seen_as};
+    ghost use Rattle.judy_word.specs.Codes.{word_array_code};
 
-    ghost Value = { ArrayOf word_order };
+    ghost Value = { WordArray };
 
-    ghost coded = { array_code coded_ℕ };
+    ghost coded = { word_array_code };
 
-    ghost view = { λ a. array_in a.tree };
+    ghost view = { λ a. seen_as a.tree };
 }
 
 impl Judy1 {
-    ghost use denote.Param.{number};
-    ghost use Rattle.std.specs.Borrow.{sem, Lends};
-    ghost use Rattle.judy_leaf.specs.contracts.words.Width.{the_row as width_row};
-    ghost use Rattle.judy_word.specs.contracts.tree_array.TreeArray.{the_row as tree_row};
-    ghost use Rattle.judy_word.specs.contracts.judy1.Judy1.{the_row};
-
     /// The empty set that holds at most `limit` keys, from 1 to 4,294,967,295 (limit: this project's own).
     /// It asks for no memory before the first key.
     pub fn new(alloc: Global, limit: u64) -> Judy1
         requires some { 1 ≤ limit }
         requires most { limit ≤ 4294967295 }
-        ensures { result ≡ array.empty_array limit }
+        ensures { result ≡ no_keys limit }
     {
         Judy1 {
             tree: TreeArray::new(alloc, limit),
@@ -60,7 +57,7 @@ impl Judy1 {
 
     /// The empty set with the limit 2^64 - 1, which memory ends before: for what is built of such sets.
     pub fn unbounded(alloc: Global) -> Judy1
-        ensures { result ≡ array.empty_array u64.MAX }
+        ensures { result ≡ no_keys u64.MAX }
     {
         Judy1 {
             tree: TreeArray::new(alloc, u64::MAX),
@@ -74,10 +71,12 @@ impl Judy1 {
     /// own). `NoMemory` only where it is absent and the set isn't full, and never where it is empty. Either leaves the set as it was.
     pub fn set(&mut self, i: u64) -> Result<bool, InsertError>
         ensures answer { IfOk result (λ added. added ≡ not (map.contains_key self.old.map i)) }
-        ensures set { OnOk result (self.new ≡ array.with_map self.old (array.ins self.old.map i)) }
-        ensures accepted { OnOk result (IsFalse (array.is_full self.old i)) }
-        ensures refused { IfErr result (IsRefusal self.old i) }
+        ensures set { OnOk result (array_of self.new ≡ array.with_map (array_of self.old) (array.ins self.old.map i)) }
+        ensures accepted { OnOk result (IsFalse (array.is_full (array_of self.old) i)) }
+        ensures refused { IfErr result (IsRefusal (array_of self.old) i) }
         ensures unchanged { OnErr result (self.new ≡ self.old) }
+        ensures present { IfOk result (λ added. added ≡ false → self.new ≡ self.old) }
+        ensures loose { self.new.loose ≡ self.old.loose }
         ensures empty { self.old.map ≡ map.empty → IsOk result }
     {
         self.tree.set(i)
@@ -87,15 +86,19 @@ impl Judy1 {
     /// one stays. (Manual: J1U, Judy1Unset.)
     pub fn unset(&mut self, i: u64) -> bool
         ensures answer { result ≡ map.contains_key self.old.map i }
-        ensures unset { self.new ≡ array.with_map self.old (array.del self.old.map i) }
+        ensures unset { array_of self.new ≡ array.with_map (array_of self.old) (array.del self.old.map i) }
+        ensures absent { result ≡ false → self.new ≡ self.old }
+        ensures loose { self.old.loose ≡ true → self.new.loose ≡ true }
+        ensures loosened { self.old.loose ≡ false → self.new.loose ≡ true → Has33 8 (map.entries self.old.map) i }
     {
+        self.tree.told();
         self.tree.remove(i)
     }
 
     /// Whether the key `i` is there. (Manual: J1T, Judy1Test.)
     pub fn test(&self, i: u64) -> bool
         ensures answer { result ≡ map.contains_key self.now.map i }
-        ensures zeros { IsSet self.now }
+        ensures zeros { IsSet (array_of self.now) }
     {
         self.tree.told();
         self.tree.has(i)
@@ -189,7 +192,7 @@ impl Judy1 {
     pub fn len(&self) -> u64
         ensures count { result ≡ map.len self.now.map }
         ensures within { result ≤ self.now.limit }
-        ensures zeros { IsSet self.now }
+        ensures zeros { IsSet (array_of self.now) }
     {
         self.tree.told();
         self.tree.len()
@@ -214,7 +217,7 @@ impl Judy1 {
     /// limit and may be used again. (Manual: J1FA, Judy1FreeArray, which answers the bytes freed.)
     pub fn free_array(&mut self) -> u64
         ensures freed { result ≡ map.len self.old.map }
-        ensures emptied { self.new ≡ array.empty_array self.old.limit }
+        ensures emptied { self.new ≡ no_keys self.old.limit }
     {
         self.tree.free_array()
     }
@@ -222,57 +225,62 @@ impl Judy1 {
     /// A law of every set that a program holds: its limit and keys are words, and it holds at most as many
     /// keys as its limit. It answers nothing and reads each key, for a caller whose proof is to know it.
     pub fn is_array(&self)
-        ensures { array.IsArray (array.judy1 self.now) }
+        ensures { array.IsArray (array.judy1 (array_of self.now)) }
     {
         self.tree.told();
         self.tree.is_array();
     }
 
-    /// The set with its nodes: the calls of [`TreeArray`] say what becomes of these too.
-    pub fn tree(&self) -> &TreeArray<Width<0>>
-        ensures { self.now ≡ array_in result.now }
+    // What it is made of.
+    pub(crate) fn tree(&self) -> &TreeArray<Width<0>>
+        ensures { self.now ≡ seen_as result.now }
     {
         &self.tree
     }
 
-    /// Lends the set with its nodes. What the calls of [`TreeArray`] do to it is done to this set, and their clauses say what becomes
-    /// of nodes and looseness, which no value of a `Judy1` tells.
-    pub fn tree_mut(&mut self) -> &mut TreeArray<Width<0>>
-        ensures* writes_back { sem 𝓛 (Lends the_row (tree_row (width_row (number 0)) ⟦<Width<0> as Words>⟧) self.entry result array_in) }
-        ensures value { array_in result.now ≡ self.old }
-    {
-        &mut self.tree
-    }
-
-    /// The root of the tree, which holds the keys, loose or not.
+    /// The root of the tree, which holds the keys, loose or not: its nodes are those of the set.
     pub fn root(&self) -> &Node<0>
-        ensures { map_of result.now.pairs ≡ self.now.map }
+        ensures keys { map_of result.now.pairs ≡ self.now.map }
+        ensures nodes { result.now.form ≡ self.now.form }
     {
         self.tree.root()
     }
 
-    /// Whether a node may be larger than its keys need, since memory for a smaller one was refused to `unset`. Where it is false the
-    /// nodes are a function of the keys. No clause tells of it here, but of the same call of `tree` and `tree_mut`.
-    pub fn is_loose(&self) -> bool {
+    /// Whether a node may be larger than its keys need, since memory for a smaller one was refused to `unset`. Where it is false no node
+    /// is, and the nodes are those that the rule gives the keys.
+    pub fn is_loose(&self) -> bool
+        ensures told { result ≡ self.now.loose }
+        ensures tight { result ≡ false → loose_in self.now.form ≡ 0 }
+        ensures rule { result ≡ false → self.now.form ≡ form_of 0 8 (map.keys self.now.map) }
+    {
+        self.tree.told();
         self.tree.is_loose()
     }
 
-    /// How many nodes of each kind there are. No clause tells of them here, but of the same call of `tree` and `tree_mut`.
-    pub fn shape(&self) -> Shape {
+    /// How many nodes of each kind there are, counted in the tree of `root`: where the set isn't loose, as many as the rule gives its keys.
+    pub fn shape(&self) -> Shape
+        ensures nodes { shape_as result ≡ shape_in self.now.form }
+        ensures rule { self.now.loose ≡ false → shape_as result ≡ shape_of 0 (map.keys self.now.map) }
+    {
         self.tree.shape()
     }
 
-    /// Makes each node as small as its keys allow, so that the set isn't loose from there on. The error is want of memory, which
-    /// comes only where it is loose; it is as it was then. Keys and limit stay. (Clauses on nodes and looseness: the same call of `tree_mut`.)
+    /// Makes each node as small as its keys allow, so that the set isn't loose from there on; keys and limit stay. The error is want of
+    /// memory, which comes only where it is loose; it is as it was then, its nodes too.
     pub fn tidy(&mut self) -> Result<(), AllocError>
-        ensures { self.new ≡ self.old }
+        ensures kept { array_of self.new ≡ array_of self.old }
+        ensures tight { OnOk result (self.new.loose ≡ false) }
+        ensures unchanged { OnErr result (self.new ≡ self.old) }
+        ensures nothing_to_do { self.old.loose ≡ false → IsOk result }
+        ensures same { self.old.loose ≡ false → self.new ≡ self.old }
     {
         self.tree.tidy()
     }
 
     /// A set of its own with the same limit and keys, each node as small as these allow. The error is want of memory.
     pub fn try_clone(&self) -> Result<Judy1, AllocError>
-        ensures { IfOk result (λ copy. copy ≡ self.now) }
+        ensures same { IfOk result (λ copy. array_of copy ≡ array_of self.now) }
+        ensures tight { IfOk result (λ copy. copy.loose ≡ false) }
     {
         Ok(Judy1 {
             tree: self.tree.try_clone()?,

@@ -1,5 +1,5 @@
 // The array that maps words to words.
-ghost use Rattle.std.specs.Prelude.{◌≡◌, ◌≤◌, ◌↔◌, Some, not, IfOk, IsOk, IfSome, OnOk, OnErr, IfErr, IsTrue, IsFalse};
+ghost use Rattle.std.specs.Prelude.{◌≡◌, ◌≤◌, ◌↔◌, Some, not, true, false, IfOk, IsOk, IfSome, OnOk, OnErr, IfErr, IsTrue, IsFalse};
 ghost use Rattle.std.specs.Borrow.{sem};
 ghost use Rattle.std.specs.FinMap as map;
 ghost use Rattle.std.specs.Option.{option_copied_mut, option_map};
@@ -8,10 +8,15 @@ ghost use Rattle.judy_model.specs.Keys.{IsWord};
 ghost use Rattle.judy_model.specs.Counts as counts;
 ghost use Rattle.judy_model.specs.Neighbours as neighbours;
 ghost use Rattle.judy_model.specs.Empties as empties;
+ghost use Rattle.judy_model.specs.Forms.{loose_in, shape_in};
+ghost use Rattle.judy_model.specs.Shapes.{form_of, shape_of};
+ghost use Rattle.judy_change.specs.Removals.{Has33};
+ghost use Rattle.judy_node.specs.ShapeSums.{shape_as};
 ghost use Rattle.judy_query.specs.Maps.{map_of};
-ghost use Rattle.judy_word.specs.Held.{array_in, with_new};
+ghost use Rattle.judy_word.specs.Held.{with_new};
+ghost use Rattle.judy_word.specs.WordArrays.{array_of, no_keys, seen_as};
 ghost use Rattle.judy_word.specs.Refusals.{IsRefusal};
-ghost use Rattle.judy_word.specs.Slots.{LendsSlot, LendsIns};
+ghost use Rattle.judy_word.specs.Slots.{LendsSlot, LendsSlotOf, LendsIns};
 
 use crate::error::InsertError;
 use crate::tree_array::TreeArray;
@@ -22,38 +27,31 @@ use std::marker::Model;
 
 /// An array that maps words to words: each key from 0 to 2^64 - 1 has at most one value, a word too.
 /// It holds at most as many keys as its limit (limit: this project's own).
+///
+/// Contracts see its map with its nodes, and whether one of these may be larger than its keys need.
 #[derive(Drop)]
 pub struct JudyL {
     tree: TreeArray<Width<1>>,
 }
 
 impl Model for JudyL {
-    ghost use Rattle.std.specs.Coded.{coded_ℕ};
-    ghost use Rattle.judy_model.specs.Keys.{word_order};
-    ghost use Rattle.judy_model.specs.Arrays.{ArrayOf, array_code};
+    ghost use Rattle.judy_word.specs.WordArrays.{WordArray, seen_as};
+    ghost use Rattle.judy_word.specs.Codes.{word_array_code};
 
-    ghost Value = { ArrayOf word_order };
+    ghost Value = { WordArray };
 
-    ghost coded = { array_code coded_ℕ };
+    ghost coded = { word_array_code };
 
-    ghost use Rattle.judy_word.specs.Held.{array_in, with_new};
-
-    ghost view = { λ a. array_in a.tree };
+    ghost view = { λ a. seen_as a.tree };
 }
 
 impl JudyL {
-    ghost use denote.Param.{number};
-    ghost use Rattle.std.specs.Borrow.{Lends};
-    ghost use Rattle.judy_leaf.specs.contracts.words.Width.{the_row as width_row};
-    ghost use Rattle.judy_word.specs.contracts.tree_array.TreeArray.{the_row as tree_row};
-    ghost use Rattle.judy_word.specs.contracts.judyl.JudyL.{the_row};
-
     /// The empty array that holds at most `limit` keys, from 1 to 4,294,967,295 (limit: this project's own).
     /// It asks for no memory before the first insert.
     pub fn new(alloc: Global, limit: u64) -> JudyL
         requires some { 1 ≤ limit }
         requires most { limit ≤ 4294967295 }
-        ensures { result ≡ array.empty_array limit }
+        ensures { result ≡ no_keys limit }
     {
         JudyL {
             tree: TreeArray::new(alloc, limit),
@@ -62,7 +60,7 @@ impl JudyL {
 
     /// The empty array with the limit 2^64 - 1, which memory ends before: for what is built of such arrays.
     pub fn unbounded(alloc: Global) -> JudyL
-        ensures { result ≡ array.empty_array u64.MAX }
+        ensures { result ≡ no_keys u64.MAX }
     {
         JudyL {
             tree: TreeArray::new(alloc, u64::MAX),
@@ -78,8 +76,8 @@ impl JudyL {
     pub fn ins(&mut self, i: u64) -> Result<&mut u64, InsertError>
         ensures* writes_back { sem 𝓛 (LendsIns self.entry i result) }
         ensures value { IfOk result (λ slot. Some slot.now ≡ map.get (array.ins self.old.map i) i) }
-        ensures accepted { OnOk result (IsFalse (array.is_full self.old i)) }
-        ensures refused { IfErr result (IsRefusal self.old i) }
+        ensures accepted { OnOk result (IsFalse (array.is_full (array_of self.old) i)) }
+        ensures refused { IfErr result (IsRefusal (array_of self.old) i) }
         ensures empty { self.old.map ≡ map.empty → IsOk result }
     {
         self.tree.set(i)?;
@@ -93,10 +91,11 @@ impl JudyL {
     /// `Full` and `NoMemory` as `ins`. Either leaves the array as it was.
     pub fn put(&mut self, i: u64, value: u64) -> Result<bool, InsertError>
         ensures answer { IfOk result (λ added. added ≡ not (map.contains_key self.old.map i)) }
-        ensures put { OnOk result (self.new ≡ array.with_map self.old (array.write self.old.map i value)) }
-        ensures accepted { OnOk result (IsFalse (array.is_full self.old i)) }
-        ensures refused { IfErr result (IsRefusal self.old i) }
+        ensures put { OnOk result (array_of self.new ≡ array.with_map (array_of self.old) (array.write self.old.map i value)) }
+        ensures accepted { OnOk result (IsFalse (array.is_full (array_of self.old) i)) }
+        ensures refused { IfErr result (IsRefusal (array_of self.old) i) }
         ensures unchanged { OnErr result (self.new ≡ self.old) }
+        ensures loose { self.new.loose ≡ self.old.loose }
         ensures empty { self.old.map ≡ map.empty → IsOk result }
     {
         self.tree.put(i, value)
@@ -108,10 +107,12 @@ impl JudyL {
     /// `Full` and `NoMemory` as `ins`. Either leaves the array as it was.
     pub fn put_if_absent(&mut self, i: u64, value: u64) -> Result<bool, InsertError>
         ensures answer { IfOk result (λ added. added ≡ not (map.contains_key self.old.map i)) }
-        ensures put { OnOk result (self.new ≡ array.with_map self.old (with_new self.old.map i value)) }
-        ensures accepted { OnOk result (IsFalse (array.is_full self.old i)) }
-        ensures refused { IfErr result (IsRefusal self.old i) }
+        ensures put { OnOk result (array_of self.new ≡ array.with_map (array_of self.old) (with_new self.old.map i value)) }
+        ensures accepted { OnOk result (IsFalse (array.is_full (array_of self.old) i)) }
+        ensures refused { IfErr result (IsRefusal (array_of self.old) i) }
         ensures unchanged { OnErr result (self.new ≡ self.old) }
+        ensures present { IfOk result (λ added. added ≡ false → self.new ≡ self.old) }
+        ensures loose { self.new.loose ≡ self.old.loose }
         ensures empty { self.old.map ≡ map.empty → IsOk result }
     {
         self.tree.set_with(i, value)
@@ -134,12 +135,26 @@ impl JudyL {
         self.tree.slot(i)
     }
 
+    // The slot of a key that is there.
+    pub(crate) fn slot_of(&mut self, i: u64) -> &mut u64
+        requires present { IsTrue (map.contains_key self.old.map i) }
+        ensures* writes_back { sem 𝓛 (LendsSlotOf self.entry i result) }
+        ensures value { Some result.now ≡ map.get self.old.map i }
+    {
+        self.tree.told();
+        self.tree.slot_of(i)
+    }
+
     /// Takes the key `i` out, and answers whether it was there. It can't fail: where memory for a smaller node is refused, the larger
     /// one stays. (Manual: JLD, JudyLDel.)
     pub fn del(&mut self, i: u64) -> bool
         ensures answer { result ≡ map.contains_key self.old.map i }
-        ensures deleted { self.new ≡ array.with_map self.old (array.del self.old.map i) }
+        ensures deleted { array_of self.new ≡ array.with_map (array_of self.old) (array.del self.old.map i) }
+        ensures absent { result ≡ false → self.new ≡ self.old }
+        ensures loose { self.old.loose ≡ true → self.new.loose ≡ true }
+        ensures loosened { self.old.loose ≡ false → self.new.loose ≡ true → Has33 8 (map.entries self.old.map) i }
     {
+        self.tree.told();
         self.tree.remove(i)
     }
 
@@ -254,7 +269,7 @@ impl JudyL {
     /// limit and may be used again. (Manual: JLFA, JudyLFreeArray, which answers the bytes freed.)
     pub fn free_array(&mut self) -> u64
         ensures freed { result ≡ map.len self.old.map }
-        ensures emptied { self.new ≡ array.empty_array self.old.limit }
+        ensures emptied { self.new ≡ no_keys self.old.limit }
     {
         self.tree.free_array()
     }
@@ -263,7 +278,7 @@ impl JudyL {
     /// are words, and it holds at most as many keys as its limit. It answers nothing and reads each key and
     /// value, for a caller whose proof is to know it.
     pub fn is_array(&self)
-        ensures { array.IsArray (array.judyl self.now) }
+        ensures { array.IsArray (array.judyl (array_of self.now)) }
     {
         self.tree.is_array();
     }
@@ -314,51 +329,56 @@ impl JudyL {
         self.tree.by_count_entry(n)
     }
 
-    /// The array with its nodes: the calls of [`TreeArray`] say what becomes of these too.
-    pub fn tree(&self) -> &TreeArray<Width<1>>
-        ensures { self.now ≡ array_in result.now }
+    // What it is made of.
+    pub(crate) fn tree(&self) -> &TreeArray<Width<1>>
+        ensures { self.now ≡ seen_as result.now }
     {
         &self.tree
     }
 
-    /// Lends the array with its nodes. What the calls of [`TreeArray`] do to it is done to this array, and their clauses say what
-    /// becomes of nodes and looseness, which no value of a `JudyL` tells.
-    pub fn tree_mut(&mut self) -> &mut TreeArray<Width<1>>
-        ensures* writes_back { sem 𝓛 (Lends the_row (tree_row (width_row (number 1)) ⟦<Width<1> as Words>⟧) self.entry result array_in) }
-        ensures value { array_in result.now ≡ self.old }
-    {
-        &mut self.tree
-    }
-
-    /// The root of the tree, which holds the keys, loose or not.
+    /// The root of the tree, which holds the keys, loose or not: its nodes are those of the array.
     pub fn root(&self) -> &Node<1>
-        ensures { map_of result.now.pairs ≡ self.now.map }
+        ensures keys { map_of result.now.pairs ≡ self.now.map }
+        ensures nodes { result.now.form ≡ self.now.form }
     {
         self.tree.root()
     }
 
-    /// Whether a node may be larger than its keys need, since memory for a smaller one was refused to `del`. Where it is false the
-    /// nodes are a function of the keys. No clause tells of it here, but of the same call of `tree` and `tree_mut`.
-    pub fn is_loose(&self) -> bool {
+    /// Whether a node may be larger than its keys need, since memory for a smaller one was refused to `del`. Where it is false no node
+    /// is, and the nodes are those that the rule gives the keys.
+    pub fn is_loose(&self) -> bool
+        ensures told { result ≡ self.now.loose }
+        ensures tight { result ≡ false → loose_in self.now.form ≡ 0 }
+        ensures rule { result ≡ false → self.now.form ≡ form_of 1 8 (map.keys self.now.map) }
+    {
+        self.tree.told();
         self.tree.is_loose()
     }
 
-    /// How many nodes of each kind there are. No clause tells of them here, but of the same call of `tree` and `tree_mut`.
-    pub fn shape(&self) -> Shape {
+    /// How many nodes of each kind there are, counted in the tree of `root`: where the array isn't loose, as many as the rule gives its keys.
+    pub fn shape(&self) -> Shape
+        ensures nodes { shape_as result ≡ shape_in self.now.form }
+        ensures rule { self.now.loose ≡ false → shape_as result ≡ shape_of 1 (map.keys self.now.map) }
+    {
         self.tree.shape()
     }
 
-    /// Makes each node as small as its keys allow, so that the array isn't loose from there on. The error is want of memory, which
-    /// comes only where it is loose; it is as it was then. Keys and limit stay. (Clauses on nodes and looseness: the same call of `tree_mut`.)
+    /// Makes each node as small as its keys allow, so that the array isn't loose from there on; keys, values and limit stay. The error is want of
+    /// memory, which comes only where it is loose; it is as it was then, its nodes too.
     pub fn tidy(&mut self) -> Result<(), AllocError>
-        ensures { self.new ≡ self.old }
+        ensures kept { array_of self.new ≡ array_of self.old }
+        ensures tight { OnOk result (self.new.loose ≡ false) }
+        ensures unchanged { OnErr result (self.new ≡ self.old) }
+        ensures nothing_to_do { self.old.loose ≡ false → IsOk result }
+        ensures same { self.old.loose ≡ false → self.new ≡ self.old }
     {
         self.tree.tidy()
     }
 
     /// An array of its own with the same limit and keys with their values, each node as small as these allow. The error is want of memory.
     pub fn try_clone(&self) -> Result<JudyL, AllocError>
-        ensures { IfOk result (λ copy. copy ≡ self.now) }
+        ensures same { IfOk result (λ copy. array_of copy ≡ array_of self.now) }
+        ensures tight { IfOk result (λ copy. copy.loose ≡ false) }
     {
         Ok(JudyL {
             tree: self.tree.try_clone()?,

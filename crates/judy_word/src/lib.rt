@@ -2,23 +2,31 @@
 //
 // `JudyL` maps words to words, and `Judy1` is a set of words. The crate stands on judy_model, whose definitions
 // its contracts cite: both are the model's array, a limit and a finite map from words to words, and in a
-// `Judy1` each value is 0. A call whose comment names none of the manual is this project's own. The kinds over
+// `Judy1` each value is 0; their contracts know its nodes too, and whether one of these may be larger than its
+// keys need. A `WordMap` is a `JudyL` whose nodes no contract tells. A call whose comment names none of the manual is this project's own. The kinds over
 // byte strings and the script layer stand on this crate.
 //
-// What lies below both is a `TreeArray`, which is a limit, a tree of judy_node and whether that may be loose, and whose contracts say
-// what becomes of the nodes too: each public call hands on to its calls. tree_array.rt has it, and in the folder of that name stand what
-// is asked of a key (counts.rt), neighbours, the same with values (entries.rt) and empties, all over judy_query; changes, over judy_change;
-// slots; and the law of what every array keeps (kept.rt). iter.rt has the iterators, and how an array is printed.
+// What lies below both is a `TreeArray`, which is a limit, a tree of judy_node and whether that may be loose: each public call hands
+// on to its calls. tree_array.rt has it, and in the folder of that name stand what is asked of a key (counts.rt), neighbours, the same
+// with values (entries.rt) and empties, all over judy_query; changes, over judy_change; slots; and the law of what every array keeps
+// (kept.rt). laws.rt has laws of nodes. iter.rt has the iterators, and how an array is printed.
 #![tactic(auto)]
 
 mod error;
 mod iter;
 mod judy1;
 mod judyl;
+mod laws;
 mod tree_array;
+mod word_map;
 
 pub use error::InsertError;
 pub use iter::{Entries, Keys};
 pub use judy1::Judy1;
 pub use judyl::JudyL;
-pub use tree_array::{TreeArray, TreeEntries};
+pub use laws::{
+    a_loaded_map_is_tight, a_loaded_set_is_tight, same_keys_same_nodes,
+    same_keys_same_nodes_of_maps,
+};
+pub use tree_array::TreeEntries;
+pub use word_map::WordMap;

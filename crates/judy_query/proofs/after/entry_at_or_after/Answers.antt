@@ -17,7 +17,7 @@ pub down-init : goal.down-init
 down-init g c =
     let down = down_root g.V.Words.WORDS c.args.tree.now (Branch c.in-Branch.top) c.args.key c.told.ensures c.in-Branch.ensures.view (omega (arith, c.ranges.key)) in
     let narrow = down.shown.narrow in
-    (down, refl, tt, omega (arith, c.enter.ensures.visits))
+    (down, refl, tt, omega (arith, c.enter.ensures.visits), omega (arith, c.enter.ensures.visits))
 
 pub pair_behind-requires : goal.pair_behind-requires
 pair_behind-requires g c =
@@ -52,6 +52,7 @@ returns-in_default-step g c =
           ∙ (λ t. option_or (slice_get (shift base (rest_of (256 ^ b.width) (number_of b.skip * 256) b.bytes b.children.items (place t))) 0) (sym way.1 t))
           ∙ sym (head-append (shift base (rest_of (256 ^ b.width) (number_of b.skip * 256) b.bytes b.children.items (passed (length b.children.items) c.step-step.result))) way.0.back)
           ∙ sym (part-from words (256 ^ 8) pairs c.args.key 1 0 c.args.key [] _ _ part (omega arith) (omega arith));
+      no_fewer = omega (arith, way.4, c.pair_behind.ensures.no_fewer);
       visits = omega (arith, way.3, c.pair_behind.ensures.visits);
     }
 
@@ -93,6 +94,7 @@ down-preserved g c =
           ∙ sym c.later_turn-later.ensures.pair,
       c.later_turn-later.ensures.turn,
       omega arith,
+      omega (arith, visits, way.4),
     )
 
 pub returns-in-Some : goal.returns-in-Some
@@ -111,6 +113,7 @@ returns-in-Some g c =
       entry = (λ t. Some (whole t, c.in-Some.value))
           ∙ sym (part-from words (256 ^ 8) pairs base (256 ^ width_of view) c.in-Child.rest c.args.key (view_pairs view) down.front down.back down.part whole down.inside
           ∙ ap (λ found. option_or (raised base found) (slice_get down.back 0)) c.in-Some.ensures);
+      no_fewer = omega (arith, c.down.invariant.4, c.enter-in-down.ensures.visits);
       visits = omega (arith, c.down.invariant.3, c.enter-in-down.ensures.visits);
     }
 
@@ -157,6 +160,7 @@ returns-in_default-from_in g c =
           ∙ sym (ap (λ ps. slice_get ps 0) next.back_is)
           ∙ sym (part-from words (256 ^ 8) pairs (c.args.key - c.in-Child.rest) (256 ^ width_of view) c.in-Child.rest c.args.key (view_pairs view) down.front down.back down.part (omega arith) down.inside
           ∙ ap (λ found. option_or (raised (c.args.key - c.in-Child.rest) found) (slice_get down.back 0)) (sym c.from_in-in_default-enter.ensures ∙ c.in_default-from_in.is));
+      no_fewer = omega (arith, way.4, c.pair_behind-in_default-from_in.ensures.no_fewer, visits);
       visits = omega (arith, way.3, c.pair_behind-in_default-from_in.ensures.visits);
     }
 
@@ -183,5 +187,6 @@ returns-in_default-enter g c =
     record {
       entry = sym (part-from words (256 ^ 8) pairs base (256 ^ width_of view) c.in-Child.rest c.args.key (view_pairs view) down.front down.back down.part (omega arith) down.inside
           ∙ ap (λ found. option_or (raised base found) (slice_get down.back 0)) (sym c.from_in-in_default-enter.ensures ∙ c.in-Some-from_in.is));
+      no_fewer = omega (arith, c.down.invariant.4, c.enter-in-down.ensures.visits);
       visits = omega (arith, c.down.invariant.3, c.enter-in-down.ensures.visits);
     }

@@ -17,7 +17,7 @@ pub down-init : goal.down-init
 down-init g c =
     let down = down_root g.V.Words.WORDS c.args.tree.now (Branch c.in-Branch.top) c.args.key c.told.ensures c.in-Branch.ensures.view (omega (arith, c.ranges.key)) in
     let narrow = down.shown.narrow in
-    (down, refl, tt, omega (arith, c.enter.ensures.visits))
+    (down, refl, tt, omega (arith, c.enter.ensures.visits), omega (arith, c.enter.ensures.visits))
 
 pub earlier_turn-earlier-requires-clause-inside : goal.earlier_turn-earlier-requires-clause-inside
 earlier_turn-earlier-requires-clause-inside g c =
@@ -52,6 +52,7 @@ returns-in_default-step g c =
           ∙ (λ t. option_or (last_pair (shift base (first_of (256 ^ b.width) (number_of b.skip * 256) b.bytes b.children.items (passed (length b.children.items) c.step-step.result)))) (sym way.1 t))
           ∙ sym (last_pair-append way.0.front (shift base (first_of (256 ^ b.width) (number_of b.skip * 256) b.bytes b.children.items (passed (length b.children.items) c.step-step.result))))
           ∙ sym (part-up_to words (256 ^ 8) pairs c.args.key 1 0 c.args.key [] _ _ part (omega arith) (omega arith));
+      no_fewer = omega (arith, way.4, c.greatest.ensures.no_fewer);
       visits = omega (arith, way.3, c.greatest.ensures.visits);
     }
 
@@ -82,6 +83,7 @@ down-preserved g c =
           ∙ sym c.earlier_turn-earlier.ensures.pair,
       c.earlier_turn-earlier.ensures.turn,
       omega arith,
+      omega (arith, visits, way.4),
     )
 
 pub returns-in_default-up_to_in : goal.returns-in_default-up_to_in
@@ -106,6 +108,7 @@ returns-in_default-up_to_in g c =
           ∙ sym (ap (λ ps. last_pair ps) next.front_is)
           ∙ sym (part-up_to words (256 ^ 8) pairs (c.args.key - c.in-Child.rest) (256 ^ width_of view) c.in-Child.rest c.args.key (view_pairs view) down.front down.back down.part (omega arith) down.inside
           ∙ ap (λ found. option_or (raised (c.args.key - c.in-Child.rest) found) (last_pair down.front)) (sym c.up_to_in-in_default-enter.ensures ∙ c.in_default-up_to_in.is));
+      no_fewer = omega (arith, way.4, c.greatest-in_default-up_to_in.ensures.no_fewer, visits);
       visits = omega (arith, way.3, c.greatest-in_default-up_to_in.ensures.visits);
     }
 
@@ -132,5 +135,6 @@ returns-in_default-enter g c =
     record {
       entry = sym (part-up_to words (256 ^ 8) pairs base (256 ^ width_of view) c.in-Child.rest c.args.key (view_pairs view) down.front down.back down.part (omega arith) down.inside
           ∙ ap (λ found. option_or (raised base found) (last_pair down.front)) (sym c.up_to_in-in_default-enter.ensures ∙ c.in-Some.is));
+      no_fewer = omega (arith, c.down.invariant.4, c.enter-in-down.ensures.visits);
       visits = omega (arith, c.down.invariant.3, c.enter-in-down.ensures.visits);
     }

@@ -10,7 +10,7 @@ pub down-init : goal.down-init
 down-init g c =
     let down = down_root g.V.Words.WORDS c.args.tree.now c.enter-view.result c.args.key c.told.ensures c.enter-view.ensures.view (omega (arith, c.ranges.key)) in
     let narrow = down.shown.narrow in
-    (down, refl, omega arith)
+    (down, refl, omega arith, omega arith)
 
 pub keys_before-below-requires-clause-place : goal.keys_before-below-requires-clause-place
 keys_before-below-requires-clause-place g c =
@@ -47,6 +47,7 @@ returns-in_default-step g c =
     let some = c.down.invariant.0.shown.some in
     record {
       value = (let e : c.down.below + c.keys_before-below.result ≡ _ = omega arith in e) ∙ sym (rank_is words (256 ^ 8) pairs c.told.ensures.map c.args.key ∙ ranked);
+      no_fewer = omega (arith, c.down.invariant.3, c.enter-view.ensures.visits);
       visits = omega (arith, c.down.invariant.2, c.enter-view.ensures.visits);
     }
 
@@ -90,7 +91,7 @@ down-preserved g c =
     let keys = c.keys_before-below.ensures ∙ ap (λ n. keys_before n b.children.items) (c.passed.ensures ∙ ap (passed (length b.children.items)) c.in-Child.is) in
     let below = way.1 in
     let grown = ap length next.front_is in
-    (next.down, omega arith, omega arith)
+    (next.down, omega arith, omega arith, omega (arith, visits, c.down.invariant.3))
 
 pub overflow_add-result : goal.overflow_add-result
 overflow_add-result g c =
@@ -115,6 +116,7 @@ returns g c =
     let some = down.shown.some in
     record {
       value = (λ t. below t + c.rank_in.ensures t) ∙ sym (rank_is words (256 ^ 8) pairs c.told.ensures.map c.args.key ∙ ranked);
+      no_fewer = omega (arith, c.down.invariant.3, c.enter-view.ensures.visits);
       visits = omega (arith, c.down.invariant.2, c.enter-view.ensures.visits);
     }
 
@@ -124,5 +126,6 @@ returns-then-key-eq0 g c =
     let pairs = c.args.tree.now.pairs in
     record {
       value = sym (rank_is words (256 ^ 8) pairs c.told.ensures.map c.args.key ∙ rank-above words 0 (256 ^ 8) pairs c.args.key (omega (arith, c.if-key-eq0.true)) c.told.ensures.map);
+      no_fewer = omega arith;
       visits = omega arith;
     }

@@ -3,7 +3,7 @@ use Rattle.judy_query.specs.Parts.{IsDown, width_of}
 use Rattle.judy_query.proofs.counts.rank.Given as goal
 
 abbrev pub invariant-down : goal.invariant-down
-invariant-down g l = (down : IsDown g.V.Words.WORDS l.tree.pairs l.view l.key l.left) × (l.below ≡ length down.front) × (l.meter + width_of l.view ≤ l.initial.meter + 8)
+invariant-down g l = (down : IsDown g.V.Words.WORDS l.tree.pairs l.view l.key l.left) × (l.below ≡ length down.front) × (l.meter + width_of l.view ≤ l.initial.meter + 8) × (l.initial.meter ≤ l.meter)
 
 abbrev pub decreases-down : goal.decreases-down
 decreases-down g l = width_of l.view

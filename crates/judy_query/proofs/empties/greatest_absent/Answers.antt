@@ -153,6 +153,7 @@ down-preserved g c =
       subst (λ w. length (view_pairs c.enter-view-in-In.result) < 256 ^ w) (sym wide) (subst (λ ps. length ps < 256 ^ c.in-In.width) same kid.room),
       omega arith,
       omega arith,
+      omega (arith, visits, c.down.invariant.8),
     )
 
 pub unreachable-requires : goal.unreachable-requires
@@ -230,5 +231,6 @@ returns g c =
             c.down.invariant.3,
         window.same c.in-Some.word (omega arith) ∙ told.2,
       );
+      no_fewer = omega (arith, c.down.invariant.8, first);
       visits = omega arith;
     }

@@ -14,6 +14,7 @@ invariant-down g l =
     × (length (view_pairs l.view) < 256 ^ width_of l.view)
     × (l.meter + width_of l.view ≤ l.initial.meter + l.width)
     × (width_of l.view ≤ l.width)
+    × (l.initial.meter ≤ l.meter)
 
 abbrev pub decreases-down : goal.decreases-down
 decreases-down g l = width_of l.view

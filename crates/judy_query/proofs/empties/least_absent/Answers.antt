@@ -112,6 +112,7 @@ down-preserved g c =
       subst (λ w. c.in-In.from + 256 ^ w ≤ 256 ^ c.args.width) (sym wide) (omega arith),
       subst (λ w. length (view_pairs c.enter-view-in-In.result) < 256 ^ w) (sym wide) (subst (λ ps. length ps < 256 ^ c.in-In.width) same kid.room),
       omega arith,
+      omega (arith, visits, c.down.invariant.7),
     )
 
 pub unreachable-requires : goal.unreachable-requires
@@ -175,5 +176,6 @@ returns g c =
             (run-window all (view_pairs c.down.view) c.down.start (256 ^ width_of c.down.view) 0 c.in-Some.word c.down.start (c.down.start + c.in-Some.word) (omega arith) refl (omega arith) window told.1),
         window.same c.in-Some.word (omega arith) ∙ told.2,
       );
+      no_fewer = omega (arith, c.down.invariant.7, first);
       visits = omega arith;
     }

@@ -13,6 +13,7 @@ invariant-down g l =
     × (l.start + 256 ^ width_of l.view ≤ 256 ^ l.width)
     × (length (view_pairs l.view) < 256 ^ width_of l.view)
     × (l.meter + width_of l.view ≤ l.initial.meter + l.width)
+    × (l.initial.meter ≤ l.meter)
 
 abbrev pub decreases-down : goal.decreases-down
 decreases-down g l = width_of l.view

@@ -17,7 +17,7 @@ pub down-init : goal.down-init
 down-init g c =
     let down = down_root g.V.Words.WORDS c.args.tree.now c.enter-view.result c.args.key c.told.ensures c.enter-view.ensures.view (omega (arith, c.ranges.key)) in
     let wide = view_width g.V.Words.WORDS 8 c.args.tree.now c.enter-view.result (λ none. refl) c.enter-view.ensures.view in
-    (down, sym wide, run-none c.args.tree.now.pairs 0 (c.args.key - c.args.key) (omega arith), omega arith)
+    (down, sym wide, run-none c.args.tree.now.pairs 0 (c.args.key - c.args.key) (omega arith), omega arith, omega arith)
 
 pub returns-in_default-step : goal.returns-in_default-step
 returns-in_default-step g c =
@@ -31,6 +31,7 @@ returns-in_default-step g c =
     let some = c.down.invariant.0.shown.some in
     record {
       room = (omega arith, run-none all (key + 1) (key + 1) refl, down_absent words all (Branch c.in-Branch.branch) key left down absent);
+      no_fewer = omega (arith, c.down.invariant.4, c.enter-view.ensures.visits);
       visits = omega (arith, c.down.invariant.3, c.enter-view.ensures.visits);
     }
 
@@ -110,7 +111,7 @@ down-preserved g c =
     let less = next.width_is in
     let visits = c.enter-view-in-Branch.ensures.visits in
     let so_far = c.down.invariant.3 in
-    (next.down, sym less, room, omega arith)
+    (next.down, sym less, room, omega arith, omega (arith, visits, c.down.invariant.4))
 
 pub returns-in-Some : goal.returns-in-Some
 returns-in-Some g c =
@@ -121,7 +122,7 @@ returns-in-Some g c =
     let down = c.down.invariant.0 in
     let word = down_last words all c.down.view key left down c.in-Some.word (subst (IsLastAbsent (view_pairs c.down.view) 0 (left + 1)) c.in-Some.is c.last_absent.ensures) in
     let some = down.shown.some in
-    record { room = word; visits = omega (arith, c.down.invariant.3, c.enter-view.ensures.visits) }
+    record { room = word; no_fewer = omega (arith, c.down.invariant.4, c.enter-view.ensures.visits); visits = omega (arith, c.down.invariant.3, c.enter-view.ensures.visits) }
 
 pub returns-in-None : goal.returns-in-None
 returns-in-None g c =
@@ -134,5 +135,6 @@ returns-in-None g c =
     let some = down.shown.some in
     record {
       room = room-before words all 0 (key - left) (key + 1) c.down.earlier run c.down.invariant.2;
+      no_fewer = omega (arith, c.down.invariant.4, c.enter-view.ensures.visits);
       visits = omega (arith, c.down.invariant.3, c.enter-view.ensures.visits);
     }

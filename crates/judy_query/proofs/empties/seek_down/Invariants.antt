@@ -9,6 +9,7 @@ invariant-down g l =
     × (l.width ≡ width_of l.view)
     × IsRoomUpTo g.V.Words.WORDS l.tree.pairs 0 (l.key - l.left) l.earlier
     × (l.meter + width_of l.view ≤ l.initial.meter + 8)
+    × (l.initial.meter ≤ l.meter)
 
 abbrev pub decreases-down : goal.decreases-down
 decreases-down g l = width_of l.view

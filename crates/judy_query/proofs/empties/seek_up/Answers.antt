@@ -18,7 +18,7 @@ pub down-init : goal.down-init
 down-init g c =
     let down = down_root g.V.Words.WORDS c.args.tree.now c.enter-view.result c.args.key c.told.ensures c.enter-view.ensures.view (omega (arith, c.ranges.key)) in
     let wide = view_width g.V.Words.WORDS 8 c.args.tree.now c.enter-view.result (λ none. refl) c.enter-view.ensures.view in
-    (down, sym wide, run-none c.args.tree.now.pairs (c.args.key - c.args.key + 256 ^ width_of c.enter-view.result) (2 ^ 64) (ap (λ w. c.args.key - c.args.key + 256 ^ w) wide ∙ (let e : c.args.key - c.args.key + 256 ^ 8 ≡ 2 ^ 64 = omega arith in e)), omega arith)
+    (down, sym wide, run-none c.args.tree.now.pairs (c.args.key - c.args.key + 256 ^ width_of c.enter-view.result) (2 ^ 64) (ap (λ w. c.args.key - c.args.key + 256 ^ w) wide ∙ (let e : c.args.key - c.args.key + 256 ^ 8 ≡ 2 ^ 64 = omega arith in e)), omega arith, omega arith)
 
 pub returns-in_default-step : goal.returns-in_default-step
 returns-in_default-step g c =
@@ -32,6 +32,7 @@ returns-in_default-step g c =
     let some = c.down.invariant.0.shown.some in
     record {
       room = (omega (arith, c.ranges.key), run-none all key key refl, down_absent words all (Branch c.in-Branch.branch) key left down absent);
+      no_fewer = omega (arith, c.down.invariant.4, c.enter-view.ensures.visits);
       visits = omega (arith, c.down.invariant.3, c.enter-view.ensures.visits);
     }
 
@@ -124,7 +125,7 @@ down-preserved g c =
     let less = next.width_is in
     let visits = c.enter-view-in-Branch.ensures.visits in
     let so_far = c.down.invariant.3 in
-    (next.down, sym less, subst (λ w. IsRoomFrom words all (key - c.in-Child.rest + 256 ^ w) (2 ^ 64) c.or-later.result) (sym less) room, omega arith)
+    (next.down, sym less, subst (λ w. IsRoomFrom words all (key - c.in-Child.rest + 256 ^ w) (2 ^ 64) c.or-later.result) (sym less) room, omega arith, omega (arith, visits, c.down.invariant.4))
 
 pub returns-in-Some : goal.returns-in-Some
 returns-in-Some g c =
@@ -136,7 +137,7 @@ returns-in-Some g c =
     let told = subst (λ w. IsFirstAbsent (view_pairs c.down.view) left (256 ^ w) c.first_absent.result) c.down.invariant.1 c.first_absent.ensures in
     let word = down_word words all c.down.view key left down c.in-Some.word (subst (IsFirstAbsent (view_pairs c.down.view) left (256 ^ width_of c.down.view)) c.in-Some.is told) in
     let some = down.shown.some in
-    record { room = word; visits = omega (arith, c.down.invariant.3, c.enter-view.ensures.visits) }
+    record { room = word; no_fewer = omega (arith, c.down.invariant.4, c.enter-view.ensures.visits); visits = omega (arith, c.down.invariant.3, c.enter-view.ensures.visits) }
 
 pub returns-in-None : goal.returns-in-None
 returns-in-None g c =
@@ -150,5 +151,6 @@ returns-in-None g c =
     let some = down.shown.some in
     record {
       room = room-behind words all key (key - left + 256 ^ width_of c.down.view) (2 ^ 64) c.down.later run c.down.invariant.2;
+      no_fewer = omega (arith, c.down.invariant.4, c.enter-view.ensures.visits);
       visits = omega (arith, c.down.invariant.3, c.enter-view.ensures.visits);
     }

@@ -9,6 +9,7 @@ invariant-down g l =
     × (l.width ≡ width_of l.view)
     × IsRoomFrom g.V.Words.WORDS l.tree.pairs (l.key - l.left + 256 ^ width_of l.view) (2 ^ 64) l.later
     × (l.meter + width_of l.view ≤ l.initial.meter + 8)
+    × (l.initial.meter ≤ l.meter)
 
 abbrev pub decreases-down : goal.decreases-down
 decreases-down g l = width_of l.view

@@ -7,7 +7,7 @@ use Rattle.judy_query.proofs.RankFacts.{part-at, at_below}
 use Rattle.judy_query.proofs.places.entry_below.Goals as goal
 
 pub down-init : goal.down-init
-down-init g c = (down_top g.V.Words.WORDS c.args.top c.requires.shown, omega arith, c.requires.inside, omega arith)
+down-init g c = (down_top g.V.Words.WORDS c.args.top c.requires.shown, omega arith, c.requires.inside, omega arith, omega arith)
 
 pub start_of-base-requires-clause-place : goal.start_of-base-requires-clause-place
 start_of-base-requires-clause-place g c = slice_get_within c.in-Branch.branch.now.children.items c.holding-at.result.0 c.holding-at.ensures.0 c.holding-at.ensures.1.there
@@ -69,7 +69,7 @@ down-preserved g c =
     let less = next.2 in
     let visits = c.enter-view.ensures.visits in
     let room = c.down.invariant.3 in
-    (next.0, omega arith, omega arith, omega arith)
+    (next.0, omega arith, omega arith, omega arith, omega (arith, visits, c.down.invariant.4))
 
 pub overflow_add-result : goal.overflow_add-result
 overflow_add-result g c =
@@ -89,5 +89,6 @@ returns g c =
     record {
       entry = part-at words (256 ^ 8) top (c.down.base - 0) (256 ^ width_of c.down.view) c.down.left c.args.place (view_pairs c.down.view) down.front down.back down.part c.down.invariant.1 c.down.invariant.2
           ∙ ap (raised (c.down.base - 0)) c.entry_in-key.ensures ∙ (λ t. Some (whole t + c.entry_in-key.result.0, c.entry_in-key.result.1));
+      no_fewer = c.down.invariant.4;
       visits = omega arith;
     }

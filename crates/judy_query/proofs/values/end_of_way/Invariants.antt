@@ -14,6 +14,7 @@ abbrev pub invariant-down : goal.invariant-down
 invariant-down g l =
     IsDown g.V.Words.WORDS (branch_pairs l.top.width l.top.skip l.top.bytes l.top.children.items) (shown l.branch) l.key l.left
     × (l.meter + width_of (shown l.branch) ≤ l.initial.meter + (length l.top.skip + 1 + l.top.width))
+    × (l.initial.meter ≤ l.meter)
 
 abbrev pub decreases-down : goal.decreases-down
 decreases-down g l = width_of (shown l.branch)

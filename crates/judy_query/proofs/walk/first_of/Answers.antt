@@ -74,6 +74,7 @@ down-preserved g c =
       walked_child words c.in-Branch.branch c.down.base c.down.turns.items all walked c.start_at-base.result start c.index.result.now c.index.ensures
           c.enter-view.result c.enter-view.ensures.view c.keep.new.turns.items c.keep.ensures.turns c.keep.ensures.pairs c.keep.ensures.one,
       omega arith,
+      omega (arith, visits, c.down.invariant.2),
     )
 
 pub returns : goal.returns
@@ -85,5 +86,6 @@ returns g c =
       turns = c.down.invariant.0.turns;
       pairs = ap (λ ps. ps ++ waiting c.down.turns.items) c.new.ensures ∙ c.down.invariant.0.pairs;
       some = omega arith;
+      no_fewer = c.down.invariant.2;
       visits = (let shown = c.down.invariant.0.shown.some in omega (arith, c.down.invariant.1));
     }

@@ -19,7 +19,7 @@ down-init g c =
     let down = down_root g.V.Words.WORDS c.args.tree.now c.enter-view.result c.args.key c.told.ensures c.enter-view.ensures.view (omega (arith, c.ranges.key)) in
     let narrow = down.shown.narrow in
     let none = ap length c.requires.none in
-    (down, sym (ap waiting c.requires.none), subst (AreTurns g.V.Words.WORDS 0) (sym c.requires.none) tt, omega arith, omega arith)
+    (down, sym (ap waiting c.requires.none), subst (AreTurns g.V.Words.WORDS 0) (sym c.requires.none) tt, omega arith, omega arith, omega arith)
 
 pub reached-requires : goal.reached-requires
 reached-requires g c =
@@ -57,6 +57,7 @@ returns-in_default-step g c =
           ∙ c.keep.ensures.pairs
           ∙ (λ t. shift base (rest_of (256 ^ b.width) (number_of b.skip * 256) b.bytes b.children.items (place t)) ++ sym way.1 t)
           ∙ sym (part-rest words (256 ^ 8) pairs c.args.key 1 0 c.args.key [] _ _ part (omega arith) (omega arith));
+      no_fewer = omega (arith, c.down.invariant.5, c.enter-view.ensures.visits);
       visits = omega (arith, c.down.invariant.4);
     }
 
@@ -106,6 +107,7 @@ down-preserved g c =
       c.keep.ensures.turns,
       omega arith,
       omega arith,
+      omega (arith, visits, c.down.invariant.5),
     )
 
 pub new-stretch-requires-2 : goal.new-stretch-requires-2
@@ -133,5 +135,6 @@ returns g c =
     record {
       pairs = (λ t. (c.new-stretch-2.ensures ∙ ap (λ n. shift base (drop n here)) c.rank_in-at.ensures) t ++ sym c.down.invariant.1 t)
           ∙ sym (part-rest words (256 ^ 8) pairs base (256 ^ width_of c.down.view) c.down.left c.args.key here down.front down.back down.part (omega arith) (let inside = down.inside in omega arith));
+      no_fewer = omega (arith, c.down.invariant.5, c.enter-view.ensures.visits);
       visits = omega (arith, c.down.invariant.4);
     }

@@ -11,6 +11,7 @@ invariant-lines g l = record {
   last :
       length l.rest < length l.piece → (first : Store) (fed : List ℕ) (before : Option (List ℕ)) →
       Fed first fed before l.fn.buffers.line (g.W.Sink.taken l.fn.sink) (store_of l.fn.shelf) → RanInWholeLines first (fed ++ l.piece) before (g.W.Sink.taken l.sink) (store_of l.shelf);
+  kept : length l.rest ≡ length l.piece → g.W.Sink.kept l.sink ≡ g.W.Sink.kept l.fn.sink;
   failures : (g.W.Sink.tally l.sink).failures ≡ (g.W.Sink.tally l.fn.sink).failures;
 }
 

@@ -3,7 +3,7 @@ use Rattle.judy_script.proofs.ReadLemmas.{Reading-nothing, Reading-piece, CutAtR
 use Rattle.judy_script.proofs.runs.run.Goals as goal
 
 pub pieces-init : goal.pieces-init
-pieces-init g c = record { reading = Reading-nothing _ _ _ _ _ _ c.new-buffers.ensures; room = refl; read_failures = refl; write_failures = refl; content = refl; unfailing = refl }
+pieces-init g c = record { reading = Reading-nothing _ _ _ _ _ _ c.new-buffers.ensures; room = refl; read_failures = refl; write_failures = refl; kept = λ none. none; content = refl; unfailing = refl }
 
 pub returns-in_default-clause-left : goal.returns-in_default-clause-left
 returns-in_default-clause-left g c = CutAtRead-here _ _ _ _ _ _ _ _ _ _ _ c.pieces.invariant.reading _ _ c.in_default.ensures.given
@@ -31,6 +31,7 @@ pieces-preserved g c = record {
   room = c.read_some.auto.room ∙ c.pieces.invariant.room;
   read_failures = c.in-Ok.ensures.failures ∙ c.pieces.invariant.read_failures;
   write_failures = c.in-Ok-serve.ensures.failures ∙ c.pieces.invariant.write_failures;
+  kept = λ none. c.in-Ok-serve.ensures.handed_on (c.pieces.invariant.kept none);
   content = c.in-Ok.ensures.content ∙ c.pieces.invariant.content;
   unfailing = c.in-Ok.ensures.unfailing ∙ c.pieces.invariant.unfailing;
 }

@@ -1,4 +1,4 @@
-use Rattle.std.proofs.Common.{◌≡◌, length}
+use Rattle.std.proofs.Common.{◌≡◌, [], length}
 use Rattle.judy_shelf.specs.Shelves.{store_of}
 use Rattle.judy_script.proofs.ReadLemmas.{Reading}
 use Rattle.judy_script.proofs.runs.run.Given as goal
@@ -11,6 +11,7 @@ invariant-pieces g l = record {
   room : length l.room ≡ 65536;
   read_failures : (g.R.Source.tally l.source).failures ≡ (g.R.Source.tally l.fn.source).failures;
   write_failures : (g.W.Sink.tally l.sink).failures ≡ (g.W.Sink.tally l.fn.sink).failures;
+  kept : g.W.Sink.kept l.fn.sink ≡ [] → g.W.Sink.kept l.sink ≡ [];
   content : g.R.Source.content l.source ≡ g.R.Source.content l.fn.source;
   unfailing : g.R.Source.is_unfailing l.source ≡ g.R.Source.is_unfailing l.fn.source;
 }

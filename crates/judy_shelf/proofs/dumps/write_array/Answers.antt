@@ -5,6 +5,7 @@ use Rattle.judy_model.specs.DumpText as text
 use Rattle.judy_model.specs.DumpText.{length_order, entries_by}
 use Rattle.judy_shelf.specs.Sorted.{pairs_in, sorted_in}
 use Rattle.judy_model.specs.Arrays.{judy1, judyl, judysl, judyhs}
+use Rattle.judy_word.specs.WordArrays.{array_of}
 use Rattle.judy_shelf.specs.Arrays.{value_of}
 use Rattle.judy_shelf.specs.Writes.{sunk, Wrote}
 use Rattle.judy_shelf.proofs.WriteLemmas.{wrote_err}
@@ -23,14 +24,14 @@ returns-in-Judy1 g c =
     let before = sunk (g.W.Sink.taken c.args.sink.now) (g.W.Sink.tally c.args.sink.now).failures in
     let mid = sunk (g.W.Sink.taken c.put.new.sink) (g.W.Sink.tally c.put.new.sink).failures in
     let after = sunk (g.W.Sink.taken c.write_set.new.sink) (g.W.Sink.tally c.write_set.new.sink).failures in
-    array_goes_on c.deref.result.now c.args.name.now (value_of c.args.array.now) (c.deref.ensures.0 ∙ c.array_head.ensures) before (judy1 c.in-Judy1.set) mid after c.write_set.result (ap value_of c.in-Judy1.is) c.in_ok-put.ensures c.write_set.ensures
+    array_goes_on c.deref.result.now c.args.name.now (value_of c.args.array.now) (c.deref.ensures.0 ∙ c.array_head.ensures) before (judy1 (array_of c.in-Judy1.set)) mid after c.write_set.result (ap value_of c.in-Judy1.is) c.in_ok-put.ensures c.write_set.ensures
 
 pub returns-in-JudyL : goal.returns-in-JudyL
 returns-in-JudyL g c =
     let before = sunk (g.W.Sink.taken c.args.sink.now) (g.W.Sink.tally c.args.sink.now).failures in
     let mid = sunk (g.W.Sink.taken c.put.new.sink) (g.W.Sink.tally c.put.new.sink).failures in
     let after = sunk (g.W.Sink.taken c.write_words.new.sink) (g.W.Sink.tally c.write_words.new.sink).failures in
-    array_goes_on c.deref.result.now c.args.name.now (value_of c.args.array.now) (c.deref.ensures.0 ∙ c.array_head.ensures) before (judyl c.in-JudyL.words) mid after c.write_words.result (ap value_of c.in-JudyL.is) c.in_ok-put.ensures c.write_words.ensures
+    array_goes_on c.deref.result.now c.args.name.now (value_of c.args.array.now) (c.deref.ensures.0 ∙ c.array_head.ensures) before (judyl (array_of c.in-JudyL.words)) mid after c.write_words.result (ap value_of c.in-JudyL.is) c.in_ok-put.ensures c.write_words.ensures
 
 pub returns-in-JudySl : goal.returns-in-JudySl
 returns-in-JudySl g c =

@@ -63,7 +63,7 @@ returns-in-Err-clause-read g c =
     let before = drawn (g.R.Source.given c.args.source.now) (g.R.Source.ended c.args.source.now) (g.R.Source.tally c.args.source.now).failures in
     let after = drawn (g.R.Source.given c.read_some.new.source) (g.R.Source.ended c.read_some.new.source) (g.R.Source.tally c.read_some.new.source).failures in
     room_broken c.loop-filled.room c.loop-filled.filled before after (c.in-Err.ensures.given ∙ grown_nothing (g.R.Source.given c.loop-filled.source) ∙ c.loop-filled.invariant.given) c.loop-filled.invariant.bytes (length c.args.room.now)
-    (c.in-Err.ensures.failures ∙ ap (λ n. n + 1) c.loop-filled.invariant.failures)
+    (subst (λ n. c.loop-filled.filled < n) c.loop-filled.invariant.long c.loop-filled-test.true) c.loop-filled.invariant.within (c.in-Err.ensures.failures ∙ ap (λ n. n + 1) c.loop-filled.invariant.failures)
 
 pub returns-clause-read : goal.returns-clause-read
 returns-clause-read g c =

@@ -2,6 +2,7 @@ use Rattle.std.proofs.Common.{◌≡◌, ◌+◌, ◌<◌, ◌≤◌, ◌∷◌,
 use Rattle.judy_model.specs.Arrays.{judy1, ins}
 use Rattle.judy_model.specs.Keys.{word_order}
 use Rattle.judy_model.specs.DumpGrammar as grammar
+use Rattle.judy_word.specs.WordArrays.{array_of}
 use Rattle.judy_shelf.specs.Reads.{drawn, cause_of}
 use Rattle.judy_shelf.proofs.ReadLemmas.{reads_err, value_done}
 use Rattle.judy_shelf.proofs.EntryReads.{word_keys, whole, listing_none, listing_next, listing_fault, listing_memory, listing_filled, entry_read, entry_key_stopped, filled_fault, new_none, new_more, set_more, made_more}
@@ -23,7 +24,7 @@ returns-in_err-key g c =
     let fault = c.in_err-key.field-0.0 in
     let stop = listing_fault word_order grammar.word grammar.no_value c.keys.counter c.keys.before held before mid c.keys.invariant.4 count some (cause_of fault) after
     (entry_key_stopped word_order grammar.word grammar.no_value count c.keys.before (cause_of fault) mid after c.in_err-key.ensures.read) in
-    reads_err judy1 (grammar.filled judy1 c.args.limit (whole word_order grammar.word grammar.no_value count)) before after fault c.from_residual.result c.from_residual.ensures.1
+    reads_err (λ set. judy1 (array_of set)) (grammar.filled judy1 c.args.limit (whole word_order grammar.word grammar.no_value count)) before after fault c.from_residual.result c.from_residual.ensures.1
     (filled_fault word_order grammar.word grammar.no_value count judy1 c.args.limit before after (cause_of fault) stop)
 
 pub returns-in-Err : goal.returns-in-Err
@@ -63,4 +64,4 @@ returns g c =
     let before = drawn (g.R.Source.given c.args.source.now) (g.R.Source.ended c.args.source.now) (g.R.Source.tally c.args.source.now).failures in
     let now = drawn (g.R.Source.given c.keys.source) (g.R.Source.ended c.keys.source) (g.R.Source.tally c.keys.source).failures in
     let all : c.keys.counter ≡ c.args.count = omega arith in
-    listing_filled word_order grammar.word grammar.no_value c.keys.counter c.keys.before c.keys.invariant.0 before now c.keys.invariant.4 judy1 c.args.limit c.args.count c.keys.set all c.keys.invariant.1 c.keys.invariant.2
+    listing_filled word_order grammar.word grammar.no_value c.keys.counter c.keys.before c.keys.invariant.0 before now c.keys.invariant.4 judy1 c.args.limit c.args.count (array_of c.keys.set) all c.keys.invariant.1 c.keys.invariant.2

@@ -1,8 +1,10 @@
 use Rattle.std.proofs.Common.{◌≡◌, ◌+◌, ◌<◌, ◌≤◌, ◌∷◌, [], ◌++◌, Some, sym, ap, ◌∙◌, arith}
 use Rattle.std.specs.FinMap.{insert}
+use Rattle.std.specs.Result.{is_ok}
 use Rattle.judy_model.specs.Arrays.{judyl}
 use Rattle.judy_model.specs.Keys.{word_order}
 use Rattle.judy_model.specs.DumpGrammar as grammar
+use Rattle.judy_word.specs.WordArrays.{array_of}
 use Rattle.judy_shelf.specs.Reads.{drawn, cause_of}
 use Rattle.judy_shelf.proofs.ReadLemmas.{reads_err}
 use Rattle.judy_shelf.proofs.EntryReads.{word_keys, whole, listing_none, listing_next, listing_fault, listing_memory, listing_filled, entry_read, entry_key_stopped, entry_value_stopped, filled_fault, new_none, new_more, made_more}
@@ -24,7 +26,7 @@ returns-in_err-key g c =
     let fault = c.in_err-key.field-0.0 in
     let stop = listing_fault word_order grammar.word grammar.word c.keys.counter c.keys.before held before mid c.keys.invariant.4 count some (cause_of fault) after
     (entry_key_stopped word_order grammar.word grammar.word count c.keys.before (cause_of fault) mid after c.in_err-key.ensures.read) in
-    reads_err judyl (grammar.filled judyl c.args.limit (whole word_order grammar.word grammar.word count)) before after fault c.from_residual.result c.from_residual.ensures.1
+    reads_err (λ words. judyl (array_of words)) (grammar.filled judyl c.args.limit (whole word_order grammar.word grammar.word count)) before after fault c.from_residual.result c.from_residual.ensures.1
     (filled_fault word_order grammar.word grammar.word count judyl c.args.limit before after (cause_of fault) stop)
 
 pub returns-in_err-value : goal.returns-in_err-value
@@ -39,7 +41,7 @@ returns-in_err-value g c =
     let fault = c.in_err-value.field-0.0 in
     let stop = listing_fault word_order grammar.word grammar.word c.keys.counter c.keys.before held before mid c.keys.invariant.4 count some (cause_of fault) after
     (entry_value_stopped word_order grammar.word grammar.word count c.keys.before c.in_ok-key.key mid keyed c.in_ok-key.ensures.read (cause_of fault) after c.in_err-value.ensures) in
-    reads_err judyl (grammar.filled judyl c.args.limit (whole word_order grammar.word grammar.word count)) before after fault c.from_residual-in_err-value.result c.from_residual-in_err-value.ensures.1
+    reads_err (λ words. judyl (array_of words)) (grammar.filled judyl c.args.limit (whole word_order grammar.word grammar.word count)) before after fault c.from_residual-in_err-value.result c.from_residual-in_err-value.ensures.1
     (filled_fault word_order grammar.word grammar.word count judyl c.args.limit before after (cause_of fault) stop)
 
 pub returns-in-Err : goal.returns-in-Err
@@ -68,11 +70,12 @@ keys-preserved g c =
     let value = c.in_ok-value.value in
     let above = c.in_ok-key.ensures.above in
     let new = c.keys.invariant.3 in
+    let written = c.ins.follows.holds value (ap is_ok c.in-Ok.is) in
     let next = entry_read word_order grammar.word grammar.word c.args.count c.keys.before key mid keyed c.in_ok-key.ensures.read value after c.in_ok-value.ensures in
     let far = listing_next word_order grammar.word grammar.word c.keys.counter c.keys.before held before mid c.keys.invariant.4 (key, value) after next in (
       held ++ (key, value) ∷ [],
-      c.keys.invariant.1,
-      ap (λ m. insert m key value) c.keys.invariant.2 ∙ sym (made_more word_keys c.keys.before held new key value above),
+      ap (λ a. a.limit) written.array ∙ c.keys.invariant.1,
+      ap (λ a. a.map) written.array ∙ ap (λ m. insert m key value) c.keys.invariant.2 ∙ sym (made_more word_keys c.keys.before held new key value above),
       new_more word_keys c.keys.before held new key value above,
       far,
     )
@@ -82,4 +85,4 @@ returns g c =
     let before = drawn (g.R.Source.given c.args.source.now) (g.R.Source.ended c.args.source.now) (g.R.Source.tally c.args.source.now).failures in
     let now = drawn (g.R.Source.given c.keys.source) (g.R.Source.ended c.keys.source) (g.R.Source.tally c.keys.source).failures in
     let all : c.keys.counter ≡ c.args.count = omega arith in
-    listing_filled word_order grammar.word grammar.word c.keys.counter c.keys.before c.keys.invariant.0 before now c.keys.invariant.4 judyl c.args.limit c.args.count c.keys.words all c.keys.invariant.1 c.keys.invariant.2
+    listing_filled word_order grammar.word grammar.word c.keys.counter c.keys.before c.keys.invariant.0 before now c.keys.invariant.4 judyl c.args.limit c.args.count (array_of c.keys.words) all c.keys.invariant.1 c.keys.invariant.2

@@ -1,7 +1,7 @@
 use Rattle.std.proofs.Common.{ap, ◌∙◌}
-use Rattle.judy_word.specs.Held.{array_in}
+use Rattle.judy_word.specs.WordArrays.{seen_as}
 use Rattle.judy_word.proofs.ArrayFacts.{nothing-empty}
 use Rattle.judy_word.proofs.judy1.Judy1.unbounded.Goals as goal
 
 pub returns : goal.returns
-returns c = ap array_in c.new.ensures ∙ nothing-empty 18446744073709551615
+returns c = ap seen_as c.new.ensures ∙ nothing-empty 18446744073709551615

@@ -1,5 +1,4 @@
 use Rattle.std.proofs.Common.{refl, ◌∙◌, arith}
-use Rattle.judy_model.proofs.Lent.{lent}
 use Rattle.judy_word.proofs.ArrayFacts.{inserted-value, inserted-there, inserted-written}
 use Rattle.judy_word.proofs.judyl.JudyL.ins.Goals as goal
 
@@ -9,7 +8,14 @@ slot_of-requires c = (omega arith, (refl, inserted-there c.self.inside.tree c.se
 pub returns : goal.returns
 returns c =
     rw (← c.self.view_is) (
-      lent (inserted-written c.self.inside.tree c.set.new.self c.told.ensures c.args.i c.in_ok-set.ensures.set),
+      (
+        refl,
+        (λ left ok. record {
+          array = inserted-written c.self.inside.tree c.set.new.self c.told.ensures c.args.i c.in_ok-set.ensures.set left;
+          loose = c.set.ensures.loose;
+        }),
+        tt,
+      ),
       record {
         writes_back = tt;
         value = c.slot_of.ensures.value ∙ inserted-value c.self.inside.tree c.set.new.self c.told.ensures c.args.i c.in_ok-set.ensures.set;

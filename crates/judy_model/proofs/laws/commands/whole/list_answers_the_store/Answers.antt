@@ -1,0 +1,5 @@
+use Rattle.judy_model.proofs.WholeCommands.{listed_store}
+use Rattle.judy_model.proofs.laws.commands.whole.list_answers_the_store.Goals as goal
+
+pub returns : goal.returns
+returns c = listed_store

@@ -1,0 +1,195 @@
+//! A map from words to words of which no caller knows the nodes.
+
+ghost use Rattle.std.specs.Prelude.{◌≡◌, ◌≤◌, ◌↔◌, Some, not, IfOk, IsOk, IfSome, OnOk, OnErr, IfErr, IsTrue, IsFalse};
+ghost use Rattle.std.specs.Borrow.{sem};
+ghost use Rattle.std.specs.FinMap as map;
+ghost use Rattle.std.specs.Option.{option_copied_mut, option_map};
+ghost use Rattle.judy_model.specs.Arrays as array;
+ghost use Rattle.judy_model.specs.Neighbours as neighbours;
+ghost use Rattle.judy_word.specs.Held.{with_new};
+ghost use Rattle.judy_word.specs.WordArrays.{array_of};
+ghost use Rattle.judy_word.specs.Refusals.{IsRefusal};
+ghost use Rattle.judy_word.specs.MapSlots.{LendsSlot, LendsIns};
+
+use crate::error::InsertError;
+use crate::iter::Entries;
+use crate::judyl::JudyL;
+use std::alloc::Global;
+use std::iter::IntoIterator;
+use std::marker::Model;
+
+/// A map from words to words, which is a [`JudyL`] without a limit: for arrays that are made of many. Contracts see it as the limit and
+/// the map alone, so that two of them are equal where these are, whatever nodes they have. Each call is the one of `JudyL` of that name.
+#[derive(Drop)]
+pub struct WordMap {
+    array: JudyL,
+}
+
+impl Model for WordMap {
+    ghost use Rattle.std.specs.Coded.{coded_ℕ};
+    ghost use Rattle.judy_model.specs.Keys.{word_order};
+    ghost use Rattle.judy_model.specs.Arrays.{ArrayOf, array_code};
+
+    ghost Value = { ArrayOf word_order };
+
+    ghost coded = { array_code coded_ℕ };
+
+    ghost use Rattle.judy_word.specs.WordArrays.{array_of};
+
+    ghost view = { λ a. array_of a.array };
+}
+
+impl WordMap {
+    /// The map without keys. It has no limit but 2^64 - 1, which memory ends before.
+    pub fn unbounded(alloc: Global) -> WordMap
+        ensures { result ≡ array.empty_array u64.MAX }
+    {
+        WordMap {
+            array: JudyL::unbounded(alloc),
+        }
+    }
+
+    /// The slot of a key, which is put in with the value 0 where it is absent.
+    pub fn ins(&mut self, i: u64) -> Result<&mut u64, InsertError>
+        ensures* writes_back { sem 𝓛 (LendsIns self.entry i result) }
+        ensures value { IfOk result (λ slot. Some slot.now ≡ map.get (array.ins self.old.map i) i) }
+        ensures accepted { OnOk result (IsFalse (array.is_full self.old i)) }
+        ensures refused { IfErr result (IsRefusal self.old i) }
+        ensures empty { self.old.map ≡ map.empty → IsOk result }
+    {
+        self.array.put_if_absent(i, 0)?;
+        Ok(self.array.slot_of(i))
+    }
+
+    /// Gives a key a value, and answers whether it was absent.
+    pub fn put(&mut self, i: u64, value: u64) -> Result<bool, InsertError>
+        ensures answer { IfOk result (λ added. added ≡ not (map.contains_key self.old.map i)) }
+        ensures put { OnOk result (self.new ≡ array.with_map self.old (array.write self.old.map i value)) }
+        ensures accepted { OnOk result (IsFalse (array.is_full self.old i)) }
+        ensures refused { IfErr result (IsRefusal self.old i) }
+        ensures unchanged { OnErr result (self.new ≡ self.old) }
+        ensures empty { self.old.map ≡ map.empty → IsOk result }
+    {
+        self.array.put(i, value)
+    }
+
+    /// Puts a key in with a value where it is absent, and answers whether it was.
+    pub fn put_if_absent(&mut self, i: u64, value: u64) -> Result<bool, InsertError>
+        ensures answer { IfOk result (λ added. added ≡ not (map.contains_key self.old.map i)) }
+        ensures put { OnOk result (self.new ≡ array.with_map self.old (with_new self.old.map i value)) }
+        ensures accepted { OnOk result (IsFalse (array.is_full self.old i)) }
+        ensures refused { IfErr result (IsRefusal self.old i) }
+        ensures unchanged { OnErr result (self.new ≡ self.old) }
+        ensures empty { self.old.map ≡ map.empty → IsOk result }
+    {
+        self.array.put_if_absent(i, value)
+    }
+
+    /// The value of a key.
+    pub fn get(&self, i: u64) -> Option<u64>
+        ensures { result ≡ map.get self.now.map i }
+    {
+        self.array.get(i)
+    }
+
+    /// The slot of a key; `None` where it is absent.
+    pub fn slot(&mut self, i: u64) -> Option<&mut u64>
+        ensures* writes_back { sem 𝓛 (LendsSlot self.entry i result) }
+        ensures value { option_copied_mut result ≡ map.get self.old.map i }
+    {
+        self.array.slot(i)
+    }
+
+    /// Takes a key out, and answers whether it was there.
+    pub fn del(&mut self, i: u64) -> bool
+        ensures answer { result ≡ map.contains_key self.old.map i }
+        ensures deleted { self.new ≡ array.with_map self.old (array.del self.old.map i) }
+    {
+        self.array.del(i)
+    }
+
+    /// How many keys there are.
+    pub fn len(&self) -> u64
+        ensures count { result ≡ map.len self.now.map }
+        ensures within { result ≤ self.now.limit }
+    {
+        self.array.len()
+    }
+
+    /// Whether there is no key.
+    pub fn is_empty(&self) -> bool
+        ensures { IsTrue result ↔ (self.now.map ≡ map.empty) }
+    {
+        self.array.is_empty()
+    }
+
+    /// A law of every map: its limit, keys and values are words. It reads each key and value.
+    pub fn is_array(&self)
+        ensures { array.IsArray (array.judyl self.now) }
+    {
+        self.array.is_array();
+    }
+
+    /// The least key from one on, with its value.
+    // Compiled into the caller, as the search is.
+    #[inline(always)]
+    pub fn first_entry(&self, i: u64) -> Option<(u64, u64)>
+        ensures key { option_map (λ entry. entry.0) result ≡ neighbours.first self.now.map i }
+        ensures value { IfSome result (λ entry. map.get self.now.map entry.0 ≡ Some entry.1) }
+    {
+        self.array.first_entry(i)
+    }
+
+    /// The least key above one, with its value.
+    // Compiled into the caller, as the search is.
+    #[inline(always)]
+    pub fn next_entry(&self, i: u64) -> Option<(u64, u64)>
+        ensures key { option_map (λ entry. entry.0) result ≡ neighbours.next self.now.map i }
+        ensures value { IfSome result (λ entry. map.get self.now.map entry.0 ≡ Some entry.1) }
+    {
+        self.array.next_entry(i)
+    }
+
+    /// The greatest key up to one, with its value.
+    pub fn last_entry(&self, i: u64) -> Option<(u64, u64)>
+        ensures key { option_map (λ entry. entry.0) result ≡ neighbours.last self.now.map i }
+        ensures value { IfSome result (λ entry. map.get self.now.map entry.0 ≡ Some entry.1) }
+    {
+        self.array.last_entry(i)
+    }
+
+    /// The greatest key below one, with its value.
+    pub fn prev_entry(&self, i: u64) -> Option<(u64, u64)>
+        ensures key { option_map (λ entry. entry.0) result ≡ neighbours.prev self.now.map i }
+        ensures value { IfSome result (λ entry. map.get self.now.map entry.0 ≡ Some entry.1) }
+    {
+        self.array.prev_entry(i)
+    }
+
+    /// All keys with their values, by ascending key, one after another.
+    pub fn iter(&self) -> Entries<'_>
+        ensures { result ≡ map.entries self.now.map }
+    {
+        self.array.iter()
+    }
+
+    /// The array that it is, which tells of its nodes too.
+    pub fn array(&self) -> &JudyL
+        ensures limit { result.now.limit ≡ self.now.limit }
+        ensures map { result.now.map ≡ self.now.map }
+    {
+        &self.array
+    }
+}
+
+impl<'a> IntoIterator for &'a WordMap {
+    type Item = (u64, u64);
+
+    type IntoIter = Entries<'a>;
+
+    ghost into_iter_gives = { λ array entries. entries ≡ map.entries array.now.map };
+
+    fn into_iter(self) -> Entries<'a> {
+        self.iter()
+    }
+}
