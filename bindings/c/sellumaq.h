@@ -8,8 +8,9 @@
  * takes; `sellumaq_judyl_free` gives all its memory back, and leaves the empty array. Each call is proved to answer as a plain
  * finite set or map does (see the project's README). What the proof asks of the caller, and no compiler checks:
  *
- *   - A handle is used by one call at a time. A copy of its word is the same array, so after a change of the one the other must
- *     not be used.
+ *   - No call changes an array while another is handed it. Calls that take a `const` handle leave the array as it is, so threads may
+ *     read one at the same time, and each thread may change arrays of its own; the library has no data but the arrays'.
+ *   - A copy of a handle's word is the same array, so after a change of the one the other must not be used.
  *   - A slot, the pointer to the value of a key, may be read and written until the next call that is handed the array to change
  *     it: `ins`, `put`, `del` or `free`.
  *   - A pointer through which a call answers points to a word of the caller's, and a pointer to a key or a buffer to as many bytes as
@@ -29,47 +30,52 @@
 extern "C" {
 #endif
 
+/* What a call answers that has more to tell than yes and no. */
+enum {
+    SELLUMAQ_PRESENT = 0,   /* of `set` and `put`: the key was there */
+    SELLUMAQ_ADDED = 1,     /* of `set` and `put`: the key was absent, and is there now */
+    SELLUMAQ_NONE = 0,      /* of strings: there is no such key */
+    SELLUMAQ_FOUND = 1,     /* of strings: the key is there, and what was asked of it is told */
+    SELLUMAQ_NO_MEMORY = 2, /* the key is absent, there is no memory for it, and nothing changed */
+    SELLUMAQ_FULL = 3,      /* the key is absent, and the map holds 4,294,967,295 keys */
+    SELLUMAQ_BAD_KEY = 4,   /* the bytes are no key */
+    SELLUMAQ_TOO_SMALL = 5  /* the key found doesn't fit the caller's buffer */
+};
+
 /* ---- sets of words ---- */
 
 typedef struct { void *array; } sellumaq_judy1;
 
-/* What `sellumaq_judy1_set` answers. */
-enum {
-    SELLUMAQ_PRESENT = 0,   /* the key was there, and nothing changed */
-    SELLUMAQ_ADDED = 1,     /* the key was absent, and is there now */
-    SELLUMAQ_NO_MEMORY = 2  /* the key was absent, there is no memory for it, and nothing changed */
-};
-
 /* Puts a key in. A key that is there is never refused. */
 uint32_t sellumaq_judy1_set(sellumaq_judy1 *set, uint64_t key);
 
-/* Takes a key out; true where it was there. Never refused. */
+/* Takes a key out; true where it was there. Never refused. After the last key the handle may still hold a little memory, up to `free`. */
 bool sellumaq_judy1_unset(sellumaq_judy1 *set, uint64_t key);
 
 /* Whether a key is there. */
-bool sellumaq_judy1_test(sellumaq_judy1 *set, uint64_t key);
+bool sellumaq_judy1_test(const sellumaq_judy1 *set, uint64_t key);
 
 /* The nearest keys: the least from `from` on, the least above it, the greatest up to it, the greatest below it. False where
  * there is none. */
-bool sellumaq_judy1_first(sellumaq_judy1 *set, uint64_t from, uint64_t *key);
-bool sellumaq_judy1_next(sellumaq_judy1 *set, uint64_t from, uint64_t *key);
-bool sellumaq_judy1_last(sellumaq_judy1 *set, uint64_t from, uint64_t *key);
-bool sellumaq_judy1_prev(sellumaq_judy1 *set, uint64_t from, uint64_t *key);
+bool sellumaq_judy1_first(const sellumaq_judy1 *set, uint64_t from, uint64_t *key);
+bool sellumaq_judy1_next(const sellumaq_judy1 *set, uint64_t from, uint64_t *key);
+bool sellumaq_judy1_last(const sellumaq_judy1 *set, uint64_t from, uint64_t *key);
+bool sellumaq_judy1_prev(const sellumaq_judy1 *set, uint64_t from, uint64_t *key);
 
 /* The same four among the words that are no keys. */
-bool sellumaq_judy1_first_empty(sellumaq_judy1 *set, uint64_t from, uint64_t *word);
-bool sellumaq_judy1_next_empty(sellumaq_judy1 *set, uint64_t from, uint64_t *word);
-bool sellumaq_judy1_last_empty(sellumaq_judy1 *set, uint64_t from, uint64_t *word);
-bool sellumaq_judy1_prev_empty(sellumaq_judy1 *set, uint64_t from, uint64_t *word);
+bool sellumaq_judy1_first_empty(const sellumaq_judy1 *set, uint64_t from, uint64_t *word);
+bool sellumaq_judy1_next_empty(const sellumaq_judy1 *set, uint64_t from, uint64_t *word);
+bool sellumaq_judy1_last_empty(const sellumaq_judy1 *set, uint64_t from, uint64_t *word);
+bool sellumaq_judy1_prev_empty(const sellumaq_judy1 *set, uint64_t from, uint64_t *word);
 
 /* How many keys there are. */
-uint64_t sellumaq_judy1_len(sellumaq_judy1 *set);
+uint64_t sellumaq_judy1_len(const sellumaq_judy1 *set);
 
 /* How many keys there are from one word to another, both included; 0 where the first is above the second. */
-uint64_t sellumaq_judy1_count(sellumaq_judy1 *set, uint64_t from, uint64_t to);
+uint64_t sellumaq_judy1_count(const sellumaq_judy1 *set, uint64_t from, uint64_t to);
 
 /* The n-th key, counted from 1; false for 0 and above the number of keys. */
-bool sellumaq_judy1_by_count(sellumaq_judy1 *set, uint64_t n, uint64_t *key);
+bool sellumaq_judy1_by_count(const sellumaq_judy1 *set, uint64_t n, uint64_t *key);
 
 /* Gives all memory back, and answers how many keys there were. The handle is the empty array then. */
 uint64_t sellumaq_judy1_free(sellumaq_judy1 *set);
@@ -87,41 +93,42 @@ bool sellumaq_judyl_ins(sellumaq_judyl *map, uint64_t key, uint64_t **slot);
 uint32_t sellumaq_judyl_put(sellumaq_judyl *map, uint64_t key, uint64_t value);
 
 /* The value of a key; false where the key is absent. */
-bool sellumaq_judyl_get(sellumaq_judyl *map, uint64_t key, uint64_t *value);
+bool sellumaq_judyl_get(const sellumaq_judyl *map, uint64_t key, uint64_t *value);
 
 /* The slot of a key; false where the key is absent. */
-bool sellumaq_judyl_slot(sellumaq_judyl *map, uint64_t key, uint64_t **slot);
+bool sellumaq_judyl_slot(const sellumaq_judyl *map, uint64_t key, uint64_t **slot);
 
-/* Takes a key out with its value; true where it was there. Never refused. */
+/* Takes a key out with its value; true where it was there. Never refused. After the last key the handle may still hold a little memory,
+ * up to `free`. */
 bool sellumaq_judyl_del(sellumaq_judyl *map, uint64_t key);
 
 /* The nearest keys: the least from `from` on, the least above it, the greatest up to it, the greatest below it. False where
  * there is none. */
-bool sellumaq_judyl_first(sellumaq_judyl *map, uint64_t from, uint64_t *key);
-bool sellumaq_judyl_next(sellumaq_judyl *map, uint64_t from, uint64_t *key);
-bool sellumaq_judyl_last(sellumaq_judyl *map, uint64_t from, uint64_t *key);
-bool sellumaq_judyl_prev(sellumaq_judyl *map, uint64_t from, uint64_t *key);
+bool sellumaq_judyl_first(const sellumaq_judyl *map, uint64_t from, uint64_t *key);
+bool sellumaq_judyl_next(const sellumaq_judyl *map, uint64_t from, uint64_t *key);
+bool sellumaq_judyl_last(const sellumaq_judyl *map, uint64_t from, uint64_t *key);
+bool sellumaq_judyl_prev(const sellumaq_judyl *map, uint64_t from, uint64_t *key);
 
 /* The same four keys with their values, each in one way down the map: a walk over keys and values takes half as long by these. */
-bool sellumaq_judyl_first_entry(sellumaq_judyl *map, uint64_t from, uint64_t *key, uint64_t *value);
-bool sellumaq_judyl_next_entry(sellumaq_judyl *map, uint64_t from, uint64_t *key, uint64_t *value);
-bool sellumaq_judyl_last_entry(sellumaq_judyl *map, uint64_t from, uint64_t *key, uint64_t *value);
-bool sellumaq_judyl_prev_entry(sellumaq_judyl *map, uint64_t from, uint64_t *key, uint64_t *value);
+bool sellumaq_judyl_first_entry(const sellumaq_judyl *map, uint64_t from, uint64_t *key, uint64_t *value);
+bool sellumaq_judyl_next_entry(const sellumaq_judyl *map, uint64_t from, uint64_t *key, uint64_t *value);
+bool sellumaq_judyl_last_entry(const sellumaq_judyl *map, uint64_t from, uint64_t *key, uint64_t *value);
+bool sellumaq_judyl_prev_entry(const sellumaq_judyl *map, uint64_t from, uint64_t *key, uint64_t *value);
 
 /* The same four among the words that are no keys. */
-bool sellumaq_judyl_first_empty(sellumaq_judyl *map, uint64_t from, uint64_t *word);
-bool sellumaq_judyl_next_empty(sellumaq_judyl *map, uint64_t from, uint64_t *word);
-bool sellumaq_judyl_last_empty(sellumaq_judyl *map, uint64_t from, uint64_t *word);
-bool sellumaq_judyl_prev_empty(sellumaq_judyl *map, uint64_t from, uint64_t *word);
+bool sellumaq_judyl_first_empty(const sellumaq_judyl *map, uint64_t from, uint64_t *word);
+bool sellumaq_judyl_next_empty(const sellumaq_judyl *map, uint64_t from, uint64_t *word);
+bool sellumaq_judyl_last_empty(const sellumaq_judyl *map, uint64_t from, uint64_t *word);
+bool sellumaq_judyl_prev_empty(const sellumaq_judyl *map, uint64_t from, uint64_t *word);
 
 /* How many keys there are. */
-uint64_t sellumaq_judyl_len(sellumaq_judyl *map);
+uint64_t sellumaq_judyl_len(const sellumaq_judyl *map);
 
 /* How many keys there are from one word to another, both included; 0 where the first is above the second. */
-uint64_t sellumaq_judyl_count(sellumaq_judyl *map, uint64_t from, uint64_t to);
+uint64_t sellumaq_judyl_count(const sellumaq_judyl *map, uint64_t from, uint64_t to);
 
 /* The n-th key, counted from 1; false for 0 and above the number of keys. */
-bool sellumaq_judyl_by_count(sellumaq_judyl *map, uint64_t n, uint64_t *key);
+bool sellumaq_judyl_by_count(const sellumaq_judyl *map, uint64_t n, uint64_t *key);
 
 /* Gives all memory back, and answers how many keys there were. The handle is the empty array then. */
 uint64_t sellumaq_judyl_free(sellumaq_judyl *map);
@@ -130,16 +137,6 @@ uint64_t sellumaq_judyl_free(sellumaq_judyl *map);
 
 /* The most bytes of a key. */
 #define SELLUMAQ_KEY_BYTES 1024
-
-/* What their calls answer where there is more to tell than yes and no. */
-enum {
-    SELLUMAQ_NONE = 0,     /* there is no such key */
-    SELLUMAQ_FOUND = 1,    /* the key is there, and what was asked of it is told */
-    /* SELLUMAQ_NO_MEMORY = 2: the key is absent, and there is no memory for it */
-    SELLUMAQ_FULL = 3,     /* the key is absent, and the map holds 4,294,967,295 keys */
-    SELLUMAQ_BAD_KEY = 4,  /* the bytes are no key */
-    SELLUMAQ_TOO_SMALL = 5 /* the key found doesn't fit the caller's buffer */
-};
 
 /* ---- maps from strings to words ----
  *
@@ -154,12 +151,13 @@ typedef struct { void *array; } sellumaq_judysl;
 uint32_t sellumaq_judysl_ins(sellumaq_judysl *map, const uint8_t *key, size_t length, uint64_t **slot);
 
 /* The value of a key; false where the key is absent, as bytes that are no key always are. */
-bool sellumaq_judysl_get(sellumaq_judysl *map, const uint8_t *key, size_t length, uint64_t *value);
+bool sellumaq_judysl_get(const sellumaq_judysl *map, const uint8_t *key, size_t length, uint64_t *value);
 
 /* The slot of a key; false where the key is absent. */
-bool sellumaq_judysl_slot(sellumaq_judysl *map, const uint8_t *key, size_t length, uint64_t **slot);
+bool sellumaq_judysl_slot(const sellumaq_judysl *map, const uint8_t *key, size_t length, uint64_t **slot);
 
-/* Takes a key out with its value; true where it was there. Never refused. */
+/* Takes a key out with its value; true where it was there. Never refused. After the last key the handle may still hold a little memory,
+ * up to `free`. */
 bool sellumaq_judysl_del(sellumaq_judysl *map, const uint8_t *key, size_t length);
 
 /* The nearest keys: the least from a string on, the least above it, the greatest up to it, the greatest below it. The string is the
@@ -167,13 +165,13 @@ bool sellumaq_judysl_del(sellumaq_judysl *map, const uint8_t *key, size_t length
  * found has taken its place, `*length` is the key's length and `*value` its value. Else nothing is written: SELLUMAQ_NONE where
  * there is none; SELLUMAQ_TOO_SMALL where it doesn't fit the buffer (SELLUMAQ_KEY_BYTES are enough for each); SELLUMAQ_BAD_KEY
  * where a map can't hold the string, or `*length` is above `capacity`. */
-uint32_t sellumaq_judysl_first(sellumaq_judysl *map, uint8_t *buffer, size_t capacity, size_t *length, uint64_t *value);
-uint32_t sellumaq_judysl_next(sellumaq_judysl *map, uint8_t *buffer, size_t capacity, size_t *length, uint64_t *value);
-uint32_t sellumaq_judysl_last(sellumaq_judysl *map, uint8_t *buffer, size_t capacity, size_t *length, uint64_t *value);
-uint32_t sellumaq_judysl_prev(sellumaq_judysl *map, uint8_t *buffer, size_t capacity, size_t *length, uint64_t *value);
+uint32_t sellumaq_judysl_first(const sellumaq_judysl *map, uint8_t *buffer, size_t capacity, size_t *length, uint64_t *value);
+uint32_t sellumaq_judysl_next(const sellumaq_judysl *map, uint8_t *buffer, size_t capacity, size_t *length, uint64_t *value);
+uint32_t sellumaq_judysl_last(const sellumaq_judysl *map, uint8_t *buffer, size_t capacity, size_t *length, uint64_t *value);
+uint32_t sellumaq_judysl_prev(const sellumaq_judysl *map, uint8_t *buffer, size_t capacity, size_t *length, uint64_t *value);
 
 /* How many keys there are. */
-uint64_t sellumaq_judysl_len(sellumaq_judysl *map);
+uint64_t sellumaq_judysl_len(const sellumaq_judysl *map);
 
 /* Gives all memory back, and answers how many keys there were. The handle is the empty array then. */
 uint64_t sellumaq_judysl_free(sellumaq_judysl *map);
@@ -190,16 +188,17 @@ typedef struct { void *array; } sellumaq_judyhs;
 uint32_t sellumaq_judyhs_ins(sellumaq_judyhs *map, const uint8_t *key, size_t length, uint64_t **slot);
 
 /* The value of a key; false where the key is absent, as longer ones always are. */
-bool sellumaq_judyhs_get(sellumaq_judyhs *map, const uint8_t *key, size_t length, uint64_t *value);
+bool sellumaq_judyhs_get(const sellumaq_judyhs *map, const uint8_t *key, size_t length, uint64_t *value);
 
 /* The slot of a key; false where the key is absent. */
-bool sellumaq_judyhs_slot(sellumaq_judyhs *map, const uint8_t *key, size_t length, uint64_t **slot);
+bool sellumaq_judyhs_slot(const sellumaq_judyhs *map, const uint8_t *key, size_t length, uint64_t **slot);
 
-/* Takes a key out with its value; true where it was there. Never refused. */
+/* Takes a key out with its value; true where it was there. Never refused. After the last key the handle may still hold a little memory,
+ * up to `free`. */
 bool sellumaq_judyhs_del(sellumaq_judyhs *map, const uint8_t *key, size_t length);
 
 /* How many keys there are. */
-uint64_t sellumaq_judyhs_len(sellumaq_judyhs *map);
+uint64_t sellumaq_judyhs_len(const sellumaq_judyhs *map);
 
 /* Gives all memory back, and answers how many keys there were. The handle is the empty array then. */
 uint64_t sellumaq_judyhs_free(sellumaq_judyhs *map);

@@ -1,25 +1,39 @@
 /* HP's names for Judy arrays, over Sellumaq: what the manual pages Judy1(3), JudyL(3), JudySL(3) and JudyHS(3) say of their functions,
- * so that a program written for libJudy compiles and links unchanged. Its functions are in libsellumaq.
+ * so that a program written for libJudy compiles and links unchanged. Its functions are in this project's libJudy.
  *
  * What differs from HP's library:
- *   - The four `FreeArray` answer how many keys the array held, not how many bytes it took, and `Judy1MemUsed`, `JudyLMemUsed` and their
- *     `MemActive` answer 0: bytes aren't counted.
  *   - A string or byte string that is a key has at most 1,024 bytes, and their arrays hold at most 4,294,967,295 keys. An insert beyond
- *     either is refused with JU_ERRNO_FULL, and so is a search from a longer string. A longer one is found absent, and never deleted.
- *   - An array is found corrupt or of another kind by no call, so of the error numbers only those below come.
+ *     either is refused with JU_ERRNO_FULL. A longer string is found absent, and never deleted; a search may begin at it.
+ *   - `MemUsed` and `FreeArray` answer the bytes of the array's blocks as malloc gave them (malloc_usable_size(3)), and `MemActive`
+ *     the same as `MemUsed`.
+ *   - An array is found corrupt or of another kind by no call, so of the error numbers only those below with a comment come.
  */
 #ifndef SELLUMAQ_HP_JUDY_H
 #define SELLUMAQ_HP_JUDY_H
+#define _JUDY_INCLUDED
 
-#include <stdint.h>
+#include <inttypes.h>
+#include <limits.h>
+#include <stddef.h>
+#include <stdio.h>
+#include <stdlib.h>
 
 #ifdef __cplusplus
 extern "C" {
 #endif
 
+#ifndef _WORD_T
+#define _WORD_T
 typedef unsigned long Word_t, *PWord_t;
+#endif
+#ifndef _PVOID_T
+#define _PVOID_T
 typedef void *Pvoid_t, **PPvoid_t;
+#endif
+#ifndef _PCVOID_T
+#define _PCVOID_T
 typedef const void *Pcvoid_t;
+#endif
 
 /* Why a call answered JERR or PPJERR. */
 typedef enum {
@@ -34,9 +48,9 @@ typedef enum {
     JU_ERRNO_NOTJUDYSL = 7,
     JU_ERRNO_OVERRUN = 8,
     JU_ERRNO_CORRUPT = 9,
-    JU_ERRNO_NONNULLPARRAY = 10,
-    JU_ERRNO_NULLPVALUE = 11,
-    JU_ERRNO_UNSORTED = 12
+    JU_ERRNO_NONNULLPARRAY = 10, /* an array that is to be made from a list isn't empty */
+    JU_ERRNO_NULLPVALUE = 11,    /* no pointer to values */
+    JU_ERRNO_UNSORTED = 12       /* a list's keys don't ascend */
 } JU_Errno_t;
 
 typedef struct J_UDY_ERROR_STRUCT {
@@ -50,11 +64,14 @@ typedef struct J_UDY_ERROR_STRUCT {
 #define JERR (-1)
 #define PJERR ((Pvoid_t)(~0UL))
 #define PPJERR ((PPvoid_t)(~0UL))
-#define PJE0 ((PJError_t)0)
+#define PJE0 ((PJError_t)NULL)
+#define P_JE PJError_t PJError
+#define JLAP_INVALID 0x1 /* no array's word has this bit */
 
 int Judy1Test(Pcvoid_t array, Word_t key, PJError_t error);
 int Judy1Set(PPvoid_t array, Word_t key, PJError_t error);
 int Judy1Unset(PPvoid_t array, Word_t key, PJError_t error);
+int Judy1SetArray(PPvoid_t array, Word_t count, const Word_t *keys, PJError_t error);
 Word_t Judy1Count(Pcvoid_t array, Word_t from, Word_t to, PJError_t error);
 int Judy1ByCount(Pcvoid_t array, Word_t n, Word_t *key, PJError_t error);
 Word_t Judy1FreeArray(PPvoid_t array, PJError_t error);
@@ -71,6 +88,7 @@ int Judy1PrevEmpty(Pcvoid_t array, Word_t *word, PJError_t error);
 
 PPvoid_t JudyLGet(Pcvoid_t array, Word_t key, PJError_t error);
 PPvoid_t JudyLIns(PPvoid_t array, Word_t key, PJError_t error);
+int JudyLInsArray(PPvoid_t array, Word_t count, const Word_t *keys, const Word_t *values, PJError_t error);
 int JudyLDel(PPvoid_t array, Word_t key, PJError_t error);
 Word_t JudyLCount(Pcvoid_t array, Word_t from, Word_t to, PJError_t error);
 PPvoid_t JudyLByCount(Pcvoid_t array, Word_t n, Word_t *key, PJError_t error);
@@ -100,63 +118,110 @@ PPvoid_t JudyHSIns(PPvoid_t array, void *bytes, Word_t length, PJError_t error);
 int JudyHSDel(PPvoid_t array, void *bytes, Word_t length, PJError_t error);
 Word_t JudyHSFreeArray(PPvoid_t array, PJError_t error);
 
-/* The short forms: the answer goes into the first word named; on an error the program is told on standard error and ends, as
- * the manual pages say. The array is named as the variable that holds it. */
-void sellumaq_hp_stop(const char *call, const JError_t *error);
-#define SELLUMAQ_HP_TRY(name, answer, wrong, call) \
-    do { JError_t sellumaq_error; PJError_t je = &sellumaq_error; (answer) = (call); \
-         if ((answer) == (wrong)) sellumaq_hp_stop(name, je); } while (0)
+/* All blocks of all arrays are asked for by JudyMalloc, which takes and answers words, 0 where there are none, and given back by
+ * JudyFree. A program may define both itself. The other two are here for those that call or define them. */
+Word_t JudyMalloc(Word_t words);
+Word_t JudyMallocVirtual(Word_t words);
+void JudyFree(Pvoid_t block, Word_t words);
+void JudyFreeVirtual(Pvoid_t block, Word_t words);
 
-#define J1T(found, array, key) SELLUMAQ_HP_TRY("Judy1Test", found, JERR, Judy1Test((Pvoid_t)(array), key, je))
-#define J1S(found, array, key) SELLUMAQ_HP_TRY("Judy1Set", found, JERR, Judy1Set((PPvoid_t)(&(array)), key, je))
-#define J1U(found, array, key) SELLUMAQ_HP_TRY("Judy1Unset", found, JERR, Judy1Unset((PPvoid_t)(&(array)), key, je))
-#define J1C(count, array, from, to) ((count) = Judy1Count((Pvoid_t)(array), from, to, PJE0))
-#define J1BC(found, array, n, key) SELLUMAQ_HP_TRY("Judy1ByCount", found, JERR, Judy1ByCount((Pvoid_t)(array), n, &(key), je))
-#define J1FA(count, array) ((count) = Judy1FreeArray((PPvoid_t)(&(array)), PJE0))
-#define J1F(found, array, key) SELLUMAQ_HP_TRY("Judy1First", found, JERR, Judy1First((Pvoid_t)(array), &(key), je))
-#define J1N(found, array, key) SELLUMAQ_HP_TRY("Judy1Next", found, JERR, Judy1Next((Pvoid_t)(array), &(key), je))
-#define J1L(found, array, key) SELLUMAQ_HP_TRY("Judy1Last", found, JERR, Judy1Last((Pvoid_t)(array), &(key), je))
-#define J1P(found, array, key) SELLUMAQ_HP_TRY("Judy1Prev", found, JERR, Judy1Prev((Pvoid_t)(array), &(key), je))
-#define J1FE(found, array, word) SELLUMAQ_HP_TRY("Judy1FirstEmpty", found, JERR, Judy1FirstEmpty((Pvoid_t)(array), &(word), je))
-#define J1NE(found, array, word) SELLUMAQ_HP_TRY("Judy1NextEmpty", found, JERR, Judy1NextEmpty((Pvoid_t)(array), &(word), je))
-#define J1LE(found, array, word) SELLUMAQ_HP_TRY("Judy1LastEmpty", found, JERR, Judy1LastEmpty((Pvoid_t)(array), &(word), je))
-#define J1PE(found, array, word) SELLUMAQ_HP_TRY("Judy1PrevEmpty", found, JERR, Judy1PrevEmpty((Pvoid_t)(array), &(word), je))
-
-#define SELLUMAQ_HP_TRY_SLOT(name, slot, call) \
-    do { JError_t sellumaq_error; PJError_t je = &sellumaq_error; (slot) = (PWord_t)(call); \
-         if ((PPvoid_t)(slot) == PPJERR) sellumaq_hp_stop(name, je); } while (0)
-
-#define JLG(slot, array, key) SELLUMAQ_HP_TRY_SLOT("JudyLGet", slot, JudyLGet((Pvoid_t)(array), key, je))
-#define JLI(slot, array, key) SELLUMAQ_HP_TRY_SLOT("JudyLIns", slot, JudyLIns((PPvoid_t)(&(array)), key, je))
-#define JLD(found, array, key) SELLUMAQ_HP_TRY("JudyLDel", found, JERR, JudyLDel((PPvoid_t)(&(array)), key, je))
-#define JLC(count, array, from, to) ((count) = JudyLCount((Pvoid_t)(array), from, to, PJE0))
-#define JLBC(slot, array, n, key) SELLUMAQ_HP_TRY_SLOT("JudyLByCount", slot, JudyLByCount((Pvoid_t)(array), n, &(key), je))
-#define JLFA(count, array) ((count) = JudyLFreeArray((PPvoid_t)(&(array)), PJE0))
-#define JLF(slot, array, key) SELLUMAQ_HP_TRY_SLOT("JudyLFirst", slot, JudyLFirst((Pvoid_t)(array), &(key), je))
-#define JLN(slot, array, key) SELLUMAQ_HP_TRY_SLOT("JudyLNext", slot, JudyLNext((Pvoid_t)(array), &(key), je))
-#define JLL(slot, array, key) SELLUMAQ_HP_TRY_SLOT("JudyLLast", slot, JudyLLast((Pvoid_t)(array), &(key), je))
-#define JLP(slot, array, key) SELLUMAQ_HP_TRY_SLOT("JudyLPrev", slot, JudyLPrev((Pvoid_t)(array), &(key), je))
-#define JLFE(found, array, word) SELLUMAQ_HP_TRY("JudyLFirstEmpty", found, JERR, JudyLFirstEmpty((Pvoid_t)(array), &(word), je))
-#define JLNE(found, array, word) SELLUMAQ_HP_TRY("JudyLNextEmpty", found, JERR, JudyLNextEmpty((Pvoid_t)(array), &(word), je))
-#define JLLE(found, array, word) SELLUMAQ_HP_TRY("JudyLLastEmpty", found, JERR, JudyLLastEmpty((Pvoid_t)(array), &(word), je))
-#define JLPE(found, array, word) SELLUMAQ_HP_TRY("JudyLPrevEmpty", found, JERR, JudyLPrevEmpty((Pvoid_t)(array), &(word), je))
-
-#define JSLG(slot, array, string) SELLUMAQ_HP_TRY_SLOT("JudySLGet", slot, JudySLGet((Pvoid_t)(array), string, je))
-#define JSLI(slot, array, string) SELLUMAQ_HP_TRY_SLOT("JudySLIns", slot, JudySLIns((PPvoid_t)(&(array)), string, je))
-#define JSLD(found, array, string) SELLUMAQ_HP_TRY("JudySLDel", found, JERR, JudySLDel((PPvoid_t)(&(array)), string, je))
-#define JSLFA(count, array) ((count) = JudySLFreeArray((PPvoid_t)(&(array)), PJE0))
-#define JSLF(slot, array, string) SELLUMAQ_HP_TRY_SLOT("JudySLFirst", slot, JudySLFirst((Pvoid_t)(array), string, je))
-#define JSLN(slot, array, string) SELLUMAQ_HP_TRY_SLOT("JudySLNext", slot, JudySLNext((Pvoid_t)(array), string, je))
-#define JSLL(slot, array, string) SELLUMAQ_HP_TRY_SLOT("JudySLLast", slot, JudySLLast((Pvoid_t)(array), string, je))
-#define JSLP(slot, array, string) SELLUMAQ_HP_TRY_SLOT("JudySLPrev", slot, JudySLPrev((Pvoid_t)(array), string, je))
-
-#define JHSG(slot, array, bytes, length) ((slot) = (PWord_t)JudyHSGet((Pvoid_t)(array), (void *)(bytes), length))
-#define JHSI(slot, array, bytes, length) SELLUMAQ_HP_TRY_SLOT("JudyHSIns", slot, JudyHSIns((PPvoid_t)(&(array)), (void *)(bytes), length, je))
-#define JHSD(found, array, bytes, length) SELLUMAQ_HP_TRY("JudyHSDel", found, JERR, JudyHSDel((PPvoid_t)(&(array)), (void *)(bytes), length, je))
-#define JHSFA(count, array) ((count) = JudyHSFreeArray((PPvoid_t)(&(array)), PJE0))
+/* For those that link against them: no sizes are told. */
+extern const char *Judy1MallocSizes;
+extern const char *JudyLMallocSizes;
 
 #ifdef __cplusplus
 }
 #endif
+
+/* The short forms: the answer goes into the first word named, and the array is named as the variable that holds it. On an error
+ * JUDYERROR is called, which a program may define before it includes this header. With JUDYERROR_NOTEST it isn't called, and the
+ * answer tells the error. Each is a block, as HP's are, or an expression where no error can come. */
+#ifdef JUDYERROR_NOTEST
+
+#define J_SE(name, number) ((void)0)
+#define SELLUMAQ_J_ANSWER(type, answer, wrong, name, call) { PJError_t sellumaq_j_told = PJE0; (answer) = (call); (void)sellumaq_j_told; }
+#define SELLUMAQ_J_SLOT(slot, name, call) { PJError_t sellumaq_j_told = PJE0; (slot) = SELLUMAQ_J_POINTER(call); (void)sellumaq_j_told; }
+
+#else
+
+#ifndef JUDYERROR
+#define JUDYERROR(file, line, name, number, place) \
+    { fprintf(stderr, "File '%s', line %d: %s(), JU_ERRNO_* == %d, ID == %d\n", file, line, name, (int)(number), place); exit(1); }
+#endif
+
+#define J_E(name, error) JUDYERROR(__FILE__, __LINE__, name, JU_ERRNO(error), JU_ERRID(error))
+#define J_SE(name, number) \
+    { JError_t sellumaq_j_error; JU_ERRNO(&sellumaq_j_error) = (number); JU_ERRID(&sellumaq_j_error) = __LINE__; J_E(name, &sellumaq_j_error); }
+#define SELLUMAQ_J_ANSWER(type, answer, wrong, name, call) \
+    { JError_t sellumaq_j_error; PJError_t sellumaq_j_told = &sellumaq_j_error; type sellumaq_j_answer = (call); \
+      (answer) = sellumaq_j_answer; if (sellumaq_j_answer == (type)(wrong)) J_E(name, sellumaq_j_told); }
+#define SELLUMAQ_J_SLOT(slot, name, call) \
+    { JError_t sellumaq_j_error; PJError_t sellumaq_j_told = &sellumaq_j_error; PPvoid_t sellumaq_j_slot = (call); \
+      (slot) = SELLUMAQ_J_POINTER(sellumaq_j_slot); if (sellumaq_j_slot == PPJERR) J_E(name, sellumaq_j_told); }
+
+#endif
+
+/* A slot is a pointer of any type to the program. */
+#ifdef __cplusplus
+struct sellumaq_j_pointer {
+    void *at;
+    template <class Type> operator Type *() const { return static_cast<Type *>(at); }
+};
+static inline sellumaq_j_pointer sellumaq_j_pointed(PPvoid_t slot) { sellumaq_j_pointer pointer = {slot}; return pointer; }
+#define SELLUMAQ_J_POINTER(slot) sellumaq_j_pointed(slot)
+#else
+#define SELLUMAQ_J_POINTER(slot) ((Pvoid_t)(slot))
+#endif
+
+#define SELLUMAQ_J_INT(answer, name, call) SELLUMAQ_J_ANSWER(int, answer, JERR, name, call)
+#define SELLUMAQ_J_WORD(answer, name, call) SELLUMAQ_J_ANSWER(Word_t, answer, JERR, name, call)
+
+#define J1T(found, array, key) ((found) = Judy1Test((Pcvoid_t)(array), key, PJE0))
+#define J1S(found, array, key) SELLUMAQ_J_INT(found, "Judy1Set", Judy1Set(&(array), key, sellumaq_j_told))
+#define J1SA(found, array, count, keys) SELLUMAQ_J_INT(found, "Judy1SetArray", Judy1SetArray(&(array), count, keys, sellumaq_j_told))
+#define J1U(found, array, key) SELLUMAQ_J_INT(found, "Judy1Unset", Judy1Unset(&(array), key, sellumaq_j_told))
+#define J1C(count, array, from, to) ((count) = Judy1Count((Pcvoid_t)(array), from, to, PJE0))
+#define J1BC(found, array, n, key) SELLUMAQ_J_INT(found, "Judy1ByCount", Judy1ByCount((Pcvoid_t)(array), n, &(key), sellumaq_j_told))
+#define J1FA(bytes, array) SELLUMAQ_J_WORD(bytes, "Judy1FreeArray", Judy1FreeArray(&(array), sellumaq_j_told))
+#define J1MU(bytes, array) ((bytes) = Judy1MemUsed((Pcvoid_t)(array)))
+#define J1F(found, array, key) SELLUMAQ_J_INT(found, "Judy1First", Judy1First((Pcvoid_t)(array), &(key), sellumaq_j_told))
+#define J1N(found, array, key) SELLUMAQ_J_INT(found, "Judy1Next", Judy1Next((Pcvoid_t)(array), &(key), sellumaq_j_told))
+#define J1L(found, array, key) SELLUMAQ_J_INT(found, "Judy1Last", Judy1Last((Pcvoid_t)(array), &(key), sellumaq_j_told))
+#define J1P(found, array, key) SELLUMAQ_J_INT(found, "Judy1Prev", Judy1Prev((Pcvoid_t)(array), &(key), sellumaq_j_told))
+#define J1FE(found, array, word) SELLUMAQ_J_INT(found, "Judy1FirstEmpty", Judy1FirstEmpty((Pcvoid_t)(array), &(word), sellumaq_j_told))
+#define J1NE(found, array, word) SELLUMAQ_J_INT(found, "Judy1NextEmpty", Judy1NextEmpty((Pcvoid_t)(array), &(word), sellumaq_j_told))
+#define J1LE(found, array, word) SELLUMAQ_J_INT(found, "Judy1LastEmpty", Judy1LastEmpty((Pcvoid_t)(array), &(word), sellumaq_j_told))
+#define J1PE(found, array, word) SELLUMAQ_J_INT(found, "Judy1PrevEmpty", Judy1PrevEmpty((Pcvoid_t)(array), &(word), sellumaq_j_told))
+
+#define JLG(slot, array, key) ((slot) = SELLUMAQ_J_POINTER(JudyLGet((Pcvoid_t)(array), key, PJE0)))
+#define JLI(slot, array, key) SELLUMAQ_J_SLOT(slot, "JudyLIns", JudyLIns(&(array), key, sellumaq_j_told))
+#define JLIA(found, array, count, keys, values) SELLUMAQ_J_INT(found, "JudyLInsArray", JudyLInsArray(&(array), count, keys, values, sellumaq_j_told))
+#define JLD(found, array, key) SELLUMAQ_J_INT(found, "JudyLDel", JudyLDel(&(array), key, sellumaq_j_told))
+#define JLC(count, array, from, to) ((count) = JudyLCount((Pcvoid_t)(array), from, to, PJE0))
+#define JLBC(slot, array, n, key) SELLUMAQ_J_SLOT(slot, "JudyLByCount", JudyLByCount((Pcvoid_t)(array), n, &(key), sellumaq_j_told))
+#define JLFA(bytes, array) SELLUMAQ_J_WORD(bytes, "JudyLFreeArray", JudyLFreeArray(&(array), sellumaq_j_told))
+#define JLMU(bytes, array) ((bytes) = JudyLMemUsed((Pcvoid_t)(array)))
+#define JLF(slot, array, key) SELLUMAQ_J_SLOT(slot, "JudyLFirst", JudyLFirst((Pcvoid_t)(array), &(key), sellumaq_j_told))
+#define JLN(slot, array, key) SELLUMAQ_J_SLOT(slot, "JudyLNext", JudyLNext((Pcvoid_t)(array), &(key), sellumaq_j_told))
+#define JLL(slot, array, key) SELLUMAQ_J_SLOT(slot, "JudyLLast", JudyLLast((Pcvoid_t)(array), &(key), sellumaq_j_told))
+#define JLP(slot, array, key) SELLUMAQ_J_SLOT(slot, "JudyLPrev", JudyLPrev((Pcvoid_t)(array), &(key), sellumaq_j_told))
+#define JLFE(found, array, word) SELLUMAQ_J_INT(found, "JudyLFirstEmpty", JudyLFirstEmpty((Pcvoid_t)(array), &(word), sellumaq_j_told))
+#define JLNE(found, array, word) SELLUMAQ_J_INT(found, "JudyLNextEmpty", JudyLNextEmpty((Pcvoid_t)(array), &(word), sellumaq_j_told))
+#define JLLE(found, array, word) SELLUMAQ_J_INT(found, "JudyLLastEmpty", JudyLLastEmpty((Pcvoid_t)(array), &(word), sellumaq_j_told))
+#define JLPE(found, array, word) SELLUMAQ_J_INT(found, "JudyLPrevEmpty", JudyLPrevEmpty((Pcvoid_t)(array), &(word), sellumaq_j_told))
+
+#define JSLG(slot, array, string) SELLUMAQ_J_SLOT(slot, "JudySLGet", JudySLGet((Pcvoid_t)(array), string, sellumaq_j_told))
+#define JSLI(slot, array, string) SELLUMAQ_J_SLOT(slot, "JudySLIns", JudySLIns(&(array), string, sellumaq_j_told))
+#define JSLD(found, array, string) SELLUMAQ_J_INT(found, "JudySLDel", JudySLDel(&(array), string, sellumaq_j_told))
+#define JSLFA(bytes, array) SELLUMAQ_J_WORD(bytes, "JudySLFreeArray", JudySLFreeArray(&(array), sellumaq_j_told))
+#define JSLF(slot, array, string) SELLUMAQ_J_SLOT(slot, "JudySLFirst", JudySLFirst((Pcvoid_t)(array), string, sellumaq_j_told))
+#define JSLN(slot, array, string) SELLUMAQ_J_SLOT(slot, "JudySLNext", JudySLNext((Pcvoid_t)(array), string, sellumaq_j_told))
+#define JSLL(slot, array, string) SELLUMAQ_J_SLOT(slot, "JudySLLast", JudySLLast((Pcvoid_t)(array), string, sellumaq_j_told))
+#define JSLP(slot, array, string) SELLUMAQ_J_SLOT(slot, "JudySLPrev", JudySLPrev((Pcvoid_t)(array), string, sellumaq_j_told))
+
+#define JHSG(slot, array, bytes, length) ((slot) = SELLUMAQ_J_POINTER(JudyHSGet((Pcvoid_t)(array), (Pvoid_t)(bytes), length)))
+#define JHSI(slot, array, bytes, length) SELLUMAQ_J_SLOT(slot, "JudyHSIns", JudyHSIns(&(array), (Pvoid_t)(bytes), length, sellumaq_j_told))
+#define JHSD(found, array, bytes, length) SELLUMAQ_J_INT(found, "JudyHSDel", JudyHSDel(&(array), (Pvoid_t)(bytes), length, sellumaq_j_told))
+#define JHSFA(bytes, array) SELLUMAQ_J_WORD(bytes, "JudyHSFreeArray", JudyHSFreeArray(&(array), sellumaq_j_told))
 
 #endif

@@ -1,9 +1,9 @@
-/* HP's names over Sellumaq's calls. Nothing is decided here but what the manual pages say of null pointers and of the errors. */
+/* HP's names over Sellumaq's calls. Nothing is decided here but what the manual pages say of null pointers and of the errors, and how
+ * many bytes an array has. */
 #include "Judy.h"
 #include "../sellumaq.h"
+#include "memory.h"
 
-#include <stdio.h>
-#include <stdlib.h>
 #include <string.h>
 
 _Static_assert(sizeof(Word_t) == sizeof(uint64_t), "a word has 64 bits");
@@ -25,10 +25,38 @@ static PPvoid_t refuse_slot(PJError_t error, JU_Errno_t number) {
     return PPJERR;
 }
 
-void sellumaq_hp_stop(const char *call, const JError_t *error) {
-    fprintf(stderr, "%s: error %d\n", call, (int)error->je_Errno);
-    exit(1);
+/* A change of an array: whether it is to be made first, and the thread's balance of bytes before. */
+typedef struct { int is_new; Word_t before; } change;
+
+static change begin(PPvoid_t array) {
+    sellumaq_hp_begin(*array);
+    return (change){!*array, sellumaq_hp_balance()};
 }
+
+/* Ends it: what the balance has grown by are bytes of the array's. */
+static void end(PPvoid_t array, change change) {
+    if (!*array) return;
+    Word_t *bytes = sellumaq_hp_bytes(*array);
+    *bytes = (change.is_new ? 0 : *bytes) + sellumaq_hp_balance() - change.before;
+}
+
+/* What an array that holds no key is after a change: null, as the manual pages say. And its end as a whole, which answers its bytes. */
+#define ENDS(kind) \
+    static void kind##_end(PPvoid_t array, change change) { \
+        sellumaq_##kind *held = (sellumaq_##kind *)array; \
+        if (*array && !sellumaq_##kind##_len(held)) sellumaq_##kind##_free(held); \
+        end(array, change); \
+    } \
+    static Word_t kind##_freed(PPvoid_t array) { \
+        Word_t before = sellumaq_hp_balance(); \
+        sellumaq_##kind##_free((sellumaq_##kind *)array); \
+        return before - sellumaq_hp_balance(); \
+    }
+
+ENDS(judy1)
+ENDS(judyl)
+ENDS(judysl)
+ENDS(judyhs)
 
 /* A change of an array that the caller names by a pointer. */
 #define CHANGES(refused) \
@@ -48,34 +76,46 @@ void sellumaq_hp_stop(const char *call, const JError_t *error) {
 
 int Judy1Set(PPvoid_t array, Word_t key, PJError_t error) {
     CHANGES(refuse);
+    change change = begin(array);
     uint32_t done = sellumaq_judy1_set((sellumaq_judy1 *)array, key);
+    judy1_end(array, change);
     return done == SELLUMAQ_NO_MEMORY ? refuse(error, JU_ERRNO_NOMEM) : (int)done;
 }
 
 int Judy1Unset(PPvoid_t array, Word_t key, PJError_t error) {
     CHANGES(refuse);
-    return sellumaq_judy1_unset((sellumaq_judy1 *)array, key);
+    change change = begin(array);
+    int was_there = sellumaq_judy1_unset((sellumaq_judy1 *)array, key);
+    judy1_end(array, change);
+    return was_there;
 }
 
 Word_t Judy1FreeArray(PPvoid_t array, PJError_t error) {
     CHANGES(refuse);
-    return sellumaq_judy1_free((sellumaq_judy1 *)array);
+    return judy1_freed(array);
 }
 
 PPvoid_t JudyLIns(PPvoid_t array, Word_t key, PJError_t error) {
     CHANGES(refuse_slot);
     uint64_t *slot;
-    return sellumaq_judyl_ins((sellumaq_judyl *)array, key, &slot) ? (PPvoid_t)slot : refuse_slot(error, JU_ERRNO_NOMEM);
+    change change = begin(array);
+    int is_there = sellumaq_judyl_ins((sellumaq_judyl *)array, key, &slot);
+    if (is_there) end(array, change);
+    else judyl_end(array, change);
+    return is_there ? (PPvoid_t)slot : refuse_slot(error, JU_ERRNO_NOMEM);
 }
 
 int JudyLDel(PPvoid_t array, Word_t key, PJError_t error) {
     CHANGES(refuse);
-    return sellumaq_judyl_del((sellumaq_judyl *)array, key);
+    change change = begin(array);
+    int was_there = sellumaq_judyl_del((sellumaq_judyl *)array, key);
+    judyl_end(array, change);
+    return was_there;
 }
 
 Word_t JudyLFreeArray(PPvoid_t array, PJError_t error) {
     CHANGES(refuse);
-    return sellumaq_judyl_free((sellumaq_judyl *)array);
+    return judyl_freed(array);
 }
 
 int Judy1Test(Pcvoid_t array, Word_t key, PJError_t error) {
@@ -155,28 +195,75 @@ Word_t JudyLCount(Pcvoid_t array, Word_t from, Word_t to, PJError_t error) {
     return sellumaq_judyl_count(&map, from, to);
 }
 
-/* Why an insert of a string handed out no slot. */
-static PPvoid_t refuse_insert(PJError_t error, uint32_t answer) {
+/* Whether a list's keys ascend. */
+static int ascend(const Word_t *keys, Word_t count) {
+    for (Word_t at = 1; at < count; at++)
+        if (keys[at - 1] >= keys[at]) return 0;
+    return 1;
+}
+
+/* What a list of keys asks of the caller, beside those. */
+#define MAKES \
+    CHANGES(refuse); \
+    if (*array) return refuse(error, JU_ERRNO_NONNULLPARRAY); \
+    if (!keys) return refuse(error, JU_ERRNO_NULLPINDEX)
+
+int Judy1SetArray(PPvoid_t array, Word_t count, const Word_t *keys, PJError_t error) {
+    MAKES;
+    if (!ascend(keys, count)) return refuse(error, JU_ERRNO_UNSORTED);
+    for (Word_t at = 0; at < count; at++) {
+        if (Judy1Set(array, keys[at], error) == 1) continue;
+        Judy1FreeArray(array, PJE0);
+        return JERR;
+    }
+    return 1;
+}
+
+int JudyLInsArray(PPvoid_t array, Word_t count, const Word_t *keys, const Word_t *values, PJError_t error) {
+    MAKES;
+    if (!values) return refuse(error, JU_ERRNO_NULLPVALUE);
+    if (!ascend(keys, count)) return refuse(error, JU_ERRNO_UNSORTED);
+    for (Word_t at = 0; at < count; at++) {
+        PPvoid_t slot = JudyLIns(array, keys[at], error);
+        if (slot != PPJERR) {
+            *(PWord_t)slot = values[at];
+            continue;
+        }
+        JudyLFreeArray(array, PJE0);
+        return JERR;
+    }
+    return 1;
+}
+
+/* The slot that an insert of a string hands out, or why it hands out none. */
+static PPvoid_t inserted(PJError_t error, uint32_t answer, uint64_t *slot) {
+    if (answer == SELLUMAQ_FOUND) return (PPvoid_t)slot;
     return refuse_slot(error, answer == SELLUMAQ_NO_MEMORY ? JU_ERRNO_NOMEM : JU_ERRNO_FULL);
 }
 
 PPvoid_t JudySLIns(PPvoid_t array, const uint8_t *string, PJError_t error) {
     CHANGES(refuse_slot);
     READS(refuse_slot);
-    uint64_t *slot;
+    uint64_t *slot = NULL;
+    change change = begin(array);
     uint32_t answer = sellumaq_judysl_ins((sellumaq_judysl *)array, string, strlen((const char *)string), &slot);
-    return answer == SELLUMAQ_FOUND ? (PPvoid_t)slot : refuse_insert(error, answer);
+    if (answer == SELLUMAQ_FOUND) end(array, change);
+    else judysl_end(array, change);
+    return inserted(error, answer, slot);
 }
 
 int JudySLDel(PPvoid_t array, const uint8_t *string, PJError_t error) {
     CHANGES(refuse);
     READS(refuse);
-    return sellumaq_judysl_del((sellumaq_judysl *)array, string, strlen((const char *)string));
+    change change = begin(array);
+    int was_there = sellumaq_judysl_del((sellumaq_judysl *)array, string, strlen((const char *)string));
+    judysl_end(array, change);
+    return was_there;
 }
 
 Word_t JudySLFreeArray(PPvoid_t array, PJError_t error) {
     CHANGES(refuse);
-    return sellumaq_judysl_free((sellumaq_judysl *)array);
+    return judysl_freed(array);
 }
 
 PPvoid_t JudySLGet(Pcvoid_t array, const uint8_t *string, PJError_t error) {
@@ -186,17 +273,18 @@ PPvoid_t JudySLGet(Pcvoid_t array, const uint8_t *string, PJError_t error) {
     return sellumaq_judysl_slot(&map, string, strlen((const char *)string), &slot) ? (PPvoid_t)slot : NULL;
 }
 
-typedef uint32_t scan(sellumaq_judysl *map, uint8_t *buffer, size_t capacity, size_t *length, uint64_t *value);
+typedef uint32_t scan(const sellumaq_judysl *map, uint8_t *buffer, size_t capacity, size_t *length, uint64_t *value);
 
 /* A search from a string, which the string found replaces. How much room the caller has for that isn't told, so it is found in a buffer
- * of this call's. */
-static PPvoid_t search(scan *call, Pcvoid_t array, uint8_t *string, PJError_t error) {
+ * of this call's. A string that is longer than a key may be is cut: no key lies between it and its longest beginning that is short enough,
+ * so that is searched from by another call. */
+static PPvoid_t search(scan *call, scan *cut, Pcvoid_t array, uint8_t *string, PJError_t error) {
     READS(refuse_slot);
     sellumaq_judysl map = {(void *)array};
     uint8_t buffer[SELLUMAQ_KEY_BYTES];
     uint64_t value;
-    size_t length = strlen((const char *)string);
-    if (length > sizeof buffer) return refuse_slot(error, JU_ERRNO_FULL);
+    size_t length = strnlen((const char *)string, sizeof buffer + 1);
+    if (length > sizeof buffer) length = sizeof buffer, call = cut;
     memcpy(buffer, string, length);
     if (call(&map, buffer, sizeof buffer, &length, &value) != SELLUMAQ_FOUND) return NULL;
     memcpy(string, buffer, length);
@@ -204,10 +292,13 @@ static PPvoid_t search(scan *call, Pcvoid_t array, uint8_t *string, PJError_t er
     return JudySLGet(array, string, error);
 }
 
-PPvoid_t JudySLFirst(Pcvoid_t array, uint8_t *string, PJError_t error) { return search(sellumaq_judysl_first, array, string, error); }
-PPvoid_t JudySLNext(Pcvoid_t array, uint8_t *string, PJError_t error) { return search(sellumaq_judysl_next, array, string, error); }
-PPvoid_t JudySLLast(Pcvoid_t array, uint8_t *string, PJError_t error) { return search(sellumaq_judysl_last, array, string, error); }
-PPvoid_t JudySLPrev(Pcvoid_t array, uint8_t *string, PJError_t error) { return search(sellumaq_judysl_prev, array, string, error); }
+#define STRING_SEARCH(name, call, cut) \
+    PPvoid_t name(Pcvoid_t array, uint8_t *string, PJError_t error) { return search(call, cut, array, string, error); }
+
+STRING_SEARCH(JudySLFirst, sellumaq_judysl_first, sellumaq_judysl_next)
+STRING_SEARCH(JudySLNext, sellumaq_judysl_next, sellumaq_judysl_next)
+STRING_SEARCH(JudySLLast, sellumaq_judysl_last, sellumaq_judysl_last)
+STRING_SEARCH(JudySLPrev, sellumaq_judysl_prev, sellumaq_judysl_last)
 
 /* A pointer to no bytes that isn't null. */
 static const uint8_t *bytes_at(const void *bytes) { return bytes ? bytes : (const uint8_t *)""; }
@@ -215,20 +306,26 @@ static const uint8_t *bytes_at(const void *bytes) { return bytes ? bytes : (cons
 PPvoid_t JudyHSIns(PPvoid_t array, void *bytes, Word_t length, PJError_t error) {
     CHANGES(refuse_slot);
     READS_BYTES(refuse_slot);
-    uint64_t *slot;
+    uint64_t *slot = NULL;
+    change change = begin(array);
     uint32_t answer = sellumaq_judyhs_ins((sellumaq_judyhs *)array, bytes_at(bytes), length, &slot);
-    return answer == SELLUMAQ_FOUND ? (PPvoid_t)slot : refuse_insert(error, answer);
+    if (answer == SELLUMAQ_FOUND) end(array, change);
+    else judyhs_end(array, change);
+    return inserted(error, answer, slot);
 }
 
 int JudyHSDel(PPvoid_t array, void *bytes, Word_t length, PJError_t error) {
     CHANGES(refuse);
     READS_BYTES(refuse);
-    return sellumaq_judyhs_del((sellumaq_judyhs *)array, bytes_at(bytes), length);
+    change change = begin(array);
+    int was_there = sellumaq_judyhs_del((sellumaq_judyhs *)array, bytes_at(bytes), length);
+    judyhs_end(array, change);
+    return was_there;
 }
 
 Word_t JudyHSFreeArray(PPvoid_t array, PJError_t error) {
     CHANGES(refuse);
-    return sellumaq_judyhs_free((sellumaq_judyhs *)array);
+    return judyhs_freed(array);
 }
 
 PPvoid_t JudyHSGet(Pcvoid_t array, void *bytes, Word_t length) {
@@ -239,8 +336,7 @@ PPvoid_t JudyHSGet(Pcvoid_t array, void *bytes, Word_t length) {
     return sellumaq_judyhs_slot(&map, bytes_at(bytes), length, &slot) ? (PPvoid_t)slot : NULL;
 }
 
-/* Bytes aren't counted. */
-Word_t Judy1MemUsed(Pcvoid_t array) { (void)array; return 0; }
-Word_t Judy1MemActive(Pcvoid_t array) { (void)array; return 0; }
-Word_t JudyLMemUsed(Pcvoid_t array) { (void)array; return 0; }
-Word_t JudyLMemActive(Pcvoid_t array) { (void)array; return 0; }
+Word_t Judy1MemUsed(Pcvoid_t array) { return array ? *sellumaq_hp_bytes(array) : 0; }
+Word_t Judy1MemActive(Pcvoid_t array) { return Judy1MemUsed(array); }
+Word_t JudyLMemUsed(Pcvoid_t array) { return array ? *sellumaq_hp_bytes(array) : 0; }
+Word_t JudyLMemActive(Pcvoid_t array) { return JudyLMemUsed(array); }

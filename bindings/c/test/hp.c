@@ -1,4 +1,4 @@
-/* The arrays by HP's names. Compiled against either header, this project's or libJudy's own, it runs over Sellumaq. */
+/* The arrays by HP's names. Compiled against either header, this project's or libJudy's own, it runs over Sellumaq's libJudy. */
 #include <Judy.h>
 
 #include <string.h>
@@ -29,8 +29,14 @@ static void sets(void) {
     J1PE(found, set, key); CHECK(found == 1 && key == 7);
     J1U(found, set, 5); CHECK(found == 1);
     J1U(found, set, 5); CHECK(found == 0);
-    CHECK(Judy1MemUsed(set) == 0 && Judy1MemActive(set) == 0);
-    J1FA(count, set); CHECK(count == 1 && set == NULL);
+    J1FA(count, set); CHECK(count > 0 && set == NULL);
+    Word_t keys[] = {2, 5, 5};
+    J1SA(found, set, 2, keys); CHECK(found == 1);
+    J1C(count, set, 2, 5); CHECK(count == 2);
+    J1U(found, set, 2); CHECK(found == 1 && set != NULL);
+    J1U(found, set, 5); CHECK(found == 1 && set == NULL);
+    J1U(found, set, 5); CHECK(found == 0 && set == NULL);
+    J1SA(found, set, 0, keys); CHECK(found == 1 && set == NULL);
 }
 
 static void maps(void) {
@@ -57,8 +63,12 @@ static void maps(void) {
     JLPE(found, map, key); CHECK(found == 1 && key == 7);
     JLD(found, map, 5); CHECK(found == 1);
     JLD(found, map, 5); CHECK(found == 0);
-    CHECK(JudyLMemUsed(map) == 0 && JudyLMemActive(map) == 0);
-    JLFA(count, map); CHECK(count == 1 && map == NULL);
+    JLFA(count, map); CHECK(count > 0 && map == NULL);
+    Word_t keys[] = {2, 5, 5}, values[] = {20, 50};
+    JLIA(found, map, 2, keys, values); CHECK(found == 1);
+    JLG(slot, map, 5); CHECK(*slot == 50);
+    JLD(found, map, 2); CHECK(found == 1 && map != NULL);
+    JLD(found, map, 5); CHECK(found == 1 && map == NULL);
 }
 
 static int reads(const uint8_t *string, const char *wanted) { return strcmp((const char *)string, wanted) == 0; }
@@ -83,14 +93,21 @@ static void strings(void) {
     strcpy((char *)string, "pears"); JSLL(slot, map, string); CHECK(*slot == 1 && reads(string, "pear"));
     JSLP(slot, map, string); CHECK(*slot == 3 && reads(string, "fig"));
     memset(longer, 'a', 1025), longer[1025] = 0;
-    CHECK(JudySLIns(&map, longer, PJE0) == PPJERR && JudySLFirst(map, longer, PJE0) == PPJERR);
+    CHECK(JudySLIns(&map, longer, PJE0) == PPJERR);
     JSLG(slot, map, longer); CHECK(slot == NULL);
     JSLD(found, map, longer); CHECK(found == 0);
-    longer[1024] = 0; JSLI(slot, map, longer); CHECK(*slot == 0);
-    JSLD(found, map, longer); CHECK(found == 1);
+    longer[1024] = 0; JSLI(slot, map, longer); CHECK(*slot == 0); *slot = 5;
+    longer[1024] = 'a'; JSLL(slot, map, longer); CHECK(*slot == 5 && longer[1023] == 'a' && !longer[1024]);
+    longer[1024] = 'a'; JSLP(slot, map, longer); CHECK(*slot == 5 && !longer[1024]);
+    longer[1024] = 'a'; JSLF(slot, map, longer); CHECK(*slot == 3 && reads(longer, "fig"));
+    memset(longer, 'a', 1025), longer[1025] = 0; JSLN(slot, map, longer); CHECK(*slot == 3 && reads(longer, "fig"));
+    memset(longer, 0xff, 1025); JSLL(slot, map, longer); CHECK(*slot == 2 && reads(longer, "pears of autumn"));
+    memset(longer, 'a', 1024), longer[1024] = 0; JSLD(found, map, longer); CHECK(found == 1);
     JSLD(found, map, string); CHECK(found == 1);
     JSLD(found, map, string); CHECK(found == 0);
-    JSLFA(count, map); CHECK(count == 3 && map == NULL);
+    JSLFA(count, map); CHECK(count > 0 && map == NULL);
+    JSLI(slot, map, string);
+    JSLD(found, map, string); CHECK(found == 1 && map == NULL);
 }
 
 static void byte_strings(void) {
@@ -111,10 +128,36 @@ static void byte_strings(void) {
     JHSD(found, map, bytes, 1025); CHECK(found == 0);
     JHSD(found, map, bytes, 4); CHECK(found == 1);
     JHSD(found, map, bytes, 4); CHECK(found == 0);
-    JHSFA(count, map); CHECK(count == 2 && map == NULL);
+    JHSFA(count, map); CHECK(count > 0 && map == NULL);
+    JHSI(slot, map, bytes, 9);
+    JHSD(found, map, bytes, 9); CHECK(found == 1 && map == NULL);
+    CHECK(JudyHSIns(&map, bytes, 1025, PJE0) == PPJERR && map == NULL);
 }
 
-/* What the manual pages say of null pointers. */
+/* The bytes of each array are its own, whatever the others take, and all of them are given back. */
+static void memory(void) {
+    Pvoid_t set = NULL, map = NULL, strings = NULL;
+    Word_t *slot, used, more, freed;
+    int found;
+    char string[8];
+    CHECK(Judy1MemUsed(set) == 0 && JudyLMemUsed(map) == 0);
+    J1S(found, set, 1);
+    J1MU(used, set); CHECK(used > 0 && used < 200 && Judy1MemActive(set) == used);
+    for (Word_t key = 0; key < 10000; key++) {
+        J1S(found, set, key * key);
+        JLI(slot, map, key * 99999999); *slot = key;
+        sprintf(string, "%d", (int)key);
+        JSLI(slot, strings, (const uint8_t *)string); *slot = key;
+    }
+    J1MU(used, set); JLMU(more, map); CHECK(10000 < used && more > 160000 && more < 400000);
+    JSLFA(freed, strings); CHECK(freed > 80000);
+    for (Word_t key = 10; key < 10000; key++) J1U(found, set, key * key);
+    J1MU(more, set); CHECK(found == 1 && more < 1000);
+    JLMU(used, map); JLFA(freed, map); CHECK(freed == used);
+    J1FA(freed, set); CHECK(freed == more);
+}
+
+/* What the manual pages say of null pointers, and of lists of keys. */
 static void refused(void) {
     JError_t error;
     Pvoid_t none = NULL;
@@ -139,8 +182,18 @@ static void refused(void) {
     CHECK(Judy1First(none, NULL, &error) == JERR && JU_ERRNO(&error) == JU_ERRNO_NULLPINDEX);
     CHECK(JudyLNext(none, NULL, &error) == PPJERR && JU_ERRNO(&error) == JU_ERRNO_NULLPINDEX);
     CHECK(JudyLPrevEmpty(none, NULL, &error) == JERR && JU_ERRNO(&error) == JU_ERRNO_NULLPINDEX);
+    Word_t keys[] = {5, 5};
+    CHECK(Judy1SetArray(NULL, 1, keys, &error) == JERR && JU_ERRNO(&error) == JU_ERRNO_NULLPPARRAY);
+    CHECK(Judy1SetArray(&none, 1, NULL, &error) == JERR && JU_ERRNO(&error) == JU_ERRNO_NULLPINDEX);
+    CHECK(Judy1SetArray(&none, 2, keys, &error) == JERR && JU_ERRNO(&error) == JU_ERRNO_UNSORTED && !none);
+    CHECK(JudyLInsArray(NULL, 1, keys, keys, &error) == JERR && JU_ERRNO(&error) == JU_ERRNO_NULLPPARRAY);
+    CHECK(JudyLInsArray(&none, 1, NULL, keys, &error) == JERR && JU_ERRNO(&error) == JU_ERRNO_NULLPINDEX);
+    CHECK(JudyLInsArray(&none, 1, keys, NULL, &error) == JERR && JU_ERRNO(&error) == JU_ERRNO_NULLPVALUE);
+    CHECK(JudyLInsArray(&none, 2, keys, keys, &error) == JERR && JU_ERRNO(&error) == JU_ERRNO_UNSORTED && !none);
     Pvoid_t set = NULL, map = NULL;
     CHECK(Judy1Set(&set, 3, &error) == 1 && JudyLIns(&map, 3, &error) != PPJERR);
+    CHECK(Judy1SetArray(&set, 1, keys, &error) == JERR && JU_ERRNO(&error) == JU_ERRNO_NONNULLPARRAY);
+    CHECK(JudyLInsArray(&map, 1, keys, keys, &error) == JERR && JU_ERRNO(&error) == JU_ERRNO_NONNULLPARRAY);
     CHECK(Judy1ByCount(set, 1, NULL, &error) == JERR && JU_ERRNO(&error) == JU_ERRNO_NULLPINDEX);
     CHECK(JudyLByCount(map, 1, NULL, &error) == PPJERR && JU_ERRNO(&error) == JU_ERRNO_NULLPINDEX);
     Judy1FreeArray(&set, PJE0);
@@ -160,12 +213,12 @@ static void stop(void) {
 }
 
 int main(int argc, char **argv) {
-    (void)argv;
-    if (argc > 1) return stop(), 0;
+    if (argc > 1 && !strcmp(argv[1], "stop")) return stop(), 0;
     sets();
     maps();
     strings();
     byte_strings();
+    memory();
     refused();
     puts("hp: ok");
     return 0;

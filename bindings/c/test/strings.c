@@ -31,7 +31,7 @@ static uint64_t count_held(void) {
     return count;
 }
 
-typedef uint32_t scan(sellumaq_judysl *map, uint8_t *buffer, size_t capacity, size_t *length, uint64_t *value);
+typedef uint32_t scan(const sellumaq_judysl *map, uint8_t *buffer, size_t capacity, size_t *length, uint64_t *value);
 
 /* Whether a scan from a string of the table answers another one, or, for -1, that there is none; and writes nothing but that. */
 static bool told(scan *call, sellumaq_judysl *map, int from, int place) {

@@ -1,7 +1,53 @@
 //! The ends of a walk through strings.
 use crate::keyed::MAX_KEY;
-use crate::sys::{self, Handle, Scan};
-use std::ops::Bound;
+use sellumaq_sys as sys;
+use std::ops::{Bound, RangeBounds};
+use std::ops::{Range, RangeFrom, RangeFull, RangeInclusive, RangeTo, RangeToInclusive};
+
+/// A scan of C from the string in a buffer of the capacity given, whose length and the value of the key found stand
+/// behind pointers.
+pub type Scan =
+    unsafe extern "C" fn(*const sys::sellumaq_judysl, *mut u8, usize, *mut usize, *mut u64) -> u32;
+
+/// A range of strings, whose ends are anything that has bytes: `..`, `"a"..`, `.."b"`, `"a"..="b"` and so on, or a pair of
+/// [`Bound`]s.
+pub trait StringRange {
+    /// Where it begins and ends.
+    fn bounds(&self) -> (Bound<&[u8]>, Bound<&[u8]>);
+}
+
+impl StringRange for RangeFull {
+    fn bounds(&self) -> (Bound<&[u8]>, Bound<&[u8]>) {
+        (Bound::Unbounded, Bound::Unbounded)
+    }
+}
+
+macro_rules! string_ranges {
+    ($($range:ty),*) => { $(
+        impl<K: AsRef<[u8]>> StringRange for $range {
+            fn bounds(&self) -> (Bound<&[u8]>, Bound<&[u8]>) {
+                (bytes(RangeBounds::<K>::start_bound(self)), bytes(RangeBounds::<K>::end_bound(self)))
+            }
+        }
+    )* };
+}
+
+string_ranges!(
+    Range<K>,
+    RangeFrom<K>,
+    RangeTo<K>,
+    RangeInclusive<K>,
+    RangeToInclusive<K>,
+    (Bound<K>, Bound<K>)
+);
+
+fn bytes<K: AsRef<[u8]>>(bound: Bound<&K>) -> Bound<&[u8]> {
+    match bound {
+        Bound::Unbounded => Bound::Unbounded,
+        Bound::Included(key) => Bound::Included(key.as_ref()),
+        Bound::Excluded(key) => Bound::Excluded(key.as_ref()),
+    }
+}
 
 /// One end of the strings whose keys are still to come, and whether it is one of them.
 #[derive(Clone)]
@@ -15,7 +61,11 @@ impl Edge {
     fn at(string: &[u8], included: bool) -> Edge {
         let mut bytes = [0; MAX_KEY];
         bytes[..string.len()].copy_from_slice(string);
-        Edge { bytes, length: string.len(), included }
+        Edge {
+            bytes,
+            length: string.len(),
+            included,
+        }
     }
 
     /// The lower end of a range.
@@ -48,13 +98,23 @@ impl Edge {
 
     /// Goes on to the next key, by a scan that begins with the edge's string and one that begins behind it, and answers its value. Where
     /// there is none the edge stays.
-    pub fn step(&mut self, mut handle: Handle, [from, past]: [Scan; 2]) -> Option<u64> {
+    ///
+    /// # Safety
+    ///
+    /// The handle is an array's that isn't changed meanwhile, and both are scans of `sellumaq_sys`.
+    pub unsafe fn step(
+        &mut self,
+        handle: sys::sellumaq_judysl,
+        [from, past]: [Scan; 2],
+    ) -> Option<u64> {
         let scan = if self.included { from } else { past };
         let mut value = 0;
-        // SAFETY: the handle is a copy of an array's, which is lent; the buffer has the bytes that it is said to have.
-        let told = unsafe { scan(&mut handle, self.bytes.as_mut_ptr(), MAX_KEY, &mut self.length, &mut value) };
-        self.included &= told != sys::FOUND;
-        (told == sys::FOUND).then_some(value)
+        let buffer = self.bytes.as_mut_ptr();
+        // SAFETY: the handle is as the caller says; the buffer has the bytes that it is said to have, the string is no
+        // longer, and all that the call writes to is this function's or the edge's, which is lent.
+        let told = unsafe { scan(&handle, buffer, MAX_KEY, &mut self.length, &mut value) };
+        self.included &= told != sys::SELLUMAQ_FOUND;
+        (told == sys::SELLUMAQ_FOUND).then_some(value)
     }
 
     /// Whether a key lies above this edge, or is it.
@@ -71,6 +131,10 @@ impl Edge {
 // The longest beginning of a string that can be a key, and whether it is the whole string. Where it isn't, no key lies between the two: the
 // string goes on with a zero byte, or with more bytes than a key has.
 fn could_be_key(string: &[u8]) -> (&[u8], bool) {
-    let end = string.iter().take(MAX_KEY).take_while(|byte| **byte != 0).count();
+    let end = string
+        .iter()
+        .take(MAX_KEY)
+        .take_while(|byte| **byte != 0)
+        .count();
     (&string[..end], end == string.len())
 }

@@ -3,9 +3,19 @@ use crate::{no_room, NoMemory};
 use std::fmt;
 
 /// How many bytes a key has at most.
+///
+/// ```
+/// assert_eq!(sellumaq::MAX_KEY, 1024);
+/// ```
 pub const MAX_KEY: usize = 1024;
 
 /// Why a key wasn't put into a map; the map is as it was then.
+///
+/// ```
+/// use sellumaq::{InsertError, JudySl};
+///
+/// assert_eq!(JudySl::new().try_insert([0; 2000], 1), Err(InsertError::BadKey));
+/// ```
 #[derive(Clone, Copy, PartialEq, Eq, Debug)]
 pub enum InsertError {
     /// The bytes are no key: they are more than [`MAX_KEY`], or one of them is zero and the map is a [`JudySl`](crate::JudySl).
@@ -38,64 +48,142 @@ impl fmt::Display for InsertError {
 
 impl std::error::Error for InsertError {}
 
-/// Writes the calls of a `$map` that need no order of its keys, by the module of its calls in C, `$calls`.
+/// Writes the calls of a `$map` that need no order of its keys, over the calls of C named. `$sample` is a line of an example
+/// that makes `map` with the key `"a"` of the value 10.
 macro_rules! keyed_map {
-    ($map:ident by $calls:ident) => {
+    ($map:ident; $ins:ident, $get:ident, $slot:ident, $del:ident; $sample:literal) => {
+        // What takes the library's pointers.
+        impl $map {
+            /// The slot of a key. It may be written to where the map is borrowed to be changed.
+            fn find_slot(&self, key: &[u8]) -> Option<NonNull<u64>> {
+                let (handle, mut slot) = (self.handle, null_mut());
+                // SAFETY: the handle is this map's, lent for this call alone, which only reads; the key is a slice's.
+                let found = unsafe { sys::$slot(&handle, key.as_ptr(), key.len(), &mut slot) };
+                found.then_some(slot).and_then(NonNull::new)
+            }
+
+            /// The slot of a key, which is put in where it is absent.
+            fn make_slot(&mut self, key: &[u8]) -> Result<NonNull<u64>, InsertError> {
+                let mut slot = null_mut();
+                // SAFETY: the handle is this map's, lent for this call alone; the key is a slice's.
+                match unsafe { sys::$ins(&mut self.handle, key.as_ptr(), key.len(), &mut slot) } {
+                    sys::SELLUMAQ_FOUND => NonNull::new(slot).ok_or(InsertError::NoMemory),
+                    sys::SELLUMAQ_FULL => Err(InsertError::Full),
+                    sys::SELLUMAQ_NO_MEMORY => Err(InsertError::NoMemory),
+                    _ => Err(InsertError::BadKey),
+                }
+            }
+
+            fn delete(&mut self, key: &[u8]) {
+                // SAFETY: the handle is this map's, lent for this call alone; the key is a slice's.
+                unsafe { sys::$del(&mut self.handle, key.as_ptr(), key.len()) };
+            }
+        }
+
         impl $map {
             /// Gives a key a value, and answers the one it had.
             ///
-            /// It panics where [`try_insert`](Self::try_insert) answers that the key is none or the map full, and ends the program where
-            /// there is no memory, as std's maps do.
+            /// It panics where [`try_insert`](Self::try_insert) answers that the key is none or the map full, and ends the
+            /// program where there is no memory, as std's maps do.
+            ///
+            /// ```
+            #[doc = $sample]
+            /// assert_eq!((map.insert("a", 11), map.insert("b", 20)), (Some(10), None));
+            /// ```
             pub fn insert(&mut self, key: impl AsRef<[u8]>, value: u64) -> Option<u64> {
                 self.try_insert(key, value).unwrap_or_else(InsertError::end)
             }
 
-            /// Gives a key a value, and answers the one it had; at an error the map is as it was. A key that is there is never refused.
-            pub fn try_insert(&mut self, key: impl AsRef<[u8]>, value: u64) -> Result<Option<u64>, InsertError> {
+            /// Gives a key a value, and answers the one it had; at an error the map is as it was. A key that is there is
+            /// never refused. It is one way down the map.
+            ///
+            /// ```
+            #[doc = $sample]
+            /// assert_eq!(map.try_insert("b", 20), Ok(None));
+            /// ```
+            pub fn try_insert(
+                &mut self,
+                key: impl AsRef<[u8]>,
+                value: u64,
+            ) -> Result<Option<u64>, InsertError> {
                 let before = self.len();
                 let had = std::mem::replace(self.slot(key)?, value);
                 Ok((self.len() == before).then_some(had))
             }
 
-            /// The value of a key, to read and to change; the key is put in with the value 0 where it is absent.
+            /// The value of a key, to read and to change; the key is put in with the value 0 where it is absent. It is one
+            /// way down the map, where an absent key takes [`entry`](Self::entry) two.
+            ///
+            /// ```
+            #[doc = $sample]
+            /// *map.slot("a").unwrap() += 1;
+            /// assert_eq!(map["a"], 11);
+            /// ```
             pub fn slot(&mut self, key: impl AsRef<[u8]>) -> Result<&mut u64, InsertError> {
-                let (key, mut slot) = (key.as_ref(), std::ptr::null_mut());
-                // SAFETY: a slot lives until the map is changed, and the reference, which is borrowed of the map, ends before that.
-                match unsafe { $calls::ins(&mut self.handle, key.as_ptr(), key.len(), &mut slot) } {
-                    sys::FOUND => Ok(unsafe { &mut *slot }),
-                    sys::FULL => Err(InsertError::Full),
-                    sys::NO_MEMORY => Err(InsertError::NoMemory),
-                    _ => Err(InsertError::BadKey),
-                }
+                let slot = self.make_slot(key.as_ref())?;
+                // SAFETY: a slot lives until the map is changed, which stays borrowed as long as the reference.
+                Ok(unsafe { &mut *slot.as_ptr() })
             }
 
             /// The value of a key.
+            ///
+            /// ```
+            #[doc = $sample]
+            /// assert_eq!((map.get("a"), map.get(b"b")), (Some(10), None));
+            /// ```
             pub fn get(&self, key: impl AsRef<[u8]>) -> Option<u64> {
-                let (mut handle, key, mut value) = (self.handle, key.as_ref(), 0);
-                unsafe { $calls::get(&mut handle, key.as_ptr(), key.len(), &mut value) }.then_some(value)
+                let (handle, key, mut value) = (self.handle, key.as_ref(), 0);
+                // SAFETY: the handle is this map's, lent for this call alone, which only reads; the key is a slice's.
+                unsafe { sys::$get(&handle, key.as_ptr(), key.len(), &mut value) }.then_some(value)
             }
 
             /// The value of a key, to change.
+            ///
+            /// ```
+            #[doc = $sample]
+            /// *map.get_mut("a").unwrap() += 1;
+            /// assert_eq!(map["a"], 11);
+            /// ```
             pub fn get_mut(&mut self, key: impl AsRef<[u8]>) -> Option<&mut u64> {
-                let (key, mut slot) = (key.as_ref(), std::ptr::null_mut());
+                let slot = self.find_slot(key.as_ref())?;
                 // SAFETY: as in `slot`.
-                match unsafe { $calls::slot(&mut self.handle, key.as_ptr(), key.len(), &mut slot) } {
-                    true => Some(unsafe { &mut *slot }),
-                    false => None,
-                }
+                Some(unsafe { &mut *slot.as_ptr() })
             }
 
             /// Whether a key is there.
+            ///
+            /// ```
+            #[doc = $sample]
+            /// assert!(map.contains_key("a") && !map.contains_key("b"));
+            /// ```
             pub fn contains_key(&self, key: impl AsRef<[u8]>) -> bool {
                 self.get(key).is_some()
             }
 
             /// Takes a key out, and answers the value it had.
+            ///
+            /// ```
+            #[doc = $sample]
+            /// assert_eq!((map.remove("a"), map.remove("a")), (Some(10), None));
+            /// ```
             pub fn remove(&mut self, key: impl AsRef<[u8]>) -> Option<u64> {
                 let key = key.as_ref();
                 let value = self.get(key)?;
-                unsafe { $calls::del(&mut self.handle, key.as_ptr(), key.len()) };
+                self.delete(key);
                 Some(value)
+            }
+        }
+
+        /// Where the key is absent it panics, as std's maps do.
+        impl<K: AsRef<[u8]>> Index<K> for $map {
+            type Output = u64;
+
+            fn index(&self, key: K) -> &u64 {
+                let slot = self
+                    .find_slot(key.as_ref())
+                    .expect("no entry found for key");
+                // SAFETY: a slot lives until the map is changed, which stays borrowed as long as the reference.
+                unsafe { &*slot.as_ptr() }
             }
         }
 
@@ -112,6 +200,12 @@ macro_rules! keyed_map {
                 let mut map = $map::new();
                 map.extend(pairs);
                 map
+            }
+        }
+
+        impl<K: AsRef<[u8]>, const N: usize> From<[(K, u64); N]> for $map {
+            fn from(pairs: [(K, u64); N]) -> Self {
+                pairs.into_iter().collect()
             }
         }
     };

@@ -1,40 +1,55 @@
-//! Judy arrays: sets and maps of 64-bit words, strings and byte strings, kept by libsellumaq, whose every call is proved to answer as a
-//! plain finite set or map does.
+//! Judy arrays: sets and maps of 64-bit words, strings and byte strings, kept by libsellumaq, whose every call is
+//! proved to answer as a plain finite set or map does.
 //!
-//! [`Judy1`] is a set of words and [`JudyL`] a map from words to words. Both hold their keys in order, count how many lie
-//! between two words, find the n-th, and find the nearest word that is no key. [`JudySl`] is an ordered map from strings to words, and
-//! [`JudyHs`] one from byte strings, which has no order.
+//! [`Judy1`] is a set of words and [`JudyL`] a map from words to words, with the methods of std's `BTreeSet<u64>` and
+//! `BTreeMap<u64, u64>`. Both hold their keys in order, count how many lie between two words, find the n-th, and
+//! find the nearest word that is no key. [`JudySl`] is an ordered map from strings to words, and [`JudyHs`] one from
+//! byte strings, which has no order and no walk.
+//!
+//! Keys and values are words, so they are answered themselves where std answers references. A word to be looked up
+//! may be given either way.
 //!
 //! ```
 //! use sellumaq::JudyL;
 //!
 //! let squares: JudyL = (1..=5).map(|n| (n * n, n)).collect();
 //! assert_eq!(squares.get(16), Some(4));
-//! assert_eq!(squares.range(10..).collect::<Vec<_>>(), [(16, 4), (25, 5)]);
+//! assert_eq!(squares.get(&16), Some(4));
+//! assert_eq!(squares[25], 5);
+//! assert!(squares.range(10..).eq([(16, 4), (25, 5)]));
 //! ```
 //!
-//! An array may be sent to another thread, but isn't shared between threads: the library's proofs speak of one call at a time.
+//! Arrays may be sent to other threads and be read by several at a time.
+#![warn(missing_docs, clippy::undocumented_unsafe_blocks)]
+#![deny(unsafe_op_in_unsafe_fn)]
 
 mod array;
-mod bytes;
 mod edge;
+mod entry;
+pub mod judy1;
+pub mod judyhs;
+pub mod judyl;
+pub mod judysl;
 mod keyed;
-mod map;
-mod set;
+mod ordered;
+mod slots;
 mod span;
-mod strings;
-mod sys;
+mod walk;
 mod words;
 
 use std::alloc::{handle_alloc_error, Layout};
 
-pub use bytes::JudyHs;
+pub use judy1::Judy1;
+pub use judyhs::JudyHs;
+pub use judyl::JudyL;
+pub use judysl::JudySl;
 pub use keyed::{InsertError, MAX_KEY};
-pub use map::{JudyL, Pairs};
-pub use set::{Judy1, Keys};
-pub use strings::{Entries, JudySl};
 
 /// There was no memory for a new key; the array is as it was.
+///
+/// ```
+/// assert_eq!(sellumaq::NoMemory.to_string(), "no memory for a new key");
+/// ```
 #[derive(Clone, Copy, PartialEq, Eq, Debug)]
 pub struct NoMemory;
 

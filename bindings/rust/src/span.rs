@@ -12,14 +12,14 @@ impl Found for u64 {
     }
 }
 
-impl Found for (u64, u64) {
+impl<V: Copy> Found for (u64, V) {
     fn key(self) -> u64 {
         self.0
     }
 }
 
 /// The words from one to another, both included, whose keys are still to come; none is left of no words.
-#[derive(Clone)]
+#[derive(Clone, Debug)]
 pub struct Span(Option<(u64, u64)>);
 
 impl Span {
@@ -46,15 +46,30 @@ impl Span {
     pub fn next<T: Found>(&mut self, at_or_after: impl FnOnce(u64) -> Option<T>) -> Option<T> {
         let (from, to) = self.0.take()?;
         let found = at_or_after(from).filter(|found| found.key() <= to)?;
-        self.0 = found.key().checked_add(1).filter(|next| *next <= to).map(|next| (next, to));
+        self.go_behind(found.key(), to);
         Some(found)
     }
 
     /// The greatest key left, by the search for the greatest up to a word.
-    pub fn next_back<T: Found>(&mut self, at_or_before: impl FnOnce(u64) -> Option<T>) -> Option<T> {
+    pub fn next_back<T: Found>(
+        &mut self,
+        at_or_before: impl FnOnce(u64) -> Option<T>,
+    ) -> Option<T> {
         let (from, to) = self.0.take()?;
         let found = at_or_before(to).filter(|found| found.key() >= from)?;
-        self.0 = found.key().checked_sub(1).filter(|next| *next >= from).map(|next| (from, next));
+        self.0 = found
+            .key()
+            .checked_sub(1)
+            .filter(|next| *next >= from)
+            .map(|next| (from, next));
         Some(found)
+    }
+
+    /// Leaves the words above one, up to another.
+    pub fn go_behind(&mut self, word: u64, to: u64) {
+        self.0 = word
+            .checked_add(1)
+            .filter(|next| *next <= to)
+            .map(|next| (next, to));
     }
 }

@@ -1,69 +1,172 @@
 //! What sets and maps of words have alike.
 
-/// Writes the walks through an `$array` by the module of its calls in C, `$calls`. What stands for a key is an `$item`, which the
-/// array's `at_or_after` and `at_or_before` find.
+/// Writes what a set and a map of words have alike: the calls that count, and the traits of std that go through what
+/// it holds, an `$item` a key. `$sample` is a line of an example that makes `array` with the keys 1, 2 and 10.
 macro_rules! word_array {
-    ($array:ident by $calls:ident, walked by $walk:ident over $item:ty) => {
+    ($array:ident; $item:ty; $way:ident; $count:ident, $by_count:ident, $first_empty:ident, $last_empty:ident; $sample:literal) => {
         impl $array {
+            fn search(&self, call: Search, from: u64) -> Option<u64> {
+                let (handle, mut word) = (self.handle, 0);
+                // SAFETY: the call is one of `sellumaq_sys` for this kind, which only reads; the handle is this array's,
+                // lent for this call alone, and the word this function's.
+                unsafe { call(&handle, from, &mut word) }.then_some(word)
+            }
+
             /// The least word from one on that is no key.
+            ///
+            /// ```
+            #[doc = $sample]
+            /// assert_eq!(array.absent_at_or_after(1), Some(3));
+            /// ```
             pub fn absent_at_or_after(&self, from: u64) -> Option<u64> {
-                self.handle.search($calls::first_empty, from)
+                self.search(sellumaq_sys::$first_empty, from)
             }
 
             /// The greatest word up to one that is no key.
+            ///
+            /// ```
+            #[doc = $sample]
+            /// assert_eq!(array.absent_at_or_before(2), Some(0));
+            /// ```
             pub fn absent_at_or_before(&self, from: u64) -> Option<u64> {
-                self.handle.search($calls::last_empty, from)
+                self.search(sellumaq_sys::$last_empty, from)
             }
 
             /// How many keys there are in a range. No way through them is made.
-            pub fn count(&self, range: impl std::ops::RangeBounds<u64>) -> u64 {
-                let mut handle = self.handle;
-                Span::of(range).ends().map_or(0, |(from, to)| unsafe { $calls::count(&mut handle, from, to) })
+            ///
+            /// ```
+            #[doc = $sample]
+            /// assert_eq!((array.count(2..), array.count(..=1), array.count(3..10)), (2, 1, 0));
+            /// ```
+            pub fn count(&self, range: impl std::ops::RangeBounds<u64>) -> usize {
+                Span::of(range).ends().map_or(0, |(from, to)| {
+                    let handle = self.handle;
+                    // SAFETY: as in `search`.
+                    let keys = unsafe { sellumaq_sys::$count(&handle, from, to) };
+                    keys as usize
+                })
+            }
+
+            /// How many keys lie below a word. No way through them is made.
+            ///
+            /// ```
+            #[doc = $sample]
+            /// assert_eq!((array.rank(2), array.rank(11)), (1, 3));
+            /// ```
+            pub fn rank(&self, word: u64) -> usize {
+                self.count(..word)
+            }
+
+            fn nth_key(&self, n: usize) -> Option<u64> {
+                self.search(sellumaq_sys::$by_count, (n as u64).checked_add(1)?)
             }
 
             /// All that it holds, by ascending key.
-            pub fn iter(&self) -> $walk<'_> {
-                self.range(..)
+            ///
+            /// ```
+            #[doc = $sample]
+            /// assert_eq!(array.iter().len(), 3);
+            /// assert_eq!(array.iter().next(), array.iter().rev().last());
+            /// ```
+            pub fn iter(&self) -> Iter<'_> {
+                Iter {
+                    range: self.range(..),
+                    left: self.len(),
+                }
             }
 
-            /// What it holds in a range of keys, by ascending key.
-            pub fn range(&self, range: impl std::ops::RangeBounds<u64>) -> $walk<'_> {
-                $walk { array: self, span: Span::of(range) }
+            /// What it holds in a range of keys, by ascending key. A range that ends before it begins holds nothing.
+            ///
+            /// ```
+            #[doc = $sample]
+            /// assert_eq!(array.range(2..=10).count(), 2);
+            /// assert!(array.range(3..10).next().is_none());
+            /// ```
+            pub fn range(&self, range: impl std::ops::RangeBounds<u64>) -> Range<'_> {
+                Range {
+                    array: self,
+                    way: $way::of(Span::of(range)),
+                }
+            }
+
+            /// Moves what lies in a range into an array that has no key of it.
+            fn move_range(&mut self, range: impl std::ops::RangeBounds<u64>, to: &mut Self) {
+                let mut span = Span::of(range);
+                while let Some(item) = span.next(|from| self.at_or_after(from)) {
+                    to.extend([item]);
+                    self.remove(item.key());
+                }
+            }
+
+            /// Takes out all from a key on, and answers it as an array. The lesser part is moved, whichever it is.
+            ///
+            /// ```
+            #[doc = concat!($sample, "\nlet mut array = array;")]
+            /// let upper = array.split_off(2);
+            /// assert_eq!((array.len(), upper.len()), (1, 2));
+            /// ```
+            pub fn split_off(&mut self, key: impl std::borrow::Borrow<u64>) -> Self {
+                let (key, mut other) = (*key.borrow(), $array::new());
+                if self.rank(key) < self.len() / 2 {
+                    self.move_range(..key, &mut other);
+                    std::mem::swap(self, &mut other);
+                } else {
+                    self.move_range(key.., &mut other);
+                }
+                other
             }
         }
 
-        #[doc = concat!("What a [`", stringify!($array), "`] holds in a range, by ascending key, from both ends.")]
-        #[derive(Clone)]
-        pub struct $walk<'a> {
-            array: &'a $array,
-            span: Span,
-        }
-
-        impl Iterator for $walk<'_> {
-            type Item = $item;
-
-            fn next(&mut self) -> Option<$item> {
-                self.span.next(|from| self.array.at_or_after(from))
-            }
-        }
-
-        impl DoubleEndedIterator for $walk<'_> {
-            fn next_back(&mut self) -> Option<$item> {
-                self.span.next_back(|from| self.array.at_or_before(from))
-            }
-        }
-
-        impl std::iter::FusedIterator for $walk<'_> {}
-
-        impl Clone for $array {
-            fn clone(&self) -> Self {
-                self.iter().collect()
+        impl std::hash::Hash for $array {
+            fn hash<H: std::hash::Hasher>(&self, to: &mut H) {
+                to.write_usize(self.len());
+                self.iter().for_each(|item| item.hash(to));
             }
         }
 
         impl PartialEq for $array {
             fn eq(&self, other: &Self) -> bool {
                 self.len() == other.len() && self.iter().eq(other)
+            }
+        }
+
+        impl PartialOrd for $array {
+            fn partial_cmp(&self, other: &Self) -> Option<std::cmp::Ordering> {
+                Some(self.cmp(other))
+            }
+        }
+
+        impl Ord for $array {
+            fn cmp(&self, other: &Self) -> std::cmp::Ordering {
+                self.iter().cmp(other)
+            }
+        }
+    };
+}
+
+/// Writes what all ordered arrays have alike: those of std's traits that build one, and `append`.
+macro_rules! collected {
+    ($array:ident; $item:ty; $sample:literal) => {
+        impl $array {
+            /// Moves all that another holds into this one. A key of both has the other's value then.
+            ///
+            /// ```
+            #[doc = concat!($sample, "\nlet (mut array, mut all) = (array, sellumaq::", stringify!($array), "::new());")]
+            /// all.append(&mut array);
+            /// assert_eq!((all.len(), array.len()), (3, 0));
+            /// ```
+            pub fn append(&mut self, other: &mut Self) {
+                if self.is_empty() {
+                    std::mem::swap(self, other);
+                } else {
+                    self.extend(std::mem::take(other));
+                }
+            }
+        }
+
+        impl Clone for $array {
+            fn clone(&self) -> Self {
+                self.iter().collect()
             }
         }
 
@@ -77,15 +180,12 @@ macro_rules! word_array {
             }
         }
 
-        impl<'a> IntoIterator for &'a $array {
-            type Item = $item;
-            type IntoIter = $walk<'a>;
-
-            fn into_iter(self) -> $walk<'a> {
-                self.iter()
+        impl<const N: usize> From<[$item; N]> for $array {
+            fn from(items: [$item; N]) -> Self {
+                items.into_iter().collect()
             }
         }
     };
 }
 
-pub(crate) use word_array;
+pub(crate) use {collected, word_array};

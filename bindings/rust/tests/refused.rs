@@ -2,8 +2,9 @@
 //! that is preloaded, as `make bindings-test` does; where it isn't, nothing is tried.
 use sellumaq::{InsertError, Judy1, JudyHs, JudyL, JudySl, NoMemory};
 use std::collections::{BTreeMap, BTreeSet};
-use std::ffi::{c_char, c_long, c_void};
+use std::ffi::c_void;
 use std::fmt::Debug;
+use std::os::raw::{c_char, c_long};
 
 extern "C" {
     fn dlsym(library: *mut c_void, name: *const c_char) -> *mut c_void;
@@ -17,7 +18,11 @@ impl Refuser {
     /// What is preloaded.
     fn find() -> Option<Refuser> {
         // SAFETY: the null pointer stands for all libraries of the program, and the function has this type.
-        let found = unsafe { std::mem::transmute::<*mut c_void, Option<unsafe extern "C" fn(c_long) -> c_long>>(dlsym(std::ptr::null_mut(), c"refuse_from".as_ptr())) };
+        let found = unsafe {
+            std::mem::transmute::<*mut c_void, Option<unsafe extern "C" fn(c_long) -> c_long>>(
+                dlsym(std::ptr::null_mut(), b"refuse_from\0".as_ptr().cast()),
+            )
+        };
         if found.is_none() {
             println!("nothing is preloaded that refuses memory");
         }
@@ -29,12 +34,19 @@ impl Refuser {
         // SAFETY: it only counts.
         unsafe { self.0(nth) };
         let told = call();
+        // SAFETY: as above.
         (told, unsafe { self.0(0) })
     }
 
     /// Makes a call whose first call for memory is refused and each later one, then its second, and so on until it succeeds. Each refusal
     /// must be told as the error and leave the array the `same`. What it answers in the end, and how often it failed.
-    fn in_turn<A, T, E>(self, array: &mut A, error: E, call: impl Fn(&mut A) -> Result<T, E>, same: impl Fn(&A) -> bool) -> (T, c_long)
+    fn in_turn<A, T, E>(
+        self,
+        array: &mut A,
+        error: E,
+        call: impl Fn(&mut A) -> Result<T, E>,
+        same: impl Fn(&A) -> bool,
+    ) -> (T, c_long)
     where
         E: PartialEq + Debug,
     {
@@ -42,7 +54,10 @@ impl Refuser {
         loop {
             match self.from(failed + 1, || call(array)) {
                 (Ok(told), _) => return (told, failed),
-                (Err(told), refused) => assert!(told == error && refused > 0 && same(array), "{told:?}, {refused} calls refused"),
+                (Err(told), refused) => assert!(
+                    told == error && refused > 0 && same(array),
+                    "{told:?}, {refused} calls refused"
+                ),
             }
             failed += 1;
         }
@@ -51,7 +66,9 @@ impl Refuser {
 
 /// Words close together and far apart, none twice.
 fn words() -> impl Iterator<Item = u64> {
-    (0..40).chain((1..100).map(|n| n << 16)).chain((1..100).map(|n: u64| n.wrapping_mul(0x9e37_79b9_7f4a_7c15)))
+    (0..40)
+        .chain((1..100).map(|n| n << 16))
+        .chain((1..100).map(|n: u64| n.wrapping_mul(0x9e37_79b9_7f4a_7c15)))
 }
 
 /// Strings that share their beginnings, none twice.
@@ -61,36 +78,85 @@ fn strings() -> impl Iterator<Item = Vec<u8>> {
 
 #[test]
 fn a_set_without_memory() {
-    let Some(refuser) = Refuser::find() else { return };
+    let refuser = match Refuser::find() {
+        Some(refuser) => refuser,
+        None => return,
+    };
     let (mut set, mut plain, mut failed) = (Judy1::new(), BTreeSet::new(), 0);
     for key in words() {
-        let (told, more) = refuser.in_turn(&mut set, NoMemory, |set| set.try_insert(key), |set| set.iter().eq(plain.iter().copied()));
+        let (told, more) = refuser.in_turn(
+            &mut set,
+            NoMemory,
+            |set| set.try_insert(key),
+            |set| set.iter().eq(plain.iter().copied()),
+        );
         assert_eq!((told, plain.insert(key)), (true, true));
         failed += more;
     }
     assert!(failed > 20, "{failed}");
     for key in words() {
-        assert_eq!(refuser.from(1, || (set.try_insert(key), set.remove(key), set.contains(key))).0, (Ok(false), true, false));
+        assert_eq!(
+            refuser
+                .from(1, || (
+                    set.try_insert(key),
+                    set.remove(key),
+                    set.contains(key)
+                ))
+                .0,
+            (Ok(false), true, false)
+        );
     }
     assert!(set.is_empty());
 }
 
 #[test]
 fn a_map_without_memory() {
-    let Some(refuser) = Refuser::find() else { return };
+    let refuser = match Refuser::find() {
+        Some(refuser) => refuser,
+        None => return,
+    };
     let (mut map, mut plain, mut failed) = (JudyL::new(), BTreeMap::new(), 0);
     for (turn, key) in words().enumerate() {
-        let same = |map: &JudyL| map.iter().eq(plain.iter().map(|(key, value)| (*key, *value)));
+        let same = |map: &JudyL| {
+            map.iter()
+                .eq(plain.iter().map(|(key, value)| (*key, *value)))
+        };
         failed += match turn % 3 {
-            0 => refuser.in_turn(&mut map, NoMemory, |map| map.try_insert(key, key), same).1,
-            1 => refuser.in_turn(&mut map, NoMemory, |map| map.try_put(key, key), same).1,
-            _ => refuser.in_turn(&mut map, NoMemory, |map| map.slot(key).map(|slot| *slot = key), same).1,
+            0 => {
+                refuser
+                    .in_turn(&mut map, NoMemory, |map| map.try_insert(key, key), same)
+                    .1
+            }
+            1 => {
+                refuser
+                    .in_turn(&mut map, NoMemory, |map| map.try_put(key, key), same)
+                    .1
+            }
+            _ => {
+                refuser
+                    .in_turn(
+                        &mut map,
+                        NoMemory,
+                        |map| map.slot(key).map(|slot| *slot = key),
+                        same,
+                    )
+                    .1
+            }
         };
         assert_eq!((map.get(key), plain.insert(key, key)), (Some(key), None));
     }
     assert!(failed > 20, "{failed}");
     for key in words() {
-        assert_eq!(refuser.from(1, || (map.try_insert(key, 5), map.try_put(key, 6), map.remove(key))).0, (Ok(Some(key)), Ok(false), Some(6)));
+        assert_eq!(
+            refuser
+                .from(1, || (
+                    map.try_insert(key, 5),
+                    map.try_put(key, 6),
+                    map.remove(key)
+                ))
+                .0,
+            (Ok(Some(key)), Ok(false), Some(6))
+        );
     }
     assert!(map.is_empty());
 }
@@ -98,17 +164,30 @@ fn a_map_without_memory() {
 /// The same of both maps from strings, which `same` compares with a plain one.
 macro_rules! map_without_memory {
     ($map:ty, $same:expr) => {
-        let Some(refuser) = Refuser::find() else { return };
+        let refuser = match Refuser::find() {
+            Some(refuser) => refuser,
+            None => return,
+        };
         let (mut map, mut plain, mut failed) = (<$map>::new(), BTreeMap::new(), 0);
         for (key, value) in strings().zip(1..) {
-            let same = |map: &$map| map.len() == plain.len() as u64 && $same(map, &plain);
-            let (told, more) = refuser.in_turn(&mut map, InsertError::NoMemory, |map| map.try_insert(&key, value), same);
+            let same = |map: &$map| map.len() == plain.len() && $same(map, &plain);
+            let (told, more) = refuser.in_turn(
+                &mut map,
+                InsertError::NoMemory,
+                |map| map.try_insert(&key, value),
+                same,
+            );
             assert_eq!((told, plain.insert(key, value)), (None, None));
             failed += more;
         }
         assert!(failed > 20, "{failed}");
         for (key, value) in &plain {
-            assert_eq!(refuser.from(1, || (map.try_insert(key, 5), map.remove(key))).0, (Ok(Some(*value)), Some(5)));
+            assert_eq!(
+                refuser
+                    .from(1, || (map.try_insert(key, 5), map.remove(key)))
+                    .0,
+                (Ok(Some(*value)), Some(5))
+            );
         }
         assert!(map.is_empty());
     };
@@ -116,10 +195,14 @@ macro_rules! map_without_memory {
 
 #[test]
 fn a_map_of_strings_without_memory() {
-    map_without_memory!(JudySl, |map: &JudySl, plain: &BTreeMap<Vec<u8>, u64>| map.iter().eq(plain.clone()));
+    map_without_memory!(JudySl, |map: &JudySl, plain: &BTreeMap<Vec<u8>, u64>| map
+        .iter()
+        .eq(plain.clone()));
 }
 
 #[test]
 fn a_map_of_byte_strings_without_memory() {
-    map_without_memory!(JudyHs, |map: &JudyHs, plain: &BTreeMap<Vec<u8>, u64>| strings().all(|key| map.get(&key) == plain.get(&key).copied()));
+    map_without_memory!(JudyHs, |map: &JudyHs, plain: &BTreeMap<Vec<u8>, u64>| {
+        strings().all(|key| map.get(&key) == plain.get(&key).copied())
+    });
 }

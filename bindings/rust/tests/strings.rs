@@ -35,10 +35,16 @@ fn same(map: &JudySl, plain: &Plain) {
     assert!(map.iter().rev().eq(plain.iter().rev().map(pair)));
     assert!(map.keys().eq(plain.keys().cloned()));
     assert!(map.values().eq(plain.values().copied()));
-    assert_eq!(map.first_key_value(), plain.first_key_value().map(pair));
-    assert_eq!(map.last_key_value(), plain.last_key_value().map(pair));
+    assert_eq!(map.first_key_value(), plain.iter().next().map(pair));
+    assert_eq!(map.last_key_value(), plain.iter().next_back().map(pair));
     assert_eq!(&map.clone(), map);
-    assert_eq!(&plain.iter().map(|(key, value)| (key, *value)).collect::<JudySl>(), map);
+    assert_eq!(
+        &plain
+            .iter()
+            .map(|(key, value)| (key, *value))
+            .collect::<JudySl>(),
+        map
+    );
 }
 
 #[test]
@@ -54,19 +60,38 @@ fn a_map_of_strings_is_a_map() {
                 *slot = value;
                 plain.insert(key.clone(), value);
             }
-            2 => assert_eq!(map.get_mut(&key).map(|it| replace(it, value)), plain.get_mut(&key).map(|it| replace(it, value))),
+            2 => assert_eq!(
+                map.get_mut(&key).map(|it| replace(it, value)),
+                plain.get_mut(&key).map(|it| replace(it, value))
+            ),
             _ => assert_eq!(map.insert(&key, value), plain.insert(key.clone(), value)),
         }
         // the ends of a range need be no keys
         let (one, other) = (strings.of(b"az\0"), strings.of(b"a\xff\0"));
         let (from, to) = (one.clone().min(other.clone()), one.max(other));
-        assert_eq!((map.get(&key), map.contains_key(&from)), (plain.get(&key).copied(), plain.contains_key(&from)));
-        assert_eq!(map.len(), plain.len() as u64);
-        assert_eq!(map.at_or_after(&from), plain.range(from.clone()..).next().map(pair));
-        assert_eq!(map.at_or_before(&to), plain.range(..=to.clone()).next_back().map(pair));
-        assert!(map.range::<Vec<u8>>(from.clone()..=to.clone()).eq(plain.range(from.clone()..=to.clone()).map(pair)));
-        assert!(map.range::<Vec<u8>>((Excluded(&from), Unbounded)).eq(plain.range((Excluded(from.clone()), Unbounded)).map(pair)));
-        assert!(map.range::<Vec<u8>>(from.clone()..to.clone()).rev().eq(plain.range(from..to).rev().map(pair)));
+        assert_eq!(
+            (map.get(&key), map.contains_key(&from)),
+            (plain.get(&key).copied(), plain.contains_key(&from))
+        );
+        assert_eq!(map.len(), plain.len());
+        assert_eq!(
+            map.at_or_after(&from),
+            plain.range(from.clone()..).next().map(pair)
+        );
+        assert_eq!(
+            map.at_or_before(&to),
+            plain.range(..=to.clone()).next_back().map(pair)
+        );
+        assert!(map
+            .range(from.clone()..=to.clone())
+            .eq(plain.range(from.clone()..=to.clone()).map(pair)));
+        assert!(map
+            .range((Excluded(&from), Unbounded))
+            .eq(plain.range((Excluded(from.clone()), Unbounded)).map(pair)));
+        assert!(map
+            .range(from.clone()..to.clone())
+            .rev()
+            .eq(plain.range(from..to).rev().map(pair)));
         if turn % 100 == 0 {
             same(&map, &plain);
         }
@@ -83,33 +108,63 @@ fn a_map_of_byte_strings_is_a_map() {
         let (key, value) = (strings.of(b"a\0z\xff"), strings.any());
         match strings.any() % 4 {
             0 => assert_eq!(map.remove(&key), plain.remove(&key)),
-            1 => assert_eq!(replace(map.slot(&key).unwrap(), value), plain.insert(key.clone(), value).unwrap_or(0)),
-            2 => assert_eq!(map.get_mut(&key).map(|it| replace(it, value)), plain.get_mut(&key).map(|it| replace(it, value))),
+            1 => assert_eq!(
+                replace(map.slot(&key).unwrap(), value),
+                plain.insert(key.clone(), value).unwrap_or(0)
+            ),
+            2 => assert_eq!(
+                map.get_mut(&key).map(|it| replace(it, value)),
+                plain.get_mut(&key).map(|it| replace(it, value))
+            ),
             _ => assert_eq!(map.insert(&key, value), plain.insert(key.clone(), value)),
         }
         let other = strings.of(b"a\0z\xff");
-        assert_eq!((map.get(&other), map.contains_key(&other)), (plain.get(&other).copied(), plain.contains_key(&other)));
-        assert_eq!((map.len(), map.is_empty()), (plain.len() as u64, plain.is_empty()));
+        assert_eq!(
+            (map.get(&other), map.contains_key(&other)),
+            (plain.get(&other).copied(), plain.contains_key(&other))
+        );
+        assert_eq!((map.len(), map.is_empty()), (plain.len(), plain.is_empty()));
     }
-    assert_eq!(format!("{map:?}"), format!("JudyHs {{ len: {}, .. }}", plain.len()));
+    assert_eq!(
+        format!("{map:?}"),
+        format!("JudyHs {{ len: {}, .. }}", plain.len())
+    );
     let copied: JudyHs = plain.iter().map(|(key, value)| (key, *value)).collect();
-    assert!(plain.iter().all(|(key, value)| copied.get(key) == Some(*value)));
+    assert!(plain
+        .iter()
+        .all(|(key, value)| copied.get(key) == Some(*value)));
 }
 
 #[test]
 fn bytes_that_are_no_key() {
     let (longest, longer) = ([0xff; MAX_KEY], [0xff; MAX_KEY + 1]);
     let (mut strings, mut bytes) = (JudySl::new(), JudyHs::new());
-    assert_eq!((strings.insert(longest, 1), bytes.insert(longest, 1), strings.insert("", 2)), (None, None, None));
+    assert_eq!(
+        (
+            strings.insert(longest, 1),
+            bytes.insert(longest, 1),
+            strings.insert("", 2)
+        ),
+        (None, None, None)
+    );
     assert_eq!(strings.try_insert(longer, 3), Err(InsertError::BadKey));
     assert_eq!(bytes.try_insert(longer, 3), Err(InsertError::BadKey));
     assert_eq!(strings.try_insert("a\0b", 3), Err(InsertError::BadKey));
-    assert_eq!((strings.slot(longer), bytes.slot(longer)), (Err(InsertError::BadKey), Err(InsertError::BadKey)));
-    assert_eq!((strings.get(longer), bytes.get(longer), strings.get("\0")), (None, None, None));
+    assert_eq!(
+        (strings.slot(longer), bytes.slot(longer)),
+        (Err(InsertError::BadKey), Err(InsertError::BadKey))
+    );
+    assert_eq!(
+        (strings.get(longer), bytes.get(longer), strings.get("\0")),
+        (None, None, None)
+    );
     assert_eq!((strings.get_mut("\0"), bytes.get_mut(longer)), (None, None));
     assert_eq!((strings.remove("\0"), bytes.remove(longer)), (None, None));
     assert_eq!((strings.len(), bytes.len()), (2, 1));
-    assert_eq!(strings.range::<[u8]>((Included(&longer[..]), Unbounded)).next(), None);
+    assert_eq!(
+        strings.range((Included(&longer[..]), Unbounded)).next(),
+        None
+    );
     assert_eq!(strings.at_or_before(longer), Some((longest.to_vec(), 1)));
     assert_eq!(strings.range(.."\0").collect::<Vec<_>>(), [(vec![], 2)]);
 }
@@ -127,7 +182,10 @@ fn both_ends_meet() {
     assert_eq!(entries.next_entry(), Some((&b""[..], 1)));
     assert_eq!(entries.next_back_entry(), Some((&b"bc"[..], 3)));
     assert_eq!(entries.next_entry(), Some((&b"b"[..], 2)));
-    assert_eq!((entries.next(), entries.next_back(), entries.next()), (None, None, None));
+    assert_eq!(
+        (entries.next(), entries.next_back(), entries.next()),
+        (None, None, None)
+    );
     assert_eq!(map.range("c".."b").next(), None);
     assert_eq!(format!("{map:?}"), r#"{"": 1, "b": 2, "bc": 3}"#);
 }

@@ -31,28 +31,47 @@ fn a_set_is_a_set() {
         if words.any() % 3 > 0 {
             assert_eq!(set.insert(key), plain.insert(key));
         } else {
-            let held = plain.iter().nth((words.any() % (plain.len() as u64 + 1)) as usize).copied().unwrap_or(key);
+            let held = plain
+                .iter()
+                .nth((words.any() % (plain.len() as u64 + 1)) as usize)
+                .copied()
+                .unwrap_or(key);
             assert_eq!(set.remove(held), plain.remove(&held));
         }
         let (from, to) = (words.key().min(key), words.key().max(key));
         assert_eq!(set.contains(from), plain.contains(&from));
-        assert_eq!(set.len(), plain.len() as u64);
-        assert_eq!((set.first(), set.last()), (plain.first().copied(), plain.last().copied()));
+        assert_eq!(set.len(), plain.len());
+        assert_eq!(
+            (set.first(), set.last()),
+            (
+                plain.iter().next().copied(),
+                plain.iter().next_back().copied()
+            )
+        );
         assert_eq!(set.at_or_after(from), plain.range(from..).next().copied());
-        assert_eq!(set.at_or_before(to), plain.range(..=to).next_back().copied());
-        assert_eq!(set.count(from..to), plain.range(from..to).count() as u64);
-        let n = words.any() % (plain.len() as u64 + 2);
-        assert_eq!(set.nth(n), plain.iter().nth(n as usize).copied());
+        assert_eq!(
+            set.at_or_before(to),
+            plain.range(..=to).next_back().copied()
+        );
+        assert_eq!(set.count(from..to), plain.range(from..to).count());
+        let n = words.any() as usize % (plain.len() + 2);
+        assert_eq!(set.nth(n), plain.iter().nth(n).copied());
         if turn % 100 == 0 {
             assert!(set.iter().eq(plain.iter().copied()));
-            assert!(set.range(from..=to).rev().eq(plain.range(from..=to).rev().copied()));
+            assert!(set
+                .range(from..=to)
+                .rev()
+                .eq(plain.range(from..=to).rev().copied()));
             assert_eq!(format!("{set:?}"), format!("{plain:?}"));
             assert_eq!(set.clone(), set);
         }
     }
     let absent = (0..).find(|word| !plain.contains(word));
     assert_eq!(set.absent_at_or_after(0), absent);
-    assert_eq!(set.absent_at_or_before(u64::MAX), (0..=u64::MAX).rev().find(|word| !plain.contains(word)));
+    assert_eq!(
+        set.absent_at_or_before(u64::MAX),
+        (0..=u64::MAX).rev().find(|word| !plain.contains(word))
+    );
     set.clear();
     assert!(set.is_empty() && set.iter().next().is_none());
 }
@@ -70,24 +89,39 @@ fn a_map_is_a_map() {
                 *slot = value;
                 plain.insert(key, value);
             }
-            2 => assert_eq!(map.get_mut(key).map(|it| std::mem::replace(it, value)), plain.get_mut(&key).map(|it| std::mem::replace(it, value))),
+            2 => assert_eq!(
+                map.get_mut(key).map(|it| std::mem::replace(it, value)),
+                plain.get_mut(&key).map(|it| std::mem::replace(it, value))
+            ),
             3 => assert_eq!(map.put(key, value), plain.insert(key, value).is_none()),
             _ => assert_eq!(map.insert(key, value), plain.insert(key, value)),
         }
         let (from, to) = (words.key().min(key), words.key().max(key));
         assert_eq!(map.get(from), plain.get(&from).copied());
         assert_eq!(map.contains_key(to), plain.contains_key(&to));
-        assert_eq!(map.len(), plain.len() as u64);
-        assert_eq!(map.at_or_after(from), plain.range(from..).next().map(|it| (*it.0, *it.1)));
-        assert_eq!(map.at_or_before(to), plain.range(..=to).next_back().map(|it| (*it.0, *it.1)));
-        assert_eq!(map.count(from..to), plain.range(from..to).count() as u64);
+        assert_eq!(map.len(), plain.len());
+        assert_eq!(
+            map.at_or_after(from),
+            plain.range(from..).next().map(|it| (*it.0, *it.1))
+        );
+        assert_eq!(
+            map.at_or_before(to),
+            plain.range(..=to).next_back().map(|it| (*it.0, *it.1))
+        );
+        assert_eq!(map.count(from..to), plain.range(from..to).count());
         if turn % 100 == 0 {
             assert!(map.iter().eq(plain.iter().map(|it| (*it.0, *it.1))));
             assert!(map.keys().rev().eq(plain.keys().rev().copied()));
             assert!(map.values().eq(plain.values().copied()));
             assert_eq!(format!("{map:?}"), format!("{plain:?}"));
-            assert_eq!(map.first_key_value(), plain.first_key_value().map(|it| (*it.0, *it.1)));
-            assert_eq!(map.last_key_value(), plain.last_key_value().map(|it| (*it.0, *it.1)));
+            assert_eq!(
+                map.first_key_value(),
+                plain.iter().next().map(|it| (*it.0, *it.1))
+            );
+            assert_eq!(
+                map.last_key_value(),
+                plain.iter().next_back().map(|it| (*it.0, *it.1))
+            );
             assert_eq!(map.clone(), map);
         }
     }
@@ -98,7 +132,16 @@ fn a_map_is_a_map() {
 fn both_ends_meet() {
     let set: Judy1 = [0, 5, u64::MAX].into_iter().collect();
     let mut keys = set.iter();
-    assert_eq!((keys.next(), keys.next_back(), keys.next(), keys.next(), keys.next_back()), (Some(0), Some(u64::MAX), Some(5), None, None));
+    assert_eq!(
+        (
+            keys.next(),
+            keys.next_back(),
+            keys.next(),
+            keys.next(),
+            keys.next_back()
+        ),
+        (Some(0), Some(u64::MAX), Some(5), None, None)
+    );
     assert_eq!(set.range(6..6).next(), None);
     assert_eq!(set.range(1..=4).next_back(), None);
 }

@@ -206,7 +206,8 @@ class WithoutMemory(unittest.TestCase):
 
 
 def load_tests(_loader, tests, _pattern):
-    tests.addTests(doctest.DocTestSuite(sellumaq))
+    for module in (sellumaq, sellumaq._maps, sellumaq._strings, sellumaq._words):
+        tests.addTests(doctest.DocTestSuite(module))
     return tests
 
 

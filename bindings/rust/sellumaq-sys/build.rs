@@ -22,9 +22,17 @@ fn main() {
 
 // The folders that pkg-config names; none where it isn't there, or doesn't know the library.
 fn told_folders() -> Vec<String> {
-    let Ok(told) = Command::new("pkg-config").args(["--libs-only-L", "sellumaq"]).output() else {
-        return Vec::new();
+    let told = match Command::new("pkg-config")
+        .args(["--libs-only-L", "sellumaq"])
+        .output()
+    {
+        Ok(told) => told,
+        Err(_) => return Vec::new(),
     };
     let words = String::from_utf8_lossy(&told.stdout).into_owned();
-    words.split_whitespace().filter_map(|word| word.strip_prefix("-L")).map(str::to_owned).collect()
+    words
+        .split_whitespace()
+        .filter_map(|word| word.strip_prefix("-L"))
+        .map(str::to_owned)
+        .collect()
 }

@@ -1,0 +1,102 @@
+/* Steps through the arrays of all kinds by HP's names, each told in a line: linked against HP's libJudy, it tells the same over Sellumaq's. */
+#include <Judy.h>
+
+#include <string.h>
+
+#include "check.h"
+
+enum { STEPS = 20000 };
+
+static Pvoid_t set, map, strings, bytes;
+
+/* A word near others, so that searches meet keys and gaps. */
+static Word_t word(void) {
+    Word_t kind = any() % 4, low = any() % 600;
+    return kind == 0 ? low : kind == 1 ? -low : kind == 2 ? low << 40 : low * 0x9E3779B97F4A7C15;
+}
+
+static void letters(uint8_t *string) {
+    Word_t length = any() % 12;
+    for (Word_t at = 0; at < length; at++) string[at] = at < 7 ? 'a' : (uint8_t)('a' + any() % 3);
+    string[length] = 0;
+    if (length) string[length - 1] = (uint8_t)('a' + any() % 5);
+}
+
+static void tell(const char *name, long answer, Word_t key) { printf("%s %ld %lu\n", name, answer, answer > 0 ? key : 0); }
+
+static void tell_slot(const char *name, const Word_t *slot, Word_t key) {
+    printf("%s %d %lu %lu\n", name, slot != NULL, slot ? key : 0, slot ? *slot : 0);
+}
+
+/* A search that finds nothing leaves its word as anything, so each begins at another. */
+static void step_words(Word_t value) {
+    Word_t key = word(), to = word(), *slot;
+    int found;
+    Word_t n = any() % 400;
+    switch (any() % 22) {
+    case 0: case 1: case 2: J1S(found, set, key); tell("J1S", found, 0); break;
+    case 3: case 4: J1U(found, set, key); tell("J1U", found, 0); break;
+    case 5: J1F(found, set, key); tell("J1F", found, key); J1N(found, set, to); tell("J1N", found, to); break;
+    case 6: J1L(found, set, key); tell("J1L", found, key); J1P(found, set, to); tell("J1P", found, to); break;
+    case 7: J1FE(found, set, key); tell("J1FE", found, key); J1PE(found, set, to); tell("J1PE", found, to); break;
+    case 8: J1NE(found, set, key); tell("J1NE", found, key); J1LE(found, set, to); tell("J1LE", found, to); break;
+    case 9: J1C(n, set, key, to); tell("J1C", 1, n); break;
+    case 10: J1BC(found, set, n, key); tell("J1BC", found, key); J1T(found, set, to); tell("J1T", found, to); break;
+    case 11: case 12: case 13: JLI(slot, map, key); tell_slot("JLI", slot, key); *slot = value; break;
+    case 14: case 15: JLD(found, map, key); tell("JLD", found, 0); break;
+    case 16: JLG(slot, map, key); tell_slot("JLG", slot, key); JLBC(slot, map, n, to); tell_slot("JLBC", slot, to); break;
+    case 17: JLF(slot, map, key); tell_slot("JLF", slot, key); JLP(slot, map, to); tell_slot("JLP", slot, to); break;
+    case 18: JLL(slot, map, key); tell_slot("JLL", slot, key); JLN(slot, map, to); tell_slot("JLN", slot, to); break;
+    case 19: JLFE(found, map, key); tell("JLFE", found, key); JLPE(found, map, to); tell("JLPE", found, to); break;
+    case 20: JLNE(found, map, key); tell("JLNE", found, key); JLLE(found, map, to); tell("JLLE", found, to); break;
+    default: JLC(n, map, key, to); tell("JLC", 1, n);
+    }
+}
+
+static void step_strings(Word_t value) {
+    uint8_t string[16];
+    Word_t *slot = NULL, length;
+    int found;
+    letters(string);
+    length = strlen((char *)string);
+    switch (any() % 11) {
+    case 0: case 1: JSLI(slot, strings, string); tell_slot("JSLI", slot, 0); *slot = value; return;
+    case 2: JSLD(found, strings, string); tell("JSLD", found, 0); return;
+    case 3: JSLG(slot, strings, string); break;
+    case 4: JSLF(slot, strings, string); break;
+    case 5: JSLN(slot, strings, string); break;
+    case 6: JSLL(slot, strings, string); break;
+    case 7: JSLP(slot, strings, string); break;
+    case 8: JHSI(slot, bytes, string, length); tell_slot("JHSI", slot, 0); *slot = value; return;
+    case 9: JHSD(found, bytes, string, length); tell("JHSD", found, 0); return;
+    default: JHSG(slot, bytes, string, length); tell_slot("JHSG", slot, 0); return;
+    }
+    tell_slot(slot ? (char *)string : "none", slot, 0);
+}
+
+/* Takes out all keys but those of the byte strings, which can't be walked: each array is null then. */
+static void empty(void) {
+    Word_t key = 0, *slot, count = 0;
+    uint8_t string[16] = "";
+    int found;
+    J1F(found, set, key);
+    while (found) { count++; J1U(found, set, key); J1N(found, set, key); }
+    key = 0;
+    JLF(slot, map, key);
+    while (slot) { count += *slot; JLD(found, map, key); JLN(slot, map, key); }
+    JSLF(slot, strings, string);
+    while (slot) { count += *slot; JSLD(found, strings, string); JSLN(slot, strings, string); }
+    JHSFA(key, bytes);
+    printf("emptied %lu: %d %d %d %d\n", count, set == NULL, map == NULL, strings == NULL, bytes == NULL);
+}
+
+int main(void) {
+    for (int turn = 0; turn < 3; turn++) {
+        for (Word_t at = 0; at < STEPS; at++) {
+            step_words(at);
+            step_strings(at);
+        }
+        empty();
+    }
+    return 0;
+}

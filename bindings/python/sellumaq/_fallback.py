@@ -1,0 +1,371 @@
+"""The types of the extension over the shared library, by ctypes. Its calls are made under the GIL (`PyDLL`), so each is whole before another thread
+goes on, or a signal handler runs.
+
+Between a string's slot and its write Python may do something else, so a map from strings is changed by one call at a time: another thread
+waits, and a signal handler or a finalizer that changes the same map below such a call gets a RuntimeError.
+"""
+
+from __future__ import annotations
+
+import ctypes
+import os
+import sys
+import threading
+from operator import index as whole
+
+if not getattr(sys, "_is_gil_enabled", lambda: True)():
+    raise ImportError("sellumaq's ctypes binding needs the GIL")
+
+MAX = 2**64 - 1
+MAX_KEY = 1024
+KEYS, VALUES, ITEMS = range(3)
+
+_library = ctypes.PyDLL(os.environ.get("SELLUMAQ_LIBRARY", "libsellumaq.so.0"))
+_word = ctypes.c_uint64
+_slot = ctypes.POINTER(_word)
+_key = (ctypes.c_char_p, ctypes.c_size_t)
+_buffer = (*_key, ctypes.POINTER(ctypes.c_size_t), _slot)
+
+# What calls answer that have more than yes and no to tell; a yes is 1 too.
+_FOUND, _NO_MEMORY, _FULL, _BAD_KEY = 1, 2, 3, 4
+
+_MISSING = object()
+
+
+class _Handle(ctypes.Structure):
+    _fields_ = [("array", ctypes.c_void_p)]
+
+
+def _call(name, result, *words):
+    call = getattr(_library, "sellumaq_" + name)
+    call.restype = result
+    call.argtypes = [ctypes.POINTER(_Handle), *words]
+    return call
+
+
+def _calls(kind, result, **calls):
+    """The calls of a kind that answer alike, by what they are given, and those that all kinds have."""
+    told = {name: _call(f"{kind}_{name}", result, *words) for name, words in calls.items()}
+    return told | {name: _call(f"{kind}_{name}", _word) for name in ("len", "free")}
+
+
+def _word_calls(kind, **calls):
+    searches = dict.fromkeys(("first", "last", "first_empty", "last_empty", "by_count"), (_word, _slot))
+    return _calls(kind, ctypes.c_bool, **searches, **calls) | {"count": _call(f"{kind}_count", _word, _word, _word)}
+
+
+def _string_calls(kind, *scans):
+    found = _calls(kind, ctypes.c_bool, get=(*_key, _slot), **{"del": _key})
+    return found | _calls(kind, ctypes.c_uint32, ins=(*_key, ctypes.POINTER(_slot)), **dict.fromkeys(scans, _buffer))
+
+
+def _checked(number):
+    word = whole(number)
+    if not 0 <= word <= MAX:
+        raise ValueError(f"not a word of 64 bits: {word}")
+    return word
+
+
+class _Array:
+    """What all kinds have alike. `_passed` is what C is given for a key, or None where the object can't be one."""
+
+    # An array keeps the calls of the kind that it was made as, also where its class is set to another.
+    __slots__ = ("_handle", "_calls", "_turn")
+
+    def __new__(cls, *_, **__):
+        self = super().__new__(cls)
+        self._handle, self._calls = _Handle(), cls._kind
+        return self
+
+    def __del__(self):
+        if hasattr(self, "_handle"):
+            self._calls["free"](self._handle)
+
+    def __len__(self):
+        return self._calls["len"](self._handle)
+
+    def clear(self):
+        """Takes every key out and gives the memory back."""
+        self._calls["free"](self._handle)
+
+    def _has(self, call, key, *more):
+        """What a call answers for a key; what can be none isn't there."""
+        passed = self._passed(key)
+        return passed is not None and self._calls[call](self._handle, *passed, *more)
+
+
+class _Map(_Array):
+    """What dicts have alike."""
+
+    def __contains__(self, key):
+        return self._has("get", key, _word())
+
+    def __getitem__(self, key):
+        value = _word()
+        if self._has("get", key, value):
+            return value.value
+        raise KeyError(key)
+
+    def __delitem__(self, key):
+        if not self._has("del", key):
+            raise KeyError(key)
+
+    def get(self, key, default=None, /):
+        """The value of a key, or the default where it isn't there."""
+        value = _word()
+        return value.value if self._has("get", key, value) else default
+
+    def pop(self, key, default=_MISSING, /):
+        """Takes a key out and answers its value, or the default."""
+        value = _word()
+        if self._has("get", key, value):
+            self._has("del", key)
+            return value.value
+        if default is _MISSING:
+            raise KeyError(key)
+        return default
+
+
+class _Words(_Array):
+    """What sets and dicts of words have alike."""
+
+    @staticmethod
+    def _passed(key):
+        if not hasattr(type(key), "__index__"):
+            return None
+        word = whole(key)
+        return (word,) if 0 <= word <= MAX else None
+
+    def _found(self, name, word):
+        found = _word()
+        return found.value if self._calls[name](self._handle, word, found) else None
+
+    def _within(self, name, number):
+        """A search from a number on, or down; one past the words' end on its own side finds nothing, past the other one all."""
+        word, down = whole(number), name.startswith("last")
+        if (word < 0) if down else (word > MAX):
+            return None
+        return self._found(name, min(max(word, 0), MAX))
+
+    def at_or_after(self, word):
+        """The least key from a number on, or None."""
+        return self._within("first", word)
+
+    def at_or_before(self, word):
+        """The greatest key up to a number, or None."""
+        return self._within("last", word)
+
+    def absent_at_or_after(self, word):
+        """The least word from a number on that is no key, or None."""
+        return self._within("first_empty", word)
+
+    def absent_at_or_before(self, word):
+        """The greatest word up to a number that is no key, or None."""
+        return self._within("last_empty", word)
+
+    def bisect_left(self, number):
+        """How many keys there are below a number."""
+        return self.bisect_right(whole(number) - 1)
+
+    def bisect_right(self, number):
+        """How many keys there are up to a number."""
+        word = whole(number)
+        return self._calls["count"](self._handle, 0, min(word, MAX)) if word >= 0 else 0
+
+    def _at(self, place):
+        if isinstance(place, slice):
+            found = (self._found("by_count", n + 1) for n in range(*place.indices(len(self))))
+            return [key for key in found if key is not None]
+        at = whole(place)
+        at += len(self) if at < 0 else 0
+        key = self._found("by_count", at + 1) if 0 <= at < MAX else None
+        if key is None:
+            raise IndexError(f"no key at place {place!r}")
+        return key
+
+    def _cursor(self, part, low, high, reverse):
+        name, key, value = ("last" if reverse else "first"), _word(), _word()
+        call = self._calls[name if part == KEYS else name + "_entry"]
+        told = (key,) if part == KEYS else (key, value)
+        at = high if reverse else low
+        while low <= at <= high and call(self._handle, at, *told) and low <= key.value <= high:
+            found = key.value
+            yield found if part == KEYS else value.value if part == VALUES else (found, value.value)
+            at = found - 1 if reverse else found + 1
+
+
+class WordSet(_Words):
+    _kind = _word_calls("judy1", unset=(_word,), test=(_word,)) | {"set": _call("judy1_set", ctypes.c_uint32, _word)}
+
+    def __contains__(self, key):
+        return self._has("test", key)
+
+    def __getitem__(self, place):
+        return self._at(place)
+
+    def add(self, key):
+        """Puts a key in. MemoryError where there is no memory for it; the set is as it was then."""
+        if self._calls["set"](self._handle, _checked(key)) == _NO_MEMORY:
+            raise MemoryError
+
+    def discard(self, key):
+        """Takes a key out, where it is there."""
+        self._has("unset", key)
+
+    def remove(self, key):
+        """Takes a key out; KeyError where it isn't there."""
+        if not self._has("unset", key):
+            raise KeyError(key)
+
+    def _fill(self, keys):
+        for key in keys:
+            WordSet.add(self, key)
+
+
+_ENTRY = (_word, _slot, _slot)
+
+
+class WordMap(_Words, _Map):
+    _kind = _word_calls("judyl", get=(_word, _slot), first_entry=_ENTRY, last_entry=_ENTRY, **{"del": (_word,)}) | {
+        "put": _call("judyl_put", ctypes.c_uint32, _word, _word)
+    }
+
+    def __setitem__(self, key, value):
+        if self._calls["put"](self._handle, _checked(key), _checked(value)) == _NO_MEMORY:
+            raise MemoryError
+
+    def _fill(self, pairs):
+        for key, value in pairs:
+            WordMap.__setitem__(self, key, value)
+
+
+class _Turn:
+    """One change of a map at a time."""
+
+    def __init__(self):
+        self._lock = threading.RLock()
+        self._taken = False
+
+    def __enter__(self):
+        self._lock.acquire()
+        if self._taken:
+            self._lock.release()
+            raise RuntimeError("the map is being changed below this call")
+        self._taken = True
+
+    def __exit__(self, *_):
+        self._taken = False
+        self._lock.release()
+
+
+class _Strings(_Map):
+    """What maps from strings have alike. `_bytes` is a key's bytes, or a TypeError."""
+
+    def __new__(cls, *_, **__):
+        self = super().__new__(cls)
+        self._turn = _Turn()
+        return self
+
+    def _passed(self, key):
+        try:
+            key = self._bytes(key)
+        except TypeError:
+            return None
+        return (key, len(key)) if len(key) <= MAX_KEY else None
+
+    def __setitem__(self, key, value):
+        slot, word, string = _slot(), _checked(value), self._bytes(key)
+        with self._turn:
+            told = self._calls["ins"](self._handle, string, len(string), slot)
+            if told == _FOUND:
+                slot[0] = word
+        if told == _BAD_KEY:
+            raise ValueError(f"more than {MAX_KEY} bytes, or with a zero byte: {key!r}")
+        if told == _FULL:
+            raise OverflowError("the dict is full")
+        if told != _FOUND:
+            raise MemoryError
+
+    def __delitem__(self, key):
+        with self._turn:
+            super().__delitem__(key)
+
+    def pop(self, key, default=_MISSING, /):
+        """Takes a key out and answers its value, or the default."""
+        with self._turn:
+            return super().pop(key, default)
+
+    def clear(self):
+        """Takes every key out and gives the memory back."""
+        with self._turn:
+            super().clear()
+
+    def __del__(self):
+        if hasattr(self, "_turn"):
+            self.clear()
+
+
+class _Text:
+    @staticmethod
+    def _bytes(key):
+        if not isinstance(key, str):
+            raise TypeError(f"not a str: {key!r}")
+        return key.encode("utf-8", "surrogatepass")
+
+    @staticmethod
+    def _object(key):
+        return key.decode("utf-8", "surrogatepass")
+
+
+class _Bytes:
+    @staticmethod
+    def _bytes(key):
+        return bytes(memoryview(key))
+
+    @staticmethod
+    def _object(key):
+        return key
+
+
+def _could_be_key(string):
+    """The longest beginning of bytes that can be a key of a JudySL, and whether it is all of them. Where it isn't, no key lies between the
+    two: the bytes go on with a zero, or are more than a key has."""
+    key = string[:MAX_KEY].partition(b"\0")[0]
+    return key, len(key) == len(string)
+
+
+class _OrderedStrings(_Strings):
+    _kind = _string_calls("judysl", "first", "next", "last", "prev")
+
+    def _cursor(self, part, low, high, reverse):
+        bound = high if reverse else low
+        start, is_all = _could_be_key(bound) if bound is not None else (b"\xff" * MAX_KEY if reverse else b"", True)
+        beyond = "prev" if reverse else "next"
+        scan = "last" if reverse else "first" if is_all else "next"
+        key, length, value = ctypes.create_string_buffer(start, MAX_KEY), ctypes.c_size_t(len(start)), _word()
+        while self._calls[scan](self._handle, key, MAX_KEY, length, value) == _FOUND:
+            found = ctypes.string_at(key, length.value)
+            if (low is not None and found < low) if reverse else (high is not None and found > high):
+                return
+            yield value.value if part == VALUES else self._object(found) if part == KEYS else (self._object(found), value.value)
+            scan = beyond
+
+
+class TextMap(_Text, _OrderedStrings):
+    pass
+
+
+class BytesMap(_Bytes, _OrderedStrings):
+    pass
+
+
+class _Hash(_Strings):
+    _kind = _string_calls("judyhs")
+
+
+class TextHash(_Text, _Hash):
+    pass
+
+
+class BytesHash(_Bytes, _Hash):
+    pass

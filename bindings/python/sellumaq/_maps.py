@@ -1,0 +1,114 @@
+"""What dicts have alike."""
+
+from __future__ import annotations
+
+from collections.abc import Iterable, Mapping, MutableMapping
+from typing import Any
+
+_MISSING = object()
+
+
+def pairs_of(other: Any) -> Iterable[Any]:
+    """The pairs of what a dict is updated with: a mapping, what has `keys`, or an iterable of pairs."""
+    if isinstance(other, Mapping):
+        return other.items()
+    if hasattr(other, "keys"):
+        return ((key, other[key]) for key in other.keys())
+    return other
+
+
+class Dict(MutableMapping):
+    """What all dicts have alike; `_fill` puts pairs in."""
+
+    def __init__(self, other: Any = (), /, **more: int) -> None:
+        self.update(other, **more)
+
+    def update(self, other: Any = (), /, **more: int) -> None:
+        """Puts pairs in, as dict's does. An error leaves those before it.
+
+        >>> from sellumaq import JudySL
+        >>> ages = JudySL(Ada=35)
+        >>> ages.update({"Ada": 36}, Alan=41)
+        >>> ages
+        JudySL({'Ada': 36, 'Alan': 41})
+        """
+        self._fill(pairs_of(other))
+        if more:
+            self._fill(more.items())
+
+    def setdefault(self, key: Any, default: int = 0, /) -> int:
+        """The value of a key, which gets the default where it isn't there.
+
+        >>> from sellumaq import JudyL
+        >>> map = JudyL({1: 5})
+        >>> map.setdefault(1, 7), map.setdefault(2, 7), map[2]
+        (5, 7, 7)
+        """
+        value = self.get(key, _MISSING)
+        if value is _MISSING:
+            self[key] = default
+            return default
+        return value
+
+    @classmethod
+    def fromkeys(cls, keys: Iterable[Any], value: int = 0, /) -> Any:
+        """A dict of these keys, each with the value.
+
+        >>> from sellumaq import JudyL
+        >>> JudyL.fromkeys([3, 1], 9)
+        JudyL({1: 9, 3: 9})
+        """
+        made = cls()
+        made._fill((key, value) for key in keys)
+        return made
+
+
+class Copied:
+    """What dicts have alike whose pairs can be walked through."""
+
+    def copy(self) -> Any:
+        """Another dict of the same pairs.
+
+        >>> from sellumaq import JudyL
+        >>> JudyL({1: 2}).copy()
+        JudyL({1: 2})
+        """
+        made = type(self)()
+        made._fill(self.items())
+        return made
+
+    __copy__ = copy
+
+    def __deepcopy__(self, _: Any) -> Any:
+        return self.copy()
+
+    def __reduce__(self) -> Any:
+        return type(self), (dict(self.items()),), getattr(self, "__dict__", None) or None
+
+    def __or__(self, other: Any) -> Any:
+        if not isinstance(other, Mapping):
+            return NotImplemented
+        made = self.copy()
+        made.update(other)
+        return made
+
+    def __ror__(self, other: Any) -> Any:
+        if not isinstance(other, Mapping):
+            return NotImplemented
+        made = type(self)(other)
+        made.update(self)
+        return made
+
+    def __ior__(self, other: Any) -> Any:
+        self.update(other)
+        return self
+
+    def __eq__(self, other: object) -> bool:
+        if not isinstance(other, Mapping):
+            return NotImplemented
+        return len(self) == len(other) and all(other.get(key, _MISSING) == value for key, value in self.items())
+
+    __hash__ = None
+
+    def __repr__(self) -> str:
+        return type(self).__name__ + "({" + ", ".join(f"{key!r}: {value}" for key, value in self.items()) + "})"

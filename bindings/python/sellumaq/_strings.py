@@ -1,0 +1,184 @@
+"""Dicts from strings and byte strings to words."""
+
+from __future__ import annotations
+
+from collections.abc import Iterable, Iterator, Mapping
+from typing import Any
+
+from . import _core, _views
+from ._core import ITEMS, KEYS, VALUES
+from ._maps import Copied, Dict
+
+
+class _Text:
+    """Keys that are str. C sees them in UTF-8, surrogates too, so that each has bytes of its own and these are in the order of the strings."""
+
+    @staticmethod
+    def _encoded(key: str) -> bytes:
+        if not isinstance(key, str):
+            raise TypeError(f"not a str: {key!r}")
+        return key.encode("utf-8", "surrogatepass")
+
+
+class _Bytes:
+    """Keys that are bytes, or lend some."""
+
+    @staticmethod
+    def _encoded(key: Any) -> bytes:
+        return bytes(memoryview(key))
+
+
+class _Strings(Dict):
+    """What dicts from strings have alike."""
+
+    def _fill(self, pairs: Iterable[Any]) -> None:
+        for key, value in pairs:
+            self[key] = value
+
+
+class _Ordered(Copied, _Strings):
+    """What both kinds of JudySL have alike. A bound may be any string, also one that can't be a key."""
+
+    def __iter__(self) -> Iterator[Any]:
+        return self._cursor(KEYS, None, None, False)
+
+    def __reversed__(self) -> Iterator[Any]:
+        return self._cursor(KEYS, None, None, True)
+
+    def _items(self, reverse: bool) -> Iterator[tuple[Any, int]]:
+        return self._cursor(ITEMS, None, None, reverse)
+
+    def _values(self, reverse: bool) -> Iterator[int]:
+        return self._cursor(VALUES, None, None, reverse)
+
+    def keys(self) -> _views.Keys:
+        """The keys, in order."""
+        return _views.Keys(self)
+
+    def items(self) -> _views.Items:
+        """The pairs, by the order of their keys."""
+        return _views.Items(self)
+
+    def values(self) -> _views.Values:
+        """The values, by the order of their keys."""
+        return _views.Values(self)
+
+    def at_or_after(self, string: Any) -> Any:
+        """The least key from a string on, or None.
+
+        >>> from sellumaq import JudySL
+        >>> JudySL(Ada=36, Grace=85).at_or_after("B")
+        'Grace'
+        """
+        return next(self._cursor(KEYS, self._encoded(string), None, False), None)
+
+    def at_or_before(self, string: Any) -> Any:
+        """The greatest key up to a string, or None.
+
+        >>> from sellumaq import JudySL
+        >>> JudySL(Ada=36, Grace=85).at_or_before("B")
+        'Ada'
+        """
+        return next(self._cursor(KEYS, None, self._encoded(string), True), None)
+
+    def irange(self, minimum: Any = None, maximum: Any = None, inclusive: tuple[bool, bool] = (True, True), reverse: bool = False) -> Iterator[Any]:
+        """The keys from a least to a greatest string, each included if `inclusive` says so.
+
+        >>> from sellumaq import JudySL
+        >>> list(JudySL(a=1, b=2, c=3).irange("a", "c", (False, True)))
+        ['b', 'c']
+        """
+        low, high = (None if bound is None else self._encoded(bound) for bound in (minimum, maximum))
+        keys = self._cursor(KEYS, low, high, reverse)
+        out = [bound for bound, kept in zip((minimum, maximum), inclusive) if not kept and bound is not None]
+        return (key for key in keys if key not in out) if out else keys
+
+    def range(self, start: Any = None, stop: Any = None) -> Iterator[Any]:
+        """The keys from start on and below stop, in ascending order.
+
+        >>> from sellumaq import JudySL
+        >>> list(JudySL(a=1, b=2, c=3).range("a", "c"))
+        ['a', 'b']
+        """
+        return self.irange(start, stop, (True, False))
+
+    def peekitem(self, *, last: bool = True) -> tuple[Any, int]:
+        """The last pair, or the first one; IndexError where the dict is empty.
+
+        >>> from sellumaq import JudySL
+        >>> JudySL(a=1, b=2).peekitem(last=False)
+        ('a', 1)
+        """
+        pair = next(self._items(last), None)
+        if pair is None:
+            raise IndexError("the dict is empty")
+        return pair
+
+    def popitem(self, *, last: bool = True) -> tuple[Any, int]:
+        """Takes out the last pair, or the first one; KeyError where the dict is empty.
+
+        >>> from sellumaq import JudySL
+        >>> ages = JudySL(a=1, b=2)
+        >>> ages.popitem(), ages
+        (('b', 2), JudySL({'a': 1}))
+        """
+        if not self:
+            raise KeyError("popitem(): dictionary is empty")
+        key, _ = self.peekitem(last=last)
+        return key, self.pop(key)
+
+
+class JudySL(_core.TextMap, _Text, _Ordered):
+    """A dict from str without "\\0", of at most 1,024 bytes in UTF-8, to words, in order.
+
+    >>> ages = JudySL(Grace=85, Alan=41, Ada=36)
+    >>> ages["Ada"], ages.get("Bob"), ages.pop("Alan"), list(reversed(ages))
+    (36, None, 41, ['Grace', 'Ada'])
+    """
+
+
+class JudySLBytes(_core.BytesMap, _Bytes, _Ordered):
+    """A dict from bytes without a zero, at most 1,024 of them, to words, in order.
+
+    >>> JudySLBytes([(b"b", 1), (bytearray(b"a"), 2)])
+    JudySLBytes({b'a': 2, b'b': 1})
+    """
+
+
+class _Unordered(_Strings):
+    """What both kinds of JudyHS have alike. What would need a walk through the keys is a TypeError."""
+
+    __iter__ = None
+    __hash__ = None
+
+    def __eq__(self, other: object) -> bool:
+        if self is other:
+            return True
+        if not isinstance(other, Mapping):
+            return NotImplemented
+        if len(self) != len(other):
+            return False
+        return not self or all(self.get(key) == value for key, value in other.items())
+
+    def __reduce__(self) -> Any:
+        raise TypeError(f"a {type(self).__name__} can't be copied: there is no walk through its keys")
+
+    def __repr__(self) -> str:
+        return f"<{type(self).__name__} of {len(self)} keys>"
+
+
+class JudyHS(_core.TextHash, _Text, _Unordered):
+    """A dict from str of at most 1,024 bytes in UTF-8 to words, in no order and with no walk.
+
+    >>> ages = JudyHS(Ada=36)
+    >>> ages["Ada"], len(ages), ages == {"Ada": 36}
+    (36, 1, True)
+    """
+
+
+class JudyHSBytes(_core.BytesHash, _Bytes, _Unordered):
+    """A dict from at most 1,024 bytes to words, in no order and with no walk.
+
+    >>> JudyHSBytes({b"a\\0": 1})[b"a\\0"]
+    1
+    """

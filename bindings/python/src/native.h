@@ -1,0 +1,68 @@
+/* What the files of the extension share.
+ *
+ * Each call of the library is made under the GIL, and between its first and its last instruction no Python code runs: what may run
+ * some (`__index__`, a buffer, a collection of garbage) comes before the handle is touched or after. A slot is written in the
+ * function that got it. So a thread, a signal handler or a finalizer finds each array between two calls.
+ */
+#ifndef SELLUMAQ_NATIVE_H
+#define SELLUMAQ_NATIVE_H
+
+#define PY_SSIZE_T_CLEAN
+#define Py_LIMITED_API 0x030b0000
+#include <Python.h>
+#include <stdbool.h>
+#include <stdint.h>
+
+#include "sellumaq.h"
+
+typedef union {
+    sellumaq_judy1 set;
+    sellumaq_judyl map;
+    sellumaq_judysl strings;
+    sellumaq_judyhs hashed;
+} Handle;
+
+/* Where cursors stand in an array is good until these change. */
+typedef struct {
+    uint64_t keys;   /* how often a key came or went */
+    uint64_t values; /* how often a value was replaced */
+} Changes;
+
+/* What a cursor gives of a key. */
+enum part { KEYS, VALUES, ITEMS };
+
+typedef struct {
+    PyTypeObject *word_cursor;
+    PyTypeObject *string_cursor;
+} Module;
+
+/* convert.c */
+
+/* Where a whole number lies beside the words. */
+enum side { BELOW, WITHIN, ABOVE, NO_NUMBER };
+
+/* The side of a number, with the word where it is within; NO_NUMBER with an error set. */
+enum side read_number(PyObject *number, uint64_t *word);
+
+/* A word to be stored: false with an error set where the object is none. */
+bool read_word(PyObject *object, uint64_t *word);
+
+/* A word to be looked for: 1, 0 where the object can't be one, -1 with an error set. */
+int read_key(PyObject *object, uint64_t *word);
+
+/* KeyError with one argument, whatever the key is. */
+void raise_key_error(PyObject *key);
+
+/* A key, a value or both; a new reference to the key is taken over. */
+PyObject *make_part(enum part part, PyObject *key, uint64_t value);
+
+/* `get`'s and `pop`'s arguments: a key and perhaps a default. */
+bool has_default(const char *name, Py_ssize_t count, Py_ssize_t most);
+
+/* words.c, word_cursor.c, strings.c, string_cursor.c: each adds its types to the module; -1 with an error set. */
+int add_words(PyObject *module);
+int add_word_cursor(PyObject *module);
+int add_strings(PyObject *module);
+int add_string_cursor(PyObject *module);
+
+#endif

@@ -1,0 +1,308 @@
+/* `TextMap`, `BytesMap`, `TextHash` and `BytesHash`, which JudySL, JudySLBytes, JudyHS and JudyHSBytes stand on. */
+#include <string.h>
+
+#include "strings.h"
+
+#define STRING_CALLS(kind, member)                                                                                  \
+    static uint32_t kind##_ins(Handle *handle, const uint8_t *key, size_t length, uint64_t **slot)                   \
+    {                                                                                                                \
+        return sellumaq_##kind##_ins(&handle->member, key, length, slot);                                            \
+    }                                                                                                                \
+    static bool kind##_get(Handle *handle, const uint8_t *key, size_t length, uint64_t *value)                       \
+    {                                                                                                                \
+        return sellumaq_##kind##_get(&handle->member, key, length, value);                                           \
+    }                                                                                                                \
+    static bool kind##_del(Handle *handle, const uint8_t *key, size_t length)                                        \
+    {                                                                                                                \
+        return sellumaq_##kind##_del(&handle->member, key, length);                                                  \
+    }                                                                                                                \
+    static uint64_t kind##_len(Handle *handle) { return sellumaq_##kind##_len(&handle->member); }                    \
+    static uint64_t kind##_free(Handle *handle) { return sellumaq_##kind##_free(&handle->member); }                  \
+    static const StringCalls kind##_calls = {kind##_ins, kind##_get, kind##_del, kind##_len, kind##_free};
+
+STRING_CALLS(judysl, strings)
+STRING_CALLS(judyhs, hashed)
+
+/* A key's bytes. Those of a bytes-like object are a copy, since what it lends may change below the call. */
+typedef struct {
+    PyObject *owner; /* what keeps `bytes`, or NULL */
+    const uint8_t *bytes;
+    size_t length;
+    uint8_t copy[SELLUMAQ_KEY_BYTES];
+} Key;
+
+static bool set_key(Key *key, PyObject *bytes)
+{
+    char *start;
+    Py_ssize_t length;
+    if (!bytes || PyBytes_AsStringAndSize(bytes, &start, &length) < 0) {
+        Py_XDECREF(bytes);
+        return false;
+    }
+    key->owner = bytes;
+    key->bytes = (const uint8_t *)start;
+    key->length = (size_t)length;
+    return true;
+}
+
+static bool read_text(PyObject *object, Key *key)
+{
+    if (!PyUnicode_Check(object)) {
+        PyErr_Format(PyExc_TypeError, "not a str: %R", object);
+        return false;
+    }
+    return set_key(key, PyUnicode_AsEncodedString(object, "utf-8", "surrogatepass"));
+}
+
+static bool read_bytes(PyObject *object, Key *key)
+{
+    Py_buffer view;
+    if (PyBytes_Check(object))
+        return set_key(key, Py_NewRef(object));
+    if (PyObject_GetBuffer(object, &view, PyBUF_SIMPLE) < 0)
+        return false;
+    key->owner = NULL;
+    key->length = (size_t)view.len;
+    key->bytes = key->copy;
+    if (key->length <= sizeof key->copy)
+        memcpy(key->copy, view.buf, key->length);
+    PyBuffer_Release(&view);
+    return true;
+}
+
+/* The bytes of a key that is to be stored: false with an error set where the object is of no such kind. */
+static bool read_string(const Strings *self, PyObject *object, Key *key)
+{
+    return self->is_text ? read_text(object, key) : read_bytes(object, key);
+}
+
+static bool is_too_long(const Key *key) { return key->length > SELLUMAQ_KEY_BYTES; }
+
+/* The bytes of a key that is looked for: 1, 0 where the object can't be one, -1 with an error set. */
+static int find_string(const Strings *self, PyObject *object, Key *key)
+{
+    if (self->is_text ? !PyUnicode_Check(object) : !PyObject_CheckBuffer(object))
+        return 0;
+    if (!read_string(self, object, key))
+        return -1;
+    if (!is_too_long(key))
+        return 1;
+    Py_XDECREF(key->owner);
+    return 0;
+}
+
+/* Reads a key's value, and takes the key out if that is wanted: 1, 0 where it isn't there, -1 with an error set. */
+static int find_value(Strings *self, PyObject *object, uint64_t *value, bool take_out)
+{
+    Key key;
+    int found = find_string(self, object, &key);
+    if (found != 1)
+        return found;
+    found = self->calls->get(&self->handle, key.bytes, key.length, value);
+    if (found && take_out)
+        self->calls->del(&self->handle, key.bytes, key.length);
+    Py_XDECREF(key.owner);
+    return found;
+}
+
+/* Gives a key a value, by a slot that is used before anything else is done. */
+static uint32_t put(Strings *self, const Key *key, uint64_t value)
+{
+    uint64_t *slot;
+    if (is_too_long(key))
+        return SELLUMAQ_BAD_KEY;
+    uint32_t told = self->calls->ins(&self->handle, key->bytes, key->length, &slot);
+    if (told == SELLUMAQ_FOUND)
+        *slot = value;
+    return told;
+}
+
+static bool put_value(Strings *self, PyObject *object, PyObject *value)
+{
+    Key key;
+    uint64_t number;
+    if (!read_word(value, &number) || !read_string(self, object, &key))
+        return false;
+    uint32_t told = put(self, &key, number);
+    Py_XDECREF(key.owner);
+    switch (told) {
+    case SELLUMAQ_FOUND:
+        return true;
+    case SELLUMAQ_BAD_KEY:
+        PyErr_Format(PyExc_ValueError, "more than %d bytes, or with a zero byte: %R", SELLUMAQ_KEY_BYTES, object);
+        return false;
+    case SELLUMAQ_FULL:
+        PyErr_SetString(PyExc_OverflowError, "the dict is full");
+        return false;
+    default:
+        PyErr_NoMemory();
+        return false;
+    }
+}
+
+/* ---- Python's calls ---- */
+
+static PyObject *new_strings(PyTypeObject *type, const StringCalls *calls, bool is_text)
+{
+    allocfunc allocate = (allocfunc)PyType_GetSlot(type, Py_tp_alloc);
+    Strings *self = (Strings *)allocate(type, 0);
+    if (self) {
+        self->calls = calls;
+        self->is_text = is_text;
+    }
+    return (PyObject *)self;
+}
+
+#define NEW(name, calls, is_text)                                                                      \
+    static PyObject *name(PyTypeObject *type, PyObject *Py_UNUSED(args), PyObject *Py_UNUSED(keywords)) \
+    {                                                                                                  \
+        return new_strings(type, &calls, is_text);                                                     \
+    }
+NEW(new_text_map, judysl_calls, true)
+NEW(new_bytes_map, judysl_calls, false)
+NEW(new_text_hash, judyhs_calls, true)
+NEW(new_bytes_hash, judyhs_calls, false)
+
+static void strings_dealloc(PyObject *object)
+{
+    PyTypeObject *type = Py_TYPE(object);
+    Strings *self = (Strings *)object;
+    self->calls->free(&self->handle);
+    ((freefunc)PyType_GetSlot(type, Py_tp_free))(object);
+    Py_DECREF((PyObject *)type);
+}
+
+static Py_ssize_t strings_len(PyObject *object)
+{
+    Strings *self = (Strings *)object;
+    return (Py_ssize_t)self->calls->len(&self->handle);
+}
+
+static int strings_contains(PyObject *self, PyObject *key)
+{
+    uint64_t value;
+    return find_value((Strings *)self, key, &value, false);
+}
+
+static PyObject *strings_item(PyObject *self, PyObject *key)
+{
+    uint64_t value;
+    int found = find_value((Strings *)self, key, &value, false);
+    if (found == 1)
+        return PyLong_FromUnsignedLongLong(value);
+    if (found == 0)
+        raise_key_error(key);
+    return NULL;
+}
+
+static int strings_set_item(PyObject *object, PyObject *key, PyObject *value)
+{
+    uint64_t old;
+    if (value)
+        return put_value((Strings *)object, key, value) ? 0 : -1;
+    int found = find_value((Strings *)object, key, &old, true);
+    if (found == 0)
+        raise_key_error(key);
+    return found == 1 ? 0 : -1;
+}
+
+static PyObject *strings_clear(PyObject *object, PyObject *Py_UNUSED(none))
+{
+    Strings *self = (Strings *)object;
+    self->calls->free(&self->handle);
+    Py_RETURN_NONE;
+}
+
+static PyObject *strings_get(PyObject *self, PyObject *const *arguments, Py_ssize_t count)
+{
+    uint64_t value;
+    if (!has_default("get", count, 2))
+        return NULL;
+    int found = find_value((Strings *)self, arguments[0], &value, false);
+    if (found < 0)
+        return NULL;
+    return found ? PyLong_FromUnsignedLongLong(value) : Py_NewRef(count == 2 ? arguments[1] : Py_None);
+}
+
+static PyObject *strings_pop(PyObject *self, PyObject *const *arguments, Py_ssize_t count)
+{
+    uint64_t value;
+    if (!has_default("pop", count, 2))
+        return NULL;
+    int found = find_value((Strings *)self, arguments[0], &value, true);
+    if (found == 1)
+        return PyLong_FromUnsignedLongLong(value);
+    if (found == 0 && count == 2)
+        return Py_NewRef(arguments[1]);
+    if (found == 0)
+        raise_key_error(arguments[0]);
+    return NULL;
+}
+
+/* _cursor(part, low, high, reverse): a bound is bytes or None, and included. */
+static PyObject *cursor(PyObject *self, PyTypeObject *defining, PyObject *const *arguments, Py_ssize_t count, PyObject *keywords)
+{
+    uint64_t part;
+    if (count != 4 || keywords) {
+        PyErr_SetString(PyExc_TypeError, "_cursor takes a part, two bounds and whether it goes down");
+        return NULL;
+    }
+    if (!read_word(arguments[0], &part))
+        return NULL;
+    PyObject *bounds[2];
+    for (int n = 0; n < 2; n++) {
+        bounds[n] = arguments[n + 1] == Py_None ? NULL : arguments[n + 1];
+        if (bounds[n] && !PyBytes_Check(bounds[n])) {
+            PyErr_Format(PyExc_TypeError, "not bytes: %R", bounds[n]);
+            return NULL;
+        }
+    }
+    int reverse = PyObject_IsTrue(arguments[3]);
+    if (reverse < 0)
+        return NULL;
+    if (part > ITEMS) {
+        PyErr_SetString(PyExc_ValueError, "no such part");
+        return NULL;
+    }
+    Module *state = PyType_GetModuleState(defining);
+    return new_string_cursor(state->string_cursor, (Strings *)self, (enum part)part, bounds[0], bounds[1], reverse);
+}
+
+#define STRING_METHODS                                                                                                            \
+    {"clear", strings_clear, METH_NOARGS, "Takes every key out and gives the memory back."},                                      \
+    {"get", (PyCFunction)(void (*)(void))strings_get, METH_FASTCALL, "The value of a key, or the default where it isn't there."}, \
+    {"pop", (PyCFunction)(void (*)(void))strings_pop, METH_FASTCALL, "Takes a key out and answers its value, or the default."}
+
+static PyMethodDef map_methods[] = {
+    STRING_METHODS,
+    {"_cursor", (PyCFunction)(void (*)(void))cursor, METH_METHOD | METH_FASTCALL | METH_KEYWORDS, "A walk between two strings."},
+    {NULL, NULL, 0, NULL},
+};
+static PyMethodDef hash_methods[] = {STRING_METHODS, {NULL, NULL, 0, NULL}};
+
+#define STRING_SLOTS(name, new, methods)                                                                                    \
+    static PyType_Slot name##_slots[] = {                                                                                   \
+        {Py_tp_dealloc, strings_dealloc}, {Py_mp_length, strings_len}, {Py_sq_contains, strings_contains},                   \
+        {Py_mp_subscript, strings_item}, {Py_mp_ass_subscript, strings_set_item}, {Py_tp_methods, methods}, {Py_tp_new, new}, \
+        {0, NULL},                                                                                                          \
+    };
+STRING_SLOTS(TextMap, new_text_map, map_methods)
+STRING_SLOTS(BytesMap, new_bytes_map, map_methods)
+STRING_SLOTS(TextHash, new_text_hash, hash_methods)
+STRING_SLOTS(BytesHash, new_bytes_hash, hash_methods)
+
+#define SPEC(type) {"sellumaq._native." #type, sizeof(Strings), 0, Py_TPFLAGS_DEFAULT | Py_TPFLAGS_BASETYPE | Py_TPFLAGS_IMMUTABLETYPE, type##_slots}
+static PyType_Spec specs[] = {SPEC(TextMap), SPEC(BytesMap), SPEC(TextHash), SPEC(BytesHash)};
+static const char *const names[] = {"TextMap", "BytesMap", "TextHash", "BytesHash"};
+
+int add_strings(PyObject *module)
+{
+    for (size_t n = 0; n < sizeof specs / sizeof *specs; n++) {
+        PyObject *type = PyType_FromModuleAndSpec(module, &specs[n], NULL);
+        int added = type ? PyModule_AddObjectRef(module, names[n], type) : -1;
+        Py_XDECREF(type);
+        if (added < 0)
+            return -1;
+    }
+    return 0;
+}

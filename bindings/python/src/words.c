@@ -1,0 +1,452 @@
+/* `WordSet` and `WordMap`, which Judy1 and JudyL stand on. */
+#include "words.h"
+
+/* What a kind's calls are by the union of handles. */
+#define SEARCH(kind, member, name)                                        \
+    static bool kind##_##name(Handle *handle, uint64_t from, uint64_t *word) \
+    {                                                                     \
+        return sellumaq_##kind##_##name(&handle->member, from, word);     \
+    }
+#define WORD_CALLS(kind, member)                                                                          \
+    SEARCH(kind, member, first)                                                                           \
+    SEARCH(kind, member, next)                                                                            \
+    SEARCH(kind, member, last)                                                                            \
+    SEARCH(kind, member, prev)                                                                            \
+    SEARCH(kind, member, first_empty)                                                                     \
+    SEARCH(kind, member, last_empty)                                                                      \
+    SEARCH(kind, member, by_count)                                                                        \
+    static uint64_t kind##_len(Handle *handle) { return sellumaq_##kind##_len(&handle->member); }         \
+    static uint64_t kind##_free(Handle *handle) { return sellumaq_##kind##_free(&handle->member); }       \
+    static uint64_t kind##_count(Handle *handle, uint64_t from, uint64_t to)                              \
+    {                                                                                                     \
+        return sellumaq_##kind##_count(&handle->member, from, to);                                        \
+    }                                                                                                     \
+    static const WordCalls kind##_calls = {                                                               \
+        kind##_first,      kind##_next, kind##_last, kind##_prev,  kind##_first_empty, kind##_last_empty, \
+        kind##_by_count,   kind##_has,  kind##_remove, kind##_len, kind##_count,       kind##_free,       \
+    };
+
+static bool judy1_has(Handle *handle, uint64_t key) { return sellumaq_judy1_test(&handle->set, key); }
+static bool judy1_remove(Handle *handle, uint64_t key) { return sellumaq_judy1_unset(&handle->set, key); }
+WORD_CALLS(judy1, set)
+
+static bool judyl_has(Handle *handle, uint64_t key)
+{
+    uint64_t value;
+    return sellumaq_judyl_get(&handle->map, key, &value);
+}
+static bool judyl_remove(Handle *handle, uint64_t key) { return sellumaq_judyl_del(&handle->map, key); }
+WORD_CALLS(judyl, map)
+
+/* ---- what sets and maps have alike ---- */
+
+static PyObject *new_words(PyTypeObject *type, const WordCalls *calls, bool is_map)
+{
+    allocfunc allocate = (allocfunc)PyType_GetSlot(type, Py_tp_alloc);
+    Words *self = (Words *)allocate(type, 0);
+    if (self) {
+        self->calls = calls;
+        self->is_map = is_map;
+    }
+    return (PyObject *)self;
+}
+
+static PyObject *new_set(PyTypeObject *type, PyObject *Py_UNUSED(args), PyObject *Py_UNUSED(keywords))
+{
+    return new_words(type, &judy1_calls, false);
+}
+
+static PyObject *new_map(PyTypeObject *type, PyObject *Py_UNUSED(args), PyObject *Py_UNUSED(keywords))
+{
+    return new_words(type, &judyl_calls, true);
+}
+
+static void words_dealloc(PyObject *object)
+{
+    PyTypeObject *type = Py_TYPE(object);
+    Words *self = (Words *)object;
+    self->calls->free(&self->handle);
+    ((freefunc)PyType_GetSlot(type, Py_tp_free))(object);
+    Py_DECREF((PyObject *)type);
+}
+
+static Py_ssize_t words_len(PyObject *object)
+{
+    Words *self = (Words *)object;
+    return (Py_ssize_t)self->calls->len(&self->handle);
+}
+
+static int words_contains(PyObject *object, PyObject *key)
+{
+    Words *self = (Words *)object;
+    uint64_t word;
+    int could_be = read_key(key, &word);
+    return could_be == 1 ? self->calls->has(&self->handle, word) : could_be;
+}
+
+static PyObject *words_clear(PyObject *object, PyObject *Py_UNUSED(none))
+{
+    Words *self = (Words *)object;
+    self->changes.keys++;
+    self->calls->free(&self->handle);
+    Py_RETURN_NONE;
+}
+
+/* Takes a key out: 1, 0 where it isn't there, -1 with an error set. */
+static int remove_key(Words *self, PyObject *key)
+{
+    uint64_t word;
+    int found = read_key(key, &word);
+    if (found == 1) {
+        found = self->calls->remove(&self->handle, word);
+        self->changes.keys += found;
+    }
+    return found;
+}
+
+static PyObject *number_or_none(bool found, uint64_t word)
+{
+    if (!found)
+        Py_RETURN_NONE;
+    return PyLong_FromUnsignedLongLong(word);
+}
+
+/* A search up; below the words it begins with 0, above them it finds nothing. */
+static PyObject *search_up(Words *self, PyObject *from, Search *search)
+{
+    uint64_t word = 0;
+    enum side side = read_number(from, &word);
+    if (side == NO_NUMBER)
+        return NULL;
+    bool found = side != ABOVE && search(&self->handle, side == BELOW ? 0 : word, &word);
+    return number_or_none(found, word);
+}
+
+static PyObject *search_down(Words *self, PyObject *from, Search *search)
+{
+    uint64_t word = 0;
+    enum side side = read_number(from, &word);
+    if (side == NO_NUMBER)
+        return NULL;
+    bool found = side != BELOW && search(&self->handle, side == ABOVE ? UINT64_MAX : word, &word);
+    return number_or_none(found, word);
+}
+
+static PyObject *at_or_after(PyObject *self, PyObject *from) { return search_up((Words *)self, from, ((Words *)self)->calls->first); }
+static PyObject *at_or_before(PyObject *self, PyObject *from) { return search_down((Words *)self, from, ((Words *)self)->calls->last); }
+static PyObject *absent_at_or_after(PyObject *self, PyObject *from)
+{
+    return search_up((Words *)self, from, ((Words *)self)->calls->first_empty);
+}
+static PyObject *absent_at_or_before(PyObject *self, PyObject *from)
+{
+    return search_down((Words *)self, from, ((Words *)self)->calls->last_empty);
+}
+
+/* How many keys there are below a number, or up to it. */
+static PyObject *bisect(Words *self, PyObject *number, bool with_itself)
+{
+    uint64_t word = 0, count = 0;
+    enum side side = read_number(number, &word);
+    if (side == NO_NUMBER)
+        return NULL;
+    if (side == ABOVE)
+        count = self->calls->len(&self->handle);
+    else if (side == WITHIN && (with_itself || word > 0))
+        count = self->calls->count(&self->handle, 0, with_itself ? word : word - 1);
+    return PyLong_FromUnsignedLongLong(count);
+}
+
+static PyObject *bisect_left(PyObject *self, PyObject *number) { return bisect((Words *)self, number, false); }
+static PyObject *bisect_right(PyObject *self, PyObject *number) { return bisect((Words *)self, number, true); }
+
+/* The key at a place, which counts from the end where it is negative; IndexError where there is none. */
+static PyObject *key_at(PyObject *object, PyObject *place)
+{
+    Words *self = (Words *)object;
+    Py_ssize_t at = PyNumber_AsSsize_t(place, PyExc_IndexError);
+    uint64_t word;
+    if (at == -1 && PyErr_Occurred())
+        return NULL;
+    if (at < 0)
+        at += (Py_ssize_t)self->calls->len(&self->handle);
+    if (at >= 0 && self->calls->by_count(&self->handle, (uint64_t)at + 1, &word))
+        return PyLong_FromUnsignedLongLong(word);
+    PyErr_Format(PyExc_IndexError, "no key at place %R", place);
+    return NULL;
+}
+
+static PyObject *keys_of_slice(PyObject *object, PyObject *slice)
+{
+    Words *self = (Words *)object;
+    Py_ssize_t start, stop, step;
+    if (PySlice_Unpack(slice, &start, &stop, &step) < 0)
+        return NULL;
+    Py_ssize_t count = PySlice_AdjustIndices(words_len(object), &start, &stop, step);
+    PyObject *keys = PyList_New(0);
+    for (Py_ssize_t n = 0; keys && n < count; n++) {
+        uint64_t word = 0;
+        bool found = n > 0 && step == 1 ? false : self->calls->by_count(&self->handle, (uint64_t)(start + n * step) + 1, &word);
+        if (n > 0 && step == 1) {
+            PyObject *last = PyList_GetItem(keys, n - 1);
+            word = PyLong_AsUnsignedLongLong(last);
+            found = self->calls->next(&self->handle, word, &word);
+        }
+        PyObject *key = found ? PyLong_FromUnsignedLongLong(word) : NULL;
+        if (!found)
+            break;
+        if (!key || PyList_Append(keys, key) < 0)
+            Py_CLEAR(keys);
+        Py_XDECREF(key);
+    }
+    return keys;
+}
+
+static PyObject *item_at(PyObject *self, PyObject *place)
+{
+    return PySlice_Check(place) ? keys_of_slice(self, place) : key_at(self, place);
+}
+
+/* _cursor(part, low, high, reverse): the bounds are words, both included. */
+static PyObject *cursor(PyObject *self, PyTypeObject *defining, PyObject *const *arguments, Py_ssize_t count, PyObject *keywords)
+{
+    uint64_t part, low, high;
+    if (count != 4 || keywords) {
+        PyErr_SetString(PyExc_TypeError, "_cursor takes a part, two words and whether it goes down");
+        return NULL;
+    }
+    if (!read_word(arguments[0], &part) || !read_word(arguments[1], &low) || !read_word(arguments[2], &high))
+        return NULL;
+    int reverse = PyObject_IsTrue(arguments[3]);
+    if (reverse < 0)
+        return NULL;
+    if (part > (((Words *)self)->is_map ? ITEMS : KEYS)) {
+        PyErr_SetString(PyExc_ValueError, "no such part");
+        return NULL;
+    }
+    Module *state = PyType_GetModuleState(defining);
+    return new_word_cursor(state->word_cursor, (Words *)self, (enum part)part, low, high, reverse);
+}
+
+#define WORD_METHODS                                                                                                              \
+    {"clear", words_clear, METH_NOARGS, "Takes every key out and gives the memory back."},                                        \
+    {"at_or_after", at_or_after, METH_O, "The least key from a number on, or None."},                                             \
+    {"at_or_before", at_or_before, METH_O, "The greatest key up to a number, or None."},                                          \
+    {"absent_at_or_after", absent_at_or_after, METH_O, "The least word from a number on that is no key, or None."},               \
+    {"absent_at_or_before", absent_at_or_before, METH_O, "The greatest word up to a number that is no key, or None."},            \
+    {"bisect_left", bisect_left, METH_O, "How many keys there are below a number."},                                              \
+    {"bisect_right", bisect_right, METH_O, "How many keys there are up to a number."},                                            \
+    {"_at", item_at, METH_O, "The key at a place, or the list of those of a slice."},                                             \
+    {"_cursor", (PyCFunction)(void (*)(void))cursor, METH_METHOD | METH_FASTCALL | METH_KEYWORDS, "A walk between two words."}
+
+#define WORD_SLOTS                            \
+    {Py_tp_dealloc, words_dealloc},           \
+    {Py_sq_length, words_len},                \
+    {Py_sq_contains, words_contains}
+
+/* ---- sets ---- */
+
+static bool put_key(Words *self, PyObject *key)
+{
+    uint64_t word;
+    if (!read_word(key, &word))
+        return false;
+    uint32_t told = sellumaq_judy1_set(&self->handle.set, word);
+    self->changes.keys += told == SELLUMAQ_ADDED;
+    if (told == SELLUMAQ_NO_MEMORY)
+        PyErr_NoMemory();
+    return told != SELLUMAQ_NO_MEMORY;
+}
+
+static PyObject *set_add(PyObject *self, PyObject *key)
+{
+    if (!put_key((Words *)self, key))
+        return NULL;
+    Py_RETURN_NONE;
+}
+
+static PyObject *set_discard(PyObject *self, PyObject *key)
+{
+    if (remove_key((Words *)self, key) < 0)
+        return NULL;
+    Py_RETURN_NONE;
+}
+
+static PyObject *set_remove(PyObject *self, PyObject *key)
+{
+    int found = remove_key((Words *)self, key);
+    if (found == 0)
+        raise_key_error(key);
+    if (found != 1)
+        return NULL;
+    Py_RETURN_NONE;
+}
+
+static PyObject *set_fill(PyObject *self, PyObject *keys)
+{
+    PyObject *each = PyObject_GetIter(keys), *key;
+    if (!each)
+        return NULL;
+    bool put = true;
+    while (put && (key = PyIter_Next(each))) {
+        put = put_key((Words *)self, key);
+        Py_DECREF(key);
+    }
+    Py_DECREF(each);
+    if (PyErr_Occurred())
+        return NULL;
+    Py_RETURN_NONE;
+}
+
+static PyMethodDef set_methods[] = {
+    WORD_METHODS,
+    {"add", set_add, METH_O, "Puts a key in. MemoryError where there is no memory for it; the set is as it was then."},
+    {"discard", set_discard, METH_O, "Takes a key out, where it is there."},
+    {"remove", set_remove, METH_O, "Takes a key out; KeyError where it isn't there."},
+    {"_fill", set_fill, METH_O, "Puts the keys of an iterable in."},
+    {NULL, NULL, 0, NULL},
+};
+
+static PyType_Slot set_slots[] = {
+    WORD_SLOTS, {Py_tp_new, new_set}, {Py_mp_subscript, item_at}, {Py_tp_methods, set_methods}, {0, NULL},
+};
+
+static PyType_Spec set_spec = {
+    .name = "sellumaq._native.WordSet",
+    .basicsize = sizeof(Words),
+    .flags = Py_TPFLAGS_DEFAULT | Py_TPFLAGS_BASETYPE | Py_TPFLAGS_IMMUTABLETYPE,
+    .slots = set_slots,
+};
+
+/* ---- maps ---- */
+
+/* The value of a key: 1, 0 where it isn't there, -1 with an error set. */
+static int find_value(Words *self, PyObject *key, uint64_t *word, uint64_t *value)
+{
+    int found = read_key(key, word);
+    return found == 1 ? sellumaq_judyl_get(&self->handle.map, *word, value) : found;
+}
+
+static bool put_value(Words *self, PyObject *key, PyObject *value)
+{
+    uint64_t word, number;
+    if (!read_word(key, &word) || !read_word(value, &number))
+        return false;
+    uint32_t told = sellumaq_judyl_put(&self->handle.map, word, number);
+    self->changes.keys += told == SELLUMAQ_ADDED;
+    self->changes.values += told == SELLUMAQ_PRESENT;
+    if (told == SELLUMAQ_NO_MEMORY)
+        PyErr_NoMemory();
+    return told != SELLUMAQ_NO_MEMORY;
+}
+
+static PyObject *map_item(PyObject *self, PyObject *key)
+{
+    uint64_t word, value;
+    int found = find_value((Words *)self, key, &word, &value);
+    if (found == 1)
+        return PyLong_FromUnsignedLongLong(value);
+    if (found == 0)
+        raise_key_error(key);
+    return NULL;
+}
+
+static int map_set_item(PyObject *object, PyObject *key, PyObject *value)
+{
+    Words *self = (Words *)object;
+    if (value)
+        return put_value(self, key, value) ? 0 : -1;
+    int found = remove_key(self, key);
+    if (found == 0)
+        raise_key_error(key);
+    return found == 1 ? 0 : -1;
+}
+
+static PyObject *map_get(PyObject *self, PyObject *const *arguments, Py_ssize_t count)
+{
+    uint64_t word, value;
+    if (!has_default("get", count, 2))
+        return NULL;
+    int found = find_value((Words *)self, arguments[0], &word, &value);
+    if (found < 0)
+        return NULL;
+    return found ? PyLong_FromUnsignedLongLong(value) : Py_NewRef(count == 2 ? arguments[1] : Py_None);
+}
+
+static PyObject *map_pop(PyObject *object, PyObject *const *arguments, Py_ssize_t count)
+{
+    Words *self = (Words *)object;
+    uint64_t word, value;
+    if (!has_default("pop", count, 2))
+        return NULL;
+    int found = find_value(self, arguments[0], &word, &value);
+    if (found == 1) {
+        sellumaq_judyl_del(&self->handle.map, word);
+        self->changes.keys++;
+        return PyLong_FromUnsignedLongLong(value);
+    }
+    if (found == 0 && count == 2)
+        return Py_NewRef(arguments[1]);
+    if (found == 0)
+        raise_key_error(arguments[0]);
+    return NULL;
+}
+
+/* Puts in a pair, which is any iterable of two objects; ValueError where it has another number of them, as of dict. */
+static bool put_pair(Words *self, PyObject *pair)
+{
+    PyObject *both = PySequence_Tuple(pair);
+    if (!both)
+        return false;
+    bool put = PyTuple_Size(both) == 2;
+    if (put)
+        put = put_value(self, PyTuple_GetItem(both, 0), PyTuple_GetItem(both, 1));
+    else
+        PyErr_Format(PyExc_ValueError, "a pair is needed, not %zd objects", PyTuple_Size(both));
+    Py_DECREF(both);
+    return put;
+}
+
+static PyObject *map_fill(PyObject *self, PyObject *pairs)
+{
+    PyObject *each = PyObject_GetIter(pairs), *pair;
+    if (!each)
+        return NULL;
+    bool put = true;
+    while (put && (pair = PyIter_Next(each))) {
+        put = put_pair((Words *)self, pair);
+        Py_DECREF(pair);
+    }
+    Py_DECREF(each);
+    if (PyErr_Occurred())
+        return NULL;
+    Py_RETURN_NONE;
+}
+
+static PyMethodDef map_methods[] = {
+    WORD_METHODS,
+    {"get", (PyCFunction)(void (*)(void))map_get, METH_FASTCALL, "The value of a key, or the default where it isn't there."},
+    {"pop", (PyCFunction)(void (*)(void))map_pop, METH_FASTCALL, "Takes a key out and answers its value, or the default."},
+    {"_fill", map_fill, METH_O, "Puts the pairs of an iterable in."},
+    {NULL, NULL, 0, NULL},
+};
+
+static PyType_Slot map_slots[] = {
+    WORD_SLOTS, {Py_tp_new, new_map}, {Py_mp_subscript, map_item}, {Py_mp_ass_subscript, map_set_item}, {Py_tp_methods, map_methods}, {0, NULL},
+};
+
+static PyType_Spec map_spec = {
+    .name = "sellumaq._native.WordMap",
+    .basicsize = sizeof(Words),
+    .flags = Py_TPFLAGS_DEFAULT | Py_TPFLAGS_BASETYPE | Py_TPFLAGS_IMMUTABLETYPE,
+    .slots = map_slots,
+};
+
+int add_words(PyObject *module)
+{
+    PyObject *set = PyType_FromModuleAndSpec(module, &set_spec, NULL), *map = PyType_FromModuleAndSpec(module, &map_spec, NULL);
+    int added = set && map && PyModule_AddObjectRef(module, "WordSet", set) == 0 ? PyModule_AddObjectRef(module, "WordMap", map) : -1;
+    Py_XDECREF(set);
+    Py_XDECREF(map);
+    return added;
+}

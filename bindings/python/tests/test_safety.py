@@ -1,0 +1,265 @@
+"""Programs that use an array from threads, signal handlers, finalizers and the keys' own methods: none may crash."""
+
+import copy
+import gc
+import pickle
+import signal
+import subprocess
+import sys
+import threading
+import time
+import unittest
+
+from sellumaq import BINDING, MAX, Judy1, JudyHS, JudyHSBytes, JudyL, JudySL, JudySLBytes
+
+DICTS = {JudyL: int, JudySL: str, JudyHS: str, JudySLBytes: lambda n: b"%d" % n, JudyHSBytes: lambda n: b"%d" % n}
+
+
+class Threads(unittest.TestCase):
+    def setUp(self):
+        self.interval = sys.getswitchinterval()
+        sys.setswitchinterval(1e-5)
+        self.addCleanup(sys.setswitchinterval, self.interval)
+
+    def run_all(self, *works):
+        failures = []
+
+        def run(work):
+            try:
+                work()
+            except Exception as failure:  # told by the thread that waits for this one
+                failures.append(failure)
+
+        threads = [threading.Thread(target=run, args=(work,)) for work in works]
+        for thread in threads:
+            thread.start()
+        for thread in threads:
+            thread.join()
+        self.assertEqual(failures, [])
+
+    def test_threads_write_one_dict(self):
+        for kind, key in DICTS.items():
+            with self.subTest(kind.__name__):
+                array = kind()
+
+                def write(first):
+                    for n in range(first, 8000, 4):
+                        array[key(n)] = n
+
+                self.run_all(*(lambda first=first: write(first) for first in range(4)))
+                self.assertEqual([array[key(n)] for n in range(8000)], list(range(8000)))
+
+    def test_threads_write_one_set_while_others_walk_and_clear_it(self):
+        array = Judy1()
+
+        def write():
+            for n in range(20000):
+                array.add(n * 977 % 5003)
+
+        def walk():
+            for _ in range(20):
+                keys = list(array)
+                self.assertEqual(keys, sorted(set(keys)))
+
+        def clear():
+            for _ in range(50):
+                array.clear()
+
+        self.run_all(write, write, walk, walk, clear)
+
+
+@unittest.skipUnless(hasattr(signal, "setitimer"), "no timer signals here")
+class Signals(unittest.TestCase):
+    def test_a_handler_clears_the_dict_that_is_written(self):
+        for kind, key in DICTS.items():
+            with self.subTest(kind.__name__):
+                array, cleared = kind(), 0
+
+                def clear(*_):
+                    nonlocal cleared
+                    cleared += 1
+                    try:
+                        array.clear()
+                    except RuntimeError:
+                        self.assertEqual(BINDING, "ctypes")
+
+                before = signal.signal(signal.SIGALRM, clear)
+                signal.setitimer(signal.ITIMER_REAL, 1e-4, 1e-4)
+                try:
+                    until = time.monotonic() + 0.3
+                    while time.monotonic() < until:
+                        for n in range(200):
+                            array[key(n)] = n
+                finally:
+                    signal.setitimer(signal.ITIMER_REAL, 0)
+                    signal.signal(signal.SIGALRM, before)
+                self.assertGreater(cleared, 0)
+                array.clear()
+                array[key(1)] = 5
+                self.assertEqual((len(array), array[key(1)]), (1, 5))
+
+
+class ClearsAsANumber:
+    """An int that clears an array when it is asked for its value."""
+
+    def __init__(self, array, number):
+        self.array, self.number = array, number
+
+    def __index__(self):
+        self.array.clear()
+        return self.number
+
+
+class ReEntry(unittest.TestCase):
+    def test_a_number_clears_the_array_that_it_is_put_into(self):
+        for array in (Judy1(range(1000)), JudyL({n: n for n in range(1000)})):
+            for use in (array.__contains__, array.at_or_after, array.at_or_before, array.bisect_left, array.bisect_right):
+                use(ClearsAsANumber(array, 500))
+                self.assertEqual(len(array), 0)
+                (array.add if isinstance(array, Judy1) else array.setdefault)(3)
+        words = JudyL({1: 2})
+        words[ClearsAsANumber(words, 5)] = ClearsAsANumber(words, 6)
+        self.assertEqual(words, {5: 6})
+        strings = JudySL(a=1)
+        strings["b"] = ClearsAsANumber(strings, 7)
+        self.assertEqual(strings, {"b": 7})
+
+    def test_pairs_clear_the_dict_that_they_fill(self):
+        for kind, key in DICTS.items():
+            array = kind()
+
+            def pairs():
+                for n in range(100):
+                    if n == 50:
+                        array.clear()
+                    yield key(n), n
+
+            array.update(pairs())
+            self.assertEqual((len(array), array[key(99)]), (50, 99))
+
+    def test_a_walk_over_a_changed_array_gives_what_stands_there(self):
+        for n in (1, 7, 8, 9, 300):
+            array = Judy1(range(1000))
+            seen = []
+            for key in array:
+                seen.append(key)
+                if len(seen) == n:
+                    array.difference_update(range(500))
+                    array.add(n)
+            self.assertEqual(seen, [*range(n), n, *range(500, 1000)])
+        values = JudyL.fromkeys(range(100), 1)
+        told = []
+        for key, value in values.items():
+            told.append(value)
+            values[key + 1] = key + 5
+            if key == 50:
+                break
+        self.assertEqual(told, [1, *range(5, 55)])
+        strings = JudySL.fromkeys("abcdef", 1)
+        seen = []
+        for key in strings:
+            seen.append(key)
+            strings.clear()
+        self.assertEqual(seen, ["a"])
+
+    def test_a_walk_keeps_its_array(self):
+        for walk in (iter(Judy1(range(1000))), iter(JudyL.fromkeys(range(1000)).items()), iter(JudySL.fromkeys("abc"))):
+            gc.collect()
+            self.assertGreater(len(list(walk)), 2)
+        array = Judy1(range(10))
+        array.walk = iter(array)
+        next(array.walk)
+        del array
+        gc.collect()
+
+    def test_a_finalizer_changes_the_array(self):
+        array = JudySL()
+
+        class Held:
+            def __del__(self):
+                array.clear()
+
+        for n in range(200):
+            held = Held()
+            held.itself = held
+            del held
+            array[str(n)] = n
+        gc.collect()
+        self.assertEqual(len(array), 0)
+
+    def test_explicit_finalizers_and_second_beginnings(self):
+        for array in (Judy1({1}), JudyL({1: 2}), JudySL(a=1), JudyHS(a=1)):
+            array.__init__()
+            if hasattr(array, "__del__"):
+                array.__del__()
+                array.__del__()
+            array.clear()
+            self.assertEqual(len(array), 0)
+            self.assertEqual(len(type(array).__new__(type(array))), 0)
+
+    def test_an_array_that_is_told_to_be_of_another_kind(self):
+        for kind, other in ((Judy1, JudyL), (JudyL, Judy1), (JudySL, JudyHS), (JudyHS, JudySL), (JudySL, JudySLBytes)):
+            array = kind() if kind is Judy1 else kind.fromkeys([5] if kind is JudyL else ["a"])
+            try:
+                array.__class__ = other
+            except TypeError:
+                continue
+            self.assertEqual(BINDING, "ctypes")
+            for use in (len, list, lambda it: it.get(5), lambda it: it.pop("a"), lambda it: it.update({5: 6}), lambda it: it.add(7), lambda it: it.clear()):
+                try:
+                    use(array)
+                except Exception:  # any is good that leaves the program running
+                    pass
+
+    def test_a_finalizer_that_brings_its_array_back(self):
+        kept = []
+
+        class Kept(Judy1):
+            def __del__(self):
+                kept.append(self)
+
+        Kept([5, 6])
+        gc.collect()
+        self.assertEqual(list(kept[0]), [5, 6])
+        kept.clear()
+        gc.collect()
+
+    def test_a_comparison_clears_what_it_compares(self):
+        array = JudyL.fromkeys(range(1000), 1)
+
+        class Clears:
+            def __eq__(self, _):
+                array.clear()
+                return True
+
+        self.assertEqual(array == dict.fromkeys(range(1000), Clears()), True)
+        self.assertEqual(len(array), 0)
+
+    def test_an_interrupted_program_ends_by_its_interrupt(self):
+        program = (
+            "import _thread, threading, sellumaq\n"
+            "array = sellumaq.JudySL()\n"
+            "threading.Timer(0.2, _thread.interrupt_main).start()\n"
+            "n = 0\n"
+            "while True:\n"
+            "    n += 1; array[str(n % 9999)] = n\n"
+        )
+        ran = subprocess.run([sys.executable, "-c", program], stderr=subprocess.PIPE, encoding="utf-8", timeout=30)
+        self.assertIn("KeyboardInterrupt", ran.stderr)
+        self.assertGreaterEqual(ran.returncode, 0 if ran.returncode != -signal.SIGINT else -signal.SIGINT)
+
+
+class Copies(unittest.TestCase):
+    def test_pickles(self):
+        for array in (Judy1([1, MAX]), JudyL({1: 2}), JudySL(a=1), JudySLBytes({b"a": 1})):
+            for protocol in range(pickle.HIGHEST_PROTOCOL + 1):
+                other = pickle.loads(pickle.dumps(array, protocol))
+                self.assertEqual((other, type(other)), (array, type(array)))
+            array.told = "kept"
+            self.assertEqual(pickle.loads(pickle.dumps(array)).told, "kept")
+        for refused in (pickle.dumps, copy.copy, copy.deepcopy):
+            self.assertRaises(TypeError, refused, JudyHS(a=1))
+
+
+if __name__ == "__main__":
+    unittest.main()

@@ -1,0 +1,217 @@
+//! The calls of the C library libsellumaq, by the names of `sellumaq.h`, which says what each answers and what it asks of its caller.
+//! The crate `sellumaq` has safe types over them.
+//!
+//! A handle of zeros is the array without keys. Calls that only read take the handle as `*const`: they leave it, and all that it leads
+//! to, as it is.
+#![no_std]
+#![allow(non_camel_case_types)]
+
+#[cfg(not(target_pointer_width = "64"))]
+compile_error!("libsellumaq is built for machines of 64 bits");
+
+use core::ffi::c_void;
+
+/// The handle of a set of words.
+#[repr(C)]
+#[derive(Clone, Copy, Debug)]
+pub struct sellumaq_judy1 {
+    pub array: *mut c_void,
+}
+
+/// The handle of a map from words to words.
+#[repr(C)]
+#[derive(Clone, Copy, Debug)]
+pub struct sellumaq_judyl {
+    pub array: *mut c_void,
+}
+
+/// The handle of a map from strings to words.
+#[repr(C)]
+#[derive(Clone, Copy, Debug)]
+pub struct sellumaq_judysl {
+    pub array: *mut c_void,
+}
+
+/// The handle of a map from byte strings to words.
+#[repr(C)]
+#[derive(Clone, Copy, Debug)]
+pub struct sellumaq_judyhs {
+    pub array: *mut c_void,
+}
+
+/// The key was there, and nothing changed.
+pub const SELLUMAQ_PRESENT: u32 = 0;
+/// The key was absent, and is there now.
+pub const SELLUMAQ_ADDED: u32 = 1;
+/// The key was absent, there is no memory for it, and nothing changed.
+pub const SELLUMAQ_NO_MEMORY: u32 = 2;
+
+/// There is no such key.
+pub const SELLUMAQ_NONE: u32 = 0;
+/// The key is there, and what was asked of it is told.
+pub const SELLUMAQ_FOUND: u32 = 1;
+/// The key is absent, and the map holds 4,294,967,295 keys.
+pub const SELLUMAQ_FULL: u32 = 3;
+/// The bytes are no key.
+pub const SELLUMAQ_BAD_KEY: u32 = 4;
+/// The key found doesn't fit the caller's buffer.
+pub const SELLUMAQ_TOO_SMALL: u32 = 5;
+
+/// The most bytes of a key.
+pub const SELLUMAQ_KEY_BYTES: usize = 1024;
+
+// A set of words.
+extern "C" {
+    pub fn sellumaq_judy1_set(set: *mut sellumaq_judy1, key: u64) -> u32;
+    pub fn sellumaq_judy1_unset(set: *mut sellumaq_judy1, key: u64) -> bool;
+    pub fn sellumaq_judy1_test(set: *const sellumaq_judy1, key: u64) -> bool;
+    pub fn sellumaq_judy1_first(set: *const sellumaq_judy1, from: u64, key: *mut u64) -> bool;
+    pub fn sellumaq_judy1_next(set: *const sellumaq_judy1, from: u64, key: *mut u64) -> bool;
+    pub fn sellumaq_judy1_last(set: *const sellumaq_judy1, from: u64, key: *mut u64) -> bool;
+    pub fn sellumaq_judy1_prev(set: *const sellumaq_judy1, from: u64, key: *mut u64) -> bool;
+    pub fn sellumaq_judy1_first_empty(
+        set: *const sellumaq_judy1,
+        from: u64,
+        word: *mut u64,
+    ) -> bool;
+    pub fn sellumaq_judy1_next_empty(set: *const sellumaq_judy1, from: u64, word: *mut u64)
+        -> bool;
+    pub fn sellumaq_judy1_last_empty(set: *const sellumaq_judy1, from: u64, word: *mut u64)
+        -> bool;
+    pub fn sellumaq_judy1_prev_empty(set: *const sellumaq_judy1, from: u64, word: *mut u64)
+        -> bool;
+    pub fn sellumaq_judy1_len(set: *const sellumaq_judy1) -> u64;
+    pub fn sellumaq_judy1_count(set: *const sellumaq_judy1, from: u64, to: u64) -> u64;
+    pub fn sellumaq_judy1_by_count(set: *const sellumaq_judy1, n: u64, key: *mut u64) -> bool;
+    pub fn sellumaq_judy1_free(set: *mut sellumaq_judy1) -> u64;
+}
+
+// A map from words to words.
+extern "C" {
+    pub fn sellumaq_judyl_ins(map: *mut sellumaq_judyl, key: u64, slot: *mut *mut u64) -> bool;
+    pub fn sellumaq_judyl_put(map: *mut sellumaq_judyl, key: u64, value: u64) -> u32;
+    pub fn sellumaq_judyl_get(map: *const sellumaq_judyl, key: u64, value: *mut u64) -> bool;
+    pub fn sellumaq_judyl_slot(map: *const sellumaq_judyl, key: u64, slot: *mut *mut u64) -> bool;
+    pub fn sellumaq_judyl_del(map: *mut sellumaq_judyl, key: u64) -> bool;
+    pub fn sellumaq_judyl_first(map: *const sellumaq_judyl, from: u64, key: *mut u64) -> bool;
+    pub fn sellumaq_judyl_next(map: *const sellumaq_judyl, from: u64, key: *mut u64) -> bool;
+    pub fn sellumaq_judyl_last(map: *const sellumaq_judyl, from: u64, key: *mut u64) -> bool;
+    pub fn sellumaq_judyl_prev(map: *const sellumaq_judyl, from: u64, key: *mut u64) -> bool;
+    pub fn sellumaq_judyl_first_entry(
+        map: *const sellumaq_judyl,
+        from: u64,
+        key: *mut u64,
+        value: *mut u64,
+    ) -> bool;
+    pub fn sellumaq_judyl_next_entry(
+        map: *const sellumaq_judyl,
+        from: u64,
+        key: *mut u64,
+        value: *mut u64,
+    ) -> bool;
+    pub fn sellumaq_judyl_last_entry(
+        map: *const sellumaq_judyl,
+        from: u64,
+        key: *mut u64,
+        value: *mut u64,
+    ) -> bool;
+    pub fn sellumaq_judyl_prev_entry(
+        map: *const sellumaq_judyl,
+        from: u64,
+        key: *mut u64,
+        value: *mut u64,
+    ) -> bool;
+    pub fn sellumaq_judyl_first_empty(
+        map: *const sellumaq_judyl,
+        from: u64,
+        word: *mut u64,
+    ) -> bool;
+    pub fn sellumaq_judyl_next_empty(map: *const sellumaq_judyl, from: u64, word: *mut u64)
+        -> bool;
+    pub fn sellumaq_judyl_last_empty(map: *const sellumaq_judyl, from: u64, word: *mut u64)
+        -> bool;
+    pub fn sellumaq_judyl_prev_empty(map: *const sellumaq_judyl, from: u64, word: *mut u64)
+        -> bool;
+    pub fn sellumaq_judyl_len(map: *const sellumaq_judyl) -> u64;
+    pub fn sellumaq_judyl_count(map: *const sellumaq_judyl, from: u64, to: u64) -> u64;
+    pub fn sellumaq_judyl_by_count(map: *const sellumaq_judyl, n: u64, key: *mut u64) -> bool;
+    pub fn sellumaq_judyl_free(map: *mut sellumaq_judyl) -> u64;
+}
+
+// A map from strings to words.
+extern "C" {
+    pub fn sellumaq_judysl_ins(
+        map: *mut sellumaq_judysl,
+        key: *const u8,
+        length: usize,
+        slot: *mut *mut u64,
+    ) -> u32;
+    pub fn sellumaq_judysl_get(
+        map: *const sellumaq_judysl,
+        key: *const u8,
+        length: usize,
+        value: *mut u64,
+    ) -> bool;
+    pub fn sellumaq_judysl_slot(
+        map: *const sellumaq_judysl,
+        key: *const u8,
+        length: usize,
+        slot: *mut *mut u64,
+    ) -> bool;
+    pub fn sellumaq_judysl_del(map: *mut sellumaq_judysl, key: *const u8, length: usize) -> bool;
+    pub fn sellumaq_judysl_first(
+        map: *const sellumaq_judysl,
+        buffer: *mut u8,
+        capacity: usize,
+        length: *mut usize,
+        value: *mut u64,
+    ) -> u32;
+    pub fn sellumaq_judysl_next(
+        map: *const sellumaq_judysl,
+        buffer: *mut u8,
+        capacity: usize,
+        length: *mut usize,
+        value: *mut u64,
+    ) -> u32;
+    pub fn sellumaq_judysl_last(
+        map: *const sellumaq_judysl,
+        buffer: *mut u8,
+        capacity: usize,
+        length: *mut usize,
+        value: *mut u64,
+    ) -> u32;
+    pub fn sellumaq_judysl_prev(
+        map: *const sellumaq_judysl,
+        buffer: *mut u8,
+        capacity: usize,
+        length: *mut usize,
+        value: *mut u64,
+    ) -> u32;
+    pub fn sellumaq_judysl_len(map: *const sellumaq_judysl) -> u64;
+    pub fn sellumaq_judysl_free(map: *mut sellumaq_judysl) -> u64;
+}
+
+// A map from byte strings to words.
+extern "C" {
+    pub fn sellumaq_judyhs_ins(
+        map: *mut sellumaq_judyhs,
+        key: *const u8,
+        length: usize,
+        slot: *mut *mut u64,
+    ) -> u32;
+    pub fn sellumaq_judyhs_get(
+        map: *const sellumaq_judyhs,
+        key: *const u8,
+        length: usize,
+        value: *mut u64,
+    ) -> bool;
+    pub fn sellumaq_judyhs_slot(
+        map: *const sellumaq_judyhs,
+        key: *const u8,
+        length: usize,
+        slot: *mut *mut u64,
+    ) -> bool;
+    pub fn sellumaq_judyhs_del(map: *mut sellumaq_judyhs, key: *const u8, length: usize) -> bool;
+    pub fn sellumaq_judyhs_len(map: *const sellumaq_judyhs) -> u64;
+    pub fn sellumaq_judyhs_free(map: *mut sellumaq_judyhs) -> u64;
+}

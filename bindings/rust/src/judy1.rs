@@ -1,0 +1,227 @@
+//! Sets of words, and their iterators.
+use crate::array::array;
+use crate::span::{Found, Span};
+use crate::walk::walks;
+use crate::words::{collected, word_array};
+use crate::{no_room, NoMemory};
+use sellumaq_sys as sys;
+use std::borrow::Borrow;
+use std::fmt;
+
+mod algebra;
+mod way;
+
+pub use algebra::{Difference, Intersection, SymmetricDifference, Union};
+use way::Way;
+
+array!(
+    /// An ordered set of words.
+    ///
+    /// ```
+    /// let mut set = sellumaq::Judy1::from([5, 3, 1]);
+    /// assert!(set.insert(4) && !set.insert(3));
+    /// assert_eq!(format!("{set:?}"), "{1, 3, 4, 5}");
+    /// ```
+    Judy1 over sellumaq_judy1, sellumaq_judy1_len, sellumaq_judy1_free;
+    "let array = sellumaq::Judy1::from([1, 2, 10]);"
+);
+
+word_array!(
+    Judy1; u64; Way;
+    sellumaq_judy1_count, sellumaq_judy1_by_count, sellumaq_judy1_first_empty, sellumaq_judy1_last_empty;
+    "let array = sellumaq::Judy1::from([1, 2, 10]);"
+);
+
+collected!(Judy1; u64; "let array = sellumaq::Judy1::from([1, 2, 10]);");
+
+walks!(Judy1 through Way; u64);
+
+/// A search of C from a word for another.
+type Search = unsafe extern "C" fn(*const sys::sellumaq_judy1, u64, *mut u64) -> bool;
+
+impl Judy1 {
+    /// Puts a key in, and answers whether it was absent. It ends the program where there is no memory, as std's sets do.
+    ///
+    /// ```
+    /// let mut set = sellumaq::Judy1::new();
+    /// assert!(set.insert(7));
+    /// assert!(!set.insert(7));
+    /// ```
+    pub fn insert(&mut self, key: u64) -> bool {
+        self.try_insert(key).unwrap_or_else(no_room)
+    }
+
+    /// Puts a key in, and answers whether it was absent; at the error the set is as it was. A key that is there is never
+    /// refused.
+    ///
+    /// ```
+    /// let mut set = sellumaq::Judy1::new();
+    /// assert_eq!(set.try_insert(7), Ok(true));
+    /// ```
+    pub fn try_insert(&mut self, key: u64) -> Result<bool, NoMemory> {
+        // SAFETY: the handle is this set's, lent for this call alone.
+        match unsafe { sys::sellumaq_judy1_set(&mut self.handle, key) } {
+            sys::SELLUMAQ_NO_MEMORY => Err(NoMemory),
+            told => Ok(told == sys::SELLUMAQ_ADDED),
+        }
+    }
+
+    /// Takes a key out, and answers whether it was there.
+    ///
+    /// ```
+    /// let mut set = sellumaq::Judy1::from([7]);
+    /// assert!(set.remove(&7) && !set.remove(7));
+    /// ```
+    pub fn remove(&mut self, key: impl Borrow<u64>) -> bool {
+        // SAFETY: the handle is this set's, lent for this call alone.
+        unsafe { sys::sellumaq_judy1_unset(&mut self.handle, *key.borrow()) }
+    }
+
+    /// Whether a key is there.
+    ///
+    /// ```
+    /// let set = sellumaq::Judy1::from([7]);
+    /// assert!(set.contains(7) && set.contains(&7) && !set.contains(8));
+    /// ```
+    pub fn contains(&self, key: impl Borrow<u64>) -> bool {
+        let handle = self.handle;
+        // SAFETY: the handle is this set's, lent for this call alone, which only reads.
+        unsafe { sys::sellumaq_judy1_test(&handle, *key.borrow()) }
+    }
+
+    /// A key, where it is there.
+    ///
+    /// ```
+    /// let set = sellumaq::Judy1::from([7]);
+    /// assert_eq!((set.get(7), set.get(8)), (Some(7), None));
+    /// ```
+    pub fn get(&self, key: impl Borrow<u64>) -> Option<u64> {
+        let key = *key.borrow();
+        self.contains(key).then_some(key)
+    }
+
+    /// Takes a key out, and answers it where it was there.
+    ///
+    /// ```
+    /// let mut set = sellumaq::Judy1::from([7]);
+    /// assert_eq!((set.take(7), set.take(7)), (Some(7), None));
+    /// ```
+    pub fn take(&mut self, key: impl Borrow<u64>) -> Option<u64> {
+        let key = *key.borrow();
+        self.remove(key).then_some(key)
+    }
+
+    /// Puts a key in, and answers it where it was there. It ends the program where there is no memory.
+    ///
+    /// ```
+    /// let mut set = sellumaq::Judy1::from([7]);
+    /// assert_eq!((set.replace(7), set.replace(8)), (Some(7), None));
+    /// ```
+    pub fn replace(&mut self, key: u64) -> Option<u64> {
+        (!self.insert(key)).then_some(key)
+    }
+
+    /// The least key from a word on.
+    ///
+    /// ```
+    /// let set = sellumaq::Judy1::from([3, 7]);
+    /// assert_eq!((set.at_or_after(4), set.at_or_after(8)), (Some(7), None));
+    /// ```
+    pub fn at_or_after(&self, from: u64) -> Option<u64> {
+        self.search(sys::sellumaq_judy1_first, from)
+    }
+
+    /// The greatest key up to a word.
+    ///
+    /// ```
+    /// let set = sellumaq::Judy1::from([3, 7]);
+    /// assert_eq!((set.at_or_before(6), set.at_or_before(2)), (Some(3), None));
+    /// ```
+    pub fn at_or_before(&self, from: u64) -> Option<u64> {
+        self.search(sys::sellumaq_judy1_last, from)
+    }
+
+    /// The n-th key in ascending order, counted from 0. No way through the keys before it is made.
+    ///
+    /// ```
+    /// let set = sellumaq::Judy1::from([3, 7]);
+    /// assert_eq!((set.nth(1), set.nth(2)), (Some(7), None));
+    /// ```
+    pub fn nth(&self, n: usize) -> Option<u64> {
+        self.nth_key(n)
+    }
+
+    /// The least key.
+    ///
+    /// ```
+    /// assert_eq!(sellumaq::Judy1::from([7, 3]).first(), Some(3));
+    /// ```
+    pub fn first(&self) -> Option<u64> {
+        self.at_or_after(0)
+    }
+
+    /// The greatest key.
+    ///
+    /// ```
+    /// assert_eq!(sellumaq::Judy1::from([7, 3]).last(), Some(7));
+    /// ```
+    pub fn last(&self) -> Option<u64> {
+        self.at_or_before(u64::MAX)
+    }
+
+    /// Takes the least key out.
+    ///
+    /// ```
+    /// let mut set = sellumaq::Judy1::from([7, 3]);
+    /// assert_eq!((set.pop_first(), set.len()), (Some(3), 1));
+    /// ```
+    pub fn pop_first(&mut self) -> Option<u64> {
+        self.first().and_then(|key| self.take(key))
+    }
+
+    /// Takes the greatest key out.
+    ///
+    /// ```
+    /// let mut set = sellumaq::Judy1::from([7, 3]);
+    /// assert_eq!((set.pop_last(), set.len()), (Some(7), 1));
+    /// ```
+    pub fn pop_last(&mut self) -> Option<u64> {
+        self.last().and_then(|key| self.take(key))
+    }
+
+    /// Takes out each key that isn't to be kept, by ascending key. Where `keep` panics, the keys that it didn't see stay.
+    ///
+    /// ```
+    /// let mut set: sellumaq::Judy1 = (0..10).collect();
+    /// set.retain(|key| key % 3 == 0);
+    /// assert!(set.iter().eq([0, 3, 6, 9]));
+    /// ```
+    pub fn retain(&mut self, mut keep: impl FnMut(&u64) -> bool) {
+        let mut span = Span::of(..);
+        while let Some(key) = span.next(|from| self.at_or_after(from)) {
+            if !keep(&key) {
+                self.remove(key);
+            }
+        }
+    }
+}
+
+impl Extend<u64> for Judy1 {
+    fn extend<I: IntoIterator<Item = u64>>(&mut self, keys: I) {
+        for key in keys {
+            self.insert(key);
+        }
+    }
+}
+
+impl<'a> Extend<&'a u64> for Judy1 {
+    fn extend<I: IntoIterator<Item = &'a u64>>(&mut self, keys: I) {
+        self.extend(keys.into_iter().copied());
+    }
+}
+
+impl fmt::Debug for Judy1 {
+    fn fmt(&self, to: &mut fmt::Formatter<'_>) -> fmt::Result {
+        to.debug_set().entries(self).finish()
+    }
+}

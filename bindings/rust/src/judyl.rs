@@ -1,0 +1,372 @@
+//! Maps from words to words, their entries and iterators.
+use crate::array::array;
+use crate::entry::entries;
+use crate::ordered::ordered_map;
+use crate::slots::slot_walks;
+use crate::span::{Found, Span};
+use crate::walk::walks;
+use crate::words::{collected, word_array};
+use crate::{no_room, NoMemory};
+use sellumaq_sys as sys;
+use std::borrow::Borrow;
+use std::fmt;
+use std::mem::replace;
+use std::ops::{Index, RangeBounds};
+use std::ptr::{null_mut, NonNull};
+
+array!(
+    /// An ordered map from words to words.
+    ///
+    /// ```
+    /// let mut map = sellumaq::JudyL::from([(5, 50), (3, 30)]);
+    /// *map.entry(3).or_insert(0) += 1;
+    /// assert_eq!(map.insert(5, 51), Some(50));
+    /// assert_eq!(format!("{map:?}"), "{3: 31, 5: 51}");
+    /// ```
+    JudyL over sellumaq_judyl, sellumaq_judyl_len, sellumaq_judyl_free;
+    "let array = sellumaq::JudyL::from([(1, 10), (2, 20), (10, 30)]);"
+);
+
+word_array!(
+    JudyL; (u64, u64); Way;
+    sellumaq_judyl_count, sellumaq_judyl_by_count, sellumaq_judyl_first_empty, sellumaq_judyl_last_empty;
+    "let array = sellumaq::JudyL::from([(1, 10), (2, 20), (10, 30)]);"
+);
+
+collected!(JudyL; (u64, u64); "let array = sellumaq::JudyL::from([(1, 10), (2, 20), (10, 30)]);");
+
+walks!(JudyL through Way; (u64, u64));
+
+slot_walks!(JudyL through Way; u64);
+
+ordered_map!(
+    JudyL; u64, Borrow<u64>;
+    "let mut map = sellumaq::JudyL::from([(1, 10), (2, 20)]);", "1", "1", "2"
+);
+
+entries!(
+    JudyL, judyl, NoMemory, no_room; []; u64, std::convert::identity => &u64;
+    "let mut map = sellumaq::JudyL::from([(1, 10), (2, 20)]);", "1", "3", "1", "3"
+);
+
+/// A search of C from a word for another.
+type Search = unsafe extern "C" fn(*const sys::sellumaq_judyl, u64, *mut u64) -> bool;
+
+/// A search of C from a word for a key with its value.
+type EntrySearch =
+    unsafe extern "C" fn(*const sys::sellumaq_judyl, u64, *mut u64, *mut u64) -> bool;
+
+/// The way of an iterator through a map: each step is one way down it.
+#[derive(Clone, Debug)]
+struct Way(Span);
+
+impl Way {
+    fn of(span: Span) -> Way {
+        Way(span)
+    }
+
+    #[inline]
+    fn next(&mut self, map: &JudyL) -> Option<(u64, u64)> {
+        self.0.next(|from| map.at_or_after(from))
+    }
+
+    #[inline]
+    fn next_back(&mut self, map: &JudyL) -> Option<(u64, u64)> {
+        self.0.next_back(|to| map.at_or_before(to))
+    }
+}
+
+// What takes the library's pointers.
+impl JudyL {
+    fn search_entry(&self, call: EntrySearch, from: u64) -> Option<(u64, u64)> {
+        let (handle, mut key, mut value) = (self.handle, 0, 0);
+        // SAFETY: the call is one of `sellumaq_sys` for maps of words, which only reads; the handle is this map's, lent for
+        // this call alone, and the words this function's.
+        unsafe { call(&handle, from, &mut key, &mut value) }.then_some((key, value))
+    }
+
+    /// The slot of a key. It may be written to where the map is borrowed to be changed.
+    fn find_slot(&self, key: &u64) -> Option<NonNull<u64>> {
+        let (handle, mut slot) = (self.handle, null_mut());
+        // SAFETY: the handle is this map's, lent for this call alone, which only reads.
+        let found = unsafe { sys::sellumaq_judyl_slot(&handle, *key, &mut slot) };
+        found.then_some(slot).and_then(NonNull::new)
+    }
+
+    /// The slot of a key, which is put in where it is absent.
+    fn make_slot(&mut self, key: &u64) -> Result<NonNull<u64>, NoMemory> {
+        let mut slot = null_mut();
+        // SAFETY: the handle is this map's, lent for this call alone.
+        let made = unsafe { sys::sellumaq_judyl_ins(&mut self.handle, *key, &mut slot) };
+        made.then_some(slot).and_then(NonNull::new).ok_or(NoMemory)
+    }
+
+    fn delete(&mut self, key: &u64) {
+        // SAFETY: the handle is this map's, lent for this call alone.
+        unsafe { sys::sellumaq_judyl_del(&mut self.handle, *key) };
+    }
+
+    fn owned(key: &impl Borrow<u64>) -> u64 {
+        *key.borrow()
+    }
+}
+
+impl JudyL {
+    /// Gives a key a value, and answers the one it had. It ends the program where there is no memory, as std's maps do.
+    ///
+    /// ```
+    /// let mut map = sellumaq::JudyL::new();
+    /// assert_eq!((map.insert(3, 30), map.insert(3, 31)), (None, Some(30)));
+    /// ```
+    pub fn insert(&mut self, key: u64, value: u64) -> Option<u64> {
+        self.try_insert(key, value).unwrap_or_else(no_room)
+    }
+
+    /// Gives a key a value, and answers the one it had; at the error the map is as it was. A key that is there is never
+    /// refused. One that is there takes one way down the map, an absent one two.
+    ///
+    /// ```
+    /// let mut map = sellumaq::JudyL::new();
+    /// assert_eq!(map.try_insert(3, 30), Ok(None));
+    /// ```
+    pub fn try_insert(&mut self, key: u64, value: u64) -> Result<Option<u64>, NoMemory> {
+        if let Some(slot) = self.get_mut(key) {
+            return Ok(Some(replace(slot, value)));
+        }
+        self.try_put(key, value).map(|_| None)
+    }
+
+    /// Gives a key a value, and answers whether the key is new: one way down the map, also where it is absent. It ends the
+    /// program where there is no memory.
+    ///
+    /// ```
+    /// let mut map = sellumaq::JudyL::new();
+    /// assert!(map.put(3, 30) && !map.put(3, 31));
+    /// ```
+    pub fn put(&mut self, key: u64, value: u64) -> bool {
+        self.try_put(key, value).unwrap_or_else(no_room)
+    }
+
+    /// Gives a key a value, and answers whether the key is new; at the error the map is as it was. A key that is there is
+    /// never refused.
+    ///
+    /// ```
+    /// let mut map = sellumaq::JudyL::new();
+    /// assert_eq!(map.try_put(3, 30), Ok(true));
+    /// ```
+    pub fn try_put(&mut self, key: u64, value: u64) -> Result<bool, NoMemory> {
+        // SAFETY: the handle is this map's, lent for this call alone.
+        match unsafe { sys::sellumaq_judyl_put(&mut self.handle, key, value) } {
+            sys::SELLUMAQ_NO_MEMORY => Err(NoMemory),
+            told => Ok(told == sys::SELLUMAQ_ADDED),
+        }
+    }
+
+    /// The value of a key, to read and to change; the key is put in with the value 0 where it is absent. It is one way down
+    /// the map, where an absent key takes [`entry`](Self::entry) two.
+    ///
+    /// ```
+    /// let mut map = sellumaq::JudyL::new();
+    /// *map.slot(3).unwrap() += 1;
+    /// assert_eq!(map.get(3), Some(1));
+    /// ```
+    pub fn slot(&mut self, key: u64) -> Result<&mut u64, NoMemory> {
+        let slot = self.make_slot(&key)?;
+        // SAFETY: a slot lives until the map is changed, which stays borrowed as long as the reference.
+        Ok(unsafe { &mut *slot.as_ptr() })
+    }
+
+    /// The value of a key.
+    ///
+    /// ```
+    /// let map = sellumaq::JudyL::from([(3, 30)]);
+    /// assert_eq!((map.get(3), map.get(&4)), (Some(30), None));
+    /// ```
+    pub fn get(&self, key: impl Borrow<u64>) -> Option<u64> {
+        let (handle, mut value) = (self.handle, 0);
+        // SAFETY: the handle is this map's, lent for this call alone, which only reads; the word is this function's.
+        unsafe { sys::sellumaq_judyl_get(&handle, *key.borrow(), &mut value) }.then_some(value)
+    }
+
+    /// The value of a key, to change.
+    ///
+    /// ```
+    /// let mut map = sellumaq::JudyL::from([(3, 30)]);
+    /// *map.get_mut(3).unwrap() += 1;
+    /// assert_eq!(map[3], 31);
+    /// ```
+    pub fn get_mut(&mut self, key: impl Borrow<u64>) -> Option<&mut u64> {
+        // SAFETY: as in `slot`.
+        self.find_slot(key.borrow())
+            .map(|slot| unsafe { &mut *slot.as_ptr() })
+    }
+
+    /// Whether a key is there.
+    ///
+    /// ```
+    /// let map = sellumaq::JudyL::from([(3, 30)]);
+    /// assert!(map.contains_key(3) && !map.contains_key(&4));
+    /// ```
+    pub fn contains_key(&self, key: impl Borrow<u64>) -> bool {
+        self.get(key).is_some()
+    }
+
+    /// Takes a key out, and answers the value it had.
+    ///
+    /// ```
+    /// let mut map = sellumaq::JudyL::from([(3, 30)]);
+    /// assert_eq!((map.remove(3), map.remove(&3)), (Some(30), None));
+    /// ```
+    pub fn remove(&mut self, key: impl Borrow<u64>) -> Option<u64> {
+        let key = *key.borrow();
+        let value = self.get(key)?;
+        self.delete(&key);
+        Some(value)
+    }
+
+    /// The pair of the least key from a word on.
+    ///
+    /// ```
+    /// let map = sellumaq::JudyL::from([(3, 30), (7, 70)]);
+    /// assert_eq!((map.at_or_after(4), map.at_or_after(8)), (Some((7, 70)), None));
+    /// ```
+    pub fn at_or_after(&self, from: u64) -> Option<(u64, u64)> {
+        self.search_entry(sys::sellumaq_judyl_first_entry, from)
+    }
+
+    /// The pair of the greatest key up to a word.
+    ///
+    /// ```
+    /// let map = sellumaq::JudyL::from([(3, 30), (7, 70)]);
+    /// assert_eq!((map.at_or_before(6), map.at_or_before(2)), (Some((3, 30)), None));
+    /// ```
+    pub fn at_or_before(&self, from: u64) -> Option<(u64, u64)> {
+        self.search_entry(sys::sellumaq_judyl_last_entry, from)
+    }
+
+    /// The pair of the n-th key in ascending order, counted from 0. No way through the keys before it is made.
+    ///
+    /// ```
+    /// let map = sellumaq::JudyL::from([(3, 30), (7, 70)]);
+    /// assert_eq!((map.nth(1), map.nth(2)), (Some((7, 70)), None));
+    /// ```
+    pub fn nth(&self, n: usize) -> Option<(u64, u64)> {
+        let key = self.nth_key(n)?;
+        Some((key, self.get(key)?))
+    }
+
+    /// The pair of the least key.
+    ///
+    /// ```
+    /// assert_eq!(sellumaq::JudyL::from([(3, 30), (7, 70)]).first_key_value(), Some((3, 30)));
+    /// ```
+    pub fn first_key_value(&self) -> Option<(u64, u64)> {
+        self.at_or_after(0)
+    }
+
+    /// The pair of the greatest key.
+    ///
+    /// ```
+    /// assert_eq!(sellumaq::JudyL::from([(3, 30), (7, 70)]).last_key_value(), Some((7, 70)));
+    /// ```
+    pub fn last_key_value(&self) -> Option<(u64, u64)> {
+        self.at_or_before(u64::MAX)
+    }
+
+    /// The entry of the least key.
+    ///
+    /// ```
+    /// let mut map = sellumaq::JudyL::from([(3, 30), (7, 70)]);
+    /// assert_eq!(map.first_entry().unwrap().remove_entry(), (3, 30));
+    /// ```
+    pub fn first_entry(&mut self) -> Option<OccupiedEntry<'_>> {
+        let (key, _) = self.first_key_value()?;
+        let slot = self.find_slot(&key)?;
+        Some(OccupiedEntry {
+            map: self,
+            key,
+            slot,
+        })
+    }
+
+    /// The entry of the greatest key.
+    ///
+    /// ```
+    /// let mut map = sellumaq::JudyL::from([(3, 30), (7, 70)]);
+    /// assert_eq!(map.last_entry().unwrap().insert(71), 70);
+    /// ```
+    pub fn last_entry(&mut self) -> Option<OccupiedEntry<'_>> {
+        let (key, _) = self.last_key_value()?;
+        let slot = self.find_slot(&key)?;
+        Some(OccupiedEntry {
+            map: self,
+            key,
+            slot,
+        })
+    }
+
+    /// The pairs of a range of keys, by ascending key, their values to change.
+    ///
+    /// ```
+    /// let mut map = sellumaq::JudyL::from([(3, 30), (7, 70)]);
+    /// map.range_mut(5..).for_each(|(_, value)| *value += 1);
+    /// assert!(map.values().eq([30, 71]));
+    /// ```
+    pub fn range_mut(&mut self, range: impl RangeBounds<u64>) -> RangeMut<'_> {
+        RangeMut::of(self, Way(Span::of(range)))
+    }
+
+    /// Takes out each key that isn't to be kept, by ascending key; `keep` may change the values. Where it panics, the keys
+    /// that it didn't see stay.
+    ///
+    /// ```
+    /// let mut map: sellumaq::JudyL = (0..10).map(|n| (n, n)).collect();
+    /// map.retain(|key, value| {
+    ///     *value *= 2;
+    ///     key % 5 == 0
+    /// });
+    /// assert!(map.iter().eq([(0, 0), (5, 10)]));
+    /// ```
+    pub fn retain(&mut self, mut keep: impl FnMut(&u64, &mut u64) -> bool) {
+        let mut way = Way(Span::of(..));
+        while let Some((key, _)) = way.next(self) {
+            let kept = self.get_mut(key).map(|value| keep(&key, value));
+            if kept == Some(false) {
+                self.delete(&key);
+            }
+        }
+    }
+}
+
+/// Where the key is absent it panics, as std's maps do.
+impl<K: Borrow<u64>> Index<K> for JudyL {
+    type Output = u64;
+
+    fn index(&self, key: K) -> &u64 {
+        let slot = self
+            .find_slot(key.borrow())
+            .expect("no entry found for key");
+        // SAFETY: a slot lives until the map is changed, which stays borrowed as long as the reference.
+        unsafe { &*slot.as_ptr() }
+    }
+}
+
+impl Extend<(u64, u64)> for JudyL {
+    fn extend<I: IntoIterator<Item = (u64, u64)>>(&mut self, pairs: I) {
+        for (key, value) in pairs {
+            self.put(key, value);
+        }
+    }
+}
+
+impl<'a> Extend<(&'a u64, &'a u64)> for JudyL {
+    fn extend<I: IntoIterator<Item = (&'a u64, &'a u64)>>(&mut self, pairs: I) {
+        self.extend(pairs.into_iter().map(|(key, value)| (*key, *value)));
+    }
+}
+
+impl fmt::Debug for JudyL {
+    fn fmt(&self, to: &mut fmt::Formatter<'_>) -> fmt::Result {
+        to.debug_map().entries(self).finish()
+    }
+}

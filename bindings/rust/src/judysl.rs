@@ -1,0 +1,370 @@
+//! Maps from strings to words, their entries and iterators.
+use crate::array::array;
+use crate::edge::{Edge, Scan};
+use crate::entry::entries;
+use crate::keyed::{keyed_map, InsertError};
+use crate::ordered::ordered_map;
+use crate::slots::slot_walks;
+use crate::walk::walks;
+use sellumaq_sys as sys;
+use std::cmp::Ordering;
+use std::fmt;
+use std::hash::{Hash, Hasher};
+use std::mem::{swap, take};
+use std::ops::{Bound, Index};
+use std::ptr::{null_mut, NonNull};
+
+pub use crate::edge::StringRange;
+
+array!(
+    /// An ordered map from strings to words. A key is a string of at most [`MAX_KEY`](crate::MAX_KEY) bytes, none of them
+    /// zero; keys are ordered by their bytes, as text in UTF-8 is by its characters.
+    ///
+    /// ```
+    /// let ages = sellumaq::JudySl::from([("Ada", 36), ("Alan", 41), ("Grace", 85)]);
+    /// assert_eq!(ages["Alan"], 41);
+    /// assert_eq!(ages.range("B"..).next(), Some((b"Grace".to_vec(), 85)));
+    /// ```
+    JudySl over sellumaq_judysl, sellumaq_judysl_len, sellumaq_judysl_free;
+    "let array = sellumaq::JudySl::from([(\"a\", 10), (\"b\", 20), (\"c\", 30)]);"
+);
+
+keyed_map!(
+    JudySl; sellumaq_judysl_ins, sellumaq_judysl_get, sellumaq_judysl_slot, sellumaq_judysl_del;
+    "let mut map = sellumaq::JudySl::from([(\"a\", 10)]);"
+);
+
+walks!(JudySl through Way; (Vec<u8>, u64));
+
+slot_walks!(JudySl through Way; Vec<u8>);
+
+ordered_map!(
+    JudySl; Vec<u8>, AsRef<[u8]>;
+    "let mut map = sellumaq::JudySl::from([(\"a\", 10), (\"b\", 20)]);", "\"a\"", "b\"a\".to_vec()", "b\"b\".to_vec()"
+);
+
+entries!(
+    JudySl, judysl, InsertError, InsertError::end; [K: AsRef<[u8]>]; K, K::as_ref => &[u8];
+    "let mut map = sellumaq::JudySl::from([(\"a\", 10), (\"b\", 20)]);", "\"a\"", "\"c\"", "b\"a\"", "b\"c\""
+);
+
+const UP: [Scan; 2] = [sys::sellumaq_judysl_first, sys::sellumaq_judysl_next];
+const DOWN: [Scan; 2] = [sys::sellumaq_judysl_last, sys::sellumaq_judysl_prev];
+
+/// The way of an iterator through a map: each step is one way down it.
+#[derive(Clone)]
+struct Way {
+    front: Edge,
+    back: Edge,
+}
+
+impl Way {
+    fn of(range: &impl StringRange) -> Way {
+        let (from, to) = range.bounds();
+        Way {
+            front: Edge::lower(from),
+            back: Edge::upper(to),
+        }
+    }
+
+    fn next_entry(&mut self, map: &JudySl) -> Option<(&[u8], u64)> {
+        // SAFETY: the map is borrowed, and the scans are this kind's.
+        let value = unsafe { self.front.step(map.handle, UP) }?;
+        let key = self.front.key();
+        self.back.lets_below(key).then_some((key, value))
+    }
+
+    fn next_back_entry(&mut self, map: &JudySl) -> Option<(&[u8], u64)> {
+        // SAFETY: as in `next_entry`.
+        let value = unsafe { self.back.step(map.handle, DOWN) }?;
+        let key = self.back.key();
+        self.front.lets_above(key).then_some((key, value))
+    }
+
+    fn next(&mut self, map: &JudySl) -> Option<(Vec<u8>, u64)> {
+        self.next_entry(map)
+            .map(|(key, value)| (key.to_vec(), value))
+    }
+
+    fn next_back(&mut self, map: &JudySl) -> Option<(Vec<u8>, u64)> {
+        self.next_back_entry(map)
+            .map(|(key, value)| (key.to_vec(), value))
+    }
+}
+
+impl JudySl {
+    fn owned(key: &impl AsRef<[u8]>) -> Vec<u8> {
+        key.as_ref().to_vec()
+    }
+
+    /// The pair of the least key.
+    ///
+    /// ```
+    /// let map = sellumaq::JudySl::from([("a", 10), ("b", 20)]);
+    /// assert_eq!(map.first_key_value(), Some((b"a".to_vec(), 10)));
+    /// ```
+    pub fn first_key_value(&self) -> Option<(Vec<u8>, u64)> {
+        self.iter().next()
+    }
+
+    /// The pair of the greatest key.
+    ///
+    /// ```
+    /// let map = sellumaq::JudySl::from([("a", 10), ("b", 20)]);
+    /// assert_eq!(map.last_key_value(), Some((b"b".to_vec(), 20)));
+    /// ```
+    pub fn last_key_value(&self) -> Option<(Vec<u8>, u64)> {
+        self.iter().next_back()
+    }
+
+    /// The entry of the least key.
+    ///
+    /// ```
+    /// let mut map = sellumaq::JudySl::from([("a", 10), ("b", 20)]);
+    /// assert_eq!(map.first_entry().unwrap().remove(), 10);
+    /// ```
+    pub fn first_entry(&mut self) -> Option<OccupiedEntry<'_, Vec<u8>>> {
+        let (key, _) = self.first_key_value()?;
+        let slot = self.find_slot(&key)?;
+        Some(OccupiedEntry {
+            map: self,
+            key,
+            slot,
+        })
+    }
+
+    /// The entry of the greatest key.
+    ///
+    /// ```
+    /// let mut map = sellumaq::JudySl::from([("a", 10), ("b", 20)]);
+    /// assert_eq!(map.last_entry().unwrap().insert(21), 20);
+    /// ```
+    pub fn last_entry(&mut self) -> Option<OccupiedEntry<'_, Vec<u8>>> {
+        let (key, _) = self.last_key_value()?;
+        let slot = self.find_slot(&key)?;
+        Some(OccupiedEntry {
+            map: self,
+            key,
+            slot,
+        })
+    }
+
+    /// The pair of the least key from a string on, which may be any.
+    ///
+    /// ```
+    /// let map = sellumaq::JudySl::from([("a", 10), ("b", 20)]);
+    /// assert_eq!(map.at_or_after("aa"), Some((b"b".to_vec(), 20)));
+    /// ```
+    pub fn at_or_after(&self, from: impl AsRef<[u8]>) -> Option<(Vec<u8>, u64)> {
+        self.range((Bound::Included(from.as_ref()), Bound::Unbounded))
+            .next()
+    }
+
+    /// The pair of the greatest key up to a string, which may be any.
+    ///
+    /// ```
+    /// let map = sellumaq::JudySl::from([("a", 10), ("b", 20)]);
+    /// assert_eq!(map.at_or_before("aa"), Some((b"a".to_vec(), 10)));
+    /// ```
+    pub fn at_or_before(&self, from: impl AsRef<[u8]>) -> Option<(Vec<u8>, u64)> {
+        self.range((Bound::Unbounded, Bound::Included(from.as_ref())))
+            .next_back()
+    }
+
+    /// The pairs by ascending key.
+    ///
+    /// ```
+    /// let map = sellumaq::JudySl::from([("b", 20), ("a", 10)]);
+    /// assert!(map.iter().eq([(b"a".to_vec(), 10), (b"b".to_vec(), 20)]));
+    /// ```
+    pub fn iter(&self) -> Iter<'_> {
+        Iter {
+            range: self.range(..),
+            left: self.len(),
+        }
+    }
+
+    /// The pairs of a range of keys, by ascending key. The ends may be any strings. A range that ends before it begins
+    /// holds nothing.
+    ///
+    /// ```
+    /// let map = sellumaq::JudySl::from([("a", 10), ("b", 20), ("c", 30)]);
+    /// assert_eq!(map.range("aa"..="b").next(), Some((b"b".to_vec(), 20)));
+    /// assert_eq!(map.range(.."b").count(), 1);
+    /// ```
+    pub fn range(&self, range: impl StringRange) -> Range<'_> {
+        Range {
+            array: self,
+            way: Way::of(&range),
+        }
+    }
+
+    /// The pairs of a range of keys, by ascending key, their values to change.
+    ///
+    /// ```
+    /// let mut map = sellumaq::JudySl::from([("a", 10), ("b", 20)]);
+    /// map.range_mut("b"..).for_each(|(_, value)| *value += 1);
+    /// assert_eq!(map["b"], 21);
+    /// ```
+    pub fn range_mut(&mut self, range: impl StringRange) -> RangeMut<'_> {
+        let way = Way::of(&range);
+        RangeMut::of(self, way)
+    }
+
+    /// Takes out each key that isn't to be kept, by ascending key; `keep` may change the values. Where it panics, the keys
+    /// that it didn't see stay.
+    ///
+    /// ```
+    /// let mut map = sellumaq::JudySl::from([("a", 10), ("b", 20)]);
+    /// map.retain(|key, _| key > &b"a"[..]);
+    /// assert_eq!((map.len(), map["b"]), (1, 20));
+    /// ```
+    pub fn retain(&mut self, mut keep: impl FnMut(&[u8], &mut u64) -> bool) {
+        let mut way = Way::of(&(..));
+        while let Some((key, _)) = way.next_entry(self) {
+            let kept = self.get_mut(key).map(|value| keep(key, value));
+            if kept == Some(false) {
+                self.delete(key);
+            }
+        }
+    }
+
+    /// Moves all that another holds into this one. A key of both has the other's value then.
+    ///
+    /// ```
+    /// let mut map = sellumaq::JudySl::from([("a", 10), ("b", 20)]);
+    /// map.append(&mut [("b", 21), ("c", 30)].into());
+    /// assert!(map.values().eq([10, 21, 30]));
+    /// ```
+    pub fn append(&mut self, other: &mut Self) {
+        if self.is_empty() {
+            swap(self, other);
+            return;
+        }
+        let mut entries = take(other).into_iter();
+        while let Some((key, value)) = entries.way.next_entry(&entries.array) {
+            self.insert(key, value);
+        }
+    }
+
+    /// Takes out all from a string on, and answers it as a map.
+    ///
+    /// ```
+    /// let mut map = sellumaq::JudySl::from([("a", 10), ("b", 20)]);
+    /// assert_eq!(map.split_off("b"), [("b", 20)].into());
+    /// assert_eq!(map.len(), 1);
+    /// ```
+    pub fn split_off(&mut self, key: impl AsRef<[u8]>) -> Self {
+        let mut way = Way::of(&(Bound::Included(key.as_ref()), Bound::Unbounded));
+        let mut upper = JudySl::new();
+        while let Some((key, value)) = way.next_entry(self) {
+            upper.insert(key, value);
+            self.delete(key);
+        }
+        upper
+    }
+}
+
+impl Range<'_> {
+    /// The next pair, its key lent until the next call. No memory is asked for, as it is for the keys that `next` gives away.
+    ///
+    /// ```
+    /// let map = sellumaq::JudySl::from([("a", 10)]);
+    /// assert_eq!(map.range("a"..).next_entry(), Some((&b"a"[..], 10)));
+    /// ```
+    pub fn next_entry(&mut self) -> Option<(&[u8], u64)> {
+        self.way.next_entry(self.array)
+    }
+
+    /// The same from the upper end.
+    ///
+    /// ```
+    /// let map = sellumaq::JudySl::from([("a", 10)]);
+    /// assert_eq!(map.range("a"..).next_back_entry(), Some((&b"a"[..], 10)));
+    /// ```
+    pub fn next_back_entry(&mut self) -> Option<(&[u8], u64)> {
+        self.way.next_back_entry(self.array)
+    }
+}
+
+impl Iter<'_> {
+    /// The next pair, its key lent until the next call. No memory is asked for, as it is for the keys that `next` gives away.
+    ///
+    /// ```
+    /// let map = sellumaq::JudySl::from([("a", 10)]);
+    /// assert_eq!(map.iter().next_entry(), Some((&b"a"[..], 10)));
+    /// ```
+    pub fn next_entry(&mut self) -> Option<(&[u8], u64)> {
+        self.left = self.left.checked_sub(1)?;
+        self.range.next_entry()
+    }
+
+    /// The same from the upper end.
+    ///
+    /// ```
+    /// let map = sellumaq::JudySl::from([("a", 10)]);
+    /// assert_eq!(map.iter().next_back_entry(), Some((&b"a"[..], 10)));
+    /// ```
+    pub fn next_back_entry(&mut self) -> Option<(&[u8], u64)> {
+        self.left = self.left.checked_sub(1)?;
+        self.range.next_back_entry()
+    }
+}
+
+impl Clone for JudySl {
+    fn clone(&self) -> Self {
+        let (mut copy, mut entries) = (JudySl::new(), self.iter());
+        while let Some((key, value)) = entries.next_entry() {
+            copy.insert(key, value);
+        }
+        copy
+    }
+}
+
+impl PartialEq for JudySl {
+    fn eq(&self, other: &Self) -> bool {
+        self.len() == other.len() && self.cmp(other) == Ordering::Equal
+    }
+}
+
+impl Eq for JudySl {}
+
+impl PartialOrd for JudySl {
+    fn partial_cmp(&self, other: &Self) -> Option<Ordering> {
+        Some(self.cmp(other))
+    }
+}
+
+impl Ord for JudySl {
+    fn cmp(&self, other: &Self) -> Ordering {
+        let (mut mine, mut others) = (self.iter(), other.iter());
+        loop {
+            match (mine.next_entry(), others.next_entry()) {
+                (None, None) => return Ordering::Equal,
+                (one, another) if one == another => {}
+                (one, another) => return one.cmp(&another),
+            }
+        }
+    }
+}
+
+impl Hash for JudySl {
+    fn hash<H: Hasher>(&self, to: &mut H) {
+        to.write_usize(self.len());
+        let mut entries = self.iter();
+        while let Some(pair) = entries.next_entry() {
+            pair.hash(to);
+        }
+    }
+}
+
+/// Shows the keys as text, bytes that are no ASCII text as `\x` and two digits.
+impl fmt::Debug for JudySl {
+    fn fmt(&self, to: &mut fmt::Formatter<'_>) -> fmt::Result {
+        let (mut shown, mut entries) = (to.debug_map(), self.iter());
+        while let Some((key, value)) = entries.next_entry() {
+            shown.entry(&format_args!("\"{}\"", key.escape_ascii()), &value);
+        }
+        shown.finish()
+    }
+}

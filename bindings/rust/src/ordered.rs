@@ -1,0 +1,136 @@
+//! What ordered maps have alike.
+
+/// Writes the calls of a `$map` at the ends of its order, and its iterators over keys and values. Keys come as `$key` and
+/// are looked up by what is `$lookup`. `$sample` is a line of an example that makes `map` with the values 10 and 20 of the
+/// keys `$a` and `$b`; an `$owned` key is one that the map gives away.
+macro_rules! ordered_map {
+    ($map:ident; $key:ty, $lookup:path; $sample:literal, $a:literal, $own_a:literal, $own_b:literal) => {
+        impl $map {
+            /// A key with its value, where it is there.
+            ///
+            /// ```
+            #[doc = concat!($sample, "\nassert_eq!(map.get_key_value(", $a, "), Some((", $own_a, ", 10)));")]
+            /// ```
+            pub fn get_key_value(&self, key: impl $lookup) -> Option<($key, u64)> {
+                let key = Self::owned(&key);
+                self.get(&key).map(|value| (key, value))
+            }
+
+            /// Takes a key out, and answers it with its value.
+            ///
+            /// ```
+            #[doc = concat!($sample, "\nassert_eq!(map.remove_entry(", $a, "), Some((", $own_a, ", 10)));")]
+            /// assert_eq!(map.len(), 1);
+            /// ```
+            pub fn remove_entry(&mut self, key: impl $lookup) -> Option<($key, u64)> {
+                let key = Self::owned(&key);
+                self.remove(&key).map(|value| (key, value))
+            }
+
+            /// Takes the least key out, and answers it with its value.
+            ///
+            /// ```
+            #[doc = concat!($sample, "\nassert_eq!(map.pop_first(), Some((", $own_a, ", 10)));")]
+            /// assert_eq!(map.len(), 1);
+            /// ```
+            pub fn pop_first(&mut self) -> Option<($key, u64)> {
+                let pair = self.first_key_value()?;
+                self.delete(&pair.0);
+                Some(pair)
+            }
+
+            /// Takes the greatest key out, and answers it with its value.
+            ///
+            /// ```
+            #[doc = concat!($sample, "\nassert_eq!(map.pop_last(), Some((", $own_b, ", 20)));")]
+            /// assert_eq!(map.len(), 1);
+            /// ```
+            pub fn pop_last(&mut self) -> Option<($key, u64)> {
+                let pair = self.last_key_value()?;
+                self.delete(&pair.0);
+                Some(pair)
+            }
+
+            /// The keys in ascending order.
+            ///
+            /// ```
+            #[doc = concat!($sample, "\nassert!(map.keys().rev().eq([", $own_b, ", ", $own_a, "]));")]
+            /// ```
+            pub fn keys(&self) -> Keys<'_> {
+                Keys { pairs: self.iter() }
+            }
+
+            /// The values, by ascending key.
+            ///
+            /// ```
+            #[doc = concat!($sample, "\nassert_eq!(map.values().sum::<u64>(), 30);")]
+            /// ```
+            pub fn values(&self) -> Values<'_> {
+                Values { pairs: self.iter() }
+            }
+
+            /// The keys in ascending order; the map goes.
+            ///
+            /// ```
+            #[doc = concat!($sample, "\nassert!(map.into_keys().eq([", $own_a, ", ", $own_b, "]));")]
+            /// ```
+            pub fn into_keys(self) -> IntoKeys {
+                IntoKeys { pairs: self.into_iter() }
+            }
+
+            /// The values, by ascending key; the map goes.
+            ///
+            /// ```
+            #[doc = concat!($sample, "\nassert!(map.into_values().eq([10, 20]));")]
+            /// ```
+            pub fn into_values(self) -> IntoValues {
+                IntoValues { pairs: self.into_iter() }
+            }
+
+            /// The pairs by ascending key, their values to change.
+            ///
+            /// ```
+            #[doc = concat!($sample, "\nmap.iter_mut().for_each(|(_, value)| *value += 1);")]
+            /// assert!(map.values().eq([11, 21]));
+            /// ```
+            pub fn iter_mut(&mut self) -> IterMut<'_> {
+                self.all_mut()
+            }
+
+            /// The values by ascending key, to change.
+            ///
+            /// ```
+            #[doc = concat!($sample, "\nmap.values_mut().for_each(|value| *value += 1);")]
+            /// assert!(map.values().eq([11, 21]));
+            /// ```
+            pub fn values_mut(&mut self) -> ValuesMut<'_> {
+                ValuesMut { pairs: self.all_mut() }
+            }
+        }
+
+        crate::walk::halves!(
+            /// The keys of a map in ascending order.
+            #[derive(Clone)]
+            Keys<'a> of Iter<'a>; 0: $key
+        );
+        crate::walk::halves!(
+            /// The values of a map by ascending key.
+            #[derive(Clone)]
+            Values<'a> of Iter<'a>; 1: u64
+        );
+        crate::walk::halves!(
+            /// The values of a map by ascending key, to change.
+            ValuesMut<'a> of IterMut<'a>; 1: &'a mut u64
+        );
+        crate::walk::halves!(
+            /// The keys of a map in ascending order, which the iterator owns.
+            IntoKeys of IntoIter; 0: $key
+        );
+        crate::walk::halves!(
+            /// The values of a map by ascending key, which the iterator owns.
+            IntoValues of IntoIter; 1: u64
+        );
+    };
+}
+
+pub(crate) use ordered_map;
