@@ -2,8 +2,18 @@
 # its tests need a C compiler too.
 
 PREFIX = /usr/local
+LIBDIR = $(PREFIX)/lib
 DESTDIR =
-AT = $(DESTDIR)$(PREFIX)
+
+# The folder of this project's libJudy, which is no linker's own: a libJudy that is installed stays what programs find.
+JUDYDIR = $(LIBDIR)/sellumaq
+
+# The packages that pkg-config knows then, the calls of the header, each of which gets a page, and the folders that a prefix of this project's
+# own has, which go with the last file in them.
+MAN = $(PREFIX)/share/man
+PACKAGES := sellumaq.pc sellumaq-judy.pc
+CALLS = $(shell grep -ow 'sellumaq_judy[1a-z]*_[a-z_]*' bindings/c/sellumaq.h | sort -u)
+OWN_FOLDERS = $(if $(filter-out /usr /usr/local,$(PREFIX)),"$(PYTHON_DIR)" "$(dir $(PYTHON_DIR))" "$(MAN)" "$(LIBDIR)" $(foreach name,bin include lib share,"$(PREFIX)/$(name)") "$(PREFIX)")
 
 # Where Python finds modules under PREFIX, by its own word; a folder of our own where there is no Python.
 PYTHON_DIR = $(or $(shell tools/python_dir $(PREFIX) 2>/dev/null),$(PREFIX)/share/sellumaq/python)
@@ -17,18 +27,23 @@ SOURCES := crates.txt $(shell find crates -path '*/out' -prune -o -type f \( -na
 # Where the library for C is left, and what it is made of besides.
 LIB := out/lib
 C_SOURCES := $(wildcard bindings/c/*.h bindings/c/hp/*)
-C_FLAGS = -std=c11 -O2 -Wall -Wextra
+RUST_FILES := $(patsubst bindings/rust/%,%,$(wildcard bindings/rust/Cargo.toml bindings/rust/README.md bindings/rust/src/*.rs bindings/rust/src/*/*.rs \
+	bindings/rust/sellumaq-sys/Cargo.toml bindings/rust/sellumaq-sys/build.rs bindings/rust/sellumaq-sys/src/*.rs))
+C_FLAGS = -std=c11 -D_DEFAULT_SOURCE -O2 -Wall -Wextra
+LIBRARIES := $(addprefix $(LIB)/,libsellumaq.a libsellumaq.so libJudy.a libJudy.so)
 
-.PHONY: help test refusals lib lib-test bindings-test bench fmt kit install install-program install-library install-test uninstall clean
+.PHONY: help test refusals lib lib-test python bindings-test bench fmt kit install install-program install-library install-libjudy install-test uninstall clean
 
 help:
 	@echo 'make judystore   proves and builds the program, and leaves it as ./judystore'
 	@echo 'make test        the gate: every proof, must-fail edit, test and program, from nothing'
 	@echo 'make refusals    runs the programs with each of their calls for memory refused in turn'
 	@echo 'make lib         proves and builds the library for C, and leaves it in out/lib; make lib-test tries it'
+	@echo 'make python      builds the Python package, and leaves it in out/python'
 	@echo 'make bindings-test  tries it from C, Rust and Python'
 	@echo 'make bench       measures the arrays beside libJudy, BTreeMap and HashMap, and the program beside BTreeMap'
 	@echo 'make install     puts the program and the library for C, Rust and Python under PREFIX ($(PREFIX)); make uninstall takes them away'
+	@echo 'make install-libjudy  links the library of HP'"'"'s names to where the linker looks for libJudy'
 	@echo 'make install-test  runs the programs of the README over a library that was installed'
 	@echo 'make fmt         lays out the sources'
 	@echo 'make clean       takes away what these commands made'
@@ -37,7 +52,8 @@ help:
 kit:
 	@command -v rt >/dev/null 2>&1 || { echo 'The Rattle kit is missing: its command `rt` is not on PATH.' >&2; exit 1; }
 
-judystore: $(SOURCES) | kit
+judystore: $(SOURCES)
+	@$(MAKE) -s kit
 	@tools/prove judy_store
 	@mkdir -p out/proofs
 	@(cd crates/judy_store && rt run </dev/null) >out/proofs/build.log 2>&1 || { echo 'NOT BUILT: see out/proofs/build.log' >&2; exit 1; }
@@ -49,30 +65,62 @@ test: kit
 
 refusals: judystore
 	@tools/try_refusals.py ./judystore
+	@tools/try_memory.py ./judystore
 	@tools/prove judy_loose
 	@(cd crates/judy_loose && rt run </dev/null) >out/proofs/loose.log 2>&1 || { echo 'NOT BUILT: see out/proofs/loose.log' >&2; exit 1; }
 	@tools/try_loose.py crates/judy_loose/out/judy_loose
 
-lib: $(LIB)/libsellumaq.a $(LIB)/libsellumaq.so
+lib: $(LIBRARIES)
 
-# The proved calls, the kit's three functions over malloc that they take memory by, and HP's names.
-$(LIB)/libsellumaq.a: $(SOURCES) $(C_SOURCES) | kit
+# The proved calls as an archive. The kit is asked for only where something is proved.
+ARCHIVE := crates/judy_c/out/libjudy_c.a
+
+$(ARCHIVE): $(SOURCES)
+	@$(MAKE) -s kit
 	@tools/prove judy_c
-	@rm -rf $(LIB) && mkdir -p out/proofs $(LIB)/objects
-	@(cd crates/judy_c && rt lib) >out/proofs/library.log 2>&1 || { echo 'NOT BUILT: see out/proofs/library.log' >&2; exit 1; }
-	@cd $(LIB)/objects && ar x ../../../crates/judy_c/out/libjudy_c.a && ar x "$$(dirname "$$(rt doc)")/c/liblibc_c.a" heap.pic.o
-	@$(CC) $(C_FLAGS) -fPIC -c bindings/c/hp/judy.c -o $(LIB)/objects/hp.o
-	@ar rcs $@ $(LIB)/objects/*.o
+	@mkdir -p out/proofs
+	@tools/archive >out/proofs/library.log 2>&1 || { echo 'NOT BUILT: see out/proofs/library.log' >&2; exit 1; }
+
+# The proved calls over the kit's three functions over malloc, by which they take memory, and the same calls over ours below HP's names.
+# Each library is linked to one object first, in which all names but its own are hidden.
+$(LIB)/sellumaq.o: $(ARCHIVE) $(C_SOURCES)
+	@rm -rf $(LIB) && mkdir -p $(LIB)/calls
+	@cd $(LIB)/calls && ar x ../../../$(ARCHIVE) && ar x "$$(dirname "$$(rt doc)")/c/liblibc_c.a" heap.pic.o && mv heap.pic.o ..
+	@ld -r $(LIB)/calls/*.o $(LIB)/heap.pic.o -o $@
+	@objcopy --wildcard --keep-global-symbol='sellumaq_*' $@
+
+$(LIB)/judy.o: $(LIB)/sellumaq.o
+	@for part in judy memory; do $(CC) $(C_FLAGS) -fPIC -ftls-model=initial-exec -c bindings/c/hp/$$part.c -o $(LIB)/hp_$$part.o || exit 1; done
+	@ld -r $(LIB)/calls/*.o $(LIB)/hp_*.o -o $@
+	@objcopy --wildcard --keep-global-symbol='Judy*' $@
+
+$(LIB)/libsellumaq.a: $(LIB)/sellumaq.o
+	@rm -f $@ && ar rcs $@ $<
 	@echo 'built $@'
 
-$(LIB)/libsellumaq.so: $(LIB)/libsellumaq.a
-	@$(CC) -shared -Wl,-soname,libsellumaq.so.0 -o $@ $(LIB)/objects/*.o
+$(LIB)/libJudy.a: $(LIB)/judy.o
+	@rm -f $@ && ar rcs $@ $<
+	@echo 'built $@'
+
+$(LIB)/libsellumaq.so: $(LIB)/sellumaq.o
+	@$(CC) -shared -Wl,-soname,libsellumaq.so.0 -Wl,-Bsymbolic -o $@ $<
 	@ln -sf libsellumaq.so $(LIB)/libsellumaq.so.0
+	@echo 'built $@'
+
+# Its calls of itself stay in it, but those of the four functions that a program may replace.
+$(LIB)/libJudy.so: $(LIB)/judy.o
+	@$(CC) -shared -Wl,-soname,libJudy.so.1 -Wl,--version-script,bindings/c/hp/names.map -Wl,--dynamic-list,bindings/c/hp/replaced.list -o $@ $<
+	@ln -sf libJudy.so $(LIB)/libJudy.so.1
 	@echo 'built $@'
 
 # The C tests over the static library and over the shared one, the first under Valgrind where it is there.
 lib-test: lib
 	@tools/try_library $(LIB)
+
+# The Python package, ready to be imported: with the extension, where a C compiler and Python's headers are there.
+python: lib
+	@if command -v python3 >/dev/null 2>&1; then python3 bindings/python/build_package.py $(LIB) out/python; \
+	else mkdir -p out/python && cp -r bindings/python/sellumaq out/python; fi
 
 # What refuses calls for memory where it is preloaded.
 REFUSER := out/refuse_alloc.so
@@ -83,48 +131,80 @@ $(REFUSER): tools/refuse_alloc.c
 
 # The tests of the three languages over the library, those of Rust where cargo is there; Rust's and Python's with memory refused too. Only the
 # tests themselves are refused it: cargo runs them by the command that the variable names.
-bindings-test: lib-test $(REFUSER)
+bindings-test: lib-test python $(REFUSER)
 	@if command -v cargo >/dev/null 2>&1; then \
 		cd bindings/rust && export SELLUMAQ_LIB=$(abspath $(LIB)) && \
-		CARGO_TARGET_X86_64_UNKNOWN_LINUX_GNU_RUNNER='env LD_PRELOAD=$(abspath $(REFUSER))' cargo test --offline; \
+		CARGO_TARGET_X86_64_UNKNOWN_LINUX_GNU_RUNNER='env LD_PRELOAD=$(abspath $(REFUSER))' cargo test --offline --workspace; \
 	else echo 'no cargo here: the Rust binding is not tried'; fi
-	@cd bindings/python && LD_PRELOAD=$(abspath $(REFUSER)) SELLUMAQ_LIBRARY=$(abspath $(LIB))/libsellumaq.so python3 -m unittest test_sellumaq
+	@cd bindings/python/tests && export PYTHONPATH=$(abspath out/python) SELLUMAQ_LIBRARY=$(abspath $(LIB))/libsellumaq.so && \
+		for binding in '' ctypes; do LD_PRELOAD=$(abspath $(REFUSER)) SELLUMAQ_BINDING=$$binding python3 -m unittest discover || exit 1; done
 
 # A million keys take long, a quarter of an hour or more where other work runs beside; `make bench KEYS=10000` takes half a minute.
 bench: lib judystore
 	@tools/bench $(LIB) --svg docs/bench.svg $(KEYS)
 	@tools/bench_program ./judystore
+	@python3 bindings/python/build_package.py $(LIB) out/python && PYTHONPATH=out/python bench/sorted.py
 
-# Under DESTDIR, which is for those who pack: the program with its page, and the library with what each language needs to use it.
+# Under DESTDIR, which is for those who pack: the program with its page, and the library with what each language needs to use it. What is
+# built already is taken as it is, so this needs no kit then. Each file gets its mode here, whatever the umask.
 install: install-program install-library
 
 install-program: judystore
-	install -d $(AT)/bin $(AT)/share/man/man1
-	install -m 755 judystore $(AT)/bin/judystore
-	install -m 644 docs/man/judystore.1 $(AT)/share/man/man1
+	install -d "$(DESTDIR)$(PREFIX)/bin" "$(DESTDIR)$(MAN)/man1"
+	install -m 755 judystore "$(DESTDIR)$(PREFIX)/bin/judystore"
+	install -m 644 docs/man/judystore.1 "$(DESTDIR)$(MAN)/man1"
 
-install-library: lib
-	install -d $(AT)/lib/pkgconfig $(AT)/include/sellumaq $(AT)/share/man/man3 $(AT)/share/sellumaq/rust/src $(DESTDIR)$(PYTHON_DIR)
-	install -m 644 $(LIB)/libsellumaq.a $(AT)/lib/libsellumaq.a
-	install -m 755 $(LIB)/libsellumaq.so $(AT)/lib/libsellumaq.so.0
-	ln -sf libsellumaq.so.0 $(AT)/lib/libsellumaq.so
-	sed 's|@PREFIX@|$(PREFIX)|' bindings/c/sellumaq.pc.in >$(AT)/lib/pkgconfig/sellumaq.pc
-	install -m 644 bindings/c/sellumaq.h $(AT)/include/sellumaq.h
-	install -m 644 bindings/c/hp/Judy.h $(AT)/include/sellumaq/Judy.h
-	install -m 644 docs/man/*.3 $(AT)/share/man/man3
-	install -m 644 bindings/rust/Cargo.toml bindings/rust/build.rs $(AT)/share/sellumaq/rust
-	install -m 644 bindings/rust/src/*.rs $(AT)/share/sellumaq/rust/src
-	install -m 644 bindings/python/sellumaq.py $(DESTDIR)$(PYTHON_DIR)/sellumaq.py
+install-library: lib python
+	install -d "$(DESTDIR)$(JUDYDIR)" "$(DESTDIR)$(LIBDIR)/pkgconfig" "$(DESTDIR)$(PREFIX)/include/sellumaq" "$(DESTDIR)$(MAN)/man3"
+	install -d "$(DESTDIR)$(PYTHON_DIR)/sellumaq"
+	install -m 644 $(LIB)/libsellumaq.a "$(DESTDIR)$(LIBDIR)/libsellumaq.a"
+	install -m 755 $(LIB)/libsellumaq.so "$(DESTDIR)$(LIBDIR)/libsellumaq.so.0"
+	ln -sf libsellumaq.so.0 "$(DESTDIR)$(LIBDIR)/libsellumaq.so"
+	install -m 644 $(LIB)/libJudy.a "$(DESTDIR)$(JUDYDIR)/libJudy.a"
+	install -m 755 $(LIB)/libJudy.so "$(DESTDIR)$(JUDYDIR)/libJudy.so.1"
+	ln -sf libJudy.so.1 "$(DESTDIR)$(JUDYDIR)/libJudy.so"
+	for name in $(PACKAGES); do \
+		sed 's|@PREFIX@|$(PREFIX)|; s|@LIBDIR@|$(LIBDIR)|; s|@JUDYDIR@|$(JUDYDIR)|' bindings/c/$$name.in >$(LIB)/$$name && \
+		install -m 644 $(LIB)/$$name "$(DESTDIR)$(LIBDIR)/pkgconfig/$$name" || exit 1; \
+	done
+	install -m 644 bindings/c/sellumaq.h "$(DESTDIR)$(PREFIX)/include/sellumaq.h"
+	install -m 644 bindings/c/hp/Judy.h "$(DESTDIR)$(PREFIX)/include/sellumaq/Judy.h"
+	install -m 644 docs/man/*.3 "$(DESTDIR)$(MAN)/man3"
+	for call in $(CALLS); do kind=$${call#sellumaq_}; ln -sf $${kind%%_*}.3 "$(DESTDIR)$(MAN)/man3/$$call.3" || exit 1; done
+	for file in $(RUST_FILES); do install -D -m 644 bindings/rust/$$file "$(DESTDIR)$(PREFIX)/share/sellumaq/rust/$$file" || exit 1; done
+	install -m 644 out/python/sellumaq/*.* "$(DESTDIR)$(PYTHON_DIR)/sellumaq"
+
+# Links this project's libJudy into the linker's own folder, where programs that were linked against HP's find it once ldconfig has
+# run. A libJudy that is there and isn't this link is never replaced.
+install-libjudy: install-library
+	@for name in libJudy.so libJudy.so.1; do \
+		at="$(DESTDIR)$(LIBDIR)/$$name"; \
+		if { [ -e "$$at" ] || [ -L "$$at" ]; } && [ "$$(readlink "$$at")" != "$(JUDYDIR)/$$name" ]; then \
+			echo "$$at is another library's: nothing is linked" >&2; exit 1; \
+		fi; \
+	done
+	ln -sf "$(JUDYDIR)/libJudy.so" "$(DESTDIR)$(LIBDIR)/libJudy.so"
+	ln -sf "$(JUDYDIR)/libJudy.so.1" "$(DESTDIR)$(LIBDIR)/libJudy.so.1"
 
 # The programs of the README, built and run over a library that was installed.
 install-test:
 	@tools/try_install
 
 uninstall:
-	rm -f $(AT)/bin/judystore $(AT)/share/man/man1/judystore.1 $(patsubst docs/man/%,$(AT)/share/man/man3/%,$(wildcard docs/man/*.3))
-	rm -f $(AT)/lib/libsellumaq.a $(AT)/lib/libsellumaq.so $(AT)/lib/libsellumaq.so.0 $(AT)/lib/pkgconfig/sellumaq.pc
-	rm -f $(AT)/include/sellumaq.h $(DESTDIR)$(PYTHON_DIR)/sellumaq.py
-	rm -rf $(AT)/include/sellumaq $(AT)/share/sellumaq
+	rm -f "$(DESTDIR)$(PREFIX)/bin/judystore" "$(DESTDIR)$(MAN)/man1/judystore.1"
+	cd "$(DESTDIR)$(MAN)/man3" 2>/dev/null && rm -f $(notdir $(wildcard docs/man/*.3)) $(addsuffix .3,$(CALLS)) || true
+	for name in libJudy.so libJudy.so.1; do \
+		at="$(DESTDIR)$(LIBDIR)/$$name"; \
+		if [ "$$(readlink "$$at")" = "$(JUDYDIR)/$$name" ]; then rm "$$at"; fi; \
+	done
+	cd "$(DESTDIR)$(LIBDIR)" 2>/dev/null && rm -f libsellumaq.a libsellumaq.so libsellumaq.so.0 $(addprefix pkgconfig/,$(PACKAGES)) || true
+	cd "$(DESTDIR)$(JUDYDIR)" 2>/dev/null && rm -f libJudy.a libJudy.so libJudy.so.1 || true
+	rm -f "$(DESTDIR)$(PREFIX)/include/sellumaq.h"
+	rm -rf "$(DESTDIR)$(PYTHON_DIR)/sellumaq"
+	rm -rf "$(DESTDIR)$(PREFIX)/include/sellumaq" "$(DESTDIR)$(PREFIX)/share/sellumaq"
+	for folder in "$(JUDYDIR)" "$(LIBDIR)/pkgconfig" "$(MAN)/man1" "$(MAN)/man3" $(OWN_FOLDERS); do \
+		if [ -d "$(DESTDIR)$$folder" ]; then rmdir --ignore-fail-on-non-empty "$(DESTDIR)$$folder"; fi; \
+	done
 
 fmt: kit
 	@for crate in crates/*/; do (cd $$crate && rt fmt) || exit 1; done

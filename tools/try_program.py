@@ -4,7 +4,7 @@
 usage: tools/try_program.py PROGRAM
 
 Prints a line for each check that fails, and how many passed; the status is 0 where all did. What it expects is
-README's: the answers of the first script, the ends of the program with their status and line (rows command-lines and
+docs/guide/judystore.md's: the answers of the first script, the ends of the program with their status and line (rows command-lines and
 command-line-ends), the files that it writes.
 """
 
@@ -28,6 +28,9 @@ FIRST_DUMP = bytes.fromhex("4a445931 00000001 01 61 02 00000000ffffffff 00000000
 EMPTY_DUMP = bytes.fromhex("4a445931 00000000")
 LIST = b"list\n"
 SMALL_LIST = b"names a:judy1:1\n"
+# The most bytes of a script, and what it ends with that has more.
+MOST = 1_073_741_824
+TOO_LONG_FAULT = b"judystore: run: too-long\n"
 SECONDS = 10
 
 
@@ -167,6 +170,29 @@ def check_refused(checks, program):
     with open("/dev/full", "wb") as full:
         ran = subprocess.run([program, "--help"], stdout=full, stderr=subprocess.PIPE, timeout=SECONDS)
         checks.expect("help on a full device", (ran.returncode, ran.stderr), (1, b"judystore: run: write\n"))
+
+
+# How many bytes a script has, how many with the LF of its last line, the status, the answer to that line, standard error, and the dump.
+LONGEST = [
+    (MOST, MOST, 0, b"names a:judyl:1\n", b"", FIRST_DUMP),
+    (MOST + 1, MOST, 1, b"names a:judyl:1\n", TOO_LONG_FAULT, None),
+    (MOST + 1, MOST + 1, 1, b"", TOO_LONG_FAULT, None),
+]
+
+
+def check_longest(checks, program):
+    """Scripts that are as long as they may be, and a byte longer: the first script, one line that takes the most of it, which is a hole in
+    the file, and the line `list`. A line is answered where its LF is within the limit."""
+    for size, closed, status, answer, told, dump in LONGEST:
+        with tempfile.TemporaryDirectory() as folder:
+            with open(os.path.join(folder, "s"), "wb") as script:
+                script.write(FIRST_SCRIPT)
+                script.seek(closed - len(b"\n" + LIST))
+                script.write(b"\n" + LIST + b";" * (size - closed))
+            name = f"a script of {size} bytes, a line closed by {closed}"
+            answers = FIRST_ANSWERS + b"error line-too-long\n" + answer
+            checks.expect(name, run_in(folder, program, ["--dump", "e", "s"]), (status, answers, told))
+            checks.expect(f"{name}, the dump", read(os.path.join(folder, "e")), dump)
 
 
 # Which standard stream is closed, the command line, the status, and the files that are left, with their bytes.
@@ -338,6 +364,7 @@ def main():
     check_ends(checks, program)
     check_command_lines(checks, program)
     check_refused(checks, program)
+    check_longest(checks, program)
     check_closed(checks, program)
     check_faltering(checks, program)
     check_pipes(checks, program)
