@@ -2,6 +2,7 @@
 //! and each small tool once.
 
 use judy_bits::{Bits256, ByteSet, Form, Meter, Skip, byte_of};
+use judy_unmetered::UNMETERED;
 use std::process::Abort;
 
 // The numbers of members of the sets.
@@ -303,7 +304,7 @@ fn skips(rt: HostRuntime) {
 
 #[test]
 fn meter_counts_visits(rt: HostRuntime) {
-    let mut meter = Meter::new();
+    let mut meter = Meter::new(UNMETERED);
     for visits in 0..3 {
         assert_eq!(rt; meter.visits(), visits);
         meter.tick();

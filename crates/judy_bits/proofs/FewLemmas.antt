@@ -12,7 +12,7 @@ use Rattle.std.specs.Cmp.{nat_cmp_total}
 use Rattle.judy_bits.specs.ByteSets.{IsByteSet, has, rank, count_up_to, place, next_from, prev_from, with_byte, without_byte}
 use Rattle.judy_bits.specs.Paddings.{IsPadded, length-meant}
 use Rattle.judy_bits.proofs.SetLaws.{place-nth}
-use Rattle.judy_bits.proofs.SetLemmas.{filter_all, slice_get-rank, has_at, next_from-rank, with_other, without_at, with_byte-IsByteSet, without_byte-IsByteSet}
+use Rattle.judy_bits.proofs.SetLemmas.{filter_all, slice_get-rank, next_from-rank, with_other, without_at, with_byte-IsByteSet, without_byte-IsByteSet}
 use Rattle.judy_bits.proofs.PaddingLemmas.{meant_at, count_by-padded, opened, length-opened, closed, length-closed, IsPadded-from, take-from}
 
 all_by_recursion : (P : ℕ → Type 0) (xs : List ℕ) → All P xs → AllByRecursion P xs
@@ -52,10 +52,6 @@ module _ (array : List ℕ) (count : ℕ) (padded : IsPadded 255 array count) (i
   -- A byte that stands at a place.
   pub place-there : (byte at : ℕ) → at < count → get_or array at 0 ≡ byte → Some at ≡ place (take count array) byte
   place-there byte at inside same = sym ((place-nth (take count array) byte at is).1 (meant_at 255 array count at padded inside ∙ ap Some same))
-
-  -- A member at its rank.
-  pub has-there : (byte at : ℕ) → at < count → get_or array at 0 ≡ byte → has (take count array) byte ≡ true
-  has-there byte at inside same = has_at (take count array) is.ascending at byte (meant_at 255 array count at padded inside ∙ ap Some same)
 
   pub next-there : (byte at : ℕ) → at ≡ rank (take count array) byte → at < count → Some (get_or array at 0) ≡ next_from (take count array) byte
   next-there byte at ranked inside = sym (meant_at 255 array count at padded inside) ∙ ap (slice_get (take count array)) ranked ∙ sym (next_from-rank (take count array) is.ascending byte)

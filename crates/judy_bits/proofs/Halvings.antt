@@ -1,12 +1,9 @@
 -- The search for the 1 of a word that has so many others below it, by halving the part that still holds it.
-use Rattle.std.proofs.Common.{◌≡◌, ℕ, zero, suc, ◌+◌, ◌-◌, ◌/◌, ◌%◌, ◌^◌, ◌<◌, ◌≤◌, sym, refl, ap, ◌∙◌, subst, arith, count_ones}
-use Rattle.std.specs.Int.{bit_at}
-use Rattle.std.specs.Int.Count.{ones, ones_cat, ones-le}
+use Rattle.std.proofs.Common.{◌≡◌, ℕ, zero, suc, ◌+◌, ◌-◌, ◌/◌, ◌%◌, ◌^◌, ◌<◌, ◌≤◌, sym, ap, ◌∙◌, subst, arith, count_ones}
+use Rattle.std.specs.Int.Count.{ones, ones_cat}
 use Rattle.std.proofs.Math.Nat.{mod-eq_of_lt, div-one, pow-suc}
 use Rattle.std.proofs.Math.Pow.{mod-mod-pow}
 use Rattle.std.proofs.lemmas.Nat.{mod-pow-add, mod_below, pow_pos, shr-shr, field_of, div-add-mod'}
-use Rattle.std.proofs.lemmas.Nat.Bits.{bit_at-lt}
-use Rattle.judy_bits.specs.BitWords.{IsSelected}
 use Rattle.judy_bits.proofs.BitLemmas.{ones_none}
 
 -- The part is the bits of the word from the place on, so many as the width; it has more than `left` of them,
@@ -90,22 +87,3 @@ module _ (word index part left place width half : ℕ) (halving : IsHalving word
 pub even_halves : (width power : ℕ) → width ≡ 2 ^ power → 1 < width → (width - width / 2 ≡ width / 2) × (less : ℕ) × (width / 2 ≡ 2 ^ less)
 even_halves width zero is more = let never : ⊥ = omega arith in absurd never
 even_halves width (suc less) is more = let step = pow-suc 2 less in (omega arith, less, omega arith)
-
--- A part of one bit is the one that was looked for.
-pub halving_ends : (word index part left place width : ℕ) → IsHalving word index part left place width → width ≤ 1 → IsSelected word index place
-halving_ends word index part left place width halving narrow =
-    let one_wide : width ≡ 1 = let some = halving.some in omega arith in
-    let bit : part ≡ bit_at word place = halving.bits ∙ ap (λ n. word / 2 ^ place % 2 ^ n) one_wide in
-    let holds : left < ones (bit_at word place) = subst (λ n. left < ones n) bit halving.holds in
-    let most : ones (bit_at word place) ≤ 1 = ones-le 1 (bit_at word place) (bit_at-lt word place) in
-    let below = halving.below in
-    record {
-      inside = let within = halving.inside in omega arith;
-      one = is_one (bit_at word place) (bit_at-lt word place) (omega arith);
-      below = omega arith;
-    }
-  where
-    is_one : (bit : ℕ) → bit < 2 → 0 < ones bit → bit ≡ 1
-    is_one zero small some = let none = ones_none in let never : ⊥ = omega arith in absurd never
-    is_one (suc zero) small some = refl
-    is_one (suc (suc n)) small some = let never : ⊥ = omega arith in absurd never

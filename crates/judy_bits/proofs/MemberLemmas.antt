@@ -11,7 +11,7 @@ use Rattle.std.proofs.lemmas.List.FromFn.{length-range_with_len}
 use Rattle.judy_model.proofs.Places.{length-filter-le}
 use Rattle.judy_bits.specs.ByteSets.{IsByteSet, has, rank, nth, next_from, prev_from, with_byte, without_byte}
 use Rattle.std.proofs.lemmas.Option.{slice_get_past}
-use Rattle.judy_bits.specs.BitWords.{is_set, members_of, IsSelected, IsLowestFrom, NoneFrom, IsHighestBelow, NoneBelow}
+use Rattle.judy_bits.specs.BitWords.{is_set, members_of, IsSelected, IsLowestFrom, IsHighestBelow, NoneBelow}
 use Rattle.judy_bits.proofs.Ranges.{chosen, chosen_none, chosen_with, chosen_without, chosen-IsByteSet, has-chosen, rank-chosen, nth-chosen, next_from-chosen, next_from-chosen_none, prev_from-chosen, prev_from-chosen_none}
 use Rattle.judy_bits.proofs.BitLemmas.{length-chosen_to, set_from_bit, unset_from_bit}
 
@@ -162,13 +162,6 @@ module _ (words : List ℕ) where
       (λ early. passed at from early)
       (λ late. in_word word at late (omega arith) (found.lowest (at - 64 * word) (omega arith) (omega arith)))
       (cases_lt at (64 * word)))
-
-  -- A word without one is passed.
-  pub next_past_word : (byte word end : ℕ) → end ≡ 64 * word + 64 → NoneSetBefore byte (64 * word) → NoneFrom (slice_index words word) (byte - 64 * word) → NoneSetBefore byte end
-  next_past_word byte word end is passed none = λ at from before. ⊎_elim
-      (λ early. passed at from early)
-      (λ late. in_word word at late (omega arith) (none (at - 64 * word) (omega arith) (omega arith)))
-      (cases_lt at (64 * word))
 
   pub next_in_none : (byte : ℕ) → NoneSetBefore byte 256 → next_from (members_of words) byte ≡ None
   unfolding members_of

@@ -35,11 +35,6 @@ not_above member byte below = is_gt_word member byte ∙ not_less byte member be
 apart_less : (member byte : ℕ) → member < byte → (member == byte) ≡ false
 apart_less member byte less = ne_eqb member byte (λ e. omega arith)
 
-apart_more : (member byte : ℕ) → byte < member → (member == byte) ≡ false
-apart_more member byte more = ne_eqb member byte (λ e. omega arith)
-
--- ---- elements
-
 all_weaker : (P Q : ℕ → Type 0) → ((x : ℕ) → P x → Q x) → (xs : List ℕ) → AllByRecursion P xs → AllByRecursion Q xs
 all_weaker P Q weaker [] all = tt
 all_weaker P Q weaker (x ∷ xs) all = (weaker x all.0, all_weaker P Q weaker xs all.1)

@@ -2,10 +2,11 @@
 
 ghost use Rattle.std.specs.Prelude.{◌≡◌, ◌+◌, ◌-◌, ◌^◌, ◌<◌, ℕ};
 
+use judy_unmetered::Unmetered;
 use std::marker::Model;
 
-/// How many nodes a call has entered.
-#[derive(Clone, Debug, PartialEq, Eq, Drop)]
+/// How many nodes a call has entered. A meter has no copy, so that none is set back to one made before.
+#[derive(Debug, PartialEq, Eq, Drop)]
 pub struct Meter {
     count: u64,
 }
@@ -19,8 +20,8 @@ impl Model for Meter {
 }
 
 impl Meter {
-    /// A meter with no visits so far.
-    pub fn new() -> Meter
+    /// A meter with no visits so far, apart from all others: so it takes leave.
+    pub fn new(_leave: Unmetered) -> Meter
         ensures { result ≡ 0 }
     {
         Meter { count: 0 }

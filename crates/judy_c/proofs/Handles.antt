@@ -30,3 +30,7 @@ nothing_deleted m key is = sym (remove_absent nat_cmp_total nat_cmp-IsAntisymmet
 -- and so no key is there
 pub null_has_none : (o : Option WordArray) (key : ℕ) → o ≡ None → IsFalse (map.contains_key (array_of o).map key)
 null_has_none o key is = ap (λ (n : Option WordArray). map.contains_key (array_of n).map key) is ∙ ap is_some (get-empty word_order key)
+
+-- nor has one a value
+pub null_has_no_value : (o : Option WordArray) (key : ℕ) → o ≡ None → map.get (array_of o).map key ≡ None
+null_has_no_value o key is = ap (λ (n : Option WordArray). map.get (array_of n).map key) is ∙ get-empty word_order key

@@ -14,3 +14,4 @@ pub mod StringSlots
 pub mod ByteMaps
 pub mod ByteLends
 pub mod ByteSlots
+pub mod Walks

@@ -11,14 +11,16 @@
 //! null; no two of one call overlap.
 //!
 //! set.rt, map.rt, strings.rt and bytes.rt have the handles, and in the folders of these names stand the array behind one, its pointer
-//! and a map's slots. judy1.rt, judyl.rt, judysl.rt and judyhs.rt have the calls, entries.rt those that tell a key with its value, told.rt
-//! how a call answers a word or a slot that may not be there, answers.rt how one answers by a number, scans.rt the scans over strings,
-//! and loose.rt a box as its pointer. The crate is a static library, and no other stands on it.
+//! and a map's slots. judy1.rt, judyl.rt, judysl.rt and judyhs.rt have the calls, entries.rt those that tell a key with its value,
+//! exchanges.rt those that tell the value that was there, walks.rt those that tell many keys at a time, told.rt how a call answers a
+//! word or a slot that may not be there, answers.rt how one answers by a number, scans.rt the scans over strings, and loose.rt a box
+//! as its pointer. The crate is a static library, and no other stands on it.
 #![tactic(auto)]
 
 mod answers;
 mod bytes;
 mod entries;
+mod exchanges;
 mod judy1;
 mod judyhs;
 mod judyl;
@@ -29,3 +31,4 @@ mod scans;
 mod set;
 mod strings;
 mod told;
+mod walks;

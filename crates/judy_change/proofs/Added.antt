@@ -6,7 +6,7 @@ use Rattle.std.specs.List.{insert}
 use Rattle.std.proofs.lemmas.Bool.{leb-false, lt-leb}
 use Rattle.judy_model.specs.WordBytes.{low_bytes}
 use Rattle.judy_model.specs.Forms.{bitmap_leaf}
-use Rattle.judy_model.specs.Shapes.{AllBelow, immediate_limit}
+use Rattle.judy_model.specs.Shapes.{AllBelow}
 use Rattle.judy_model.proofs.FormLemmas.{tight-head}
 use Rattle.judy_bits.specs.ByteSets.{has, rank, place}
 use Rattle.judy_leaf.specs.KeyLists.{KeyList, keys_of, with_pair, low_pairs, shift}
@@ -117,12 +117,6 @@ module _ (skipped byte key : ℕ) (is : key ≡ skipped * 256 + byte) (list : Ke
       tight-head (bitmap_leaf shared (keys_of (with_pair byte value list.pairs))) [] (lt-leb (length (keys_of (with_pair byte value list.pairs))) 32 (omega arith)) refl
 
 -- ---- immediates
-
--- How many keys the rule lets an immediate hold.
-pub room_is : (words width : ℕ) → words ≤ 1 → imm_room words width ≡ immediate_limit words width
-room_is zero width one = refl
-room_is (suc zero) width one = refl
-room_is (suc (suc words)) width one = let never : ⊥ = omega arith in absurd never
 
 -- One that isn't full has keys without values.
 pub not_full : (words width head word : ℕ) → words ≤ 1 → IsImm words head word → IsChild words width (imm_tree words head word) → length (imm_pairs words head word) ≢ imm_room words width

@@ -13,8 +13,8 @@ use Rattle.judy_bits.specs.ByteSets.{has, rank}
 use Rattle.judy_bits.proofs.SetLemmas.{is_below, not_below}
 use Rattle.judy_leaf.specs.KeyLists.{keys_of, with_pair, shift}
 use Rattle.judy_node.specs.Trees.{Pairs, Tree, IsMap, join, forms_in, IsChild, AreChildren}
-use Rattle.judy_node.proofs.Maps.{map-wider, map-shift, map-append, children-lower, children-length, join-map}
-use Rattle.judy_change.proofs.PairPlaces.{has-middle, rank-middle, with_pair-middle}
+use Rattle.judy_node.proofs.Maps.{map-wider, map-shift, map-append, children-length, join-map}
+use Rattle.judy_change.proofs.PairPlaces.{has-middle, with_pair-middle}
 
 -- ---- the parts
 
@@ -37,20 +37,6 @@ children-with words width low (b ∷ front) rest (k ∷ before) behind byte kid 
     let less = around.below in
     let here = less.0 in
     (are.0, are.1, are.2, children-with words width (b + 1) front rest before behind byte kid (record { least = omega arith; small = around.small; first = are.3; below = less.1; last = around.last }) is)
-
--- None between them.
-pub children-without : (words width low : ℕ) (front rest : List ℕ) (before behind : List Tree) (byte : ℕ) → AreAround words width low front rest before behind byte
-    → AreChildren words width low (front ++ rest) (before ++ behind)
-children-without words width low [] rest [] behind byte around = let from = around.least in children-lower words width (byte + 1) low rest behind (omega arith) around.last
-children-without words width low [] rest (k ∷ before) behind byte around = absurd around.first
-children-without words width low (b ∷ front) rest [] behind byte around = absurd around.first
-children-without words width low (b ∷ front) rest (k ∷ before) behind byte around =
-    let are = around.first in
-    let less = around.below in
-    let here = less.0 in
-    (are.0, are.1, are.2, children-without words width (b + 1) front rest before behind byte (record { least = omega arith; small = around.small; first = are.3; below = less.1; last = around.last }))
-
--- ---- the parts of children
 
 -- A child at a place.
 pub record IsAt (words width low : ℕ) (bytes : List ℕ) (kids : List Tree) (at byte : ℕ) (kid : Tree) : Type 0 where
@@ -176,9 +162,6 @@ module _ (words width block : ℕ) (front rest : List ℕ) (before behind : List
   module _ (key : ℕ) (fits : key < unit) (middle : Pairs) where
     pub has-child : has (keys_of (lower ++ (shift start middle ++ upper))) (start + key) ≡ has (keys_of middle) key
     has-child = has-middle words (block * unit) ((block + 256) * unit) start unit lower upper lower-map upper-map key fits middle
-
-    pub rank-child : rank (keys_of (lower ++ (shift start middle ++ upper))) (start + key) ≡ length lower + rank (keys_of middle) key
-    rank-child = rank-middle words (block * unit) ((block + 256) * unit) start unit lower upper lower-map upper-map key fits middle
 
     pub with_pair-child : (value : ℕ) → with_pair (start + key) value (lower ++ (shift start middle ++ upper)) ≡ lower ++ (shift start (with_pair key value middle) ++ upper)
     with_pair-child value = with_pair-middle words (block * unit) ((block + 256) * unit) start unit lower upper lower-map upper-map key fits middle value

@@ -13,3 +13,4 @@ pub mod BelowFacts
 pub mod InsertFacts
 pub mod RootFacts
 pub mod KidInserts
+pub mod GivenValues

@@ -1,8 +1,8 @@
 -- Pairs in three parts, one behind the other: what stands in the middle part is found and changed there alone.
 use Rattle.std.proofs.Common.{◌≡◌, ℕ, zero, suc, ◌+◌, ◌-◌, ◌<◌, ◌≤◌, ◌≢◌, ◌==◌, ◌||◌, ⊎_elim, Bool, true, false, true≢false, cond, List, [], ◌∷◌, ◌++◌, length, take, drop, filter, sym, refl, ap, ◌∙◌, subst, arith, ne_eqb, is_lt, length-append}
-use Rattle.std.specs.List.{insert, remove, AllByRecursion}
+use Rattle.std.specs.List.{insert, AllByRecursion}
 use Rattle.std.proofs.lemmas.Bool.{cases_lt, cases_eq, cases_order, eq-eqb}
-use Rattle.std.proofs.lemmas.List.Edits.{length-insert, insert-append_left, insert-append_right, remove-append_left, remove-append_right}
+use Rattle.std.proofs.lemmas.List.Edits.{length-insert, insert-append_left, insert-append_right}
 use Rattle.std.proofs.lemmas.List.Elements.{filter-append}
 use Rattle.std.proofs.lemmas.List.Folds.{list_any-append}
 use Rattle.judy_model.specs.Keys.{word_order}
@@ -107,9 +107,6 @@ insert-shift by at key value pairs =
 pub with_pair-shift : (by key value : ℕ) (pairs : Pairs) → with_pair (by + key) value (shift by pairs) ≡ shift by (with_pair key value pairs)
 with_pair-shift by key value pairs = ap (λ n. insert (shift by pairs) n (by + key, value)) (rank-shift by key pairs) ∙ insert-shift by (rank (keys_of pairs) key) key value pairs
 
-pub remove-shift : (by at : ℕ) (pairs : Pairs) → remove (shift by pairs) at ≡ shift by (remove pairs at)
-remove-shift by at pairs = (λ t. take-shift by at pairs t ++ drop-shift by (suc at) pairs t) ∙ sym (shift-append by (take at pairs) (drop (suc at) pairs))
-
 -- No rank is above the number of pairs.
 pub rank-most : (key : ℕ) (pairs : Pairs) → rank (keys_of pairs) key ≤ length pairs
 rank-most key pairs = let most = rank_within (keys_of pairs) key in let long = length-keys_of pairs in omega arith
@@ -153,18 +150,6 @@ module _ (words low high start unit : ℕ) (front rest : Pairs) (below : IsMap w
       ∙ ap (λ n. front ++ insert (shift start middle ++ rest) n (start + key, value)) moved
       ∙ ap (λ ps. front ++ ps) (insert-append_left (shift start middle) rest at (start + key, value) (omega arith))
       ∙ ap (λ ps. front ++ (ps ++ rest)) (insert-shift start at key value middle)
-
--- A pair less goes out of the middle part.
-pub remove-middle : (start at : ℕ) (front middle rest : Pairs) → at < length middle → remove (front ++ (shift start middle ++ rest)) (length front + at) ≡ front ++ (shift start (remove middle at) ++ rest)
-remove-middle start at front middle rest inside =
-    let long = length-shift start middle in
-    let moved : length front + at - length front ≡ at = omega arith in
-    remove-append_right front (shift start middle ++ rest) (length front) (length front + at) refl (omega arith)
-    ∙ ap (λ n. front ++ remove (shift start middle ++ rest) n) moved
-    ∙ ap (λ ps. front ++ ps) (remove-append_left (shift start middle) rest at (omega arith))
-    ∙ ap (λ ps. front ++ (ps ++ rest)) (remove-shift start at middle)
-
--- ---- pairs with one more are a map
 
 rank-later : (key : ℕ) (pair : ℕ × ℕ) (pairs : Pairs) → pair.0 < key → rank (keys_of (pair ∷ pairs)) key ≡ suc (rank (keys_of pairs) key)
 rank-later key pair pairs less =

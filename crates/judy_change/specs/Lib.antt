@@ -1,4 +1,5 @@
 pub mod Removals
 pub mod LeafTrees
 pub mod Inserted
+pub mod Exchanged
 pub mod Splits

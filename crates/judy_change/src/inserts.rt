@@ -86,7 +86,7 @@ fn into_root<V: Words + Drop>(
 }
 
 // Beside the one pair of a root.
-fn beside_one<V: Words + Drop>(
+pub(crate) fn beside_one<V: Words + Drop>(
     alloc: Global,
     only: u64,
     there: u64,

@@ -8,7 +8,8 @@
 //! leaves the tree as it was, its form included. A removal is never refused: where there is no memory for a smaller node, the larger
 //! one stays, loose. Else a tight tree stays tight. specs/Inserted.antt and specs/Removals.antt say what each leaves.
 //!
-//! inserts.rt has the calls that put a key in or lend a slot, and way_down.rt the way of an insert. It ends at a node that takes the key
+//! inserts.rt has the calls that put a key in or lend a slot, exchanges.rt the call that gives a key a value and answers the one that was
+//! there, specs/Exchanged.antt what it leaves, and way_down.rt the way of an insert. It ends at a node that takes the key
 //! or gives way to a larger one (immediates.rt, leaves.rt, bitmaps.rt), at a branch that gets a child (put.rt), or at a node that
 //! skips other bytes than the key begins with, which gets a branch above it (split.rt); gap.rt puts a pair among others. removals.rt has
 //! the way of a removal, remove_leaf.rt its end, settle.rt the smaller nodes, removed.rt what is answered.
@@ -18,6 +19,7 @@
 #![tactic(auto)]
 
 mod bitmaps;
+mod exchanges;
 mod gap;
 mod immediates;
 mod inserts;
@@ -30,6 +32,7 @@ mod settle;
 mod split;
 mod way_down;
 
+pub use exchanges::exchange;
 pub use inserts::{insert, insert_with, slot};
 pub use removals::remove;
 pub use removed::Removed;

@@ -16,6 +16,7 @@ use crate::removed::{Removed, Taken};
 use crate::settle::settle;
 use judy_leaf::{BitRef, Words};
 use judy_node::{BranchOf, ChildOf, Head, KindOf, NodeOf, RootOf, Step, Sums, most_in_immediate};
+use judy_unmetered::UNMETERED;
 use std::alloc::Global;
 use std::mem;
 
@@ -67,7 +68,7 @@ fn remove_of_two<V: Words + Drop>(child: ChildOf<V>, key: u64) -> (RootOf<V>, Re
     ensures removed { IsRemoved key (record child { width = 8 }) (root_tree result.0) result.1 }
 {
     let mut pairs = [(0, 0); 2];
-    child.fill(8, 0, &mut pairs);
+    child.fill(UNMETERED, 8, 0, &mut pairs);
     let [(first, first_value), (second, second_value)] = pairs;
     if first == key {
         return (

@@ -10,6 +10,7 @@ use judy_leaf::Words;
 use judy_node::{
     BranchOf, ChildOf, Head, KindOf, immediate_of_sorted, leaf_of_sorted, most_in_immediate,
 };
+use judy_unmetered::UNMETERED;
 use std::alloc::{AllocError, Global};
 use std::mem;
 
@@ -50,7 +51,7 @@ fn lessened<V: Words + Drop>(
 {
     let mut pairs = [(0, 0); 32];
     let count = child.pop() as usize;
-    child.fill(width, 0, &mut pairs[..count]);
+    child.fill(UNMETERED, width, 0, &mut pairs[..count]);
     small_node(alloc, width, &pairs[..count])
 }
 

@@ -70,7 +70,7 @@ fn into_kind<V: Words + Drop>(
 }
 
 // The same for a node without children.
-fn into_childless<V: Words + Drop>(
+pub(crate) fn into_childless<V: Words + Drop>(
     alloc: Global,
     kind: &mut KindOf<V>,
     width: u8,
@@ -108,7 +108,7 @@ fn into_childless<V: Words + Drop>(
 }
 
 // The same for a node that may become one of another kind: an immediate, or a node in which the key has no room.
-fn replaced<V: Words + Drop>(
+pub(crate) fn replaced<V: Words + Drop>(
     alloc: Global,
     kind: &mut KindOf<V>,
     width: u8,

@@ -141,7 +141,7 @@ impl<H: ByteHash + Drop> JudyHs<H> {
     }
 
     /// Takes a key out, and answers whether it was there; a key of more than 1,024 bytes never is. It can't fail and asks
-    /// for no memory of its own. (Manual: JHSD, JudyHSDel.)
+    /// for no memory of its own. With the last key goes all the memory. (Manual: JHSD, JudyHSDel.)
     pub fn del(&mut self, key: &[u8]) -> bool
         ensures answer { result ≡ map.contains_key self.old.map key.now }
         ensures deleted { self.new ≡ array.with_map self.old (array.del self.old.map key.now) }
@@ -156,9 +156,19 @@ impl<H: ByteHash + Drop> JudyHs<H> {
             Some(spot) => {
                 self.groups.remove(key.len() as u64, part, spot);
                 self.count -= 1;
+                self.give_back();
                 true
             }
             None => false,
+        }
+    }
+
+    // Gives back what is left of an array that holds no key: its lists and their free places.
+    fn give_back(&mut self)
+        ensures { self.new ≡ self.old }
+    {
+        if self.is_empty() {
+            self.free_array();
         }
     }
 

@@ -335,14 +335,15 @@ fn first_link(groups: &[GroupPlace], free: usize) -> Option<usize>
     }
 }
 
-// The place that the next group takes, and the one that is free first then: the first free one, or the end of the list,
-// where room is reserved.
+// The place that the next group takes, and the one that is free first then: the first free one, for which nothing is asked,
+// or the end of the list, where room is reserved.
 fn free_place(groups: &mut Vec<GroupPlace>, free: usize) -> Result<(usize, usize), AllocError>
     requires { NoneLost (links_of groups.old.items) free }
     ensures next { IfOk result (λ found. IsNextPlace (links_of groups.old.items) free found.0 found.1) }
     ensures found { IfOk result (λ found. IsFreeGroup (groups_of groups.old.items) found.0) }
     ensures room { IfOk result (λ found. found.0 ≡ length groups.new.items → vec_len groups.new < vec_capacity groups.new) }
     ensures same { groups.new.items ≡ groups.old.items }
+    ensures unasked { IsSome (get_or (links_of groups.old.items) free None) → (groups.new ≡ groups.old) × IsOk result }
 {
     match first_link(groups, free) {
         Some(next) => Ok((free, next)),

@@ -1,7 +1,7 @@
 //! The keys of one length above 8 bytes, by their hashes. A new chain takes the place that is free first; the list grows
 //! only where none is free.
 
-ghost use Rattle.std.specs.Prelude.{ℕ, ◌≡◌, ◌≢◌, ◌∷◌, [], ◌<◌, ◌≤◌, IfOk, OnOk, OnErr, None, Some, MatchOption, ◌++◌, ◌↔◌, IsTrue, IsSome, IfSome, length, get_or, vec_len, vec_capacity};
+ghost use Rattle.std.specs.Prelude.{ℕ, ◌≡◌, ◌≢◌, ◌∷◌, [], ◌<◌, ◌≤◌, IfOk, IsOk, OnOk, OnErr, None, Some, MatchOption, ◌++◌, ◌↔◌, IsTrue, IsSome, IfSome, length, get_or, vec_len, vec_capacity};
 ghost use Rattle.std.specs.FinMap.{get, empty, len as map_len};
 ghost use Rattle.std.specs.Borrow.{sem};
 ghost use Rattle.std.specs.Option.{option_copied_mut};
@@ -83,12 +83,14 @@ fn first_link(chains: &[ChainPlace], free: usize) -> Option<usize>
     }
 }
 
-// Makes room for one more chain. The list grows by an eighth, and not to its double: it is much of what an array takes.
-fn make_room(chains: &mut Vec<ChainPlace>) -> Result<(), AllocError>
+// Makes room for a chain at a place of the list, or at its end. A place of the list needs none, so that a free one is taken
+// without asking. For one at the end the list grows by an eighth, and not to its double: it is much of what an array takes.
+fn make_room(chains: &mut Vec<ChainPlace>, place: usize) -> Result<(), AllocError>
     ensures items { chains.new.items ≡ chains.old.items }
-    ensures room { OnOk result (vec_len chains.new < vec_capacity chains.new) }
+    ensures room { OnOk result (place ≡ length chains.new.items → vec_len chains.new < vec_capacity chains.new) }
+    ensures unasked { place < length chains.old.items → (chains.new ≡ chains.old) × IsOk result }
 {
-    if chains.len() < chains.capacity() {
+    if place < chains.len() || chains.len() < chains.capacity() {
         return Ok(());
     }
     chains.reserve_exact(chains.len() / 8 + 1)
@@ -291,9 +293,7 @@ fn chain_for(
     ensures room { OnOk result (place ≡ length chains.new.items → vec_len chains.new < vec_capacity chains.new) }
     ensures same { chains.new.items ≡ chains.old.items }
 {
-    if place == chains.len() {
-        make_room(chains)?;
-    }
+    make_room(chains, place)?;
     ChainPlace::of(alloc, key)
 }
 

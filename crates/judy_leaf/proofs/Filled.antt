@@ -1,10 +1,9 @@
 -- Pairs put in one after another.
 use Rattle.std.proofs.Common.{◌≡◌, ℕ, zero, suc, ◌+◌, ◌-◌, ◌*◌, ◌/◌, ◌<◌, List, [], ◌∷◌, length, take, replicate, get_or, refl, ap, sym, ◌∙◌, subst, arith}
-use Rattle.std.specs.List.{insert, AllByRecursion}
+use Rattle.std.specs.List.{insert}
 use Rattle.std.proofs.Math.Nat.{div-eq_of_lt}
 use Rattle.judy_block.specs.Contents.{Contents}
 use Rattle.judy_leaf.specs.Packing.{IsPacked, IsWidth}
-use Rattle.judy_leaf.specs.KeyLists.{keys_of}
 use Rattle.judy_leaf.specs.Leaves.{words_for, AreKeysFrom}
 use Rattle.judy_leaf.proofs.Placed.{per_pos}
 
@@ -16,16 +15,6 @@ insert_last xs at d inside = last d xs at inside ∙ ap (λ n. take n xs) (let e
     last d [] at inside = let never : ⊥ = omega arith in absurd never
     last d (x ∷ xs) zero inside = refl
     last d (x ∷ xs) (suc at) inside = ap (λ rest. x ∷ rest) (last d xs at (omega arith))
-
-pub keys_below : (bound : ℕ) (pairs : List (ℕ × ℕ)) (at : ℕ) (d : ℕ × ℕ) → AllByRecursion (λ key. key < bound) (keys_of pairs) → at < length pairs → (get_or pairs at d).0 < bound
-keys_below bound [] at d all inside = let never : ⊥ = omega arith in absurd never
-keys_below bound (pair ∷ pairs) zero d all inside = all.0
-keys_below bound (pair ∷ pairs) (suc at) d all inside = keys_below bound pairs at d all.1 (omega arith)
-
-pub values_zero : (pairs : List (ℕ × ℕ)) (at : ℕ) (d : ℕ × ℕ) → AllByRecursion (λ pair. pair.1 ≡ 0) pairs → at < length pairs → (get_or pairs at d).1 ≡ 0
-values_zero [] at d all inside = let never : ⊥ = omega arith in absurd never
-values_zero (pair ∷ pairs) zero d all inside = all.0
-values_zero (pair ∷ pairs) (suc at) d all inside = values_zero pairs at d all.1 (omega arith)
 
 -- No keys take no words.
 pub no_keys : (width start : ℕ) (block : Contents) → IsWidth width → start ≡ 0 → block.words ≡ [] → AreKeysFrom width 0 start block

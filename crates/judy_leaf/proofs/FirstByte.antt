@@ -1,12 +1,12 @@
 -- The first byte of words that is a given one, by the bits of a comparison of the bytes of each.
-use Rattle.std.proofs.Common.{◌≡◌, ◌≢◌, ℕ, zero, suc, ◌+◌, ◌*◌, ◌<◌, ◌≤◌, ◌==◌, true, false, cond, not, List, [], ◌∷◌, ◌++◌, length, map, drop, get_or, get_or-take, slice_get, Some, None, sym, refl, ap, ◌∙◌, arith, eq-eqb, ne_eqb}
+use Rattle.std.proofs.Common.{◌≡◌, ◌≢◌, ℕ, zero, suc, ◌+◌, ◌*◌, ◌<◌, ◌≤◌, ◌==◌, true, false, cond, not, List, [], ◌∷◌, ◌++◌, length, map, drop, get_or, get_or-take, slice_get, Some, None, sym, refl, ap, ◌∙◌, arith, ne_eqb}
 use Rattle.std.specs.List.{AllByRecursion}
 use Rattle.std.specs.List.Sorted.{IsStrictlySortedBy}
 use Rattle.std.proofs.lemmas.Bool.{eqb-true, eqb-false, not-true, not-false}
 use Rattle.std.proofs.lemmas.List.{drop_more, length-take}
 use Rattle.std.proofs.lemmas.List.Folds.{prefix_len-append}
 use Rattle.std.proofs.lemmas.List.Sums.{prefix_len-le-length, prefix_len_passes, prefix_len_stops}
-use Rattle.std.proofs.lemmas.Simd.{leading_from_mask_l, trailing_mask_l}
+use Rattle.std.proofs.lemmas.Simd.{trailing_mask_l}
 use Rattle.std.proofs.lemmas.Option.{slice_get-get_or}
 use Rattle.std.specs.List.{prefix_len}
 use lib.Count.{count_trailing_zeros}
@@ -45,13 +45,6 @@ module _ (key : ℕ) where
 
     both : before (places_of 1 (drop at words)) ≡ cond (before here == 8) (8 + before (places_of 1 (drop (at + 1) words))) (before here)
     both = ap before parts ∙ prefix_len-append (λ other. not (other == key)) here (places_of 1 (drop (at + 1) words))
-
-    -- A word that hasn't the key.
-    pub not_here : (mask rest : ℕ) → mask ≡ bits here → mask ≡ 0 → rest ≡ before (places_of 1 (drop (at + 1) words)) → rest + 8 ≡ before (places_of 1 (drop at words))
-    not_here mask rest is none counted =
-        let all : before here ≡ 8 = leading_from_mask_l (λ other. other == key) here (sym is ∙ none) in
-        let sum : rest + 8 ≡ 8 + rest = omega arith in
-        sum ∙ ap (λ n. 8 + n) counted ∙ sym (both ∙ ap (λ b. cond b (8 + before (places_of 1 (drop (at + 1) words))) (before here)) (eq-eqb (before here) 8 all))
 
     -- A word that has it.
     pub found_here : (mask : ℕ) → mask ≡ bits here → mask ≢ 0 → (count_trailing_zeros 64 mask ≡ before (places_of 1 (drop at words))) × (count_trailing_zeros 64 mask < 8)

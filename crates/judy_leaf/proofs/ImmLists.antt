@@ -14,11 +14,6 @@ use Rattle.judy_leaf.proofs.KeyEdits.{packed_more}
 use Rattle.judy_leaf.proofs.LeafLists.{keys_of-pairs_of, length-pairs_of, length-keys_of, no_value, value_of, rank_within}
 use Rattle.judy_leaf.proofs.PairLists.{pairs-insert_none, pairs-remove, pairs-remove_none, ascending-insert, ascending-remove}
 
-zero_of : (words : ℕ) → words ≤ 1 → (words ≡ 1 → ⊥) → words ≡ 0
-zero_of zero most apart = refl
-zero_of (suc zero) most apart = absurd (apart refl)
-zero_of (suc (suc n)) most apart = let never : ⊥ = omega arith in absurd never
-
 -- No keys, whatever the value.
 pub imm_empty : (words width : ℕ) → words ≤ 1 → IsWidth width → IsImm words width 0 0
 unfolding IsStrictlySortedBy

@@ -42,9 +42,6 @@ module _ (width : ℕ) (is : IsWidth width) where
   places_of-zero = append-nil (places width 0) ∙ digits-zero (256 ^ width) (8 / width) (base_pos width is)
 
   module _ (count : ℕ) (xs : List ℕ) (packed : IsPacked width count xs) where
-    all_places : ℕ
-    all_places = length xs * (8 / width)
-
     long : length (places_of width xs) ≡ length xs * (8 / width)
     long = length-places_of width is xs
 

@@ -1,5 +1,5 @@
 -- Pairs that are copied as they stand, and those without values.
-use Rattle.std.proofs.Common.{◌≡◌, ℕ, suc, ◌+◌, ◌^◌, ◌<◌, List, [], ◌∷◌, length, get_or, refl, ap, sym, ◌∙◌, subst, arith}
+use Rattle.std.proofs.Common.{◌≡◌, ℕ, suc, ◌+◌, ◌^◌, ◌<◌, List, [], ◌∷◌, get_or, refl, ap, sym, ◌∙◌, subst, arith}
 use Rattle.std.proofs.Math.Nat.{mod-eq_of_lt}
 use Rattle.std.specs.List.{AllByRecursion}
 use Rattle.judy_leaf.specs.KeyLists.{KeyList, keys_of, values_of, low_pairs, shift, IsKeyList}
@@ -29,9 +29,6 @@ module _ (list : KeyList) (is : IsKeyList list) (width : ℕ) (pairs : List (ℕ
 
   pub is_again : IsKeyList again
   is_again = subst IsKeyList (sym list_again) is
-
-  pub length_again : length pairs ≡ length list.pairs
-  length_again = ap length copied
 
   pub valueless_again : AllByRecursion (λ (pair : ℕ × ℕ). pair.1 ≡ 0) list.pairs → AllByRecursion (λ (pair : ℕ × ℕ). pair.1 ≡ 0) pairs
   valueless_again none = subst (AllByRecursion (λ (pair : ℕ × ℕ). pair.1 ≡ 0)) (sym copied) none

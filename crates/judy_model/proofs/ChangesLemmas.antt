@@ -98,15 +98,6 @@ module _ {K : Type 0} {order : K → K → Ordering} (total : IsTotalOrder order
           ] refl
           ∙ sym (get-insert total map key value other))
 
-      -- To write the value that a key has changes nothing.
-      pub write_held : (value : ℕ) → get map key ≡ Some value → write map key value ≡ map
-      write_held value held = same_map total same (insert map key value) map (λ other.
-          get-insert total map key value other
-          ∙ elim (eq_by_cmp order other key) as (λ b. eq_by_cmp order other key ≡ b → cond b (Some value) (get map other) ≡ get map other) [
-            | true ↦ λ tied. sym (get_at_tie other tied ∙ held)
-            | false ↦ λ apart. refl
-          ] refl)
-
       -- To delete a key that the map doesn't contain changes nothing.
       pub del_absent : get map key ≡ None → del map key ≡ map
       del_absent absent = same_map total same (remove map key) map (λ other.
@@ -115,7 +106,3 @@ module _ {K : Type 0} {order : K → K → Ordering} (total : IsTotalOrder order
             | true ↦ λ tied. sym (get_at_tie other tied ∙ absent)
             | false ↦ λ apart. refl
           ] refl)
-
-  -- To write the value that an insert gave is the insert alone.
-  pub write-ins_held : (same : IsAntisymmetric order) (map : FinMap order ℕ) (key : K) (value : ℕ) → get (ins map key) key ≡ Some value → write map key value ≡ ins map key
-  write-ins_held same map key value held = sym (write-ins map key same value) ∙ write_held (ins map key) key same value held

@@ -1,13 +1,13 @@
 -- What a line does that says a command: the way from its tokens to what the command does to the array that it names.
-use Rattle.std.proofs.Common.{◌≡◌, ℕ, true, false, cond, List, [], ◌∷◌, Option, Some, None, Result, Ok, Err, IsTrue, IsFalse, refl, ap, ◌∙◌}
+use Rattle.std.proofs.Common.{◌≡◌, ℕ, false, cond, List, [], ◌∷◌, Some, None, Result, Ok, Err, IsTrue, refl, ap, ◌∙◌}
 use Rattle.std.specs.Prelude.{ok_or, bytes_eq, nat_eq}
 use Rattle.std.specs.List.{starts_with}
 use Rattle.std.proofs.lemmas.Map.Steps.{set_value_same}
 use Rattle.judy_model.specs.Arrays.{ArrayValue}
-use Rattle.judy_model.specs.Lines.{Line, is_too_long, text_of}
-use Rattle.judy_model.specs.Tokens.{tokens_of, is_name, name_of}
-use Rattle.judy_model.specs.Stores.{Store, array_named, with_array, without_array}
-use Rattle.judy_model.specs.Replies.{Answer, freed, silent, Refusal, line_too_long, unknown_command, bad_name, no_such_array}
+use Rattle.judy_model.specs.Lines.{Line, text_of}
+use Rattle.judy_model.specs.Tokens.{tokens_of, is_name}
+use Rattle.judy_model.specs.Stores.{Store, array_named}
+use Rattle.judy_model.specs.Replies.{Answer, silent, Refusal, line_too_long, unknown_command, bad_name, no_such_array}
 use Rattle.judy_model.specs.CommandWords.{Command, KeyCommand, PairCommand, on_key, on_pair, command_named}
 use Rattle.judy_model.specs.Commands as commands
 use Rattle.judy_model.specs.Commands.{Outcome, ◌>>=◌, unchanged, within, name_at, array_at, at_name, carried_out}

@@ -49,4 +49,7 @@ pub mod ValueCommands
 pub mod SearchCommands
 pub mod WholeCommands
 pub mod MakeCommands
+pub mod MapsOfPairs
+pub mod RefusedCommands
+pub mod OrderedRefusals
 pub mod RankLaws

@@ -101,13 +101,6 @@ filter-all_ended (line ∷ lines) h =
     ap (λ b. cond b (line ∷ filter (λ line. line.ended) lines) (filter (λ line. line.ended) lines)) first
     ∙ ap (λ rest. line ∷ rest) (filter-all_ended lines (both_second line.ended (all_ended lines) h))
 
-all_ended-filter : (lines : List Line) → all_ended (filter (λ line. line.ended) lines) ≡ true
-all_ended-filter [] = refl
-all_ended-filter (line ∷ lines) = elim line.ended as (λ b. line.ended ≡ b → all_ended (cond b (line ∷ filter (λ line. line.ended) lines) (filter (λ line. line.ended) lines)) ≡ true) [
-  | true ↦ λ is. ap (λ b. b && all_ended (filter (λ line. line.ended) lines)) is ∙ all_ended-filter lines
-  | false ↦ λ is. all_ended-filter lines
-] refl
-
 -- the lines of whole lines and more are those of both
 lines_of-script_of_ended : (lines : List Line) (more : List ℕ) → are_lines lines ≡ true → all_ended lines ≡ true → lines_of (script_of lines ++ more) ≡ lines ++ lines_of more
 lines_of-script_of_ended [] more h k = refl

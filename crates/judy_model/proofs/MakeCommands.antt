@@ -9,7 +9,7 @@ use Rattle.judy_model.specs.Kinds.{kind_named}
 use Rattle.judy_model.specs.Stores.{Store, array_named, with_new_array}
 use Rattle.judy_model.specs.Replies.{done, Refusal, bad_name, wrong_kind, bad_word, bad_limit, exists, too_many_arrays}
 use Rattle.judy_model.specs.CommandWords as command
-use Rattle.judy_model.specs.Commands.{Outcome, ◌>>=◌, provided, made, limit_at, carried_out}
+use Rattle.judy_model.specs.Commands.{Outcome, ◌>>=◌, provided, made, limit_at}
 use Rattle.judy_model.specs.Steps.{step, settled}
 use Rattle.judy_model.specs.CommandLaws.{Says}
 use Rattle.judy_model.proofs.CommandLemmas.{Names, step-said}
@@ -100,3 +100,29 @@ module _ (store : Store) (name kind : List ℕ) (line : Line) where
   refused_many token limit empty good is word some most new full says =
       says_limit token says
       ∙ ap (settled store) (by_limit store name kind (Some token) empty (Ok limit) good is (ap (λ word. ok_or word bad_word) word) ∙ tested-by store name empty limit None false some most new (ap (λ count. nat_lt count 64) full))
+
+  -- ---- without a limit
+
+  says_none : Says line (codes "make" ∷ name ∷ kind ∷ []) → step store line ≡ settled store (made store name kind None)
+  says_none = step-said store line (codes "make") command.make (name ∷ kind ∷ []) make_names
+
+  abbrev greatest : (ℕ → ArrayValue) → Bool → Bool → Result (Outcome Store) Refusal
+  greatest empty new room = checked store name empty 4294967295 true new room
+
+  pub refused_name_alone : IsFalse (is_name name) → Says line (codes "make" ∷ name ∷ kind ∷ []) → step store line ≡ (Err bad_name, store)
+  refused_name_alone bad says = says_none says ∙ ap (settled store) (bad_named store name kind None bad)
+
+  pub refused_kind_alone : IsTrue (is_name name) → kind_named kind ≡ None → Says line (codes "make" ∷ name ∷ kind ∷ []) → step store line ≡ (Err wrong_kind, store)
+  refused_kind_alone good none says = says_none says ∙ ap (settled store) (limit_first store name kind None None good none)
+
+  pub refused_known_alone : (empty : ℕ → ArrayValue) (array : ArrayValue) → IsTrue (is_name name) → kind_named kind ≡ Some empty → array_named store name ≡ Some array → Says line (codes "make" ∷ name ∷ kind ∷ []) → step store line ≡ (Err exists, store)
+  refused_known_alone empty array good is here says =
+      says_none says
+      ∙ ap (settled store) (by_limit store name kind None empty (Ok 4294967295) good is refl ∙ ap (λ found. greatest empty (is_none found) (nat_lt (length store) 64)) here)
+
+  pub refused_many_alone : (empty : ℕ → ArrayValue) → IsTrue (is_name name) → kind_named kind ≡ Some empty → array_named store name ≡ None → length store ≡ 64 → Says line (codes "make" ∷ name ∷ kind ∷ []) → step store line ≡ (Err too_many_arrays, store)
+  refused_many_alone empty good is new full says =
+      says_none says
+      ∙ ap (settled store) (by_limit store name kind None empty (Ok 4294967295) good is refl
+      ∙ ap (λ found. greatest empty (is_none found) (nat_lt (length store) 64)) new
+      ∙ ap (λ count. greatest empty true (nat_lt count 64)) full)

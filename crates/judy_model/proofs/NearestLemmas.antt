@@ -5,7 +5,7 @@ use Rattle.std.specs.FinMap.{FinMap, IsAntisymmetric, keys, contains_key}
 use Rattle.std.proofs.lemmas.Bool.{and_parts, and_from, false_from_ne_true}
 use Rattle.judy_model.specs.Neighbours.{first, next, last, prev}
 use Rattle.judy_model.specs.Nearest.{IsLeast, IsGreatest, IsFirst, IsNext, IsLast, IsPrev}
-use Rattle.judy_model.proofs.Orders.{not_both, one_from_le, turned-IsAntisymmetric, ge_is_le, gt_is_lt, le_itself, le_from_not_lt, lt_from_not_le}
+use Rattle.judy_model.proofs.Orders.{not_both, one_from_le, turned-IsAntisymmetric, ge_is_le, gt_is_lt, le_from_not_lt, lt_from_not_le}
 use Rattle.judy_model.proofs.Ascending.{Among, LeastAmong, GreatestAmong, find_least, find_greatest}
 use Rattle.judy_model.proofs.KeysLemmas.{keys_ascending, among_keys, contains_key-from_among}
 
@@ -124,11 +124,3 @@ module _ {K : Type 0} {order : K → K → Ordering} (total : IsTotalOrder order
   pub prev_missing : ((other : K) → IsTrue (contains_key map other) → IsTrue (is_le (order from other))) → prev map from ≡ None
   prev_missing each =
       prev_is total same map from None (none_found order (contains_key map) (λ other. is_lt (order other from)) (λ other there side. not_both (is_lt (order other from)) side (lt_from_not_le total other from ∙ ap not (each other there))))
-
-  -- A key of the map is its own first.
-  pub first_present : IsTrue (contains_key map from) → first map from ≡ Some from
-  first_present held = first_found from held (le_itself total from) (λ other there above. above)
-
-  -- It is its own last too.
-  pub last_present : IsTrue (contains_key map from) → last map from ≡ Some from
-  last_present held = last_found from held (le_itself total from) (λ other there below. below)

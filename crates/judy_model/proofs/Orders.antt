@@ -96,15 +96,6 @@ module _ {K : Type 0} {order : K → K → Ordering} (total : IsTotalOrder order
   pub le_lt_trans : (x y z : K) → is_le (order x y) ≡ true → order y z ≡ Less → order x z ≡ Less
   le_lt_trans x y z p q = le_lt_by x y z (order x y) refl p q
 
-  le_le_by : (x y z : K) (answer : Ordering) → order y z ≡ answer → is_le (order x y) ≡ true → is_le answer ≡ true → is_le (order x z) ≡ true
-  le_le_by x y z Less e p q = ap is_le (le_lt_trans x y z p e)
-  le_le_by x y z Equal e p q = ap is_le (sym (alike_right total y z x e)) ∙ p
-  le_le_by x y z Greater e p q = absurd (true≢false (sym q))
-
-  -- At or before, twice.
-  pub le_le_trans : (x y z : K) → is_le (order x y) ≡ true → is_le (order y z) ≡ true → is_le (order x z) ≡ true
-  le_le_trans x y z p q = le_le_by x y z (order y z) refl p q
-
   -- Two keys at or before each other are one.
   pub one_from_le : IsAntisymmetric order → (x y : K) → is_le (order x y) ≡ true → is_le (order y x) ≡ true → x ≡ y
   one_from_le same x y p q = same x y (squeezed (order x y) (order y x) (total.antisymm x y) p q)

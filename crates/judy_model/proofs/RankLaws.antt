@@ -1,6 +1,5 @@
 -- The key at a place, and how many keys are below a key.
 use Rattle.std.proofs.Common.{◌≡◌, ℕ, ◌≤◌, ◌↔◌, IsTrue, ⊎_elim, length, Some, None, sym, ap, ◌∙◌, Ordering, arith}
-use Rattle.std.specs.Prelude.{slice_get}
 use Rattle.std.specs.Cmp.{IsTotalOrder}
 use Rattle.std.specs.FinMap.{FinMap, IsAntisymmetric, keys, contains_key, len}
 use Rattle.std.proofs.lemmas.Option.{slice_get_past, slice_get_cases, none-some}

@@ -1,15 +1,14 @@
 -- The neighbours and the counts of a map by its ranks: by how many keys are below a key, and at or below it.
-use Rattle.std.proofs.Common.{◌≡◌, ℕ, suc, ◌+◌, ◌-◌, ◌<◌, ◌≤◌, true, false, cond, not, ◌&&◌, length, slice_get, IsTrue, Some, None, sym, refl, ap, ◌∙◌, arith, Ordering, Less, Equal, Greater, subst, is_lt, is_le}
+use Rattle.std.proofs.Common.{◌≡◌, ℕ, suc, ◌+◌, ◌-◌, ◌<◌, ◌≤◌, true, false, cond, not, ◌&&◌, length, slice_get, IsTrue, Some, None, sym, refl, ap, ◌∙◌, arith, Ordering, is_lt, is_le}
 use Rattle.std.specs.Cmp.{IsTotalOrder}
 use Rattle.std.specs.FinMap.{FinMap, IsAntisymmetric, keys, contains_key, len}
-use Rattle.std.proofs.lemmas.Bool.{false_from_ne_true}
 use Rattle.judy_model.specs.Neighbours.{first, next, last, prev}
 use Rattle.judy_model.specs.Counts.{keys_between, count, rank, nth, by_count}
 use Rattle.judy_model.specs.Counts.{count_up_to}
-use Rattle.judy_model.proofs.Orders.{not_both, ge_is_not_lt, gt_is_not_le, less_is, le_from_not_lt, lt_from_not_le, lt_le_trans, le_lt_trans}
-use Rattle.judy_model.proofs.Ascending.{Among, place_among, find_agree}
+use Rattle.judy_model.proofs.Orders.{ge_is_not_lt, gt_is_not_le, less_is, le_from_not_lt, lt_from_not_le, lt_le_trans, le_lt_trans}
+use Rattle.judy_model.proofs.Ascending.{place_among, find_agree}
 use Rattle.judy_model.proofs.Places.{before_place-suc, find_at_count, find_before_count, lt-IsDownward, le-IsDownward, length-filter_split, length-filter_is, length-filter-le, length-filter-mono, filter_agree_among, below_at_place, up_to_place}
-use Rattle.judy_model.proofs.KeysLemmas.{keys_ascending, length-keys, among_keys, contains_key-from_among}
+use Rattle.judy_model.proofs.KeysLemmas.{keys_ascending, length-keys, among_keys}
 
 module _ {K : Type 0} {order : K → K → Ordering} (total : IsTotalOrder order) (map : FinMap order ℕ) where
   -- ---- neighbours
@@ -64,12 +63,6 @@ module _ {K : Type 0} {order : K → K → Ordering} (total : IsTotalOrder order
   -- Where no key is below a key, it has no previous one.
   pub prev_none : (from : K) → rank map from ≡ 0 → prev map from ≡ None
   prev_none from none = prev-by_count from ∙ ap (by_count map) none ∙ by_count-zero
-
-  -- Else the previous stands at the place before its rank.
-  pub prev_at : (from : K) (place : ℕ) → rank map from ≡ suc place → prev map from ≡ slice_get (keys map) place
-  prev_at from place some = prev-by_count from ∙ ap (by_count map) some ∙ by_count-suc place
-
-  -- ---- ranks
 
   -- The rank of a key is the place before which the keys are below it, and from which on none is.
   pub rank_is : (key : K) (place : ℕ) → place ≤ len map → ((k : ℕ) (x : K) → slice_get (keys map) k ≡ Some x → k < place → is_lt (order x key) ≡ true) → ((k : ℕ) (x : K) → slice_get (keys map) k ≡ Some x → place ≤ k → is_le (order key x) ≡ true) → rank map key ≡ place
@@ -156,32 +149,8 @@ module _ {K : Type 0} {order : K → K → Ordering} (total : IsTotalOrder order
   count_from_least least lowest key = ap length (filter_agree_among (λ other. is_le (order least other) && is_le (order other key)) (λ other. is_le (order other key)) (keys map) (λ other here. ap (λ b. b && is_le (order other key)) (lowest other)))
 
   module _ (same : IsAntisymmetric order) where
-    -- Of a key of the map, the count up to it is one more than its rank.
-    pub count_up_to_present : (key : K) → IsTrue (contains_key map key) → count_up_to map key ≡ suc (rank map key)
-    count_up_to_present key held =
-        let at = place_among (keys map) key (among_keys total same map key held) in
-        count_up_to_at at.0 key at.1 ∙ ap suc (sym (rank_at at.0 key at.1))
-
-    -- Of a key that it doesn't contain, the two are equal.
-    pub count_up_to_absent : (key : K) → contains_key map key ≡ false → count_up_to map key ≡ rank map key
-    unfolding count_up_to rank
-    count_up_to_absent key absent =
-        ap length (filter_agree_among (λ other. is_le (order other key)) (λ other. is_lt (order other key)) (keys map) (λ other here. agree other here))
-      where
-        agree : (other : K) → Among (keys map) other → is_le (order other key) ≡ is_lt (order other key)
-        agree other here =
-            elim (order other key) as (λ answer. order other key ≡ answer → is_le answer ≡ is_lt answer) [
-              | Less ↦ λ below. refl
-              | Equal ↦ λ tied. not_both (contains_key map key) (contains_key-from_among total same map key (subst (Among (keys map)) (same other key tied) here)) absent
-              | Greater ↦ λ above. refl
-            ] refl
-
     -- A key of the map stands at its rank.
     pub slice_get-rank : (key : K) → IsTrue (contains_key map key) → slice_get (keys map) (rank map key) ≡ Some key
     slice_get-rank key held =
         let at = place_among (keys map) key (among_keys total same map key held) in
         ap (slice_get (keys map)) (rank_at at.0 key at.1) ∙ at.1
-
-    -- A key whose rank is the count up to it is none of the map.
-    pub absent_from_ranks : (key : K) → count_up_to map key ≡ rank map key → contains_key map key ≡ false
-    absent_from_ranks key level = false_from_ne_true (contains_key map key) (λ held. let more = count_up_to_present key held in let never : ⊥ = omega (arith, more, level) in never)

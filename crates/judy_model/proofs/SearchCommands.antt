@@ -4,8 +4,8 @@ use Rattle.std.specs.Prelude.{ok_or, is_some, unwrap_or, codes}
 use Rattle.std.specs.Cmp.{nat_cmp_total}
 use Rattle.std.specs.FinMap.{FinMap, nat_cmp-IsAntisymmetric, get, contains_key, len}
 use Rattle.std.proofs.lemmas.Bool.{ne_eqb, eq-eqb}
-use Rattle.judy_model.specs.Keys.{word_order, byte_order}
-use Rattle.judy_model.specs.Arrays.{ArrayOf, ArrayValue, judy1, judyl, judysl, with_map, ins, del, is_full}
+use Rattle.judy_model.specs.Keys.{word_order}
+use Rattle.judy_model.specs.Arrays.{ArrayOf, ArrayValue, judy1, judyl, judysl, with_map, ins, del}
 use Rattle.judy_model.specs.Tokens.{word_of}
 use Rattle.judy_model.specs.KeyTokens.{string_key_of}
 use Rattle.judy_model.specs.Counts.{count, by_count}
@@ -14,7 +14,7 @@ use Rattle.judy_model.specs.CommandWords as command
 use Rattle.judy_model.specs.CommandWords.{KeyCommand}
 use Rattle.judy_model.specs.Commands as commands
 use Rattle.judy_model.specs.Commands.{Outcome, ◌>>=◌, unchanged, number_or_nothing, entry_or_nothing, value_of, added, removed, word_at}
-use Rattle.judy_model.specs.CommandLaws.{Answers, Changes, IsRefused, AnswersNumberOrNone, AnswersEntryOrNone, CountsFromTheFirstToTheSecond, TakesOutAPresentKey, LeavesAnAbsentKey}
+use Rattle.judy_model.specs.CommandLaws.{Answers, Changes, IsRefused, AnswersNumberOrNone, AnswersEntryOrNone, CountsFromTheFirstToTheSecond}
 use Rattle.judy_model.proofs.ChangesLemmas.{del_absent}
 use Rattle.judy_model.proofs.Inserts.{ins_present, is_full_present, is_full_absent}
 use Rattle.judy_model.proofs.CommandLemmas.{Names, key-Changes, key-Answers, key-IsRefused, pair-Answers}

@@ -1,14 +1,12 @@
 -- The map of pairs whose keys strictly ascend: what it holds, and what a write, an insert or a delete in the
 -- pairs makes of it.
-use Rattle.std.proofs.Common.{◌≡◌, ℕ, ◌<◌, ◌≤◌, Bool, true, false, cond, not, T, List, [], length, set, get_or, Some, None, Less, Equal, Greater, refl, sym, ap, subst, ◌∙◌}
+use Rattle.std.proofs.Common.{◌≡◌, Bool, true, false, cond, not, T, List, [], length, None, refl, sym, ap, ◌∙◌}
 use Rattle.std.specs.declared.cmp.Ordering.{Ordering}
 use Rattle.std.specs.Ordering.{is_eq, eq_by_cmp}
 use Rattle.std.specs.Cmp.{IsTotalOrder, alike_right, eq_by_cmp_equiv, Equal-is}
 use Rattle.std.specs.List as list
-use Rattle.std.specs.List.Sorted.{IsPartitionPoint}
 use Rattle.std.specs.FinMap.{FinMap, IsAntisymmetric, find, put, is_sorted, empty, from_sorted, get, insert, remove, len, entries-from_sorted, entries-insert, get-from_sorted, get-remove, get_tied, len-entries, empty_of_len, same_entries_map, same_map}
-use Rattle.std.specs.FinMap.Entries.{is_sorted-put, is_sorted-where_key, find-where_key}
-use Rattle.judy_model.proofs.Pairs.{find-at, find-free, put-at, put-free, where_key-at}
+use Rattle.std.specs.FinMap.Entries.{where_key, is_sorted-put, is_sorted-where_key, find-where_key}
 
 -- A choice by the opposite test.
 turned : {X : Type 0} (b : Bool) (x y : X) → cond b x y ≡ cond (not b) y x
@@ -26,39 +24,9 @@ module _ {K X : Type 0} (order : K → K → Ordering) where
 
 module _ {K X : Type 0} (order : K → K → Ordering) (total : IsTotalOrder order) where
   -- A put into the map is a put into its pairs, which stay in order.
-  insert-from_sorted : (pairs : List (K × X)) (key : K) (value : X) → T (is_sorted order pairs) → insert (from_sorted {R = order} pairs) key value ≡ from_sorted (put order key value pairs)
+  pub insert-from_sorted : (pairs : List (K × X)) (key : K) (value : X) → T (is_sorted order pairs) → insert (from_sorted {R = order} pairs) key value ≡ from_sorted (put order key value pairs)
   insert-from_sorted pairs key value h =
       same_entries_map _ _ (entries-insert total _ key value ∙ ap (put order key value) (entries-from_sorted order pairs h) ∙ sym (entries-from_sorted order (put order key value pairs) (is_sorted-put order total key value pairs h)))
-
-  module _ (pairs : List (K × X)) (key : K) (at : ℕ) (d : K × X) (h : T (is_sorted order pairs)) (inside : at < length pairs) (here : order (get_or pairs at d).0 key ≡ Equal) where
-    -- Where the key stands at a place, the map holds it with the value there.
-    pub get-at : get (from_sorted {R = order} pairs) key ≡ Some (get_or pairs at d).1
-    get-at = get-from_sorted order pairs key h ∙ find-at order total pairs key at d h inside here
-
-    -- The pairs stay in order where the value there is written.
-    pub is_sorted-set : (value : X) → T (is_sorted order (set pairs at ((get_or pairs at d).0, value)))
-    is_sorted-set value = subst (λ (others : List (K × X)). T (is_sorted order others)) (put-at order total pairs key value at d h inside here) (is_sorted-put order total key value pairs h)
-
-    -- And the map is written at the key.
-    pub insert-at : (value : X) → insert (from_sorted {R = order} pairs) key value ≡ from_sorted (set pairs at ((get_or pairs at d).0, value))
-    insert-at value = insert-from_sorted pairs key value h ∙ ap (from_sorted {R = order}) (put-at order total pairs key value at d h inside here)
-
-    -- The pairs stay in order without that place.
-    pub is_sorted-remove : T (is_sorted order (list.remove pairs at))
-    is_sorted-remove = subst (λ (others : List (K × X)). T (is_sorted order others)) (where_key-at order total pairs key at d h inside here) (is_sorted-where_key order (λ x. not (eq_by_cmp order key x)) pairs h)
-
-  module _ (pairs : List (K × X)) (key : K) (at : ℕ) (h : T (is_sorted order pairs)) (inside : at ≤ length pairs) (parts : IsPartitionPoint (λ pair. order pair.0 key ≡ Less) (λ pair. order pair.0 key ≡ Greater) pairs at) where
-    -- Where the key stands nowhere, the map doesn't hold it.
-    pub get-free : get (from_sorted {R = order} pairs) key ≡ None
-    get-free = get-from_sorted order pairs key h ∙ find-free order total pairs key at inside parts
-
-    -- The pairs stay in order where it is put in at its place.
-    pub is_sorted-insert : (value : X) → T (is_sorted order (list.insert pairs at (key, value)))
-    is_sorted-insert value = subst (λ (others : List (K × X)). T (is_sorted order others)) (put-free order total pairs key value at inside parts) (is_sorted-put order total key value pairs h)
-
-    -- And the map then holds it.
-    pub insert-free : (value : X) → insert (from_sorted {R = order} pairs) key value ≡ from_sorted (list.insert pairs at (key, value))
-    insert-free value = insert-from_sorted pairs key value h ∙ ap (from_sorted {R = order}) (put-free order total pairs key value at inside parts)
 
 module _ {K X : Type 0} {order : K → K → Ordering} (total : IsTotalOrder order) (same : IsAntisymmetric order) where
   -- A key that the map doesn't hold is removed from it in vain.
@@ -70,13 +38,12 @@ module _ {K X : Type 0} {order : K → K → Ordering} (total : IsTotalOrder ord
         | false ↦ λ e. refl
       ] refl)
 
-  -- A pair that is taken out takes its key out of the map.
-  pub remove-at : (pairs : List (K × X)) (key : K) (at : ℕ) (d : K × X) → T (is_sorted order pairs) → at < length pairs → order (get_or pairs at d).0 key ≡ Equal → remove (from_sorted {R = order} pairs) key ≡ from_sorted (list.remove pairs at)
-  remove-at pairs key at d h inside here = same_map total same _ _ (λ q.
+  -- A delete from the map is one from its pairs.
+  pub remove-from_sorted : (pairs : List (K × X)) (key : K) → T (is_sorted order pairs) → remove (from_sorted {R = order} pairs) key ≡ from_sorted (where_key order (λ other. not (eq_by_cmp order key other)) pairs)
+  remove-from_sorted pairs key h = same_map total same _ _ (λ q.
       get-remove total _ key q
       ∙ ap (cond (eq_by_cmp order q key) None) (get-from_sorted order pairs q h)
       ∙ ap (λ b. cond b None (find order q pairs)) ((eq_by_cmp_equiv total).symm q key)
       ∙ turned (eq_by_cmp order key q) None (find order q pairs)
       ∙ sym (find-where_key order (λ x. not (eq_by_cmp order key x)) q (λ x tied. ap (λ r. not (is_eq r)) (sym (alike_right total q x key tied))) pairs)
-      ∙ ap (find order q) (where_key-at order total pairs key at d h inside here)
-      ∙ sym (get-from_sorted order (list.remove pairs at) q (is_sorted-remove order total pairs key at d h inside here)))
+      ∙ sym (get-from_sorted order _ q (is_sorted-where_key order (λ x. not (eq_by_cmp order key x)) pairs h)))

@@ -1,14 +1,14 @@
 -- Tables: which keys the lists of all keys hold, and what the table of a function answers, so that two
 -- functions that differ at one key have tables that differ by one insert or one removal.
-use Rattle.std.proofs.Common.{◌≡◌, ◌≢◌, ℕ, zero, suc, ◌<◌, ◌≤◌, Bool, true, false, cond, ◌||◌, nat_lt, IsTrue, inl, inr, ⊎_elim, ◌⊎◌, List, [], ◌∷◌, ◌++◌, map, length, filter, All, Option, Some, None, is_some, sym, refl, ap, ◌∙◌, subst, arith, ltb-true, lt-ltb, true≢false}
+use Rattle.std.proofs.Common.{◌≡◌, ◌≢◌, ℕ, zero, suc, ◌<◌, ◌≤◌, Bool, true, false, cond, ◌||◌, nat_lt, inl, inr, ⊎_elim, ◌⊎◌, List, [], ◌∷◌, ◌++◌, map, length, filter, All, Option, Some, None, sym, refl, ap, ◌∙◌, subst, arith, ltb-true, lt-ltb, true≢false}
 use Rattle.std.specs.List.{AllByRecursion, list_any, cons_option, flat_map}
 use Rattle.std.specs.Option.{option_map}
 use Rattle.std.specs.Ordering.{eq_by_cmp, is_eq}
 use Rattle.std.specs.Cmp.{IsTotalOrder, tied_itself}
 use Rattle.std.specs.Cmp.Lexicographic.{nat_list_cmp_total}
-use Rattle.std.specs.FinMap.{IsAntisymmetric, nat_cmp-IsAntisymmetric, slice_cmp-IsAntisymmetric, find, get, get-empty, get-insert, get-remove, get-from_entries, contains_key, empty, insert, remove, len, same_map, empty_of_len}
+use Rattle.std.specs.FinMap.{IsAntisymmetric, nat_cmp-IsAntisymmetric, slice_cmp-IsAntisymmetric, find, get, get-empty, get-insert, get-remove, get-from_entries, empty, insert, remove, same_map}
 use Rattle.std.proofs.lemmas.List.Elements.{recursion_from_All, All-from_recursion}
-use Rattle.std.proofs.lemmas.Bool.{false_from_ne_true, cases_eq}
+use Rattle.std.proofs.lemmas.Bool.{false_from_ne_true}
 use Rattle.std.proofs.lemmas.Option.{none-some}
 use Rattle.judy_model.specs.Keys.{IsBytesKey, IsStringKey, byte_order}
 use Rattle.judy_model.specs.Empties.{numbers_below}
@@ -185,20 +185,6 @@ module _ {keys : List (List ℕ)} {IsKey : List ℕ → Type 0} (all : ListsAll 
         | false ↦ λ missing same. absurd (none-some value same)
       ] refl (sym (get-tabled key) ∙ is)
 
-  -- What it holds is a key, for which its function has an answer.
-  pub key-of_table : (key : List ℕ) → IsTrue (contains_key (table keys answer) key) → IsKey key
-  key-of_table key held = key_by (get (table keys answer) key) refl held
-    where
-      key_by : (found : Option ℕ) → get (table keys answer) key ≡ found → IsTrue (is_some found) → IsKey key
-      key_by None is some = absurd (true≢false (sym some))
-      key_by (Some value) is some = (table_some key value is).0
-
-  -- It holds a key where its function has an answer for it.
-  pub contains_key-table : (key : List ℕ) → IsKey key → contains_key (table keys answer) key ≡ is_some (answer key)
-  contains_key-table key is = ap (λ (found : Option ℕ). is_some found) (get-table key is)
-
--- ---- tables of functions that differ little
-
 apart_from : (key other : List ℕ) → eq_by_cmp byte_order other key ≡ false → other ≢ key
 apart_from key other apart e = true≢false (sym (ap (λ k. eq_by_cmp byte_order k key) e ∙ ap is_eq (tied_itself byte_order_total key)) ∙ apart)
 
@@ -217,10 +203,6 @@ module _ {keys : List (List ℕ)} {IsKey : List ℕ → Type 0} (all : ListsAll 
         | true ↦ λ found. let is = all.only key (Among-list_any byte_order_total byte_order_same keys key found) in get-table all one key is ∙ alike is ∙ sym (get-table all other key is)
         | false ↦ λ missing. get-tabled all one key ∙ ap (λ b. cond b (one key) None) missing ∙ sym (get-tabled all other key ∙ ap (λ b. cond b (other key) None) missing)
       ] refl
-
-  -- Functions that are alike on keys have one table.
-  pub table_same : (one other : List ℕ → Option ℕ) → ((key : List ℕ) → IsKey key → one key ≡ other key) → table keys one ≡ table keys other
-  table_same one other alike = same_map byte_order_total byte_order_same (table keys one) (table keys other) (λ key. get_alike one other key (alike key))
 
   -- A function that has no answer for any key has the empty table.
   pub table_none : (answer : List ℕ → Option ℕ) → ((key : List ℕ) → IsKey key → answer key ≡ None) → table keys answer ≡ empty
@@ -243,14 +225,3 @@ module _ {keys : List (List ℕ)} {IsKey : List ℕ → Type 0} (all : ListsAll 
         | false ↦ λ apart. get_alike after before other (λ good. elsewhere other good (apart_from key other apart))
       ] refl
       ∙ sym (get-remove byte_order_total (table keys before) key other))
-
-  -- A table without keys: its function has no answer for any.
-  pub none-from_len : (answer : List ℕ → Option ℕ) → len (table keys answer) ≡ 0 → (key : List ℕ) → IsKey key → answer key ≡ None
-  none-from_len answer nothing key is = sym (get-table all answer key is) ∙ ap (λ m. get m key) (empty_of_len (table keys answer) nothing) ∙ get-empty byte_order key
-
-  -- A table holds a key where its function has an answer, so it isn't empty.
-  pub len-some : (answer : List ℕ → Option ℕ) (key : List ℕ) (value : ℕ) → IsKey key → answer key ≡ Some value → 0 < len (table keys answer)
-  len-some answer key value is some = ⊎_elim
-      (λ nothing. absurd (none-some value (sym (none-from_len answer nothing key is) ∙ some)))
-      (λ apart. omega (arith, apart))
-      (cases_eq (len (table keys answer)) 0)

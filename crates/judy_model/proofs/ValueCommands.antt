@@ -1,9 +1,9 @@
 -- What the commands of one key and of a key and its value do to an array that has values.
-use Rattle.std.proofs.Common.{◌≡◌, ℕ, ◌<◌, false, cond, not, List, [], ◌∷◌, Option, Some, None, Result, Ok, Err, Ordering, refl, sym, ap, ◌∙◌, arith}
+use Rattle.std.proofs.Common.{◌≡◌, ℕ, false, cond, not, List, Option, Some, None, Result, Ok, Err, Ordering, refl, ap, ◌∙◌, arith}
 use Rattle.std.specs.Prelude.{ok_or, is_some, unwrap_or, codes}
 use Rattle.std.specs.Cmp.{IsTotalOrder, nat_cmp_total}
 use Rattle.std.specs.Cmp.Lexicographic.{nat_list_cmp_total}
-use Rattle.std.specs.FinMap.{FinMap, IsAntisymmetric, nat_cmp-IsAntisymmetric, slice_cmp-IsAntisymmetric, get, insert, contains_key, len}
+use Rattle.std.specs.FinMap.{FinMap, IsAntisymmetric, nat_cmp-IsAntisymmetric, slice_cmp-IsAntisymmetric, get, contains_key, len}
 use Rattle.std.proofs.lemmas.Bool.{ne_eqb, eq-eqb}
 use Rattle.judy_model.specs.Arrays.{ArrayOf, ArrayValue, judyl, judysl, judyhs, with_map, ins, write, del, is_full}
 use Rattle.judy_model.specs.Tokens.{word_of}

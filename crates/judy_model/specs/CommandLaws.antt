@@ -8,12 +8,26 @@ use Rattle.judy_model.specs.Counts.{count}
 use Rattle.judy_model.specs.Lines.{Line, is_too_long, text_of}
 use Rattle.judy_model.specs.Tokens.{tokens_of, is_name, word_of}
 use Rattle.judy_model.specs.Stores.{Store, array_named, with_array}
-use Rattle.judy_model.specs.Replies.{Answer, was, flag, number, nothing, Refusal, bad_word, full}
+use Rattle.judy_model.specs.Replies.{Answer, was, flag, number, nothing, Refusal, argument_count, bad_name, no_such_array, bad_word, wrong_kind, full}
 use Rattle.judy_model.specs.Steps.{step}
 
 -- A line says these tokens where it isn't too long and they stand in it between spaces.
 abbrev pub Says : Line → List (List ℕ) → Type 0
 Says line tokens = IsFalse (is_too_long line) × (tokens_of (text_of line) ≡ tokens)
+
+-- A line that says a word and arguments is refused for their number, and the store is as it was.
+abbrev pub RefusesItsArguments : List ℕ → List (List ℕ) → Type 0
+RefusesItsArguments word arguments = (store : Store) (line : Line) → Says line (word ∷ arguments) → step store line ≡ (Err argument_count, store)
+
+-- One that says a word and, where the name of an array stands, no name is refused for that.
+abbrev pub RefusesABadName : List ℕ → List (List ℕ) → Type 0
+RefusesABadName word arguments =
+    (store : Store) (name : List ℕ) (line : Line) → IsFalse (is_name name) → Says line (word ∷ name ∷ arguments) → step store line ≡ (Err bad_name, store)
+
+-- So is one with a name that no array of the store has.
+abbrev pub RefusesAMissingArray : List ℕ → List (List ℕ) → Type 0
+RefusesAMissingArray word arguments =
+    (store : Store) (name : List ℕ) (line : Line) → IsTrue (is_name name) → array_named store name ≡ None → Says line (word ∷ name ∷ arguments) → step store line ≡ (Err no_such_array, store)
 
 -- A line that says a command by its word, the name of an array of the store, and arguments.
 module _ (word : List ℕ) (arguments : List (List ℕ)) (array : ArrayValue) where
@@ -126,3 +140,14 @@ module _ {K : Type 0} {order : K → K → Ordering} (kind : ArrayOf order → A
   -- The key that is found and its value, or `none`.
   abbrev pub AnswersEntryOrNone : (K → ℕ → Answer) → List ℕ → (FinMap order ℕ → K → Option K) → Type 0
   AnswersEntryOrNone entry word search = AnswersTheEntry entry word search × AnswersNone word search
+
+-- ---- commands that a kind doesn't have
+
+module _ {K : Type 0} {order : K → K → Ordering} (kind : ArrayOf order → ArrayValue) where
+  -- A command of one argument is refused, whatever the argument says.
+  abbrev pub HasNoCommandOfOne : List ℕ → Type 0
+  HasNoCommandOfOne word = (array : ArrayOf order) (token : List ℕ) → IsRefused word (token ∷ []) (kind array) wrong_kind
+
+  -- So is one of two.
+  abbrev pub HasNoCommandOfTwo : List ℕ → Type 0
+  HasNoCommandOfTwo word = (array : ArrayOf order) (first second : List ℕ) → IsRefused word (first ∷ second ∷ []) (kind array) wrong_kind

@@ -18,6 +18,7 @@ pub mod CommandWords
 pub mod Commands
 pub mod Steps
 pub mod CommandLaws
+pub mod CommandExamples
 pub mod Runs
 pub mod Fields
 pub mod DumpText

@@ -1,8 +1,10 @@
 //! Short cases of the definitions, each computed by the check: what a reader would work out by hand.
 
+pub mod commands;
 pub mod dump_order;
 pub mod immediates;
 pub mod keys;
+pub mod ranks;
 pub mod runs;
 pub mod words;
 

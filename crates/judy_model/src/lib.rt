@@ -12,7 +12,7 @@
 //! - the nodes of a tree: Forms, and Shapes with the rule by which a set of keys has its nodes.
 //!
 //! [`laws`] says what follows from these, each law as the contract of a function with an empty body, which the check proves.
-//! [`examples`] and [`dump_examples`] have short cases that the check computes (specs/Examples.antt, specs/DumpExamples.antt). proofs/
+//! [`examples`] and [`dump_examples`] have short cases that the check computes (specs/Examples.antt, CommandExamples, DumpExamples). proofs/
 //! has the proofs of the laws, and lemmas for the crates above. The crate stands on std alone, and all that speaks of keys, arrays or
 //! stores stands on it.
 #![tactic(auto)]

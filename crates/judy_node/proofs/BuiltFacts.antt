@@ -99,15 +99,6 @@ few_done zero width count word head pairs none parts same is low high map =
     (few_made width count word head pairs parts same is, few_built width count word head pairs parts same is low high map)
 few_done (suc words) width count word head pairs none parts same is low high map = let never : ⊥ = omega arith in absurd never
 
--- The head that it has is a number of seven bytes.
-pub few_fits : (words width count word : ℕ) → words ≡ 0 → IsImmParts words width count word → width ≤ 7 → count + 256 * width < 2 ^ 56
-few_fits zero width count word none parts high =
-    let most = imm_some width count word parts in
-    let limit = immediate_limit_small 0 width in
-    let few = most.1 in
-    omega arith
-few_fits (suc words) width count word none parts high = let never : ⊥ = omega arith in absurd never
-
 -- One with a value: the first pair is all there is.
 one_pair : (unit : ℕ) (pairs : Pairs) (head word : ℕ) → 0 < length pairs → length pairs ≤ 1 → head ≡ (get_or pairs 0 (0, 0)).0 % unit → word ≡ (get_or pairs 0 (0, 0)).1 → low_pairs unit pairs ≡ (head, word) ∷ []
 one_pair unit [] head word some few is same = let never : ⊥ = omega arith in absurd never

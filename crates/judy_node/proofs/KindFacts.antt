@@ -170,7 +170,3 @@ level-child words width (Branch b) level at =
     let low = level.0.parts.some_width in
     let is_width : length b.value.skip + 1 + b.value.width ≡ width = at.wide (λ (none : length b.value.skip + 1 + b.value.width ≡ 0). let never : ⊥ = omega arith in never) in
     subst (λ w. IsChild words w (tree_of words (Branch b))) is_width (branch-child words b.value.width b.value.skip b.value.bytes b.value.children.items b.value.population level.0)
-
--- What a child keeps, its width fits.
-pub child-fits : (words width : ℕ) (tree : Tree) → IsChild words width tree → FitsAt width tree
-child-fits words width tree is = record { low_width = is.low_width; high_width = is.high_width; wide = is.wide; below = map-AllBelow words 0 (256 ^ width) tree.pairs is.map }

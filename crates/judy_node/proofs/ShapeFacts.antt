@@ -13,9 +13,6 @@ plus-same one other a b c d e f = λ t. record { immediates = a t; leaves = b t;
 pub plus-assoc : (one other more : forms.Shape) → plus (plus one other) more ≡ plus one (plus other more)
 plus-assoc one other more = plus-same (plus (plus one other) more) (plus one (plus other more)) (omega arith) (omega arith) (omega arith) (omega arith) (omega arith) (omega arith)
 
-pub plus-nothing : (one : forms.Shape) → plus one (shape_in []) ≡ one
-plus-nothing one = plus-same (plus one (shape_in [])) one (omega arith) (omega arith) (omega arith) (omega arith) (omega arith) (omega arith)
-
 plus-branch : (children : ℕ) (one other : forms.Shape) → plus (with_branch children one) other ≡ with_branch children (plus one other)
 plus-branch children one other =
     elim (leb children 7) as (λ b. plus (cond b (record one { linear = one.linear + 1 }) (cond (leb children 127) (record one { bitmap = one.bitmap + 1 }) (record one { full = one.full + 1 }))) other

@@ -1,16 +1,16 @@
 -- What a child's view shows.
-use Rattle.std.proofs.Common.{◌≡◌, ℕ, zero, suc, ◌-◌, ◌/◌, ◌%◌, ◌^◌, ◌<◌, [], ◌∷◌, sym, refl, ap, ◌∙◌, subst, arith}
-use Rattle.judy_model.specs.Forms.{immediate, bitmap_leaf}
+use Rattle.std.proofs.Common.{◌≡◌, ℕ, zero, suc, ◌-◌, ◌/◌, ◌%◌, ◌^◌, ◌<◌, [], ◌∷◌, sym, refl, ap, subst, arith}
+use Rattle.judy_model.specs.Forms.{bitmap_leaf}
 use Rattle.judy_model.specs.WordBytes.{low_bytes}
 use Rattle.judy_block.specs.Contents.{Contents}
 use Rattle.judy_leaf.specs.KeyLists.{KeyList, keys_of}
 use Rattle.judy_leaf.specs.BitLeaves.{bit_list}
 use Rattle.judy_leaf.specs.Packing.{IsWidth}
 use Rattle.judy_leaf.specs.Immediates.{parts_list, IsImmParts}
-use Rattle.judy_node.specs.Trees.{Tree, IsMap, IsChild}
+use Rattle.judy_node.specs.Trees.{Tree, IsChild}
 use Rattle.judy_node.specs.Kinds.{imm_pairs, imm_tree, IsImm, bit_width, bit_tree, IsBit}
 use Rattle.judy_node.specs.Views.{IsView}
-use Rattle.judy_node.specs.declared.view.ViewOf.TheVariants.{Imm, BitLeaf}
+use Rattle.judy_node.specs.declared.view.ViewOf.TheVariants.{BitLeaf}
 use Rattle.judy_node.proofs.Leaves.{bit_map, imm_width_fits, imm_pair, imm_parts_one}
 
 -- An immediate without values that stands at a width has it in its head.
@@ -31,17 +31,6 @@ one_parts zero width head word some level child = absurd (some refl)
 one_parts (suc words) width head word some level child =
     let fits = one_fits words width head word child in
     (imm_parts_one words width head word level fits.0 fits.1, imm_pair words width head word level fits.0 fits.1)
-
-pub imm_view : {V : _} (words width head word : ℕ) (tree : Tree) (list : KeyList) → imm_tree words head word ≡ tree → IsChild words width tree
-    → list ≡ record { width = width; pairs = imm_pairs words head word } → IsView {V = V} words width tree (Imm list)
-imm_view words width head word tree list is child of =
-    let same : imm_pairs words head word ≡ list.pairs = ap (λ l. l.pairs) (sym of) in
-    record {
-      pairs = ap (λ t. t.pairs) (sym is) ∙ same;
-      form = ap (λ t. t.form) (sym is) ∙ ap (λ pairs. immediate (keys_of pairs) ∷ []) same;
-      map = subst (λ pairs. IsMap words 0 (256 ^ width) pairs) (ap (λ t. t.pairs) (sym is) ∙ same) child.map;
-      place = ap (λ l. l.width) of;
-    }
 
 pub bit_view : {V : _} (words width skipped : ℕ) (block : Contents) (tree : Tree) (list : KeyList) (number : ℕ) → IsBit words skipped block → bit_tree words skipped block ≡ tree → IsChild words width tree
     → list ≡ bit_list words block → number ≡ skipped → IsView {V = V} words width tree (BitLeaf number list)

@@ -7,12 +7,13 @@ ghost use Rattle.judy_node.specs.Trees.{IsChild, IsBranch, branch_pairs};
 use crate::child::{BranchOf, ChildOf, KindOf, imm_of};
 use judy_bits::moved_up;
 use judy_leaf::{BitRef, LeafRef, Words};
+use judy_unmetered::Unmetered;
 
 impl<V: Words + Drop> ChildOf<V> {
     /// Writes the pairs, by ascending key, into a slice that has just the places for them. The node's keys have `width` bytes; each
-    /// is so much higher there.
+    /// is so much higher there. No visit is counted, which takes leave.
     #[cycle(fill)]
-    pub fn fill(&self, width: u8, base: u64, out: &mut [(u64, u64)])
+    pub fn fill(&self, leave: Unmetered, width: u8, base: u64, out: &mut [(u64, u64)])
         requires child { IsChild V.WORDS width self.now }
         requires room { length out.old ≡ length self.now.pairs }
         requires fits { base + 256 ^ width ≤ 2 ^ 64 }
@@ -25,14 +26,19 @@ impl<V: Words + Drop> ChildOf<V> {
                 base + head.number() * 256,
                 out,
             ),
-            KindOf::Branch(branch) => fill_branch(branch, base, out),
+            KindOf::Branch(branch) => fill_branch(branch, leave, base, out),
         }
     }
 }
 
 // The same for a branch.
 #[cycle(fill)]
-fn fill_branch<V: Words + Drop>(branch: &BranchOf<V>, base: u64, out: &mut [(u64, u64)])
+fn fill_branch<V: Words + Drop>(
+    branch: &BranchOf<V>,
+    leave: Unmetered,
+    base: u64,
+    out: &mut [(u64, u64)],
+)
     requires level { IsBranch V.WORDS branch.now.width branch.now.skip branch.now.bytes branch.now.children.items branch.now.population }
     requires room { length out.old ≡ branch.now.population }
     requires fits { base + 256 ^ (length branch.now.skip + 1 + branch.now.width) ≤ 2 ^ 64 }
@@ -49,7 +55,7 @@ fn fill_branch<V: Words + Drop>(branch: &BranchOf<V>, base: u64, out: &mut [(u64
         let start = moved_up(front + u64::from(byte), usize::from(width));
         let end = at + child.pop() as usize;
         prove!(end <= total);
-        child.fill(width, base + start, &mut out[at..end]);
+        child.fill(leave, width, base + start, &mut out[at..end]);
         at = end;
     }
 }

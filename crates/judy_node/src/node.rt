@@ -13,6 +13,7 @@ use crate::shape::Shape;
 use crate::view::ViewOf;
 use judy_bits::Meter;
 use judy_leaf::{Width, Words};
+use judy_unmetered::Unmetered;
 use std::alloc::{AllocError, Global};
 use std::marker::Model;
 
@@ -112,8 +113,8 @@ impl<V: Words + Drop> NodeOf<V> {
         NodeOf { kind }
     }
 
-    /// How many nodes of each kind the tree has. It goes over all of them, and counts no visit.
-    pub fn shape(&self) -> Shape
+    /// How many nodes of each kind the tree has. It goes over all of them, and counts no visit, which takes leave.
+    pub fn shape(&self, _leave: Unmetered) -> Shape
         ensures { shape_as result ≡ shape_in self.now.form }
     {
         let mut shape = Shape::nothing();
@@ -128,8 +129,8 @@ impl<V: Words + Drop> NodeOf<V> {
         shape
     }
 
-    /// The pairs by ascending key, in a vector of their own; no visit is counted. The error is want of memory.
-    pub fn gather(&self, alloc: Global) -> Result<Vec<(u64, u64)>, AllocError>
+    /// The pairs by ascending key, in a vector of their own; no visit is counted, which takes leave. The error is want of memory.
+    pub fn gather(&self, leave: Unmetered, alloc: Global) -> Result<Vec<(u64, u64)>, AllocError>
         ensures { IfOk result (λ pairs. pairs.items ≡ self.now.pairs) }
     {
         match &self.kind {
@@ -137,7 +138,7 @@ impl<V: Words + Drop> NodeOf<V> {
             RootOf::One(key, value) => Ok(vec![in alloc; (*key, *value)]?),
             RootOf::Many(child) => {
                 let mut pairs = vec![in alloc; (0, 0); child.pop() as usize]?;
-                child.fill(8, 0, &mut pairs);
+                child.fill(leave, 8, 0, &mut pairs);
                 Ok(pairs)
             }
         }

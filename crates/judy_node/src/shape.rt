@@ -55,9 +55,9 @@ impl Shape {
 }
 
 impl<V: Words + Drop> ChildOf<V> {
-    /// Counts the node and those below it, beside what is counted already.
+    // Counts the node and those below it, beside what is counted already.
     #[cycle(shape)]
-    pub fn count_into(&self, shape: &mut Shape)
+    pub(crate) fn count_into(&self, shape: &mut Shape)
         requires { nodes_in (shape_as shape.old) + length self.now.form < 2 ^ 128 }
         ensures { shape_as shape.new ≡ plus (shape_as shape.old) (shape_in self.now.form) }
     {

@@ -11,12 +11,6 @@ pub grown-grown : (known : Option (List ℕ)) (xs ys : List ℕ) → grown (grow
 grown-grown None xs ys = refl
 grown-grown (Some before) xs ys = ap Some (append_assoc before xs ys)
 
--- the first `n` bytes of what is left after the first `count` are the next of all
-pub grown-next : (known : Option (List ℕ)) (bytes : List ℕ) (count n : ℕ) →
-    grown (grown known (take count bytes)) (take n (take (length bytes - count) (drop count bytes))) ≡ grown known (take (count + n) bytes)
-grown-next known bytes count n =
-    rw (take_rest bytes count, take-add count n bytes) (grown-grown known (take count bytes) (take n (drop count bytes)))
-
 -- of what stands from `start` on: the bytes up to `count`, and then the first `n` of what is left, are those up to `count + n`
 pub grown-on : (known : Option (List ℕ)) (bytes : List ℕ) (start count n : ℕ) → start ≤ count →
     grown (grown known (take (count - start) (drop start bytes))) (take n (take (length bytes - count) (drop count bytes)))

@@ -1,5 +1,5 @@
 -- Where the next key of a bitmap leaf stands.
-use Rattle.std.proofs.Common.{◌≡◌, ℕ, ◌+◌, ◌<◌, ◌≤◌, ⊎_elim, List, length, slice_get, get_or, Some, sym, refl, ap, ◌∙◌, subst, arith}
+use Rattle.std.proofs.Common.{◌≡◌, ℕ, ◌+◌, ◌<◌, ◌≤◌, ⊎_elim, List, length, slice_get, get_or, Some, sym, ap, ◌∙◌, subst, arith}
 use Rattle.std.specs.List.Sorted.{IsStrictlySortedBy}
 use Rattle.std.proofs.lemmas.Bool.{cases_lt}
 use Rattle.std.proofs.lemmas.Option.{same_Some, slice_get-get_or}
@@ -11,7 +11,7 @@ use Rattle.judy_leaf.proofs.BitLists.{bit_rank_above}
 use Rattle.judy_leaf.proofs.LeafLists.{length-keys_of}
 use Rattle.judy_leaf.proofs.Nearest.{up_to-rank, up_to-member}
 use Rattle.judy_node.specs.declared.view.ViewOf.{ViewOf}
-use Rattle.judy_node.specs.declared.view.ViewOf.TheVariants.{Null, One, Imm, Leaf, BitLeaf, Branch}
+use Rattle.judy_node.specs.declared.view.ViewOf.TheVariants.{BitLeaf}
 use Rattle.judy_query.specs.Parts.{IsShown}
 use Rattle.judy_query.specs.Walks.{IsScan}
 use Rattle.judy_query.proofs.RankFacts.{rank-above}
@@ -49,12 +49,3 @@ is_byte pairs byte is inside = ⊎_elim
 pub scan_first : {V : _} (words : ℕ) (view : ViewOf V) (skipped : ℕ) (list : KeyList) → view ≡ BitLeaf skipped list → IsShown words view → IsScan view 0 0
 scan_first words view skipped list is shown =
     subst (λ v. IsScan v 0 0) (sym is) (rank-above words 0 256 list.pairs 0 (omega arith) (subst (IsShown words) is shown).place.2)
-
--- In other nodes nothing is looked for.
-pub no_scan : {V : _} (view : ViewOf V) (at byte : ℕ) → ((skipped : ℕ) (list : KeyList) → view ≡ BitLeaf skipped list → ⊥) → IsScan view at byte
-no_scan Null at byte never = tt
-no_scan (One key value) at byte never = tt
-no_scan (Imm list) at byte never = tt
-no_scan (Leaf list) at byte never = tt
-no_scan (BitLeaf skipped list) at byte never = absurd (never skipped list refl)
-no_scan (Branch b) at byte never = tt

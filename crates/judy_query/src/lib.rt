@@ -7,7 +7,8 @@
 //! Each call goes down the tree once, or, for a neighbour, once and then once more from a child that it remembers; so it enters at
 //! most 8 nodes, or 15, whatever the tree, loose ones too (specs/Visits.antt, laws.rt). Each is a loop over branches and one look at the
 //! node below them. None asks for memory. The visits are counted on the caller's [`judy_bits::Meter`], those of a [`Walk`] too: no call
-//! leaves fewer there than it found, and none makes a meter of its own.
+//! leaves fewer there than it found. judy_unmetered isn't among the crates that this one lists, so the compiler refuses it a meter of its
+//! own and each call that reads nodes without a visit.
 //!
 //! values.rt has the value of a key, counts.rt how many keys are below a word, places.rt the key at a place, after.rt and before.rt the
 //! nearest keys, turns.rt where the search for one of these turns off the key's way. empties.rt has the nearest words that are no keys,

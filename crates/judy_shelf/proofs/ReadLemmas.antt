@@ -141,27 +141,7 @@ pub record Reading {A : Type 0} (whole rest : Part A) (before now : Drawn) : Typ
   pub goes : (more : List ℕ) → whole (input ++ more) ≡ rest more
   pub cut_before : OfFronts (λ front. whole front ≡ Err truncated) input
 
--- At first all is to come.
-pub reading_none : {A : Type 0} (whole : Part A) (now : Drawn) → Reading whole whole now now
-reading_none whole now = record { input = []; given = sym (grown_nothing now.given); bytes = All-nil (λ byte. byte < 256); failures = refl; goes = λ more. refl; cut_before = no_fronts (λ front. whole front ≡ Err truncated) }
-
-module _ {A B : Type 0} (whole : Part B) (before mid after : Drawn) where
-  -- The next part is read.
-  pub reading_value : (part : Part A) (rest : A → Part B) (value : A) → Reading whole (part >>= rest) before mid → ReadsValue part value mid after → Reading whole (rest value) before after
-  reading_value part rest value far next = record {
-    input = far.input ++ next.input;
-    given = next.given ∙ ap (λ known. grown known next.input) far.given ∙ grown-grown before.given far.input next.input;
-    bytes = All-append (λ byte. byte < 256) far.input next.input far.bytes next.bytes;
-    failures = next.failures ∙ far.failures;
-    goes = λ more. ap whole (append_assoc far.input next.input more) ∙ far.goes (next.input ++ more) ∙ ap (λ r. followed_by r rest) (next.gives more);
-    cut_before = fronts_of_both (λ front. whole front ≡ Err truncated) far.input next.input far.cut_before (λ front later byte is. far.goes front ∙ ap (λ r. followed_by r rest) (next.cut_before front later byte is));
-  }
-
 module _ {B : Type 0} (whole : Part B) where
-  -- What is to come, told in another way.
-  pub reading_told : (rest other : Part B) (before now : Drawn) → ((more : List ℕ) → rest more ≡ other more) → Reading whole rest before now → Reading whole other before now
-  reading_told rest other before now same far = record { input = far.input; given = far.given; bytes = far.bytes; failures = far.failures; goes = λ more. far.goes more ∙ same more; cut_before = far.cut_before }
-
   -- Nothing is to come.
   pub reading_end : (value : B) (before now : Drawn) → Reading whole (done value) before now → ReadsValue whole value before now
   reading_end value before now far = record { input = far.input; given = far.given; bytes = far.bytes; failures = far.failures; gives = far.goes; cut_before = far.cut_before }

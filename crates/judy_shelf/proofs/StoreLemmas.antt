@@ -1,11 +1,11 @@
 -- A shelf whose arrays were read one by one is a store.
-use Rattle.std.proofs.Common.{◌≡◌, ℕ, ◌+◌, ◌≤◌, List, [], ◌∷◌, map, length, ⊎_elim, Some, None, All, IsTrue, refl, sym, ap, subst, ◌∙◌, arith}
+use Rattle.std.proofs.Common.{◌≡◌, ℕ, ◌≤◌, List, [], ◌∷◌, map, length, ⊎_elim, None, All, IsTrue, refl, sym, ap, subst, ◌∙◌, arith}
 use Rattle.std.specs.Prelude.{bytes_eq}
 use Rattle.std.specs.List.{IsDistinct, AllWithin, slice_get}
 use Rattle.std.specs.Map.{keys_of, values_of}
 use Rattle.std.proofs.lemmas.List.{length-map}
-use Rattle.std.proofs.lemmas.List.Elements.{All-map, AllWithin-more}
-use Rattle.std.proofs.lemmas.Option.{slice_get_cases, get_or_from_slice_get, none-some}
+use Rattle.std.proofs.lemmas.List.Elements.{All-map}
+use Rattle.std.proofs.lemmas.Option.{slice_get_cases, none-some}
 use Rattle.judy_model.specs.Arrays.{IsArray}
 use Rattle.judy_model.specs.Tokens.{is_name}
 use Rattle.judy_model.specs.Stores.{IsStore}
@@ -16,11 +16,6 @@ use Rattle.judy_shelf.specs.Shelves.{Entries, IsShelf, store_of}
 -- a name that is one, and an array that is one
 abbrev pub IsNamedArray : List ℕ × Array → Type 0
 IsNamedArray entry = IsTrue (is_name entry.0) × IsArray (value_of entry.1)
-
--- one more was read
-pub read_more : (entries : Entries) (place : ℕ) (name : List ℕ) (array : Array) → Some (name, array) ≡ slice_get entries place → IsTrue (is_name name) → IsArray (value_of array) → AllWithin IsNamedArray entries 0 place → AllWithin IsNamedArray entries 0 (place + 1)
-read_more entries place name array there named is read =
-    AllWithin-more IsNamedArray entries 0 place read (λ d. subst IsNamedArray (sym (get_or_from_slice_get entries place (name, array) d (sym there))) (named, is))
 
 keys_same : (entries : Entries) → keys_of (store_of entries) ≡ keys_of entries
 keys_same [] = refl

@@ -110,7 +110,7 @@ module _ (limit count : ℕ) (arena : Arena) (is : IsStrings limit count arena) 
       strings-added = record {
         is_arena = added.is_arena;
         led = added.led is.led;
-        none_lost = places.kept is.none_lost;
+        free_known = places.known is.free_known;
         counted = ap (λ n. n + 1) is.counted ∙ sym (ap (λ (m : FinMap byte_order ℕ). len m) (map_written arena after key is_key 0 added.change) ∙ len-added (map_of arena) key 0 none);
         within_limit = (let w = is.within_limit in omega arith);
         holds_some = is.holds_some;
@@ -147,7 +147,7 @@ module _ (limit count : ℕ) (arena : Arena) (is : IsStrings limit count arena) 
     strings-same places = record {
       is_arena = arena-same arena same is_same is.is_arena;
       led = subst AllLed (sym (world-same arena same is_same)) is.led;
-      none_lost = places.kept is.none_lost;
+      free_known = places.known is.free_known;
       counted = is.counted ∙ sym (ap (λ (m : FinMap byte_order ℕ). len m) map-same);
       within_limit = is.within_limit;
       holds_some = is.holds_some;

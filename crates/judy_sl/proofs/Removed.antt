@@ -54,7 +54,7 @@ module _ (limit : ℕ) (arena : Arena) (key : List ℕ) where
         strings-removed e = record {
           is_arena = shrunk.is_arena;
           led = shrunk.led;
-          none_lost = places.kept is.none_lost;
+          free_known = places.known is.free_known;
           counted = ap (λ n. n - 1) is.counted ∙ sym (len-is ∙ ap (λ b. cond b (len (map_of arena) - 1) (len (map_of arena))) e);
           within_limit = (let w = is.within_limit in omega (arith, w));
           holds_some = is.holds_some;
@@ -65,7 +65,7 @@ module _ (limit : ℕ) (arena : Arena) (key : List ℕ) where
         strings-kept e = record {
           is_arena = shrunk.is_arena;
           led = shrunk.led;
-          none_lost = places.kept is.none_lost;
+          free_known = places.known is.free_known;
           counted = is.counted ∙ sym (len-is ∙ ap (λ b. cond b (len (map_of arena) - 1) (len (map_of arena))) e);
           within_limit = is.within_limit;
           holds_some = is.holds_some;

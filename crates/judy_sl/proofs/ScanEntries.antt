@@ -1,5 +1,5 @@
 -- What the neighbours of a word array are, seen from a side.
-use Rattle.std.proofs.Common.{◌≡◌, ◌≢◌, ◌≤◌, ℕ, List, [], ◌∷◌, Bool, true, false, ◌&&◌, IsTrue, Option, Some, None, is_some, sym, refl, ap, ◌∙◌, arith, le-leb, Ordering, is_lt, is_le, is_ge}
+use Rattle.std.proofs.Common.{◌≡◌, ◌≢◌, ℕ, List, [], ◌∷◌, Bool, true, false, ◌&&◌, IsTrue, Option, Some, None, is_some, sym, refl, ap, ◌∙◌, arith, le-leb, Ordering, is_lt, is_le, is_ge}
 use Rattle.std.specs.Ordering.{ordering_then}
 use Rattle.std.specs.Cmp.{nat_cmp_total}
 use Rattle.std.specs.Cmp.Lexicographic.{slice_cmp}

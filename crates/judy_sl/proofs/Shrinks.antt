@@ -4,7 +4,6 @@ use Rattle.std.proofs.lemmas.Bool.{cases_eq}
 use Rattle.std.specs.FinMap.{FinMap, get, remove}
 use Rattle.judy_model.specs.Keys.{word_order}
 use Rattle.judy_model.specs.Arrays.{ArrayOf}
-use Rattle.judy_places.proofs.PlaceLemmas.{then-freed}
 use Rattle.judy_sl.specs.declared.child.Child.{Child}
 use Rattle.judy_sl.specs.declared.child.Child.TheVariants.{Free, Tail, Level}
 use Rattle.judy_sl.specs.declared.arena.Arena.{Arena}
@@ -14,7 +13,7 @@ use Rattle.judy_sl.specs.declared.shrink.Cut.{Cut}
 use Rattle.judy_sl.specs.Pieces.{pieces, piece_of, IsText, ArePieces}
 use Rattle.judy_sl.specs.World.{World, Node, gone, tail, level, lookup, at_entry}
 use Rattle.judy_sl.specs.Worlds.{IsWorld, FitsBehind, AllLed}
-use Rattle.judy_sl.specs.Arenas.{world_of, node_of, child_at, links_of, FreesPlaces, IsArena, HasText, HasLimit}
+use Rattle.judy_sl.specs.Arenas.{world_of, node_of, child_at, FreesPlaces, IsArena, HasText, HasLimit}
 use Rattle.judy_sl.specs.Places.{IsInside}
 use Rattle.judy_sl.specs.Ways.{seat_of, piece_at, left_of}
 use Rattle.judy_sl.specs.Grown.{IsChange}
@@ -26,7 +25,7 @@ use Rattle.judy_sl.proofs.OnWay.{pieces-head}
 use Rattle.judy_sl.proofs.Linked.{child_at-same, child_at-other, world-with_child, world-with_root, arena-with_child, arena-with_root, inside_of}
 use Rattle.judy_sl.proofs.Filled.{level-place, place-inside}
 use Rattle.judy_sl.proofs.Lone.{lone-found}
-use Rattle.judy_sl.proofs.Reused.{vacated-places}
+use Rattle.judy_sl.proofs.Reused.{vacated-places, then-freeing}
 use Rattle.judy_sl.proofs.Loose.{freed, freed-world, freed-look, freed-tail, freed-last, freed-on, used-left, fits-here, ends-change, ends-led, on-change, on-loose}
 
 -- ---- a place becomes free
@@ -96,7 +95,7 @@ module _ (before now after : Arena) (at : ℕ) (rest : List ℕ) (is : IsClearin
 
   pub after-places : FreesPlaces before after
   after-places =
-      then-freed (links_of before) before.free (links_of now) now.free (links_of after) after.free is.places
+      then-freeing before now after is.places
       (subst (FreesPlaces now) (sym after_is) (vacated-places now at inside (lone-some (world_of now) at (pieces rest) is.loose.lone)))
 
   cleared : AllLed (freed (world_of now) at) → IsCleared before after

@@ -1,10 +1,10 @@
 -- The levels and tails of an array in one list.
-use Rattle.std.specs.Prelude.{◌≡◌, ◌≤◌, ℕ, zero, suc, List, get_or, map, Option, None, Some}
+use Rattle.std.specs.Prelude.{◌≡◌, ◌≤◌, ◌+◌, ℕ, zero, suc, List, get_or, map, Option, None, Some, vec_len, vec_capacity}
 use Rattle.std.specs.FinMap.{FinMap, len}
 use Rattle.judy_model.specs.Keys.{byte_order}
 use Rattle.judy_model.specs.Arrays.{ArrayOf}
 use Rattle.judy_model.specs.Tables.{table, string_keys}
-use Rattle.judy_places.specs.Places.{Links, NoneLost, AreReused, AreFreed}
+use Rattle.judy_places.specs.Places.{Links, NoneLost, AreReused, AreFreed, free_places}
 use Rattle.judy_sl.specs.declared.child.Child.{Child}
 use Rattle.judy_sl.specs.declared.child.Child.TheVariants.{Free, Tail, Level}
 use Rattle.judy_sl.specs.declared.arena.Arena.{Arena}
@@ -57,14 +57,25 @@ link_of (Level words) = None
 abbrev pub links_of : Arena → Links
 links_of arena = map link_of arena.children.items
 
+-- The free places are known: none is lost, and they are counted.
+pub record KnowsFree (arena : Arena) : Type 0 where
+  pub none_lost : NoneLost (links_of arena) arena.free
+  pub counted : arena.spare ≡ free_places (links_of arena)
+
+-- There is room for so many more children, in free places and behind the end of the list.
+abbrev pub HasRoom : Arena → ℕ → Type 0
+HasRoom arena more = vec_len arena.children + more ≤ vec_capacity arena.children + free_places (links_of arena)
+
 -- Places were taken: no free one was lost, none became free, and the list is no longer than before, unless all its
 -- places are taken.
-abbrev pub TakesPlaces : Arena → Arena → Type 0
-TakesPlaces before after = AreReused (links_of before) before.free (links_of after) after.free
+pub record TakesPlaces (before after : Arena) : Type 0 where
+  pub reused : AreReused (links_of before) before.free (links_of after) after.free
+  pub known : KnowsFree before → KnowsFree after
 
 -- Places became free: no free one was lost, and the list is as long as before.
-abbrev pub FreesPlaces : Arena → Arena → Type 0
-FreesPlaces before after = AreFreed (links_of before) before.free (links_of after) after.free
+pub record FreesPlaces (before after : Arena) : Type 0 where
+  pub freed : AreFreed (links_of before) before.free (links_of after) after.free
+  pub known : KnowsFree before → KnowsFree after
 
 -- The map that they are.
 abbrev pub map_of : Arena → FinMap byte_order ℕ
@@ -74,12 +85,12 @@ map_of arena = table string_keys (λ key. lookup (world_of arena) 0 (pieces key)
 abbrev pub array_of : ℕ → Arena → ArrayOf byte_order
 array_of limit arena = record { limit = limit; map = map_of arena }
 
--- What always holds of an array: it keeps nothing to which no entry leads, it loses no free place, and it counts its
+-- What always holds of an array: it keeps nothing to which no entry leads, it knows its free places, and it counts its
 -- keys.
 pub record IsStrings (limit count : ℕ) (arena : Arena) : Type 0 where
   pub is_arena : IsArena arena
   pub led : AllLed (world_of arena)
-  pub none_lost : NoneLost (links_of arena) arena.free
+  pub free_known : KnowsFree arena
   pub counted : count ≡ len (map_of arena)
   pub within_limit : count ≤ limit
   pub holds_some : 1 ≤ limit

@@ -1,5 +1,5 @@
 -- What an arena becomes where it loses a key.
-use Rattle.std.specs.Prelude.{◌≡◌, ◌≢◌, ℕ, suc, ◌≤◌, ◌⊎◌, List, [], ◌∷◌, length, Option, None, Some}
+use Rattle.std.specs.Prelude.{◌≡◌, ◌≢◌, ℕ, suc, ◌+◌, ◌≤◌, ◌⊎◌, List, [], ◌∷◌, length, Option, None, Some}
 use Rattle.std.specs.FinMap.{FinMap, get, len}
 use Rattle.judy_model.specs.Keys.{word_order}
 use Rattle.judy_model.specs.Arrays.{ArrayOf, with_map, del}
@@ -34,7 +34,7 @@ place_without arena (Below at piece) = with_child arena at (child_without (child
 
 -- A place was made free, the first one to be used again.
 abbrev pub vacated : Arena → ℕ → Arena
-vacated arena at = record (with_child arena at (Free arena.free)) { free = at }
+vacated arena at = record (with_child arena at (Free arena.free)) { free = at; spare = arena.spare + 1 }
 
 -- ---- one key alone
 

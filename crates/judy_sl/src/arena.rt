@@ -19,12 +19,14 @@ use crate::pieces::first_piece;
 use judy_word::{InsertError, WordMap};
 use std::alloc::Global;
 
-// The value of a piece that isn't final is the place of its child in the list. Free places are linked from `free`.
+// The value of a piece that isn't final is the place of its child in the list. Free places are linked from `free`, and
+// `spare` is how many they are.
 #[derive(Drop)]
 pub struct Arena {
     pub root: WordMap,
     pub children: Vec<Child>,
     pub free: usize,
+    pub spare: usize,
 }
 
 // Where a value stands: under a piece of the first level, or under a piece of the child at a place; a tail has one
@@ -66,11 +68,13 @@ impl Arena {
     pub fn new(alloc: Global) -> Arena
         ensures items { result.children.items ≡ [] }
         ensures root { result.root ≡ empty_array 18446744073709551615 }
+        ensures none_free { result.spare ≡ 0 }
     {
         Arena {
             root: WordMap::unbounded(alloc),
             children: Vec::new(alloc),
             free: usize::MAX,
+            spare: 0,
         }
     }
 

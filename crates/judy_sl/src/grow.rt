@@ -1,14 +1,15 @@
 //! How an arena takes a new key. What is new is built beside the array, and its places are reserved; then comes at most
 //! one insert into a level of the array, the last step that can be refused; and then the new children are put in their
-//! places. A new child takes the place that is free first; the list grows only where none is free.
+//! places. Only where a key is tried as a new one does that insert come first: what is refused behind it takes it out
+//! again. New children take the free places first; the list grows only for those that are left.
 
-ghost use Rattle.std.specs.Prelude.{ℕ, List, ◌≡◌, ◌≢◌, ◌+◌, ◌<◌, ◌≤◌, None, IfOk, OnOk, IfErr, OnErr, IfSome, IsTrue, length, get_or, vec_len, vec_capacity};
+ghost use Rattle.std.specs.Prelude.{ℕ, List, ◌≡◌, ◌≢◌, ◌+◌, ◌<◌, ◌≤◌, None, IfOk, IsOk, OnOk, IfErr, OnErr, IfSome, IsTrue, length, get_or, vec_len};
 ghost use Rattle.std.specs.FinMap as map;
 ghost use Rattle.judy_word.specs.Writes.{with_value};
 ghost use Rattle.judy_model.specs.Keys.{IsStringKey};
 ghost use Rattle.judy_sl.specs.declared.error.SlError.TheVariants.{NoMemory};
 ghost use Rattle.judy_sl.specs.World.{gone};
-ghost use Rattle.judy_sl.specs.Arenas.{world_of, node_of, child_at, map_of, link_of, links_of, IsArena, TakesPlaces};
+ghost use Rattle.judy_sl.specs.Arenas.{world_of, node_of, child_at, map_of, link_of, links_of, IsArena, TakesPlaces, KnowsFree, HasRoom};
 ghost use Rattle.judy_sl.specs.Ways.{IsGap, IsClash, IsWay, IsNew};
 ghost use Rattle.judy_sl.specs.Grown.{IsPut, IsTailPut, IfShown, IsHung, HasTwig, IsSound, IsGraft, IsGrafted, IsAdded, IsSame, next_place};
 
@@ -33,18 +34,26 @@ fn link(level: &mut WordMap, piece: u64, place: usize)
     }
 }
 
-// Makes room for so many more children. The list grows by an eighth, and not to its double: it is much of what an array takes.
-fn make_room(children: &mut Vec<Child>, more: usize) -> Result<(), AllocError>
-    ensures items { children.new.items ≡ children.old.items }
-    ensures room { OnOk result (vec_len children.new + more ≤ vec_capacity children.new) }
-{
-    if children.capacity() - children.len() >= more {
-        return Ok(());
-    }
-    children.reserve_exact(more.saturating_add(children.len() / 8))
-}
-
 impl Arena {
+    // Makes room for so many more children. Those for which places are free need none, so that an insert that needs no more
+    // asks for nothing. For the others the list grows by an eighth, and not to its double: it is much of what an array takes.
+    fn make_room(&mut self, more: usize) -> Result<(), AllocError>
+        requires known { KnowsFree self.old }
+        ensures same { IsSame self.old self.new }
+        ensures places { TakesPlaces self.old self.new }
+        ensures known { KnowsFree self.new }
+        ensures next { next_place self.new ≡ next_place self.old }
+        ensures room { OnOk result (HasRoom self.new more) }
+        ensures unasked { HasRoom self.old more → (self.new ≡ self.old) × IsOk result }
+    {
+        let lacking = more.saturating_sub(self.spare);
+        if self.children.capacity() - self.children.len() >= lacking {
+            return Ok(());
+        }
+        self.children
+            .reserve_exact(lacking.saturating_add(self.children.len() / 8))
+    }
+
     // What the first free place is linked to, and none where no place is free.
     fn first_link(&self) -> Option<usize>
         ensures { result ≡ get_or (links_of self.now) self.now.free None }
@@ -69,19 +78,20 @@ impl Arena {
 
     // Puts a child at the next place, for which there is room.
     fn put(&mut self, child: Child) -> usize
-        requires room { vec_len self.old.children < vec_capacity self.old.children }
+        requires known { KnowsFree self.old }
+        requires room { HasRoom self.old 1 }
         requires taken { link_of child ≡ None }
         ensures place { result ≡ next_place self.old }
         ensures places { TakesPlaces self.old self.new }
         ensures put { IsPut self.old self.new child result }
-        ensures room { vec_capacity self.new.children ≡ vec_capacity self.old.children }
-        ensures len { vec_len self.new.children ≤ vec_len self.old.children + 1 }
+        ensures room { (more : ℕ) → HasRoom self.old (more + 1) → HasRoom self.new more }
         ensures grows { vec_len self.old.children ≤ vec_len self.new.children }
     {
         match self.first_link() {
             Some(next) => {
                 let at = self.free;
                 self.free = next;
+                self.spare -= 1;
                 self.children[at] = child;
                 at
             }
@@ -95,6 +105,7 @@ impl Arena {
 
     // Puts the tail of a new key, with the value 0, at the next place, and answers that place.
     fn put_tail(&mut self, rest: &[u8]) -> Result<usize, SlError>
+        requires known { KnowsFree self.old }
         ensures place { IfOk result (λ at. at ≡ next_place self.old) }
         ensures put { IfOk result (λ at. IsTailPut self.old self.new rest.now at) }
         ensures refused { IfErr result (λ error. IsSame self.old self.new × (error ≡ NoMemory)) }
@@ -104,7 +115,7 @@ impl Arena {
         let Ok(tail) = Entry::new(alloc, rest, 0) else {
             return Err(SlError::NoMemory);
         };
-        if make_room(&mut self.children, 1).is_err() {
+        if self.make_room(1).is_err() {
             return Err(SlError::NoMemory);
         }
         Ok(self.put(Child::Tail(tail)))
@@ -116,6 +127,7 @@ impl Arena {
     pub fn try_add(&mut self, key: &[u8], tries: bool) -> Result<Option<Place>, SlError>
         requires is_arena { IsArena self.old }
         requires few { map.len (map_of self.old) ≤ 4294967295 }
+        requires known { KnowsFree self.old }
         ensures tried { IfShown result (IsTrue tries) }
         ensures key { IfShown result (IsStringKey key.now) }
         ensures absent { IfShown result (map.get (map_of self.old) key.now ≡ None) }
@@ -150,6 +162,7 @@ impl Arena {
         requires is_key { IsStringKey key.now }
         requires gap { IsGap (world_of self.old) key.now place left }
         requires few { map.len (map_of self.old) ≤ 4294967295 }
+        requires known { KnowsFree self.old }
         ensures added { IfOk result (λ made. IsAdded self.old self.new key.now made) }
         ensures refused { IfErr result (λ error. IsSame self.old self.new × (error ≡ NoMemory)) }
         ensures places { TakesPlaces self.old self.new }
@@ -164,7 +177,7 @@ impl Arena {
         let Ok(tail) = Entry::new(alloc, &key[key.len() - left + 8..], 0) else {
             return Err(SlError::NoMemory);
         };
-        if make_room(&mut self.children, 1).is_err() {
+        if self.make_room(1).is_err() {
             return Err(SlError::NoMemory);
         }
         let at = self.next_place();
@@ -179,12 +192,12 @@ impl Arena {
 
     // Lets an entry of a level that stands beside the array lead to a new tail, where one is to be.
     fn hang(&mut self, level: &mut WordMap, twig: Option<Twig>)
-        requires room { vec_len self.old.children < vec_capacity self.old.children }
+        requires known { KnowsFree self.old }
+        requires room { HasRoom self.old 1 }
         requires there { HasTwig level.old twig }
         ensures hung { IsHung self.old self.new level.old level.new twig }
         ensures places { TakesPlaces self.old self.new }
-        ensures room { vec_capacity self.new.children ≡ vec_capacity self.old.children }
-        ensures len { vec_len self.new.children ≤ vec_len self.old.children + 1 }
+        ensures room { (more : ℕ) → HasRoom self.old (more + 1) → HasRoom self.new more }
         ensures grows { vec_len self.old.children ≤ vec_len self.new.children }
     {
         match twig {
@@ -198,7 +211,8 @@ impl Arena {
 
     // Puts a branch in the place of a tail.
     fn graft(&mut self, at: usize, branch: Branch)
-        requires room { vec_len self.old.children + length branch.upper.items + 2 ≤ vec_capacity self.old.children }
+        requires known { KnowsFree self.old }
+        requires room { HasRoom self.old (length branch.upper.items + 2) }
         requires inside { at < vec_len self.old.children }
         requires taken { node_of (child_at self.old at) ≢ gone }
         requires sound { IsSound branch }
@@ -228,6 +242,7 @@ impl Arena {
         requires is_arena { IsArena self.old }
         requires is_key { IsStringKey key.now }
         requires clash { IsClash (world_of self.old) key.now at left }
+        requires known { KnowsFree self.old }
         ensures added { IfOk result (λ made. IsAdded self.old self.new key.now made) }
         ensures refused { IfErr result (λ error. IsSame self.old self.new × (error ≡ NoMemory)) }
         ensures places { TakesPlaces self.old self.new }
@@ -243,7 +258,7 @@ impl Arena {
             Ok(made) => made,
             Err(error) => return Err(error),
         };
-        if make_room(&mut self.children, made.upper.len() + 2).is_err() {
+        if self.make_room(made.upper.len() + 2).is_err() {
             return Err(SlError::NoMemory);
         }
         self.graft(at, made);
@@ -261,6 +276,7 @@ impl Arena {
         requires way { IsWay self.old key.now way }
         requires new { IsNew way }
         requires few { map.len (map_of self.old) ≤ 4294967295 }
+        requires known { KnowsFree self.old }
         ensures added { IfOk result (λ made. IsAdded self.old self.new key.now made) }
         ensures refused { IfErr result (λ error. IsSame self.old self.new × (error ≡ NoMemory)) }
         ensures places { TakesPlaces self.old self.new }

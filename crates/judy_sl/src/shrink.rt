@@ -6,7 +6,7 @@ ghost use Rattle.judy_model.specs.Keys.{IsStringKey};
 ghost use Rattle.judy_sl.specs.Pieces.{pieces, IsText};
 ghost use Rattle.judy_sl.specs.World.{lookup};
 ghost use Rattle.judy_sl.specs.Worlds.{AllLed};
-ghost use Rattle.judy_sl.specs.Arenas.{world_of, child_at, IsArena, FreesPlaces};
+ghost use Rattle.judy_sl.specs.Arenas.{world_of, child_at, IsArena, FreesPlaces, KnowsFree};
 ghost use Rattle.judy_sl.specs.Places.{IsInside};
 ghost use Rattle.judy_sl.specs.Shrunk.{place_without, vacated, IsCut, IsDeeper, IsLoose, IsCleared, IsShrunk};
 
@@ -94,12 +94,14 @@ impl Arena {
 
     // Makes a place free, and answers what stood there.
     fn vacate(&mut self, at: usize) -> Child
-        requires { at < length self.old.children.items }
+        requires known { KnowsFree self.old }
+        requires inside { at < length self.old.children.items }
         ensures child { result ≡ child_at self.old at }
         ensures vacated { self.new ≡ vacated self.old at }
     {
         let child = mem::replace(&mut self.children[at], Child::Free(self.free));
         self.free = at;
+        self.spare += 1;
         child
     }
 
@@ -108,6 +110,7 @@ impl Arena {
         requires is_arena { IsArena self.old }
         requires is_text { IsText key.now }
         requires loose { IsLoose (world_of self.old) at (pieces key.now) }
+        requires known { KnowsFree self.old }
         ensures cleared { IsCleared self.old self.new }
         ensures places { FreesPlaces self.old self.new }
     {
@@ -133,6 +136,7 @@ impl Arena {
     pub fn del(&mut self, key: &[u8]) -> bool
         requires is_arena { IsArena self.old }
         requires led { AllLed (world_of self.old) }
+        requires known { KnowsFree self.old }
         requires is_key { IsStringKey key.now }
         ensures answer { result ≡ is_some (lookup (world_of self.old) 0 (pieces key.now)) }
         ensures shrunk { IsShrunk self.old self.new key.now }

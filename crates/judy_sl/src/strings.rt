@@ -136,7 +136,7 @@ impl JudySl {
     }
 
     /// Takes the key out, and answers whether it was there; bytes that are no key answer as an absent one. It can't fail
-    /// and asks for no memory of its own. (Manual: JSLD, JudySLDel.)
+    /// and asks for no memory of its own. With the last key goes all the memory. (Manual: JSLD, JudySLDel.)
     pub fn del(&mut self, key: &[u8]) -> bool
         ensures answer { result ≡ map.contains_key self.old.map key.now }
         ensures deleted { self.new ≡ array.with_map self.old (array.del self.old.map key.now) }
@@ -148,8 +148,18 @@ impl JudySl {
         let found = self.arena.del(key);
         if found {
             self.count -= 1;
+            self.give_back();
         }
         found
+    }
+
+    // Gives back what is left of an array that holds no key: its list and its free places.
+    fn give_back(&mut self)
+        ensures { self.new ≡ self.old }
+    {
+        if self.is_empty() {
+            self.free_array();
+        }
     }
 
     /// How many keys the array holds: at most its limit. (This project's own.)

@@ -9,6 +9,7 @@ use judy_node::NodeOf;
 use judy_query::{
     at_or_after, at_or_before, empty_at_or_after, empty_at_or_before, lookup, nth, rank,
 };
+use judy_unmetered::UNMETERED;
 use std::process::Abort;
 
 // A call that asks a tree about a word, or about a place among its keys.
@@ -88,7 +89,7 @@ pub(crate) fn check_call<V: Words + Drop>(
     wanted: Option<u64>,
     most: u64,
 ) {
-    let mut meter = Meter::new();
+    let mut meter = Meter::new(UNMETERED);
     let found = call.ask(tree, word, &mut meter);
     same_answer(rt, call, word, found, wanted);
     at_most(rt, call, word, meter.visits(), most);

@@ -10,6 +10,7 @@ use crate::random_trees::check_queries;
 use judy_change::{Removed, insert, insert_with, remove, slot};
 use judy_leaf::{Width, Words};
 use judy_node::{NodeOf, Shape};
+use judy_unmetered::UNMETERED;
 use std::alloc::{AllocError, Global};
 use std::process::Abort;
 use std::test::Fail;
@@ -82,7 +83,7 @@ impl<V: Words + Drop> Twins<V> {
     // Compares the shape with that of the tree made of the same pairs at once.
     fn check_shape(&self, rt: &impl Abort, alloc: Global) -> Result<(), AllocError> {
         let made = tree_of::<V>(rt, alloc, &self.plain)?;
-        same_shapes(rt, self.tree.shape(), made.shape());
+        same_shapes(rt, self.tree.shape(UNMETERED), made.shape(UNMETERED));
         Ok(())
     }
 
@@ -168,7 +169,7 @@ fn check_changes<V: Words + Drop>(
     for (change, counts) in changes {
         twins.change(rt, alloc, *change)?;
         twins.check_pairs(rt, alloc)?;
-        same_shape(rt, twins.tree.shape(), *counts);
+        same_shape(rt, twins.tree.shape(UNMETERED), *counts);
         check_queries(rt, &twins.tree, &twins.plain);
     }
     Ok(())

@@ -9,6 +9,7 @@ use crate::leaves::value_of;
 use crate::plain::{note, same, same_len, same_pair, same_pairs};
 use judy_leaf::{Width, Words};
 use judy_node::{NodeOf, Shape};
+use judy_unmetered::UNMETERED;
 use std::alloc::{AllocError, Global};
 use std::process::Abort;
 use std::test::Fail;
@@ -125,7 +126,7 @@ fn check_slots<V: Words + Drop>(
     for &(key, value) in pairs {
         change_slot(rt, tree, key, value);
     }
-    let changed = tree.gather(alloc)?;
+    let changed = tree.gather(UNMETERED, alloc)?;
     check_changed(rt, &changed, pairs);
     Ok(())
 }
@@ -179,7 +180,7 @@ pub(crate) fn check_tree<V: Words + Drop>(
 ) -> Result<(), AllocError> {
     let mut tree = tree_of::<V>(rt, alloc, pairs)?;
     check_pairs(rt, alloc, &tree, pairs)?;
-    same_shape(rt, tree.shape(), counts);
+    same_shape(rt, tree.shape(UNMETERED), counts);
     check_slots(rt, alloc, &mut tree, pairs)
 }
 
@@ -192,7 +193,7 @@ pub(crate) fn check_pairs<V: Words + Drop>(
 ) -> Result<(), AllocError> {
     let count = pairs.len() as u64;
     same(rt, tree.pop(), count, count);
-    let gathered = tree.gather(alloc)?;
+    let gathered = tree.gather(UNMETERED, alloc)?;
     same_pairs(rt, &gathered, pairs);
     Ok(())
 }

@@ -10,6 +10,7 @@ use judy_bits::Meter;
 use judy_leaf::{Width, Words};
 use judy_node::NodeOf;
 use judy_query::{entry_at_or_after, entry_at_or_before, entry_nth};
+use judy_unmetered::UNMETERED;
 use std::alloc::{AllocError, Global};
 use std::process::Abort;
 use std::test::Fail;
@@ -34,14 +35,14 @@ fn check_entries<V: Words + Drop>(
     plain: &[(u64, u64)],
     word: u64,
 ) {
-    let mut meter = Meter::new();
+    let mut meter = Meter::new(UNMETERED);
     let after = entry_at_or_after(tree, word, &mut meter);
     at_most(rt, word, &meter, 16);
-    let mut meter = Meter::new();
+    let mut meter = Meter::new(UNMETERED);
     let before = entry_at_or_before(tree, word, &mut meter);
     at_most(rt, word, &meter, 16);
     check_nearest(rt, word, plain, after, before);
-    let mut meter = Meter::new();
+    let mut meter = Meter::new(UNMETERED);
     let entry = entry_nth(tree, word, &mut meter);
     at_most(rt, word, &meter, 8);
     same_pair(rt, entry, plain.get(word as usize).copied(), word);

@@ -1,17 +1,17 @@
 -- Arrays over a tree as arrays of the model: the empty one, and one with a value written through a slot.
-use Rattle.std.proofs.Common.{◌≡◌, ℕ, ◌^◌, true, Option, Some, None, is_some, MutBor, refl, sym, ap, ◌∙◌}
+use Rattle.std.proofs.Common.{◌≡◌, ℕ, ◌^◌, Bool, true, false, not, Option, Some, None, Result, Ok, Err, IfOk, is_some, MutBor, refl, sym, ap, ◌∙◌}
 use Rattle.std.specs.Cmp.{nat_cmp_total}
 use Rattle.std.specs.Option.{option_copied_mut, ghost_name_of}
 use Rattle.std.specs.FinMap.{FinMap, get, contains_key, nat_cmp-IsAntisymmetric}
 use borrow.Follows.Closed.{read_of}
 use Rattle.judy_model.specs.Keys.{word_order}
-use Rattle.judy_model.specs.Arrays.{ArrayOf, empty_array, with_map, ins}
+use Rattle.judy_model.specs.Arrays.{ArrayOf, with_map, ins}
 use Rattle.judy_model.proofs.SortedMaps.{from_sorted-nil}
 use Rattle.judy_model.proofs.ChangesLemmas.{write-ins, get-ins_same}
 use Rattle.judy_word.specs.Held.{Held, map_in, array_in, nothing_held, IsHeld}
 use Rattle.judy_word.specs.Held as held
 use Rattle.judy_word.specs.Writes as writes
-use Rattle.judy_word.specs.WordArrays.{WordArray, array_of, seen_as, no_keys, with_value, IsWritten}
+use Rattle.judy_word.specs.WordArrays.{WordArray, array_of, seen_as, no_keys, with_value}
 use Rattle.judy_word.proofs.MapFacts.{get-value, map_of-written}
 
 -- No tree is the array without keys.
@@ -24,6 +24,17 @@ module _ (array : Held) (is : IsHeld 1 array) (key : ℕ) (present : is_some (ge
   array-written value =
       ap (λ (map : FinMap word_order ℕ). record (seen_as array) { map = map })
       (map_of-written 1 (256 ^ 8) key value array.tree.pairs refl is.node.map (ap is_some (sym (get-value 1 (256 ^ 8) array.tree.pairs is.node.map key)) ∙ present))
+
+-- A key that wasn't added was there.
+pub kept-there : (added held : Bool) → added ≡ false → added ≡ not held → held ≡ true
+kept-there added true kept same = refl
+kept-there added false kept same = sym kept ∙ same
+
+-- What a key that is there becomes in the tree, it becomes in the array.
+module _ (old new : Held) (is : IsHeld 1 old) (key value : ℕ) where
+  pub put-seen : {E : Type 0} (result : Result Bool E) → IfOk result (λ added. added ≡ not (contains_key (map_in old) key)) → IfOk result (λ added. added ≡ false → new ≡ held.with_value old key value) → IfOk result (λ added. added ≡ false → seen_as new ≡ with_value (seen_as old) key value)
+  put-seen (Ok added) answer present = λ kept. ap seen_as (present kept) ∙ array-written old is key (kept-there added (contains_key (map_in old) key) kept answer) value
+  put-seen (Err refused) answer present = tt
 
 -- Where the key was put in before.
 module _ (old new : Held) (is : IsHeld 1 new) (key : ℕ) (inserted : array_in new ≡ with_map (array_in old) (ins (map_in old) key)) where

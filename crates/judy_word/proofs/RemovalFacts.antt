@@ -1,6 +1,6 @@
 -- What an array keeps where a key was taken out of its tree, or a value written.
-use Rattle.std.proofs.Common.{◌≡◌, ℕ, ◌≤◌, ◌^◌, Bool, true, false, not, ◌||◌, cond, [], ◌∷◌, length, Some, None, is_some, refl, sym, ap, ◌∙◌, subst, arith}
-use Rattle.std.specs.FinMap.{contains_key, remove}
+use Rattle.std.proofs.Common.{◌≡◌, ℕ, ◌≤◌, ◌^◌, Bool, true, false, not, ◌||◌, cond, [], ◌∷◌, length, Some, None, refl, sym, ap, ◌∙◌, subst, arith}
+use Rattle.std.specs.FinMap.{get, remove}
 use Rattle.judy_node.specs.Trees.{Pairs, Tree, IsNode}
 use Rattle.judy_node.specs.Slots.{with_value}
 use Rattle.judy_node.proofs.SlotFacts.{written-length}
@@ -22,10 +22,6 @@ neither true other e = cc
 neither false true e = (refl, refl)
 neither false false e = cc
 
-told : (was : Bool) (value : ℕ) → is_some (cond was (Some value) None) ≡ was
-told true value = refl
-told false value = refl
-
 module _ (words limit key : ℕ) (old new : Tree) (removed : Removed) (node : IsNode words old) (is : IsRemoved key old new removed) where
   -- It holds no more than before, and is tight where it was and the nodes shrank.
   pub bounded-removed : (loose : Bool) → IsBounded limit old loose → IsBounded limit new (loose || not removed.shrunk)
@@ -37,9 +33,9 @@ module _ (words limit key : ℕ) (old new : Tree) (removed : Removed) (node : Is
         tight = λ e. is.tight (bounded.tight (neither loose removed.shrunk e).0) (neither loose removed.shrunk e).1;
       }
 
-  -- The answer is whether the map had the key.
-  pub was-held : removed.was ≡ contains_key (map_of old.pairs) key
-  was-held = sym (ap is_some (get-value words (256 ^ 8) old.pairs node.map key ∙ is.found) ∙ told removed.was removed.value)
+  -- The value is the one that the map had, where it was there.
+  pub value-held : cond removed.was (Some removed.value) None ≡ get (map_of old.pairs) key
+  value-held = sym (get-value words (256 ^ 8) old.pairs node.map key ∙ is.found)
 
   -- The map is the one without the key.
   pub map-removed : map_of new.pairs ≡ remove (map_of old.pairs) key

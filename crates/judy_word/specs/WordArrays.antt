@@ -1,6 +1,6 @@
 -- An array of words as its callers see it: the map that it is, and its nodes.
-use Rattle.std.specs.Prelude.{◌≡◌, ℕ, Bool, false, []}
-use Rattle.std.specs.FinMap.{FinMap, empty}
+use Rattle.std.specs.Prelude.{◌≡◌, ℕ, Bool, true, false, []}
+use Rattle.std.specs.FinMap.{FinMap, empty, contains_key}
 use Rattle.judy_model.specs.Keys.{word_order}
 use Rattle.judy_model.specs.Arrays.{ArrayOf, write}
 use Rattle.judy_model.specs.Forms.{Form}
@@ -28,10 +28,11 @@ abbrev pub with_value : WordArray → ℕ → ℕ → WordArray
 with_value array key value = record array { map = write array.map key value }
 
 -- What an array is after an insert, a value being left in the slot of the key: that key has the value, all else is as it was, but
--- for the nodes of an array that lacked the key. It is loose only where it was.
+-- for the nodes of an array that lacked the key. It is loose where it was, and only there.
 pub record IsWritten (before : WordArray) (key value : ℕ) (after : WordArray) : Type 0 where
   pub array : array_of after ≡ writes.with_value (array_of before) key value
   pub loose : after.loose ≡ before.loose
+  pub present : contains_key before.map key ≡ true → after ≡ with_value before key value
 
 -- A tree with its limit, as callers see it: its pairs are the map.
 abbrev pub seen_as : Held → WordArray

@@ -1,5 +1,5 @@
 // The array that maps words to words.
-ghost use Rattle.std.specs.Prelude.{◌≡◌, ◌≤◌, ◌↔◌, Some, not, true, false, IfOk, IsOk, IfSome, OnOk, OnErr, IfErr, IsTrue, IsFalse};
+ghost use Rattle.std.specs.Prelude.{◌≡◌, ◌≤◌, ◌↔◌, Some, None, not, true, false, IfOk, IsOk, IfSome, OnOk, OnErr, IfErr, IsTrue, IsFalse};
 ghost use Rattle.std.specs.Borrow.{sem};
 ghost use Rattle.std.specs.FinMap as map;
 ghost use Rattle.std.specs.Option.{option_copied_mut, option_map};
@@ -14,7 +14,7 @@ ghost use Rattle.judy_change.specs.Removals.{Has33};
 ghost use Rattle.judy_node.specs.ShapeSums.{shape_as};
 ghost use Rattle.judy_query.specs.Maps.{map_of};
 ghost use Rattle.judy_word.specs.Held.{with_new};
-ghost use Rattle.judy_word.specs.WordArrays.{array_of, no_keys, seen_as};
+ghost use Rattle.judy_word.specs.WordArrays.{array_of, no_keys, seen_as, with_value};
 ghost use Rattle.judy_word.specs.Refusals.{IsRefusal};
 ghost use Rattle.judy_word.specs.Slots.{LendsSlot, LendsSlotOf, LendsIns};
 
@@ -68,8 +68,8 @@ impl JudyL {
     }
 
     /// The slot of the key `i`, which is put in with the value 0 where it is absent; a key that is there
-    /// keeps its value, and is never refused. What the caller leaves in the slot is then the key's value.
-    /// (Manual: JLI, JudyLIns.)
+    /// keeps its value, and is never refused. What the caller leaves in the slot is then the key's value; of a key that was there
+    /// nothing else changes, the nodes neither. (Manual: JLI, JudyLIns.)
     ///
     /// `Full` where the key is absent and the array holds as many keys as its limit (limit: this project's
     /// own). `NoMemory` only where it is absent and the array isn't full, and never where it is empty. Either leaves the array as it was.
@@ -85,8 +85,26 @@ impl JudyL {
         Ok(self.tree.slot_of(i))
     }
 
-    /// Gives the key `i` a value, and answers whether it was absent. An absent key is put in with its value in one way down the tree,
-    /// where `ins` takes a second one for the slot.
+    /// Gives the key `i` a value, and answers the value that was there; `None` where the key was absent, and was put in. It takes one way
+    /// down the tree, and where the key was there no node changes. (This project's own: a map's insert that tells the old value.)
+    ///
+    /// `Full` and `NoMemory` as `ins`. Either leaves the array as it was.
+    pub fn insert(&mut self, i: u64, value: u64) -> Result<Option<u64>, InsertError>
+        ensures answer { IfOk result (λ was. was ≡ map.get self.old.map i) }
+        ensures put { OnOk result (array_of self.new ≡ array.with_map (array_of self.old) (array.write self.old.map i value)) }
+        ensures present { IfOk result (λ was. IfSome was (λ _. self.new ≡ with_value self.old i value)) }
+        ensures accepted { OnOk result (IsFalse (array.is_full (array_of self.old) i)) }
+        ensures refused { IfErr result (IsRefusal (array_of self.old) i) }
+        ensures unchanged { OnErr result (self.new ≡ self.old) }
+        ensures loose { self.new.loose ≡ self.old.loose }
+        ensures empty { self.old.map ≡ map.empty → IsOk result }
+    {
+        self.tree.told();
+        self.tree.insert(i, value)
+    }
+
+    /// Gives the key `i` a value, and answers whether it was absent: `insert` without the value that was there. It takes one way down
+    /// the tree, where `ins` takes a second one for the slot. At a key that is there the value alone changes, and the nodes stay.
     ///
     /// `Full` and `NoMemory` as `ins`. Either leaves the array as it was.
     pub fn put(&mut self, i: u64, value: u64) -> Result<bool, InsertError>
@@ -95,9 +113,11 @@ impl JudyL {
         ensures accepted { OnOk result (IsFalse (array.is_full (array_of self.old) i)) }
         ensures refused { IfErr result (IsRefusal (array_of self.old) i) }
         ensures unchanged { OnErr result (self.new ≡ self.old) }
+        ensures present { IfOk result (λ added. added ≡ false → self.new ≡ with_value self.old i value) }
         ensures loose { self.new.loose ≡ self.old.loose }
         ensures empty { self.old.map ≡ map.empty → IsOk result }
     {
+        self.tree.told();
         self.tree.put(i, value)
     }
 
@@ -145,8 +165,22 @@ impl JudyL {
         self.tree.slot_of(i)
     }
 
-    /// Takes the key `i` out, and answers whether it was there. It can't fail: where memory for a smaller node is refused, the larger
-    /// one stays. (Manual: JLD, JudyLDel.)
+    /// Takes the key `i` out, and answers the value that it had; `None` where it was absent, and then nothing changes. It takes one way
+    /// down the tree. It can't fail: where memory for a smaller node is refused, the larger one stays. (This project's own: a map's
+    /// removal that tells the old value.)
+    pub fn remove(&mut self, i: u64) -> Option<u64>
+        ensures answer { result ≡ map.get self.old.map i }
+        ensures removed { array_of self.new ≡ array.with_map (array_of self.old) (array.del self.old.map i) }
+        ensures absent { result ≡ None → self.new ≡ self.old }
+        ensures loose { self.old.loose ≡ true → self.new.loose ≡ true }
+        ensures loosened { self.old.loose ≡ false → self.new.loose ≡ true → Has33 8 (map.entries self.old.map) i }
+    {
+        self.tree.told();
+        self.tree.take(i)
+    }
+
+    /// Takes the key `i` out, and answers whether it was there: `remove` without the value. It can't fail: where memory for a smaller
+    /// node is refused, the larger one stays. (Manual: JLD, JudyLDel.)
     pub fn del(&mut self, i: u64) -> bool
         ensures answer { result ≡ map.contains_key self.old.map i }
         ensures deleted { array_of self.new ≡ array.with_map (array_of self.old) (array.del self.old.map i) }
@@ -154,8 +188,7 @@ impl JudyL {
         ensures loose { self.old.loose ≡ true → self.new.loose ≡ true }
         ensures loosened { self.old.loose ≡ false → self.new.loose ≡ true → Has33 8 (map.entries self.old.map) i }
     {
-        self.tree.told();
-        self.tree.remove(i)
+        self.remove(i).is_some()
     }
 
     /// How many keys the array holds from `a` to `b`, both included; 0 where `a` is above `b` (that corner is

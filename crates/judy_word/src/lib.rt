@@ -8,7 +8,7 @@
 //
 // What lies below both is a `TreeArray`, which is a limit, a tree of judy_node and whether that may be loose: each public call hands
 // on to its calls. tree_array.rt has it, and in the folder of that name stand what is asked of a key (counts.rt), neighbours, the same
-// with values (entries.rt) and empties, all over judy_query; changes, over judy_change; slots; and the law of what every array keeps
+// with values (entries.rt) and empties, all over judy_query; changes, and those that answer the value that was there (values.rt), over judy_change; slots; and the law of what every array keeps
 // (kept.rt). laws.rt has laws of nodes. iter.rt has the iterators, and how an array is printed.
 #![tactic(auto)]
 

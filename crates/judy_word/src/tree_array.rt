@@ -9,6 +9,7 @@ ghost use Rattle.judy_word.specs.Held.{map_in, nothing_held, IsHeld};
 
 use judy_leaf::Words;
 use judy_node::{NodeOf, Shape};
+use judy_unmetered::UNMETERED;
 use std::alloc::Global;
 use std::marker::Model;
 
@@ -19,6 +20,7 @@ mod entries;
 mod kept;
 mod neighbours;
 mod slots;
+mod values;
 
 pub use entries::TreeEntries;
 
@@ -119,7 +121,7 @@ impl<V: Words + Drop> TreeArray<V> {
         ensures rule { self.now.loose ≡ false → shape_as result ≡ shape_of V.WORDS (map.keys (map_in self.now)) }
     {
         self.told();
-        self.root.shape()
+        self.root.shape(UNMETERED)
     }
 
     /// Takes every key out, gives their memory back, and answers how many they were. The limit stays.

@@ -2,6 +2,8 @@
 //! the step of a line that says the command.
 
 pub mod making;
+pub mod order;
+pub mod refusals;
 pub mod searches;
 pub mod sets;
 pub mod values;

@@ -4,19 +4,20 @@ ghost use Rattle.std.specs.Prelude.{◌≡◌, ◌≤◌, not, true, false, OnOk
 ghost use Rattle.std.specs.FinMap as map;
 ghost use Rattle.judy_model.specs.Arrays as array;
 ghost use Rattle.judy_change.specs.Removals.{Has33};
-ghost use Rattle.judy_word.specs.Held.{map_in, array_in, with_new};
+ghost use Rattle.judy_word.specs.Held.{map_in, array_in, with_new, with_value};
 ghost use Rattle.judy_word.specs.Refusals.{IsRefusal};
 
 use crate::error::InsertError;
 use crate::tree_array::TreeArray;
-use judy_change::{insert_with, remove};
+use judy_change::insert_with;
 use judy_leaf::Words;
 use judy_node::NodeOf;
+use judy_unmetered::UNMETERED;
 use std::alloc::AllocError;
 
 impl<V: Words + Drop> TreeArray<V> {
     // Whether a key is absent and there is no room for it.
-    fn is_full(&self, key: u64) -> bool
+    pub(crate) fn is_full(&self, key: u64) -> bool
         ensures { result ≡ array.is_full (array_in self.now) key }
     {
         self.len() == self.limit && !self.has(key)
@@ -65,7 +66,7 @@ impl<V: Words + Drop> TreeArray<V> {
     }
 
     /// Gives a key a value, in an array whose keys have values, and answers whether it was absent. Refused as `set` is, and then the
-    /// array is as it was; never where the key is there.
+    /// array is as it was; never where the key is there: then its value alone changes, and the nodes stay.
     pub fn put(&mut self, key: u64, value: u64) -> Result<bool, InsertError>
         requires words { V.WORDS ≡ 1 }
         ensures answer { IfOk result (λ added. added ≡ not (map.contains_key (map_in self.old) key)) }
@@ -73,15 +74,11 @@ impl<V: Words + Drop> TreeArray<V> {
         ensures accepted { OnOk result (IsFalse (array.is_full (array_in self.old) key)) }
         ensures refused { IfErr result (IsRefusal (array_in self.old) key) }
         ensures unchanged { OnErr result (self.new ≡ self.old) }
+        ensures present { IfOk result (λ added. added ≡ false → self.new ≡ with_value self.old key value) }
         ensures loose { self.new.loose ≡ self.old.loose }
         ensures first { map_in self.old ≡ map.empty → IsOk result }
     {
-        let added = self.set_with(key, value)?;
-        if !added {
-            self.told();
-            *self.slot_of(key) = value;
-        }
-        Ok(added)
+        Ok(self.insert(key, value)?.is_none())
     }
 
     /// Takes a key out, and answers whether it was there. It can't fail. The array becomes loose only where memory for a smaller
@@ -94,10 +91,7 @@ impl<V: Words + Drop> TreeArray<V> {
         ensures loose { self.old.loose ≡ true → self.new.loose ≡ true }
         ensures loosened { self.old.loose ≡ false → self.new.loose ≡ true → Has33 8 self.old.tree.pairs key }
     {
-        self.root.told();
-        let removed = remove(self.alloc, &mut self.root, key);
-        self.loose |= !removed.shrunk;
-        removed.was
+        self.take(key).is_some()
     }
 
     /// Makes each node as small as its keys allow: from there on the array isn't loose. The error is want of memory; the array is the
@@ -115,7 +109,7 @@ impl<V: Words + Drop> TreeArray<V> {
             return Ok(());
         }
         self.root.told();
-        let pairs = self.root.gather(self.alloc)?;
+        let pairs = self.root.gather(UNMETERED, self.alloc)?;
         self.root = NodeOf::from_sorted(self.alloc, &pairs)?;
         self.loose = false;
         Ok(())
@@ -128,7 +122,7 @@ impl<V: Words + Drop> TreeArray<V> {
         ensures tight { IfOk result (λ copy. copy.loose ≡ false) }
     {
         self.root.told();
-        let pairs = self.root.gather(self.alloc)?;
+        let pairs = self.root.gather(UNMETERED, self.alloc)?;
         let root = NodeOf::from_sorted(self.alloc, &pairs)?;
         Ok(TreeArray {
             limit: self.limit,

@@ -9,13 +9,14 @@ use crate::tree_array::TreeArray;
 use judy_bits::Meter;
 use judy_leaf::Words;
 use judy_query::{lookup, nth, rank};
+use judy_unmetered::UNMETERED;
 
 impl<V: Words + Drop> TreeArray<V> {
     /// The value of a key, 0 where keys have no value; `None` where it is absent.
     pub fn get(&self, key: u64) -> Option<u64>
         ensures { result ≡ map.get (map_in self.now) key }
     {
-        lookup(&self.root, key, &mut Meter::new())
+        lookup(&self.root, key, &mut Meter::new(UNMETERED))
     }
 
     /// Whether a key is there.
@@ -29,7 +30,7 @@ impl<V: Words + Drop> TreeArray<V> {
     fn rank(&self, key: u64) -> u64
         ensures { result ≡ counts.rank (map_in self.now) key }
     {
-        rank(&self.root, key, &mut Meter::new())
+        rank(&self.root, key, &mut Meter::new(UNMETERED))
     }
 
     // How many keys are at or below a word.
@@ -58,7 +59,7 @@ impl<V: Words + Drop> TreeArray<V> {
         if n == 0 {
             None
         } else {
-            nth(&self.root, n - 1, &mut Meter::new())
+            nth(&self.root, n - 1, &mut Meter::new(UNMETERED))
         }
     }
 }

@@ -8,13 +8,14 @@ use crate::tree_array::TreeArray;
 use judy_bits::Meter;
 use judy_leaf::Words;
 use judy_query::{empty_at_or_after, empty_at_or_before};
+use judy_unmetered::UNMETERED;
 
 impl<V: Words + Drop> TreeArray<V> {
     /// The least word that is no key and isn't below a word; `None` where each word from there on is a key.
     pub fn first_empty(&self, from: u64) -> Option<u64>
         ensures { result ≡ empties.first_empty (map_in self.now) from }
     {
-        empty_at_or_after(&self.root, from, &mut Meter::new())
+        empty_at_or_after(&self.root, from, &mut Meter::new(UNMETERED))
     }
 
     /// The least word above it that is no key; `None` where there is none.
@@ -32,7 +33,7 @@ impl<V: Words + Drop> TreeArray<V> {
     pub fn last_empty(&self, from: u64) -> Option<u64>
         ensures { result ≡ empties.last_empty (map_in self.now) from }
     {
-        empty_at_or_before(&self.root, from, &mut Meter::new())
+        empty_at_or_before(&self.root, from, &mut Meter::new(UNMETERED))
     }
 
     /// The greatest word below it that is no key; `None` where there is none.

@@ -11,6 +11,7 @@ use crate::tree_array::TreeArray;
 use judy_bits::Meter;
 use judy_leaf::Words;
 use judy_query::{Walk, entry_at_or_after, entry_at_or_before, entry_nth};
+use judy_unmetered::UNMETERED;
 use std::iter::Iterator;
 use std::marker::Model;
 
@@ -39,7 +40,7 @@ impl<'a, V: Words + Drop> Iterator for TreeEntries<'a, V> {
     ghost remaining = { item_count (λ entries. entries) };
 
     fn next(&mut self) -> Option<(u64, u64)> {
-        self.walk.next(&mut Meter::new())
+        self.walk.next(&mut Meter::new(UNMETERED))
     }
 }
 
@@ -52,7 +53,7 @@ impl<V: Words + Drop> TreeArray<V> {
         ensures value { IfSome result (λ entry. map.get (map_in self.now) entry.0 ≡ Some entry.1) }
     {
         self.root.told();
-        entry_at_or_after(&self.root, from, &mut Meter::new())
+        entry_at_or_after(&self.root, from, &mut Meter::new(UNMETERED))
     }
 
     /// The least key above it, with its value, or `None`.
@@ -76,7 +77,7 @@ impl<V: Words + Drop> TreeArray<V> {
         ensures value { IfSome result (λ entry. map.get (map_in self.now) entry.0 ≡ Some entry.1) }
     {
         self.root.told();
-        entry_at_or_before(&self.root, from, &mut Meter::new())
+        entry_at_or_before(&self.root, from, &mut Meter::new(UNMETERED))
     }
 
     /// The greatest key below it, with its value, or `None`.
@@ -100,7 +101,7 @@ impl<V: Words + Drop> TreeArray<V> {
         if n == 0 {
             None
         } else {
-            entry_nth(&self.root, n - 1, &mut Meter::new())
+            entry_nth(&self.root, n - 1, &mut Meter::new(UNMETERED))
         }
     }
 
@@ -110,7 +111,7 @@ impl<V: Words + Drop> TreeArray<V> {
     {
         self.root.told();
         TreeEntries {
-            walk: Walk::from_key(&self.root, 0, &mut Meter::new()),
+            walk: Walk::from_key(&self.root, 0, &mut Meter::new(UNMETERED)),
         }
     }
 
@@ -120,7 +121,7 @@ impl<V: Words + Drop> TreeArray<V> {
     {
         self.root.told();
         TreeEntries {
-            walk: Walk::from_key(&self.root, from, &mut Meter::new()),
+            walk: Walk::from_key(&self.root, from, &mut Meter::new(UNMETERED)),
         }
     }
 }

@@ -8,6 +8,7 @@ use crate::tree_array::TreeArray;
 use judy_bits::Meter;
 use judy_leaf::Words;
 use judy_query::{at_or_after, at_or_before};
+use judy_unmetered::UNMETERED;
 
 impl<V: Words + Drop> TreeArray<V> {
     /// The least key that isn't below a word; `None` where there is none.
@@ -16,7 +17,7 @@ impl<V: Words + Drop> TreeArray<V> {
     pub fn first(&self, from: u64) -> Option<u64>
         ensures { result ≡ neighbours.first (map_in self.now) from }
     {
-        at_or_after(&self.root, from, &mut Meter::new())
+        at_or_after(&self.root, from, &mut Meter::new(UNMETERED))
     }
 
     /// The least key above it, or `None`.
@@ -37,7 +38,7 @@ impl<V: Words + Drop> TreeArray<V> {
     pub fn last(&self, from: u64) -> Option<u64>
         ensures { result ≡ neighbours.last (map_in self.now) from }
     {
-        at_or_before(&self.root, from, &mut Meter::new())
+        at_or_before(&self.root, from, &mut Meter::new(UNMETERED))
     }
 
     /// The greatest key below it, or `None`.

@@ -47,3 +47,18 @@ pub fn make_is_refused_in_order()
         array_named store name ≡ None → length store ≡ 64 → Says line (codes "make" ∷ name ∷ kind ∷ token ∷ []) →
         step store line ≡ (Err too_many_arrays, store) }
 {}
+
+/// Without a limit it is refused in the same order.
+pub fn make_without_a_limit_is_refused_in_order()
+    ensures name { (store : Store) (name kind : List ℕ) (line : Line) →
+        IsFalse (is_name name) → Says line (codes "make" ∷ name ∷ kind ∷ []) → step store line ≡ (Err bad_name, store) }
+    ensures kind { (store : Store) (name kind : List ℕ) (line : Line) →
+        IsTrue (is_name name) → kind_named kind ≡ None → Says line (codes "make" ∷ name ∷ kind ∷ []) →
+        step store line ≡ (Err wrong_kind, store) }
+    ensures known { (store : Store) (name kind : List ℕ) (line : Line) (empty : ℕ → ArrayValue) (array : ArrayValue) →
+        IsTrue (is_name name) → kind_named kind ≡ Some empty → array_named store name ≡ Some array →
+        Says line (codes "make" ∷ name ∷ kind ∷ []) → step store line ≡ (Err exists, store) }
+    ensures many { (store : Store) (name kind : List ℕ) (line : Line) (empty : ℕ → ArrayValue) →
+        IsTrue (is_name name) → kind_named kind ≡ Some empty → array_named store name ≡ None → length store ≡ 64 →
+        Says line (codes "make" ∷ name ∷ kind ∷ []) → step store line ≡ (Err too_many_arrays, store) }
+{}

@@ -39,7 +39,8 @@ pub returns-in-Some-clause-deleted : goal.returns-in-Some-clause-deleted
 returns-in-Some-clause-deleted g c =
     let is_key = is_key_of c.args.key.now (λ i. omega (arith, c.type_inv.key i)) c.if-key-gt-MAX_KEY.false in
     let spot = rw c.part_of-part.ensures at c.in-Some.ensures in
-    rw (← c.self.view_is) (array-deleted g.H.ByteHash.hash_of c.self.inside.limit c.self.inside.count c.self.inside.groups c.self.invariant c.args.key.now is_key c.in-Some.spot.group c.in-Some.spot.inside spot c.remove.new.self (rw c.part_of-part.ensures at c.remove.ensures.kept) (rw c.part_of-part.ensures at c.remove.ensures.emptied))
+    c.give_back.ensures
+    ∙ rw (← c.self.view_is) (array-deleted g.H.ByteHash.hash_of c.self.inside.limit c.self.inside.count c.self.inside.groups c.self.invariant c.args.key.now is_key c.in-Some.spot.group c.in-Some.spot.inside spot c.remove.new.self (rw c.part_of-part.ensures at c.remove.ensures.kept) (rw c.part_of-part.ensures at c.remove.ensures.emptied))
 
 pub returns-in-None-clause-answer : goal.returns-in-None-clause-answer
 returns-in-None-clause-answer g c =

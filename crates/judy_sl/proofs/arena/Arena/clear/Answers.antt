@@ -4,8 +4,11 @@ use Rattle.std.specs.FinMap.{get}
 use Rattle.judy_sl.proofs.Shrinks.{lone-inside, after-places, cleared-tail, cleared-last, clearing-on, clearing-some}
 use Rattle.judy_sl.proofs.arena.Arena.clear.Goals as goal
 
-pub vacate-requires : goal.vacate-requires
-vacate-requires c = lone-inside c.loop-level.self c.loop-level.at _ c.loop-level.invariant.loose.lone
+pub vacate-requires-clause-known : goal.vacate-requires-clause-known
+vacate-requires-clause-known c = c.loop-level.invariant.places.known c.requires.known
+
+pub vacate-requires-clause-inside : goal.vacate-requires-clause-inside
+vacate-requires-clause-inside c = lone-inside c.loop-level.self c.loop-level.at _ c.loop-level.invariant.loose.lone
 
 pub returns-in_default-clause-cleared : goal.returns-in_default-clause-cleared
 returns-in_default-clause-cleared c =

@@ -1,9 +1,8 @@
 use Rattle.std.proofs.Common.{sym, subst}
 use Rattle.std.proofs.lemmas.List.{take_rest}
 use Rattle.judy_sl.proofs.PieceLemmas.{text_of_key, pieces_are}
-use Rattle.judy_places.proofs.PlaceLemmas.{then-freed}
-use Rattle.judy_sl.specs.Arenas.{links_of, FreesPlaces}
-use Rattle.judy_sl.proofs.Reused.{without-places}
+use Rattle.judy_sl.specs.Arenas.{FreesPlaces, KnowsFree}
+use Rattle.judy_sl.proofs.Reused.{without-places, then-freeing}
 use Rattle.judy_sl.proofs.Shrinks.{cut-found, shrunk-last, shrunk-on, on-arena, on-is_loose}
 use Rattle.judy_sl.proofs.arena.Arena.del.Goals as goal
 
@@ -14,6 +13,9 @@ clear-requires-clause-is_arena c =
 pub clear-requires-clause-loose : goal.clear-requires-clause-loose
 clear-requires-clause-loose c =
     rw take_rest (on-is_loose c.args.self.now c.requires.is_arena c.requires.led c.args.key.now c.in-Some.cut c.in-Some.ensures c.take_out.new.self c.take_out.ensures c.in-Some-below.at c.in-Some-below.is)
+
+pub clear-requires-clause-known : goal.clear-requires-clause-known
+clear-requires-clause-known c = subst KnowsFree (sym c.take_out.ensures) ((without-places c.args.self.now c.in-Some.cut.place).known c.requires.known)
 
 pub returns-in-Some-below-clause-answer : goal.returns-in-Some-below-clause-answer
 returns-in-Some-below-clause-answer c = sym (cut-found c.args.self.now c.requires.is_arena c.requires.led c.args.key.now c.in-Some.cut c.in-Some.ensures)
@@ -31,7 +33,7 @@ returns-in_default-below-clause-shrunk c =
 
 pub returns-in-Some-below-clause-places : goal.returns-in-Some-below-clause-places
 returns-in-Some-below-clause-places c =
-    then-freed (links_of c.args.self.now) c.args.self.now.free (links_of c.take_out.new.self) c.take_out.new.self.free (links_of c.clear.new.self) c.clear.new.self.free
+    then-freeing c.args.self.now c.take_out.new.self c.clear.new.self
     (subst (FreesPlaces c.args.self.now) (sym c.take_out.ensures) (without-places c.args.self.now c.in-Some.cut.place)) c.clear.ensures.places
 
 pub returns-in_default-below-clause-places : goal.returns-in_default-below-clause-places

@@ -1,9 +1,9 @@
-use Rattle.std.proofs.Common.{ℕ, List, ◌∙◌, sym, ap, subst, refl, ◌-◌, ◌+◌, length}
+use Rattle.std.proofs.Common.{ℕ, List, ◌∙◌, sym, ap, subst, ◌-◌, ◌+◌, length}
 use Rattle.std.proofs.lemmas.List.{drop-drop, take_rest}
 use Rattle.judy_sl.specs.declared.arena.Arena.{Arena}
-use Rattle.judy_sl.specs.Arenas.{TakesPlaces}
+use Rattle.judy_sl.specs.Arenas.{TakesPlaces, KnowsFree, HasRoom}
 use Rattle.judy_sl.specs.Grown.{IsAdded}
-use Rattle.judy_sl.proofs.Reused.{written-places, same-places, then-places}
+use Rattle.judy_sl.proofs.Reused.{written-places, written-room, then-places, on-success}
 use Rattle.judy_sl.proofs.Filled.{fills-last}
 use Rattle.judy_sl.proofs.Tailed.{filled-tail}
 use Rattle.judy_sl.proofs.Rooms.{room-gap, room-same}
@@ -15,20 +15,28 @@ returns-in-Ok-clause-added c =
 
 pub returns-in-Ok-enter-clause-added : goal.returns-in-Ok-enter-clause-added
 returns-in-Ok-enter-clause-added c =
-    filled-tail c.args.self.now _ c.enter-2.new.self c.put.new.self c.args.key.now c.args.place c.args.left c.next_place-at.result c.put.result _ c.requires.is_arena c.requires.is_key c.requires.gap c.if-left-lt8.false (record { root = refl; items = c.make_room.ensures.items }) c.next_place-at.ensures c.in-Ok-enter.ensures.entered c.put.ensures.place c.put.ensures.put (ap (λ (tail : List ℕ × ℕ). tail.0) c.in-Ok-new.ensures ∙ take_rest c.args.key.now (length c.args.key.now - c.args.left + 8) ∙ sym (drop-drop 8 (length c.args.key.now - c.args.left) c.args.key.now)) (ap (λ (tail : List ℕ × ℕ). tail.1) c.in-Ok-new.ensures)
+    filled-tail c.args.self.now _ c.enter-2.new.self c.put.new.self c.args.key.now c.args.place c.args.left c.next_place-at.result c.put.result _ c.requires.is_arena c.requires.is_key c.requires.gap c.if-left-lt8.false c.make_room.ensures.same c.next_place-at.ensures c.in-Ok-enter.ensures.entered c.put.ensures.place c.put.ensures.put (ap (λ (tail : List ℕ × ℕ). tail.0) c.in-Ok-new.ensures ∙ take_rest c.args.key.now (length c.args.key.now - c.args.left + 8) ∙ sym (drop-drop 8 (length c.args.key.now - c.args.left) c.args.key.now)) (ap (λ (tail : List ℕ × ℕ). tail.1) c.in-Ok-new.ensures)
 
 pub enter-requires-clause-room : goal.enter-requires-clause-room
 enter-requires-clause-room c = room-gap c.args.self.now c.requires.is_arena c.args.key.now c.args.place c.args.left c.requires.gap c.requires.few
 
 pub enter-requires-2-clause-room : goal.enter-requires-2-clause-room
 enter-requires-2-clause-room c =
-    room-same c.args.self.now (record c.args.self.now { children = c.make_room.new.children }) (record { root = refl; items = c.make_room.ensures.items }) c.args.place (room-gap c.args.self.now c.requires.is_arena c.args.key.now c.args.place c.args.left c.requires.gap c.requires.few)
+    room-same c.args.self.now c.make_room.new.self c.make_room.ensures.same c.args.place (room-gap c.args.self.now c.requires.is_arena c.args.key.now c.args.place c.args.left c.requires.gap c.requires.few)
+
+pub put-requires-clause-known : goal.put-requires-clause-known
+put-requires-clause-known c =
+    subst KnowsFree (sym c.in-Ok-enter.ensures.entered) ((written-places c.make_room.new.self c.args.place c.next_place-at.result).known c.make_room.ensures.known)
+
+pub put-requires-clause-room : goal.put-requires-clause-room
+put-requires-clause-room c =
+    subst (λ (a : Arena). HasRoom a 1) (sym c.in-Ok-enter.ensures.entered) (written-room c.make_room.new.self c.args.place c.next_place-at.result 1 (on-success c.make_room.result c.if-is_err.ensures.negation c.make_room.ensures.room))
 
 pub returns-in-Ok-clause-places : goal.returns-in-Ok-clause-places
 returns-in-Ok-clause-places c = subst (TakesPlaces c.args.self.now) (sym c.in-Ok.ensures.entered) (written-places c.args.self.now c.args.place 0)
 
 pub returns-in-Ok-enter-clause-places : goal.returns-in-Ok-enter-clause-places
 returns-in-Ok-enter-clause-places c =
-    let reserved : Arena = record c.args.self.now { children = c.make_room.new.children } in
-    then-places c.args.self.now reserved c.put.new.self (same-places c.args.self.now reserved c.make_room.ensures.items refl)
+    let reserved = c.make_room.new.self in
+    then-places c.args.self.now reserved c.put.new.self c.make_room.ensures.places
     (then-places reserved c.enter-2.new.self c.put.new.self (subst (TakesPlaces reserved) (sym c.in-Ok-enter.ensures.entered) (written-places reserved c.args.place c.next_place-at.result)) c.put.ensures.places)

@@ -1,4 +1,4 @@
-use Rattle.std.proofs.Common.{◌∙◌, sym, ap, arith, ℕ, List, [], ◌∷◌, length, subst}
+use Rattle.std.proofs.Common.{◌∙◌, sym, ap, arith, ℕ, List, [], ◌∷◌, ◌+◌, length, subst}
 use Rattle.std.proofs.lemmas.List.{length-append}
 use Rattle.judy_model.specs.Arrays.{ArrayOf}
 use Rattle.judy_model.specs.Keys.{word_order}
@@ -12,9 +12,30 @@ use Rattle.judy_sl.proofs.arena.Arena.graft.Goals as goal
 pub hang-requires-2-clause-there : goal.hang-requires-2-clause-there
 hang-requires-2-clause-there c = twig-stays c.args.self.now c.hang.new.self c.args.branch.fork c.hang.new.level c.args.branch.old c.args.branch.new c.hang.ensures.hung c.requires.sound.new
 
+pub hang-requires-clause-room : goal.hang-requires-clause-room
+hang-requires-clause-room c = (let r = c.requires.room in omega (arith, r))
+
+pub hang-requires-2-clause-room : goal.hang-requires-2-clause-room
+hang-requires-2-clause-room c = c.hang.ensures.room 1 (let r = c.requires.room in omega (arith, r))
+
+pub hang-requires-2-clause-known : goal.hang-requires-2-clause-known
+hang-requires-2-clause-known c = c.hang.ensures.places.known c.requires.known
+
+pub put-place-requires-clause-known : goal.put-place-requires-clause-known
+put-place-requires-clause-known c = c.loop-piece.invariant.places.known c.requires.known
+
+pub put-place-requires-clause-room : goal.put-place-requires-clause-room
+put-place-requires-clause-room c =
+    let l = ap (λ (xs : List (ℕ × ArrayOf word_order)). length xs) c.in-Some.ensures.items in
+    let a = length-append c.pop.new.self.items ((c.in-Some.piece, c.in-Some.above) ∷ []) in
+    let r = c.loop-piece.invariant.room in
+    omega (arith, l, a, r)
+
 pub loop-piece-init : goal.loop-piece-init
 loop-piece-init c = record {
-  room = omega arith;
+  room =
+      c.hang-2.ensures.room (length c.args.branch.upper.items)
+      (c.hang.ensures.room (length c.args.branch.upper.items + 1) (let r = c.requires.room in omega (arith, r)));
   inside = omega arith;
   singles = c.requires.sound.singles;
   stands = stands-hung c.hang.new.self c.hang-2.new.self c.hang.new.level c.hang-2.new.level c.args.branch.new c.hang-2.ensures.hung c.args.at (stands-hung c.args.self.now c.hang.new.self c.args.branch.fork c.hang.new.level c.args.branch.old c.hang.ensures.hung c.args.at c.requires.taken);
@@ -33,7 +54,7 @@ loop-piece-preserved c =
     let l = ap (λ (xs : List (ℕ × ArrayOf word_order)). length xs) items in
     let a = length-append c.pop.new.self.items ((c.in-Some.piece, c.in-Some.above) ∷ []) in
     record {
-      room = (let r = c.loop-piece.invariant.room in omega (arith, l, a, r));
+      room = c.put-place.ensures.room (length c.pop.new.self.items) (let r = c.loop-piece.invariant.room in omega (arith, l, a, r));
       inside = (let r = c.loop-piece.invariant.inside in omega (arith, r));
       singles = single.0;
       stands = stands-put c.loop-piece.self c.put-place.new.self _ c.put-place.result c.put-place.ensures.put c.args.at c.loop-piece.invariant.stands;

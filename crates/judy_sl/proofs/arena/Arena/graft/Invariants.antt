@@ -1,17 +1,17 @@
-use Rattle.std.proofs.Common.{◌≢◌, ℕ, ◌+◌, ◌<◌, ◌≤◌, List, length, vec_len, vec_capacity}
+use Rattle.std.proofs.Common.{◌≢◌, ℕ, ◌<◌, List, length, vec_len}
 use Rattle.judy_model.specs.Keys.{IsStringKey}
 use Rattle.judy_sl.specs.Pieces.{pieces}
 use Rattle.judy_sl.specs.Ways.{left_of}
 use Rattle.judy_sl.specs.Grown.{IsGraft}
 use Rattle.judy_sl.specs.Branches.{AreSingle}
 use Rattle.judy_sl.specs.World.{gone}
-use Rattle.judy_sl.specs.Arenas.{node_of, child_at, TakesPlaces}
+use Rattle.judy_sl.specs.Arenas.{node_of, child_at, TakesPlaces, HasRoom}
 use Rattle.judy_sl.proofs.Grafted.{IsGrafting}
 use Rattle.judy_sl.proofs.arena.Arena.graft.Given as goal
 
 abbrev pub invariant-loop-piece : goal.invariant-loop-piece
 invariant-loop-piece l = record {
-  room : vec_len l.self.children + length l.upper.items ≤ vec_capacity l.self.children;
+  room : HasRoom l.self (length l.upper.items);
   inside : l.at < vec_len l.self.children;
   singles : AreSingle l.upper.items;
   stands : node_of (child_at l.self l.at) ≢ gone;

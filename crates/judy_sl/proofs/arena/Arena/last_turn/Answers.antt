@@ -1,11 +1,10 @@
-use Rattle.std.proofs.Common.{◌≡◌, ◌≢◌, ◌∙◌, sym, ap, arith, drop, true, false, subst, refl, suc, Some, None, IfSome}
+use Rattle.std.proofs.Common.{◌≡◌, ◌≢◌, ◌∙◌, sym, ap, arith, drop, true, false, subst, refl, suc, Some}
 use Rattle.std.proofs.lemmas.List.{take_rest}
 use Rattle.std.specs.FinMap.{get}
 use Rattle.judy_sl.specs.declared.child.Child.TheVariants.{Free, Tail, Level}
-use Rattle.judy_sl.specs.declared.scans.Turn.{Turn}
 use Rattle.judy_sl.specs.Pieces.{piece_of, pieces}
 use Rattle.judy_sl.specs.Arenas.{world_of, node_of, HasText}
-use Rattle.judy_sl.specs.Scans.{is_beyond, along_bytes, meets, IsNearestEntry, IsEntryOf, piece_in, IsTurnAt}
+use Rattle.judy_sl.specs.Scans.{is_beyond, along_bytes, meets, IsNearestEntry, IsEntryOf, piece_in}
 use Rattle.judy_sl.proofs.PieceLemmas.{text_from_bytes, piece-IsInner, text-drop}
 use Rattle.judy_sl.proofs.OnWay.{child_from}
 use Rattle.judy_sl.proofs.ScanLevels.{none_absent, none_child, none_tail}

@@ -28,7 +28,7 @@ returns-then-found-clause-answer c =
 
 pub returns-then-found-clause-deleted : goal.returns-then-found-clause-deleted
 returns-then-found-clause-deleted c =
-    rw (← c.self.view_is) (key-deleted c.self.inside.limit c.self.inside.arena c.args.key.now (c.is_key.ensures.0 c.if-not-is_key.false) c.del-found.new.self c.del-found.ensures.shrunk)
+    c.give_back.ensures ∙ rw (← c.self.view_is) (key-deleted c.self.inside.limit c.self.inside.arena c.args.key.now (c.is_key.ensures.0 c.if-not-is_key.false) c.del-found.new.self c.del-found.ensures.shrunk)
 
 pub returns-else-found-clause-answer : goal.returns-else-found-clause-answer
 returns-else-found-clause-answer c =

@@ -7,7 +7,7 @@ use Rattle.judy_sl.proofs.Maps.{empty-map}
 use Rattle.judy_sl.proofs.strings.JudySl.free_array.Goals as goal
 
 pub invariant_of-self : goal.invariant_of-self
-invariant_of-self c = strings-new c.self.inside.limit c.new.result c.new.ensures.items c.new.ensures.root c.self.invariant.holds_some c.self.invariant.limit_fits
+invariant_of-self c = strings-new c.self.inside.limit c.new.result c.new.ensures.items c.new.ensures.root c.new.ensures.none_free c.self.invariant.holds_some c.self.invariant.limit_fits
 
 pub returns-clause-emptied : goal.returns-clause-emptied
 returns-clause-emptied c =

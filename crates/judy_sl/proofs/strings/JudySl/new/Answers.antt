@@ -6,7 +6,7 @@ use Rattle.judy_sl.proofs.Maps.{empty-map}
 use Rattle.judy_sl.proofs.strings.JudySl.new.Goals as goal
 
 pub invariant_of-result : goal.invariant_of-result
-invariant_of-result c = strings-new c.args.limit c.new.result c.new.ensures.items c.new.ensures.root c.requires.some c.requires.most
+invariant_of-result c = strings-new c.args.limit c.new.result c.new.ensures.items c.new.ensures.root c.new.ensures.none_free c.requires.some c.requires.most
 
 pub returns : goal.returns
 returns c = ap (λ (map : FinMap byte_order ℕ). record { limit = c.args.limit; map = map }) (empty-map c.new.result c.new.ensures.items c.new.ensures.root)

@@ -1,5 +1,6 @@
-use Rattle.std.proofs.Common.{refl, ◌∙◌, arith}
-use Rattle.judy_word.proofs.ArrayFacts.{inserted-value, inserted-there, inserted-written}
+use Rattle.std.proofs.Common.{not, refl, ap, ◌∙◌, arith}
+use Rattle.judy_word.specs.WordArrays.{seen_as, with_value}
+use Rattle.judy_word.proofs.ArrayFacts.{array-written, inserted-value, inserted-there, inserted-written}
 use Rattle.judy_word.proofs.judyl.JudyL.ins.Goals as goal
 
 pub slot_of-requires : goal.slot_of-requires
@@ -13,6 +14,10 @@ returns c =
         (λ left ok. record {
           array = inserted-written c.self.inside.tree c.set.new.self c.told.ensures c.args.i c.in_ok-set.ensures.set left;
           loose = c.set.ensures.loose;
+          present = λ there.
+              let kept = c.in_ok-set.ensures.present (c.in_ok-set.ensures.answer ∙ ap not there) in
+              array-written c.set.new.self c.told.ensures c.args.i (inserted-there c.self.inside.tree c.set.new.self c.told.ensures c.args.i c.in_ok-set.ensures.set) left
+              ∙ ap (λ held. with_value (seen_as held) c.args.i left) kept;
         }),
         tt,
       ),

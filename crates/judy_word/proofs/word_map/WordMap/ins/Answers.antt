@@ -1,4 +1,4 @@
-use Rattle.std.proofs.Common.{refl, ◌∙◌, ap}
+use Rattle.std.proofs.Common.{refl, ◌∙◌}
 use Rattle.judy_model.proofs.Lent.{lent}
 use Rattle.judy_word.proofs.ArrayFacts.{put-value, put-there, put-written}
 use Rattle.judy_word.proofs.word_map.WordMap.ins.Goals as goal

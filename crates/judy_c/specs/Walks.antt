@@ -1,0 +1,22 @@
+-- How a walk of C fills the caller's buffer.
+use Rattle.std.specs.Prelude.{◌≡◌, ◌++◌, ℕ, List, length, take, drop, map, min}
+use Rattle.std.specs.FinMap.{FinMap, keys, entries}
+use Rattle.judy_model.specs.Keys.{word_order}
+use Rattle.judy_model.specs.Counts.{rank}
+use Rattle.judy_c.specs.declared.walks.Pair.{Pair}
+
+-- The keys from a word on.
+abbrev pub keys_from : FinMap word_order ℕ → ℕ → List ℕ
+keys_from map from = drop (rank map from) (keys map)
+
+-- Keys with their values, as C has them.
+abbrev pub pairs_of : List (ℕ × ℕ) → List Pair
+pairs_of entries = map (λ entry. record { key = entry.0; value = entry.1 }) entries
+
+-- The keys from a word on with their values.
+abbrev pub pairs_from : FinMap word_order ℕ → ℕ → List Pair
+pairs_from map from = pairs_of (drop (rank map from) (entries map))
+
+-- Of what is still to come, as many as fit are written to the beginning of the buffer, and counted. Behind them it stays.
+abbrev pub IsFilled : {A : Type 0} → List A → List A → ℕ → List A → Type 0
+IsFilled rest before count after = (count ≡ min (length before) (length rest)) × (after ≡ take count rest ++ drop count before)

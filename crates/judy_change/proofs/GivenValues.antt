@@ -1,0 +1,141 @@
+-- A key that is given another value: in a node without children, and below a branch.
+use Rattle.std.proofs.Common.{◌≡◌, ℕ, zero, suc, ◌+◌, ◌*◌, ◌^◌, ◌<◌, ◌≤◌, ◌||◌, Bool, true, false, cond, eqb, List, [], ◌∷◌, length, set, get_or, Some, None, slice_get, Option, Result, Ok, Err, refl, sym, ap, ◌∙◌, subst, ⊎_elim, arith}
+use Rattle.std.proofs.lemmas.Bool.{cases_order, ne_eqb}
+use Rattle.judy_model.specs.WordBytes.{number_of}
+use Rattle.judy_model.specs.Forms.{branch}
+use Rattle.judy_bits.specs.ByteSets.{has, place}
+use Rattle.judy_block.specs.Contents.{Contents}
+use Rattle.judy_leaf.specs.KeyLists.{keys_of}
+use Rattle.judy_leaf.specs.Leaves.{leaf_list}
+use Rattle.judy_leaf.specs.BitLeaves.{bit_list}
+use Rattle.judy_node.specs.Trees.{Pairs, Tree, IsBranch, AreChildren, branch_pairs, branch_tree, forms_in, join}
+use Rattle.judy_node.specs.Populations.{AreSums}
+use Rattle.judy_node.specs.Kinds.{tree_of, imm_pairs, bit_tree, IsLevel}
+use Rattle.judy_node.specs.Slots.{value_of, with_value}
+use Rattle.judy_node.specs.Seats.{IsSeat}
+use Rattle.judy_node.specs.declared.sums.Sums.{Sums}
+use Rattle.judy_node.specs.declared.child.KindOf.{KindOf}
+use Rattle.judy_node.specs.declared.child.KindOf.TheVariants.{Imm, Leaf, Bit, Branch}
+use Rattle.judy_node.proofs.SumFacts.{sums-same}
+use Rattle.judy_node.proofs.SeatFacts.{bit-below, leaf-seat, bit-seat}
+use Rattle.judy_node.proofs.SlotFacts.{written-length, join-value, join-written, children-written, forms-written}
+use Rattle.judy_change.specs.Inserted.{has_key, IsAdded, IsInserted}
+use Rattle.judy_change.specs.Exchanged.{IsExchanged}
+use Rattle.judy_change.specs.Removals.{IsChildless}
+use Rattle.judy_change.proofs.KidInserts.{kid_within}
+use Rattle.judy_change.proofs.PairPlaces.{length-with_pair}
+
+-- An insert of an absent key adds it.
+pub added_absent : (E : Type 0) (key value : ℕ) (old new : Tree) (added : Bool) → has_key key old ≡ false → IsInserted {E = E} key value old new (Ok added) → IsAdded key value old new
+added_absent E key value old new true absent is = is
+added_absent E key value old new false absent is = let never : true ≡ false = sym is.0 ∙ absent in cc
+
+-- A tree has no fewer keys than before.
+pub no_fewer : (E : Type 0) (key value : ℕ) (old new : Tree) (answer : Result (Option ℕ) E) → IsExchanged {E = E} key value old new answer → length old.pairs ≤ length new.pairs
+no_fewer E key value old new (Ok None) is =
+    let longer = ap length is.pairs ∙ length-with_pair key value old.pairs in
+    omega arith
+no_fewer E key value old new (Ok (Some was)) is =
+    let same = ap (λ (tree : Tree). length tree.pairs) is.1 ∙ written-length key value old.pairs in
+    omega arith
+no_fewer E key value old new (Err refused) is =
+    let same = ap (λ (tree : Tree). length tree.pairs) is.1 in
+    omega arith
+
+-- ---- nodes without children
+
+-- A key that is there has a value.
+pub there_valued : (key : ℕ) (pairs : Pairs) → has (keys_of pairs) key ≡ true → value_of key pairs ≡ None → ⊥
+there_valued key [] held none = cc
+there_valued key (pair ∷ pairs) held none =
+    elim (eqb pair.0 key) as (λ b. (b || has (keys_of pairs) key) ≡ true → cond b (Some pair.1) (value_of key pairs) ≡ None → ⊥) [
+      | true ↦ λ _ never. cc
+      | false ↦ λ rest without. there_valued key pairs rest without
+    ] held none
+
+-- An immediate with a value has its key alone.
+pub immediate_there : (words head word key : ℕ) → words ≡ 1 → has (keys_of (imm_pairs words head word)) key ≡ true → key ≡ head
+immediate_there zero head word key one held = let never : ⊥ = omega arith in absurd never
+immediate_there (suc words) head word key one held = ⊎_elim
+    (λ same. sym same)
+    (λ apart.
+    let differ : head ≡ key → ⊥ = λ e. ⊎_elim (λ less. omega arith) (λ more. omega arith) apart in
+    let never : false ≡ true = sym (ap (λ b. b || false) (ne_eqb head key differ)) ∙ held in
+    cc)
+    (cases_order head key)
+
+-- A key of a bitmap leaf isn't below those that begin with the bytes that it skips.
+pub bit_front : (words skipped key : ℕ) (block : Contents) → has_key key (bit_tree words skipped block) ≡ true → skipped * 256 ≤ key
+bit_front words skipped key block held = ⊎_elim
+    (λ same. omega arith)
+    (λ apart. ⊎_elim
+    (λ (below : key < skipped * 256). absurd (there_valued key (bit_tree words skipped block).pairs held (bit-below words skipped key block below)))
+    (λ above. omega arith)
+    apart)
+    (cases_order key (skipped * 256))
+
+-- Where the value of a key stands, as a search tells.
+pub leaf_spot : {V : _} (words : ℕ) (kind : KindOf V) (count : ℕ) (block : Contents) (key at : ℕ) → kind ≡ Leaf count block → IsLevel words kind → Some at ≡ place (keys_of (leaf_list words count block).pairs) key → IsSeat words kind key at 0
+leaf_spot words kind count block key at is level found =
+    subst (λ k. IsSeat words k key at 0) (sym is) (leaf-seat words count key at block (subst (IsLevel words) is level) found)
+
+pub bit_spot : {V : _} (words : ℕ) (kind : KindOf V) (skipped : ℕ) (block : Contents) (key low at : ℕ) → kind ≡ Bit skipped block → key ≡ skipped * 256 + low → Some at ≡ place (keys_of (bit_list words block).pairs) low → IsSeat words kind key (4 + at) 0
+bit_spot words kind skipped block key low at is key_is found =
+    subst (λ k. IsSeat words k key (4 + at) 0) (sym is) (at, low, refl, key_is, (bit-seat words low at block found).0)
+
+-- A node that is the same tree as one without children has none.
+pub childless_same : {V : _} (words : ℕ) (old new : KindOf V) → tree_of words new ≡ tree_of words old → IsChildless old → IsChildless new
+childless_same words old (Imm head word) same is = tt
+childless_same words old (Leaf count block) same is = tt
+childless_same words old (Bit skipped block) same is = tt
+childless_same words (Imm head word) (Branch b) same is = let never = ap (λ (tree : Tree). tree.form) same in cc
+childless_same words (Leaf count block) (Branch b) same is = let never = ap (λ (tree : Tree). tree.form) same in cc
+childless_same words (Bit skipped block) (Branch b) same is = let never = ap (λ (tree : Tree). tree.form) same in cc
+childless_same words (Branch old) (Branch b) same is = is
+
+-- ---- branches
+
+module _ (words width : ℕ) (skipped bytes : List ℕ) (kids : List Tree) (count : ℕ) (is : IsBranch words width skipped bytes kids count) (byte rest : ℕ) (fits : rest < 256 ^ width) (at : ℕ) (kid : Tree)
+    (here : slice_get bytes at ≡ Some byte) (kid_is : kid ≡ get_or kids at kid) where
+  abbrev whole_key : ℕ
+  whole_key = (number_of skipped * 256 + byte) * 256 ^ width + rest
+
+  -- The value of the key is the child's.
+  pub kid_value : value_of whole_key (branch_pairs width skipped bytes kids) ≡ value_of rest kid.pairs
+  kid_value =
+      join-value words width 0 (number_of skipped * 256) at byte rest bytes kids kid is.parts.children here fits
+      ∙ ap (λ (k : Tree). value_of rest k.pairs) (sym kid_is)
+
+  module _ (one : words ≡ 1) (value : ℕ) (new : Tree) (same : new ≡ with_value kid rest value) where
+    now_set : set kids at new ≡ set kids at (with_value (get_or kids at kid) rest value)
+    now_set = ap (set kids at) (same ∙ ap (λ (k : Tree). with_value k rest value) kid_is)
+
+    now_pairs : branch_pairs width skipped bytes (set kids at new) ≡ (with_value (branch_tree width skipped bytes kids count) whole_key value).pairs
+    now_pairs =
+        ap (join (256 ^ width) (number_of skipped * 256) bytes) now_set
+        ∙ join-written words width 0 (number_of skipped * 256) at byte rest value bytes kids kid is.parts.children here fits
+
+    now_forms : forms_in (set kids at new) ≡ forms_in kids
+    now_forms = ap forms_in now_set ∙ forms-written at rest value kids kid
+
+    -- The branch is the old one with that value.
+    pub kid_over : branch_tree width skipped bytes (set kids at new) count ≡ with_value (branch_tree width skipped bytes kids count) whole_key value
+    kid_over = λ t. record { width = length skipped + 1 + width; pairs = now_pairs t; form = branch skipped bytes count ∷ now_forms t }
+
+    pub kid_over_branch : IsBranch words width skipped bytes (set kids at new) count
+    kid_over_branch =
+        record {
+          parts = record {
+            some_width = is.parts.some_width;
+            within = is.parts.within;
+            skipped_bytes = is.parts.skipped_bytes;
+            children = subst (AreChildren words width 0 bytes) (sym now_set) (children-written words width 0 at rest value bytes kids kid one is.parts.children);
+            counted = is.parts.counted ∙ sym (ap length now_pairs ∙ written-length whole_key value (branch_pairs width skipped bytes kids));
+          };
+          holds = is.holds;
+        }
+
+    pub kid_over_sums : (sums : Sums) → AreSums sums kids → AreSums sums (set kids at new)
+    kid_over_sums sums =
+        sums-same sums kids at new kid (kid_within words width skipped bytes kids count is byte rest fits at kid here kid_is)
+        (ap (λ (k : Tree). length k.pairs) same ∙ written-length rest value kid.pairs ∙ ap (λ (k : Tree). length k.pairs) kid_is)

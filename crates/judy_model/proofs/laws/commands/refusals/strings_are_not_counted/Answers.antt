@@ -1,0 +1,23 @@
+use Rattle.std.proofs.Common.{codes, refl}
+use Rattle.judy_model.specs.CommandWords as command
+use Rattle.judy_model.specs.Arrays.{judysl}
+use Rattle.judy_model.proofs.RefusedCommands.{lacks_one, lacks_two}
+use Rattle.judy_model.proofs.laws.commands.refusals.strings_are_not_counted.Goals as goal
+
+pub returns-clause-first : goal.returns-clause-first
+returns-clause-first c = lacks_one judysl (codes "fe") (command.empty command.first) (record { plain = refl; named = refl }) (λ _ _. refl)
+
+pub returns-clause-next : goal.returns-clause-next
+returns-clause-next c = lacks_one judysl (codes "ne") (command.empty command.next) (record { plain = refl; named = refl }) (λ _ _. refl)
+
+pub returns-clause-last : goal.returns-clause-last
+returns-clause-last c = lacks_one judysl (codes "le") (command.empty command.last) (record { plain = refl; named = refl }) (λ _ _. refl)
+
+pub returns-clause-prev : goal.returns-clause-prev
+returns-clause-prev c = lacks_one judysl (codes "pe") (command.empty command.prev) (record { plain = refl; named = refl }) (λ _ _. refl)
+
+pub returns-clause-by_count : goal.returns-clause-by_count
+returns-clause-by_count c = lacks_one judysl (codes "bycount") command.by_count (record { plain = refl; named = refl }) (λ _ _. refl)
+
+pub returns-clause-count : goal.returns-clause-count
+returns-clause-count c = lacks_two judysl (codes "count") command.count (record { plain = refl; named = refl }) (λ _ _ _. refl)
