@@ -12,12 +12,15 @@
  *     read one at the same time, and each thread may change arrays of its own; the library has no data but the arrays'.
  *   - A copy of a handle's word is the same array, so after a change of the one the other must not be used.
  *   - A slot, the pointer to the value of a key, may be read and written until the next call that is handed the array to change
- *     it: `ins`, `put`, `del` or `free`.
- *   - A pointer through which a call answers points to a word of the caller's, and a pointer to a key or a buffer to as many bytes as
- *     are told beside it; it isn't NULL, also where these are none. No two of one call overlap.
+ *     it: `ins`, `put`, `insert`, `del`, `remove` or `free`.
+ *   - A pointer through which a call answers points to a word of the caller's, and a pointer to a key or a buffer to as many bytes, keys
+ *     or pairs as are told beside it; it isn't NULL, also where these are none. No two of one call overlap.
  *   - No call is made from within a signal handler.
  *
- * Calls that answer through a pointer write there only where they answer true, or SELLUMAQ_FOUND.
+ * Cost, proved of the queries of words: whatever the array holds, `test`, `get` and `by_count` enter at most 8 nodes of its tree, a search
+ * for a neighbour, or for the nearest word that is no key, at most 15, and `count` at most 16.
+ *
+ * Calls that answer through a pointer write there only where they answer true, or SELLUMAQ_FOUND; `insert` where it answers SELLUMAQ_PRESENT.
  */
 #ifndef SELLUMAQ_H
 #define SELLUMAQ_H
@@ -68,6 +71,11 @@ bool sellumaq_judy1_next_empty(const sellumaq_judy1 *set, uint64_t from, uint64_
 bool sellumaq_judy1_last_empty(const sellumaq_judy1 *set, uint64_t from, uint64_t *word);
 bool sellumaq_judy1_prev_empty(const sellumaq_judy1 *set, uint64_t from, uint64_t *word);
 
+/* The keys from `from` on, in ascending order, as many as the buffer has room for; answers how many these are. Fewer than that are the
+ * last ones, and what stands behind them in the buffer stays. The next call goes on from above the last key; the array may change
+ * between the two. A walk of 64 keys a call takes a small part of the time of `next`. */
+size_t sellumaq_judy1_walk(const sellumaq_judy1 *set, uint64_t from, uint64_t *keys, size_t capacity);
+
 /* How many keys there are. */
 uint64_t sellumaq_judy1_len(const sellumaq_judy1 *set);
 
@@ -92,6 +100,9 @@ bool sellumaq_judyl_ins(sellumaq_judyl *map, uint64_t key, uint64_t **slot);
  * key takes less time by this than by its slot. */
 uint32_t sellumaq_judyl_put(sellumaq_judyl *map, uint64_t key, uint64_t value);
 
+/* The same, and where the key was there it tells the value that it had. It takes no second way down the map. */
+uint32_t sellumaq_judyl_insert(sellumaq_judyl *map, uint64_t key, uint64_t value, uint64_t *was);
+
 /* The value of a key; false where the key is absent. */
 bool sellumaq_judyl_get(const sellumaq_judyl *map, uint64_t key, uint64_t *value);
 
@@ -101,6 +112,9 @@ bool sellumaq_judyl_slot(const sellumaq_judyl *map, uint64_t key, uint64_t **slo
 /* Takes a key out with its value; true where it was there. Never refused. After the last key the handle may still hold a little memory,
  * up to `free`. */
 bool sellumaq_judyl_del(sellumaq_judyl *map, uint64_t key);
+
+/* The same, and where the key was there it tells the value that it had. */
+bool sellumaq_judyl_remove(sellumaq_judyl *map, uint64_t key, uint64_t *was);
 
 /* The nearest keys: the least from `from` on, the least above it, the greatest up to it, the greatest below it. False where
  * there is none. */
@@ -120,6 +134,13 @@ bool sellumaq_judyl_first_empty(const sellumaq_judyl *map, uint64_t from, uint64
 bool sellumaq_judyl_next_empty(const sellumaq_judyl *map, uint64_t from, uint64_t *word);
 bool sellumaq_judyl_last_empty(const sellumaq_judyl *map, uint64_t from, uint64_t *word);
 bool sellumaq_judyl_prev_empty(const sellumaq_judyl *map, uint64_t from, uint64_t *word);
+
+/* A key with its value. */
+typedef struct { uint64_t key, value; } sellumaq_pair;
+
+/* The keys from `from` on with their values, by ascending key, as many as the buffer has room for; answers how many these are, as
+ * `sellumaq_judy1_walk` does. */
+size_t sellumaq_judyl_walk(const sellumaq_judyl *map, uint64_t from, sellumaq_pair *pairs, size_t capacity);
 
 /* How many keys there are. */
 uint64_t sellumaq_judyl_len(const sellumaq_judyl *map);

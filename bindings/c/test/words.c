@@ -30,6 +30,22 @@ static bool told_both(bool answer, const uint64_t *found, const uint64_t *value,
     return told(answer, found, place) && (!answer || *value == values[place]);
 }
 
+/* Whether the walks from a place on write the table's keys, as many as fit and no word behind them. */
+static void walks(sellumaq_judy1 *set, sellumaq_judyl *map, int from, size_t capacity) {
+    uint64_t keys[WORDS + 1];
+    sellumaq_pair pairs[WORDS + 1];
+    memset(keys, 0x5a, sizeof keys);
+    memset(pairs, 0x5a, sizeof pairs);
+    uint64_t beyond = keys[0], left = held_in(from, WORDS - 1);
+    size_t count = left < capacity ? left : capacity;
+    CHECK(sellumaq_judy1_walk(set, word_at((unsigned)from), keys, capacity) == count);
+    CHECK(sellumaq_judyl_walk(map, word_at((unsigned)from), pairs, capacity) == count);
+    int place = next_held(from);
+    for (size_t n = 0; n < count; n++, place = next_held(place + 1))
+        CHECK(keys[n] == word_at((unsigned)place) && pairs[n].key == keys[n] && pairs[n].value == values[place]);
+    for (size_t n = count; n <= WORDS; n++) CHECK(keys[n] == beyond && pairs[n].key == beyond && pairs[n].value == beyond);
+}
+
 static void compare(sellumaq_judy1 *set, sellumaq_judyl *map, int place) {
     uint64_t from = word_at((unsigned)place), found = 0, value = 0, *slot = NULL;
     CHECK(sellumaq_judy1_test(set, from) == held[place]);
@@ -52,6 +68,7 @@ static void compare(sellumaq_judy1 *set, sellumaq_judyl *map, int place) {
     CHECK(told(sellumaq_judy1_by_count(set, n, &found), &found, n ? prev_held(place) : -1));
     CHECK(told(sellumaq_judyl_by_count(map, n, &found), &found, n ? prev_held(place) : -1));
     CHECK(sellumaq_judy1_len(set) == held_in(0, WORDS - 1) && sellumaq_judyl_len(map) == held_in(0, WORDS - 1));
+    walks(set, map, place, place % 3 ? (size_t)place % 16 : WORDS);
 }
 
 static void empties(sellumaq_judy1 *set, sellumaq_judyl *map) {
@@ -94,6 +111,18 @@ int main(void) {
             CHECK(sellumaq_judyl_put(&map, key, (uint64_t)turn) == (held[place] ? SELLUMAQ_PRESENT : SELLUMAQ_ADDED));
             held[place] = true;
             values[place] = (uint64_t)turn;
+        } else if (any() % 3 == 0) {
+            uint64_t was = 977;
+            CHECK(sellumaq_judy1_set(&set, key) == (held[place] ? SELLUMAQ_PRESENT : SELLUMAQ_ADDED));
+            CHECK(sellumaq_judyl_insert(&map, key, (uint64_t)turn, &was) == (held[place] ? SELLUMAQ_PRESENT : SELLUMAQ_ADDED));
+            CHECK(was == (held[place] ? values[place] : 977));
+            held[place] = true;
+            values[place] = (uint64_t)turn;
+        } else if (any() % 2 == 0) {
+            uint64_t was = 977;
+            CHECK(sellumaq_judy1_unset(&set, key) == held[place] && sellumaq_judyl_remove(&map, key, &was) == held[place]);
+            CHECK(was == (held[place] ? values[place] : 977));
+            held[place] = false;
         } else {
             CHECK(sellumaq_judy1_unset(&set, key) == held[place] && sellumaq_judyl_del(&map, key) == held[place]);
             held[place] = false;

@@ -15,8 +15,10 @@ typedef struct {
     uint64_t end;  /* the last word that may come */
     Changes changes;
     int most, taken, given;
-    uint64_t keys[PAIRS];
-    uint64_t values[PAIRS];
+    union {
+        uint64_t keys[PAIRS];       /* through a set */
+        sellumaq_pair pairs[PAIRS]; /* through a map */
+    };
 } Cursor;
 
 PyObject *new_word_cursor(PyTypeObject *type, Words *words, enum part part, uint64_t low, uint64_t high, bool reverse)
@@ -38,39 +40,36 @@ static bool is_beyond(const Cursor *self, uint64_t key)
     return self->reverse ? key < self->end : key > self->end;
 }
 
-static int take_keys(Cursor *self)
+static uint64_t key_at(const Cursor *self, int place)
+{
+    return self->words->is_map ? self->pairs[place].key : self->keys[place];
+}
+
+static int walk_from(Cursor *self, uint64_t from, int most)
 {
     Handle *handle = &self->words->handle;
-    const WordCalls *calls = self->words->calls;
-    Search *go_on = self->reverse ? calls->prev : calls->next;
-    uint64_t key;
-    int taken = 0;
-    bool found = (self->reverse ? calls->last : calls->first)(handle, self->from, &key);
-    while (found && !is_beyond(self, key)) {
-        self->keys[taken++] = key;
-        if (taken == self->most)
-            break;
-        found = go_on(handle, key, &key);
-    }
+    return (int)(self->words->is_map ? sellumaq_judyl_walk(&handle->map, from, self->pairs, (size_t)most)
+                                     : sellumaq_judy1_walk(&handle->set, from, self->keys, (size_t)most));
+}
+
+static int take_up(Cursor *self)
+{
+    int taken = walk_from(self, self->from, self->most);
+    while (taken > 0 && is_beyond(self, key_at(self, taken - 1)))
+        taken--;
     return taken;
 }
 
-static int take_pairs(Cursor *self)
+/* The keys that lie last before `from`, up to it: they are counted, and the first of them is found by its place. */
+static int take_down(Cursor *self)
 {
-    sellumaq_judyl *map = &self->words->handle.map;
-    uint64_t key, value;
-    int taken = 0;
-    bool found = self->reverse ? sellumaq_judyl_last_entry(map, self->from, &key, &value)
-                               : sellumaq_judyl_first_entry(map, self->from, &key, &value);
-    while (found && !is_beyond(self, key)) {
-        self->keys[taken] = key;
-        self->values[taken++] = value;
-        if (taken == self->most)
-            break;
-        uint64_t from = key;
-        found = self->reverse ? sellumaq_judyl_prev_entry(map, from, &key, &value) : sellumaq_judyl_next_entry(map, from, &key, &value);
-    }
-    return taken;
+    Handle *handle = &self->words->handle;
+    const WordCalls *calls = self->words->calls;
+    uint64_t first, left = calls->count(handle, self->end, self->from);
+    int most = left < (uint64_t)self->most ? (int)left : self->most;
+    if (most == 0 || !calls->by_count(handle, calls->count(handle, 0, self->from) - (uint64_t)most + 1, &first))
+        return 0;
+    return walk_from(self, first, most);
 }
 
 /* Ends the walk, which lets the array go. */
@@ -97,17 +96,23 @@ static bool is_stale(const Cursor *self)
     return self->changes.keys != now->keys || (self->part != KEYS && self->changes.values != now->values);
 }
 
+/* Where the pair stands that is given after so many. */
+static int place_of(const Cursor *self, int given)
+{
+    return self->reverse ? self->taken - 1 - given : given;
+}
+
 /* Takes the next pairs; false where there are none. */
 static bool take(Cursor *self)
 {
-    if (self->given > 0 && !step_over(self, self->keys[self->given - 1]))
+    if (self->given > 0 && !step_over(self, key_at(self, place_of(self, self->given - 1))))
         return false;
     if (is_beyond(self, self->from))
         return false;
     self->most = is_stale(self) ? FIRST_PAIRS : self->most;
     self->changes = self->words->changes;
     self->given = 0;
-    self->taken = self->part == KEYS ? take_keys(self) : take_pairs(self);
+    self->taken = self->reverse ? take_down(self) : take_up(self);
     self->most = PAIRS;
     return self->taken > 0;
 }
@@ -121,10 +126,12 @@ static PyObject *cursor_next(PyObject *object)
         finish(self);
         return NULL;
     }
-    int at = self->given++;
+    int at = place_of(self, self->given++);
+    if (self->part == KEYS)
+        return PyLong_FromUnsignedLongLong(key_at(self, at));
     if (self->part == VALUES)
-        return PyLong_FromUnsignedLongLong(self->values[at]);
-    return make_part(self->part, PyLong_FromUnsignedLongLong(self->keys[at]), self->values[at]);
+        return PyLong_FromUnsignedLongLong(self->pairs[at].value);
+    return make_part(ITEMS, PyLong_FromUnsignedLongLong(self->pairs[at].key), self->pairs[at].value);
 }
 
 static int cursor_traverse(PyObject *object, visitproc visit, void *arg)

@@ -379,9 +379,10 @@ static PyObject *map_pop(PyObject *object, PyObject *const *arguments, Py_ssize_
     uint64_t word, value;
     if (!has_default("pop", count, 2))
         return NULL;
-    int found = find_value(self, arguments[0], &word, &value);
+    int found = read_key(arguments[0], &word);
+    if (found == 1)
+        found = sellumaq_judyl_remove(&self->handle.map, word, &value);
     if (found == 1) {
-        sellumaq_judyl_del(&self->handle.map, word);
         self->changes.keys++;
         return PyLong_FromUnsignedLongLong(value);
     }

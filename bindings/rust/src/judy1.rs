@@ -2,6 +2,7 @@
 use crate::array::array;
 use crate::span::{Found, Span};
 use crate::walk::walks;
+use crate::way::Way;
 use crate::words::{collected, word_array};
 use crate::{no_room, NoMemory};
 use sellumaq_sys as sys;
@@ -9,10 +10,8 @@ use std::borrow::Borrow;
 use std::fmt;
 
 mod algebra;
-mod way;
 
 pub use algebra::{Difference, Intersection, SymmetricDifference, Union};
-use way::Way;
 
 array!(
     /// An ordered set of words.
@@ -27,14 +26,14 @@ array!(
 );
 
 word_array!(
-    Judy1; u64; Way;
+    Judy1; u64; u64, sellumaq_judy1_walk;
     sellumaq_judy1_count, sellumaq_judy1_by_count, sellumaq_judy1_first_empty, sellumaq_judy1_last_empty;
     "let array = sellumaq::Judy1::from([1, 2, 10]);"
 );
 
 collected!(Judy1; u64; "let array = sellumaq::Judy1::from([1, 2, 10]);");
 
-walks!(Judy1 through Way; u64);
+walks!(Judy1 through Way<Judy1>; u64);
 
 /// A search of C from a word for another.
 type Search = unsafe extern "C" fn(*const sys::sellumaq_judy1, u64, *mut u64) -> bool;

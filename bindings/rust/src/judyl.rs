@@ -5,12 +5,12 @@ use crate::ordered::ordered_map;
 use crate::slots::slot_walks;
 use crate::span::{Found, Span};
 use crate::walk::walks;
+use crate::way::Way;
 use crate::words::{collected, word_array};
 use crate::{no_room, NoMemory};
 use sellumaq_sys as sys;
 use std::borrow::Borrow;
 use std::fmt;
-use std::mem::replace;
 use std::ops::{Index, RangeBounds};
 use std::ptr::{null_mut, NonNull};
 
@@ -28,16 +28,16 @@ array!(
 );
 
 word_array!(
-    JudyL; (u64, u64); Way;
+    JudyL; (u64, u64); sys::sellumaq_pair, sellumaq_judyl_walk;
     sellumaq_judyl_count, sellumaq_judyl_by_count, sellumaq_judyl_first_empty, sellumaq_judyl_last_empty;
     "let array = sellumaq::JudyL::from([(1, 10), (2, 20), (10, 30)]);"
 );
 
 collected!(JudyL; (u64, u64); "let array = sellumaq::JudyL::from([(1, 10), (2, 20), (10, 30)]);");
 
-walks!(JudyL through Way; (u64, u64));
+walks!(JudyL through Way<JudyL>; (u64, u64));
 
-slot_walks!(JudyL through Way; u64);
+slot_walks!(JudyL through Steps; u64);
 
 ordered_map!(
     JudyL; u64, Borrow<u64>;
@@ -56,23 +56,29 @@ type Search = unsafe extern "C" fn(*const sys::sellumaq_judyl, u64, *mut u64) ->
 type EntrySearch =
     unsafe extern "C" fn(*const sys::sellumaq_judyl, u64, *mut u64, *mut u64) -> bool;
 
-/// The way of an iterator through a map: each step is one way down it.
+/// A way through a map that lends slots: each step is one way down it, and no value of a slot that is lent is read.
 #[derive(Clone, Debug)]
-struct Way(Span);
+struct Steps(Span);
 
-impl Way {
-    fn of(span: Span) -> Way {
-        Way(span)
-    }
-
-    #[inline]
+impl Steps {
     fn next(&mut self, map: &JudyL) -> Option<(u64, u64)> {
         self.0.next(|from| map.at_or_after(from))
     }
 
-    #[inline]
     fn next_back(&mut self, map: &JudyL) -> Option<(u64, u64)> {
         self.0.next_back(|to| map.at_or_before(to))
+    }
+}
+
+impl From<Way<JudyL>> for Steps {
+    fn from(way: Way<JudyL>) -> Self {
+        Steps(way.left())
+    }
+}
+
+impl From<Steps> for Way<JudyL> {
+    fn from(steps: Steps) -> Self {
+        Way::of(steps.0)
     }
 }
 
@@ -123,17 +129,20 @@ impl JudyL {
     }
 
     /// Gives a key a value, and answers the one it had; at the error the map is as it was. A key that is there is never
-    /// refused. One that is there takes one way down the map, an absent one two.
+    /// refused. It is one way down the map.
     ///
     /// ```
     /// let mut map = sellumaq::JudyL::new();
     /// assert_eq!(map.try_insert(3, 30), Ok(None));
     /// ```
     pub fn try_insert(&mut self, key: u64, value: u64) -> Result<Option<u64>, NoMemory> {
-        if let Some(slot) = self.get_mut(key) {
-            return Ok(Some(replace(slot, value)));
+        let mut was = 0;
+        // SAFETY: the handle is this map's, lent for this call alone.
+        match unsafe { sys::sellumaq_judyl_insert(&mut self.handle, key, value, &mut was) } {
+            sys::SELLUMAQ_NO_MEMORY => Err(NoMemory),
+            sys::SELLUMAQ_ADDED => Ok(None),
+            _ => Ok(Some(was)),
         }
-        self.try_put(key, value).map(|_| None)
     }
 
     /// Gives a key a value, and answers whether the key is new: one way down the map, also where it is absent. It ends the
@@ -218,10 +227,10 @@ impl JudyL {
     /// assert_eq!((map.remove(3), map.remove(&3)), (Some(30), None));
     /// ```
     pub fn remove(&mut self, key: impl Borrow<u64>) -> Option<u64> {
-        let key = *key.borrow();
-        let value = self.get(key)?;
-        self.delete(&key);
-        Some(value)
+        let mut was = 0;
+        // SAFETY: the handle is this map's, lent for this call alone.
+        let found = unsafe { sys::sellumaq_judyl_remove(&mut self.handle, *key.borrow(), &mut was) };
+        found.then_some(was)
     }
 
     /// The pair of the least key from a word on.
@@ -313,7 +322,7 @@ impl JudyL {
     /// assert!(map.values().eq([30, 71]));
     /// ```
     pub fn range_mut(&mut self, range: impl RangeBounds<u64>) -> RangeMut<'_> {
-        RangeMut::of(self, Way(Span::of(range)))
+        RangeMut::of(self, Steps(Span::of(range)))
     }
 
     /// Takes out each key that isn't to be kept, by ascending key; `keep` may change the values. Where it panics, the keys
@@ -328,7 +337,7 @@ impl JudyL {
     /// assert!(map.iter().eq([(0, 0), (5, 10)]));
     /// ```
     pub fn retain(&mut self, mut keep: impl FnMut(&u64, &mut u64) -> bool) {
-        let mut way = Way(Span::of(..));
+        let mut way = Steps(Span::of(..));
         while let Some((key, _)) = way.next(self) {
             let kept = self.get_mut(key).map(|value| keep(&key, value));
             if kept == Some(false) {

@@ -35,6 +35,7 @@ mod ordered;
 mod slots;
 mod span;
 mod walk;
+mod way;
 mod words;
 
 use std::alloc::{handle_alloc_error, Layout};

@@ -49,7 +49,7 @@ macro_rules! slot_walks {
         impl std::fmt::Debug for RangeMut<'_> {
             fn fmt(&self, to: &mut std::fmt::Formatter<'_>) -> std::fmt::Result {
                 // what is shown hasn't been lent
-                Range { array: self.map, way: self.way.clone() }.fmt(to)
+                Range { array: self.map, way: self.way.clone().into() }.fmt(to)
             }
         }
 
@@ -91,7 +91,7 @@ macro_rules! slot_walks {
         impl $map {
             fn all_mut(&mut self) -> IterMut<'_> {
                 let (left, way) = (self.len(), self.iter().range.way);
-                IterMut { range: RangeMut::of(self, way), left }
+                IterMut { range: RangeMut::of(self, way.into()), left }
             }
         }
 

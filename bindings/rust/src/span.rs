@@ -18,11 +18,21 @@ impl<V: Copy> Found for (u64, V) {
     }
 }
 
+impl Found for sellumaq_sys::sellumaq_pair {
+    #[inline]
+    fn key(self) -> u64 {
+        self.key
+    }
+}
+
 /// The words from one to another, both included, whose keys are still to come; none is left of no words.
 #[derive(Clone, Debug)]
 pub struct Span(Option<(u64, u64)>);
 
 impl Span {
+    /// No words.
+    pub const NONE: Span = Span(None);
+
     pub fn of(range: impl RangeBounds<u64>) -> Span {
         let from = match range.start_bound() {
             Bound::Unbounded => Some(0),

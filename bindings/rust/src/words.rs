@@ -3,7 +3,7 @@
 /// Writes what a set and a map of words have alike: the calls that count, and the traits of std that go through what
 /// it holds, an `$item` a key. `$sample` is a line of an example that makes `array` with the keys 1, 2 and 10.
 macro_rules! word_array {
-    ($array:ident; $item:ty; $way:ident; $count:ident, $by_count:ident, $first_empty:ident, $last_empty:ident; $sample:literal) => {
+    ($array:ident; $item:ty; $told:ty, $walk:ident; $count:ident, $by_count:ident, $first_empty:ident, $last_empty:ident; $sample:literal) => {
         impl $array {
             fn search(&self, call: Search, from: u64) -> Option<u64> {
                 let (handle, mut word) = (self.handle, 0);
@@ -85,7 +85,7 @@ macro_rules! word_array {
             pub fn range(&self, range: impl std::ops::RangeBounds<u64>) -> Range<'_> {
                 Range {
                     array: self,
-                    way: $way::of(Span::of(range)),
+                    way: Way::of(Span::of(range)),
                 }
             }
 
@@ -114,6 +114,33 @@ macro_rules! word_array {
                     self.move_range(key.., &mut other);
                 }
                 other
+            }
+        }
+
+        impl crate::way::Walked for $array {
+            type Told = $told;
+
+            fn walk(&self, from: u64, room: &mut crate::way::Room<$told>) -> usize {
+                let handle = self.handle;
+                // SAFETY: as in `search`; the call writes to no more of the room than there is.
+                unsafe { sellumaq_sys::$walk(&handle, from, room.as_mut_ptr().cast(), room.len()) }
+            }
+
+            fn walk_back(&self, from: u64, to: u64, room: &mut crate::way::Room<$told>) -> usize {
+                if let [only] = room {
+                    let found = self.at_or_before(to).filter(|item| item.key() >= from);
+                    return found
+                        .map(|item| only.write(crate::way::Told::of(item)))
+                        .iter()
+                        .len();
+                }
+                let count = self.count(from..=to).min(room.len());
+                let first = self.nth_key(self.count(..=to) - count);
+                first.map_or(0, |first| self.walk(first, &mut room[..count]))
+            }
+
+            fn count_between(&self, from: u64, to: u64) -> u64 {
+                self.count(from..=to) as u64
             }
         }
 

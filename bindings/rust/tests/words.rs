@@ -145,3 +145,37 @@ fn both_ends_meet() {
     assert_eq!(set.range(6..6).next(), None);
     assert_eq!(set.range(1..=4).next_back(), None);
 }
+
+/// Keys without gaps, and with some far apart, from both ends in turns that look random.
+#[test]
+fn runs_of_keys_from_both_ends() {
+    let gaps = [100, 5_000, 5_001, 70_000, 200_000];
+    let plain: BTreeSet<u64> = (7..300_000)
+        .filter(|key| !gaps.contains(key))
+        .chain([u64::MAX])
+        .collect();
+    let set: Judy1 = plain.iter().copied().collect();
+    assert!(set.iter().eq(plain.iter().copied()));
+    for (from, to) in [
+        (0, u64::MAX),
+        (64, 4_999),
+        (4_000, 150_000),
+        (250_000, 299_999),
+        (100_000, 100_063),
+    ] {
+        let (mut ours, mut theirs) = (set.range(from..=to), plain.range(from..=to));
+        assert!(ours.clone().eq(theirs.clone().copied()));
+        assert!(ours.clone().rev().eq(theirs.clone().rev().copied()));
+        let mut words = Words(from + 3);
+        for _ in 0..200 {
+            let steps = words.any() % 700;
+            for _ in 0..steps {
+                assert_eq!(ours.next(), theirs.next().copied());
+            }
+            for _ in 0..words.any() % 3 {
+                assert_eq!(ours.next_back(), theirs.next_back().copied());
+            }
+            assert_eq!(ours.clone().last(), theirs.clone().next_back().copied());
+        }
+    }
+}

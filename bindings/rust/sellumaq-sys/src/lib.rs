@@ -39,6 +39,14 @@ pub struct sellumaq_judyhs {
     pub array: *mut c_void,
 }
 
+/// A key with its value.
+#[repr(C)]
+#[derive(Clone, Copy, Debug)]
+pub struct sellumaq_pair {
+    pub key: u64,
+    pub value: u64,
+}
+
 /// The key was there, and nothing changed.
 pub const SELLUMAQ_PRESENT: u32 = 0;
 /// The key was absent, and is there now.
@@ -80,6 +88,12 @@ extern "C" {
         -> bool;
     pub fn sellumaq_judy1_prev_empty(set: *const sellumaq_judy1, from: u64, word: *mut u64)
         -> bool;
+    pub fn sellumaq_judy1_walk(
+        set: *const sellumaq_judy1,
+        from: u64,
+        keys: *mut u64,
+        capacity: usize,
+    ) -> usize;
     pub fn sellumaq_judy1_len(set: *const sellumaq_judy1) -> u64;
     pub fn sellumaq_judy1_count(set: *const sellumaq_judy1, from: u64, to: u64) -> u64;
     pub fn sellumaq_judy1_by_count(set: *const sellumaq_judy1, n: u64, key: *mut u64) -> bool;
@@ -90,9 +104,16 @@ extern "C" {
 extern "C" {
     pub fn sellumaq_judyl_ins(map: *mut sellumaq_judyl, key: u64, slot: *mut *mut u64) -> bool;
     pub fn sellumaq_judyl_put(map: *mut sellumaq_judyl, key: u64, value: u64) -> u32;
+    pub fn sellumaq_judyl_insert(
+        map: *mut sellumaq_judyl,
+        key: u64,
+        value: u64,
+        was: *mut u64,
+    ) -> u32;
     pub fn sellumaq_judyl_get(map: *const sellumaq_judyl, key: u64, value: *mut u64) -> bool;
     pub fn sellumaq_judyl_slot(map: *const sellumaq_judyl, key: u64, slot: *mut *mut u64) -> bool;
     pub fn sellumaq_judyl_del(map: *mut sellumaq_judyl, key: u64) -> bool;
+    pub fn sellumaq_judyl_remove(map: *mut sellumaq_judyl, key: u64, was: *mut u64) -> bool;
     pub fn sellumaq_judyl_first(map: *const sellumaq_judyl, from: u64, key: *mut u64) -> bool;
     pub fn sellumaq_judyl_next(map: *const sellumaq_judyl, from: u64, key: *mut u64) -> bool;
     pub fn sellumaq_judyl_last(map: *const sellumaq_judyl, from: u64, key: *mut u64) -> bool;
@@ -132,6 +153,12 @@ extern "C" {
         -> bool;
     pub fn sellumaq_judyl_prev_empty(map: *const sellumaq_judyl, from: u64, word: *mut u64)
         -> bool;
+    pub fn sellumaq_judyl_walk(
+        map: *const sellumaq_judyl,
+        from: u64,
+        pairs: *mut sellumaq_pair,
+        capacity: usize,
+    ) -> usize;
     pub fn sellumaq_judyl_len(map: *const sellumaq_judyl) -> u64;
     pub fn sellumaq_judyl_count(map: *const sellumaq_judyl, from: u64, to: u64) -> u64;
     pub fn sellumaq_judyl_by_count(map: *const sellumaq_judyl, n: u64, key: *mut u64) -> bool;

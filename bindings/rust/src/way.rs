@@ -1,0 +1,254 @@
+//! The way of an iterator through the words of a range from both ends, which are brought many at a time.
+use crate::span::{Found, Span};
+use sellumaq_sys::sellumaq_pair;
+use std::mem::MaybeUninit;
+
+/// How many keys a call of C brings at most. An iterator has a place for each.
+const MOST: usize = 64;
+
+/// How many keys without a gap are asked for at once, at most.
+const LONGEST_RUN: u64 = 1 << 16;
+
+/// What the library tells of a key, and what an iterator answers for it.
+pub trait Told: Found {
+    type Item;
+
+    fn item(self) -> Self::Item;
+
+    fn of(item: Self::Item) -> Self;
+
+    /// What is told of a key by the key alone; of a map nothing is.
+    fn of_key(key: u64) -> Option<Self>;
+}
+
+impl Told for u64 {
+    type Item = u64;
+
+    #[inline]
+    fn item(self) -> u64 {
+        self
+    }
+
+    fn of(key: u64) -> u64 {
+        key
+    }
+
+    #[inline]
+    fn of_key(key: u64) -> Option<u64> {
+        Some(key)
+    }
+}
+
+impl Told for sellumaq_pair {
+    type Item = (u64, u64);
+
+    #[inline]
+    fn item(self) -> (u64, u64) {
+        (self.key, self.value)
+    }
+
+    fn of((key, value): (u64, u64)) -> sellumaq_pair {
+        sellumaq_pair { key, value }
+    }
+
+    #[inline]
+    fn of_key(_: u64) -> Option<sellumaq_pair> {
+        None
+    }
+}
+
+/// The room that keys are told in.
+pub type Room<T> = [MaybeUninit<T>];
+
+/// An array of words, as its iterators ask it.
+pub trait Walked {
+    type Told: Told;
+
+    /// Writes the keys from a word on to the beginning of some room, in ascending order, and answers how many these are.
+    fn walk(&self, from: u64, room: &mut Room<Self::Told>) -> usize;
+
+    /// The same of the greatest keys from one word up to another, as many as there is room for.
+    fn walk_back(&self, from: u64, to: u64, room: &mut Room<Self::Told>) -> usize;
+
+    /// How many keys there are from one word up to another.
+    fn count_between(&self, from: u64, to: u64) -> u64;
+}
+
+/// What is still to come of a range: the keys that were brought, which lie below the words left where the way goes up, and
+/// above them where it goes down. In a set they may be a run of keys without a gap, which a count tells, and so none is brought.
+pub struct Way<A: Walked> {
+    words: Span,
+    brought: [MaybeUninit<A::Told>; MOST],
+    begin: usize,
+    end: usize,
+    // The key at the place 0 of a run.
+    run: Option<u64>,
+    // How many keys of a run are asked for next; 0 where the last keys had a gap.
+    longest: u64,
+    goes_down: bool,
+    // How many keys the next call brings: one at first, for a way that is soon left.
+    room: usize,
+}
+
+impl<A: Walked> Way<A> {
+    pub fn of(words: Span) -> Way<A> {
+        Way {
+            words,
+            brought: [MaybeUninit::uninit(); MOST],
+            begin: 0,
+            end: 0,
+            run: None,
+            longest: 0,
+            goes_down: false,
+            room: 1,
+        }
+    }
+
+    #[inline]
+    pub fn next(&mut self, array: &A) -> Option<<A::Told as Told>::Item> {
+        if (self.goes_down || self.begin == self.end) && !self.bring_up(array) {
+            return None;
+        }
+        let told = self.told(self.begin);
+        self.begin += 1;
+        Some(told.item())
+    }
+
+    #[inline]
+    pub fn next_back(&mut self, array: &A) -> Option<<A::Told as Told>::Item> {
+        if (!self.goes_down || self.begin == self.end) && !self.bring_down(array) {
+            return None;
+        }
+        let told = self.told(self.end - 1);
+        self.end -= 1;
+        Some(told.item())
+    }
+
+    /// The words that are still to come, those of the keys that were brought with them.
+    pub fn left(&self) -> Span {
+        if self.begin == self.end {
+            return self.words.clone();
+        }
+        let brought = (self.told(self.begin).key(), self.told(self.end - 1).key());
+        let (from, to) = self.words.ends().unwrap_or(brought);
+        Span::of(from.min(brought.0)..=to.max(brought.1))
+    }
+
+    fn told(&self, at: usize) -> A::Told {
+        debug_assert!(self.begin <= at && at < self.end);
+        if let Some(told) = self
+            .run
+            .and_then(|first| A::Told::of_key(first + at as u64))
+        {
+            return told;
+        }
+        // SAFETY: `at` is from `begin` to `end`, between which a call of `walk` wrote.
+        unsafe { self.brought[at].assume_init() }
+    }
+
+    // Turns the way round where it goes the other one.
+    fn turn(&mut self, goes_down: bool) {
+        if self.goes_down != goes_down {
+            self.words = self.left();
+            (self.begin, self.end, self.run, self.longest) = (0, 0, None, 0);
+            (self.goes_down, self.room) = (goes_down, 1);
+        }
+    }
+
+    // Makes the next call bring more.
+    fn widen(&mut self) -> usize {
+        let room = self.room;
+        self.room = (room * 8).min(MOST);
+        room
+    }
+
+    // Brings the least keys left; false where there are none.
+    #[inline(never)]
+    fn bring_up(&mut self, array: &A) -> bool {
+        self.turn(false);
+        let (from, to) = match self.words.ends() {
+            Some(ends) => ends,
+            None => return false,
+        };
+        if self.take_run(array, from, to) {
+            return true;
+        }
+        let room = self.widen();
+        let count = array.walk(from, &mut self.brought[..room]);
+        (self.begin, self.end) = (0, count);
+        self.look_for_gaps(count);
+        while self.end > 0 && self.told(self.end - 1).key() > to {
+            self.end -= 1;
+        }
+        if self.end == room {
+            self.words.go_behind(self.told(room - 1).key(), to);
+        } else {
+            self.words = Span::NONE;
+        }
+        self.end > 0
+    }
+
+    // Where a whole buffer of keys has no gap, the next words are asked for as a run.
+    fn look_for_gaps(&mut self, count: usize) {
+        if count == MOST && self.told(MOST - 1).key() - self.told(0).key() == MOST as u64 - 1 {
+            self.longest = MOST as u64;
+        }
+    }
+
+    // Takes the next words for a run where all of them are keys: twice as many at each time.
+    fn take_run(&mut self, array: &A, from: u64, to: u64) -> bool {
+        self.run = None;
+        if self.longest == 0 || A::Told::of_key(from).is_none() {
+            return false;
+        }
+        let (first, last) = if self.goes_down {
+            (from.max(to.saturating_sub(self.longest - 1)), to)
+        } else {
+            (from, to.min(from.saturating_add(self.longest - 1)))
+        };
+        if array.count_between(first, last) != last - first + 1 {
+            self.longest = 0;
+            return false;
+        }
+        (self.begin, self.end, self.run) = (0, (last - first + 1) as usize, Some(first));
+        self.longest = (self.longest * 2).min(LONGEST_RUN);
+        if self.goes_down {
+            self.words = Span::of(from..first);
+        } else {
+            self.words.go_behind(last, to);
+        }
+        true
+    }
+
+    // Brings the greatest keys left; false where there are none.
+    #[inline(never)]
+    fn bring_down(&mut self, array: &A) -> bool {
+        self.turn(true);
+        let (from, to) = match self.words.ends() {
+            Some(ends) => ends,
+            None => return false,
+        };
+        if self.take_run(array, from, to) {
+            return true;
+        }
+        let room = self.widen();
+        let count = array.walk_back(from, to, &mut self.brought[..room]);
+        (self.begin, self.end) = (0, count);
+        self.look_for_gaps(count);
+        self.words = if count == room {
+            Span::of(from..self.told(0).key())
+        } else {
+            Span::NONE
+        };
+        self.end > 0
+    }
+}
+
+impl<A: Walked> Clone for Way<A> {
+    fn clone(&self) -> Self {
+        Way {
+            words: self.words.clone(),
+            ..*self
+        }
+    }
+}
