@@ -19,7 +19,11 @@ import sys
 import tempfile
 import time
 
-FIRST_SCRIPT = b"make a judyl\nins a 5 7\nins a 5 9\nget a 5\nget a 6\nput a 6 1\n"
+import pages
+
+# What pages show of the program, which makes its first script the one of the guide.
+SHOWN = [pages.Example("README.md", "### A script"), pages.Example("docs/guide/judystore.md", "## A first script")]
+FIRST_SCRIPT = SHOWN[1].text.encode()
 FIRST_ANSWERS = b"ok\nwas 0\nwas 7\n9\nnone\nnone\n"
 READ_FAULT = b"judystore: run: read\n"
 # The dump of a judy1 `a` with the key 1, and of the store that the first script leaves.
@@ -358,10 +362,20 @@ def check_terminal(checks, program):
     os.close(terminal)
 
 
+def check_shown(checks, program):
+    """The scripts that pages show are the files of examples/, and answer as the pages say."""
+    for example in SHOWN:
+        checks.expect(f"{example.page} shows {example.name} as it is", example.is_file(), True)
+        with tempfile.TemporaryDirectory() as folder:
+            os.symlink(program, f"{folder}/judystore")
+            checks.expect(f"{example.page}, run as it stands", example.prints(folder), True)
+
+
 def main():
     program = os.path.abspath(sys.argv[1])
     checks = Checks()
     check_ends(checks, program)
+    check_shown(checks, program)
     check_command_lines(checks, program)
     check_refused(checks, program)
     check_longest(checks, program)
