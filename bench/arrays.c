@@ -43,23 +43,38 @@ static const struct {
 };
 
 /* The keys as they are put in, in the order in which they are looked for, and as many words that are none; all shuffled but the
- * first where the pattern says so. */
+ * first where the pattern says so. And the keys by ascending order, each once, by themselves and with a value. */
 struct keys {
-    size_t n;
-    word *in, *order, *out;
+    size_t n, distinct;
+    word *in, *order, *out, *sorted;
+    sellumaq_pair *pairs;
 };
+
+static int by_word(const void *one, const void *other) {
+    word a = *(const word *)one, b = *(const word *)other;
+    return (a > b) - (a < b);
+}
+
+static void sort(struct keys *keys) {
+    memcpy(keys->sorted, keys->in, keys->n * sizeof(word));
+    qsort(keys->sorted, keys->n, sizeof(word), by_word);
+    for (size_t i = 0; i < keys->n; i++)
+        if (i == 0 || keys->sorted[i] != keys->sorted[keys->distinct - 1]) keys->sorted[keys->distinct++] = keys->sorted[i];
+    for (size_t i = 0; i < keys->distinct; i++) keys->pairs[i] = (sellumaq_pair){keys->sorted[i], keys->sorted[i]};
+}
 
 static const char *name(size_t pattern) { return PATTERNS[pattern].name; }
 
 static struct keys *make(size_t n, size_t pattern) {
     struct keys *keys = room(1, sizeof *keys);
-    *keys = (struct keys){n, room(n, sizeof(word)), room(n, sizeof(word)), room(n, sizeof(word))};
+    *keys = (struct keys){n, 0, room(n, sizeof(word)), room(n, sizeof(word)), room(n, sizeof(word)), room(n, sizeof(word)), room(n, sizeof(sellumaq_pair))};
     seed = pattern + 1;
     for (size_t i = 0; i < n; i++) keys->in[i] = keys->order[i] = PATTERNS[pattern].key(i);
     if (PATTERNS[pattern].shuffled) shuffle(keys->in, n);
     shuffle(keys->order, n);
     for (size_t i = 0; i < n; i++) keys->out[i] = PATTERNS[pattern].no_key(i);
     shuffle(keys->out, n);
+    sort(keys);
     return keys;
 }
 
@@ -67,14 +82,23 @@ static void drop(struct keys *keys) {
     free(keys->in);
     free(keys->order);
     free(keys->out);
+    free(keys->sorted);
+    free(keys->pairs);
     free(keys);
 }
 
 /* ---- measuring ---- */
 
+/* Puts the keys in one by one, by ascending order. */
+#define EACH_SORTED(PUT) \
+    for (size_t i = 0; i < keys->distinct; i++) { \
+        word k = keys->sorted[i]; \
+        PUT; \
+    }
+
 /* One library's array: `A` is its variable, the other words are statements over it and a key `k`, or expressions. A library
- * without rank and select has 0 for `ORDERED`. */
-#define MEASURE(NAME, A_TYPE, A_INIT, A_END, PUT, FIND, NEXT_KEY, ORDERED, COUNT_BELOW, NTH, TAKE) \
+ * without rank and select has 0 for `ORDERED`. `BULK_PUT` puts all keys in by ascending order. */
+#define MEASURE(NAME, A_TYPE, A_INIT, A_END, PUT, FIND, NEXT_KEY, ORDERED, COUNT_BELOW, NTH, TAKE, BULK_PUT) \
     static void NAME(const struct keys *keys, double *told) { \
         word found = 0; \
         size_t held = mallinfo2().uordblks; \
@@ -92,15 +116,20 @@ static void drop(struct keys *keys) {
             EACH(SELECT, word k = keys->order[i] % keys->n + 1; if (NTH) found += k); \
         } \
         EACH(DELETE, word k = keys->order[i]; TAKE); \
+        begin = now(); \
+        BULK_PUT; \
+        took(told, BULK, begin, keys->distinct); \
         A_END; \
         sink += found; \
     }
 
 MEASURE(judy1_sellumaq, sellumaq_judy1, {0}, sellumaq_judy1_free(&a), sellumaq_judy1_set(&a, k), sellumaq_judy1_test(&a, k),
-        sellumaq_judy1_next(&a, k, &k), true, sellumaq_judy1_count(&a, 0, k), sellumaq_judy1_by_count(&a, k, &k), sellumaq_judy1_unset(&a, k))
+        sellumaq_judy1_next(&a, k, &k), true, sellumaq_judy1_count(&a, 0, k), sellumaq_judy1_by_count(&a, k, &k), sellumaq_judy1_unset(&a, k),
+        sink += sellumaq_judy1_from_sorted(&a, keys->sorted, keys->distinct, &(size_t){0}))
 
 MEASURE(judy1_libjudy, Pvoid_t, NULL, Judy1FreeArray(&a, PJE0), Judy1Set(&a, k, PJE0), Judy1Test(a, k, PJE0),
-        Judy1Next(a, &k, PJE0), true, Judy1Count(a, 0, k, PJE0), Judy1ByCount(a, k, &k, PJE0), Judy1Unset(&a, k, PJE0))
+        Judy1Next(a, &k, PJE0), true, Judy1Count(a, 0, k, PJE0), Judy1ByCount(a, k, &k, PJE0), Judy1Unset(&a, k, PJE0),
+        EACH_SORTED(Judy1Set(&a, k, PJE0)))
 
 static word sellumaq_value(sellumaq_judyl *map, word key) {
     word value = 0;
@@ -128,11 +157,12 @@ static bool libjudy_next_entry(Pvoid_t map, word *key, word *sum) {
 }
 
 MEASURE(judyl_sellumaq, sellumaq_judyl, {0}, sellumaq_judyl_free(&a), (void)sellumaq_judyl_put(&a, k, k), sellumaq_value(&a, k),
-        sellumaq_next_entry(&a, &k, &found), true, sellumaq_judyl_count(&a, 0, k), sellumaq_judyl_by_count(&a, k, &k), sellumaq_judyl_del(&a, k))
+        sellumaq_next_entry(&a, &k, &found), true, sellumaq_judyl_count(&a, 0, k), sellumaq_judyl_by_count(&a, k, &k), sellumaq_judyl_del(&a, k),
+        sink += sellumaq_judyl_from_sorted(&a, keys->pairs, keys->distinct, &(size_t){0}))
 
 MEASURE(judyl_libjudy, Pvoid_t, NULL, JudyLFreeArray(&a, PJE0), *(word *)JudyLIns(&a, k, PJE0) = k, libjudy_value(a, k),
         libjudy_next_entry(a, &k, &found), true, JudyLCount(a, 0, k, PJE0), JudyLByCount(a, k, (Word_t *)&k, PJE0) != NULL,
-        JudyLDel(&a, k, PJE0))
+        JudyLDel(&a, k, PJE0), EACH_SORTED(*(word *)JudyLIns(&a, k, PJE0) = k))
 
 #ifdef WITH_STD
 void *btree_set_new(void);
@@ -149,7 +179,7 @@ bool btree_map_next(const void *map, word from, word *key, word *value);
 void btree_map_remove(void *map, word key);
 
 MEASURE(judy1_btree, void *, btree_set_new(), btree_set_free(a), btree_set_insert(a, k), btree_set_has(a, k), btree_set_next(a, k, &k),
-        false, 0, 0, btree_set_remove(a, k))
+        false, 0, 0, btree_set_remove(a, k), EACH_SORTED(btree_set_insert(a, k)))
 
 static bool btree_next_entry(const void *map, word *key, word *sum) {
     word value = 0;
@@ -159,7 +189,7 @@ static bool btree_next_entry(const void *map, word *key, word *sum) {
 }
 
 MEASURE(judyl_btree, void *, btree_map_new(), btree_map_free(a), btree_map_insert(a, k, k), btree_map_value(a, k),
-        btree_next_entry(a, &k, &found), false, 0, 0, btree_map_remove(a, k))
+        btree_next_entry(a, &k, &found), false, 0, 0, btree_map_remove(a, k), EACH_SORTED(btree_map_insert(a, k, k)))
 #endif
 
 static const struct array ARRAYS[] = {

@@ -1,14 +1,14 @@
 #!/usr/bin/env python3
-"""Runs the program `judy_loose` where memory is refused: each call for memory in turn, each with all after it, and each behind one
-whose refusal leaves its set loose.
+"""Runs the program `judy_loose` on a set and on a map where memory is refused: each call for memory in turn, each with all after it, and
+each behind one whose refusal leaves its array loose.
 
 usage: tools/try_loose.py PROGRAM
 
-Beside the program's set goes a plain one, and every line is what that says: only a `set` of an absent key, or a `tidy` of a loose set,
-may answer `no-memory`, and nothing is changed then; each query answers for the keys, whether the nodes are tight or loose; the nodes are
-those of the rule of shapes, or, where the set is loose, may be those from before or some of these; and only an `unset` beside 33 keys makes
-it loose. With ample memory nothing is refused, and the set never is loose. Each call for memory is seen to be refused, by an answer or by
-nodes that stay, and the answers of the rows must come up besides.
+Beside the program's array goes a plain one, and every line is what that says: only a `set` of an absent key, or a `tidy` of a loose array,
+may answer `no-memory`, and nothing is changed then; each query answers for the keys, and each key of a map has its value, whether the nodes
+are tight or loose; the nodes are those of the rule of shapes, or, where the array is loose, may be those from before or some of these; and
+only an `unset` beside 33 keys makes it loose. With ample memory nothing is refused, and the array never is loose. Each call for memory is
+seen to be refused, by an answer or by nodes that stay, and the answers of the rows must come up besides.
 
 It needs a C compiler, `cc` (tools/refusing.py).
 
@@ -24,10 +24,12 @@ from typing import NamedTuple
 from refusing import Checks, Refuser, in_turn, lines
 
 LEAF_LEN = 32
+# What is given to the program for each array, and how many keys an immediate holds of so many bytes each.
+KINDS = {"set": (b"", lambda width: 8 // width), "map": (b"map\n", lambda width: 1)}
 WORDS = range(2**64)
 NO_NODES = (0, 0, 0, 0, 0, 0)
 
-# With ample memory, from the leaf of 32 keys on and without the queries: a branch above 33 keys that is a leaf again with 32, and rows
+# With ample memory, the same of both arrays, from the leaf of 32 keys on and without the queries: a branch above 33 keys that is a leaf again with 32, and rows
 # leaf-and-bitmap-leaf and skip-and-merge. What may be refused is done twice.
 AMPLE = lines("""
     nodes: 0 1 0 0 0 0, tight
@@ -113,13 +115,13 @@ def plus(*shapes):
     return tuple(map(sum, zip(*shapes)))
 
 
-def shape_of(keys):
-    """The rule of shapes for ascending keys without values, each its bytes: how many immediates, leaves, bitmap leaves, and linear, bitmap
-    and full branches."""
+def shape_of(keys, most):
+    """The rule of shapes for ascending keys, each its bytes, where an immediate holds so many of a width: how many immediates, leaves,
+    bitmap leaves, and linear, bitmap and full branches."""
     if not keys:
         return NO_NODES
     width = len(keys[0])
-    if len(keys) <= 8 // width:
+    if len(keys) <= most(width):
         return (1, 0, 0, 0, 0, 0)
     if len(keys) <= LEAF_LEN:
         return (0, 1, 0, 0, 0, 0)
@@ -128,7 +130,7 @@ def shape_of(keys):
         return (0, 0, 1, 0, 0, 0)
     groups = [[key[shared + 1 :] for key in group] for _, group in groupby(keys, lambda key: key[shared])]
     forms = (len(groups) < 8, 8 <= len(groups) < 128, 128 <= len(groups))
-    return plus((0, 0, 0, *map(int, forms)), *map(shape_of, groups))
+    return plus((0, 0, 0, *map(int, forms)), *(shape_of(group, most) for group in groups))
 
 
 def nearest(words):
@@ -136,10 +138,11 @@ def nearest(words):
     return next(map(str, words), "none")
 
 
-class PlainSet:
-    """A plain set beside the program's: what each line has to be, from the first on."""
+class PlainArray:
+    """A plain set beside the program's array: what each line has to be, from the first on."""
 
-    def __init__(self):
+    def __init__(self, most):
+        self.most = most
         self.keys = set()
         self.nodes = NO_NODES
         self.loose = False
@@ -147,7 +150,7 @@ class PlainSet:
         self.loosens = False
 
     def shape(self):
-        return shape_of([key.to_bytes(8, "big") for key in sorted(self.keys)])
+        return shape_of([key.to_bytes(8, "big") for key in sorted(self.keys)], self.most)
 
     def agrees(self, line):
         """Whether a line is one that may come now, which is then done here too."""
@@ -189,6 +192,9 @@ class PlainSet:
     def agrees_keys(self, told):
         return list(map(int, told.split())) == [len(self.keys), *sorted(self.keys)]
 
+    def agrees_values(self, told):
+        return list(map(int, told.split())) == [WORDS[-1] - key for key in sorted(self.keys)]
+
     def agrees_at(self, told, word):
         keys = sorted(self.keys)
         absent_on = (other for other in WORDS[word:] if other not in self.keys)
@@ -224,7 +230,7 @@ class Ran(NamedTuple):
 
     def changes(self):
         """The lines without those of queries."""
-        return [line for line in self.lines if not line.startswith((b"keys", b"at "))]
+        return [line for line in self.lines if not line.startswith((b"keys", b"values", b"at "))]
 
     def has(self, row):
         """Whether these lines stand one behind the other, but for queries."""
@@ -240,21 +246,22 @@ class Ran(NamedTuple):
 class Loosening(Checks):
     """Runs the program, and checks each run beside a plain set."""
 
-    def __init__(self, program, folder):
+    def __init__(self, program, folder, kind):
         super().__init__()
         self.program = program
+        self.given, self.most = KINDS[kind]
         self.refuser = Refuser(folder)
         self.ample = self.run()
 
     def run(self, refuse=None):
-        ran, refused = self.refuser.run([self.program], refuse=refuse)
+        ran, refused = self.refuser.run([self.program], self.given, refuse)
         return Ran(ran.returncode, ran.stdout.splitlines(), ran.stderr, refused)
 
     def check_run(self, name, ran):
-        """That a run went to its end, and each line is the plain set's."""
+        """That a run went to its end, and each line is the plain array's."""
         self.expect(f"{name}, its end", (ran.status, ran.error) == (0, b""), ran)
         self.expect(f"{name}, its lines", ran.heads() == self.ample.heads(), ran.heads())
-        plain = PlainSet()
+        plain = PlainArray(self.most)
         for line in ran.lines:
             self.expect(f"{name}, a line", plain.agrees(line), line)
 
@@ -265,13 +272,13 @@ class Loosening(Checks):
         self.expect("ample memory, the rows", told == keys + AMPLE, told)
 
     def check_refused(self):
-        """All runs that are refused calls. Each call by itself is seen, and so is each behind one that leaves the set loose."""
+        """All runs that are refused calls. Each call by itself is seen, and so is each behind one that leaves the array loose."""
         runs = list(in_turn(self.run))
         for call, onward, ran in runs:
             self.check_run(f"{call}{onward}", ran)
             self.expect(f"{call}{onward}, seen", ran.seen() >= 1, ran.changes())
         loosening = [call for call, onward, ran in runs if not onward and (ran.has(LOOSENED) or ran.has(BRANCH_STAYS))]
-        self.expect("two calls leave the set loose", len(loosening) == 2, loosening)
+        self.expect("two calls leave the array loose", len(loosening) == 2, loosening)
         told = [ran for _, _, ran in runs]
         for call in loosening:
             told += self.check_behind(call)
@@ -279,7 +286,7 @@ class Loosening(Checks):
             self.expect(f"{name}, refused, must come up", any(ran.has(row) for ran in told), row)
 
     def check_behind(self, first):
-        """All runs that are refused a call that leaves the set loose and one later call, which is seen too."""
+        """All runs that are refused a call that leaves the array loose and one later call, which is seen too."""
         runs = []
         for call in count(first + 1):
             ran = self.run(f"{first},{call}")
@@ -290,12 +297,17 @@ class Loosening(Checks):
             runs.append(ran)
 
 
-def main():
+def tried(kind):
+    """Runs the program on an array of a kind; the status that comes of it."""
     with tempfile.TemporaryDirectory() as folder:
-        loosening = Loosening(os.path.abspath(sys.argv[1]), folder)
+        loosening = Loosening(os.path.abspath(sys.argv[1]), folder, kind)
         loosening.check_ample()
         loosening.check_refused()
-    return loosening.end("a set whose nodes are refused memory")
+    return loosening.end(f"a {kind} whose nodes are refused memory")
+
+
+def main():
+    return max([tried(kind) for kind in KINDS])
 
 
 if __name__ == "__main__":

@@ -3,10 +3,10 @@
 
 usage: tools/try_memory.py PROGRAM
 
-What is freed, dropped and deleted is given back, and at once; a delete asks for no memory where no node has 33 keys; a load asks for as
-much as the keys take that it read, whatever number of keys the dump says.
+What is freed, dropped and deleted is given back, and at once; a delete asks for no memory where no node has 33 keys; where a key went, another
+of its length comes without asking; a load asks for as much as the keys take that it read, whatever number of keys the dump says.
 
-It needs a C compiler, `cc`, for the library that counts (tools/count_alloc.c).
+It needs a C compiler, `cc`, for the libraries that count and refuse (tools/count_alloc.c, tools/refuse_alloc.c).
 
 Prints a line for each check that fails, and how many passed; the status is 0 where all did.
 """
@@ -17,7 +17,7 @@ import sys
 import tempfile
 from typing import NamedTuple
 
-from refusing import SECONDS, Checks
+from refusing import SECONDS, Checks, Refuser
 
 LIBRARY = os.path.join(os.path.dirname(os.path.abspath(__file__)), "count_alloc.c")
 KINDS = ["judy1", "judyl", "judysl", "judyhs"]
@@ -29,8 +29,11 @@ FIRST_KEYS = {
     "judyhs": (4, "0001 62 0000000000000009"),
 }
 TRUNCATED = b"judystore: load: truncated\n"
+NO_MEMORY = b"error no-memory"
 MANY = 3000
 ROUNDS = 20
+# So many keys are led to by one leaf, from which one can go, and which then has room for another. (Of two, one would be left, which has no leaf.)
+IN_ONE_LEAF = range(3, 32)
 
 
 class Counted(NamedTuple):
@@ -67,6 +70,7 @@ class Memory(Checks):
         self.library, self.told, self.dump = (os.path.join(folder, name) for name in ("count_alloc.so", "counted", "dump"))
         subprocess.run(["cc", "-O1", "-shared", "-fPIC", "-o", self.library, LIBRARY], check=True)
         self.empty = self.run([])
+        self.refuser = Refuser(folder)
 
     def run(self, script, load=None):
         """One run of a script, behind a load of these bytes where there are some."""
@@ -98,6 +102,26 @@ class Memory(Checks):
             kept, gone = self.run(made), self.run(made + deletes(kind, numbers))
             self.expect(f"{kind}, {count} deletes, calls", kept.calls == gone.calls, (kept, gone))
 
+    def last_answer(self, script, refuse):
+        """What the last line answers where these calls for memory are refused, and whether one was."""
+        ran, refused = self.refuser.run([self.program], "".join(line + "\n" for line in script).encode(), refuse)
+        return ran.stdout.splitlines()[-1], refused
+
+    def check_free_place(self, kind, count):
+        """Of so many keys one goes, and all memory is refused from then on: another key takes its place. Without the delete some key is refused."""
+        made = [f"make a {kind}", *(f"ins a =prefix{number:02d}-{number:02d} 7" for number in range(count))]
+        gone = [*made, f"del a =prefix{count // 2:02d}-{count // 2:02d}"]
+        put = [*gone, "ins a =prefix99-99 8"]
+        calls = self.run(gone).calls
+        self.expect(f"{kind}, {count} keys, free place, calls", self.run(put).calls == calls, (calls, self.run(put)))
+        told = self.last_answer(put, f"{calls + 1}+")
+        self.expect(f"{kind}, {count} keys, free place, refused", told == (b"was 0", False), told)
+        return self.last_answer([*made, "ins a =prefix99-99 8"], f"{self.run(made).calls + 1}+") == (NO_MEMORY, True)
+
+    def check_free_places(self, kind):
+        refused = [self.check_free_place(kind, count) for count in IN_ONE_LEAF]
+        self.expect(f"{kind}, refused without a free place", any(refused), refused)
+
     def check_claims(self, kind):
         """A dump with one key is refused at its end whatever number it says, with as much memory as where it says two."""
         number, first = FIRST_KEYS[kind]
@@ -117,6 +141,8 @@ def main():
             memory.check_given_back(kind, "deletes", deletes(kind, range(MANY)))
             memory.check_deletes(kind, 32)
             memory.check_claims(kind)
+        for kind in ("judysl", "judyhs"):
+            memory.check_free_places(kind)
     return memory.end("the program's memory")
 
 

@@ -30,6 +30,17 @@ READ_FAULT = b"judystore: run: read\n"
 SMALL_DUMP = bytes.fromhex("4a445931 00000001 01 61 01 00000000ffffffff 0000000000000001 0000000000000001")
 FIRST_DUMP = bytes.fromhex("4a445931 00000001 01 61 02 00000000ffffffff 0000000000000001 0000000000000005 0000000000000009")
 EMPTY_DUMP = bytes.fromhex("4a445931 00000000")
+# A store with keys that share fronts, in both formats.
+PREFIXES = bytes.fromhex(
+    "4a445931 00000001 01 73 03 0000000000000003 0000000000000003"
+    "0000 0000000000000001 0002 6162 0000000000000002 0003 616263 0000000000000003"
+)
+PREFIXES_2 = bytes.fromhex(
+    "4a445932 00000001 01 73 03 0000000000000003 0000000000000003"
+    "0000 0000 0000000000000001 0000 0002 6162 0000000000000002 0002 0001 63 0000000000000003"
+)
+# The last key shares more than is said.
+SLACK_PREFIX = PREFIXES_2[:53] + bytes.fromhex("0000 0003 616263 0000000000000003")
 LIST = b"list\n"
 SMALL_LIST = b"names a:judy1:1\n"
 # The most bytes of a script, and what it ends with that has more.
@@ -88,6 +99,13 @@ COMMAND_LINES = [
     ("--dump e", 0, b"names\n", "", ("e", EMPTY_DUMP)),
     ("--load d --dump d l", 0, SMALL_LIST, "", ("d", SMALL_DUMP)),
     ("--load d -- --nope", 0, SMALL_LIST, "", None),
+    # the two formats
+    ("--load p --format 2 --dump e empty", 0, b"", "", ("e", PREFIXES_2)),
+    ("--load p2 --format 1 --dump e empty", 0, b"", "", ("e", PREFIXES)),
+    ("--load p2 --dump e empty", 0, b"", "", ("e", PREFIXES)),
+    ("--load p2 --format 02 --dump p2 empty", 0, b"", "", ("p2", PREFIXES_2)),
+    ("--format 2 --load p empty", 0, b"", "", None),
+    ("--load slack empty", 1, b"", "judystore: load: bad-prefix\n", None),
     # a name `-` is an ordinary file name
     ("-", 0, FIRST_ANSWERS, "", None),
     ("--load - s", 1, b"", "judystore: load: bad-magic\n", None),
@@ -116,6 +134,9 @@ REFUSED = [
     ("--nope", "error: unexpected argument '--nope'"),
     ("--load a --load b", "error: the argument '--load <FILE>' cannot be used multiple times"),
     ("--load -x", "error: unexpected argument '-x'"),
+    ("--format", "error: a value is required for '--format <N>'"),
+    ("--format 3", "error: invalid value '3' for '--format <N>'"),
+    ("--format 0", "error: invalid value '0' for '--format <N>'"),
 ]
 
 
@@ -127,6 +148,10 @@ def fill(folder):
         ("--nope", LIST),
         ("l", LIST),
         ("d", SMALL_DUMP),
+        ("empty", b""),
+        ("p", PREFIXES),
+        ("p2", PREFIXES_2),
+        ("slack", SLACK_PREFIX),
         ("cut", SMALL_DUMP[:-1]),
         ("long", SMALL_DUMP + b"\0"),
     ]:
@@ -169,7 +194,7 @@ def check_refused(checks, program):
     for word in ["--help", "-h"]:
         status, text, told = run_in("/", program, [word])
         checks.expect(word, (status, told), (0, b""))
-        for part in [b"[OPTIONS] [SCRIPT]", b"--load <FILE>", b"--dump <FILE>", b"ins NAME K V", b"bycount NAME N"]:
+        for part in [b"[OPTIONS] [SCRIPT]", b"--load <FILE>", b"--dump <FILE>", b"--format <N>", b"ins NAME K V", b"bycount NAME N"]:
             checks.expect(f"{word} tells {part}", part in text, True)
     with open("/dev/full", "wb") as full:
         ran = subprocess.run([program, "--help"], stdout=full, stderr=subprocess.PIPE, timeout=SECONDS)
@@ -199,6 +224,15 @@ def check_longest(checks, program):
             checks.expect(f"{name}, the dump", read(os.path.join(folder, "e")), dump)
 
 
+# The library by which no file can be kept, command lines, and their ends with it.
+REFUSE_SYNC = os.path.join(os.path.dirname(os.path.abspath(__file__)), "refuse_sync.c")
+SYNCS = [
+    ("--dump e s", (1, FIRST_ANSWERS, b"judystore: dump: write\n")),
+    ("--dump /dev/null s", (0, FIRST_ANSWERS, b"")),
+    ("--load d", (0, SMALL_LIST, b"")),
+]
+
+
 # Which standard stream is closed, the command line, the status, and the files that are left, with their bytes.
 CLOSED = [
     (2, "--dump e s", 0, [("e", FIRST_DUMP)]),
@@ -218,6 +252,17 @@ def check_closed(checks, program):
             checks.expect(name, run_in(folder, program, line.split(), lambda: os.close(stream))[0], status)
             for file, content in files:
                 checks.expect(f"{name}, {file}", read(os.path.join(folder, file)), content)
+
+
+def check_sync(checks, program):
+    """A dump that the disk can't keep wasn't written; a device keeps nothing, and where nothing is written, nothing fails."""
+    with tempfile.TemporaryDirectory() as folder:
+        fill(folder)
+        library = os.path.join(folder, "refuse_sync.so")
+        subprocess.run(["cc", "-O1", "-shared", "-fPIC", "-o", library, REFUSE_SYNC], check=True)
+        for line, end in SYNCS:
+            name = f"not kept, judystore {line}"
+            checks.expect(name, run_in(folder, program, line.split(), lambda: os.putenv("LD_PRELOAD", library)), end)
 
 
 def state_of(process):
@@ -380,6 +425,7 @@ def main():
     check_refused(checks, program)
     check_longest(checks, program)
     check_closed(checks, program)
+    check_sync(checks, program)
     check_faltering(checks, program)
     check_pipes(checks, program)
     check_terminal(checks, program)

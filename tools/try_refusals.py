@@ -1,5 +1,6 @@
 #!/usr/bin/env python3
-"""Runs the built program where memory is refused: each call for memory in turn, and each with all after it.
+"""Runs the built program where memory is refused: each call for memory in turn, and each with all after it. Scripts whose dump is
+told byte by byte are run in both formats of dumps.
 
 usage: tools/try_refusals.py PROGRAM
 
@@ -17,7 +18,7 @@ Prints a line for each check that fails, and how many passed; the status is 0 wh
 import os
 import sys
 import tempfile
-from typing import NamedTuple, Optional
+from typing import NamedTuple
 
 from refusing import Checks, Refuser, in_turn, lines
 
@@ -63,6 +64,26 @@ CHAIN_REFUSED = [
     lines("ok\n was 0\n was 0\n was 0\n error no-memory\n 1\n 2\n 3\n none\n names h:judyhs:3"),
 ]
 
+# Keys that all share that chain: the sixteenth is one more than a node of its tree holds, and so makes two nodes.
+CHAIN_KEYS = (
+    b"hhuhtvqzb soohcjtgg rqeaawqwi jhmaaavzl qymaaavtr zbbbaifvx igcbagwac ybfdacoeg xihdapcml lykdalvhu gqndacpzv ohqdathpm "
+    b"cetdauujw zpydaxsxg rvzdayafe snlfatnbd olnfaebfs"
+).split()
+CHAIN_OF_MANY = [
+    b"make h judyhs",
+    *(b"ins h =%s %d" % (key, value) for value, key in enumerate(CHAIN_KEYS, 1)),
+    *(b"get h =" + key for key in CHAIN_KEYS),
+    b"list",
+]
+
+
+def chain_refused(place):
+    """The answers where the key at a place, from 0 on, was refused."""
+    puts = [NO_MEMORY if at == place else b"was 0" for at in range(len(CHAIN_KEYS))]
+    gets = [b"none" if at == place else b"%d" % (at + 1) for at in range(len(CHAIN_KEYS))]
+    return [b"ok", *puts, *gets, b"names h:judyhs:%d" % (len(CHAIN_KEYS) - 1)]
+
+
 # Vector store-of-three: the store's script, and its dump.
 STORE_OF_THREE = lines("""
     make l judyl
@@ -82,6 +103,32 @@ STORE_OF_THREE_DUMP = bytes.fromhex("""
     01 68 04 00000000ffffffff 0000000000000003
     0000 0000000000000009 0001 00 0000000000000007 0001 62 0000000000000008
 """)
+STORE_OF_THREE_DUMP_2 = bytes.fromhex("""
+    4a445932 00000003
+    01 6c 02 00000000ffffffff 0000000000000001 0000000000000005 0000000000000009
+    01 73 03 0000000000000003 0000000000000002 0000 0000 0000000000000001 0000 0002 6162 0000000000000002
+    01 68 04 00000000ffffffff 0000000000000003
+    0000 0000000000000009 0001 00 0000000000000007 0001 62 0000000000000008
+""")
+
+# Vector three-prefixes: keys that share fronts, whose dump asks for no memory.
+THREE_PREFIXES = lines("""
+    make s judysl 3
+    ins s = 1
+    ins s =ab 2
+    ins s =abc 3
+""")
+THREE_PREFIXES_DUMP = bytes.fromhex("""
+    4a445931 00000001 01 73 03 0000000000000003 0000000000000003
+    0000 0000000000000001 0002 6162 0000000000000002 0003 616263 0000000000000003
+""")
+THREE_PREFIXES_DUMP_2 = bytes.fromhex("""
+    4a445932 00000001 01 73 03 0000000000000003 0000000000000003
+    0000 0000 0000000000000001 0000 0002 6162 0000000000000002 0002 0001 63 0000000000000003
+""")
+
+# What stands in the dump file before a run, longer than each dump here. It stays where a run has no byte for it.
+OLD_DUMP = b"kept\n" * 100
 
 # Row smallest-dumps: a store without a judyhs array, whose dump asks for no memory.
 SMALLEST = lines("""
@@ -90,6 +137,7 @@ SMALLEST = lines("""
 """)
 EMPTY_DUMP = bytes.fromhex("4a445931 00000000")
 SMALLEST_DUMP = bytes.fromhex("4a445931 00000001 01 61 01 00000000ffffffff 0000000000000001 0000000000000001")
+SMALLEST_DUMP_2 = bytes.fromhex("4a445932 00000001 01 61 01 00000000ffffffff 0000000000000001 0000000000000001")
 
 # Row refused-dump-load-make, its `make`: the table of arrays asks for memory at its first array and at its tenth.
 NAMES = [b"%c" % letter for letter in b"abcdefghiz"]
@@ -163,13 +211,21 @@ ROWS = [
     ("refused-string-insert", STRING_INSERT, None, [STRING_REFUSED]),
     ("refused-string-insert, deep", DEEP_STRING_INSERT, None, [STRING_REFUSED]),
     ("refused-chain-insert", CHAIN_INSERT, None, CHAIN_REFUSED),
+    ("a chain of many keys", CHAIN_OF_MANY, None, [chain_refused(place) for place in range(len(CHAIN_KEYS))]),
     ("store-of-three", STORE_OF_THREE, STORE_OF_THREE_DUMP, []),
     ("smallest-dumps", SMALLEST, SMALLEST_DUMP, []),
+    ("three-prefixes", THREE_PREFIXES, THREE_PREFIXES_DUMP, []),
     ("make in a store", MAKES, None, [MAKE_REFUSED]),
     ("skip-and-merge", SKIP_AND_MERGE, None, [SKIP_REFUSED]),
     ("a full leaf of a judyl", full_leaf(b"judyl", WORDS), None, [full_leaf_refused(b"judyl")]),
     ("a full leaf of a judysl", full_leaf(b"judysl", EIGHT_BYTES), None, [full_leaf_refused(b"judysl")]),
     ("a full leaf of a judyhs", full_leaf(b"judyhs", EIGHT_BYTES), None, [full_leaf_refused(b"judyhs")]),
+]
+# Those of them whose dump is named, in the second format.
+ROWS_2 = [
+    ("store-of-three", STORE_OF_THREE, STORE_OF_THREE_DUMP_2, []),
+    ("smallest-dumps", SMALLEST, SMALLEST_DUMP_2, []),
+    ("three-prefixes", THREE_PREFIXES, THREE_PREFIXES_DUMP_2, []),
 ]
 # Scripts that delete, and answers that must come up: a delete that leaves 32 keys is refused memory, and shows nothing of it.
 SCRIPTS = [
@@ -180,21 +236,22 @@ SCRIPTS = [
 
 
 class Ran(NamedTuple):
-    """One run: its status, its answers, standard error, the dump that it left, and whether it was refused memory."""
+    """One run: its status, its answers, standard error, what it left in the dump file, and whether it was refused memory."""
 
     status: int
     answers: list
     error: bytes
-    dump: Optional[bytes]
+    dump: bytes
     refused: bool
 
 
 class Refusals(Checks):
-    """Runs the program in a folder of its own, and counts what passed and what didn't."""
+    """Runs the program in a folder of its own, with dumps in one format, and counts what passed and what didn't."""
 
-    def __init__(self, program, folder):
+    def __init__(self, program, folder, dump_format):
         super().__init__()
         self.program = program
+        self.dump_format = dump_format
         self.folder = folder
         self.refuser = Refuser(folder)
         self.ample = {}
@@ -203,18 +260,16 @@ class Refusals(Checks):
     def run(self, script, refuse=None, load=None):
         """One run of a script, behind a load of these bytes where there are some."""
         dump, kept = (os.path.join(self.folder, name) for name in ("dump", "kept"))
-        if os.path.exists(dump):
-            os.remove(dump)
-        words = [self.program, "--dump", dump]
+        with open(dump, "wb") as file:
+            file.write(OLD_DUMP)
+        words = [self.program, "--dump", dump, "--format", self.dump_format]
         if load is not None:
             with open(kept, "wb") as file:
                 file.write(load)
             words += ["--load", kept]
         ran, refused = self.refuser.run(words, b"".join(line + b"\n" for line in script), refuse)
-        left = None
-        if os.path.exists(dump):
-            with open(dump, "rb") as file:
-                left = file.read()
+        with open(dump, "rb") as file:
+            left = file.read()
         return Ran(ran.returncode, ran.stdout.splitlines(), ran.stderr, left, refused)
 
     def refused_runs(self, script, load=None):
@@ -250,7 +305,7 @@ class Refusals(Checks):
         wanted, wanted_dump = self.with_ample([line for line, _ in kept])
         self.expect(f"{name}, the rest", [answer for _, answer in kept] == wanted, (ran.answers, wanted))
         if (ran.status, ran.error) == (1, AFTER):
-            self.expect(f"{name}, no dump", ran.dump == b"", ran.dump)
+            self.expect(f"{name}, no dump", ran.dump == OLD_DUMP, ran.dump)
             self.expect(f"{name}, keys to sort", any(line.endswith(b"judyhs") for line, _ in kept), kept)
         else:
             self.expect(f"{name}, the dump", (ran.status, ran.error, ran.dump) == (0, b"", wanted_dump), ran)
@@ -286,25 +341,41 @@ class Refusals(Checks):
         for call, onward, ran in self.refused_runs([b"list"], dump):
             ends.add(ran.error)
             if ran.error in (BEFORE, LOAD):
-                holds = (ran.status, ran.answers, ran.dump) == (1, [], None)
+                holds = (ran.status, ran.answers, ran.dump) == (1, [], OLD_DUMP)
             elif ran.error == AFTER:
-                holds = (ran.status, ran.answers, ran.dump) == (1, ample.answers, b"")
+                holds = (ran.status, ran.answers, ran.dump) == (1, ample.answers, OLD_DUMP)
             else:
                 holds = ran[:4] == ample[:4] and call <= before
             self.expect(f"{name}, {call}{onward}, loaded whole or not at all", holds, ran)
         self.expect(f"{name}, a load that is refused", LOAD in ends, ends)
 
 
-def main():
+def try_format(program, dump_format, rows, scripts, dumps):
+    """All runs of these with dumps in one format; the status that the tool ends with."""
     with tempfile.TemporaryDirectory() as folder:
-        refusals = Refusals(os.path.abspath(sys.argv[1]), folder)
-        for row in ROWS:
+        refusals = Refusals(program, folder, dump_format)
+        for row in rows:
             refusals.check_row(*row)
-        for script in SCRIPTS:
+        for script in scripts:
             refusals.check_script(*script)
-        refusals.check_load("refused-dump-load-make", STORE_OF_THREE_DUMP)
-        refusals.check_load("smallest-dumps, loaded", SMALLEST_DUMP)
-    return refusals.end("the program without memory")
+        for name, dump in dumps:
+            refusals.check_load(name, dump)
+    return refusals.end(f"the program without memory, format {dump_format}")
+
+
+def main():
+    program = os.path.abspath(sys.argv[1])
+    dumps = [
+        ("refused-dump-load-make", STORE_OF_THREE_DUMP),
+        ("smallest-dumps, loaded", SMALLEST_DUMP),
+        ("three-prefixes, loaded", THREE_PREFIXES_DUMP),
+    ]
+    dumps_2 = [
+        ("refused-dump-load-make", STORE_OF_THREE_DUMP_2),
+        ("smallest-dumps, loaded", SMALLEST_DUMP_2),
+        ("three-prefixes, loaded", THREE_PREFIXES_DUMP_2),
+    ]
+    return try_format(program, "1", ROWS, SCRIPTS, dumps) | try_format(program, "2", ROWS_2, [], dumps_2)
 
 
 if __name__ == "__main__":

@@ -12,7 +12,7 @@
  *     read one at the same time, and each thread may change arrays of its own; the library has no data but the arrays'.
  *   - A copy of a handle's word is the same array, so after a change of the one the other must not be used.
  *   - A slot, the pointer to the value of a key, may be read and written until the next call that is handed the array to change
- *     it: `ins`, `put`, `insert`, `del`, `remove` or `free`.
+ *     it: `ins`, `put`, `insert`, `del`, `remove`, `from_sorted` or `free`.
  *   - A pointer through which a call answers points to a word of the caller's, and a pointer to a key or a buffer to as many bytes, keys
  *     or pairs as are told beside it; it isn't NULL, also where these are none. No two of one call overlap.
  *   - No call is made from within a signal handler.
@@ -20,7 +20,11 @@
  * Cost, proved of the queries of words: whatever the array holds, `test`, `get` and `by_count` enter at most 8 nodes of its tree, a search
  * for a neighbour, or for the nearest word that is no key, at most 15, and `count` at most 16.
  *
- * Calls that answer through a pointer write there only where they answer true, or SELLUMAQ_FOUND; `insert` where it answers SELLUMAQ_PRESENT.
+ * Calls that answer through a pointer write there only where they answer true, or SELLUMAQ_FOUND; `insert` where it answers SELLUMAQ_PRESENT, and
+ * `from_sorted` where it answers SELLUMAQ_BAD_KEY.
+ *
+ * Not even a delete of the last key makes a handle zeros: the handle keeps the few bytes that it points to, up to `free`. HP's names do so, in
+ * the other library.
  */
 #ifndef SELLUMAQ_H
 #define SELLUMAQ_H
@@ -41,7 +45,7 @@ enum {
     SELLUMAQ_FOUND = 1,     /* of strings: the key is there, and what was asked of it is told */
     SELLUMAQ_NO_MEMORY = 2, /* the key is absent, there is no memory for it, and nothing changed */
     SELLUMAQ_FULL = 3,      /* the key is absent, and the map holds 4,294,967,295 keys */
-    SELLUMAQ_BAD_KEY = 4,   /* the bytes are no key */
+    SELLUMAQ_BAD_KEY = 4,   /* the bytes are no key; of `from_sorted`: a key isn't above the one before it */
     SELLUMAQ_TOO_SMALL = 5  /* the key found doesn't fit the caller's buffer */
 };
 
@@ -75,6 +79,12 @@ bool sellumaq_judy1_prev_empty(const sellumaq_judy1 *set, uint64_t from, uint64_
  * last ones, and what stands behind them in the buffer stays. The next call goes on from above the last key; the array may change
  * between the two. A walk of 64 keys a call takes a small part of the time of `next`. */
 size_t sellumaq_judy1_walk(const sellumaq_judy1 *set, uint64_t from, uint64_t *keys, size_t capacity);
+
+/* Makes the set one of `count` keys that strictly ascend, in place of what it held, whose memory is given back: SELLUMAQ_ADDED. It takes a
+ * part of the time of as many `set`, and 16 bytes more for each key while it is at work. Else the set is as it was: SELLUMAQ_BAD_KEY where
+ * a key isn't above the one before it, and `*place` is the place of the first such key, counted from 0; SELLUMAQ_NO_MEMORY where the
+ * keys ascend and there is no memory for them. */
+uint32_t sellumaq_judy1_from_sorted(sellumaq_judy1 *set, const uint64_t *keys, size_t count, size_t *place);
 
 /* How many keys there are. */
 uint64_t sellumaq_judy1_len(const sellumaq_judy1 *set);
@@ -142,6 +152,9 @@ typedef struct { uint64_t key, value; } sellumaq_pair;
  * `sellumaq_judy1_walk` does. */
 size_t sellumaq_judyl_walk(const sellumaq_judyl *map, uint64_t from, sellumaq_pair *pairs, size_t capacity);
 
+/* Makes the map one of `count` keys that strictly ascend, each with its value, as `sellumaq_judy1_from_sorted` does. */
+uint32_t sellumaq_judyl_from_sorted(sellumaq_judyl *map, const sellumaq_pair *pairs, size_t count, size_t *place);
+
 /* How many keys there are. */
 uint64_t sellumaq_judyl_len(const sellumaq_judyl *map);
 
@@ -159,6 +172,9 @@ uint64_t sellumaq_judyl_free(sellumaq_judyl *map);
 /* The most bytes of a key. */
 #define SELLUMAQ_KEY_BYTES 1024
 
+/* What a walk tells of a key: how many bytes it has, and its value. */
+typedef struct { size_t length; uint64_t value; } sellumaq_entry;
+
 /* ---- maps from strings to words ----
  *
  * A key is a string of 0 to 1,024 bytes of which none is zero, without the zero byte that ends it in C. The order is that of its
@@ -171,6 +187,13 @@ typedef struct { void *array; } sellumaq_judysl;
  * SELLUMAQ_FULL and SELLUMAQ_NO_MEMORY. A key that is there is never refused. */
 uint32_t sellumaq_judysl_ins(sellumaq_judysl *map, const uint8_t *key, size_t length, uint64_t **slot);
 
+/* Gives a key a value: SELLUMAQ_PRESENT where it was there, whose value it replaces, or SELLUMAQ_ADDED; or, and then nothing changed, the
+ * first that applies of SELLUMAQ_BAD_KEY, SELLUMAQ_FULL and SELLUMAQ_NO_MEMORY. A key that is there is never refused. */
+uint32_t sellumaq_judysl_put(sellumaq_judysl *map, const uint8_t *key, size_t length, uint64_t value);
+
+/* The same, and where the key was there it tells the value that it had. It takes no second way down the map. */
+uint32_t sellumaq_judysl_insert(sellumaq_judysl *map, const uint8_t *key, size_t length, uint64_t value, uint64_t *was);
+
 /* The value of a key; false where the key is absent, as bytes that are no key always are. */
 bool sellumaq_judysl_get(const sellumaq_judysl *map, const uint8_t *key, size_t length, uint64_t *value);
 
@@ -181,6 +204,9 @@ bool sellumaq_judysl_slot(const sellumaq_judysl *map, const uint8_t *key, size_t
  * up to `free`. */
 bool sellumaq_judysl_del(sellumaq_judysl *map, const uint8_t *key, size_t length);
 
+/* The same, and where the key was there it tells the value that it had. */
+bool sellumaq_judysl_remove(sellumaq_judysl *map, const uint8_t *key, size_t length, uint64_t *was);
+
 /* The nearest keys: the least from a string on, the least above it, the greatest up to it, the greatest below it. The string is the
  * first `*length` bytes of the caller's buffer of `capacity` bytes, and needn't be a key of the map. SELLUMAQ_FOUND: the key
  * found has taken its place, `*length` is the key's length and `*value` its value. Else nothing is written: SELLUMAQ_NONE where
@@ -190,6 +216,13 @@ uint32_t sellumaq_judysl_first(const sellumaq_judysl *map, uint8_t *buffer, size
 uint32_t sellumaq_judysl_next(const sellumaq_judysl *map, uint8_t *buffer, size_t capacity, size_t *length, uint64_t *value);
 uint32_t sellumaq_judysl_last(const sellumaq_judysl *map, uint8_t *buffer, size_t capacity, size_t *length, uint64_t *value);
 uint32_t sellumaq_judysl_prev(const sellumaq_judysl *map, uint8_t *buffer, size_t capacity, size_t *length, uint64_t *value);
+
+/* The keys from a string on, or those above it where `itself` is false, with their values, by ascending key. The bytes of the keys are written
+ * to `bytes`, one key behind the other, and the length and the value of each to its place in `entries`; what stands behind them in both
+ * stays. Answers how many keys it told. It ends where no key is left, or where the `room` bytes or the `capacity` entries have no place for
+ * the next one: with SELLUMAQ_KEY_BYTES of room, and one entry, 0 says that no key is left. 0 too where a map can't hold the string. */
+size_t sellumaq_judysl_walk(const sellumaq_judysl *map, const uint8_t *from, size_t length, bool itself,
+                            uint8_t *bytes, size_t room, sellumaq_entry *entries, size_t capacity);
 
 /* How many keys there are. */
 uint64_t sellumaq_judysl_len(const sellumaq_judysl *map);
@@ -208,6 +241,13 @@ typedef struct { void *array; } sellumaq_judyhs;
  * SELLUMAQ_FULL and SELLUMAQ_NO_MEMORY. A key that is there is never refused. */
 uint32_t sellumaq_judyhs_ins(sellumaq_judyhs *map, const uint8_t *key, size_t length, uint64_t **slot);
 
+/* Gives a key a value: SELLUMAQ_PRESENT where it was there, whose value it replaces, or SELLUMAQ_ADDED; or, and then nothing changed, the
+ * first that applies of SELLUMAQ_BAD_KEY, SELLUMAQ_FULL and SELLUMAQ_NO_MEMORY. A key that is there is never refused. */
+uint32_t sellumaq_judyhs_put(sellumaq_judyhs *map, const uint8_t *key, size_t length, uint64_t value);
+
+/* The same, and where the key was there it tells the value that it had. It takes no second way down the map. */
+uint32_t sellumaq_judyhs_insert(sellumaq_judyhs *map, const uint8_t *key, size_t length, uint64_t value, uint64_t *was);
+
 /* The value of a key; false where the key is absent, as longer ones always are. */
 bool sellumaq_judyhs_get(const sellumaq_judyhs *map, const uint8_t *key, size_t length, uint64_t *value);
 
@@ -217,6 +257,14 @@ bool sellumaq_judyhs_slot(const sellumaq_judyhs *map, const uint8_t *key, size_t
 /* Takes a key out with its value; true where it was there. Never refused. After the last key the handle may still hold a little memory,
  * up to `free`. */
 bool sellumaq_judyhs_del(sellumaq_judyhs *map, const uint8_t *key, size_t length);
+
+/* The same, and where the key was there it tells the value that it had. */
+bool sellumaq_judyhs_remove(sellumaq_judyhs *map, const uint8_t *key, size_t length, uint64_t *was);
+
+/* The keys with their values, by the lengths of the keys, and those of one length by their bytes, but for the first `behind` ones; they are
+ * told as `sellumaq_judysl_walk` tells them, and `*count` is how many. The map keeps no order: each call makes a list of all keys and sorts it,
+ * so that few calls with large buffers are better than many. False, and nothing is written, where there is no memory for the list. */
+bool sellumaq_judyhs_walk(const sellumaq_judyhs *map, size_t behind, uint8_t *bytes, size_t room, sellumaq_entry *entries, size_t capacity, size_t *count);
 
 /* How many keys there are. */
 uint64_t sellumaq_judyhs_len(const sellumaq_judyhs *map);

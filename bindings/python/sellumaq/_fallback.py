@@ -1,8 +1,5 @@
 """The types of the extension over the shared library, by ctypes. Its calls are made under the GIL (`PyDLL`), so each is whole before another thread
 goes on, or a signal handler runs.
-
-Between a string's slot and its write Python may do something else, so a map from strings is changed by one call at a time: another thread
-waits, and a signal handler or a finalizer that changes the same map below such a call gets a RuntimeError.
 """
 
 from __future__ import annotations
@@ -10,7 +7,6 @@ from __future__ import annotations
 import ctypes
 import os
 import sys
-import threading
 from operator import index as whole
 
 if not getattr(sys, "_is_gil_enabled", lambda: True)():
@@ -28,6 +24,7 @@ _buffer = (*_key, ctypes.POINTER(ctypes.c_size_t), _slot)
 
 # What calls answer that have more than yes and no to tell; a yes is 1 too.
 _FOUND, _NO_MEMORY, _FULL, _BAD_KEY = 1, 2, 3, 4
+_PUT = 0, 1
 
 _MISSING = object()
 
@@ -55,8 +52,8 @@ def _word_calls(kind, **calls):
 
 
 def _string_calls(kind, *scans):
-    found = _calls(kind, ctypes.c_bool, get=(*_key, _slot), **{"del": _key})
-    return found | _calls(kind, ctypes.c_uint32, ins=(*_key, ctypes.POINTER(_slot)), **dict.fromkeys(scans, _buffer))
+    found = _calls(kind, ctypes.c_bool, **dict.fromkeys(("get", "remove"), (*_key, _slot)))
+    return found | _calls(kind, ctypes.c_uint32, put=(*_key, _word), **dict.fromkeys(scans, _buffer))
 
 
 def _checked(number):
@@ -70,7 +67,7 @@ class _Array:
     """What all kinds have alike. `_passed` is what C is given for a key, or None where the object can't be one."""
 
     # An array keeps the calls of the kind that it was made as, also where its class is set to another.
-    __slots__ = ("_handle", "_calls", "_turn")
+    __slots__ = ("_handle", "_calls")
 
     def __new__(cls, *_, **__):
         self = super().__new__(cls)
@@ -107,7 +104,7 @@ class _Map(_Array):
         raise KeyError(key)
 
     def __delitem__(self, key):
-        if not self._has("del", key):
+        if not self._has("remove", key, _word()):
             raise KeyError(key)
 
     def get(self, key, default=None, /):
@@ -118,8 +115,7 @@ class _Map(_Array):
     def pop(self, key, default=_MISSING, /):
         """Takes a key out and answers its value, or the default."""
         value = _word()
-        if self._has("get", key, value):
-            self._has("del", key)
+        if self._has("remove", key, value):
             return value.value
         if default is _MISSING:
             raise KeyError(key)
@@ -226,7 +222,7 @@ _ENTRY = (_word, _slot, _slot)
 
 
 class WordMap(_Words, _Map):
-    _kind = _word_calls("judyl", get=(_word, _slot), first_entry=_ENTRY, last_entry=_ENTRY, **{"del": (_word,)}) | {
+    _kind = _word_calls("judyl", get=(_word, _slot), remove=(_word, _slot), first_entry=_ENTRY, last_entry=_ENTRY) | {
         "put": _call("judyl_put", ctypes.c_uint32, _word, _word)
     }
 
@@ -239,32 +235,8 @@ class WordMap(_Words, _Map):
             WordMap.__setitem__(self, key, value)
 
 
-class _Turn:
-    """One change of a map at a time."""
-
-    def __init__(self):
-        self._lock = threading.RLock()
-        self._taken = False
-
-    def __enter__(self):
-        self._lock.acquire()
-        if self._taken:
-            self._lock.release()
-            raise RuntimeError("the map is being changed below this call")
-        self._taken = True
-
-    def __exit__(self, *_):
-        self._taken = False
-        self._lock.release()
-
-
 class _Strings(_Map):
     """What maps from strings have alike. `_bytes` is a key's bytes, or a TypeError."""
-
-    def __new__(cls, *_, **__):
-        self = super().__new__(cls)
-        self._turn = _Turn()
-        return self
 
     def _passed(self, key):
         try:
@@ -274,35 +246,14 @@ class _Strings(_Map):
         return (key, len(key)) if len(key) <= MAX_KEY else None
 
     def __setitem__(self, key, value):
-        slot, word, string = _slot(), _checked(value), self._bytes(key)
-        with self._turn:
-            told = self._calls["ins"](self._handle, string, len(string), slot)
-            if told == _FOUND:
-                slot[0] = word
+        word, string = _checked(value), self._bytes(key)
+        told = self._calls["put"](self._handle, string, len(string), word)
         if told == _BAD_KEY:
             raise ValueError(f"more than {MAX_KEY} bytes, or with a zero byte: {key!r}")
         if told == _FULL:
             raise OverflowError("the dict is full")
-        if told != _FOUND:
+        if told not in _PUT:
             raise MemoryError
-
-    def __delitem__(self, key):
-        with self._turn:
-            super().__delitem__(key)
-
-    def pop(self, key, default=_MISSING, /):
-        """Takes a key out and answers its value, or the default."""
-        with self._turn:
-            return super().pop(key, default)
-
-    def clear(self):
-        """Takes every key out and gives the memory back."""
-        with self._turn:
-            super().clear()
-
-    def __del__(self):
-        if hasattr(self, "_turn"):
-            self.clear()
 
 
 class _Text:
@@ -359,8 +310,31 @@ class BytesMap(_Bytes, _OrderedStrings):
     pass
 
 
+class _Entry(ctypes.Structure):
+    _fields_ = [("length", ctypes.c_size_t), ("value", _word)]
+
+
 class _Hash(_Strings):
-    _kind = _string_calls("judyhs")
+    _kind = _string_calls("judyhs") | {
+        "walk": _call("judyhs_walk", ctypes.c_bool, ctypes.c_size_t, *_key, ctypes.POINTER(_Entry), ctypes.c_size_t, ctypes.POINTER(ctypes.c_size_t))
+    }
+
+    def _list(self, part):
+        """All are told by one call, so that none comes or goes meanwhile."""
+        room, count, found = 64 * (len(self) + 16), ctypes.c_size_t(), []
+        while True:
+            capacity = len(self) + 1
+            keys, entries = ctypes.create_string_buffer(room), (_Entry * capacity)()
+            if not self._calls["walk"](self._handle, 0, keys, room, entries, capacity, count):
+                raise MemoryError
+            if count.value == len(self):
+                break
+            room *= 4
+        text, at = keys.raw, 0
+        for entry in entries[: count.value]:
+            found.append((self._object(text[at : at + entry.length]), entry.value))
+            at += entry.length
+        return found if part == ITEMS else [pair[part] for pair in found]
 
 
 class TextHash(_Text, _Hash):

@@ -2,7 +2,7 @@
 
 from __future__ import annotations
 
-from collections.abc import Iterable, Iterator, Mapping
+from collections.abc import Iterable, Iterator
 from typing import Any
 
 from . import _core, _views
@@ -145,40 +145,47 @@ class JudySLBytes(_core.BytesMap, _Bytes, _Ordered):
     """
 
 
-class _Unordered(_Strings):
-    """What both kinds of JudyHS have alike. What would need a walk through the keys is a TypeError."""
+class _Unordered(Copied, _Strings):
+    """What both kinds of JudyHS have alike. A walk lists all keys at its beginning, by their lengths, and those of one length by their
+    bytes; what becomes of the dict then is none of its concern."""
 
-    __iter__ = None
-    __hash__ = None
+    def __iter__(self) -> Iterator[Any]:
+        return iter(self._list(KEYS))
 
-    def __eq__(self, other: object) -> bool:
-        if self is other:
-            return True
-        if not isinstance(other, Mapping):
-            return NotImplemented
-        if len(self) != len(other):
-            return False
-        return not self or all(self.get(key) == value for key, value in other.items())
+    def __reversed__(self) -> Iterator[Any]:
+        return reversed(self._list(KEYS))
 
-    def __reduce__(self) -> Any:
-        raise TypeError(f"a {type(self).__name__} can't be copied: there is no walk through its keys")
+    def _items(self, reverse: bool) -> Iterator[tuple[Any, int]]:
+        return reversed(self._list(ITEMS)) if reverse else iter(self._list(ITEMS))
 
-    def __repr__(self) -> str:
-        return f"<{type(self).__name__} of {len(self)} keys>"
+    def _values(self, reverse: bool) -> Iterator[int]:
+        return reversed(self._list(VALUES)) if reverse else iter(self._list(VALUES))
+
+    def keys(self) -> _views.Keys:
+        """The keys."""
+        return _views.Keys(self)
+
+    def items(self) -> _views.Items:
+        """The pairs."""
+        return _views.Items(self)
+
+    def values(self) -> _views.Values:
+        """The values."""
+        return _views.Values(self)
 
 
 class JudyHS(_core.TextHash, _Text, _Unordered):
-    """A dict from str of at most 1,024 bytes in UTF-8 to words, in no order and with no walk.
+    """A dict from str of at most 1,024 bytes in UTF-8 to words, in no order.
 
-    >>> ages = JudyHS(Ada=36)
-    >>> ages["Ada"], len(ages), ages == {"Ada": 36}
-    (36, 1, True)
+    >>> ages = JudyHS(Alan=41, Ada=36)
+    >>> ages["Ada"], len(ages), ages == {"Ada": 36, "Alan": 41}, list(ages)
+    (36, 2, True, ['Ada', 'Alan'])
     """
 
 
 class JudyHSBytes(_core.BytesHash, _Bytes, _Unordered):
-    """A dict from at most 1,024 bytes to words, in no order and with no walk.
+    """A dict from at most 1,024 bytes to words, in no order.
 
-    >>> JudyHSBytes({b"a\\0": 1})[b"a\\0"]
-    1
+    >>> JudyHSBytes({b"a\\0": 1})
+    JudyHSBytes({b'a\\x00': 1})
     """

@@ -52,7 +52,7 @@ PyObject *make_part(enum part part, PyObject *key, uint64_t value)
 {
     if (part == KEYS || !key)
         return key;
-    PyObject *number = PyLong_FromUnsignedLongLong(value);
+    PyObject *number = make_word(value);
     if (part == VALUES || !number) {
         Py_DECREF(key);
         return number;

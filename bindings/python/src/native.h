@@ -1,8 +1,8 @@
 /* What the files of the extension share.
  *
  * Each call of the library is made under the GIL, and between its first and its last instruction no Python code runs: what may run
- * some (`__index__`, a buffer, a collection of garbage) comes before the handle is touched or after. A slot is written in the
- * function that got it. So a thread, a signal handler or a finalizer finds each array between two calls.
+ * some (`__index__`, a buffer, a collection of garbage) comes before the handle is touched or after. So a thread, a signal handler or a
+ * finalizer finds each array between two calls.
  */
 #ifndef SELLUMAQ_NATIVE_H
 #define SELLUMAQ_NATIVE_H
@@ -10,6 +10,7 @@
 #define PY_SSIZE_T_CLEAN
 #define Py_LIMITED_API 0x030b0000
 #include <Python.h>
+#include <limits.h>
 #include <stdbool.h>
 #include <stdint.h>
 
@@ -22,10 +23,10 @@ typedef union {
     sellumaq_judyhs hashed;
 } Handle;
 
-/* Where cursors stand in an array is good until these change. */
+/* What a cursor took of an array is good until these change: of keys alone the first, else the second. */
 typedef struct {
-    uint64_t keys;   /* how often a key came or went */
-    uint64_t values; /* how often a value was replaced */
+    uint64_t keys; /* how often a key came or went */
+    uint64_t all;  /* how often that happened, or a value was replaced */
 } Changes;
 
 /* What a cursor gives of a key. */
@@ -49,6 +50,12 @@ bool read_word(PyObject *object, uint64_t *word);
 
 /* A word to be looked for: 1, 0 where the object can't be one, -1 with an error set. */
 int read_key(PyObject *object, uint64_t *word);
+
+/* A word as Python has it. Most are small, and made faster from a long. */
+static inline PyObject *make_word(uint64_t word)
+{
+    return word <= LONG_MAX ? PyLong_FromLong((long)word) : PyLong_FromUnsignedLongLong(word);
+}
 
 /* KeyError with one argument, whatever the key is. */
 void raise_key_error(PyObject *key);

@@ -99,11 +99,8 @@ static PyObject *cursor_next(PyObject *object)
         return NULL;
     }
     if (self->part == VALUES)
-        return PyLong_FromUnsignedLongLong(value);
-    const char *bytes = (const char *)self->key;
-    Py_ssize_t length = (Py_ssize_t)self->length;
-    PyObject *key = self->map->is_text ? PyUnicode_DecodeUTF8(bytes, length, "surrogatepass") : PyBytes_FromStringAndSize(bytes, length);
-    return make_part(self->part, key, value);
+        return make_word(value);
+    return make_part(self->part, make_key(self->map, self->key, self->length), value);
 }
 
 static int cursor_traverse(PyObject *object, visitproc visit, void *arg)

@@ -4,21 +4,21 @@
 #include "strings.h"
 
 #define STRING_CALLS(kind, member)                                                                                  \
-    static uint32_t kind##_ins(Handle *handle, const uint8_t *key, size_t length, uint64_t **slot)                   \
+    static uint32_t kind##_put(Handle *handle, const uint8_t *key, size_t length, uint64_t value)                    \
     {                                                                                                                \
-        return sellumaq_##kind##_ins(&handle->member, key, length, slot);                                            \
+        return sellumaq_##kind##_put(&handle->member, key, length, value);                                           \
     }                                                                                                                \
     static bool kind##_get(Handle *handle, const uint8_t *key, size_t length, uint64_t *value)                       \
     {                                                                                                                \
         return sellumaq_##kind##_get(&handle->member, key, length, value);                                           \
     }                                                                                                                \
-    static bool kind##_del(Handle *handle, const uint8_t *key, size_t length)                                        \
+    static bool kind##_remove(Handle *handle, const uint8_t *key, size_t length, uint64_t *value)                    \
     {                                                                                                                \
-        return sellumaq_##kind##_del(&handle->member, key, length);                                                  \
+        return sellumaq_##kind##_remove(&handle->member, key, length, value);                                        \
     }                                                                                                                \
     static uint64_t kind##_len(Handle *handle) { return sellumaq_##kind##_len(&handle->member); }                    \
     static uint64_t kind##_free(Handle *handle) { return sellumaq_##kind##_free(&handle->member); }                  \
-    static const StringCalls kind##_calls = {kind##_ins, kind##_get, kind##_del, kind##_len, kind##_free};
+    static const StringCalls kind##_calls = {kind##_put, kind##_get, kind##_remove, kind##_len, kind##_free};
 
 STRING_CALLS(judysl, strings)
 STRING_CALLS(judyhs, hashed)
@@ -98,23 +98,14 @@ static int find_value(Strings *self, PyObject *object, uint64_t *value, bool tak
     int found = find_string(self, object, &key);
     if (found != 1)
         return found;
-    found = self->calls->get(&self->handle, key.bytes, key.length, value);
-    if (found && take_out)
-        self->calls->del(&self->handle, key.bytes, key.length);
+    found = (take_out ? self->calls->remove : self->calls->get)(&self->handle, key.bytes, key.length, value);
     Py_XDECREF(key.owner);
     return found;
 }
 
-/* Gives a key a value, by a slot that is used before anything else is done. */
 static uint32_t put(Strings *self, const Key *key, uint64_t value)
 {
-    uint64_t *slot;
-    if (is_too_long(key))
-        return SELLUMAQ_BAD_KEY;
-    uint32_t told = self->calls->ins(&self->handle, key->bytes, key->length, &slot);
-    if (told == SELLUMAQ_FOUND)
-        *slot = value;
-    return told;
+    return is_too_long(key) ? SELLUMAQ_BAD_KEY : self->calls->put(&self->handle, key->bytes, key->length, value);
 }
 
 static bool put_value(Strings *self, PyObject *object, PyObject *value)
@@ -126,7 +117,8 @@ static bool put_value(Strings *self, PyObject *object, PyObject *value)
     uint32_t told = put(self, &key, number);
     Py_XDECREF(key.owner);
     switch (told) {
-    case SELLUMAQ_FOUND:
+    case SELLUMAQ_PRESENT:
+    case SELLUMAQ_ADDED:
         return true;
     case SELLUMAQ_BAD_KEY:
         PyErr_Format(PyExc_ValueError, "more than %d bytes, or with a zero byte: %R", SELLUMAQ_KEY_BYTES, object);
@@ -189,7 +181,7 @@ static PyObject *strings_item(PyObject *self, PyObject *key)
     uint64_t value;
     int found = find_value((Strings *)self, key, &value, false);
     if (found == 1)
-        return PyLong_FromUnsignedLongLong(value);
+        return make_word(value);
     if (found == 0)
         raise_key_error(key);
     return NULL;
@@ -221,7 +213,7 @@ static PyObject *strings_get(PyObject *self, PyObject *const *arguments, Py_ssiz
     int found = find_value((Strings *)self, arguments[0], &value, false);
     if (found < 0)
         return NULL;
-    return found ? PyLong_FromUnsignedLongLong(value) : Py_NewRef(count == 2 ? arguments[1] : Py_None);
+    return found ? make_word(value) : Py_NewRef(count == 2 ? arguments[1] : Py_None);
 }
 
 static PyObject *strings_pop(PyObject *self, PyObject *const *arguments, Py_ssize_t count)
@@ -231,7 +223,7 @@ static PyObject *strings_pop(PyObject *self, PyObject *const *arguments, Py_ssiz
         return NULL;
     int found = find_value((Strings *)self, arguments[0], &value, true);
     if (found == 1)
-        return PyLong_FromUnsignedLongLong(value);
+        return make_word(value);
     if (found == 0 && count == 2)
         return Py_NewRef(arguments[1]);
     if (found == 0)
@@ -268,6 +260,18 @@ static PyObject *cursor(PyObject *self, PyTypeObject *defining, PyObject *const 
     return new_string_cursor(state->string_cursor, (Strings *)self, (enum part)part, bounds[0], bounds[1], reverse);
 }
 
+static PyObject *hash_list(PyObject *object, PyObject *part)
+{
+    uint64_t wanted;
+    if (!read_word(part, &wanted))
+        return NULL;
+    if (wanted > ITEMS) {
+        PyErr_SetString(PyExc_ValueError, "no such part");
+        return NULL;
+    }
+    return list_of((Strings *)object, (enum part)wanted);
+}
+
 #define STRING_METHODS                                                                                                            \
     {"clear", strings_clear, METH_NOARGS, "Takes every key out and gives the memory back."},                                      \
     {"get", (PyCFunction)(void (*)(void))strings_get, METH_FASTCALL, "The value of a key, or the default where it isn't there."}, \
@@ -278,7 +282,11 @@ static PyMethodDef map_methods[] = {
     {"_cursor", (PyCFunction)(void (*)(void))cursor, METH_METHOD | METH_FASTCALL | METH_KEYWORDS, "A walk between two strings."},
     {NULL, NULL, 0, NULL},
 };
-static PyMethodDef hash_methods[] = {STRING_METHODS, {NULL, NULL, 0, NULL}};
+static PyMethodDef hash_methods[] = {
+    STRING_METHODS,
+    {"_list", hash_list, METH_O, "All keys, values or pairs, by the lengths of the keys, and those of one length by their bytes."},
+    {NULL, NULL, 0, NULL},
+};
 
 #define STRING_SLOTS(name, new, methods)                                                                                    \
     static PyType_Slot name##_slots[] = {                                                                                   \

@@ -13,8 +13,12 @@ typedef struct {
     bool reverse;
     uint64_t from; /* where the next pairs begin */
     uint64_t end;  /* the last word that may come */
-    Changes changes;
-    int most, taken, given;
+    const uint64_t *changes; /* the count of changes that matter, */
+    uint64_t seen;           /* and how many there were when pairs were taken */
+    int most; /* how many are taken next */
+    int left; /* how many of those that were taken are still to come */
+    int step; /* from a key to the next in `told`: through a set 1, through a map 2, and less than 0 backward */
+    const uint64_t *told; /* the key that comes next, behind which its value stands in a map */
     union {
         uint64_t keys[PAIRS];       /* through a set */
         sellumaq_pair pairs[PAIRS]; /* through a map */
@@ -31,7 +35,10 @@ PyObject *new_word_cursor(PyTypeObject *type, Words *words, enum part part, uint
     self->reverse = reverse;
     self->from = reverse ? high : low;
     self->end = reverse ? low : high;
+    self->changes = part == KEYS ? &words->changes.keys : &words->changes.all;
+    self->seen = *self->changes;
     self->most = FIRST_PAIRS;
+    self->step = (words->is_map ? 2 : 1) * (reverse ? -1 : 1);
     return (PyObject *)self;
 }
 
@@ -77,44 +84,37 @@ static void finish(Cursor *self)
 {
     Words *words = self->words;
     self->words = NULL;
-    self->taken = self->given = 0;
+    self->told = NULL;
+    self->left = 0;
     Py_XDECREF((PyObject *)words);
 }
 
-/* Moves `from` behind the key that was given last; false where no key can come after it. */
-static bool step_over(Cursor *self, uint64_t key)
+/* Moves `from` behind the key that was given last, if one was; false where no key can come after it. */
+static bool step_over(Cursor *self)
 {
-    if (key == self->end)
+    uint64_t last = self->told ? self->told[-self->step] : 0;
+    if (!self->told)
+        return true;
+    if (last == self->end)
         return false;
-    self->from = self->reverse ? key - 1 : key + 1;
+    self->from = self->reverse ? last - 1 : last + 1;
     return true;
 }
 
-static bool is_stale(const Cursor *self)
-{
-    const Changes *now = &self->words->changes;
-    return self->changes.keys != now->keys || (self->part != KEYS && self->changes.values != now->values);
-}
+static bool is_stale(const Cursor *self) { return *self->changes != self->seen; }
 
-/* Where the pair stands that is given after so many. */
-static int place_of(const Cursor *self, int given)
+/* Takes the next pairs, and answers how many. */
+static int take(Cursor *self)
 {
-    return self->reverse ? self->taken - 1 - given : given;
-}
-
-/* Takes the next pairs; false where there are none. */
-static bool take(Cursor *self)
-{
-    if (self->given > 0 && !step_over(self, key_at(self, place_of(self, self->given - 1))))
-        return false;
-    if (is_beyond(self, self->from))
-        return false;
+    if (!step_over(self) || is_beyond(self, self->from))
+        return 0;
     self->most = is_stale(self) ? FIRST_PAIRS : self->most;
-    self->changes = self->words->changes;
-    self->given = 0;
-    self->taken = self->reverse ? take_down(self) : take_up(self);
+    self->seen = *self->changes;
+    int taken = self->reverse ? take_down(self) : take_up(self), first = self->reverse ? taken - 1 : 0;
     self->most = PAIRS;
-    return self->taken > 0;
+    self->left = taken;
+    self->told = self->words->is_map ? &self->pairs[first].key : &self->keys[first];
+    return taken;
 }
 
 static PyObject *cursor_next(PyObject *object)
@@ -122,16 +122,14 @@ static PyObject *cursor_next(PyObject *object)
     Cursor *self = (Cursor *)object;
     if (!self->words)
         return NULL;
-    if ((self->given == self->taken || is_stale(self)) && !take(self)) {
+    if ((self->left == 0 || is_stale(self)) && take(self) == 0) {
         finish(self);
         return NULL;
     }
-    int at = place_of(self, self->given++);
-    if (self->part == KEYS)
-        return PyLong_FromUnsignedLongLong(key_at(self, at));
-    if (self->part == VALUES)
-        return PyLong_FromUnsignedLongLong(self->pairs[at].value);
-    return make_part(ITEMS, PyLong_FromUnsignedLongLong(self->pairs[at].key), self->pairs[at].value);
+    const uint64_t *told = self->told;
+    self->told += self->step;
+    self->left--;
+    return self->part == KEYS ? make_word(told[0]) : self->part == VALUES ? make_word(told[1]) : make_part(ITEMS, make_word(told[0]), told[1]);
 }
 
 static int cursor_traverse(PyObject *object, visitproc visit, void *arg)

@@ -84,10 +84,16 @@ static int words_contains(PyObject *object, PyObject *key)
     return could_be == 1 ? self->calls->has(&self->handle, word) : could_be;
 }
 
+static void count_changes(Words *self, int keys, int values)
+{
+    self->changes.keys += (uint64_t)keys;
+    self->changes.all += (uint64_t)(keys + values);
+}
+
 static PyObject *words_clear(PyObject *object, PyObject *Py_UNUSED(none))
 {
     Words *self = (Words *)object;
-    self->changes.keys++;
+    count_changes(self, 1, 0);
     self->calls->free(&self->handle);
     Py_RETURN_NONE;
 }
@@ -99,7 +105,7 @@ static int remove_key(Words *self, PyObject *key)
     int found = read_key(key, &word);
     if (found == 1) {
         found = self->calls->remove(&self->handle, word);
-        self->changes.keys += found;
+        count_changes(self, found, 0);
     }
     return found;
 }
@@ -108,7 +114,7 @@ static PyObject *number_or_none(bool found, uint64_t word)
 {
     if (!found)
         Py_RETURN_NONE;
-    return PyLong_FromUnsignedLongLong(word);
+    return make_word(word);
 }
 
 /* A search up; below the words it begins with 0, above them it finds nothing. */
@@ -154,7 +160,7 @@ static PyObject *bisect(Words *self, PyObject *number, bool with_itself)
         count = self->calls->len(&self->handle);
     else if (side == WITHIN && (with_itself || word > 0))
         count = self->calls->count(&self->handle, 0, with_itself ? word : word - 1);
-    return PyLong_FromUnsignedLongLong(count);
+    return make_word(count);
 }
 
 static PyObject *bisect_left(PyObject *self, PyObject *number) { return bisect((Words *)self, number, false); }
@@ -171,7 +177,7 @@ static PyObject *key_at(PyObject *object, PyObject *place)
     if (at < 0)
         at += (Py_ssize_t)self->calls->len(&self->handle);
     if (at >= 0 && self->calls->by_count(&self->handle, (uint64_t)at + 1, &word))
-        return PyLong_FromUnsignedLongLong(word);
+        return make_word(word);
     PyErr_Format(PyExc_IndexError, "no key at place %R", place);
     return NULL;
 }
@@ -192,7 +198,7 @@ static PyObject *keys_of_slice(PyObject *object, PyObject *slice)
             word = PyLong_AsUnsignedLongLong(last);
             found = self->calls->next(&self->handle, word, &word);
         }
-        PyObject *key = found ? PyLong_FromUnsignedLongLong(word) : NULL;
+        PyObject *key = found ? make_word(word) : NULL;
         if (!found)
             break;
         if (!key || PyList_Append(keys, key) < 0)
@@ -252,7 +258,7 @@ static bool put_key(Words *self, PyObject *key)
     if (!read_word(key, &word))
         return false;
     uint32_t told = sellumaq_judy1_set(&self->handle.set, word);
-    self->changes.keys += told == SELLUMAQ_ADDED;
+    count_changes(self, told == SELLUMAQ_ADDED, 0);
     if (told == SELLUMAQ_NO_MEMORY)
         PyErr_NoMemory();
     return told != SELLUMAQ_NO_MEMORY;
@@ -333,8 +339,7 @@ static bool put_value(Words *self, PyObject *key, PyObject *value)
     if (!read_word(key, &word) || !read_word(value, &number))
         return false;
     uint32_t told = sellumaq_judyl_put(&self->handle.map, word, number);
-    self->changes.keys += told == SELLUMAQ_ADDED;
-    self->changes.values += told == SELLUMAQ_PRESENT;
+    count_changes(self, told == SELLUMAQ_ADDED, told == SELLUMAQ_PRESENT);
     if (told == SELLUMAQ_NO_MEMORY)
         PyErr_NoMemory();
     return told != SELLUMAQ_NO_MEMORY;
@@ -345,7 +350,7 @@ static PyObject *map_item(PyObject *self, PyObject *key)
     uint64_t word, value;
     int found = find_value((Words *)self, key, &word, &value);
     if (found == 1)
-        return PyLong_FromUnsignedLongLong(value);
+        return make_word(value);
     if (found == 0)
         raise_key_error(key);
     return NULL;
@@ -370,7 +375,7 @@ static PyObject *map_get(PyObject *self, PyObject *const *arguments, Py_ssize_t 
     int found = find_value((Words *)self, arguments[0], &word, &value);
     if (found < 0)
         return NULL;
-    return found ? PyLong_FromUnsignedLongLong(value) : Py_NewRef(count == 2 ? arguments[1] : Py_None);
+    return found ? make_word(value) : Py_NewRef(count == 2 ? arguments[1] : Py_None);
 }
 
 static PyObject *map_pop(PyObject *object, PyObject *const *arguments, Py_ssize_t count)
@@ -383,8 +388,8 @@ static PyObject *map_pop(PyObject *object, PyObject *const *arguments, Py_ssize_
     if (found == 1)
         found = sellumaq_judyl_remove(&self->handle.map, word, &value);
     if (found == 1) {
-        self->changes.keys++;
-        return PyLong_FromUnsignedLongLong(value);
+        count_changes(self, 1, 0);
+        return make_word(value);
     }
     if (found == 0 && count == 2)
         return Py_NewRef(arguments[1]);

@@ -75,12 +75,11 @@ class Words(unittest.TestCase):
             array.nth(len(plain))
 
     def test_a_copy_is_another_array(self):
-        for array in (Judy1({5}), JudyL({5: 6}), JudySL(five=6)):
+        for array in (Judy1({5}), JudyL({5: 6}), JudySL(five=6), JudyHS(five=6)):
             for other in (array.copy(), copy.copy(array), copy.deepcopy(array)):
                 self.assertEqual(other, array)
                 other.clear()
                 self.assertEqual(len(array), 1)
-        self.assertRaises(TypeError, copy.copy, JudyHS(five=6))
 
 
 def string(words, letters):
@@ -127,10 +126,34 @@ class Strings(unittest.TestCase):
                     self.assertEqual(array.pop(it, None), plain.pop(it, None))
                 other = string(words, letters)
                 self.assertEqual((len(array), other in array, array.get(other)), (len(plain), other in plain, plain.get(other)))
-            self.assertTrue(all(array[key] == plain[key] for key in plain))
-            self.assertRaises(TypeError, iter, array)
+            self.assertEqual(array, plain)
+            self.unordered(array, plain)
             array.clear()
             self.assertFalse(array)
+            self.unordered(array, {})
+
+    def unordered(self, array, plain):
+        """A walk gives each key once: by how many bytes it has, and then by these."""
+        keys = sorted(plain, key=lambda it: (len(array._encoded(it)), array._encoded(it)))
+        self.assertEqual((list(array), list(reversed(array)), list(array.keys())), (keys, keys[::-1], keys))
+        self.assertEqual((list(array.values()), list(reversed(array.values()))), ([plain[it] for it in keys], [plain[it] for it in reversed(keys)]))
+        self.assertEqual((dict(array.items()), list(reversed(array.items()))), (plain, [(it, plain[it]) for it in reversed(keys)]))
+        self.assertEqual((type(array)(plain), repr(array)), (array, f"{type(array).__name__}({({it: plain[it] for it in keys})})"))
+
+    def test_long_keys_without_order(self):
+        """Keys of more bytes than the first call of a walk has room for."""
+        plain = {b"%05d" % n + bytes(n % 1000): n for n in range(3000)}
+        array = JudyHSBytes(plain)
+        self.unordered(array, plain)
+        for key in array:
+            if plain[key] % 3:
+                del array[key]
+        self.assertEqual(array, {key: value for key, value in plain.items() if value % 3 == 0})
+
+    def test_pairs_taken_without_order(self):
+        array = JudyHS(a=1, bb=2, c=3)
+        self.assertEqual([array.popitem() for _ in range(3)], [("a", 1), ("c", 3), ("bb", 2)])
+        self.assertRaises(KeyError, array.popitem)
 
     def test_what_is_no_key(self):
         for array in (JudySL(), JudyHS()):

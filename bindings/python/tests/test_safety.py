@@ -78,10 +78,7 @@ class Signals(unittest.TestCase):
                 def clear(*_):
                     nonlocal cleared
                     cleared += 1
-                    try:
-                        array.clear()
-                    except RuntimeError:
-                        self.assertEqual(BINDING, "ctypes")
+                    array.clear()
 
                 before = signal.signal(signal.SIGALRM, clear)
                 signal.setitimer(signal.ITIMER_REAL, 1e-4, 1e-4)
@@ -237,7 +234,8 @@ class ReEntry(unittest.TestCase):
 
     def test_an_interrupted_program_ends_by_its_interrupt(self):
         program = (
-            "import _thread, threading, sellumaq\n"
+            "import _thread, signal, threading, sellumaq\n"
+            "signal.signal(signal.SIGINT, signal.default_int_handler)  # a program in the background begins without it\n"
             "array = sellumaq.JudySL()\n"
             "threading.Timer(0.2, _thread.interrupt_main).start()\n"
             "n = 0\n"
@@ -251,14 +249,13 @@ class ReEntry(unittest.TestCase):
 
 class Copies(unittest.TestCase):
     def test_pickles(self):
-        for array in (Judy1([1, MAX]), JudyL({1: 2}), JudySL(a=1), JudySLBytes({b"a": 1})):
+        for array in (Judy1([1, MAX]), JudyL({1: 2}), JudySL(a=1), JudySLBytes({b"a": 1}), JudyHS(a=1), JudyHSBytes({b"a": 1})):
             for protocol in range(pickle.HIGHEST_PROTOCOL + 1):
                 other = pickle.loads(pickle.dumps(array, protocol))
                 self.assertEqual((other, type(other)), (array, type(array)))
             array.told = "kept"
             self.assertEqual(pickle.loads(pickle.dumps(array)).told, "kept")
-        for refused in (pickle.dumps, copy.copy, copy.deepcopy):
-            self.assertRaises(TypeError, refused, JudyHS(a=1))
+            self.assertEqual(copy.deepcopy(array), array)
 
 
 if __name__ == "__main__":

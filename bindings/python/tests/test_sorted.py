@@ -129,7 +129,7 @@ class Tables(unittest.TestCase):
     def test_unordered(self):
         ages = JudyHS(a=1)
         self.assertEqual((ages == {"a": 1}, ages == {"a": 2}, ages == {"b": 1}, {"a": 1} == ages, ages == 5), (True, False, False, True, False))
-        self.assertRaises(TypeError, lambda: ages == JudyHS(a=1))
+        self.assertEqual((ages == JudyHS(a=1), ages == JudyHS(a=2), ages | {"b": 2} == JudyHS(b=2, a=1), list(ages.keys())), (True, False, True, ["a"]))
 
     def test_bytes_like_keys(self):
         times = JudySLBytes({b"a": 1})

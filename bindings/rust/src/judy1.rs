@@ -1,5 +1,6 @@
 //! Sets of words, and their iterators.
 use crate::array::array;
+use crate::sorted::at_once;
 use crate::span::{Found, Span};
 use crate::walk::walks;
 use crate::way::Way;
@@ -32,6 +33,12 @@ word_array!(
 );
 
 collected!(Judy1; u64; "let array = sellumaq::Judy1::from([1, 2, 10]);");
+
+at_once!(
+    Judy1; u64; u64, sellumaq_judy1_from_sorted;
+    "let array = sellumaq::Judy1::from_sorted([1, 2, 10]);",
+    "assert!(sellumaq::Judy1::from_sorted([1, 2, 2]).is_err());"
+);
 
 walks!(Judy1 through Way<Judy1>; u64);
 

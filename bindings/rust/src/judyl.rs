@@ -3,6 +3,7 @@ use crate::array::array;
 use crate::entry::entries;
 use crate::ordered::ordered_map;
 use crate::slots::slot_walks;
+use crate::sorted::at_once;
 use crate::span::{Found, Span};
 use crate::walk::walks;
 use crate::way::Way;
@@ -34,6 +35,12 @@ word_array!(
 );
 
 collected!(JudyL; (u64, u64); "let array = sellumaq::JudyL::from([(1, 10), (2, 20), (10, 30)]);");
+
+at_once!(
+    JudyL; (u64, u64); sys::sellumaq_pair, sellumaq_judyl_from_sorted;
+    "let array = sellumaq::JudyL::from_sorted([(1, 10), (2, 20), (10, 30)]);",
+    "assert!(sellumaq::JudyL::from_sorted([(2, 20), (1, 10)]).is_err());"
+);
 
 walks!(JudyL through Way<JudyL>; (u64, u64));
 
@@ -229,7 +236,8 @@ impl JudyL {
     pub fn remove(&mut self, key: impl Borrow<u64>) -> Option<u64> {
         let mut was = 0;
         // SAFETY: the handle is this map's, lent for this call alone.
-        let found = unsafe { sys::sellumaq_judyl_remove(&mut self.handle, *key.borrow(), &mut was) };
+        let found =
+            unsafe { sys::sellumaq_judyl_remove(&mut self.handle, *key.borrow(), &mut was) };
         found.then_some(was)
     }
 

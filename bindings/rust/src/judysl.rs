@@ -30,7 +30,7 @@ array!(
 );
 
 keyed_map!(
-    JudySl; sellumaq_judysl_ins, sellumaq_judysl_get, sellumaq_judysl_slot, sellumaq_judysl_del;
+    JudySl; sellumaq_judysl_ins, sellumaq_judysl_insert, sellumaq_judysl_get, sellumaq_judysl_slot, sellumaq_judysl_del, sellumaq_judysl_remove;
     "let mut map = sellumaq::JudySl::from([(\"a\", 10)]);"
 );
 

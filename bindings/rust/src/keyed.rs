@@ -1,5 +1,6 @@
 //! What maps from strings and from byte strings have alike.
 use crate::{no_room, NoMemory};
+use sellumaq_sys as sys;
 use std::fmt;
 
 /// How many bytes a key has at most.
@@ -27,6 +28,15 @@ pub enum InsertError {
 }
 
 impl InsertError {
+    /// Why an insert answers so.
+    pub(crate) fn of(told: u32) -> InsertError {
+        match told {
+            sys::SELLUMAQ_FULL => InsertError::Full,
+            sys::SELLUMAQ_NO_MEMORY => InsertError::NoMemory,
+            _ => InsertError::BadKey,
+        }
+    }
+
     /// Ends the program as an insert of std would.
     pub(crate) fn end<T>(self) -> T {
         match self {
@@ -51,7 +61,7 @@ impl std::error::Error for InsertError {}
 /// Writes the calls of a `$map` that need no order of its keys, over the calls of C named. `$sample` is a line of an example
 /// that makes `map` with the key `"a"` of the value 10.
 macro_rules! keyed_map {
-    ($map:ident; $ins:ident, $get:ident, $slot:ident, $del:ident; $sample:literal) => {
+    ($map:ident; $ins:ident, $insert:ident, $get:ident, $slot:ident, $del:ident, $remove:ident; $sample:literal) => {
         // What takes the library's pointers.
         impl $map {
             /// The slot of a key. It may be written to where the map is borrowed to be changed.
@@ -68,9 +78,7 @@ macro_rules! keyed_map {
                 // SAFETY: the handle is this map's, lent for this call alone; the key is a slice's.
                 match unsafe { sys::$ins(&mut self.handle, key.as_ptr(), key.len(), &mut slot) } {
                     sys::SELLUMAQ_FOUND => NonNull::new(slot).ok_or(InsertError::NoMemory),
-                    sys::SELLUMAQ_FULL => Err(InsertError::Full),
-                    sys::SELLUMAQ_NO_MEMORY => Err(InsertError::NoMemory),
-                    _ => Err(InsertError::BadKey),
+                    told => Err(InsertError::of(told)),
                 }
             }
 
@@ -106,9 +114,13 @@ macro_rules! keyed_map {
                 key: impl AsRef<[u8]>,
                 value: u64,
             ) -> Result<Option<u64>, InsertError> {
-                let before = self.len();
-                let had = std::mem::replace(self.slot(key)?, value);
-                Ok((self.len() == before).then_some(had))
+                let (handle, key, mut had) = (&mut self.handle, key.as_ref(), 0);
+                // SAFETY: the handle is this map's, lent for this call alone; the key is a slice's.
+                match unsafe { sys::$insert(handle, key.as_ptr(), key.len(), value, &mut had) } {
+                    sys::SELLUMAQ_PRESENT => Ok(Some(had)),
+                    sys::SELLUMAQ_ADDED => Ok(None),
+                    told => Err(InsertError::of(told)),
+                }
             }
 
             /// The value of a key, to read and to change; the key is put in with the value 0 where it is absent. It is one
@@ -167,10 +179,10 @@ macro_rules! keyed_map {
             /// assert_eq!((map.remove("a"), map.remove("a")), (Some(10), None));
             /// ```
             pub fn remove(&mut self, key: impl AsRef<[u8]>) -> Option<u64> {
-                let key = key.as_ref();
-                let value = self.get(key)?;
-                self.delete(key);
-                Some(value)
+                let (handle, key, mut had) = (&mut self.handle, key.as_ref(), 0);
+                // SAFETY: the handle is this map's, lent for this call alone; the key is a slice's.
+                let found = unsafe { sys::$remove(handle, key.as_ptr(), key.len(), &mut had) };
+                found.then_some(had)
             }
         }
 

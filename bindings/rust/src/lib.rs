@@ -4,7 +4,7 @@
 //! [`Judy1`] is a set of words and [`JudyL`] a map from words to words, with the methods of std's `BTreeSet<u64>` and
 //! `BTreeMap<u64, u64>`. Both hold their keys in order, count how many lie between two words, find the n-th, and
 //! find the nearest word that is no key. [`JudySl`] is an ordered map from strings to words, and [`JudyHs`] one from
-//! byte strings, which has no order and no walk.
+//! byte strings, which has no order.
 //!
 //! Keys and values are words, so they are answered themselves where std answers references. A word to be looked up
 //! may be given either way.
@@ -31,8 +31,10 @@ pub mod judyhs;
 pub mod judyl;
 pub mod judysl;
 mod keyed;
+mod list;
 mod ordered;
 mod slots;
+mod sorted;
 mod span;
 mod walk;
 mod way;
@@ -45,6 +47,7 @@ pub use judyhs::JudyHs;
 pub use judyl::JudyL;
 pub use judysl::JudySl;
 pub use keyed::{InsertError, MAX_KEY};
+pub use sorted::NotAscending;
 
 /// There was no memory for a new key; the array is as it was.
 ///

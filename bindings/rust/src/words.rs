@@ -199,14 +199,6 @@ macro_rules! collected {
 
         impl Eq for $array {}
 
-        impl FromIterator<$item> for $array {
-            fn from_iter<I: IntoIterator<Item = $item>>(items: I) -> Self {
-                let mut array = $array::new();
-                array.extend(items);
-                array
-            }
-        }
-
         impl<const N: usize> From<[$item; N]> for $array {
             fn from(items: [$item; N]) -> Self {
                 items.into_iter().collect()

@@ -125,10 +125,21 @@ fn a_map_of_byte_strings_is_a_map() {
         );
         assert_eq!((map.len(), map.is_empty()), (plain.len(), plain.is_empty()));
     }
-    assert_eq!(
-        format!("{map:?}"),
-        format!("JudyHs {{ len: {}, .. }}", plain.len())
+    let mut pairs: Vec<_> = plain
+        .iter()
+        .map(|(key, value)| (key.clone(), *value))
+        .collect();
+    pairs.sort_by(|one, other| (one.0.len(), &one.0).cmp(&(other.0.len(), &other.0)));
+    assert!(
+        map.iter().eq(pairs.iter().cloned()) && map.iter().rev().eq(pairs.iter().rev().cloned())
     );
+    assert!(map.clone() == map && map != JudyHs::new());
+    map.retain(|_, value| *value % 2 == 0);
+    assert!(map.values().eq(pairs
+        .iter()
+        .map(|pair| pair.1)
+        .filter(|value| value % 2 == 0)));
+    assert_eq!(format!("{:?}", JudyHs::from([("a", 1)])), r#"{"a": 1}"#);
     let copied: JudyHs = plain.iter().map(|(key, value)| (key, *value)).collect();
     assert!(plain
         .iter()

@@ -10,3 +10,7 @@ pub mod BoxedBytes
 pub mod ByteHandles
 pub mod HandsOut
 pub mod AnswersInsert
+pub mod SortedAnswers
+pub mod PairLemmas
+pub mod PageLemmas
+pub mod Storing

@@ -1,5 +1,5 @@
 -- What a handle that holds an array of strings, or none, stands for.
-use Rattle.std.proofs.Common.{◌≡◌, ℕ, List, sym, ap, ◌∙◌, Option, Some, None, IfSome, IfNone, MutBor, IsFalse, not, ◌&&◌, ◌==◌}
+use Rattle.std.proofs.Common.{◌≡◌, ℕ, Bool, false, true≢false, List, refl, sym, ap, ◌∙◌, Option, Some, None, IfSome, IfNone, MutBor, IsFalse, not, ◌&&◌, ◌==◌}
 use Rattle.std.specs.Prelude.{is_some}
 use Rattle.std.specs.FinMap.{FinMap, get, len, empty, get-empty, len-empty}
 use Rattle.std.specs.Option.{option_copied_mut}
@@ -10,6 +10,7 @@ use Rattle.judy_model.proofs.TableLemmas.{byte_order_total, byte_order_same}
 use Rattle.judy_c.specs.declared.strings.Strings.{Strings}
 use Rattle.judy_c.specs.StringLends.{with_array}
 use Rattle.judy_c.specs.StringMaps.{array_in, array_of}
+use Rattle.judy_c.specs.Told.{IsTold}
 
 -- the handle with the array that it holds is the handle
 pub held_again : (m : Strings) (lent : Option (MutBor (ArrayOf byte_order))) → option_copied_mut lent ≡ m.array → IfSome lent (λ array. with_array m array.now ≡ m)
@@ -21,9 +22,18 @@ pub null_strings : (m : Strings) (lent : Option (MutBor (ArrayOf byte_order))) �
 null_strings m None none = ap array_of (sym none)
 null_strings m (Some array) none = tt
 
+-- a key that is absent is taken out by no change
+pub absent_deleted : (array : ArrayOf byte_order) (key : List ℕ) → get array.map key ≡ None → array ≡ with_map array (del array.map key)
+absent_deleted array key absent = ap (with_map array) (sym (remove_absent byte_order_total byte_order_same array.map key absent))
+
 -- an empty array has no key to take out
 pub nothing_deleted : (array : ArrayOf byte_order) (key : List ℕ) → array ≡ empty_array 4294967295 → array ≡ with_map array (del array.map key)
-nothing_deleted array key is = ap (with_map array) (sym (remove_absent byte_order_total byte_order_same array.map key (ap (λ (a : ArrayOf byte_order). get a.map key) is ∙ get-empty byte_order key)))
+nothing_deleted array key is = absent_deleted array key (ap (λ (a : ArrayOf byte_order). get a.map key) is ∙ get-empty byte_order key)
+
+-- what isn't told isn't there
+pub not_told : (found : Option ℕ) (told : Bool) (before after : ℕ) → IsTold found told before after → told ≡ false → found ≡ None
+not_told None told before after fact untold = refl
+not_told (Some value) told before after fact untold = absurd (true≢false (sym fact.0 ∙ untold))
 
 -- it holds no key
 pub nothing_held : (array : ArrayOf byte_order) (key : List ℕ) → array ≡ empty_array 4294967295 → get array.map key ≡ None

@@ -15,3 +15,6 @@ pub mod ByteMaps
 pub mod ByteLends
 pub mod ByteSlots
 pub mod Walks
+pub mod Sorted
+pub mod KeyPuts
+pub mod KeyWalks

@@ -2,6 +2,13 @@
 
 ghost use Rattle.std.specs.Prelude.{◌≡◌, Some};
 ghost use Rattle.judy_c.specs.Answers.{answered, IsHanded};
+ghost use Rattle.judy_c.specs.KeyPuts.{number_of, was_of, IsToldOld};
+
+// The key was there, and has the new value now.
+const PRESENT: u32 = 0;
+
+// The key was absent, and is there now.
+const ADDED: u32 = 1;
 
 // There is no such key.
 pub(crate) const NONE: u32 = 0;
@@ -38,6 +45,23 @@ pub(crate) fn answer_insert<'a>(made: Result<&'a mut u64, Refusal>, slot: &mut &
             *slot = word;
             FOUND
         }
+        Err(Refusal::NoMemory) => NO_MEMORY,
+        Err(Refusal::Full) => FULL,
+        Err(Refusal::BadKey) => BAD_KEY,
+    }
+}
+
+// Answers an insert of a value by its number, and tells the value that was there.
+pub(crate) fn answer_store(stored: Result<Option<u64>, Refusal>, was: &mut u64) -> u32
+    ensures number { result ≡ number_of stored }
+    ensures told { IsToldOld (was_of stored) result was.old was.new }
+{
+    match stored {
+        Ok(Some(there)) => {
+            *was = there;
+            PRESENT
+        }
+        Ok(None) => ADDED,
         Err(Refusal::NoMemory) => NO_MEMORY,
         Err(Refusal::Full) => FULL,
         Err(Refusal::BadKey) => BAD_KEY,

@@ -12,7 +12,8 @@
 //!
 //! set.rt, map.rt, strings.rt and bytes.rt have the handles, and in the folders of these names stand the array behind one, its pointer
 //! and a map's slots. judy1.rt, judyl.rt, judysl.rt and judyhs.rt have the calls, entries.rt those that tell a key with its value,
-//! exchanges.rt those that tell the value that was there, walks.rt those that tell many keys at a time, told.rt how a call answers a
+//! exchanges.rt those that tell the value that was there, walks.rt those that tell many keys at a time,
+//! sorted.rt those that make an array at once, told.rt how a call answers a
 //! word or a slot that may not be there, answers.rt how one answers by a number, scans.rt the scans over strings, and loose.rt a box
 //! as its pointer. The crate is a static library, and no other stands on it.
 #![tactic(auto)]
@@ -25,10 +26,13 @@ mod judy1;
 mod judyhs;
 mod judyl;
 mod judysl;
+mod key_exchanges;
+mod key_walks;
 mod loose;
 mod map;
 mod scans;
 mod set;
+mod sorted;
 mod strings;
 mod told;
 mod walks;

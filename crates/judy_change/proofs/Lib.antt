@@ -14,3 +14,4 @@ pub mod InsertFacts
 pub mod RootFacts
 pub mod KidInserts
 pub mod GivenValues
+pub mod WayFacts

@@ -1,7 +1,9 @@
 -- What it means to take a key out of a tree.
-use Rattle.std.specs.Prelude.{◌≡◌, ◌≢◌, ℕ, ◌+◌, ◌/◌, ◌^◌, ◌<◌, ◌≤◌, ◌==◌, if◌then◌else◌, Bool, true, false, Option, Some, None, [], ◌∷◌, length}
+use Rattle.std.specs.Prelude.{◌≡◌, ◌≢◌, ℕ, ◌+◌, ◌^◌, ◌<◌, ◌≤◌, ◌==◌, if◌then◌else◌, Bool, true, false, Option, Some, None, [], ◌∷◌, length}
 use Rattle.judy_model.specs.Forms.{loose_in}
 use Rattle.judy_model.specs.Shapes.{immediate_limit}
+use Rattle.judy_model.specs.Ways.{alike}
+use Rattle.judy_leaf.specs.KeyLists.{keys_of}
 use Rattle.judy_leaf.specs.BitLeaves.{bit_list}
 use Rattle.judy_node.specs.Trees.{Pairs, Tree, IsTight, IsChild, IsBranch, branch_tree, branch_pairs, forms_in}
 use Rattle.judy_node.specs.declared.child.BranchOf.{BranchOf}
@@ -23,11 +25,10 @@ without key (pair ∷ pairs) = if pair.0 == key then without key pairs else pair
 
 -- How many keys are the same as a key but for their lowest bytes; `unit` is 256 to the number of these.
 abbrev pub sharing : ℕ → ℕ → Pairs → ℕ
-sharing unit key [] = 0
-sharing unit key (pair ∷ pairs) = (if pair.0 / unit == key / unit then 1 else 0) + sharing unit key pairs
+sharing unit key pairs = alike unit key (keys_of pairs)
 
 -- Exactly 33 keys are the same as a key but for some number of lowest bytes. In a tight tree these are the keys of a node on
--- the key's way, since a node's keys are those that share the bytes above its own.
+-- the key's way (laws.rt), since a node's keys are those that share the bytes above its own.
 pub record Has33 (width : ℕ) (pairs : Pairs) (key : ℕ) : Type 0 where
   pub bytes : ℕ
   pub within : bytes ≤ width

@@ -23,6 +23,7 @@ mod exchanges;
 mod gap;
 mod immediates;
 mod inserts;
+pub mod laws;
 mod leaves;
 mod put;
 mod removals;

@@ -1,16 +1,17 @@
 -- Commands of one array, by what they do to that array.
 use Rattle.std.proofs.Common.{◌≡◌, ℕ, Bool, true, false, cond, List, Option, Some, None, Result, Ok, Err, ok_or, refl, sym, ap, ◌∙◌}
-use Rattle.std.specs.Prelude.{bytes_eq, option_map}
+use Rattle.std.specs.Prelude.{bytes_eq, option_map, unwrap_or}
 use Rattle.std.specs.declared.cmp.Ordering.{Ordering}
 use Rattle.std.specs.Cmp.{IsTotalOrder}
-use Rattle.std.specs.FinMap.{get, IsAntisymmetric}
+use Rattle.std.specs.FinMap.{FinMap, get, IsAntisymmetric}
 use Rattle.std.proofs.lemmas.Map.Steps.{set_value_same}
+use Rattle.std.proofs.lemmas.Option.{same_Some}
 use Rattle.judy_model.specs.Arrays.{ArrayOf, ArrayValue, ins, write, is_full, with_map, len_of}
 use Rattle.judy_model.specs.Tokens.{is_name}
 use Rattle.judy_model.specs.Stores.{Store, array_named, with_array, without_array}
 use Rattle.judy_model.specs.Replies.{Reply, Refusal, was, freed, bad_name, no_such_array}
 use Rattle.judy_model.specs.Commands.{Outcome, ◌>>=◌, name_at, array_at, within, at_name, dropped, inserted}
-use Rattle.judy_model.proofs.ChangesLemmas.{write-ins}
+use Rattle.judy_model.proofs.ChangesLemmas.{write-ins, get-ins_same}
 use Rattle.judy_shelf.specs.declared.array.Array.{Array}
 use Rattle.judy_shelf.specs.Arrays.{value_of}
 use Rattle.judy_shelf.specs.Shelves.{Entries, store_of}
@@ -76,3 +77,7 @@ module _ {K : Type 0} {order : K → K → Ordering} (total : IsTotalOrder order
   pub Follows-inserted : (value slot : ℕ) → is_full array key ≡ false → Some slot ≡ get (ins array.map key) key → Follows (kind array) (inserted kind array key value) (Ok (was slot)) (kind (with_map array (write array.map key value)))
   Follows-inserted value slot room there =
       rw (room, ← there) (refl, ap (λ map. kind (with_map array map)) (sym (write-ins total array.map key same value)))
+
+-- the value in the slot of an insert is the one that the key had, or 0
+pub slot_was : {K : Type 0} {order : K → K → Ordering} (total : IsTotalOrder order) (map : FinMap order ℕ) (key : K) (slot : ℕ) → Some slot ≡ get (ins map key) key → slot ≡ unwrap_or (get map key) 0
+slot_was total map key slot there = same_Some slot (unwrap_or (get map key) 0) (there ∙ get-ins_same total map key)

@@ -1,10 +1,10 @@
 //! What all arrays with values have, whatever their keys are: a value is looked up, put in, overwritten and
 //! deleted.
 
-ghost use Rattle.std.specs.Prelude.{◌≡◌, ℕ, List, Some, Ok, IfOk, IfErr, OnOk, IsTrue, IsFalse};
+ghost use Rattle.std.specs.Prelude.{◌≡◌, ℕ, List, Ok, IfOk, IfErr, OnOk, OnErr, IsTrue, IsFalse};
 ghost use Rattle.std.specs.declared.cmp.Ordering.{Ordering};
-ghost use Rattle.std.specs.Borrow.{sem, LendsIf, LendsSoOk, u64};
-ghost use Rattle.std.specs.Option.{option_copied_mut};
+ghost use Rattle.std.specs.Borrow.{sem, LendsIf, u64};
+ghost use Rattle.std.specs.Option.{option_copied_mut, unwrap_or};
 ghost use Rattle.std.specs.Cmp.{IsTotalOrder, nat_cmp_total};
 ghost use Rattle.std.specs.FinMap as finite;
 ghost use Rattle.std.specs.FinMap.{IsAntisymmetric, nat_cmp-IsAntisymmetric, slice_cmp-IsAntisymmetric};
@@ -43,14 +43,15 @@ pub(crate) trait ValueMap<K> {
     // The array with a value written at a key that is there.
     ghost written: { Self → K → ℕ → Self };
 
-    /// The slot of the key, which is put in with the value 0 where it is absent. `Full` or `NoMemory`, only
-    /// where it is absent, and then the array is as it was.
-    fn ins(&mut self, key: K) -> Result<&mut u64, Refusal>
+    /// Gives the key a value, and answers the value that it had, 0 where it was absent. `Full` or `NoMemory`, only where it is absent,
+    /// and then the array is as it was.
+    fn insert(&mut self, key: K, value: u64) -> Result<u64, Refusal>
         requires { IsKey (key_of key) }
-        ensures* writes_back { sem 𝓛 (LendsSoOk Self.row u64 self.entry result (λ after left. array_of after ≡ with_value (array_of self.entry.now) (key_of key) left) (λ after. array_of after ≡ array_of self.entry.now)) }
-        ensures value { IfOk result (λ slot. Some slot.now ≡ finite.get (array.ins (array_of self.old).map (key_of key)) (key_of key)) }
+        ensures was { IfOk result (λ was. was ≡ unwrap_or (finite.get (array_of self.old).map (key_of key)) 0) }
+        ensures put { OnOk result (array_of self.new ≡ with_value (array_of self.old) (key_of key) value) }
         ensures accepted { OnOk result (IsFalse (array.is_full (array_of self.old) (key_of key))) }
-        ensures refused { IfErr result (IsInsertRefusal (array_of self.old) (key_of key)) };
+        ensures refused { IfErr result (IsInsertRefusal (array_of self.old) (key_of key)) }
+        ensures unchanged { OnErr result (array_of self.new ≡ array_of self.old) };
 
     /// The slot of the key, where it is there.
     fn slot(&mut self, key: K) -> Option<&mut u64>
@@ -94,8 +95,9 @@ impl ValueMap<u64> for JudyL {
 
     ghost written = { words.with_value };
 
-    fn ins(&mut self, key: u64) -> Result<&mut u64, Refusal> {
-        Ok(JudyL::ins(self, key)?)
+    // One way down the map tells the old value and leaves the new one.
+    fn insert(&mut self, key: u64, value: u64) -> Result<u64, Refusal> {
+        Ok(JudyL::insert(self, key, value)?.unwrap_or(0))
     }
 
     fn slot(&mut self, key: u64) -> Option<&mut u64> {
@@ -136,8 +138,9 @@ impl<'b> ValueMap<&'b [u8]> for JudySl {
 
     ghost written = { λ array key value. with_value array key.now value };
 
-    fn ins(&mut self, key: &'b [u8]) -> Result<&mut u64, Refusal> {
-        Ok(JudySl::ins(self, key)?)
+    fn insert(&mut self, key: &'b [u8], value: u64) -> Result<u64, Refusal> {
+        let slot = JudySl::ins(self, key)?;
+        Ok(replace(slot, value))
     }
 
     fn slot(&mut self, key: &'b [u8]) -> Option<&mut u64> {
@@ -178,8 +181,9 @@ impl<'b> ValueMap<&'b [u8]> for JudyHs<Fnv1a> {
 
     ghost written = { λ array key value. with_value array key.now value };
 
-    fn ins(&mut self, key: &'b [u8]) -> Result<&mut u64, Refusal> {
-        Ok(JudyHs::<Fnv1a>::ins(self, key)?)
+    fn insert(&mut self, key: &'b [u8], value: u64) -> Result<u64, Refusal> {
+        let slot = JudyHs::<Fnv1a>::ins(self, key)?;
+        Ok(replace(slot, value))
     }
 
     fn slot(&mut self, key: &'b [u8]) -> Option<&mut u64> {
@@ -233,15 +237,12 @@ pub(crate) fn map_on_pair<K: Drop, M: ValueMap<K>>(
     }
 }
 
-// Reads the slot of the key, which is new or not, and writes the value through it.
+// Gives the key, which is new or not, the value, and answers the one that it had.
 fn insert<K, M: ValueMap<K>>(map: &mut M, key: K, value: u64) -> Reply<'static>
     requires { M.IsKey (M.key_of key) }
     ensures { Follows (M.kind_of (M.array_of map.old)) (model.inserted M.kind_of (M.array_of map.old) (M.key_of key) value) (reply_of result) (M.kind_of (M.array_of map.new)) }
 {
-    match map.ins(key) {
-        Ok(slot) => Ok(Answer::Was(replace(slot, value))),
-        Err(refusal) => Err(refusal),
-    }
+    Ok(Answer::Was(map.insert(key, value)?))
 }
 
 // Writes the value through the slot of the key, where it is there.

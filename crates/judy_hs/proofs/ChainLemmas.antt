@@ -1,12 +1,12 @@
 -- Chains: what a look-up finds after a change.
-use Rattle.std.proofs.Common.{◌≡◌, ◌≢◌, ℕ, zero, suc, ◌+◌, ◌<◌, ◌≤◌, Bool, true, false, cond, List, [], ◌∷◌, ◌++◌, length, get_or, set, Some, None, option_map, slice_get, MatchOption, MatchBool, not, nat_lt, bytes_eq, refl, sym, ap, ◌∙◌, ◌⊎◌, inl, inr, arith, true≢false}
-use Rattle.std.specs.List.{position, position_or_len, remove}
+use Rattle.std.proofs.Common.{◌≡◌, ◌≢◌, ℕ, Bool, true, false, cond, List, [], ◌∷◌, Option, Some, None, is_some, IsSome, Less, Equal, Greater, bytes_eq, refl, sym, ap, ◌∙◌, subst, ◌⊎◌, inl, inr, true≢false}
+use Rattle.std.specs.Cmp.{tied_itself}
+use Rattle.std.specs.Ordering.{match_ordering}
 use Rattle.std.proofs.lemmas.Slice.Eq.{bytes_eq-Decides}
-use Rattle.std.proofs.lemmas.Bool.{false_from_ne_true}
-use Rattle.std.proofs.lemmas.Option.{slice_get-get_or, slice_get_past}
-use Rattle.judy_hs.specs.Chains.{Pairs, has_key, value_in, IsPlace, AreApart, value_at, with_value_at}
-use Rattle.std.proofs.lemmas.Bool.{lt-ltb}
-use Rattle.std.proofs.lemmas.Bool.Decides.{nat_tests}
+use Rattle.std.proofs.lemmas.Bool.{false_from_ne_true, false≢true}
+use Rattle.judy_model.specs.Keys.{byte_order}
+use Rattle.judy_model.proofs.TableLemmas.{byte_order_total, byte_order_same}
+use Rattle.judy_hs.specs.Chains.{Pairs, has_key, value_in, AreApart, with_value, with_pair, without}
 
 -- ---- equality of bytes
 
@@ -40,153 +40,170 @@ value_in-later pair rest key differ = ap (λ b. cond b (Some pair.1) (value_in r
 pub value_in-here : (pair : List ℕ × ℕ) (rest : Pairs) (key : List ℕ) → pair.0 ≡ key → value_in (pair ∷ rest) key ≡ Some pair.1
 value_in-here pair rest key same = ap (λ b. cond b (Some pair.1) (value_in rest key)) (ap (λ k. bytes_eq k key) same ∙ bytes_itself key)
 
--- ---- the place of a key
-
--- At its place a key has its value.
-pub value_in-place : (pairs : Pairs) (key : List ℕ) (at : ℕ) → IsPlace pairs key at → value_in pairs key ≡ value_at pairs at
-value_in-place [] key at is = absurd is
-value_in-place (pair ∷ rest) key zero is = value_in-here pair rest key is
-value_in-place (pair ∷ rest) key (suc at) is = value_in-later pair rest key is.0 ∙ value_in-place rest key at is.1
-
--- The place is within.
-pub IsPlace-lt : (pairs : Pairs) (key : List ℕ) (at : ℕ) → IsPlace pairs key at → at < length pairs
-IsPlace-lt [] key at is = absurd is
-IsPlace-lt (pair ∷ rest) key zero is = omega arith
-IsPlace-lt (pair ∷ rest) key (suc at) is = omega (arith, IsPlace-lt rest key at is.1)
-
--- There is a value there.
-pub value_place : (pairs : Pairs) (key : List ℕ) (at : ℕ) → IsPlace pairs key at → (value : ℕ) × (value_in pairs key ≡ Some value)
-value_place [] key at is = absurd is
-value_place (pair ∷ rest) key zero is = (pair.1, value_in-here pair rest key is)
-value_place (pair ∷ rest) key (suc at) is = let found = value_place rest key at is.1 in (found.0, value_in-later pair rest key is.0 ∙ found.1)
-
--- ---- a value written
-
-pub value_in-written : (pairs : Pairs) (key : List ℕ) (at value : ℕ) → IsPlace pairs key at → value_in (with_value_at pairs at value) key ≡ Some value
-value_in-written [] key at value is = absurd is
-value_in-written (pair ∷ rest) key zero value is = value_in-here (pair.0, value) rest key is
-value_in-written (pair ∷ rest) key (suc at) value is = value_in-later pair (with_value_at rest at value) key is.0 ∙ value_in-written rest key at value is.1
-
+-- What doesn't hold at its head is as it is in the rest.
 value_in-tail : (pair : List ℕ × ℕ) (one two : Pairs) (key : List ℕ) → value_in one key ≡ value_in two key → value_in (pair ∷ one) key ≡ value_in (pair ∷ two) key
 value_in-tail pair one two key = ap (λ found. cond (has_key key pair) (Some pair.1) found)
 
-pub value_in-written_other : (pairs : Pairs) (key : List ℕ) (at value : ℕ) (other : List ℕ) → IsPlace pairs key at → key ≢ other → value_in (with_value_at pairs at value) other ≡ value_in pairs other
-value_in-written_other [] key at value other is differ = absurd is
-value_in-written_other (pair ∷ rest) key zero value other is differ =
-    let apart : pair.0 ≢ other = λ e. differ (sym is ∙ e) in
-    value_in-later (pair.0, value) rest other apart ∙ sym (value_in-later pair rest other apart)
-value_in-written_other (pair ∷ rest) key (suc at) value other is differ =
-    value_in-tail pair (with_value_at rest at value) rest other (value_in-written_other rest key at value other is.1 differ)
+-- A key with a value.
+pub has_some : (found : Option ℕ) → IsSome found → (value : ℕ) × (found ≡ Some value)
+has_some None is = absurd (false≢true is)
+has_some (Some value) is = (value, refl)
 
--- ---- a key put last
+pub some_is : (found : Option ℕ) (value : ℕ) → found ≡ Some value → IsSome found
+some_is found value is = ap (λ (f : Option ℕ). is_some f) is
 
-pub value_in-push : (pairs : Pairs) (key : List ℕ) (value : ℕ) → value_in pairs key ≡ None → value_in (pairs ++ (key, value) ∷ []) key ≡ Some value
-value_in-push [] key value absent = value_in-head key value []
-value_in-push (pair ∷ rest) key value absent = elim (bytes_cases pair.0 key) [
-  | inl same ↦ absurd (let e : Some pair.1 ≡ None = sym (value_in-here pair rest key same) ∙ absent in cc)
-  | inr differ ↦ value_in-later pair (rest ++ (key, value) ∷ []) key differ ∙ value_in-push rest key value (sym (value_in-later pair rest key differ) ∙ absent)
+-- ---- the test of a pair
+
+has-same : (pair : List ℕ × ℕ) (key : List ℕ) → pair.0 ≡ key → has_key key pair ≡ true
+has-same pair key = (bytes_eq-Decides pair.0 key).1
+
+chosen : (b : Bool) (one two : Pairs) → b ≡ true → cond b one two ≡ one
+chosen b one two = ap (λ b. cond b one two)
+
+passed : (b : Bool) (one two : Pairs) → b ≡ false → cond b one two ≡ two
+passed b one two = ap (λ b. cond b one two)
+
+-- ---- a value written
+
+module _ (pair : List ℕ × ℕ) (rest : Pairs) (key : List ℕ) (value : ℕ) where
+  written-here : pair.0 ≡ key → with_value (pair ∷ rest) key value ≡ (pair.0, value) ∷ rest
+  written-here same = chosen (has_key key pair) ((pair.0, value) ∷ rest) (pair ∷ with_value rest key value) (has-same pair key same)
+
+  written-later : pair.0 ≢ key → with_value (pair ∷ rest) key value ≡ pair ∷ with_value rest key value
+  written-later differ = passed (has_key key pair) ((pair.0, value) ∷ rest) (pair ∷ with_value rest key value) (bytes_apart pair.0 key differ)
+
+pub value_in-written : (pairs : Pairs) (key : List ℕ) (value : ℕ) → IsSome (value_in pairs key) → value_in (with_value pairs key value) key ≡ Some value
+value_in-written [] key value is = absurd (false≢true is)
+value_in-written (pair ∷ rest) key value is = elim (bytes_cases pair.0 key) [
+  | inl same ↦ ap (λ (pairs : Pairs). value_in pairs key) (written-here pair rest key value same) ∙ value_in-here (pair.0, value) rest key same
+  | inr differ ↦ ap (λ (pairs : Pairs). value_in pairs key) (written-later pair rest key value differ) ∙ value_in-later pair (with_value rest key value) key differ
+      ∙ value_in-written rest key value (subst IsSome (value_in-later pair rest key differ) is)
 ]
 
-pub value_in-push_other : (pairs : Pairs) (key : List ℕ) (value : ℕ) (other : List ℕ) → key ≢ other → value_in (pairs ++ (key, value) ∷ []) other ≡ value_in pairs other
-value_in-push_other [] key value other differ = value_in-later (key, value) [] other differ
-value_in-push_other (pair ∷ rest) key value other differ = value_in-tail pair (rest ++ (key, value) ∷ []) rest other (value_in-push_other rest key value other differ)
-
-pub IsPlace-push : (pairs : Pairs) (key : List ℕ) (value : ℕ) → value_in pairs key ≡ None → IsPlace (pairs ++ (key, value) ∷ []) key (length pairs)
-IsPlace-push [] key value absent = refl
-IsPlace-push (pair ∷ rest) key value absent = elim (bytes_cases pair.0 key) [
-  | inl same ↦ absurd (let e : Some pair.1 ≡ None = sym (value_in-here pair rest key same) ∙ absent in cc)
-  | inr differ ↦ (differ, IsPlace-push rest key value (sym (value_in-later pair rest key differ) ∙ absent))
+pub value_in-written_other : (pairs : Pairs) (key : List ℕ) (value : ℕ) (other : List ℕ) → key ≢ other → value_in (with_value pairs key value) other ≡ value_in pairs other
+value_in-written_other [] key value other differ = refl
+value_in-written_other (pair ∷ rest) key value other differ = elim (bytes_cases pair.0 key) [
+  | inl same ↦ let apart : pair.0 ≢ other = λ e. differ (sym same ∙ e) in
+      ap (λ (pairs : Pairs). value_in pairs other) (written-here pair rest key value same) ∙ value_in-later (pair.0, value) rest other apart ∙ sym (value_in-later pair rest other apart)
+  | inr apart ↦ ap (λ (pairs : Pairs). value_in pairs other) (written-later pair rest key value apart) ∙ value_in-tail pair (with_value rest key value) rest other (value_in-written_other rest key value other differ)
 ]
+
+-- ---- a key put in
+
+-- A key that is above another isn't the other.
+above-apart : (key other : List ℕ) → byte_order key other ≡ Greater → other ≢ key
+above-apart key other above same = absurd (let f : Greater ≡ Equal = sym above ∙ ap (byte_order key) same ∙ tied_itself byte_order_total key in cc)
+
+pub value_in-put : (pairs : Pairs) (key : List ℕ) (value : ℕ) → value_in (with_pair pairs key value) key ≡ Some value
+value_in-put [] key value = value_in-head key value []
+value_in-put (pair ∷ rest) key value =
+    elim (byte_order key pair.0) as (λ r. byte_order key pair.0 ≡ r → value_in (match_ordering r ((key, value) ∷ pair ∷ rest) ((pair.0, value) ∷ rest) (pair ∷ with_pair rest key value)) key ≡ Some value) [
+      | Less ↦ λ e. value_in-head key value (pair ∷ rest)
+      | Equal ↦ λ e. value_in-here (pair.0, value) rest key (sym (byte_order_same key pair.0 e))
+      | Greater ↦ λ e. value_in-later pair (with_pair rest key value) key (above-apart key pair.0 e) ∙ value_in-put rest key value
+    ] refl
+
+pub value_in-put_other : (pairs : Pairs) (key : List ℕ) (value : ℕ) (other : List ℕ) → key ≢ other → value_in (with_pair pairs key value) other ≡ value_in pairs other
+value_in-put_other [] key value other differ = value_in-later (key, value) [] other differ
+value_in-put_other (pair ∷ rest) key value other differ =
+    elim (byte_order key pair.0) as (λ r. byte_order key pair.0 ≡ r → value_in (match_ordering r ((key, value) ∷ pair ∷ rest) ((pair.0, value) ∷ rest) (pair ∷ with_pair rest key value)) other ≡ value_in (pair ∷ rest) other) [
+      | Less ↦ λ e. value_in-later (key, value) (pair ∷ rest) other differ
+      | Equal ↦ λ e.
+          let apart : pair.0 ≢ other = λ same. differ (byte_order_same key pair.0 e ∙ same) in
+          value_in-later (pair.0, value) rest other apart ∙ sym (value_in-later pair rest other apart)
+      | Greater ↦ λ e. value_in-tail pair (with_pair rest key value) rest other (value_in-put_other rest key value other differ)
+    ] refl
 
 -- ---- a key taken out
 
-pub value_in-remove : (pairs : Pairs) (key : List ℕ) (at : ℕ) → AreApart pairs → IsPlace pairs key at → value_in (remove pairs at) key ≡ None
-value_in-remove [] key at apart is = absurd is
-value_in-remove (pair ∷ rest) key zero apart is = ap (value_in rest) (sym is) ∙ apart.0
-value_in-remove (pair ∷ rest) key (suc at) apart is = value_in-later pair (remove rest at) key is.0 ∙ value_in-remove rest key at apart.1 is.1
+module _ (pair : List ℕ × ℕ) (rest : Pairs) (key : List ℕ) where
+  without-here : pair.0 ≡ key → without (pair ∷ rest) key ≡ rest
+  without-here same = chosen (has_key key pair) rest (pair ∷ without rest key) (has-same pair key same)
 
-pub value_in-remove_other : (pairs : Pairs) (key : List ℕ) (at : ℕ) (other : List ℕ) → IsPlace pairs key at → key ≢ other → value_in (remove pairs at) other ≡ value_in pairs other
-value_in-remove_other [] key at other is differ = absurd is
-value_in-remove_other (pair ∷ rest) key zero other is differ = sym (value_in-later pair rest other (λ e. differ (sym is ∙ e)))
-value_in-remove_other (pair ∷ rest) key (suc at) other is differ = value_in-tail pair (remove rest at) rest other (value_in-remove_other rest key at other is.1 differ)
+  without-later : pair.0 ≢ key → without (pair ∷ rest) key ≡ pair ∷ without rest key
+  without-later differ = passed (has_key key pair) rest (pair ∷ without rest key) (bytes_apart pair.0 key differ)
+
+pub value_in-without : (pairs : Pairs) (key : List ℕ) → AreApart pairs → value_in (without pairs key) key ≡ None
+value_in-without [] key apart = refl
+value_in-without (pair ∷ rest) key apart = elim (bytes_cases pair.0 key) [
+  | inl same ↦ ap (λ (pairs : Pairs). value_in pairs key) (without-here pair rest key same) ∙ ap (value_in rest) (sym same) ∙ apart.0
+  | inr differ ↦ ap (λ (pairs : Pairs). value_in pairs key) (without-later pair rest key differ) ∙ value_in-later pair (without rest key) key differ ∙ value_in-without rest key apart.1
+]
+
+pub value_in-without_other : (pairs : Pairs) (key other : List ℕ) → key ≢ other → value_in (without pairs key) other ≡ value_in pairs other
+value_in-without_other [] key other differ = refl
+value_in-without_other (pair ∷ rest) key other differ = elim (bytes_cases pair.0 key) [
+  | inl same ↦ ap (λ (pairs : Pairs). value_in pairs other) (without-here pair rest key same) ∙ sym (value_in-later pair rest other (λ e. differ (sym same ∙ e)))
+  | inr apart ↦ ap (λ (pairs : Pairs). value_in pairs other) (without-later pair rest key apart) ∙ value_in-tail pair (without rest key) rest other (value_in-without_other rest key other differ)
+]
 
 -- ---- keys stay apart
 
 module _ (key : List ℕ) where
-  pub AreApart-written : (pairs : Pairs) (at value : ℕ) → IsPlace pairs key at → AreApart pairs → AreApart (with_value_at pairs at value)
-  AreApart-written [] at value is apart = absurd is
-  AreApart-written (pair ∷ rest) zero value is apart = apart
-  AreApart-written (pair ∷ rest) (suc at) value is apart =
-      (value_in-written_other rest key at value pair.0 is.1 (λ e. is.0 (sym e)) ∙ apart.0, AreApart-written rest at value is.1 apart.1)
-
-  pub AreApart-push : (pairs : Pairs) (value : ℕ) → value_in pairs key ≡ None → AreApart pairs → AreApart (pairs ++ (key, value) ∷ [])
-  AreApart-push [] value absent apart = (refl, tt)
-  AreApart-push (pair ∷ rest) value absent apart = elim (bytes_cases pair.0 key) [
-    | inl same ↦ absurd (let e : Some pair.1 ≡ None = sym (value_in-here pair rest key same) ∙ absent in cc)
-    | inr differ ↦ (
-      value_in-push_other rest key value pair.0 (λ e. differ (sym e)) ∙ apart.0,
-      AreApart-push rest value (sym (value_in-later pair rest key differ) ∙ absent) apart.1,
-    )
+  pub AreApart-written : (pairs : Pairs) (value : ℕ) → AreApart pairs → AreApart (with_value pairs key value)
+  AreApart-written [] value apart = tt
+  AreApart-written (pair ∷ rest) value apart = elim (bytes_cases pair.0 key) [
+    | inl same ↦ subst AreApart (sym (written-here pair rest key value same)) apart
+    | inr differ ↦ subst AreApart (sym (written-later pair rest key value differ)) (value_in-written_other rest key value pair.0 (λ e. differ (sym e)) ∙ apart.0, AreApart-written rest value apart.1)
   ]
 
-  pub AreApart-remove : (pairs : Pairs) (at : ℕ) → IsPlace pairs key at → AreApart pairs → AreApart (remove pairs at)
-  AreApart-remove [] at is apart = absurd is
-  AreApart-remove (pair ∷ rest) zero is apart = apart.1
-  AreApart-remove (pair ∷ rest) (suc at) is apart =
-      (value_in-remove_other rest key at pair.0 is.1 (λ e. is.0 (sym e)) ∙ apart.0, AreApart-remove rest at is.1 apart.1)
+  pub AreApart-put : (pairs : Pairs) (value : ℕ) → value_in pairs key ≡ None → AreApart pairs → AreApart (with_pair pairs key value)
+  AreApart-put [] value absent apart = (refl, tt)
+  AreApart-put (pair ∷ rest) value absent apart =
+      elim (byte_order key pair.0) as (λ r. byte_order key pair.0 ≡ r → AreApart (match_ordering r ((key, value) ∷ pair ∷ rest) ((pair.0, value) ∷ rest) (pair ∷ with_pair rest key value))) [
+        | Less ↦ λ e. (absent, apart)
+        | Equal ↦ λ e. absurd (let f : Some pair.1 ≡ None = sym (value_in-here pair rest key (sym (byte_order_same key pair.0 e))) ∙ absent in cc)
+        | Greater ↦ λ e.
+            let differ = above-apart key pair.0 e in
+            (value_in-put_other rest key value pair.0 (λ same. differ (sym same)) ∙ apart.0, AreApart-put rest value (sym (value_in-later pair rest key differ) ∙ absent) apart.1)
+      ] refl
+
+  pub AreApart-without : (pairs : Pairs) → AreApart pairs → AreApart (without pairs key)
+  AreApart-without [] apart = tt
+  AreApart-without (pair ∷ rest) apart = elim (bytes_cases pair.0 key) [
+    | inl same ↦ subst AreApart (sym (without-here pair rest key same)) apart.1
+    | inr differ ↦ subst AreApart (sym (without-later pair rest key differ)) (value_in-without_other rest key pair.0 (λ e. differ (sym e)) ∙ apart.0, AreApart-without rest apart.1)
+  ]
+
+-- ---- chains that have keys
 
 -- A chain that isn't empty has a key with a value.
 pub some_pair : (pairs : Pairs) → pairs ≢ [] → (key : List ℕ) × (value : ℕ) × (value_in pairs key ≡ Some value)
 some_pair [] used = absurd (used refl)
 some_pair (pair ∷ rest) used = (pair.0, pair.1, value_in-here pair rest pair.0 refl)
 
--- ---- entries at places
+-- A chain with a value for a key has one.
+pub some_used : (pairs : Pairs) (key : List ℕ) → IsSome (value_in pairs key) → pairs ≢ []
+some_used pairs key is gone = false≢true (subst (λ (pairs : Pairs). IsSome (value_in pairs key)) gone is)
 
-pub pairs-set : (pairs : Pairs) (at value : ℕ) (pair : List ℕ × ℕ) → slice_get pairs at ≡ Some pair → set pairs at (pair.0, value) ≡ with_value_at pairs at value
-pairs-set [] at value pair is = refl
-pairs-set (first ∷ rest) zero value pair is = let same : first ≡ pair = cc in ap (λ (e : List ℕ × ℕ). (e.0, value) ∷ rest) (sym same)
-pairs-set (first ∷ rest) (suc at) value pair is = ap (λ (pairs : Pairs). first ∷ pairs) (pairs-set rest at value pair is)
+-- It keeps one where a value is written, and where a key is put in.
+pub written-used : (pairs : Pairs) (key : List ℕ) (value : ℕ) → pairs ≢ [] → with_value pairs key value ≢ []
+written-used [] key value used = absurd (used refl)
+written-used (pair ∷ rest) key value used = elim (has_key key pair) as (λ b. cond b ((pair.0, value) ∷ rest) (pair ∷ with_value rest key value) ≢ []) [
+  | true ↦ λ e. cc
+  | false ↦ λ e. cc
+]
 
-as_option : (b : Bool) (at : ℕ) (Missing : Type 0) (Found : ℕ → Type 0) → MatchBool b (Found at) Missing → MatchOption (cond b (Some at) None) Missing Found
-as_option true at Missing Found h = h
-as_option false at Missing Found h = h
+pub put-used : (pairs : Pairs) (key : List ℕ) (value : ℕ) → with_pair pairs key value ≢ []
+put-used pairs key value = some_used (with_pair pairs key value) key (some_is (value_in (with_pair pairs key value) key) value (value_in-put pairs key value))
 
-here : (more : ℕ) (Found Missing : Type 0) → Found → MatchBool (nat_lt 0 (suc more)) Found Missing
-here more Found Missing found = let e : nat_lt 0 (suc more) ≡ true = lt-ltb 0 (suc more) (omega arith) in rw e found
+-- ---- the chain of one key
 
-later : (entry : List ℕ × ℕ) (at most : ℕ) (rest : Pairs) (key : List ℕ) → entry.0 ≢ key → MatchBool (nat_lt at most) (IsPlace rest key at) (value_in rest key ≡ None)
-    → MatchBool (nat_lt (1 + at) (suc most)) (IsPlace (entry ∷ rest) key (1 + at)) (value_in (entry ∷ rest) key ≡ None)
-later entry at most rest key differ found =
-    elim (nat_lt at most) as (λ b. nat_lt at most ≡ b → MatchBool b (IsPlace rest key at) (value_in rest key ≡ None) → MatchBool (nat_lt (1 + at) (suc most)) (IsPlace (entry ∷ rest) key (1 + at)) (value_in (entry ∷ rest) key ≡ None)) [
-      | true ↦ λ below is. let e : nat_lt (1 + at) (suc most) ≡ true = grind (arith, nat_tests) in let one : 1 + at ≡ suc at = omega arith in rw (e, one) (differ, is)
-      | false ↦ λ past none. let e : nat_lt (1 + at) (suc most) ≡ false = grind (arith, nat_tests) in rw e (value_in-later entry rest key differ ∙ none)
-    ] refl found
+module _ (held key : List ℕ) (value : ℕ) (is : IsSome (value_in ((held, value) ∷ []) key)) where
+  one-same : bytes_eq held key ≡ true
+  one-same = elim (bytes_eq held key) as (λ b. IsSome (cond b (Some value) None) → b ≡ true) [
+    | true ↦ λ some. refl
+    | false ↦ λ some. absurd (false≢true some)
+  ] is
 
--- The first entry with the key is its place, and where none has the key, it has no value.
-place_or_none : (entries : Pairs) (key : List ℕ) → MatchBool (nat_lt (position_or_len (has_key key) entries) (length entries)) (IsPlace entries key (position_or_len (has_key key) entries)) (value_in entries key ≡ None)
-place_or_none [] key = refl
-place_or_none (entry ∷ rest) key =
-    elim (has_key key entry) as (λ b. has_key key entry ≡ b
-    → MatchBool (nat_lt (cond (not b) (1 + position_or_len (has_key key) rest) 0) (suc (length rest))) (IsPlace (entry ∷ rest) key (cond (not b) (1 + position_or_len (has_key key) rest) 0)) (value_in (entry ∷ rest) key ≡ None)) [
-      | true ↦ λ same. here (length rest) _ _ (bytes_same entry.0 key same)
-      | false ↦ λ differ. later entry (position_or_len (has_key key) rest) (length rest) rest key (bytes_differ entry.0 key differ) (place_or_none rest key)
-    ] refl
+  -- A key that is in it has its value,
+  pub one-value : Some value ≡ value_in ((held, value) ∷ []) key
+  one-value = sym (ap (λ b. cond b (Some value) None) one-same)
 
--- So the first entry with the key is its place.
-pub found_among : (entries : Pairs) (key : List ℕ) → MatchOption (position (has_key key) entries) (value_in entries key ≡ None) (IsPlace entries key)
-found_among entries key = as_option (nat_lt (position_or_len (has_key key) entries) (length entries)) _ _ _ (place_or_none entries key)
+  -- and with another one, or without it, it is
+  pub one-written : (new : ℕ) → (held, new) ∷ [] ≡ with_value ((held, value) ∷ []) key new
+  one-written new = sym (chosen (bytes_eq held key) ((held, new) ∷ []) ((held, value) ∷ []) one-same)
 
--- The entry that is read at a place.
-pub entry_at : (entries : Pairs) (at : ℕ) (entry : List ℕ × ℕ) → at < length entries → entry ≡ get_or entries at entry → slice_get entries at ≡ Some entry
-entry_at entries at entry within read = slice_get-get_or entries at entry within ∙ ap (λ (e : List ℕ × ℕ). Some e) (sym read)
-
--- Its value is the one at the place; past the end there is none.
-pub value_at-entry : (entries : Pairs) (at : ℕ) (entry : List ℕ × ℕ) → slice_get entries at ≡ Some entry → Some entry.1 ≡ value_at entries at
-value_at-entry entries at entry is = ap (option_map (λ (pair : List ℕ × ℕ). pair.1)) (sym is)
-
-pub value_at-past : (entries : Pairs) (at : ℕ) → length entries ≤ at → None ≡ value_at entries at
-value_at-past entries at past = ap (option_map (λ (pair : List ℕ × ℕ). pair.1)) (sym (slice_get_past entries at past))
-
--- What isn't below is at or above.
-pub not_below : (left right : ℕ) → (left < right → ⊥) → right ≤ left
-not_below left right never = omega (arith, never)
+  -- what that key makes of it.
+  pub one-without : [] ≡ without ((held, value) ∷ []) key
+  one-without = sym (chosen (bytes_eq held key) [] ((held, value) ∷ []) one-same)

@@ -1,9 +1,8 @@
 -- One group under the changes of its calls: what each leaves at the key, at the other keys, and of what groups keep.
-use Rattle.std.proofs.Common.{◌≡◌, ◌≢◌, ℕ, zero, suc, ◌<◌, ◌≤◌, true, false, cond, List, [], ◌∷◌, ◌++◌, length, get_or, set, Option, Some, None, IfSome, nat_lt, inl, inr, refl, sym, ap, ◌∙◌, subst, ⊎_elim, arith}
+use Rattle.std.proofs.Common.{◌≡◌, ◌≢◌, ℕ, zero, suc, ◌<◌, ◌≤◌, true, false, cond, List, [], ◌∷◌, length, get_or, set, Option, Some, None, IfSome, IsSome, nat_lt, inl, inr, refl, sym, ap, ◌∙◌, subst, ⊎_elim, arith}
 use Rattle.std.specs.FinMap.{FinMap, get, insert, remove, empty, entries, len-entries, empty_of_len, get-entries, get-empty, find}
 use Rattle.std.specs.Cmp.{nat_cmp_total, tied_itself}
 use Rattle.std.specs.Ordering.{is_eq}
-use Rattle.std.specs.List as list
 use Rattle.std.proofs.lemmas.Bool.{lt-ltb, le-ltb, cases_order}
 use Rattle.std.proofs.lemmas.List.{length_push, length-set}
 use Rattle.judy_model.specs.Keys.{word_order, IsByteString}
@@ -11,12 +10,12 @@ use Rattle.judy_model.specs.Arrays.{with_map}
 use Rattle.judy_model.proofs.ChangesLemmas.{get-write_same, get-del_same}
 use Rattle.judy_hs.specs.declared.group.Inside.{Inside}
 use Rattle.judy_hs.specs.declared.group.Inside.TheVariants.{Word, Chained}
-use Rattle.judy_hs.specs.Chains.{Pairs, value_in, with_value_at, IsPlace, AreApart}
+use Rattle.judy_hs.specs.Chains.{Pairs, value_in, with_value, with_pair, without, AreApart}
 use Rattle.judy_hs.specs.LongGroups.{Long, chain_at, in_chain, IsLongPlace, IsFound, added_long, hashes_without, put_at}
 use Rattle.judy_hs.specs.Groups.{Group, none, short, long, in_group, IsInside, IsNewInside, CanTakeKey, IsRemovable, IsUsable, IsEmptyGroup, value_inside, group_with, group_with_key, group_without}
 use Rattle.judy_hs.specs.Parts.{part_of}
 use Rattle.judy_hs.specs.Kept.{IsUsed, IsLong, IsGroup}
-use Rattle.judy_hs.proofs.ChainLemmas.{value_in-place, value_place, IsPlace-lt, value_in-written, value_in-written_other, value_in-push, value_in-push_other, IsPlace-push, value_in-remove, value_in-remove_other, AreApart-written, AreApart-push, AreApart-remove}
+use Rattle.judy_hs.proofs.ChainLemmas.{has_some, some_is, value_in-head, value_in-written, value_in-written_other, value_in-put, value_in-put_other, value_in-without, value_in-without_other, AreApart-written, AreApart-put, AreApart-without}
 use Rattle.judy_hs.proofs.TwoLevels.{get_or-set_here, get_or-put}
 use Rattle.judy_hs.proofs.GroupSteps.{IsStep, short-write, IsShort-write, short-remove, IsShort-remove, has_value, long-changed, IsLong-changed, in_long-changed, long-chain, IsLong-chain, in_long-chain, long-gone, IsLong-gone}
 
@@ -55,7 +54,7 @@ module _ (hash_of : List ℕ → ℕ) (key : List ℕ) (bytes : IsByteString key
 
   -- ---- a value written
 
-  pub group-write : (group : Group) (inside : Inside) (value : ℕ) → IsGroup hash_of (length key) group → IsInside group (part_of hash_of key) key inside → IsChanged group (group_with group inside value) (Some value)
+  pub group-write : (group : Group) (inside : Inside) (value : ℕ) → IsGroup hash_of (length key) group → IsInside group (part_of hash_of key) key inside → IsChanged group (group_with group inside key value) (Some value)
   group-write none inside value is there = absurd is
   group-write (short words) (Word word) value is there =
       subst (λ w. IsChanged (short words) (short (with_map words (insert words.map w value))) (Some value)) (sym there.0) (record {
@@ -63,39 +62,39 @@ module _ (hash_of : List ℕ → ℕ) (key : List ℕ) (bytes : IsByteString key
         here = get-write_same nat_cmp_total words.map (part_of hash_of key) value;
         is = IsShort-write hash_of key bytes words is.few value is;
       })
-  group-write (short words) (Chained place at) value is there = absurd there
+  group-write (short words) (Chained place) value is there = absurd there
   group-write (long group) (Word word) value is there = absurd there
-  group-write (long group) (Chained place at) value is there =
+  group-write (long group) (Chained place) value is there =
       let old = chain_at group place in
-      let new = with_value_at old at value in
-      let written = value_in-written old key at value there.is_place in
-      let others : (other : List ℕ) → (key ≡ other → ⊥) → value_in new other ≡ value_in old other = λ other differ. value_in-written_other old key at value other there.is_place differ in
+      let new = with_value old key value in
+      let written = value_in-written old key value there.is_there in
+      let others : (other : List ℕ) → (key ≡ other → ⊥) → value_in new other ≡ value_in old other = λ other differ. value_in-written_other old key value other differ in
       record {
         step = long-changed hash_of key bytes group is place new there.leads there.within others;
         here = in_long-changed hash_of key bytes group is place new there.leads there.within ∙ written;
-        is = IsLong-changed hash_of key bytes group is place new there.leads there.within (has_value hash_of key bytes new key value written) (AreApart-written key old at value there.is_place (is.chains (part_of hash_of key) place there.leads).apart) others;
+        is = IsLong-changed hash_of key bytes group is place new there.leads there.within (has_value hash_of key bytes new key value written) (AreApart-written key old value (is.chains (part_of hash_of key) place there.leads).apart) others;
       }
 
   -- What stands there is in the group, and has the value of the key.
-  pub inside-usable : (group : Group) (inside : Inside) → IsInside group (part_of hash_of key) key inside → IsUsable group inside
+  pub inside-usable : (group : Group) (inside : Inside) → IsInside group (part_of hash_of key) key inside → IsUsable group inside key
   inside-usable none inside there = tt
   inside-usable (short words) inside there = tt
   inside-usable (long group) (Word word) there = tt
-  inside-usable (long group) (Chained place at) there = there.within
+  inside-usable (long group) (Chained place) there = (there.within, there.is_there)
 
-  pub value-inside : (group : Group) (inside : Inside) → IsInside group (part_of hash_of key) key inside → in_group group (part_of hash_of key) key ≡ value_inside group inside
+  pub value-inside : (group : Group) (inside : Inside) → IsInside group (part_of hash_of key) key inside → in_group group (part_of hash_of key) key ≡ value_inside group inside key
   value-inside none inside there = absurd there
   value-inside (short words) (Word word) there = ap (get words.map) (sym there.0)
-  value-inside (short words) (Chained place at) there = absurd there
+  value-inside (short words) (Chained place) there = absurd there
   value-inside (long group) (Word word) there = absurd there
-  value-inside (long group) (Chained place at) there = ap (λ found. in_chain group found key) there.leads ∙ value_in-place (chain_at group place) key at there.is_place
+  value-inside (long group) (Chained place) there = ap (λ found. in_chain group found key) there.leads
 
   pub inside-some : (group : Group) (inside : Inside) → IsInside group (part_of hash_of key) key inside → (value : ℕ) × (in_group group (part_of hash_of key) key ≡ Some value)
   inside-some none inside there = absurd there
   inside-some (short words) (Word word) there = there.1
-  inside-some (short words) (Chained place at) there = absurd there
+  inside-some (short words) (Chained place) there = absurd there
   inside-some (long group) (Word word) there = absurd there
-  inside-some (long group) (Chained place at) there = let found = value_place (chain_at group place) key at there.is_place in (found.0, ap (λ found. in_chain group found key) there.leads ∙ found.1)
+  inside-some (long group) (Chained place) there = let found = has_some (value_in (chain_at group place) key) there.is_there in (found.0, ap (λ found. in_chain group found key) there.leads ∙ found.1)
 
   -- ---- a key put in
 
@@ -113,39 +112,39 @@ module _ (hash_of : List ℕ → ℕ) (key : List ℕ) (bytes : IsByteString key
     pub changed : IsChanged before after (Some 0)
     pub there : IsInside after (part_of hash_of key) key inside
 
-  long-add : (group : Long) (place at : ℕ) (found : Option ℕ) → get group.hashes.map (part_of hash_of key) ≡ found → IsLong hash_of (length key) group → in_chain group found key ≡ None → IsFound group found place at
-      → IsGrown (long group) (long (added_long group (part_of hash_of key) key found place)) (Chained place at)
-  long-add group place at None e is absent new =
+  long-add : (group : Long) (place : ℕ) (found : Option ℕ) → get group.hashes.map (part_of hash_of key) ≡ found → IsLong hash_of (length key) group → in_chain group found key ≡ None → IsFound group found place
+      → IsGrown (long group) (long (added_long group (part_of hash_of key) key found place)) (Chained place)
+  long-add group place None e is absent new =
       record {
         changed = record {
-          step = long-chain hash_of key bytes group is place e new.0;
-          here = in_long-chain hash_of key bytes group is place e new.0;
-          is = IsLong-chain hash_of key bytes group is place e new.0;
+          step = long-chain hash_of key bytes group is place e new;
+          here = in_long-chain hash_of key bytes group is place e new;
+          is = IsLong-chain hash_of key bytes group is place e new;
         };
         there = record {
           leads = get-write_same nat_cmp_total group.hashes.map (part_of hash_of key) place;
-          within = put_within group.chains place ((key, 0) ∷ []) new.0.within;
-          is_place = subst (λ (chain : Pairs). IsPlace chain key at) (sym (get_or-put group.chains place ((key, 0) ∷ []) [] new.0.within)) (subst (λ n. IsPlace ((key, 0) ∷ []) key n) (sym new.1) refl);
+          within = put_within group.chains place ((key, 0) ∷ []) new.within;
+          is_there = subst (λ (chain : Pairs). IsSome (value_in chain key)) (sym (get_or-put group.chains place ((key, 0) ∷ []) [] new.within)) (some_is (value_in ((key, 0) ∷ []) key) 0 (value_in-head key 0 []));
         };
       }
-  long-add group place at (Some held) e is absent new =
+  long-add group place (Some held) e is absent new =
       let old = chain_at group held in
-      let grown = old ++ (key, 0) ∷ [] in
+      let grown = with_pair old key 0 in
       let chain = is.chains (part_of hash_of key) held e in
       let within = used_within group.chains held chain.used in
-      let value = value_in-push old key 0 absent in
-      let others : (other : List ℕ) → (key ≡ other → ⊥) → value_in grown other ≡ value_in old other = λ other differ. value_in-push_other old key 0 other differ in
+      let value = value_in-put old key 0 in
+      let others : (other : List ℕ) → (key ≡ other → ⊥) → value_in grown other ≡ value_in old other = λ other differ. value_in-put_other old key 0 other differ in
       record {
         changed = record {
           step = long-changed hash_of key bytes group is held grown e within others;
           here = in_long-changed hash_of key bytes group is held grown e within ∙ value;
-          is = IsLong-changed hash_of key bytes group is held grown e within (has_value hash_of key bytes grown key 0 value) (AreApart-push key old 0 absent chain.apart) others;
+          is = IsLong-changed hash_of key bytes group is held grown e within (has_value hash_of key bytes grown key 0 value) (AreApart-put key old 0 absent chain.apart) others;
         };
         there = record {
-          leads = e ∙ ap (λ (p : ℕ). Some p) (sym new.0);
-          within = set_within group.chains held place grown new.0 within;
-          is_place = subst (λ p. IsPlace (get_or (set group.chains held grown) p []) key at) (sym new.0)
-              (subst (λ (chain : Pairs). IsPlace chain key at) (sym (get_or-set_here group.chains held grown [] within)) (subst (λ n. IsPlace grown key n) (sym new.1) (IsPlace-push old key 0 absent)));
+          leads = e ∙ ap (λ (p : ℕ). Some p) (sym new);
+          within = set_within group.chains held place grown new within;
+          is_there = subst (λ p. IsSome (value_in (get_or (set group.chains held grown) p []) key)) (sym new)
+              (subst (λ (chain : Pairs). IsSome (value_in chain key)) (sym (get_or-set_here group.chains held grown [] within)) (some_is (value_in grown key) 0 value));
         };
       }
 
@@ -159,9 +158,9 @@ module _ (hash_of : List ℕ → ℕ) (key : List ℕ) (bytes : IsByteString key
     };
     there = (new, (0, get-write_same nat_cmp_total words.map (part_of hash_of key) 0));
   }
-  group-add (short words) (Chained place at) is absent new = absurd new
+  group-add (short words) (Chained place) is absent new = absurd new
   group-add (long group) (Word word) is absent new = absurd new
-  group-add (long group) (Chained place at) is absent new = long-add group place at (get group.hashes.map (part_of hash_of key)) refl is absent new
+  group-add (long group) (Chained place) is absent new = long-add group place (get group.hashes.map (part_of hash_of key)) refl is absent new
 
   -- ---- a key taken out
 
@@ -170,41 +169,41 @@ module _ (hash_of : List ℕ → ℕ) (key : List ℕ) (bytes : IsByteString key
     pub here : in_group after (part_of hash_of key) key ≡ None
     pub kept : (IsEmptyGroup after → ⊥) → IsGroup hash_of (length key) after
 
-  long-without : (group : Long) (place at : ℕ) (left : Pairs) → list.remove (chain_at group place) at ≡ left → IsLong hash_of (length key) group → IsLongPlace group (part_of hash_of key) key place at
+  long-without : (group : Long) (place : ℕ) (left : Pairs) → without (chain_at group place) key ≡ left → IsLong hash_of (length key) group → IsLongPlace group (part_of hash_of key) key place
       → IsShrunk (long group) (long (record { hashes = hashes_without group (part_of hash_of key) left; chains = set group.chains place left }))
-  long-without group place at [] e is there =
-      let alone : (other : List ℕ) → (key ≡ other → ⊥) → value_in (chain_at group place) other ≡ None = λ other differ. sym (value_in-remove_other (chain_at group place) key at other there.is_place differ) ∙ ap (λ (pairs : Pairs). value_in pairs other) e in
+  long-without group place [] e is there =
+      let alone : (other : List ℕ) → (key ≡ other → ⊥) → value_in (chain_at group place) other ≡ None = λ other differ. sym (value_in-without_other (chain_at group place) key other differ) ∙ ap (λ (pairs : Pairs). value_in pairs other) e in
       record {
         step = long-gone hash_of key bytes group is place there.leads alone;
         here = ap (λ found. in_chain (record { hashes = with_map group.hashes (remove group.hashes.map (part_of hash_of key)); chains = set group.chains place [] }) found key) (get-del_same nat_cmp_total group.hashes.map (part_of hash_of key));
         kept = λ used. IsLong-gone hash_of key bytes group is place there.leads alone (used_map (remove group.hashes.map (part_of hash_of key)) used);
       }
-  long-without group place at (pair ∷ rest) e is there =
+  long-without group place (pair ∷ rest) e is there =
       let old = chain_at group place in
       let chain = is.chains (part_of hash_of key) place there.leads in
-      let others : (other : List ℕ) → (key ≡ other → ⊥) → value_in (pair ∷ rest) other ≡ value_in old other = λ other differ. ap (λ (pairs : Pairs). value_in pairs other) (sym e) ∙ value_in-remove_other old key at other there.is_place differ in
+      let others : (other : List ℕ) → (key ≡ other → ⊥) → value_in (pair ∷ rest) other ≡ value_in old other = λ other differ. ap (λ (pairs : Pairs). value_in pairs other) (sym e) ∙ value_in-without_other old key other differ in
       record {
         step = long-changed hash_of key bytes group is place (pair ∷ rest) there.leads there.within others;
-        here = in_long-changed hash_of key bytes group is place (pair ∷ rest) there.leads there.within ∙ ap (λ (pairs : Pairs). value_in pairs key) (sym e) ∙ value_in-remove old key at chain.apart there.is_place;
-        kept = λ _. IsLong-changed hash_of key bytes group is place (pair ∷ rest) there.leads there.within (λ gone. cc) (subst AreApart e (AreApart-remove key old at there.is_place chain.apart)) others;
+        here = in_long-changed hash_of key bytes group is place (pair ∷ rest) there.leads there.within ∙ ap (λ (pairs : Pairs). value_in pairs key) (sym e) ∙ value_in-without old key chain.apart;
+        kept = λ _. IsLong-changed hash_of key bytes group is place (pair ∷ rest) there.leads there.within (λ gone. cc) (subst AreApart e (AreApart-without key old chain.apart)) others;
       }
 
-  pub group-remove : (group : Group) (inside : Inside) → IsGroup hash_of (length key) group → IsInside group (part_of hash_of key) key inside → IsShrunk group (group_without group (part_of hash_of key) inside)
+  pub group-remove : (group : Group) (inside : Inside) → IsGroup hash_of (length key) group → IsInside group (part_of hash_of key) key inside → IsShrunk group (group_without group (part_of hash_of key) inside key)
   group-remove none inside is there = absurd is
   group-remove (short words) (Word word) is there = record {
     step = short-remove hash_of key bytes words is.few;
     here = get-del_same nat_cmp_total words.map (part_of hash_of key);
     kept = λ used. IsShort-remove hash_of key bytes words is.few is (used_map (remove words.map (part_of hash_of key)) used);
   }
-  group-remove (short words) (Chained place at) is there = absurd there
+  group-remove (short words) (Chained place) is there = absurd there
   group-remove (long group) (Word word) is there = absurd there
-  group-remove (long group) (Chained place at) is there = long-without group place at (list.remove (chain_at group place) at) refl is there
+  group-remove (long group) (Chained place) is there = long-without group place (without (chain_at group place) key) refl is there
 
-  pub inside-removable : (group : Group) (inside : Inside) → IsInside group (part_of hash_of key) key inside → IsRemovable group inside
+  pub inside-removable : (group : Group) (inside : Inside) → IsInside group (part_of hash_of key) key inside → IsRemovable group inside key
   inside-removable none inside there = there
   inside-removable (short words) inside there = tt
   inside-removable (long group) (Word word) there = there
-  inside-removable (long group) (Chained place at) there = (there.within, IsPlace-lt (chain_at group place) key at there.is_place)
+  inside-removable (long group) (Chained place) there = (there.within, there.is_there)
 
 -- A group without a key holds none.
 pub empty-none : (group : Group) → IsEmptyGroup group → (part : ℕ) (key : List ℕ) → in_group group part key ≡ None

@@ -52,19 +52,19 @@ used-within [] place part can = absurd can
 used-within (first ∷ rest) zero part can = omega arith
 used-within (first ∷ rest) (suc place) part can = omega (arith, used-within rest place part can)
 
-group_of-with : (held : GroupPlace) (inside : Inside) (value : ℕ) → group_of (place_with held inside value) ≡ group_with (group_of held) inside value
-group_of-with (Free next) inside value = refl
-group_of-with (Short words) (Word word) value = refl
-group_of-with (Short words) (Chained place at) value = refl
-group_of-with (Long group) (Word word) value = refl
-group_of-with (Long group) (Chained place at) value = refl
+group_of-with : (held : GroupPlace) (inside : Inside) (key : List ℕ) (value : ℕ) → group_of (place_with held inside key value) ≡ group_with (group_of held) inside key value
+group_of-with (Free next) inside key value = refl
+group_of-with (Short words) (Word word) key value = refl
+group_of-with (Short words) (Chained place) key value = refl
+group_of-with (Long group) (Word word) key value = refl
+group_of-with (Long group) (Chained place) key value = refl
 
 module _ (lengths : ArrayOf word_order) (places : List GroupPlace) (place : ℕ) (held : GroupPlace) (within : place < length places) (is : held ≡ get_or places place held) where
   pub held-is : group_of held ≡ get_or (groups_of places) place none
   held-is = ap group_of is ∙ sym (get_or-map group_of places place held none within)
 
-  pub keyed-written : (inside : Inside) (value : ℕ) → keyed_of lengths (set places place (place_with held inside value)) ≡ keyed_with (keyed_of lengths places) place inside value
-  keyed-written inside value = keyed-set lengths places place (place_with held inside value) _ (group_of-with held inside value ∙ ap (λ (group : Group). group_with group inside value) held-is)
+  pub keyed-written : (inside : Inside) (key : List ℕ) (value : ℕ) → keyed_of lengths (set places place (place_with held inside key value)) ≡ keyed_with (keyed_of lengths places) place inside key value
+  keyed-written inside key value = keyed-set lengths places place (place_with held inside key value) _ (group_of-with held inside key value ∙ ap (λ (group : Group). group_with group inside key value) held-is)
 
   pub keyed-back : keyed_of lengths (set places place held) ≡ keyed_of lengths places
   keyed-back = ap (keyed_of lengths) (set_same places place held is)
@@ -81,30 +81,30 @@ some-group (Free next) taken e = absurd (none-some next (sym taken))
 some-group (Short words) taken e = cc
 some-group (Long group) taken e = cc
 
-link-with : (place : GroupPlace) (inside : Inside) (value : ℕ) → link_of (place_with place inside value) ≡ link_of place
-link-with (Free next) inside value = refl
-link-with (Short words) (Word word) value = refl
-link-with (Short words) (Chained place at) value = refl
-link-with (Long group) (Word word) value = refl
-link-with (Long group) (Chained place at) value = refl
+link-with : (place : GroupPlace) (inside : Inside) (key : List ℕ) (value : ℕ) → link_of (place_with place inside key value) ≡ link_of place
+link-with (Free next) inside key value = refl
+link-with (Short words) (Word word) key value = refl
+link-with (Short words) (Chained place) key value = refl
+link-with (Long group) (Word word) key value = refl
+link-with (Long group) (Chained place) key value = refl
 
 pub can-some : (group : Group) (part : ℕ) → CanTakeKey group part → group ≢ none
 can-some group part can e = subst (λ (g : Group). CanTakeKey g part) e can
 
-pub removable-some : (group : Group) (inside : Inside) → IsRemovable group inside → group ≢ none
-removable-some group inside can e = subst (λ (g : Group). IsRemovable g inside) e can
+pub removable-some : (group : Group) (inside : Inside) (key : List ℕ) → IsRemovable group inside key → group ≢ none
+removable-some group inside key can e = subst (λ (g : Group). IsRemovable g inside key) e can
 
-pub without-some : (group : Group) (part : ℕ) (inside : Inside) → group ≢ none → group_without group part inside ≢ none
-without-some none part inside some e = some refl
-without-some (short words) part inside some e = cc
-without-some (long group) part (Word word) some e = cc
-without-some (long group) part (Chained place at) some e = cc
+pub without-some : (group : Group) (part : ℕ) (inside : Inside) (key : List ℕ) → group ≢ none → group_without group part inside key ≢ none
+without-some none part inside key some e = some refl
+without-some (short words) part inside key some e = cc
+without-some (long group) part (Word word) key some e = cc
+without-some (long group) part (Chained place) key some e = cc
 
 key-some : (group : Group) (part : ℕ) (key : List ℕ) (inside : Inside) → group ≢ none → group_with_key group part key inside ≢ none
 key-some none part key inside some e = some refl
 key-some (short words) part key inside some e = cc
 key-some (long group) part key (Word word) some e = cc
-key-some (long group) part key (Chained place at) some e = cc
+key-some (long group) part key (Chained place) some e = cc
 
 pub one-some : (part : ℕ) (key : List ℕ) → one_group part key ≢ none
 one-some part key = elim (nat_le (length key) 8) as (λ b. (if b then short (one_word part 0) else long (one_long part key)) ≢ none) [
@@ -163,8 +163,8 @@ module _ (places : List GroupPlace) (free : ℕ) (lost : NoneLost (links_of plac
     groups-back = subst (λ (items : List GroupPlace). NoneLost (links_of items) free) (sym (set_same places at held is)) lost
 
     -- A value is written in the group,
-    pub groups-with : (inside : Inside) (value : ℕ) → NoneLost (links_of (set places at (place_with held inside value))) free
-    groups-with inside value = set-places link_of places free lost at held is (place_with held inside value) (link-with held inside value)
+    pub groups-with : (inside : Inside) (key : List ℕ) (value : ℕ) → NoneLost (links_of (set places at (place_with held inside key value))) free
+    groups-with inside key value = set-places link_of places free lost at held is (place_with held inside key value) (link-with held inside key value)
 
     module _ (some : group_of held ≢ none) (new : GroupPlace) where
       -- the group is another,

@@ -69,13 +69,13 @@ module _ (hash_of : List ℕ → ℕ) where
     -- ---- where a key stands
 
     module _ (is_key : IsBytesKey key) (place : ℕ) (inside : Inside) (spot : IsSpot keyed (part_of hash_of key) key place inside) where
-      pub spot-value : get (map_of hash_of keyed) key ≡ value_inside (group_at keyed place) inside
+      pub spot-value : get (map_of hash_of keyed) key ≡ value_inside (group_at keyed place) inside key
       spot-value = get_is is_key ∙ ap (λ found. in_place keyed found (part_of hash_of key) key) spot.leads ∙ value-inside hash_of key is_key.is_byte_string (group_at keyed place) inside spot.is_inside
 
-      pub spot-usable : IsUsable (group_at keyed place) inside
+      pub spot-usable : IsUsable (group_at keyed place) inside key
       spot-usable = inside-usable hash_of key is_key.is_byte_string (group_at keyed place) inside spot.is_inside
 
-      pub spot-removable : IsRemovable (group_at keyed place) inside
+      pub spot-removable : IsRemovable (group_at keyed place) inside key
       spot-removable = inside-removable hash_of key is_key.is_byte_string (group_at keyed place) inside spot.is_inside
 
       pub spot-some : (value : ℕ) × (get (map_of hash_of keyed) key ≡ Some value)
@@ -87,17 +87,17 @@ module _ (hash_of : List ℕ → ℕ) where
     -- ---- a value written
 
     module _ (place : ℕ) (inside : Inside) (spot : IsSpot keyed (part_of hash_of key) key place inside) (value : ℕ) where
-      made_with : IsMade hash_of (keyed_with keyed place inside value) (insert (map_of hash_of keyed) key value)
-      made_with = made-set hash_of keyed is.is_keyed key is_key place spot.leads spot.within (group_with (group_at keyed place) inside value) value
+      made_with : IsMade hash_of (keyed_with keyed place inside key value) (insert (map_of hash_of keyed) key value)
+      made_with = made-set hash_of keyed is.is_keyed key is_key place spot.leads spot.within (group_with (group_at keyed place) inside key value) value
           (group-write hash_of key is_key.is_byte_string (group_at keyed place) inside value (is.is_keyed.groups (length key) place spot.leads) spot.is_inside)
 
-      pub array-written : array_of hash_of limit (keyed_with keyed place inside value) ≡ with_value (array_of hash_of limit keyed) key value
+      pub array-written : array_of hash_of limit (keyed_with keyed place inside key value) ≡ with_value (array_of hash_of limit keyed) key value
       array-written = ap (λ (map : FinMap byte_order ℕ). record { limit = limit; map = map }) made_with.map_is
 
-      pub IsHs-written : IsHs hash_of limit count (keyed_with keyed place inside value)
+      pub IsHs-written : IsHs hash_of limit count (keyed_with keyed place inside key value)
       IsHs-written =
           let held = spot-some keyed key is_key place inside spot in
-          let same : len (map_of hash_of (keyed_with keyed place inside value)) ≡ len (map_of hash_of keyed) =
+          let same : len (map_of hash_of (keyed_with keyed place inside key value)) ≡ len (map_of hash_of keyed) =
           ap len made_with.map_is ∙ len-insert byte_order_total (map_of hash_of keyed) key value ∙ ap (λ (found : Option ℕ). cond (is_some found) (len (map_of hash_of keyed)) (len (map_of hash_of keyed) + 1)) held.1 in
           record {
             is_keyed = made_with.is;
@@ -159,14 +159,14 @@ module _ (hash_of : List ℕ → ℕ) where
     -- ---- a key taken out
 
     module _ (place : ℕ) (inside : Inside) (spot : IsSpot keyed (part_of hash_of key) key place inside) where
-      pub made_kept : (IsEmptyGroup (group_without (group_at keyed place) (part_of hash_of key) inside) → ⊥) → IsMade hash_of (keyed_without keyed place (part_of hash_of key) inside) (remove (map_of hash_of keyed) key)
-      made_kept used = made-without hash_of keyed is.is_keyed key is_key place spot.leads spot.within (group_without (group_at keyed place) (part_of hash_of key) inside)
+      pub made_kept : (IsEmptyGroup (group_without (group_at keyed place) (part_of hash_of key) inside key) → ⊥) → IsMade hash_of (keyed_without keyed place (part_of hash_of key) inside key) (remove (map_of hash_of keyed) key)
+      made_kept used = made-without hash_of keyed is.is_keyed key is_key place spot.leads spot.within (group_without (group_at keyed place) (part_of hash_of key) inside key)
           (group-remove hash_of key is_key.is_byte_string (group_at keyed place) inside (is.is_keyed.groups (length key) place spot.leads) spot.is_inside) used
 
-      pub made_emptied : IsEmptyGroup (group_without (group_at keyed place) (part_of hash_of key) inside) → IsMade hash_of (without_group keyed (length key) place) (remove (map_of hash_of keyed) key)
+      pub made_emptied : IsEmptyGroup (group_without (group_at keyed place) (part_of hash_of key) inside key) → IsMade hash_of (without_group keyed (length key) place) (remove (map_of hash_of keyed) key)
       made_emptied gone = made-gone hash_of keyed is.is_keyed key is_key place spot.leads (λ other o.
           sym ((group-remove hash_of key is_key.is_byte_string (group_at keyed place) inside (is.is_keyed.groups (length key) place spot.leads) spot.is_inside).step.others other o)
-          ∙ empty-none (group_without (group_at keyed place) (part_of hash_of key) inside) gone (part_of hash_of other) other)
+          ∙ empty-none (group_without (group_at keyed place) (part_of hash_of key) inside key) gone (part_of hash_of other) other)
 
     -- The groups without the key are an array of one key less.
     pub IsHs-removed : (after : Keyed) → IsMade hash_of after (remove (map_of hash_of keyed) key) → (value : ℕ) → get (map_of hash_of keyed) key ≡ Some value → IsHs hash_of limit (count - 1) after
@@ -200,13 +200,13 @@ group_or_not (short words) = empty_or_not words.map
 group_or_not (long group) = empty_or_not group.hashes.map
 
 module _ (hash_of : List ℕ → ℕ) (limit count : ℕ) (keyed : Keyed) (is : IsHs hash_of limit count keyed) (key : List ℕ) (is_key : IsBytesKey key) (place : ℕ) (inside : Inside) (spot : IsSpot keyed (part_of hash_of key) key place inside) (after : Keyed)
-    (kept : (IsEmptyGroup (group_without (group_at keyed place) (part_of hash_of key) inside) → ⊥) → after ≡ keyed_without keyed place (part_of hash_of key) inside)
-    (emptied : IsEmptyGroup (group_without (group_at keyed place) (part_of hash_of key) inside) → after ≡ without_group keyed (length key) place) where
+    (kept : (IsEmptyGroup (group_without (group_at keyed place) (part_of hash_of key) inside key) → ⊥) → after ≡ keyed_without keyed place (part_of hash_of key) inside key)
+    (emptied : IsEmptyGroup (group_without (group_at keyed place) (part_of hash_of key) inside key) → after ≡ without_group keyed (length key) place) where
   removed_made : IsMade hash_of after (remove (map_of hash_of keyed) key)
   removed_made = ⊎_elim
       (λ gone. subst (λ k. IsMade hash_of k (remove (map_of hash_of keyed) key)) (sym (emptied gone)) (made_emptied hash_of limit count keyed is key is_key place inside spot gone))
       (λ used. subst (λ k. IsMade hash_of k (remove (map_of hash_of keyed) key)) (sym (kept used)) (made_kept hash_of limit count keyed is key is_key place inside spot used))
-      (group_or_not (group_without (group_at keyed place) (part_of hash_of key) inside))
+      (group_or_not (group_without (group_at keyed place) (part_of hash_of key) inside key))
 
   pub IsHs-deleted : IsHs hash_of limit (count - 1) after
   IsHs-deleted = let held = spot-some hash_of keyed key is_key place inside spot in IsHs-removed hash_of limit count keyed is key is_key after removed_made held.0 held.1
@@ -263,13 +263,13 @@ module _ (hash_of : List ℕ → ℕ) (limit count : ℕ) (keyed : Keyed) (is : 
   room-absent absent room = is_full_absent (array_of hash_of limit keyed) key (get_is hash_of keyed key is_key ∙ absent) ∙ ne_eqb _ _ (λ e. room (is.counted ∙ e))
 
   module _ (place : ℕ) (inside : Inside) (spot : IsSpot keyed (part_of hash_of key) key place inside) where
-    pub present-some : IsSome (value_inside (group_at keyed place) inside)
+    pub present-some : IsSome (value_inside (group_at keyed place) inside key)
     present-some = let held = spot-some hash_of keyed key is_key place inside spot in ap (λ (found : Option ℕ). is_some found) (sym (spot-value hash_of keyed key is_key place inside spot) ∙ held.1)
 
     pub present-room : IsFalse (is_full (array_of hash_of limit keyed) key)
     present-room = let held = spot-some hash_of keyed key is_key place inside spot in is_full_present (array_of hash_of limit keyed) key held.0 held.1
 
-    pub present-value : (slot : ℕ) → Some slot ≡ value_inside (group_at keyed place) inside → Some slot ≡ get (ins (map_of hash_of keyed) key) key
+    pub present-value : (slot : ℕ) → Some slot ≡ value_inside (group_at keyed place) inside key → Some slot ≡ get (ins (map_of hash_of keyed) key) key
     present-value slot e =
         let held = spot-some hash_of keyed key is_key place inside spot in
         e ∙ sym (spot-value hash_of keyed key is_key place inside spot) ∙ ap (λ (map : FinMap byte_order ℕ). get map key) (sym (ins_present (map_of hash_of keyed) key held.0 held.1))
@@ -285,15 +285,15 @@ module _ (hash_of : List ℕ → ℕ) (limit count : ℕ) (keyed : Keyed) (is : 
     pub after-hs : count ≢ limit → IsHs hash_of limit (count + 1) after
     after-hs room = subst (IsHs hash_of limit (count + 1)) (sym made) (IsHs-added hash_of limit count keyed is key is_key place inside absent new room)
 
-    pub after-some : IsSome (value_inside (group_at after place) inside)
+    pub after-some : IsSome (value_inside (group_at after place) inside key)
     after-some = let held = spot-some hash_of after key is_key place inside after-spot in ap (λ (found : Option ℕ). is_some found) (sym (spot-value hash_of after key is_key place inside after-spot) ∙ held.1)
 
-    pub after-value : (slot : ℕ) → Some slot ≡ value_inside (group_at after place) inside → Some slot ≡ get (ins (map_of hash_of keyed) key) key
+    pub after-value : (slot : ℕ) → Some slot ≡ value_inside (group_at after place) inside key → Some slot ≡ get (ins (map_of hash_of keyed) key) key
     after-value slot e =
         e ∙ sym (spot-value hash_of after key is_key place inside after-spot)
         ∙ ap (λ (map : FinMap byte_order ℕ). get map key) (after_map ∙ sym (ins_absent (map_of hash_of keyed) key (get_is hash_of keyed key is_key ∙ absent)))
 
-    pub after-written : count ≢ limit → (value : ℕ) → array_of hash_of limit (keyed_with after place inside value) ≡ with_value (array_of hash_of limit keyed) key value
+    pub after-written : count ≢ limit → (value : ℕ) → array_of hash_of limit (keyed_with after place inside key value) ≡ with_value (array_of hash_of limit keyed) key value
     after-written room value =
         array-written hash_of limit (count + 1) after (after-hs room) key is_key place inside after-spot value
         ∙ ap (λ (map : FinMap byte_order ℕ). record { limit = limit; map = map })

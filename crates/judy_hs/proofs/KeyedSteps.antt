@@ -9,12 +9,13 @@ use Rattle.judy_model.proofs.ByteLemmas.{number_of-lt}
 use Rattle.judy_model.proofs.ChangesLemmas.{get-write_same, get-write_other}
 use Rattle.judy_hs.specs.declared.group.Inside.{Inside}
 use Rattle.judy_hs.specs.declared.group.Inside.TheVariants.{Word, Chained}
+use Rattle.judy_hs.specs.Chains.{value_in}
 use Rattle.judy_hs.specs.LongGroups.{in_chain, one_long, one_word}
 use Rattle.judy_hs.specs.Groups.{Group, none, short, long, in_group, IsInside, IsEmptyGroup, one_group, one_inside}
 use Rattle.judy_hs.specs.Keyed.{Keyed, group_at, in_place, IsSpot, IsFreeGroup, with_group, without_group}
 use Rattle.judy_hs.specs.Parts.{part_of}
 use Rattle.judy_hs.specs.Kept.{IsChain, IsGroup, IsKeyed, value_of, map_of}
-use Rattle.judy_hs.proofs.ChainLemmas.{value_in-head, value_in-later}
+use Rattle.judy_hs.proofs.ChainLemmas.{some_is, value_in-head, value_in-later}
 use Rattle.judy_hs.proofs.PartLemmas.{part_short, part_long, number_same}
 use Rattle.judy_hs.proofs.TwoLevels.{same_or_not, through, IsTwo, two-set, through-set, through-set_at, two-put, through-put, through-put_other, two-gone, through-gone, through-gone_other, get_or-put}
 use Rattle.judy_hs.proofs.GroupSteps.{some_none, IsOther, IsStep, chain_of_one}
@@ -127,7 +128,7 @@ module _ (hash_of : List ℕ → ℕ) where
     found_one (Some zero) other o = value_in-later (key, 0) [] other o.differs
     found_one (Some (suc place)) other o = refl
 
-    long_one : 8 < length key → IsOne (long (one_long (part_of hash_of key) key)) (Chained 0 0)
+    long_one : 8 < length key → IsOne (long (one_long (part_of hash_of key) key)) (Chained 0)
     long_one many = record {
       here = ap (λ found. in_chain (one_long (part_of hash_of key) key) found key) word_one ∙ value_in-head key 0 [];
       others = λ other o. found_one (get alone (part_of hash_of other)) other o;
@@ -142,13 +143,13 @@ module _ (hash_of : List ℕ → ℕ) where
             subst (λ h. IsChain hash_of (length key) h (get_or (((key, 0) ∷ []) ∷ []) place [])) (sym at.0)
             (subst (λ p. IsChain hash_of (length key) (part_of hash_of key) (get_or (((key, 0) ∷ []) ∷ []) p [])) (sym at.1) (chain_of_one hash_of key is_key.is_byte_string (part_of hash_of key) (sym (part_long hash_of key many))));
       };
-      there = record { leads = word_one; within = omega arith; is_place = refl };
+      there = record { leads = word_one; within = omega arith; is_there = some_is (value_in ((key, 0) ∷ []) key) 0 (value_in-head key 0 []) };
     }
 
     one : IsOne (one_group (part_of hash_of key) key) (one_inside (part_of hash_of key) key)
     one = ⊎_elim
-        (λ (few : length key ≤ 8). subst (λ b. IsOne (cond b (short (one_word (part_of hash_of key) 0)) (long (one_long (part_of hash_of key) key))) (cond b (Word (part_of hash_of key)) (Chained 0 0))) (sym (le-leb (length key) 8 few)) (short_one few))
-        (λ (many : 8 < length key). subst (λ b. IsOne (cond b (short (one_word (part_of hash_of key) 0)) (long (one_long (part_of hash_of key) key))) (cond b (Word (part_of hash_of key)) (Chained 0 0))) (sym (lt-leb (length key) 8 many)) (long_one many))
+        (λ (few : length key ≤ 8). subst (λ b. IsOne (cond b (short (one_word (part_of hash_of key) 0)) (long (one_long (part_of hash_of key) key))) (cond b (Word (part_of hash_of key)) (Chained 0))) (sym (le-leb (length key) 8 few)) (short_one few))
+        (λ (many : 8 < length key). subst (λ b. IsOne (cond b (short (one_word (part_of hash_of key) 0)) (long (one_long (part_of hash_of key) key))) (cond b (Word (part_of hash_of key)) (Chained 0))) (sym (lt-leb (length key) 8 many)) (long_one many))
         (⊎_elim (λ e. inl (omega arith)) (λ apart. ⊎_elim (λ less. inl (omega arith)) (λ more. inr more) apart) (cases_order (length key) 8))
 
     pub record IsPut (after : Keyed) (place : ℕ) (inside : Inside) : Type 0 where

@@ -1,5 +1,6 @@
 pub mod ListLemmas
 pub mod ChainLemmas
+pub mod ChainEntryLemmas
 pub mod PlaceSteps
 pub mod LongLemmas
 pub mod GroupLemmas

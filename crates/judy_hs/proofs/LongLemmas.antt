@@ -1,10 +1,8 @@
 -- Groups of long keys: what a change of their lists makes of them.
-use Rattle.std.proofs.Common.{◌≡◌, ◌≢◌, ℕ, zero, suc, ◌<◌, ◌≤◌, inl, inr, Bool, true, false, cond, List, [], ◌∷◌, ◌++◌, length, get_or, set, Option, None, Some, nat_lt, nat_eq, Result, Ok, Err, OnOk, OnErr, refl, sym, ap, ◌∙◌, subst, arith}
-use Rattle.std.specs.List as list
+use Rattle.std.proofs.Common.{◌≡◌, ◌≢◌, ℕ, zero, suc, ◌<◌, ◌≤◌, inl, inr, true, false, cond, List, [], ◌∷◌, ◌++◌, length, get_or, set, Option, None, Some, nat_lt, IsSome, Result, Ok, Err, OnOk, OnErr, refl, sym, ap, ◌∙◌, subst, arith}
 use Rattle.std.specs.FinMap.{get, insert}
 use Rattle.std.proofs.lemmas.List.{map-set, get_or-map, length-map, map-append, get_or_past, get_or_default, get_or-set_same, get_or-set_other}
 use Rattle.std.proofs.lemmas.Bool.{cases_eq}
-use Rattle.std.proofs.lemmas.Bool.Decides.{nat_tests}
 use Rattle.std.proofs.lemmas.Option.{none-some}
 use Rattle.judy_places.specs.Places.{IsNextPlace}
 use Rattle.judy_places.proofs.PlaceLemmas.{free-inside}
@@ -12,10 +10,11 @@ use Rattle.judy_model.specs.Keys.{word_order}
 use Rattle.judy_model.specs.Arrays.{ArrayOf, with_map}
 use Rattle.judy_hs.specs.declared.long_group.ChainPlace.{ChainPlace}
 use Rattle.judy_hs.specs.declared.long_group.ChainPlace.TheVariants.{Free, Few, Many, Taken}
-use Rattle.judy_hs.specs.Chains.{Pairs, with_value_at}
+use Rattle.judy_hs.specs.Chains.{Pairs, value_in, with_value, with_pair, without}
 use Rattle.judy_hs.specs.LongGroups.{Long, long_with, put_at, with_chain, added_long, IsAdded, IsFound, hashes_without, without_key, IsFreePlace}
 use Rattle.judy_hs.specs.ChainPlaces.{pairs_at, chains_of, link_of, links_of, HasKey, IsOne, AreChainPlaces}
 use Rattle.judy_hs.specs.LongLends.{place_with}
+use Rattle.judy_hs.proofs.ChainLemmas.{one-written, written-used, put-used}
 use Rattle.judy_hs.proofs.TwoLevels.{get_or-put, get_or-put_other}
 use Rattle.judy_hs.proofs.ListLemmas.{set-twice, set_same}
 use Rattle.judy_hs.proofs.PlaceSteps.{put-places, end-places, set-places, free-places}
@@ -37,17 +36,17 @@ kept : (long : Long) (hash : ℕ) (left : Pairs) → left ≢ [] → hashes_with
 kept long hash [] used = absurd (used refl)
 kept long hash (pair ∷ rest) used = refl
 
-module _ (hashes : ArrayOf word_order) (places : List ChainPlace) (hash place at : ℕ) (new : ChainPlace) (is : pairs_at new ≡ list.remove (get_or (chains_of places) place []) at) where
+module _ (hashes : ArrayOf word_order) (places : List ChainPlace) (hash place : ℕ) (key : List ℕ) (new : ChainPlace) (is : pairs_at new ≡ without (get_or (chains_of places) place []) key) where
   -- A chain that keeps a key stays.
-  pub key-without : pairs_at new ≢ [] → long_of hashes (set places place new) ≡ without_key (long_of hashes places) hash place at
+  pub key-without : pairs_at new ≢ [] → long_of hashes (set places place new) ≡ without_key (long_of hashes places) hash place key
   key-without used =
-      let left = list.remove (get_or (chains_of places) place []) at in
+      let left = without (get_or (chains_of places) place []) key in
       (λ t. record { hashes = hashes; chains = chains_of-set places place new t })
       ∙ ap (λ (pairs : Pairs). record { hashes = hashes; chains = set (chains_of places) place pairs }) is
       ∙ ap (λ (kept : ArrayOf word_order). record { hashes = kept; chains = set (chains_of places) place left }) (sym (kept (long_of hashes places) hash left (λ none. used (is ∙ none))))
 
   -- A chain without a key goes.
-  pub chain-without : (next : ℕ) → pairs_at new ≡ [] → long_of (hashes_without (long_of hashes places) hash []) (set (set places place new) place (Free next)) ≡ without_key (long_of hashes places) hash place at
+  pub chain-without : (next : ℕ) → pairs_at new ≡ [] → long_of (hashes_without (long_of hashes places) hash []) (set (set places place new) place (Free next)) ≡ without_key (long_of hashes places) hash place key
   chain-without next gone =
       (λ t. record { hashes = hashes_without (long_of hashes places) hash []; chains = chains_of (set-twice places place new (Free next) t) })
       ∙ (λ t. record { hashes = hashes_without (long_of hashes places) hash []; chains = chains_of-set places place (Free next) t })
@@ -72,41 +71,40 @@ with_chain-put hashes made places hash place key new is one =
 -- A hash that led nowhere leads to a chain of one key.
 pub added-new : (hashes made : ArrayOf word_order) (places : List ChainPlace) (hash place : ℕ) (key : List ℕ) (new : ChainPlace)
     → get hashes.map hash ≡ None → IsFreePlace (chains_of places) place → made ≡ with_map hashes (insert hashes.map hash place) → pairs_at new ≡ (key, 0) ∷ []
-    → IsAdded (long_of hashes places) (long_of made (put_at places place new)) hash key place 0
+    → IsAdded (long_of hashes places) (long_of made (put_at places place new)) hash key place
 added-new hashes made places hash place key new absent free is one =
-    subst (λ (found : Option ℕ). IsFound (long_of hashes places) found place 0 × (long_of made (put_at places place new) ≡ added_long (long_of hashes places) hash key found place)) (sym absent) (
-      (free, refl),
+    subst (λ (found : Option ℕ). IsFound (long_of hashes places) found place × (long_of made (put_at places place new) ≡ added_long (long_of hashes places) hash key found place)) (sym absent) (
+      free,
       with_chain-put hashes made places hash place key new is one,
     )
 
 -- ---- a key put into a chain
 
-pub added-held : (hashes : ArrayOf word_order) (places : List ChainPlace) (hash place at : ℕ) (key : List ℕ) (new : ChainPlace)
-    → get hashes.map hash ≡ Some place → at ≡ length (get_or (chains_of places) place []) → pairs_at new ≡ get_or (chains_of places) place [] ++ (key, 0) ∷ []
-    → IsAdded (long_of hashes places) (long_of hashes (set places place new)) hash key place at
-added-held hashes places hash place at key new leads last is =
-    subst (λ (found : Option ℕ). IsFound (long_of hashes places) found place at × (long_of hashes (set places place new) ≡ added_long (long_of hashes places) hash key found place)) (sym leads) (
-      (refl, last),
+pub added-held : (hashes : ArrayOf word_order) (places : List ChainPlace) (hash place : ℕ) (key : List ℕ) (new : ChainPlace)
+    → get hashes.map hash ≡ Some place → pairs_at new ≡ with_pair (get_or (chains_of places) place []) key 0
+    → IsAdded (long_of hashes places) (long_of hashes (set places place new)) hash key place
+added-held hashes places hash place key new leads is =
+    subst (λ (found : Option ℕ). IsFound (long_of hashes places) found place × (long_of hashes (set places place new) ≡ added_long (long_of hashes places) hash key found place)) (sym leads) (
+      refl,
       ap (λ (all : List Pairs). record { hashes = hashes; chains = all }) (chains_of-set places place new ∙ ap (set (chains_of places) place) is),
     )
 
 -- ---- a value written
 
-pairs_at-with : (new : ChainPlace) (at value : ℕ) → pairs_at (place_with new at value) ≡ with_value_at (pairs_at new) at value
-pairs_at-with (Free next) at value = refl
-pairs_at-with (Few few held) zero value = refl
-pairs_at-with (Few few held) (suc at) value = let e : nat_eq (suc at) 0 ≡ false = grind (arith, nat_tests) in rw e refl
-pairs_at-with (Many many held) zero value = refl
-pairs_at-with (Many many held) (suc at) value = let e : nat_eq (suc at) 0 ≡ false = grind (arith, nat_tests) in rw e refl
-pairs_at-with (Taken chain) at value = refl
+pairs_at-with : (new : ChainPlace) (key : List ℕ) (value : ℕ) → IsSome (value_in (pairs_at new) key) → pairs_at (place_with new key value) ≡ with_value (pairs_at new) key value
+pairs_at-with (Free next) key value is = refl
+pairs_at-with (Few few held) key value is = one-written few key held is value
+pairs_at-with (Many many held) key value is = one-written many.items key held is value
+pairs_at-with (Taken chain) key value is = refl
 
-module _ (hashes : ArrayOf word_order) (places : List ChainPlace) (place at : ℕ) (held : ChainPlace) (within : place < length places) (is : held ≡ get_or places place held) where
+module _ (hashes : ArrayOf word_order) (places : List ChainPlace) (place : ℕ) (held : ChainPlace) (within : place < length places) (is : held ≡ get_or places place held) where
   pub held-is : pairs_at held ≡ get_or (chains_of places) place []
   held-is = ap pairs_at is ∙ pairs_at-get places place held within
 
-  pub long-written : (value : ℕ) → long_of hashes (set places place (place_with held at value)) ≡ long_with (long_of hashes places) place at value
-  long-written value = ap (λ (all : List Pairs). record { hashes = hashes; chains = all })
-      (chains_of-set places place (place_with held at value) ∙ ap (set (chains_of places) place) (pairs_at-with held at value ∙ ap (λ (pairs : Pairs). with_value_at pairs at value) held-is))
+  pub long-written : (key : List ℕ) → IsSome (value_in (get_or (chains_of places) place []) key) → (value : ℕ) → long_of hashes (set places place (place_with held key value)) ≡ long_with (long_of hashes places) place key value
+  long-written key there value = ap (λ (all : List Pairs). record { hashes = hashes; chains = all })
+      (chains_of-set places place (place_with held key value)
+      ∙ ap (set (chains_of places) place) (pairs_at-with held key value (subst (λ (pairs : Pairs). IsSome (value_in pairs key)) (sym held-is) there) ∙ ap (λ (pairs : Pairs). with_value pairs key value) held-is))
 
   pub long-back : long_of hashes (set places place held) ≡ long_of hashes places
   long-back = ap (long_of hashes) (set_same places place held is)
@@ -143,14 +141,6 @@ keys-there (Few few value) taken has = λ e. cc
 keys-there (Many many value) taken has = λ e. cc
 keys-there (Taken chain) taken has = has
 
-link-either : (written : Bool) (one other : ChainPlace) → link_of one ≡ None → link_of other ≡ None → link_of (cond written one other) ≡ None
-link-either true one other first second = first
-link-either false one other first second = second
-
-has-either : (written : Bool) (one other : ChainPlace) → HasKey one → HasKey other → HasKey (cond written one other)
-has-either true one other first second = first
-has-either false one other first second = second
-
 -- A place with one key is taken.
 pub link-one : (place : ChainPlace) → IsOne place → link_of place ≡ None
 link-one (Free next) one = absurd one
@@ -164,30 +154,21 @@ has-one (Few few value) one = tt
 has-one (Many many value) one = tt
 has-one (Taken chain) one = absurd one
 
-link-with : (place : ChainPlace) (at value : ℕ) → link_of (place_with place at value) ≡ link_of place
-link-with (Free next) at value = refl
-link-with (Few few held) at value = link-either (nat_eq at 0) (Few few value) (Few few held) refl refl
-link-with (Many many held) at value = link-either (nat_eq at 0) (Many many value) (Many many held) refl refl
-link-with (Taken chain) at value = refl
+link-with : (place : ChainPlace) (key : List ℕ) (value : ℕ) → link_of (place_with place key value) ≡ link_of place
+link-with (Free next) key value = refl
+link-with (Few few held) key value = refl
+link-with (Many many held) key value = refl
+link-with (Taken chain) key value = refl
 
-with-some : (pairs : Pairs) (at value : ℕ) → pairs ≢ [] → with_value_at pairs at value ≢ []
-with-some [] at value some e = absurd (some refl)
-with-some (pair ∷ rest) zero value some e = cc
-with-some (pair ∷ rest) (suc at) value some e = cc
-
-has-with : (place : ChainPlace) (at value : ℕ) → HasKey place → HasKey (place_with place at value)
-has-with (Free next) at value has = tt
-has-with (Few few held) at value has = has-either (nat_eq at 0) (Few few value) (Few few held) tt tt
-has-with (Many many held) at value has = has-either (nat_eq at 0) (Many many value) (Many many held) tt tt
-has-with (Taken chain) at value has = with-some chain at value has
-
-push-some : (pairs : Pairs) (pair : List ℕ × ℕ) → pairs ++ pair ∷ [] ≢ []
-push-some [] pair e = cc
-push-some (first ∷ rest) pair e = cc
+has-with : (place : ChainPlace) (key : List ℕ) (value : ℕ) → HasKey place → HasKey (place_with place key value)
+has-with (Free next) key value has = tt
+has-with (Few few held) key value has = tt
+has-with (Many many held) key value has = tt
+has-with (Taken chain) key value has = written-used chain key value has
 
 -- A chain keeps a key, whether one was put in or refused.
-pub added-some : {A E : Type 0} (result : Result A E) (key : List ℕ) (before after : ChainPlace) → OnOk result (pairs_at after ≡ pairs_at before ++ (key, 0) ∷ []) → OnErr result (after ≡ before) → pairs_at before ≢ [] → pairs_at after ≢ []
-added-some (Ok at) key before after added same some e = push-some (pairs_at before) (key, 0) (sym added ∙ e)
+pub added-some : {A E : Type 0} (result : Result A E) (key : List ℕ) (before after : ChainPlace) → OnOk result (pairs_at after ≡ with_pair (pairs_at before) key 0) → OnErr result (after ≡ before) → pairs_at before ≢ [] → pairs_at after ≢ []
+added-some (Ok done) key before after added same some e = put-used (pairs_at before) key 0 (sym added ∙ e)
 added-some (Err error) key before after added same some e = some (sym (ap pairs_at same) ∙ e)
 
 module _ (places : List ChainPlace) (free : ℕ) (are : AreChainPlaces places free) where
@@ -265,10 +246,10 @@ module _ (places : List ChainPlace) (free : ℕ) (are : AreChainPlaces places fr
     places-back = subst (λ (items : List ChainPlace). AreChainPlaces items free) (sym (set_same places at held is)) are
 
     -- A value is written in the chain,
-    pub places-with : (place value : ℕ) → AreChainPlaces (set places at (place_with held place value)) free
-    places-with place value = record {
-      none_lost = set-places link_of places free are.none_lost at held is (place_with held place value) (link-with held place value);
-      have_keys = have-set at (place_with held place value) inside (has-with held place value has-held);
+    pub places-with : (key : List ℕ) (value : ℕ) → AreChainPlaces (set places at (place_with held key value)) free
+    places-with key value = record {
+      none_lost = set-places link_of places free are.none_lost at held is (place_with held key value) (link-with held key value);
+      have_keys = have-set at (place_with held key value) inside (has-with held key value has-held);
     }
 
     module _ (used : pairs_at held ≢ []) (new : ChainPlace) where

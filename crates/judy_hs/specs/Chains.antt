@@ -1,5 +1,7 @@
 -- A chain: long keys and their values, as a list of pairs.
-use Rattle.std.specs.Prelude.{◌≡◌, ◌≢◌, ℕ, zero, suc, Bool, cond, bytes_eq, List, [], ◌∷◌, Option, Some, None, option_map, slice_get}
+use Rattle.std.specs.Prelude.{◌≡◌, ℕ, Bool, cond, bytes_eq, List, [], ◌∷◌, Option, Some, None}
+use Rattle.std.specs.BTreeMap.{insert_entry}
+use Rattle.judy_model.specs.Keys.{byte_order}
 
 -- Pairs of a key and its value.
 abbrev pub Pairs : Type 0
@@ -14,23 +16,21 @@ abbrev pub value_in : Pairs → List ℕ → Option ℕ
 value_in [] key = None
 value_in (pair ∷ rest) key = cond (has_key key pair) (Some pair.1) (value_in rest key)
 
--- The first pair with the key is the one at the place.
-abbrev pub IsPlace : Pairs → List ℕ → ℕ → Type 0
-IsPlace [] key at = ⊥
-IsPlace (pair ∷ rest) key zero = pair.0 ≡ key
-IsPlace (pair ∷ rest) key (suc at) = (pair.0 ≢ key) × IsPlace rest key at
-
 -- No two pairs have one key.
 abbrev pub AreApart : Pairs → Type 0
 AreApart [] = Unit {0}
 AreApart (pair ∷ rest) = (value_in rest pair.0 ≡ None) × AreApart rest
 
--- The value at a place.
-abbrev pub value_at : Pairs → ℕ → Option ℕ
-value_at pairs at = option_map (λ pair. pair.1) (slice_get pairs at)
+-- The pairs with a value for a key that is in one of them.
+abbrev pub with_value : Pairs → List ℕ → ℕ → Pairs
+with_value [] key value = []
+with_value (pair ∷ rest) key value = cond (has_key key pair) ((pair.0, value) ∷ rest) (pair ∷ with_value rest key value)
 
--- The pairs with a value at a place.
-abbrev pub with_value_at : Pairs → ℕ → ℕ → Pairs
-with_value_at [] at value = []
-with_value_at (pair ∷ rest) zero value = (pair.0, value) ∷ rest
-with_value_at (pair ∷ rest) (suc at) value = pair ∷ with_value_at rest at value
+-- The pairs with a key put in, behind those whose keys are below it.
+abbrev pub with_pair : Pairs → List ℕ → ℕ → Pairs
+with_pair pairs key value = insert_entry byte_order pairs key value
+
+-- The pairs without a key.
+abbrev pub without : Pairs → List ℕ → Pairs
+without [] key = []
+without (pair ∷ rest) key = cond (has_key key pair) rest (pair ∷ without rest key)

@@ -1,6 +1,6 @@
 -- A group: the keys of one length. A key is found in it by a word, its part: the number that a key of at most 8 bytes
 -- spells, or the hash of a longer one.
-use Rattle.std.specs.Prelude.{◌≡◌, ◌≢◌, ◌<◌, ℕ, List, [], length, Option, Some, None, ◌⊎◌, refl, IfSome, nat_le, if◌then◌else◌}
+use Rattle.std.specs.Prelude.{◌≡◌, ◌≢◌, ◌<◌, ℕ, List, [], length, Option, Some, None, ◌⊎◌, refl, IfSome, IsSome, nat_le, if◌then◌else◌}
 use Rattle.std.specs.Coded.{Coded, code_by, coded⊎, coded_option}
 use Rattle.std.specs.FinMap.{get, insert, empty, remove}
 use Rattle.std.proofs.Common.{inl, inr}
@@ -9,6 +9,7 @@ use Rattle.judy_model.specs.Arrays.{ArrayOf, array_code, with_map}
 use Rattle.judy_word.specs.Writes.{with_value}
 use Rattle.std.specs.Coded.{coded_ℕ}
 use Rattle.judy_hs.specs.LongGroups.{Long, long_code, one_word, one_long, chain_at, in_long, IsLongPlace, value_of_place, long_with, IsFound, added_long, without_key}
+use Rattle.judy_hs.specs.Chains.{value_in}
 use Rattle.judy_hs.specs.declared.group.Inside.{Inside}
 use Rattle.judy_hs.specs.declared.group.Inside.TheVariants.{Word, Chained}
 
@@ -60,32 +61,32 @@ chain_in (long group) part = get group.hashes.map part
 abbrev pub IsInside : Group → ℕ → List ℕ → Inside → Type 0
 IsInside none part key inside = ⊥
 IsInside (short words) part key (Word word) = (word ≡ part) × ((value : ℕ) × (get words.map part ≡ Some value))
-IsInside (short words) part key (Chained place at) = ⊥
+IsInside (short words) part key (Chained place) = ⊥
 IsInside (long group) part key (Word word) = ⊥
-IsInside (long group) part key (Chained place at) = IsLongPlace group part key place at
+IsInside (long group) part key (Chained place) = IsLongPlace group part key place
 
--- The place of the chain, where there is one, is a place of the list.
-abbrev pub IsUsable : Group → Inside → Type 0
-IsUsable none inside = Unit {0}
-IsUsable (short words) inside = Unit {0}
-IsUsable (long group) (Word word) = Unit {0}
-IsUsable (long group) (Chained place at) = place < length group.chains
+-- The place of the chain, where there is one, is a place of the list, and the key is in the chain.
+abbrev pub IsUsable : Group → Inside → List ℕ → Type 0
+IsUsable none inside key = Unit {0}
+IsUsable (short words) inside key = Unit {0}
+IsUsable (long group) (Word word) key = Unit {0}
+IsUsable (long group) (Chained place) key = (place < length group.chains) × IsSome (value_in (chain_at group place) key)
 
--- The value of what stands there.
-abbrev pub value_inside : Group → Inside → Option ℕ
-value_inside none inside = None
-value_inside (short words) (Word word) = get words.map word
-value_inside (short words) (Chained place at) = None
-value_inside (long group) (Word word) = None
-value_inside (long group) (Chained place at) = value_of_place group place at
+-- The value of the key that stands there.
+abbrev pub value_inside : Group → Inside → List ℕ → Option ℕ
+value_inside none inside key = None
+value_inside (short words) (Word word) key = get words.map word
+value_inside (short words) (Chained place) key = None
+value_inside (long group) (Word word) key = None
+value_inside (long group) (Chained place) key = value_of_place group place key
 
--- The group with a value there.
-abbrev pub group_with : Group → Inside → ℕ → Group
-group_with none inside value = none
-group_with (short words) (Word word) value = short (with_value words word value)
-group_with (short words) (Chained place at) value = short words
-group_with (long group) (Word word) value = long group
-group_with (long group) (Chained place at) value = long (long_with group place at value)
+-- The group with a value for the key there.
+abbrev pub group_with : Group → Inside → List ℕ → ℕ → Group
+group_with none inside key value = none
+group_with (short words) (Word word) key value = short (with_value words word value)
+group_with (short words) (Chained place) key value = short words
+group_with (long group) (Word word) key value = long group
+group_with (long group) (Chained place) key value = long (long_with group place key value)
 
 -- A new key can be put in: there is a group, and the chain of its hash, if there is one, has a key.
 abbrev pub CanTakeKey : Group → ℕ → Type 0
@@ -97,30 +98,30 @@ CanTakeKey (long group) part = IfSome (get group.hashes.map part) (λ place. cha
 abbrev pub IsNewInside : Group → ℕ → Inside → Type 0
 IsNewInside none part inside = ⊥
 IsNewInside (short words) part (Word word) = word ≡ part
-IsNewInside (short words) part (Chained place at) = ⊥
+IsNewInside (short words) part (Chained place) = ⊥
 IsNewInside (long group) part (Word word) = ⊥
-IsNewInside (long group) part (Chained place at) = IsFound group (get group.hashes.map part) place at
+IsNewInside (long group) part (Chained place) = IsFound group (get group.hashes.map part) place
 
 -- The group with a new key there, its value 0.
 abbrev pub group_with_key : Group → ℕ → List ℕ → Inside → Group
 group_with_key none part key inside = none
 group_with_key (short words) part key inside = short (with_map words (insert words.map part 0))
 group_with_key (long group) part key (Word word) = long group
-group_with_key (long group) part key (Chained place at) = long (added_long group part key (get group.hashes.map part) place)
+group_with_key (long group) part key (Chained place) = long (added_long group part key (get group.hashes.map part) place)
 
--- What stands there can be taken out.
-abbrev pub IsRemovable : Group → Inside → Type 0
-IsRemovable none inside = ⊥
-IsRemovable (short words) inside = Unit {0}
-IsRemovable (long group) (Word word) = ⊥
-IsRemovable (long group) (Chained place at) = (place < length group.chains) × (at < length (chain_at group place))
+-- The key that stands there can be taken out.
+abbrev pub IsRemovable : Group → Inside → List ℕ → Type 0
+IsRemovable none inside key = ⊥
+IsRemovable (short words) inside key = Unit {0}
+IsRemovable (long group) (Word word) key = ⊥
+IsRemovable (long group) (Chained place) key = (place < length group.chains) × IsSome (value_in (chain_at group place) key)
 
 -- The group without it.
-abbrev pub group_without : Group → ℕ → Inside → Group
-group_without none part inside = none
-group_without (short words) part inside = short (with_map words (remove words.map part))
-group_without (long group) part (Word word) = long group
-group_without (long group) part (Chained place at) = long (without_key group part place at)
+abbrev pub group_without : Group → ℕ → Inside → List ℕ → Group
+group_without none part inside key = none
+group_without (short words) part inside key = short (with_map words (remove words.map part))
+group_without (long group) part (Word word) key = long group
+group_without (long group) part (Chained place) key = long (without_key group part place key)
 
 -- The group has no key.
 abbrev pub IsEmptyGroup : Group → Type 0
@@ -134,7 +135,7 @@ one_group part key = if nat_le (length key) 8 then short (one_word part 0) else 
 
 -- Where the key stands in it.
 abbrev pub one_inside : ℕ → List ℕ → Inside
-one_inside part key = if nat_le (length key) 8 then Word part else Chained 0 0
+one_inside part key = if nat_le (length key) 8 then Word part else Chained 0
 
 -- The array by which a group finds its keys.
 abbrev pub words_of : Group → Option (ArrayOf word_order)

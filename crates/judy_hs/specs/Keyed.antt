@@ -51,9 +51,9 @@ pub record IsFreeGroup (groups : List Group) (place : ℕ) : Type 0 where
   pub no_group : get_or groups place none ≡ none
   pub last : place ≡ length groups → (at : ℕ) → at < length groups → get_or groups at none ≢ none
 
--- With a value in the group at a place.
-abbrev pub keyed_with : Keyed → ℕ → Inside → ℕ → Keyed
-keyed_with keyed place inside value = record keyed { groups = slice_set keyed.groups place (group_with (group_at keyed place) inside value) }
+-- With a value for a key of the group at a place.
+abbrev pub keyed_with : Keyed → ℕ → Inside → List ℕ → ℕ → Keyed
+keyed_with keyed place inside key value = record keyed { groups = slice_set keyed.groups place (group_with (group_at keyed place) inside key value) }
 
 -- With a group of one key, at a place under a length that led nowhere.
 abbrev pub with_group : Keyed → ℕ → List ℕ → ℕ → Keyed
@@ -70,8 +70,8 @@ added_keyed keyed part key None place inside = with_group keyed part key place
 added_keyed keyed part key (Some held) place inside = record keyed { groups = slice_set keyed.groups held (group_with_key (group_at keyed held) part key inside) }
 
 -- Without the key that stands in a group.
-abbrev pub keyed_without : Keyed → ℕ → ℕ → Inside → Keyed
-keyed_without keyed place part inside = record keyed { groups = slice_set keyed.groups place (group_without (group_at keyed place) part inside) }
+abbrev pub keyed_without : Keyed → ℕ → ℕ → Inside → List ℕ → Keyed
+keyed_without keyed place part inside key = record keyed { groups = slice_set keyed.groups place (group_without (group_at keyed place) part inside key) }
 
 -- Without a group, the only one of keys of a length.
 abbrev pub without_group : Keyed → ℕ → ℕ → Keyed

@@ -1,11 +1,10 @@
 -- The keys of one length above 8 bytes: chains of keys with one hash.
-use Rattle.std.specs.Prelude.{◌≡◌, ◌≢◌, ◌<◌, ℕ, List, [], ◌∷◌, get_or, length, Option, refl, ◌++◌, ◌≤◌, cond, nat_lt, slice_set, Some, None}
+use Rattle.std.specs.Prelude.{◌≡◌, ◌≢◌, ◌<◌, ℕ, List, [], ◌∷◌, get_or, length, Option, refl, ◌++◌, ◌≤◌, cond, nat_lt, slice_set, Some, None, IsSome}
 use Rattle.std.specs.Coded.{Coded, code_by, coded×, coded_list, coded_ℕ}
 use Rattle.std.specs.FinMap.{get, insert, empty, remove}
 use Rattle.judy_model.specs.Keys.{word_order}
 use Rattle.judy_model.specs.Arrays.{ArrayOf, array_code, with_map}
-use Rattle.judy_hs.specs.Chains.{Pairs, value_in, value_at, with_value_at, IsPlace}
-use Rattle.std.specs.List as list
+use Rattle.judy_hs.specs.Chains.{Pairs, value_in, with_value, with_pair, without}
 
 -- The array from hashes to the places of chains, and the chains.
 pub record Long : Type 0 where
@@ -33,15 +32,15 @@ in_chain long (Some place) key = value_in (chain_at long place) key
 abbrev pub in_long : Long → ℕ → List ℕ → Option ℕ
 in_long long hash key = in_chain long (get long.hashes.map hash) key
 
--- The key with that hash stands in the chain at the place, there at a place of its own.
-pub record IsLongPlace (long : Long) (hash : ℕ) (key : List ℕ) (place at : ℕ) : Type 0 where
+-- The key with that hash stands in the chain at the place.
+pub record IsLongPlace (long : Long) (hash : ℕ) (key : List ℕ) (place : ℕ) : Type 0 where
   pub leads : get long.hashes.map hash ≡ Some place
   pub within : place < length long.chains
-  pub is_place : IsPlace (chain_at long place) key at
+  pub is_there : IsSome (value_in (chain_at long place) key)
 
--- The value at a place of a chain.
-abbrev pub value_of_place : Long → ℕ → ℕ → Option ℕ
-value_of_place long place at = value_at (chain_at long place) at
+-- The value of a key in the chain at a place.
+abbrev pub value_of_place : Long → ℕ → List ℕ → Option ℕ
+value_of_place long place key = value_in (chain_at long place) key
 
 -- The array that holds one word with its value and is never full.
 abbrev pub one_word : ℕ → ℕ → ArrayOf word_order
@@ -67,33 +66,33 @@ with_chain long hash key place = record { hashes = with_map long.hashes (insert 
 
 -- The group with one key more in the chain at a place.
 abbrev pub with_key : Long → List ℕ → ℕ → Long
-with_key long key place = record long { chains = slice_set long.chains place (chain_at long place ++ (key, 0) ∷ []) }
+with_key long key place = record long { chains = slice_set long.chains place (with_pair (chain_at long place) key 0) }
 
 -- What a new key made of the group: a key more in the chain of its hash, or a chain of its own at a free place.
 abbrev pub added_long : Long → ℕ → List ℕ → Option ℕ → ℕ → Long
 added_long long hash key None place = with_chain long hash key place
 added_long long hash key (Some held) place = with_key long key held
 
--- Where a new key stands: last in the chain of its hash, or first in a chain of its own.
-abbrev pub IsFound : Long → Option ℕ → ℕ → ℕ → Type 0
-IsFound long None place at = IsFreePlace long.chains place × (at ≡ 0)
-IsFound long (Some held) place at = (place ≡ held) × (at ≡ length (chain_at long held))
+-- Where a new key stands: in the chain of its hash, or in a chain of its own.
+abbrev pub IsFound : Long → Option ℕ → ℕ → Type 0
+IsFound long None place = IsFreePlace long.chains place
+IsFound long (Some held) place = place ≡ held
 
--- A key was added, and stands at that place of a chain.
-abbrev pub IsAdded : Long → Long → ℕ → List ℕ → ℕ → ℕ → Type 0
-IsAdded before after hash key place at = IsFound before (get before.hashes.map hash) place at × (after ≡ added_long before hash key (get before.hashes.map hash) place)
+-- A key was added, and stands in the chain at that place.
+abbrev pub IsAdded : Long → Long → ℕ → List ℕ → ℕ → Type 0
+IsAdded before after hash key place = IsFound before (get before.hashes.map hash) place × (after ≡ added_long before hash key (get before.hashes.map hash) place)
 
 -- The hashes where these pairs are left of a chain: where none is, its hash goes.
 abbrev pub hashes_without : Long → ℕ → Pairs → ArrayOf word_order
 hashes_without long hash [] = with_map long.hashes (remove long.hashes.map hash)
 hashes_without long hash (pair ∷ rest) = long.hashes
 
--- The group without the key at a place of a chain: a chain that becomes empty goes, with its hash.
-abbrev pub without_key : Long → ℕ → ℕ → ℕ → Long
-without_key long hash place at =
-    let left = list.remove (chain_at long place) at in
+-- The group without a key of the chain at a place: a chain that becomes empty goes, with its hash.
+abbrev pub without_key : Long → ℕ → ℕ → List ℕ → Long
+without_key long hash place key =
+    let left = without (chain_at long place) key in
     record { hashes = hashes_without long hash left; chains = slice_set long.chains place left }
 
--- The group with a value in one of its chains.
-abbrev pub long_with : Long → ℕ → ℕ → ℕ → Long
-long_with long place at value = record long { chains = slice_set long.chains place (with_value_at (chain_at long place) at value) }
+-- The group with a value for a key of one of its chains.
+abbrev pub long_with : Long → ℕ → List ℕ → ℕ → Long
+long_with long place key value = record long { chains = slice_set long.chains place (with_value (chain_at long place) key value) }

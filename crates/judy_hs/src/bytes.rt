@@ -94,7 +94,7 @@ impl<H: ByteHash + Drop> JudyHs<H> {
         match self.groups.try_add(alloc, tries, part, key) {
             Trial::Added(spot) => {
                 self.count += 1;
-                self.groups.slot_of(spot)
+                self.groups.slot_of(spot, key)
             }
             Trial::Refused => Err(HsError::NoMemory),
             Trial::Open => {
@@ -102,7 +102,7 @@ impl<H: ByteHash + Drop> JudyHs<H> {
                 match self.groups.find(way, part, key) {
                     Some(spot) => {
                         self.adds = false;
-                        self.groups.slot_of(spot)
+                        self.groups.slot_of(spot, key)
                     }
                     None => {
                         if is_full {
@@ -112,7 +112,7 @@ impl<H: ByteHash + Drop> JudyHs<H> {
                             Ok(spot) => {
                                 self.count += 1;
                                 self.adds = true;
-                                self.groups.slot_of(spot)
+                                self.groups.slot_of(spot, key)
                             }
                             Err(_) => Err(HsError::NoMemory),
                         }
@@ -135,7 +135,7 @@ impl<H: ByteHash + Drop> JudyHs<H> {
         let part = part_of(&self.hasher, key);
         let way = self.groups.way(part, key);
         match self.groups.find(way, part, key) {
-            Some(spot) => self.groups.slot(spot),
+            Some(spot) => self.groups.slot(spot, key),
             None => None,
         }
     }
@@ -154,7 +154,7 @@ impl<H: ByteHash + Drop> JudyHs<H> {
         let way = self.groups.way(part, key);
         match self.groups.find(way, part, key) {
             Some(spot) => {
-                self.groups.remove(key.len() as u64, part, spot);
+                self.groups.remove(part, key, spot);
                 self.count -= 1;
                 self.give_back();
                 true

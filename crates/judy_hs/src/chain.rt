@@ -1,30 +1,23 @@
-//! Two long keys or more of one length and one hash, with their values.
+//! Two long keys or more of one length and one hash, with their values, in the order of their bytes.
 
-ghost use Rattle.std.specs.Prelude.{◌≡◌, ◌++◌, ◌∷◌, [], ◌+◌, ◌<◌, ◌≤◌, ◌↔◌, IsTrue, IfOk, OnOk, OnErr, None, MatchOption, length, vec_len, vec_capacity};
+ghost use Rattle.std.specs.Prelude.{◌≡◌, ◌++◌, [], ◌↔◌, IsTrue, OnOk, IfOk, OnErr, ◌∷◌};
 ghost use Rattle.std.specs.Borrow.{sem};
-ghost use Rattle.std.specs.List.{position, remove};
 ghost use Rattle.std.specs.Option.{option_copied_mut};
-ghost use Rattle.judy_hs.specs.Chains.{has_key, value_in, IsPlace, value_at};
+ghost use Rattle.judy_hs.specs.Chains.{value_in, with_pair, without};
 ghost use Rattle.judy_hs.specs.Listed.{entries_in};
 ghost use Rattle.judy_hs.specs.Values.{AreWords};
 ghost use Rattle.judy_model.specs.Keys.{IsWord};
 
 use crate::entry::{HsEntry, HsKey};
-use judy_entry::Entry;
 use std::alloc::{AllocError, Global};
+use std::collections::BTreeMap;
 use std::marker::Model;
 
-// The place of the first entry with the key.
-fn place_of(entries: &[Entry], key: &[u8]) -> Option<usize>
-    ensures { result ≡ position (has_key key.now) entries.now }
-{
-    entries.iter().position(|entry| entry.bytes() == key)
-}
-
-// Keys that differ, each with its value, in the order in which they came. In contracts it is the list of these pairs.
+// Keys that differ, each with its value, in the order of their bytes: each call takes the logarithm of their number. In contracts it
+// is the list of these pairs.
 #[derive(Drop)]
 pub struct Chain {
-    entries: Vec<Entry>,
+    entries: BTreeMap<Vec<u8>, u64>,
 }
 
 impl Model for Chain {
@@ -32,70 +25,67 @@ impl Model for Chain {
 
     ghost Value = { List (List ℕ × ℕ) };
 
-    ghost view = { λ chain. chain.entries.items };
+    ghost use Rattle.judy_hs.specs.ChainEntries.{pairs_of};
+
+    ghost view = { λ chain. pairs_of chain.entries.entries };
 }
 
 impl Chain {
     ghost use Rattle.judy_hs.specs.ChainLends.{LendsValue};
 
-    // The chain of two keys, in a list with room for them.
-    pub fn of_two(room: Vec<Entry>, first: Entry, second: Entry) -> Chain
-        requires none { room.items ≡ [] }
-        requires room { vec_len room + 2 ≤ vec_capacity room }
-        ensures { result ≡ first ∷ second ∷ [] }
+    // The chain of no keys. No memory is asked for.
+    pub fn new(alloc: Global) -> Chain
+        ensures { result ≡ [] }
     {
-        let mut entries = room;
-        entries.push_reserved(first);
-        entries.push_reserved(second);
-        Chain { entries }
+        Chain {
+            entries: BTreeMap::new(alloc),
+        }
     }
 
-    // Puts a key last, with the value 0, and answers its place.
-    pub fn add(&mut self, alloc: Global, key: &[u8]) -> Result<usize, AllocError>
-        ensures place { IfOk result (λ at. at ≡ length self.old) }
-        ensures added { OnOk result (self.new ≡ self.old ++ (key.now, 0) ∷ []) }
+    // The chain of a key with its value and of another one with the value 0.
+    pub fn of_two(
+        alloc: Global,
+        first: &[u8],
+        value: u64,
+        second: &[u8],
+    ) -> Result<Chain, AllocError>
+        ensures { IfOk result (λ chain. chain ≡ with_pair ((first.now, value) ∷ []) second.now 0) }
+    {
+        let mut chain = Chain::new(alloc);
+        chain.put(alloc, first, value)?;
+        chain.put(alloc, second, 0)?;
+        Ok(chain)
+    }
+
+    // Puts a key in with its value.
+    pub fn put(&mut self, alloc: Global, key: &[u8], value: u64) -> Result<(), AllocError>
+        ensures added { OnOk result (self.new ≡ with_pair self.old key.now value) }
         ensures unchanged { OnErr result (self.new ≡ self.old) }
     {
-        let at = self.entries.len();
-        self.entries.reserve(1)?;
-        self.entries.push_reserved(Entry::new(alloc, key, 0)?);
-        Ok(at)
+        self.entries.insert(key.to_vec(alloc)?, value)?;
+        Ok(())
     }
 
-    // The place of the key.
-    pub fn find(&self, key: &[u8]) -> Option<usize>
-        ensures { MatchOption result (value_in self.now key.now ≡ None) (IsPlace self.now key.now) }
+    // The value of a key.
+    pub fn get(&self, key: &[u8]) -> Option<u64>
+        ensures { result ≡ value_in self.now key.now }
     {
-        place_of(&self.entries, key)
+        self.entries.get(key).copied()
     }
 
-    // The value at a place.
-    pub fn get(&self, at: usize) -> Option<u64>
-        ensures { result ≡ value_at self.now at }
+    // The slot of the value of a key.
+    pub fn slot(&mut self, key: &[u8]) -> Option<&mut u64>
+        ensures* writes_back { sem 𝓛 (LendsValue self.entry key.now result) }
+        ensures value { option_copied_mut result ≡ value_in self.old key.now }
     {
-        match self.entries.get(at) {
-            Some(entry) => Some(entry.value()),
-            None => None,
-        }
+        self.entries.get_mut(key)
     }
 
-    // The slot of the value at a place.
-    pub fn slot(&mut self, at: usize) -> Option<&mut u64>
-        ensures* writes_back { sem 𝓛 (LendsValue self.entry at result) }
-        ensures value { option_copied_mut result ≡ value_at self.old at }
+    // Takes a key out.
+    pub fn remove(&mut self, key: &[u8])
+        ensures { self.new ≡ without self.old key.now }
     {
-        match self.entries.get_mut(at) {
-            Some(entry) => Some(entry.slot()),
-            None => None,
-        }
-    }
-
-    // Takes the key at a place out.
-    pub fn remove(&mut self, at: usize)
-        requires { at < length self.old }
-        ensures { self.new ≡ remove self.old at }
-    {
-        self.entries.remove(at);
+        self.entries.remove(key);
     }
 
     // Whether no key is left.
@@ -109,10 +99,10 @@ impl Chain {
     pub fn list<'a>(&'a self, list: &mut Vec<HsEntry<'a>>) -> Result<(), AllocError>
         ensures { OnOk result (entries_in list.new.items ≡ entries_in list.old.items ++ self.now) }
     {
-        for entry in &self.entries {
+        'entries: for (key, value) in &self.entries {
             list.push(HsEntry {
-                key: HsKey::Long(entry.bytes()),
-                value: entry.value(),
+                key: HsKey::Long(key.as_slice()),
+                value: *value,
             })?;
         }
         Ok(())
@@ -122,8 +112,8 @@ impl Chain {
     pub fn are_words(&self)
         ensures { AreWords (value_in self.now) }
     {
-        for entry in &self.entries {
-            is_word(entry.value());
+        'entries: for (_, value) in &self.entries {
+            is_word(*value);
         }
     }
 }

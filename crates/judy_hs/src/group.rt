@@ -12,11 +12,11 @@ use crate::trial::Trial;
 use judy_word::{InsertError, WordMap};
 use std::alloc::{AllocError, Global};
 
-// Where a key stands in its group: a short key's word, or the places of a long key's chain and of the key in it.
+// Where a key stands in its group: a short key's word, or the place of a long key's chain.
 #[derive(Clone, Copy)]
 pub enum Inside {
     Word(u64),
-    Chained(usize, usize),
+    Chained(usize),
 }
 
 // A place for a group: free, with the place that was free before it; or a group of keys of at most 8 bytes, as words
@@ -69,26 +69,26 @@ impl GroupPlace {
                 None => None,
             },
             GroupPlace::Long(group) => match group.find(chain, key) {
-                Some((place, at)) => Some(Inside::Chained(place, at)),
+                Some(place) => Some(Inside::Chained(place)),
                 None => None,
             },
             GroupPlace::Free(_) => None,
         }
     }
 
-    // The slot of what stands there.
-    pub fn slot(&mut self, inside: Inside) -> Option<&mut u64>
-        requires { IsUsable (group_of self.old) inside }
-        ensures* writes_back { sem 𝓛 (LendsInside self.entry inside result) }
-        ensures value { option_copied_mut result ≡ value_inside (group_of self.old) inside }
+    // The slot of a key that stands there.
+    pub fn slot(&mut self, inside: Inside, key: &[u8]) -> Option<&mut u64>
+        requires { IsUsable (group_of self.old) inside key.now }
+        ensures* writes_back { sem 𝓛 (LendsInside self.entry inside key.now result) }
+        ensures value { option_copied_mut result ≡ value_inside (group_of self.old) inside key.now }
     {
         match self {
             GroupPlace::Short(words) => match inside {
                 Inside::Word(word) => words.slot(word),
-                Inside::Chained(_, _) => None,
+                Inside::Chained(_) => None,
             },
             GroupPlace::Long(group) => match inside {
-                Inside::Chained(place, at) => group.slot(place, at),
+                Inside::Chained(place) => group.slot(place, key),
                 Inside::Word(_) => None,
             },
             GroupPlace::Free(_) => None,
@@ -117,7 +117,7 @@ impl GroupPlace {
                 Err(InsertError::NoMemory) => Err(AllocError),
             },
             GroupPlace::Long(group) => match group.add(alloc, chain, part, key) {
-                Ok((place, at)) => Ok(Inside::Chained(place, at)),
+                Ok(place) => Ok(Inside::Chained(place)),
                 Err(error) => Err(error),
             },
             GroupPlace::Free(_) => unreachable!(),
@@ -141,7 +141,7 @@ impl GroupPlace {
                 Err(InsertError::NoMemory) => Trial::Refused,
             },
             GroupPlace::Long(group) => match group.try_add(alloc, part, key) {
-                Trial::Added(place) => Trial::Added(Inside::Chained(place, 0)),
+                Trial::Added(place) => Trial::Added(Inside::Chained(place)),
                 Trial::Refused => Trial::Refused,
                 Trial::Open => Trial::Open,
             },
@@ -149,10 +149,10 @@ impl GroupPlace {
         }
     }
 
-    // Takes out what stands there, and says whether no key is left.
-    pub fn remove(&mut self, part: u64, inside: Inside) -> bool
-        requires { IsRemovable (group_of self.old) inside }
-        ensures removed { group_of self.new ≡ group_without (group_of self.old) part inside }
+    // Takes a key out that stands there, and says whether no key is left.
+    pub fn remove(&mut self, part: u64, inside: Inside, key: &[u8]) -> bool
+        requires { IsRemovable (group_of self.old) inside key.now }
+        ensures removed { group_of self.new ≡ group_without (group_of self.old) part inside key.now }
         ensures answer { IsTrue result ↔ IsEmptyGroup (group_of self.new) }
     {
         match self {
@@ -161,8 +161,8 @@ impl GroupPlace {
                 words.is_empty()
             }
             GroupPlace::Long(group) => {
-                if let Inside::Chained(place, at) = inside {
-                    group.remove(part, place, at);
+                if let Inside::Chained(place) = inside {
+                    group.remove(part, place, key);
                 }
                 group.is_empty()
             }

@@ -72,7 +72,7 @@ fn group_of_one(alloc: Global, part: u64, key: &[u8]) -> Result<(GroupPlace, Ins
         Ok((GroupPlace::Short(words), Inside::Word(part)))
     } else {
         let group = LongGroup::of(alloc, part, key)?;
-        Ok((GroupPlace::Long(group), Inside::Chained(0, 0)))
+        Ok((GroupPlace::Long(group), Inside::Chained(0)))
     }
 }
 
@@ -149,27 +149,27 @@ impl Groups {
         }
     }
 
-    // The slot of what stands there.
-    pub fn slot(&mut self, spot: Spot) -> Option<&mut u64>
+    // The slot of a key that stands there.
+    pub fn slot(&mut self, spot: Spot, key: &[u8]) -> Option<&mut u64>
         requires within { spot.group < length self.old.groups }
-        requires usable { IsUsable (group_at self.old spot.group) spot.inside }
-        ensures* writes_back { sem 𝓛 (LendsSpot self.entry spot.group spot.inside result) }
-        ensures value { option_copied_mut result ≡ value_inside (group_at self.old spot.group) spot.inside }
+        requires usable { IsUsable (group_at self.old spot.group) spot.inside key.now }
+        ensures* writes_back { sem 𝓛 (LendsSpot self.entry spot.group spot.inside key.now result) }
+        ensures value { option_copied_mut result ≡ value_inside (group_at self.old spot.group) spot.inside key.now }
     {
         let group = &mut self.groups[spot.group];
-        group.slot(spot.inside)
+        group.slot(spot.inside, key)
     }
 
-    // The same where something stands there.
-    pub fn slot_of(&mut self, spot: Spot) -> Result<&mut u64, HsError>
+    // The same where its value is known to be there.
+    pub fn slot_of(&mut self, spot: Spot, key: &[u8]) -> Result<&mut u64, HsError>
         requires within { spot.group < length self.old.groups }
-        requires usable { IsUsable (group_at self.old spot.group) spot.inside }
-        requires present { IsSome (value_inside (group_at self.old spot.group) spot.inside) }
-        ensures* writes_back { sem 𝓛 (LendsSpotOk self.entry spot.group spot.inside result) }
-        ensures value { IfOk result (λ slot. Some slot.now ≡ value_inside (group_at self.old spot.group) spot.inside) }
+        requires usable { IsUsable (group_at self.old spot.group) spot.inside key.now }
+        requires present { IsSome (value_inside (group_at self.old spot.group) spot.inside key.now) }
+        ensures* writes_back { sem 𝓛 (LendsSpotOk self.entry spot.group spot.inside key.now result) }
+        ensures value { IfOk result (λ slot. Some slot.now ≡ value_inside (group_at self.old spot.group) spot.inside key.now) }
         ensures present { IsOk result }
     {
-        match self.slot(spot) {
+        match self.slot(spot, key) {
             Some(slot) => Ok(slot),
             None => unreachable!(),
         }
@@ -251,18 +251,18 @@ impl Groups {
         Ok(Spot { group, inside })
     }
 
-    // Takes out what stands there. A group that becomes empty goes, with the length of its keys.
-    pub fn remove(&mut self, key_length: u64, part: u64, spot: Spot)
+    // Takes a key out that stands there. A group that becomes empty goes, with the length of its keys.
+    pub fn remove(&mut self, part: u64, key: &[u8], spot: Spot)
         requires within { spot.group < length self.old.groups }
-        requires removable { IsRemovable (group_at self.old spot.group) spot.inside }
-        ensures kept { (IsEmptyGroup (group_without (group_at self.old spot.group) part spot.inside) → ⊥)
-            → self.new ≡ keyed_without self.old spot.group part spot.inside }
-        ensures emptied { IsEmptyGroup (group_without (group_at self.old spot.group) part spot.inside)
-            → self.new ≡ without_group self.old key_length spot.group }
+        requires removable { IsRemovable (group_at self.old spot.group) spot.inside key.now }
+        ensures kept { (IsEmptyGroup (group_without (group_at self.old spot.group) part spot.inside key.now) → ⊥)
+            → self.new ≡ keyed_without self.old spot.group part spot.inside key.now }
+        ensures emptied { IsEmptyGroup (group_without (group_at self.old spot.group) part spot.inside key.now)
+            → self.new ≡ without_group self.old (length key.now) spot.group }
     {
-        let emptied = self.groups[spot.group].remove(part, spot.inside);
+        let emptied = self.groups[spot.group].remove(part, spot.inside, key);
         if emptied {
-            self.lengths.del(key_length);
+            self.lengths.del(key.len() as u64);
             self.groups[spot.group] = GroupPlace::Free(self.free);
             self.free = spot.group;
         }

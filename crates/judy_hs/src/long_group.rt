@@ -5,20 +5,19 @@ ghost use Rattle.std.specs.Prelude.{ℕ, ◌≡◌, ◌≢◌, ◌∷◌, [], �
 ghost use Rattle.std.specs.FinMap.{get, empty, len as map_len};
 ghost use Rattle.std.specs.Borrow.{sem};
 ghost use Rattle.std.specs.Option.{option_copied_mut};
-ghost use Rattle.std.specs.List.{remove};
 ghost use Rattle.judy_hs.specs.LongGroups.{put_at, IsFreePlace};
 ghost use Rattle.judy_hs.specs.ChainPlaces.{pairs_at, IsOne, chains_of, links_of, AreChainPlaces};
+ghost use Rattle.judy_hs.specs.Chains.{value_in};
 ghost use Rattle.judy_places.specs.Places.{IsNextPlace};
 ghost use Rattle.judy_hs.specs.Listed.{entries_in};
 
 use crate::chain::{Chain, is_word};
 use crate::entry::{HsEntry, HsKey, sort_from};
 use crate::trial::Trial;
-use judy_entry::{Entry, Few, MOST_FEW};
+use judy_entry::{Few, MOST_FEW};
 use judy_word::{InsertError, WordMap};
 use std::alloc::{AllocError, Global};
 use std::marker::Model;
-use std::mem;
 
 // A place for a chain: free, with the place that was free before it; the one key that has its hash, with its value, in place
 // or in a vector; or a chain of more. The parts stand flat, without an `Entry` around them, since this is much of what an array takes.
@@ -121,7 +120,7 @@ fn list_one<'a>(key: &'a [u8], value: u64, list: &mut Vec<HsEntry<'a>>) -> Resul
 
 impl ChainPlace {
     ghost use Rattle.judy_hs.specs.ChainPlaces.{pairs_at, IsOne};
-    ghost use Rattle.judy_hs.specs.Chains.{value_in, value_at, IsPlace};
+    ghost use Rattle.judy_hs.specs.Chains.{value_in, with_pair, without};
     ghost use Rattle.judy_hs.specs.LongLends.{LendsPlace};
     ghost use Rattle.judy_hs.specs.Values.{AreWords};
 
@@ -134,24 +133,6 @@ impl ChainPlace {
             Ok(ChainPlace::Few(Few::copied(key), 0))
         } else {
             Ok(ChainPlace::Many(key.to_vec(alloc)?, 0))
-        }
-    }
-
-    // The place of the key in the chain.
-    fn find(&self, key: &[u8]) -> Option<usize>
-        ensures { MatchOption result (value_in (pairs_at self.now) key.now ≡ None) (IsPlace (pairs_at self.now) key.now) }
-    {
-        match self {
-            ChainPlace::Few(few, _) => { if few.as_slice() == key { Some(0) } else { None } }
-            ChainPlace::Many(many, _) => {
-                if many.as_slice() == key {
-                    Some(0)
-                } else {
-                    None
-                }
-            }
-            ChainPlace::Taken(chain) => chain.find(key),
-            ChainPlace::Free(_) => None,
         }
     }
 
@@ -174,69 +155,51 @@ impl ChainPlace {
                     None
                 }
             }
-            ChainPlace::Taken(chain) => match chain.find(key) {
-                Some(at) => chain.get(at),
-                None => None,
-            },
+            ChainPlace::Taken(chain) => chain.get(key),
             ChainPlace::Free(_) => None,
         }
     }
 
-    // The slot of the value at a place of the chain.
-    fn slot(&mut self, at: usize) -> Option<&mut u64>
-        ensures* writes_back { sem 𝓛 (LendsPlace self.entry at result) }
-        ensures value { option_copied_mut result ≡ value_at (pairs_at self.old) at }
+    // The slot of the value of a key that is in the chain.
+    fn slot(&mut self, key: &[u8]) -> Option<&mut u64>
+        requires { IsSome (value_in (pairs_at self.old) key.now) }
+        ensures* writes_back { sem 𝓛 (LendsPlace self.entry key.now result) }
+        ensures value { option_copied_mut result ≡ value_in (pairs_at self.old) key.now }
     {
         match self {
-            ChainPlace::Few(_, value) => { if at == 0 { Some(value) } else { None } }
-            ChainPlace::Many(_, value) => { if at == 0 { Some(value) } else { None } }
-            ChainPlace::Taken(chain) => chain.slot(at),
+            ChainPlace::Few(_, value) => Some(value),
+            ChainPlace::Many(_, value) => Some(value),
+            ChainPlace::Taken(chain) => chain.slot(key),
             ChainPlace::Free(_) => None,
         }
     }
 
-    // Puts a key last in the chain, with the value 0, and answers its place there.
-    fn add(&mut self, alloc: Global, key: &[u8]) -> Result<usize, AllocError>
+    // Puts a key in the chain, with the value 0.
+    fn add(&mut self, alloc: Global, key: &[u8]) -> Result<(), AllocError>
         requires { pairs_at self.old ≢ [] }
-        ensures place { IfOk result (λ at. at ≡ length (pairs_at self.old)) }
-        ensures added { OnOk result (pairs_at self.new ≡ pairs_at self.old ++ (key.now, 0) ∷ []) }
+        ensures added { OnOk result (pairs_at self.new ≡ with_pair (pairs_at self.old) key.now 0) }
         ensures unchanged { OnErr result (self.new ≡ self.old) }
     {
         match self {
-            ChainPlace::Few(_, _) => self.join(alloc, key),
-            ChainPlace::Many(_, _) => self.join(alloc, key),
-            ChainPlace::Taken(chain) => chain.add(alloc, key),
-            ChainPlace::Free(_) => unreachable!(),
-        }
-    }
-
-    // Makes a chain of the one key and another, with the value 0, and answers the other's place.
-    fn join(&mut self, alloc: Global, key: &[u8]) -> Result<usize, AllocError>
-        requires { IsOne self.old }
-        ensures place { IfOk result (λ at. at ≡ length (pairs_at self.old)) }
-        ensures added { OnOk result (pairs_at self.new ≡ pairs_at self.old ++ (key.now, 0) ∷ []) }
-        ensures unchanged { OnErr result (self.new ≡ self.old) }
-    {
-        let room = Vec::with_capacity(alloc, 2)?;
-        let second = Entry::new(alloc, key, 0)?;
-        match mem::replace(self, ChainPlace::Free(0)) {
             ChainPlace::Few(few, value) => {
-                *self = ChainPlace::Taken(Chain::of_two(room, Entry::of_few(few, value), second));
-                Ok(1)
+                let chain = Chain::of_two(alloc, few.as_slice(), *value, key)?;
+                *self = ChainPlace::Taken(chain);
+                Ok(())
             }
             ChainPlace::Many(many, value) => {
-                *self = ChainPlace::Taken(Chain::of_two(room, Entry::of_many(many, value), second));
-                Ok(1)
+                let chain = Chain::of_two(alloc, many.as_slice(), *value, key)?;
+                *self = ChainPlace::Taken(chain);
+                Ok(())
             }
-            ChainPlace::Taken(_) => unreachable!(),
+            ChainPlace::Taken(chain) => chain.put(alloc, key, 0),
             ChainPlace::Free(_) => unreachable!(),
         }
     }
 
-    // Takes the key at a place of the chain out, and says whether no key is left.
-    fn remove(&mut self, at: usize) -> bool
-        requires { at < length (pairs_at self.old) }
-        ensures removed { pairs_at self.new ≡ remove (pairs_at self.old) at }
+    // Takes a key of the chain out, and says whether no key is left.
+    fn remove(&mut self, key: &[u8]) -> bool
+        requires { IsSome (value_in (pairs_at self.old) key.now) }
+        ensures removed { pairs_at self.new ≡ without (pairs_at self.old) key.now }
         ensures answer { IsTrue result ↔ (pairs_at self.new ≡ []) }
     {
         match self {
@@ -249,7 +212,7 @@ impl ChainPlace {
                 true
             }
             ChainPlace::Taken(chain) => {
-                chain.remove(at);
+                chain.remove(key);
                 chain.is_empty()
             }
             ChainPlace::Free(_) => unreachable!(),
@@ -342,53 +305,54 @@ impl LongGroup {
         self.hashes.get(hash)
     }
 
-    // The place of a key's chain, and the key's place in the chain, where the chain of its hash is known.
-    pub fn find(&self, chain: Option<u64>, key: &[u8]) -> Option<(usize, usize)>
-        ensures { MatchOption result (in_chain self.now chain key.now ≡ None) (λ found. (hash : ℕ) → chain ≡ get self.now.hashes.map hash → IsLongPlace self.now hash key.now found.0 found.1) }
+    // The place of a key's chain, where the chain of its hash is known and the key is in it.
+    pub fn find(&self, chain: Option<u64>, key: &[u8]) -> Option<usize>
+        ensures { MatchOption result (in_chain self.now chain key.now ≡ None) (λ place. (hash : ℕ) → chain ≡ get self.now.hashes.map hash → IsLongPlace self.now hash key.now place) }
     {
         let place = chain?;
         match self.chains.get(place as usize) {
-            Some(chain) => match chain.find(key) {
-                Some(at) => Some((place as usize, at)),
+            Some(chain) => match chain.get(key) {
+                Some(_) => Some(place as usize),
                 None => None,
             },
             None => None,
         }
     }
 
-    // The slot of the value at a place of a chain.
-    pub fn slot(&mut self, place: usize, at: usize) -> Option<&mut u64>
-        requires { place < length self.old.chains }
-        ensures* writes_back { sem 𝓛 (LendsLong self.entry place at result) }
-        ensures value { option_copied_mut result ≡ value_of_place self.old place at }
+    // The slot of the value of a key that is in the chain at a place.
+    pub fn slot(&mut self, place: usize, key: &[u8]) -> Option<&mut u64>
+        requires within { place < length self.old.chains }
+        requires is_there { IsSome (value_in (chain_at self.old place) key.now) }
+        ensures* writes_back { sem 𝓛 (LendsLong self.entry place key.now result) }
+        ensures value { option_copied_mut result ≡ value_of_place self.old place key.now }
     {
         let chain = &mut self.chains[place];
-        chain.slot(at)
+        chain.slot(key)
     }
 
-    // Puts a key in that isn't there, with the value 0: last in the chain of its hash, which is known, or in a chain of its
-    // own. It answers the place of the chain and the key's place in it.
+    // Puts a key in that isn't there, with the value 0: in the chain of its hash, which is known, or in a chain of its
+    // own. It answers the place of the chain.
     pub fn add(
         &mut self,
         alloc: Global,
         chain: Option<u64>,
         hash: u64,
         key: &[u8],
-    ) -> Result<(usize, usize), AllocError>
+    ) -> Result<usize, AllocError>
         requires chain { chain ≡ get self.old.hashes.map hash }
         requires room { map_len self.old.hashes.map < self.old.hashes.limit }
         requires used { IfSome (get self.old.hashes.map hash) (λ place. chain_at self.old place ≢ []) }
-        ensures added { IfOk result (λ found. IsAdded self.old self.new hash key.now found.0 found.1) }
+        ensures added { IfOk result (λ place. IsAdded self.old self.new hash key.now place) }
         ensures unchanged { OnErr result (self.new ≡ self.old) }
     {
         match chain {
             Some(held) => {
                 let place = held as usize;
-                let at = self.chains[place].add(alloc, key)?;
-                Ok((place, at))
+                self.chains[place].add(alloc, key)?;
+                Ok(place)
             }
             None => match self.try_add(alloc, hash, key) {
-                Trial::Added(place) => Ok((place, 0)),
+                Trial::Added(place) => Ok(place),
                 Trial::Refused => Err(AllocError),
                 Trial::Open => unreachable!(),
             },
@@ -401,7 +365,7 @@ impl LongGroup {
         requires room { map_len self.old.hashes.map < self.old.hashes.limit }
         ensures absent { UnlessOpen result (get self.old.hashes.map hash ≡ None) }
         ensures held { IfOpen result (IsSome (get self.old.hashes.map hash)) }
-        ensures added { IfAdded result (λ place. IsAdded self.old self.new hash key.now place 0) }
+        ensures added { IfAdded result (λ place. IsAdded self.old self.new hash key.now place) }
         ensures unchanged { UnlessAdded result (self.new ≡ self.old) }
     {
         let (place, next) = next_place(&self.chains, self.free);
@@ -424,13 +388,13 @@ impl LongGroup {
         }
     }
 
-    // Takes the key at a place of the chain of its hash out. A chain that becomes empty goes, with its hash.
-    pub fn remove(&mut self, hash: u64, place: usize, at: usize)
+    // Takes a key of the chain of its hash, at a place, out. A chain that becomes empty goes, with its hash.
+    pub fn remove(&mut self, hash: u64, place: usize, key: &[u8])
         requires within { place < length self.old.chains }
-        requires is_there { at < length (chain_at self.old place) }
-        ensures { self.new ≡ without_key self.old hash place at }
+        requires is_there { IsSome (value_in (chain_at self.old place) key.now) }
+        ensures { self.new ≡ without_key self.old hash place key.now }
     {
-        let emptied = self.chains[place].remove(at);
+        let emptied = self.chains[place].remove(key);
         if emptied {
             self.hashes.del(hash);
             self.chains[place] = ChainPlace::Free(self.free);

@@ -26,3 +26,7 @@ pub mod AbsentRuns
 pub mod AbsentBytes
 pub mod SamePairs
 pub mod FirstByte
+pub mod HalfSteps
+pub mod WholeWords
+pub mod Appended
+pub mod BitsPut

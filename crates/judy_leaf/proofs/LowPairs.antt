@@ -24,15 +24,21 @@ low_at unit (pair ∷ pairs) (suc at) d inside = low_at unit pairs at d (omega a
 
 -- ---- the first of ascending pairs
 
-keys-take : (pairs : List (ℕ × ℕ)) (at : ℕ) → keys_of (take at pairs) ≡ take at (keys_of pairs)
+pub keys-take : (pairs : List (ℕ × ℕ)) (at : ℕ) → keys_of (take at pairs) ≡ take at (keys_of pairs)
 keys-take pairs zero = refl
 keys-take [] (suc at) = refl
 keys-take (pair ∷ pairs) (suc at) = ap (λ rest. pair.0 ∷ rest) (keys-take pairs at)
 
-key-get : (pairs : List (ℕ × ℕ)) (at : ℕ) (d : ℕ × ℕ) → (get_or pairs at d).0 ≡ get_or (keys_of pairs) at d.0
+pub key-get : (pairs : List (ℕ × ℕ)) (at : ℕ) (d : ℕ × ℕ) → (get_or pairs at d).0 ≡ get_or (keys_of pairs) at d.0
 key-get [] at d = refl
 key-get (pair ∷ pairs) zero d = refl
 key-get (pair ∷ pairs) (suc at) d = key-get pairs at d
+
+-- What all later words are above, any of them is above.
+pub later_at : (x : ℕ) (keys : List ℕ) (at : ℕ) → AllByRecursion (λ y. x < y) keys → at < length keys → x < get_or keys at 0
+later_at x [] at later inside = let never : ⊥ = omega arith in absurd never
+later_at x (y ∷ keys) zero later inside = later.0
+later_at x (y ∷ keys) (suc at) later inside = later_at x keys at later.1 (omega arith)
 
 -- All before a place are below what stands there.
 before_below : (keys : List ℕ) (at : ℕ) → IsStrictlySortedBy word_order keys → at < length keys → AllByRecursion (λ key. key < get_or keys at 0) (take at keys)
@@ -40,11 +46,6 @@ unfolding IsStrictlySortedBy
 before_below [] at ascending inside = let never : ⊥ = omega arith in absurd never
 before_below (x ∷ keys) zero ascending inside = tt
 before_below (x ∷ keys) (suc at) ascending inside = (later_at x keys at (later_above x keys ascending.0) (omega arith), before_below keys at ascending.1 (omega arith))
-  where
-    later_at : (x : ℕ) (keys : List ℕ) (at : ℕ) → AllByRecursion (λ y. x < y) keys → at < length keys → x < get_or keys at 0
-    later_at x [] at later inside = let never : ⊥ = omega arith in absurd never
-    later_at x (y ∷ keys) zero later inside = later.0
-    later_at x (y ∷ keys) (suc at) later inside = later_at x keys at later.1 (omega arith)
 
 passed : (keys : List ℕ) (key : ℕ) → AllByRecursion (λ k. k < key) keys → AllByRecursion (λ k. is_lt (word_order k key) ≡ true) keys
 passed [] key all = tt

@@ -3,10 +3,11 @@
 ghost use Rattle.std.specs.Prelude.{◌≡◌, ◌+◌, ◌*◌, ◌≤◌, length, [], slice_get, Some, IsFalse};
 ghost use Rattle.std.specs.List.{insert, remove, AllByRecursion};
 ghost use Rattle.judy_bits.specs.ByteSets as set;
-ghost use Rattle.judy_leaf.specs.KeyLists.{with_pair, low_pairs, IsKeyList};
+ghost use Rattle.judy_leaf.specs.KeyLists.{keys_of, with_pair, low_pairs, IsKeyList};
 ghost use Rattle.judy_leaf.specs.BitLeaves.{bit_keys, bit_list, IsBitParts};
 ghost use Rattle.judy_leaf.specs.BitChanges.{IsBitChange, IsBitEdit};
 
+use crate::values;
 use crate::words::Words;
 use judy_block::Block;
 
@@ -68,6 +69,18 @@ pub(crate) fn take<V: Words + Drop>(block: &mut Block, at: usize, key: u8)
     }
 }
 
+// Makes the bits of the lowest bytes of keys 1, which ascend, in a block without keys.
+fn set_bits(block: &mut Block, pairs: &[(u64, u64)])
+    requires some { 4 ≤ length block.old.words }
+    requires empty { bit_keys block.old ≡ [] }
+    requires list { IsKeyList (record { width = 1; pairs = low_pairs 256 pairs.now }) }
+    ensures { IsBitChange (λ _. keys_of (low_pairs 256 pairs.now)) block.old block.new }
+{
+    for at in 0..pairs.len() {
+        set_bit(block, (pairs[at].0 % 256) as u8);
+    }
+}
+
 // Puts pairs, by the lowest bytes of their keys, which ascend, into a block without keys.
 pub(crate) fn put_all<V: Words + Drop>(block: &mut Block, pairs: &[(u64, u64)])
     requires parts { IsBitParts V.WORDS block.old }
@@ -78,8 +91,9 @@ pub(crate) fn put_all<V: Words + Drop>(block: &mut Block, pairs: &[(u64, u64)])
     ensures parts { IsBitParts V.WORDS block.new }
     ensures list { bit_list V.WORDS block.new ≡ record (bit_list V.WORDS block.old) { pairs = low_pairs 256 pairs.now } }
 {
-    for at in 0..pairs.len() {
-        let (key, value) = pairs[at];
-        put::<V>(block, at, (key % 256) as u8, value);
+    set_bits(block, pairs);
+    block.set_tag(block.tag() + pairs.len() as u32);
+    if V::WORDS == 1 {
+        values::append(block, pairs);
     }
 }

@@ -27,7 +27,7 @@ pub(crate) fn absent_from_in<const W: usize>(
 ) -> Option<u64>
     requires packed { IsPacked W count words.now }
     requires ascending { IsStrictlySortedBy word_order (keys_in W count words.now) }
-    requires few { length words.now ≤ 65535 }
+    requires few { length words.now ≤ 32 }
     ensures { IsFirst word_order (is_absent (256 ^ W) (keys_in W count words.now)) number result }
 {
     let top = top::<W>();
@@ -55,7 +55,7 @@ pub(crate) fn absent_up_to_in<const W: usize>(
 ) -> Option<u64>
     requires packed { IsPacked W count words.now }
     requires ascending { IsStrictlySortedBy word_order (keys_in W count words.now) }
-    requires few { length words.now ≤ 65535 }
+    requires few { length words.now ≤ 32 }
     ensures { IsLast word_order (is_absent (256 ^ W) (keys_in W count words.now)) number result }
 {
     let mut absent = number.min(top::<W>());

@@ -8,6 +8,7 @@ ghost use Rattle.judy_model.specs.Keys.{word_order};
 ghost use Rattle.judy_model.specs.Nearest.{IsFirst, IsLast};
 ghost use Rattle.judy_bits.specs.ByteSets as set;
 ghost use Rattle.judy_leaf.specs.Packing.{IsWidth};
+ghost use Rattle.judy_leaf.specs.KeyLists.{keys_of, low_pairs};
 ghost use Rattle.judy_leaf.specs.Leaves.{words_for, keys_from, AreKeysFrom};
 ghost use Rattle.judy_leaf.specs.Nearby.{is_absent, IsNextAt, IsPreviousAt};
 ghost use Rattle.judy_leaf.specs.KeyChanges.{IsKeyChange, HasPlace, HasPlaceFor};
@@ -15,6 +16,7 @@ ghost use Rattle.judy_leaf.specs.KeyChanges.{IsKeyChange, HasPlace, HasPlaceFor}
 use crate::edit::{pull_key, push_key};
 use crate::gaps::{absent_from_in, absent_up_to_in};
 use crate::packed::{find_in, key_of, next_in, previous_in, rank_in};
+use judy_bits::low_part;
 use judy_block::Block;
 
 // How many words so many keys take.
@@ -22,7 +24,7 @@ fn words_for<const W: usize>(count: usize) -> usize
     requires width { IsWidth W }
     requires few { count ≤ 33 }
     ensures value { result ≡ words_for W count }
-    ensures within { result ≤ 33 }
+    ensures within { result ≤ count }
 {
     (count + (8 / W - 1)) / (8 / W)
 }
@@ -33,7 +35,7 @@ fn words_from<const W: usize>(block: &Block, start: usize, count: usize) -> &[u6
     requires start { start ≤ 32 }
     requires keys { AreKeysFrom W count start block.now }
     ensures words { result.now ≡ drop start block.now.words }
-    ensures few { length result.now ≤ 33 }
+    ensures few { length result.now ≤ 32 }
 {
     &block.words()[start..start + words_for::<W>(count)]
 }
@@ -42,6 +44,7 @@ fn words_from<const W: usize>(block: &Block, start: usize, count: usize) -> &[u6
 pub(crate) fn rank(width: usize, block: &Block, start: usize, count: usize, key: u64) -> usize
     requires start { start ≤ 32 }
     requires keys { AreKeysFrom width count start block.now }
+    requires ascending { IsStrictlySortedBy word_order (keys_from width count start block.now) }
     ensures { result ≡ set.rank (keys_from width count start block.now) key }
 {
     match width {
@@ -91,6 +94,7 @@ pub(crate) fn next(
 ) -> Option<(usize, u64)>
     requires start { start ≤ 32 }
     requires keys { AreKeysFrom width count start block.now }
+    requires ascending { IsStrictlySortedBy word_order (keys_from width count start block.now) }
     ensures { MatchOption result (set.rank (keys_from width count start block.now) number ≡ count) (λ found. IsNextAt (keys_from width count start block.now) number found) }
 {
     match width {
@@ -115,6 +119,7 @@ pub(crate) fn previous(
 ) -> Option<(usize, u64)>
     requires start { start ≤ 32 }
     requires keys { AreKeysFrom width count start block.now }
+    requires ascending { IsStrictlySortedBy word_order (keys_from width count start block.now) }
     ensures { MatchOption result (set.count_up_to (keys_from width count start block.now) number ≡ 0) (λ found. IsPreviousAt (keys_from width count start block.now) number found) }
 {
     match width {
@@ -223,6 +228,22 @@ fn make_place<const W: usize>(block: &mut Block, start: usize, count: usize)
     }
 }
 
+// Puts a key in at a place, where a word has one key: the words behind it move on by one.
+fn insert_word<const W: usize>(block: &mut Block, start: usize, count: usize, at: usize, key: u64)
+    requires width { IsWidth W }
+    requires one { 8 / W ≡ 1 }
+    requires start { start ≤ 32 }
+    requires few { count < 32 }
+    requires keys { AreKeysFrom W count start block.old }
+    requires room { start + words_for W (count + 1) ≤ block.old.capacity }
+    requires place { at ≤ count }
+    requires below { key < 256 ^ W }
+    ensures { IsKeyChange W start count (count + 1) (λ keys. insert keys at key) block.old block.new }
+{
+    block.open_gap(start + at, 1);
+    block.put(start + at, key);
+}
+
 // Puts a key in at a place.
 fn insert_in<const W: usize>(block: &mut Block, start: usize, count: usize, at: usize, key: u64)
     requires width { IsWidth W }
@@ -234,8 +255,12 @@ fn insert_in<const W: usize>(block: &mut Block, start: usize, count: usize, at: 
     requires below { key < 256 ^ W }
     ensures { IsKeyChange W start count (count + 1) (λ keys. insert keys at key) block.old block.new }
 {
-    make_place::<W>(block, start, count);
-    push_key::<W>(block, start, at, key);
+    if 8 / W == 1 {
+        insert_word::<W>(block, start, count, at, key);
+    } else {
+        make_place::<W>(block, start, count);
+        push_key::<W>(block, start, at, key);
+    }
 }
 
 // Puts a key in at a place. There are fewer than 32, and the block has room for one more.
@@ -267,6 +292,41 @@ pub(crate) fn insert(
     }
 }
 
+// Puts the keys of pairs in behind the words of a block, by their lowest bytes.
+fn append_in<const W: usize>(block: &mut Block, start: usize, pairs: &[(u64, u64)])
+    requires width { IsWidth W }
+    requires start { start ≤ 32 }
+    requires few { length pairs.now ≤ 32 }
+    requires behind { length block.old.words ≡ start }
+    requires room { start + words_for W (length pairs.now) ≤ block.old.capacity }
+    ensures { IsKeyChange W start 0 (length pairs.now) (λ _. keys_of (low_pairs (256 ^ W) pairs.now)) block.old block.new }
+{
+    for at in 0..pairs.len() {
+        insert_in::<W>(block, start, at, at, low_part(pairs[at].0, W));
+    }
+}
+
+// Puts the keys of at most 32 pairs in behind the words of a block, by their lowest bytes. The block has room for them.
+pub(crate) fn append(width: usize, block: &mut Block, start: usize, pairs: &[(u64, u64)])
+    requires width { IsWidth width }
+    requires start { start ≤ 32 }
+    requires few { length pairs.now ≤ 32 }
+    requires behind { length block.old.words ≡ start }
+    requires room { start + words_for width (length pairs.now) ≤ block.old.capacity }
+    ensures { IsKeyChange width start 0 (length pairs.now) (λ _. keys_of (low_pairs (256 ^ width) pairs.now)) block.old block.new }
+{
+    match width {
+        1 => append_in::<1>(block, start, pairs),
+        2 => append_in::<2>(block, start, pairs),
+        3 => append_in::<3>(block, start, pairs),
+        4 => append_in::<4>(block, start, pairs),
+        5 => append_in::<5>(block, start, pairs),
+        6 => append_in::<6>(block, start, pairs),
+        7 => append_in::<7>(block, start, pairs),
+        _ => append_in::<8>(block, start, pairs),
+    }
+}
+
 // Lets the last word go where the words of one key fewer don't need it.
 fn drop_place<const W: usize>(block: &mut Block, start: usize, count: usize)
     requires width { IsWidth W }
@@ -280,6 +340,18 @@ fn drop_place<const W: usize>(block: &mut Block, start: usize, count: usize)
     }
 }
 
+// Takes out the key at a place, where a word has one key: the words behind it move back by one.
+fn remove_word<const W: usize>(block: &mut Block, start: usize, count: usize, at: usize)
+    requires width { IsWidth W }
+    requires one { 8 / W ≡ 1 }
+    requires start { start ≤ 32 }
+    requires keys { AreKeysFrom W count start block.old }
+    requires inside { at < count }
+    ensures { IsKeyChange W start count (count - 1) (λ keys. remove keys at) block.old block.new }
+{
+    block.close_gap(start + at, 1);
+}
+
 // Takes out the key at a place.
 fn remove_in<const W: usize>(block: &mut Block, start: usize, count: usize, at: usize)
     requires width { IsWidth W }
@@ -288,8 +360,12 @@ fn remove_in<const W: usize>(block: &mut Block, start: usize, count: usize, at: 
     requires inside { at < count }
     ensures { IsKeyChange W start count (count - 1) (λ keys. remove keys at) block.old block.new }
 {
-    pull_key::<W>(block, start, at);
-    drop_place::<W>(block, start, count);
+    if 8 / W == 1 {
+        remove_word::<W>(block, start, count, at);
+    } else {
+        pull_key::<W>(block, start, at);
+        drop_place::<W>(block, start, count);
+    }
 }
 
 // Takes out the key at a place.

@@ -13,7 +13,7 @@
 //!
 //! leaf.rt, bit_leaf.rt and imm.rt have the three, leaf_ref.rt and bit_ref.rt the reading, words.rt the number of value words as a
 //! type. place.rt has the places of one word, for a width that is known when a program is compiled; packed.rt searches words, by lanes.rt
-//! where keys have one byte or two, gaps.rt follows keys that are neighbours to a number that is no key, and edit.rt changes the words
+//! where keys have one byte or two and by halves.rt where they have eight, gaps.rt follows keys that are neighbours to a number that is no key, and edit.rt changes the words
 //! of a block, place by place. keys.rt and one_word.rt know the width at run time and hand on to these. values.rt and pairs.rt put
 //! values beside the keys, fill.rt writes pairs into a slice, in_place.rt changes leaves whose parts stand in a node, convert.rt
 //! makes an immediate of a leaf's pairs and a leaf of an immediate's, and bit_edit.rt changes the block of a bitmap leaf. The crate
@@ -27,6 +27,7 @@ mod convert;
 mod edit;
 mod fill;
 mod gaps;
+mod halves;
 mod imm;
 mod in_place;
 mod keys;

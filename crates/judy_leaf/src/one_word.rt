@@ -28,7 +28,8 @@ pub(crate) fn room(width: u8) -> u8
 // How many of the keys are below a key.
 #[inline(always)]
 pub(crate) fn rank(width: u8, count: usize, word: u64, key: u64) -> usize
-    requires { IsPacked width count (word ∷ []) }
+    requires packed { IsPacked width count (word ∷ []) }
+    requires ascending { IsStrictlySortedBy word_order (keys_in width count (word ∷ [])) }
     ensures { result ≡ set.rank (keys_in width count (word ∷ [])) key }
 {
     if count == 1 {
@@ -40,7 +41,8 @@ pub(crate) fn rank(width: u8, count: usize, word: u64, key: u64) -> usize
 
 // The same by a look at all places of the word.
 fn rank_among(width: u8, count: usize, word: u64, key: u64) -> usize
-    requires { IsPacked width count (word ∷ []) }
+    requires packed { IsPacked width count (word ∷ []) }
+    requires ascending { IsStrictlySortedBy word_order (keys_in width count (word ∷ [])) }
     ensures { result ≡ set.rank (keys_in width count (word ∷ [])) key }
 {
     match width {
@@ -90,7 +92,8 @@ fn find_among(width: u8, count: usize, word: u64, key: u64) -> Option<usize>
 // The place of the nearest key at or above a number, and that key.
 #[inline(always)]
 pub(crate) fn next(width: u8, count: usize, word: u64, number: u64) -> Option<(usize, u64)>
-    requires { IsPacked width count (word ∷ []) }
+    requires packed { IsPacked width count (word ∷ []) }
+    requires ascending { IsStrictlySortedBy word_order (keys_in width count (word ∷ [])) }
     ensures { MatchOption result (set.rank (keys_in width count (word ∷ [])) number ≡ count) (λ found. IsNextAt (keys_in width count (word ∷ [])) number found) }
 {
     if count == 1 {
@@ -102,7 +105,8 @@ pub(crate) fn next(width: u8, count: usize, word: u64, number: u64) -> Option<(u
 
 // The same by a look at all places of the word.
 fn next_among(width: u8, count: usize, word: u64, number: u64) -> Option<(usize, u64)>
-    requires { IsPacked width count (word ∷ []) }
+    requires packed { IsPacked width count (word ∷ []) }
+    requires ascending { IsStrictlySortedBy word_order (keys_in width count (word ∷ [])) }
     ensures { MatchOption result (set.rank (keys_in width count (word ∷ [])) number ≡ count) (λ found. IsNextAt (keys_in width count (word ∷ [])) number found) }
 {
     match width {
@@ -119,7 +123,8 @@ fn next_among(width: u8, count: usize, word: u64, number: u64) -> Option<(usize,
 
 // The place of the nearest key at or below a number, and that key.
 pub(crate) fn previous(width: u8, count: usize, word: u64, number: u64) -> Option<(usize, u64)>
-    requires { IsPacked width count (word ∷ []) }
+    requires packed { IsPacked width count (word ∷ []) }
+    requires ascending { IsStrictlySortedBy word_order (keys_in width count (word ∷ [])) }
     ensures { MatchOption result (set.count_up_to (keys_in width count (word ∷ [])) number ≡ 0) (λ found. IsPreviousAt (keys_in width count (word ∷ [])) number found) }
 {
     match width {

@@ -2,7 +2,7 @@
 //!
 //! A search counts the keys below a key over all words, without a branch a key: which of a few keys is the first that isn't
 //! below can't be foreseen, and a wrong guess costs more than all the comparisons. The places of the last word that hold no
-//! key are 0, so they count as below every key but 0.
+//! key are 0, so they count as below every key but 0. Keys of eight bytes are words, among which halves are fewer comparisons.
 
 ghost use Rattle.std.specs.Prelude.{◌≡◌, ◌*◌, ◌/◌, ◌<◌, ◌≤◌, ℕ, MatchOption, length, slice_index, count_by, nat_lt};
 ghost use Rattle.std.specs.List.Sorted.{IsStrictlySortedBy};
@@ -11,6 +11,7 @@ ghost use Rattle.judy_bits.specs.ByteSets as set;
 ghost use Rattle.judy_leaf.specs.Packing.{places, places_of, keys_in, IsPacked, IsWidth};
 ghost use Rattle.judy_leaf.specs.Nearby.{IsNextAt, IsPreviousAt};
 
+use crate::halves::rank_of;
 use crate::lanes::{bytes_before, bytes_below, pairs_below};
 use crate::place::key_in;
 
@@ -53,7 +54,7 @@ fn below_in<const W: usize>(word: u64, key: u64) -> usize
 // How many places of words hold less than a key.
 fn count_below<const W: usize>(words: &[u64], key: u64) -> usize
     requires width { IsWidth W }
-    requires few { length words.now ≤ 65535 }
+    requires few { length words.now ≤ 32 }
     ensures { result ≡ count_by (λ place. nat_lt place key) (places_of W words.now) }
 {
     let mut below = 0;
@@ -66,9 +67,13 @@ fn count_below<const W: usize>(words: &[u64], key: u64) -> usize
 // How many of the keys are below a key.
 pub(crate) fn rank_in<const W: usize>(count: usize, words: &[u64], key: u64) -> usize
     requires packed { IsPacked W count words.now }
-    requires few { length words.now ≤ 65535 }
+    requires ascending { IsStrictlySortedBy word_order (keys_in W count words.now) }
+    requires few { length words.now ≤ 32 }
     ensures { result ≡ set.rank (keys_in W count words.now) key }
 {
+    if W == 8 {
+        return rank_of(&words[..count], key);
+    }
     count_below::<W>(words, key).saturating_sub(words.len() * (8 / W) - count)
 }
 
@@ -85,7 +90,7 @@ pub(crate) fn key_of<const W: usize>(words: &[u64], at: usize) -> u64
 fn find_byte(count: usize, words: &[u64], key: u64) -> Option<usize>
     requires packed { IsPacked 1 count words.now }
     requires ascending { IsStrictlySortedBy word_order (keys_in 1 count words.now) }
-    requires few { length words.now ≤ 65535 }
+    requires few { length words.now ≤ 32 }
     ensures { result ≡ set.place (keys_in 1 count words.now) key }
 {
     if key > 255 {
@@ -99,7 +104,7 @@ fn find_byte(count: usize, words: &[u64], key: u64) -> Option<usize>
 pub(crate) fn find_in<const W: usize>(count: usize, words: &[u64], key: u64) -> Option<usize>
     requires packed { IsPacked W count words.now }
     requires ascending { IsStrictlySortedBy word_order (keys_in W count words.now) }
-    requires few { length words.now ≤ 65535 }
+    requires few { length words.now ≤ 32 }
     ensures { result ≡ set.place (keys_in W count words.now) key }
 {
     if W == 1 {
@@ -120,7 +125,8 @@ pub(crate) fn next_in<const W: usize>(
     number: u64,
 ) -> Option<(usize, u64)>
     requires packed { IsPacked W count words.now }
-    requires few { length words.now ≤ 65535 }
+    requires ascending { IsStrictlySortedBy word_order (keys_in W count words.now) }
+    requires few { length words.now ≤ 32 }
     ensures { MatchOption result (set.rank (keys_in W count words.now) number ≡ count) (λ found. IsNextAt (keys_in W count words.now) number found) }
 {
     let at = rank_in::<W>(count, words, number);
@@ -134,7 +140,8 @@ pub(crate) fn next_in<const W: usize>(
 // How many of the keys are at or below a number.
 pub(crate) fn up_to_in<const W: usize>(count: usize, words: &[u64], number: u64) -> usize
     requires packed { IsPacked W count words.now }
-    requires few { length words.now ≤ 65535 }
+    requires ascending { IsStrictlySortedBy word_order (keys_in W count words.now) }
+    requires few { length words.now ≤ 32 }
     ensures { result ≡ set.count_up_to (keys_in W count words.now) number }
 {
     if number == u64::MAX {
@@ -151,7 +158,8 @@ pub(crate) fn previous_in<const W: usize>(
     number: u64,
 ) -> Option<(usize, u64)>
     requires packed { IsPacked W count words.now }
-    requires few { length words.now ≤ 65535 }
+    requires ascending { IsStrictlySortedBy word_order (keys_in W count words.now) }
+    requires few { length words.now ≤ 32 }
     ensures { MatchOption result (set.count_up_to (keys_in W count words.now) number ≡ 0) (λ found. IsPreviousAt (keys_in W count words.now) number found) }
 {
     let past = up_to_in::<W>(count, words, number);

@@ -8,7 +8,6 @@ ghost use Rattle.judy_leaf.specs.PairChanges.{IsPairPut, IsPairTaken, HasRoom};
 
 use crate::words::Words;
 use crate::{keys, values};
-use judy_bits::low_part;
 use judy_block::Block;
 use std::alloc::{AllocError, Global};
 
@@ -89,8 +88,10 @@ pub(crate) fn put_all<V: Words + Drop>(block: &mut Block, width: usize, pairs: &
     ensures keys { AreKeysFrom width (length pairs.now) (V.WORDS * length pairs.now) block.new }
     ensures pairs { (leaf_list V.WORDS (length pairs.now) block.new).pairs ≡ low_pairs (256 ^ width) pairs.now }
 {
-    for at in 0..pairs.len() {
-        let (key, value) = pairs[at];
-        put::<V>(block, width, at, at, low_part(key, width), value);
+    if V::WORDS == 1 {
+        values::append(block, pairs);
+        keys::append(width, block, pairs.len(), pairs);
+    } else {
+        keys::append(width, block, 0, pairs);
     }
 }

@@ -1,20 +1,26 @@
-//! The program `judy_loose`: plays worked rows on a set of words, tells what nodes it has and what it answers, and prints that.
+//! The program `judy_loose`: plays worked rows on a set of words, or on a map where anything comes on standard input, tells what nodes it
+//! has and what it answers, and prints that.
 //!
-//! Scripts show no nodes, and a set becomes loose only where memory is refused to it. So `tools/try_loose.py` runs this program with its
-//! calls for memory refused in turn, and compares what it prints with a plain set.
+//! Scripts show no nodes, and an array becomes loose only where memory is refused to it. So `tools/try_loose.py` runs this program with its
+//! calls for memory refused in turn, and compares what it prints with a plain set. Which array it is stands on standard input, since to
+//! read the words of a command line takes memory.
 #![tactic(auto)]
 
 ghost use Rattle.std.specs.Prelude.{◌≡◌, ◌⊎◌};
-ghost use Rattle.judy_model.specs.Arrays as array;
+ghost use Rattle.judy_model.specs.Arrays as arrays;
 ghost use Rattle.judy_word.specs.WordArrays.{array_of};
+ghost use Rattle.judy_loose.specs.Played.{seen, with_key};
 
+mod array;
 mod told;
 
+use crate::array::Array;
 use crate::told::tell;
-use judy_word::{InsertError, Judy1};
+use judy_word::{InsertError, Judy1, JudyL};
 use std::io;
+use std::io::Read;
 
-// More keys than the set is given: what it may lack is memory.
+// More keys than the array is given: what it may lack is memory.
 const LIMIT: u64 = 1000;
 
 // So many keys that differ in their last byte alone are a leaf, and one more makes that a bitmap leaf.
@@ -24,67 +30,77 @@ const LEAF_LEN: u64 = 32;
 const FAR: u64 = 72057594037927936;
 
 fn main(rt: HostRuntime) -> io::Result<()> {
-    let mut set = Judy1::new(rt.alloc(), LIMIT);
+    let mut array = if wants_map(&rt)? {
+        Array::Map(JudyL::new(rt.alloc(), LIMIT))
+    } else {
+        Array::Set(Judy1::new(rt.alloc(), LIMIT))
+    };
     for word in 0..LEAF_LEN {
-        put(&rt, &mut set, word)?;
+        put(&rt, &mut array, word)?;
     }
-    tell(&rt, &set)?;
-    branch_above_few(&rt, &mut set)?;
-    loose_and_tidy(&rt, &mut set)?;
-    skip_and_merge(&rt, &mut set)
+    tell(&rt, &array)?;
+    branch_above_few(&rt, &mut array)?;
+    loose_and_tidy(&rt, &mut array)?;
+    skip_and_merge(&rt, &mut array)
+}
+
+// Whether anything comes on standard input.
+fn wants_map(rt: &HostRuntime) -> io::Result<bool> {
+    let mut first = [0];
+    Ok(rt.stdin().read(&mut first)? > 0)
 }
 
 // A branch above 33 keys, of which two go, and then the nodes made tight. Where memory is refused the branch stays, first with both of its
 // children and then with one.
-fn branch_above_few(rt: &impl Print, set: &mut Judy1) -> io::Result<()> {
-    put_twice(rt, set, FAR)?;
+fn branch_above_few(rt: &impl Print, array: &mut Array) -> io::Result<()> {
+    put_twice(rt, array, FAR)?;
     for word in [LEAF_LEN - 1, FAR] {
-        take(rt, set, word)?;
-        tell(rt, set)?;
+        take(rt, array, word)?;
+        tell(rt, array)?;
     }
-    tidy_twice(rt, set)?;
-    put_twice(rt, set, LEAF_LEN - 1)
+    tidy_twice(rt, array)?;
+    put_twice(rt, array, LEAF_LEN - 1)
 }
 
 // The key that is one too many for a leaf, put in and taken out, and then the nodes made tight.
-fn loose_and_tidy(rt: &impl Print, set: &mut Judy1) -> io::Result<()> {
-    put_twice(rt, set, LEAF_LEN)?;
-    take(rt, set, LEAF_LEN)?;
-    tell(rt, set)?;
-    tidy_twice(rt, set)
+fn loose_and_tidy(rt: &impl Print, array: &mut Array) -> io::Result<()> {
+    put_twice(rt, array, LEAF_LEN)?;
+    take(rt, array, LEAF_LEN)?;
+    tell(rt, array)?;
+    tidy_twice(rt, array)
 }
 
 // A branch above the bitmap leaf, which comes with a key and goes with it.
-fn skip_and_merge(rt: &impl Print, set: &mut Judy1) -> io::Result<()> {
-    put(rt, set, LEAF_LEN)?;
-    put_twice(rt, set, FAR)?;
-    take(rt, set, FAR)?;
-    tell(rt, set)
+fn skip_and_merge(rt: &impl Print, array: &mut Array) -> io::Result<()> {
+    put(rt, array, LEAF_LEN)?;
+    put_twice(rt, array, FAR)?;
+    take(rt, array, FAR)?;
+    tell(rt, array)
 }
 
 // Puts a key in, and once more, since memory may be refused to the first.
-fn put_twice(rt: &impl Print, set: &mut Judy1, word: u64) -> io::Result<()> {
+fn put_twice(rt: &impl Print, array: &mut Array, word: u64) -> io::Result<()> {
     for _ in 0..2 {
-        put(rt, set, word)?;
-        tell(rt, set)?;
+        put(rt, array, word)?;
+        tell(rt, array)?;
     }
     Ok(())
 }
 
 // Makes the nodes tight, and once more.
-fn tidy_twice(rt: &impl Print, set: &mut Judy1) -> io::Result<()> {
+fn tidy_twice(rt: &impl Print, array: &mut Array) -> io::Result<()> {
     for _ in 0..2 {
-        tidy(rt, set)?;
-        tell(rt, set)?;
+        tidy(rt, array)?;
+        tell(rt, array)?;
     }
     Ok(())
 }
 
-// Puts a key in, or leaves the set as it was.
-fn put(rt: &impl Print, set: &mut Judy1, word: u64) -> io::Result<()>
-    ensures { (set.new ≡ set.old) ⊎ (array_of set.new ≡ array.with_map (array_of set.old) (array.ins set.old.map word)) }
+// Puts a key in, or leaves the array as it was.
+fn put(rt: &impl Print, array: &mut Array, word: u64) -> io::Result<()>
+    ensures { (array.new ≡ array.old) ⊎ (array_of (seen array.new) ≡ arrays.with_map (array_of (seen array.old)) (with_key array.old word)) }
 {
-    let answer = match set.set(word) {
+    let answer = match array.put(word) {
         Ok(true) => "1",
         Ok(false) => "0",
         Err(InsertError::Full) => "full",
@@ -94,18 +110,18 @@ fn put(rt: &impl Print, set: &mut Judy1, word: u64) -> io::Result<()>
 }
 
 // Takes a key out, whatever memory there is.
-fn take(rt: &impl Print, set: &mut Judy1, word: u64) -> io::Result<()>
-    ensures { array_of set.new ≡ array.with_map (array_of set.old) (array.del set.old.map word) }
+fn take(rt: &impl Print, array: &mut Array, word: u64) -> io::Result<()>
+    ensures { array_of (seen array.new) ≡ arrays.with_map (array_of (seen array.old)) (arrays.del (seen array.old).map word) }
 {
-    let answer = u8::from(set.unset(word));
+    let answer = u8::from(array.take(word));
     println!(rt; "unset {word}: {answer}")
 }
 
 // Makes the nodes tight, or leaves them; the keys stay.
-fn tidy(rt: &impl Print, set: &mut Judy1) -> io::Result<()>
-    ensures { array_of set.new ≡ array_of set.old }
+fn tidy(rt: &impl Print, array: &mut Array) -> io::Result<()>
+    ensures { array_of (seen array.new) ≡ array_of (seen array.old) }
 {
-    let answer = match set.tidy() {
+    let answer = match array.tidy() {
         Ok(()) => "ok",
         Err(_) => "no-memory",
     };

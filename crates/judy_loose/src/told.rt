@@ -1,55 +1,72 @@
-//! What is told of a set: its nodes, its keys, and what it answers of some words.
+//! What is told of an array: its nodes, its keys, their values in a map, and what it answers of some words.
 
-use judy_word::Judy1;
+use crate::array::Array;
+use judy_word::JudyL;
 use std::{fmt, io};
 
 // The first key, the last of a leaf and the one behind it, the key far from these, and the last word.
 const ASKED: [u64; 5] = [0, 31, 32, 72057594037927936, 18446744073709551615];
 
-/// Prints the kinds of its nodes and whether it is loose, its keys by their number, and what it answers of each word asked.
-pub fn tell(rt: &impl Print, set: &Judy1) -> io::Result<()> {
-    tell_nodes(rt, set)?;
-    tell_keys(rt, set)?;
+/// Prints the kinds of its nodes and whether it is loose, its keys by their number, the values of a map, and
+/// what it answers of each word asked.
+pub fn tell(rt: &impl Print, array: &Array) -> io::Result<()> {
+    tell_nodes(rt, array)?;
+    tell_keys(rt, array)?;
+    if let Array::Map(words) = array {
+        tell_values(rt, words)?;
+    }
     for word in ASKED {
-        tell_word(rt, set, word)?;
+        tell_word(rt, array, word)?;
     }
     Ok(())
 }
 
 // Immediates, leaves, bitmap leaves, and linear, bitmap and full branches.
-fn tell_nodes(rt: &impl Print, set: &Judy1) -> io::Result<()> {
-    let shape = set.shape();
-    let state = if set.is_loose() { "loose" } else { "tight" };
+fn tell_nodes(rt: &impl Print, array: &Array) -> io::Result<()> {
+    let shape = array.shape();
+    let state = if array.is_loose() { "loose" } else { "tight" };
     println!(rt;
         "nodes: {} {} {} {} {} {}, {state}",
         shape.immediates, shape.leaves, shape.bitmap_leaves, shape.linear, shape.bitmap, shape.full
     )
 }
 
-fn tell_keys(rt: &impl Print, set: &Judy1) -> io::Result<()> {
-    let len = set.len();
+fn tell_keys(rt: &impl Print, array: &Array) -> io::Result<()> {
+    let len = array.len();
     print!(rt; "keys: {len}")?;
     for place in 1..=len {
-        let key = Found(set.by_count(place));
+        let key = Found(array.by_count(place));
         print!(rt; " {key}")?;
     }
     println!(rt;)
 }
 
-fn tell_word(rt: &impl Print, set: &Judy1, word: u64) -> io::Result<()> {
+// The value of each key, found by the key.
+fn tell_values(rt: &impl Print, words: &JudyL) -> io::Result<()> {
+    print!(rt; "values:")?;
+    for place in 1..=words.len() {
+        let value = Found(words.by_count(place).and_then(|key| words.get(key)));
+        print!(rt; " {value}")?;
+    }
+    println!(rt;)
+}
+
+fn tell_word(rt: &impl Print, array: &Array, word: u64) -> io::Result<()> {
+    let [first, next, last, prev] = array.near(word);
+    let [first_empty, next_empty, last_empty, prev_empty] = array.empty_near(word);
     println!(rt;
         "at {word}: test {} count {} bycount {} first {} next {} last {} prev {} fe {} ne {} le {} pe {}",
-        u8::from(set.test(word)),
-        set.count(0, word),
-        Found(set.by_count(word)),
-        Found(set.first(word)),
-        Found(set.next(word)),
-        Found(set.last(word)),
-        Found(set.prev(word)),
-        Found(set.first_empty(word)),
-        Found(set.next_empty(word)),
-        Found(set.last_empty(word)),
-        Found(set.prev_empty(word))
+        u8::from(array.has(word)),
+        array.count_up_to(word),
+        Found(array.by_count(word)),
+        Found(first),
+        Found(next),
+        Found(last),
+        Found(prev),
+        Found(first_empty),
+        Found(next_empty),
+        Found(last_empty),
+        Found(prev_empty)
     )
 }
 

@@ -1,7 +1,6 @@
 -- The entries of an array of each kind: what is read of them is spelled so, and what is spelled so is read.
-use Rattle.std.proofs.Common.{◌≡◌, ℕ, T, List, [], length, None, refl, sym, ap, ◌∙◌, append-nil, All}
+use Rattle.std.proofs.Common.{◌≡◌, ℕ, T, IfSome, List, [], length, Option, None, refl, sym, ap, ◌∙◌, append-nil, All}
 use Rattle.std.specs.declared.cmp.Ordering.{Ordering}
-use Rattle.std.specs.List.{flat_map}
 use Rattle.std.specs.Cmp.{IsTotalOrder}
 use Rattle.std.specs.FinMap.{FinMap, IsAntisymmetric, is_sorted, from_entries, entries_sorted, len, len-entries}
 use Rattle.std.specs.FinMap as map
@@ -11,7 +10,7 @@ use Rattle.judy_model.specs.DumpText.{entries_by}
 use Rattle.judy_model.specs.DumpGrammar.{entries, filled}
 use Rattle.judy_model.proofs.FieldLemmas.{IsSpelled, sequence-IsSpelled, done-IsSpelled}
 use Rattle.judy_model.proofs.MadeMaps.{len-from_entries, entries-made_twice, made_twice, entries-made, made_of_entries, All-made}
-use Rattle.judy_model.proofs.EntryLemmas.{Ascends, sorted-Ascends, Ascends-sorted, IsEntry, entry_text, entries-IsSpelled}
+use Rattle.judy_model.proofs.EntryLemmas.{Ascends, sorted-Ascends, Ascends-sorted, IsEntry, entries_text, entries-IsSpelled}
 
 -- ---- listings of a map
 
@@ -51,23 +50,23 @@ entries_by-IsListing {order = order} by total same by_total by_same = record {
 
 -- ---- what an array of one kind gives
 
-module _ {K : Type 0} {order : K → K → Ordering} (by : K → K → Ordering) (listing : FinMap order ℕ → List (K × ℕ)) (IsKey : K → Type 0) (IsValue : ℕ → Type 0) (key_text : K → List ℕ) (value_text : ℕ → List ℕ) (key : Part K) (value : Part ℕ)
+module _ {K : Type 0} {order : K → K → Ordering} (by : K → K → Ordering) (listing : FinMap order ℕ → List (K × ℕ)) (IsKey : K → Type 0) (IsValue : ℕ → Type 0) (key_text : Option K → K → List ℕ) (value_text : ℕ → List ℕ) (key : Option K → Part K) (value : Part ℕ)
     (made : ArrayOf order → ArrayValue) (whole : ArrayValue → List ℕ) (limit count : ℕ) where
   -- An array of the kind and the limit, with so many keys.
   abbrev pub IsFilled : ArrayValue → Type 0
-  IsFilled array = (inside : ArrayOf order) × (array ≡ made inside) × (inside.limit ≡ limit) × (len inside.map ≡ count) × All (IsEntry order IsKey IsValue key_text value_text key value) (map.entries inside.map)
+  IsFilled array = (inside : ArrayOf order) × (array ≡ made inside) × (inside.limit ≡ limit) × (len inside.map ≡ count) × All (IsEntry IsKey IsValue) (map.entries inside.map)
 
-  pub filled-IsSpelled : IsListing by listing → IsSpelled IsKey key_text key → IsSpelled IsValue value_text value
-      → ((inside : ArrayOf order) → whole (made inside) ≡ flat_map (entry_text order IsKey IsValue key_text value_text key value) (listing inside.map))
+  pub filled-IsSpelled : IsListing by listing → ((before : Option K) → IfSome before IsKey → IsSpelled IsKey (key_text before) (key before)) → IsSpelled IsValue value_text value
+      → ((inside : ArrayOf order) → whole (made inside) ≡ entries_text key_text value_text None (listing inside.map))
       → IsSpelled IsFilled whole (filled made limit (entries by key value None count))
   filled-IsSpelled lists keys values spelled =
-      let P = IsEntry order IsKey IsValue key_text value_text key value in
-      let write = flat_map (entry_text order IsKey IsValue key_text value_text key value) in
+      let P = IsEntry IsKey IsValue in
+      let write = entries_text key_text value_text None in
       let over : (k : K) (before after : ℕ) (other : K) → P (k, before) → P (other, after) → P (k, after) = λ k before after other one two. (one.0, two.1) in
       let array : List (K × ℕ) → ArrayValue = λ held. made (record { limit = limit; map = from_entries held }) in
       sequence-IsSpelled (λ pairs. (length pairs ≡ count) × Ascends by None pairs × All P pairs) write (entries by key value None count)
       (λ held y. y ≡ array held) (λ held y. []) (λ held. done (array held)) IsFilled whole
-      (entries-IsSpelled by IsKey IsValue key_text value_text key value keys values count None)
+      (entries-IsSpelled by IsKey IsValue key_text value_text key value keys values count None tt)
       (λ held _. done-IsSpelled (array held))
       (λ y fits.
       let inside = fits.0 in

@@ -1,5 +1,5 @@
 -- Arrays and stores: what is read of a dump is spelled so, and what is spelled so is read.
-use Rattle.std.proofs.Common.{◌≡◌, ℕ, zero, suc, ◌+◌, ◌^◌, ◌<◌, ◌≤◌, Bool, true, false, ◌&&◌, ◌||◌, ◌==◌, ◌⊎◌, inl, inr, ⊎_elim, IsTrue, leb, ltb, List, [], ◌∷◌, ◌++◌, length, Option, Some, None, Result, Ok, Err, is_none, is_some, refl, sym, ap, subst, ◌∙◌, append_assoc, append-nil, arith, All}
+use Rattle.std.proofs.Common.{◌≡◌, ℕ, zero, suc, ◌+◌, ◌^◌, ◌<◌, ◌≤◌, Bool, true, false, cond, ◌&&◌, ◌||◌, ◌==◌, ◌⊎◌, inl, inr, ⊎_elim, IsTrue, leb, ltb, List, [], ◌∷◌, ◌++◌, length, Option, Some, None, Result, Ok, Err, is_none, is_some, refl, sym, ap, subst, ◌∙◌, append_assoc, append-nil, arith, All}
 use Rattle.std.specs.Prelude.{bytes_eq, ◌↔◌}
 use Rattle.std.specs.Result.{result_err}
 use Rattle.std.specs.declared.cmp.Ordering.{Ordering}
@@ -22,11 +22,12 @@ use Rattle.judy_model.specs.Stores.{Store, IsStore, IsRegular, array_named, with
 use Rattle.judy_model.specs.WordBytes.{low_bytes}
 use Rattle.judy_model.specs.Fields.{Fault, bad_name, same_name, bad_kind, bad_limit, bad_count, bad_magic, too_many, Part, followed_by, value_of, end, ◌>>=◌, done, bytes, number, field}
 use Rattle.judy_model.specs.DumpText as text
-use Rattle.judy_model.specs.DumpText.{magic, array_text, dump_of, kind_number}
+use Rattle.judy_model.specs.DumpText.{Version, jdy1, jdy2, magic, array_text, dump_of, kind_number}
 use Rattle.judy_model.specs.DumpGrammar as grammar
-use Rattle.judy_model.specs.DumpGrammar.{is_name_length, is_new, is_kind, is_limit, IsDump, read_of, fault_of}
+use Rattle.judy_model.specs.DumpGrammar.{is_name_length, is_new, is_kind, is_limit, is_magic, version_of, IsDump, read_of, fault_of}
 use Rattle.judy_model.proofs.FieldLemmas.{IsSpelled, Passes, sequence-IsSpelled, done-IsSpelled, field-IsSpelled, number-IsSpelled, bytes-IsSpelled, followed_ok, done_ok}
-use Rattle.judy_model.proofs.KindLemmas.{All-from_test, contents-IsSpelled}
+use Rattle.judy_model.proofs.StringKeys.{All-from_test}
+use Rattle.judy_model.proofs.KindLemmas.{contents-IsSpelled}
 use Rattle.judy_model.proofs.StoresKept.{IsStore-lasts, IsRegular-lasts, IsStore-none, IsRegular-none}
 
 -- ---- names
@@ -109,55 +110,55 @@ IsLimited kind array = (kind_number array ≡ kind) × (limit_of array ≤ 42949
 abbrev IsBody : ArrayValue → Type 0
 IsBody array = IsArray array × (limit_of array ≤ 4294967295)
 
-counted-IsSpelled : (kind limit : ℕ) → is_kind kind ≡ true → 1 ≤ limit → limit ≤ 4294967295 → IsSpelled (IsCounted kind limit) (λ array. text.word (len_of array) ++ text.contents array) (grammar.key_count limit >>= grammar.contents kind limit)
-counted-IsSpelled kind limit known some small =
+counted-IsSpelled : (version : Version) (kind limit : ℕ) → is_kind kind ≡ true → 1 ≤ limit → limit ≤ 4294967295 → IsSpelled (IsCounted kind limit) (λ array. text.word (len_of array) ++ text.contents version array) (grammar.key_count limit >>= grammar.contents version kind limit)
+counted-IsSpelled version kind limit known some small =
     let checks : List ((ℕ → Bool) × Fault) = ((λ count. leb count limit), bad_count) ∷ [] in
-    sequence-IsSpelled _ text.word (field (number 8) checks) (λ count array. (kind_number array ≡ kind) × (limit_of array ≡ limit) × (len_of array ≡ count) × IsArray array) (λ count. text.contents) (grammar.contents kind limit) (IsCounted kind limit) (λ array. text.word (len_of array) ++ text.contents array)
+    sequence-IsSpelled _ text.word (field (number 8) checks) (λ count array. (kind_number array ≡ kind) × (limit_of array ≡ limit) × (len_of array ≡ count) × IsArray array) (λ count. text.contents version) (grammar.contents version kind limit) (IsCounted kind limit) (λ array. text.word (len_of array) ++ text.contents version array)
     (field-IsSpelled _ text.word (number 8) checks (number-IsSpelled 8))
-    (λ count p. contents-IsSpelled limit count some small (leb-true count limit p.1.0) kind known)
+    (λ count p. contents-IsSpelled version limit count some small (leb-true count limit p.1.0) kind known)
     (λ array is.
     let b = bounds array is.2 in let within = b.within in let same = is.1 in
     let enough : len_of array ≤ limit = omega arith in
     (len_of array, (omega arith, (le-leb (len_of array) limit enough, tt)), (is.0, is.1, refl, is.2), refl))
-    (λ count array p q. ((q.0, q.1, q.3), ap (λ n. text.word n ++ text.contents array) q.2))
+    (λ count array p q. ((q.0, q.1, q.3), ap (λ n. text.word n ++ text.contents version array) q.2))
 
-limited-IsSpelled : (kind : ℕ) → is_kind kind ≡ true → IsSpelled (IsLimited kind) (λ array. text.word (limit_of array) ++ text.word (len_of array) ++ text.contents array) (grammar.limit >>= λ limit. grammar.key_count limit >>= grammar.contents kind limit)
-limited-IsSpelled kind known =
+limited-IsSpelled : (version : Version) (kind : ℕ) → is_kind kind ≡ true → IsSpelled (IsLimited kind) (λ array. text.word (limit_of array) ++ text.word (len_of array) ++ text.contents version array) (grammar.limit >>= λ limit. grammar.key_count limit >>= grammar.contents version kind limit)
+limited-IsSpelled version kind known =
     let checks : List ((ℕ → Bool) × Fault) = (is_limit, bad_limit) ∷ [] in
     let bounded : (limit : ℕ) → is_limit limit ≡ true → (1 ≤ limit) × (limit ≤ 4294967295) = λ limit is.
     let both = and_parts (ltb 0 limit) (leb limit 4294967295) is in
     let above = ltb-true 0 limit both.0 in (omega arith, leb-true limit 4294967295 both.1) in
-    sequence-IsSpelled _ text.word (field (number 8) checks) (λ limit. IsCounted kind limit) (λ limit array. text.word (len_of array) ++ text.contents array) (λ limit. grammar.key_count limit >>= grammar.contents kind limit) (IsLimited kind) (λ array. text.word (limit_of array) ++ text.word (len_of array) ++ text.contents array)
+    sequence-IsSpelled _ text.word (field (number 8) checks) (λ limit. IsCounted kind limit) (λ limit array. text.word (len_of array) ++ text.contents version array) (λ limit. grammar.key_count limit >>= grammar.contents version kind limit) (IsLimited kind) (λ array. text.word (limit_of array) ++ text.word (len_of array) ++ text.contents version array)
     (field-IsSpelled _ text.word (number 8) checks (number-IsSpelled 8))
-    (λ limit p. let b = bounded limit p.1.0 in counted-IsSpelled kind limit known b.0 b.1)
+    (λ limit p. let b = bounded limit p.1.0 in counted-IsSpelled version kind limit known b.0 b.1)
     (λ array is.
     let b = bounds array is.2 in let some = b.some in let small = is.1 in
     (limit_of array, (omega arith, ((λ t. lt-ltb 0 (limit_of array) (omega arith) t && le-leb (limit_of array) 4294967295 small t), tt)), (is.0, refl, is.2), refl))
     (λ limit array p q.
     let b = bounded limit p.1.0 in
-    ((q.0, subst (λ l. l ≤ 4294967295) (sym q.1) b.1, q.2), ap (λ n. text.word n ++ text.word (len_of array) ++ text.contents array) q.1))
+    ((q.0, subst (λ l. l ≤ 4294967295) (sym q.1) b.1, q.2), ap (λ n. text.word n ++ text.word (len_of array) ++ text.contents version array) q.1))
 
-body-IsSpelled : IsSpelled IsBody text.body grammar.body
-body-IsSpelled =
+body-IsSpelled : (version : Version) → IsSpelled IsBody (text.body version) (grammar.body version)
+body-IsSpelled version =
     let checks : List ((ℕ → Bool) × Fault) = (is_kind, bad_kind) ∷ [] in
-    let later : ArrayValue → List ℕ = λ array. text.word (limit_of array) ++ text.word (len_of array) ++ text.contents array in
-    sequence-IsSpelled _ (low_bytes 1) (field (number 1) checks) IsLimited (λ kind. later) (λ kind. grammar.limit >>= λ limit. grammar.key_count limit >>= grammar.contents kind limit) IsBody text.body
+    let later : ArrayValue → List ℕ = λ array. text.word (limit_of array) ++ text.word (len_of array) ++ text.contents version array in
+    sequence-IsSpelled _ (low_bytes 1) (field (number 1) checks) IsLimited (λ kind. later) (λ kind. grammar.limit >>= λ limit. grammar.key_count limit >>= grammar.contents version kind limit) IsBody (text.body version)
     (field-IsSpelled _ (low_bytes 1) (number 1) checks (number-IsSpelled 1))
-    (λ kind p. limited-IsSpelled kind p.1.0)
+    (λ kind p. limited-IsSpelled version kind p.1.0)
     (λ array is. (kind_number array, (kind_is_byte array, (known_kind array, tt)), (refl, is.1, is.0), refl))
     (λ kind array p q. ((q.2, q.1), ap (λ n. low_bytes 1 n ++ later array) q.0))
 
-array-IsSpelled : (earlier : Store) → IsSpelled (λ array. IsNewName earlier array.0 × IsBody array.1) array_text (grammar.array earlier)
-array-IsSpelled earlier =
-    sequence-IsSpelled (IsNewName earlier) text.name_text (grammar.name earlier) (λ name array. (array.0 ≡ name) × IsBody array.1) (λ name array. text.body array.1) (λ name. grammar.body >>= λ held. done (name, held)) (λ array. IsNewName earlier array.0 × IsBody array.1) array_text
+array-IsSpelled : (version : Version) (earlier : Store) → IsSpelled (λ array. IsNewName earlier array.0 × IsBody array.1) (array_text version) (grammar.array version earlier)
+array-IsSpelled version earlier =
+    sequence-IsSpelled (IsNewName earlier) text.name_text (grammar.name earlier) (λ name array. (array.0 ≡ name) × IsBody array.1) (λ name array. text.body version array.1) (λ name. grammar.body version >>= λ held. done (name, held)) (λ array. IsNewName earlier array.0 × IsBody array.1) (array_text version)
     (name-IsSpelled earlier)
-    (λ name _. sequence-IsSpelled IsBody text.body grammar.body (λ held array. array ≡ (name, held)) (λ held array. []) (λ held. done (name, held)) (λ array. (array.0 ≡ name) × IsBody array.1) (λ array. text.body array.1)
-    body-IsSpelled
+    (λ name _. sequence-IsSpelled IsBody (text.body version) (grammar.body version) (λ held array. array ≡ (name, held)) (λ held array. []) (λ held. done (name, held)) (λ array. (array.0 ≡ name) × IsBody array.1) (λ array. text.body version array.1)
+    (body-IsSpelled version)
     (λ held _. done-IsSpelled (name, held))
-    (λ array is. (array.1, is.1, (λ t. (is.0 t, array.1)), sym (append-nil (text.body array.1))))
-    (λ held array p same. ((ap (λ pair. pair.0) same, subst IsBody (sym (ap (λ pair. pair.1) same)) p), ap (λ pair. text.body pair.1) same ∙ sym (append-nil (text.body held)))))
+    (λ array is. (array.1, is.1, (λ t. (is.0 t, array.1)), sym (append-nil (text.body version array.1))))
+    (λ held array p same. ((ap (λ pair. pair.0) same, subst IsBody (sym (ap (λ pair. pair.1) same)) p), ap (λ pair. text.body version pair.1) same ∙ sym (append-nil (text.body version held)))))
     (λ array is. (array.0, is.0, (refl, is.1), refl))
-    (λ name array p q. ((subst (IsNewName earlier) (sym q.0) p, q.1), ap (λ n. text.name_text n ++ text.body array.1) q.0))
+    (λ name array p q. ((subst (IsNewName earlier) (sym q.0) p, q.1), ap (λ n. text.name_text n ++ text.body version array.1) q.0))
 
 -- ---- stores
 
@@ -170,19 +171,19 @@ module _ (earlier : Store) (name : List ℕ) (held : ArrayValue) where
   good_more room new body is =
       (IsStore-lasts.with_new_array earlier name held new.0 new.1 room body.0 body.1 is.0, IsRegular-lasts.with_new_array earlier name held new.0 new.1 room body.0 body.1 is.1)
 
-arrays_back : (count : ℕ) (earlier : Store) (input : List ℕ) (store : Store) (rest : List ℕ) → length earlier + count ≤ 64 → IsGood earlier → IsByteString input → grammar.arrays earlier count input ≡ Ok (store, rest)
-    → (later : Store) × (store ≡ earlier ++ later) × (length later ≡ count) × (input ≡ flat_map array_text later ++ rest) × IsGood store × IsByteString rest
-arrays_back zero earlier input store rest room good are is =
+arrays_back : (version : Version) (count : ℕ) (earlier : Store) (input : List ℕ) (store : Store) (rest : List ℕ) → length earlier + count ≤ 64 → IsGood earlier → IsByteString input → grammar.arrays version earlier count input ≡ Ok (store, rest)
+    → (later : Store) × (store ≡ earlier ++ later) × (length later ≡ count) × (input ≡ flat_map (array_text version) later ++ rest) × IsGood store × IsByteString rest
+arrays_back version zero earlier input store rest room good are is =
     let d = done_ok earlier input store rest is in
     ([], sym d.0 ∙ sym (append-nil earlier), refl, d.1, subst IsGood d.0 good, subst IsByteString d.1 are)
-arrays_back (suc count) earlier input store rest room good are is =
-    let f = followed_ok (grammar.array earlier input) (λ next. grammar.arrays (with_new_array earlier next.0 next.1) count) (store, rest) is in
+arrays_back version (suc count) earlier input store rest room good are is =
+    let f = followed_ok (grammar.array version earlier input) (λ next. grammar.arrays version (with_new_array earlier next.0 next.1) count) (store, rest) is in
     let next = f.0.0 in
-    let b = (array-IsSpelled earlier).back input next f.0.1 are f.1 in
+    let b = (array-IsSpelled version earlier).back input next f.0.1 are f.1 in
     let more = with_new_array earlier next.0 next.1 in
     let long : length more ≡ length earlier + 1 = length-append earlier (next ∷ []) in
-    let c = arrays_back count more f.0.1 store rest (omega arith) (good_more earlier next.0 next.1 (omega arith) b.1.0 b.1.1 good) b.2 f.2 in
-    (next ∷ c.0, c.1 ∙ append_assoc earlier (next ∷ []) c.0, ap suc c.2, b.0 ∙ ap (λ t. array_text next ++ t) c.3 ∙ sym (append_assoc (array_text next) (flat_map array_text c.0) rest), c.4, c.5)
+    let c = arrays_back version count more f.0.1 store rest (omega arith) (good_more earlier next.0 next.1 (omega arith) b.1.0 b.1.1 good) b.2 f.2 in
+    (next ∷ c.0, c.1 ∙ append_assoc earlier (next ∷ []) c.0, ap suc c.2, b.0 ∙ ap (λ t. array_text version next ++ t) c.3 ∙ sym (append_assoc (array_text version next) (flat_map (array_text version) c.0) rest), c.4, c.5)
 
 absent : {A : Type 0} (o : Option A) → is_some o ≡ false → is_none o ≡ true
 absent None e = refl
@@ -228,22 +229,22 @@ module _ (earlier : Store) (next : List ℕ × ArrayValue) (later : Store) where
     at_middle (λ array. limit_of array ≤ 4294967295) next.1 (values_of later) (values_of earlier) (subst (All (λ array. limit_of array ≤ 4294967295)) values_in_a_row is.1),
   )
 
-arrays_again : (later earlier : Store) (rest : List ℕ) → IsGood (earlier ++ later) → grammar.arrays earlier (length later) (flat_map array_text later ++ rest) ≡ Ok (earlier ++ later, rest)
-arrays_again [] earlier rest good = ap (λ store. Ok (store, rest)) (sym (append-nil earlier))
-arrays_again (next ∷ later) earlier rest good =
+arrays_again : (version : Version) (later earlier : Store) (rest : List ℕ) → IsGood (earlier ++ later) → grammar.arrays version earlier (length later) (flat_map (array_text version) later ++ rest) ≡ Ok (earlier ++ later, rest)
+arrays_again version [] earlier rest good = ap (λ store. Ok (store, rest)) (sym (append-nil earlier))
+arrays_again version (next ∷ later) earlier rest good =
     let more = with_new_array earlier next.0 next.1 in
     let together : earlier ++ next ∷ later ≡ more ++ later = sym (append_assoc earlier (next ∷ []) later) in
-    let one = (array-IsSpelled earlier).again next (flat_map array_text later ++ rest) (new_of_store earlier next later good.0, body_of_store earlier next later good) in
-    ap (grammar.arrays earlier (suc (length later))) (append_assoc (array_text next) (flat_map array_text later) rest)
-    ∙ ap (λ read. followed_by read (λ next. grammar.arrays (with_new_array earlier next.0 next.1) (length later))) one
-    ∙ arrays_again later more rest (subst IsGood together good)
+    let one = (array-IsSpelled version earlier).again next (flat_map (array_text version) later ++ rest) (new_of_store earlier next later good.0, body_of_store earlier next later good) in
+    ap (grammar.arrays version earlier (suc (length later))) (append_assoc (array_text version next) (flat_map (array_text version) later) rest)
+    ∙ ap (λ read. followed_by read (λ next. grammar.arrays version (with_new_array earlier next.0 next.1) (length later))) one
+    ∙ arrays_again version later more rest (subst IsGood together good)
     ∙ ap (λ store. Ok (store, rest)) (sym together)
 
 -- ---- dumps
 
-value_of_ok : (read : Result (Store × List ℕ) Fault) (store : Store) → value_of read ≡ Ok store → (rest : List ℕ) × (read ≡ Ok (store, rest))
-value_of_ok (Ok given) store is = let same : given.0 ≡ store = cc in (given.1, ap (λ (s : Store). Ok (s, given.1)) same)
-value_of_ok (Err fault) store is = absurd cc
+value_of_ok : {A : Type 0} (read : Result (A × List ℕ) Fault) (value : A) → value_of read ≡ Ok value → (rest : List ℕ) × (read ≡ Ok (value, rest))
+value_of_ok {A} (Ok given) value is = let same : given.0 ≡ value = cc in (given.1, ap (λ (v : A). Ok (v, given.1)) same)
+value_of_ok (Err fault) value is = absurd cc
 
 end_ok : (input : List ℕ) (given : Unit {0} × List ℕ) → end input ≡ Ok given → input ≡ []
 end_ok [] given is = refl
@@ -254,80 +255,111 @@ pub bytes_are : (read : List ℕ) → list_all (λ byte. ltb byte 256) read ≡ 
 bytes_are = All-from_test (λ byte. ltb byte 256) (λ byte. byte < 256) (λ byte is. ltb-true byte 256 is)
 
 abbrev magic_checks : List ((List ℕ → Bool) × Fault)
-magic_checks = (bytes_eq magic, bad_magic) ∷ []
+magic_checks = (is_magic, bad_magic) ∷ []
 
 abbrev count_checks : List ((ℕ → Bool) × Fault)
 count_checks = ((λ count. leb count 64), too_many) ∷ []
 
-magic-IsSpelled : IsSpelled (λ read. ((length read ≡ 4) × IsByteString read) × Passes magic_checks read) (λ read. read) (field (bytes 4) magic_checks)
-magic-IsSpelled = field-IsSpelled _ (λ read. read) (bytes 4) magic_checks (bytes-IsSpelled 4)
+-- The name of a format is four bytes, names one, and that one.
+magic_named : (version : Version) → ((length (magic version) ≡ 4) × IsByteString (magic version)) × Passes magic_checks (magic version)
+magic_named jdy1 = ((refl, bytes_are (magic jdy1) refl), (refl, tt))
+magic_named jdy2 = ((refl, bytes_are (magic jdy2) refl), (refl, tt))
+
+version_of-magic : (version : Version) → version ≡ version_of (magic version)
+version_of-magic jdy1 = refl
+version_of-magic jdy2 = refl
+
+magic_by_tests : (one two : Bool) (named : List ℕ) → (one ≡ true → named ≡ magic jdy1) → (two ≡ true → named ≡ magic jdy2) → (one || two) ≡ true → named ≡ magic (cond one jdy1 jdy2)
+magic_by_tests true two named first second is = first refl
+magic_by_tests false two named first second is = second is
+
+-- Bytes that name a format are its name.
+magic-version_of : (named : List ℕ) → is_magic named ≡ true → named ≡ magic (version_of named)
+magic-version_of named is =
+    magic_by_tests (bytes_eq (magic jdy1) named) (bytes_eq (magic jdy2) named) named (λ same. sym (same_text (magic jdy1) named (sym same))) (λ same. sym (same_text (magic jdy2) named (sym same))) is
+
+begins-IsSpelled : IsSpelled (λ (version : Version). Unit {0}) magic grammar.begins
+begins-IsSpelled =
+    sequence-IsSpelled (λ named. ((length named ≡ 4) × IsByteString named) × Passes magic_checks named) (λ named. named) (field (bytes 4) magic_checks)
+    (λ named version. version ≡ version_of named) (λ named version. []) (λ named. done (version_of named)) (λ version. Unit {0}) magic
+    (field-IsSpelled _ (λ named. named) (bytes 4) magic_checks (bytes-IsSpelled 4))
+    (λ named _. done-IsSpelled (version_of named))
+    (λ version _. (magic version, magic_named version, version_of-magic version, sym (append-nil (magic version))))
+    (λ named version p same. (tt, ap magic same ∙ sym (magic-version_of named p.1.0) ∙ sym (append-nil named)))
 
 count-IsSpelled : IsSpelled (λ count. (count < 256 ^ 4) × Passes count_checks count) (low_bytes 4) (field (number 4) count_checks)
 count-IsSpelled = field-IsSpelled _ (low_bytes 4) (number 4) count_checks (number-IsSpelled 4)
 
-abbrev at_last : Store → Part Store
-at_last made = end >>= λ _. done made
+abbrev at_last : Version → Store → Part (Version × Store)
+at_last version made = end >>= λ _. done (version, made)
 
-abbrev after_count : ℕ → Part Store
-after_count count = grammar.arrays [] count >>= at_last
+abbrev after_count : Version → ℕ → Part (Version × Store)
+after_count version count = grammar.arrays version [] count >>= at_last version
 
-abbrev after_magic : Part Store
-after_magic = field (number 4) count_checks >>= after_count
+abbrev after_magic : Version → Part (Version × Store)
+after_magic version = field (number 4) count_checks >>= after_count version
 
-last_back : (made : Store) (input : List ℕ) (store : Store) (rest : List ℕ) → at_last made input ≡ Ok (store, rest) → (input ≡ []) × (made ≡ store)
-last_back made input store rest is =
-    let f = followed_ok (end input) (λ _. done made) (store, rest) is in
-    (end_ok input f.0 f.1, (done_ok made f.0.1 store rest f.2).0)
+last_back : (version : Version) (made : Store) (input : List ℕ) (read : Version × Store) (rest : List ℕ) → at_last version made input ≡ Ok (read, rest) → (input ≡ []) × ((version, made) ≡ read)
+last_back version made input read rest is =
+    let f = followed_ok (end input) (λ _. done (version, made)) (read, rest) is in
+    (end_ok input f.0 f.1, (done_ok (version, made) f.0.1 read rest f.2).0)
 
-whole_text : (input : List ℕ) (count : ℕ) (texts left : List ℕ) (later store : Store) → input ≡ low_bytes 4 count ++ texts → texts ≡ flat_map array_text later ++ left → left ≡ [] → length later ≡ count → later ≡ store → IsGood store
-    → (input ≡ low_bytes 4 (length store) ++ flat_map array_text store) × IsGood store
-whole_text input count texts left later store counted listed nothing long same good =
-    let arrays : texts ≡ flat_map array_text store = listed ∙ (λ t. flat_map array_text later ++ nothing t) ∙ append-nil (flat_map array_text later) ∙ ap (flat_map array_text) same in
+whole_text : (version : Version) (input : List ℕ) (count : ℕ) (texts left : List ℕ) (later store : Store) → input ≡ low_bytes 4 count ++ texts → texts ≡ flat_map (array_text version) later ++ left → left ≡ [] → length later ≡ count → later ≡ store → IsGood store
+    → (input ≡ low_bytes 4 (length store) ++ flat_map (array_text version) store) × IsGood store
+whole_text version input count texts left later store counted listed nothing long same good =
+    let write = flat_map (array_text version) in
+    let arrays : texts ≡ write store = listed ∙ (λ t. write later ++ nothing t) ∙ append-nil (write later) ∙ ap write same in
     let number : count ≡ length store = sym long ∙ ap length same in
     (counted ∙ (λ t. low_bytes 4 (number t) ++ arrays t), good)
 
-count_back : (input : List ℕ) (store : Store) (rest : List ℕ) → IsByteString input → after_magic input ≡ Ok (store, rest) → (input ≡ low_bytes 4 (length store) ++ flat_map array_text store) × IsGood store
-count_back input store rest are is =
-    let f = followed_ok (field (number 4) count_checks input) after_count (store, rest) is in
+count_back : (version : Version) (input : List ℕ) (read : Version × Store) (rest : List ℕ) → IsByteString input → after_magic version input ≡ Ok (read, rest) → (version ≡ read.0) × (input ≡ low_bytes 4 (length read.1) ++ flat_map (array_text version) read.1) × IsGood read.1
+count_back version input read rest are is =
+    let f = followed_ok (field (number 4) count_checks input) (after_count version) (read, rest) is in
     let n = count-IsSpelled.back input f.0.0 f.0.1 are f.1 in
-    let g = followed_ok (grammar.arrays [] f.0.0 f.0.1) at_last (store, rest) f.2 in
+    let g = followed_ok (grammar.arrays version [] f.0.0 f.0.1) (at_last version) (read, rest) f.2 in
     let few = leb-true f.0.0 64 n.1.1.0 in
-    let a = arrays_back f.0.0 [] f.0.1 g.0.0 g.0.1 (omega arith) (IsStore-none, IsRegular-none) n.2 g.1 in
-    let l = last_back g.0.0 g.0.1 store rest g.2 in
-    whole_text input f.0.0 f.0.1 g.0.1 a.0 store n.0 a.3 l.0 a.2 (sym a.1 ∙ l.1) (subst IsGood l.1 a.4)
+    let a = arrays_back version f.0.0 [] f.0.1 g.0.0 g.0.1 (omega arith) (IsStore-none, IsRegular-none) n.2 g.1 in
+    let l = last_back version g.0.0 g.0.1 read rest g.2 in
+    let made : g.0.0 ≡ read.1 = ap (λ (pair : Version × Store). pair.1) l.1 in
+    let w = whole_text version input f.0.0 f.0.1 g.0.1 a.0 read.1 n.0 a.3 l.0 a.2 (sym a.1 ∙ made) (subst IsGood made a.4) in
+    (ap (λ (pair : Version × Store). pair.0) l.1, w.0, w.1)
 
--- What is read is the dump of the store that it gives, which is a store, and regular.
-pub dump_back : (dump : List ℕ) (store : Store) → IsByteString dump → IsDump dump store → (dump ≡ dump_of store) × IsStore store × IsRegular store
-dump_back dump store are is =
-    let e = value_of_ok (grammar.store dump) store is in
-    let f = followed_ok (field (bytes 4) magic_checks dump) (λ _. after_magic) (store, e.0) e.1 in
-    let m = magic-IsSpelled.back dump f.0.0 f.0.1 are f.1 in
-    let named : f.0.0 ≡ magic = sym (same_text magic f.0.0 (sym m.1.1.0)) in
-    let c = count_back f.0.1 store e.0 m.2 f.2 in
-    (m.0 ∙ (λ t. named t ++ c.0 t), c.1.0, c.1.1)
+-- What is read is the dump, in the format that it names, of the store that it gives, which is a store, and regular.
+pub dump_back : (version : Version) (dump : List ℕ) (store : Store) → IsByteString dump → IsDump version dump store → (dump ≡ dump_of version store) × IsStore store × IsRegular store
+dump_back version dump store are is =
+    let e = value_of_ok (grammar.store dump) (version, store) is in
+    let f = followed_ok (grammar.begins dump) after_magic ((version, store), e.0) e.1 in
+    let m = begins-IsSpelled.back dump f.0.0 f.0.1 are f.1 in
+    let c = count_back f.0.0 f.0.1 (version, store) e.0 m.2 f.2 in
+    let named : f.0.0 ≡ version = c.0 in
+    let counted = low_bytes 4 (length store) in
+    let parts : dump ≡ magic version ++ (counted ++ flat_map (array_text version) store) = m.0 ∙ ap (λ rest. magic f.0.0 ++ rest) c.1 ∙ ap (λ v. magic v ++ (counted ++ flat_map (array_text v) store)) named in
+    (parts ∙ sym (append_assoc (magic version) counted (flat_map (array_text version) store)), c.2.0, c.2.1)
 
 -- The dump of a regular store gives it.
-pub dump_again : (store : Store) → IsStore store → IsRegular store → IsDump (dump_of store) store
-dump_again store is regular =
-    let texts = flat_map array_text store in
+pub dump_again : (version : Version) (store : Store) → IsStore store → IsRegular store → IsDump version (dump_of version store) store
+dump_again version store is regular =
+    let texts = flat_map (array_text version) store in
     let few = is.within_limit in
-    let one = magic-IsSpelled.again magic (low_bytes 4 (length store) ++ texts) ((refl, bytes_are magic refl), (refl, tt)) in
+    let one = begins-IsSpelled.again version (low_bytes 4 (length store) ++ texts) tt in
     let two = count-IsSpelled.again (length store) texts (omega arith, (le-leb (length store) 64 few, tt)) in
-    let three : grammar.arrays [] (length store) texts ≡ Ok (store, []) = ap (grammar.arrays [] (length store)) (sym (append-nil texts)) ∙ arrays_again store [] [] (is, regular) in
-    ap value_of (ap (λ read. followed_by read (λ _. after_magic)) one ∙ ap (λ read. followed_by read after_count) two ∙ ap (λ read. followed_by read at_last) three)
+    let three : grammar.arrays version [] (length store) texts ≡ Ok (store, []) = ap (grammar.arrays version [] (length store)) (sym (append-nil texts)) ∙ arrays_again version store [] [] (is, regular) in
+    ap value_of (ap grammar.store (append_assoc (magic version) (low_bytes 4 (length store)) texts) ∙ ap (λ read. followed_by read after_magic) one ∙ ap (λ read. followed_by read (after_count version)) two ∙ ap (λ read. followed_by read (at_last version)) three)
 
 one_ok : {A : Type 0} (read : Result A Fault) (one other : A) → read ≡ Ok one → read ≡ Ok other → one ≡ other
 one_ok {A} (Ok given) one other is also = let same : ◌≡◌ {A = Result A Fault} (Ok one) (Ok other) = sym is ∙ also in cc
 one_ok (Err fault) one other is also = absurd cc
 
--- Bytes give one store at most.
-pub one_store : (dump : List ℕ) (store other : Store) → IsDump dump store → IsDump dump other → store ≡ other
-one_store dump store other is also = one_ok (read_of dump) store other is also
+-- Bytes give one store at most, in one format.
+pub one_store : (one_version other_version : Version) (dump : List ℕ) (store other : Store) → IsDump one_version dump store → IsDump other_version dump other → (one_version ≡ other_version) × (store ≡ other)
+one_store one_version other_version dump store other is also =
+    let same = one_ok (read_of dump) (one_version, store) (other_version, other) is also in
+    (ap (λ (pair : Version × Store). pair.0) same, ap (λ (pair : Version × Store). pair.1) same)
 
-no_fault : (read : Result Store Fault) → ((store : Store) × (read ≡ Ok store)) ↔ (result_err read ≡ None)
-no_fault (Ok given) = ((λ _. refl), λ _. (given, refl))
-no_fault (Err fault) = ((λ given. absurd (let e = given.1 in cc)), λ none. absurd cc)
+no_fault : (read : Result (Version × Store) Fault) → ((version : Version) × (store : Store) × (read ≡ Ok (version, store))) ↔ (result_err read ≡ None)
+no_fault (Ok given) = ((λ _. refl), λ _. (given.0, given.1, refl))
+no_fault (Err fault) = ((λ given. absurd (let e = given.2 in cc)), λ none. absurd cc)
 
 -- They give one exactly where they have no fault.
-pub gives_exactly : (dump : List ℕ) → ((store : Store) × IsDump dump store) ↔ (fault_of dump ≡ None)
+pub gives_exactly : (dump : List ℕ) → ((version : Version) × (store : Store) × IsDump version dump store) ↔ (fault_of dump ≡ None)
 gives_exactly dump = no_fault (read_of dump)

@@ -37,12 +37,17 @@ pub mod FieldLemmas
 pub mod MadeMaps
 pub mod EntryLemmas
 pub mod ContentsLemmas
+pub mod StringKeys
+pub mod SharedKeys
 pub mod KindLemmas
 pub mod DumpLemmas
 pub mod PlaceLemmas
 pub mod EndLemmas
 pub mod FormLemmas
 pub mod GroupLemmas
+pub mod AlikeLemmas
+pub mod GroupChains
+pub mod WayLemmas
 pub mod Counting
 pub mod CommandLemmas
 pub mod ValueCommands

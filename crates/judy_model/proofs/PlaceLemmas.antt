@@ -7,7 +7,7 @@ use Rattle.judy_model.specs.Keys.{word_order, byte_order}
 use Rattle.judy_model.specs.Arrays.{ArrayOf, ArrayValue, judy1, judyl, judysl, judyhs}
 use Rattle.judy_model.specs.Stores.{Store, with_new_array}
 use Rattle.judy_model.specs.Fields.{Fault, truncated, Part, followed_by, ◌>>=◌, done, end, value_of, Behind}
-use Rattle.judy_model.specs.DumpText.{length_order}
+use Rattle.judy_model.specs.DumpText.{Version, jdy1, jdy2, length_order}
 use Rattle.judy_model.specs.DumpGrammar as grammar
 use Rattle.judy_model.specs.DumpGrammar.{entry, entries, filled, fault_of}
 use Rattle.judy_model.specs.DumpPlaces.{up_to_entry, EndsAtEntry}
@@ -40,10 +40,10 @@ module _ {A B : Type 0} (read : Result (A × List ℕ) Fault) (rest : A → Part
 
 -- ---- entries
 
-module _ {K : Type 0} (order : K → K → Ordering) (key : Part K) (value : Part ℕ) (cut : key [] ≡ Err truncated) where
+module _ {K : Type 0} (order : K → K → Ordering) (key : Option K → Part K) (value : Part ℕ) (cut : (before : Option K) → key before [] ≡ Err truncated) where
   no_entries_left : (before : Option K) (count : ℕ) → WholeOrCut (entries order key value before count [])
   no_entries_left before zero = whole_done []
-  no_entries_left before (suc count) = record { cases = inr (rw cut refl) }
+  no_entries_left before (suc count) = record { cases = inr (rw (cut before) refl) }
 
   -- Of so many entries the first ones are there.
   entries_left : (listed count : ℕ) (before : Option K) (input : List ℕ) (held : List (K × ℕ)) → listed ≤ count → entries order key value before listed input ≡ Ok (held, []) → WholeOrCut (entries order key value before count input)
@@ -83,44 +83,48 @@ by_tests false false false first second third fourth first_all second_all third_
 
 -- The entries of each kind.
 abbrev sets : ℕ → ℕ → Part ArrayValue
-sets limit count = filled judy1 limit (entries word_order grammar.word grammar.no_value None count)
+sets limit count = filled judy1 limit (entries word_order (λ before. grammar.word) grammar.no_value None count)
 
 abbrev words : ℕ → ℕ → Part ArrayValue
-words limit count = filled judyl limit (entries word_order grammar.word grammar.word None count)
+words limit count = filled judyl limit (entries word_order (λ before. grammar.word) grammar.word None count)
 
-abbrev strings : ℕ → ℕ → Part ArrayValue
-strings limit count = filled judysl limit (entries byte_order grammar.string_without_zero grammar.word None count)
+abbrev strings : Version → ℕ → ℕ → Part ArrayValue
+strings version limit count = filled judysl limit (entries byte_order (grammar.string_key version) grammar.word None count)
 
 abbrev byte_strings : ℕ → ℕ → Part ArrayValue
-byte_strings limit count = filled judyhs limit (entries length_order grammar.string grammar.word None count)
+byte_strings limit count = filled judyhs limit (entries length_order (λ before. grammar.string) grammar.word None count)
 
-contents_left : (kind limit listed count : ℕ) (input : List ℕ) (array : ArrayValue) → listed ≤ count → grammar.contents kind limit listed input ≡ Ok (array, []) → WholeOrCut (grammar.contents kind limit count input)
-contents_left kind limit listed count input array few is =
-    by_tests (kind == 1) (kind == 2) (kind == 3) (sets limit listed) (words limit listed) (strings limit listed) (byte_strings limit listed) (sets limit count) (words limit count) (strings limit count) (byte_strings limit count) input array
-    (filled_left word_order grammar.word grammar.no_value refl judy1 limit listed count input array few)
-    (filled_left word_order grammar.word grammar.word refl judyl limit listed count input array few)
-    (filled_left byte_order grammar.string_without_zero grammar.word refl judysl limit listed count input array few)
-    (filled_left length_order grammar.string grammar.word refl judyhs limit listed count input array few)
+no_string_left : (version : Version) (before : Option (List ℕ)) → grammar.string_key version before [] ≡ Err truncated
+no_string_left jdy1 before = refl
+no_string_left jdy2 before = refl
+
+contents_left : (version : Version) (kind limit listed count : ℕ) (input : List ℕ) (array : ArrayValue) → listed ≤ count → grammar.contents version kind limit listed input ≡ Ok (array, []) → WholeOrCut (grammar.contents version kind limit count input)
+contents_left version kind limit listed count input array few is =
+    by_tests (kind == 1) (kind == 2) (kind == 3) (sets limit listed) (words limit listed) (strings version limit listed) (byte_strings limit listed) (sets limit count) (words limit count) (strings version limit count) (byte_strings limit count) input array
+    (filled_left word_order (λ before. grammar.word) grammar.no_value (λ before. refl) judy1 limit listed count input array few)
+    (filled_left word_order (λ before. grammar.word) grammar.word (λ before. refl) judyl limit listed count input array few)
+    (filled_left byte_order (grammar.string_key version) grammar.word (no_string_left version) judysl limit listed count input array few)
+    (filled_left length_order (λ before. grammar.string) grammar.word (λ before. refl) judyhs limit listed count input array few)
     is
 
 -- ---- arrays
 
-no_arrays_left : (earlier : Store) (count : ℕ) → WholeOrCut (grammar.arrays earlier count [])
-no_arrays_left earlier zero = whole_done earlier
-no_arrays_left earlier (suc count) = record { cases = inr refl }
+no_arrays_left : (version : Version) (earlier : Store) (count : ℕ) → WholeOrCut (grammar.arrays version earlier count [])
+no_arrays_left version earlier zero = whole_done earlier
+no_arrays_left version earlier (suc count) = record { cases = inr refl }
 
 -- Of so many arrays some are there, and the next one or a part of it.
-arrays_left : (earlier count : ℕ) (before : Store) (input : List ℕ) (made : Store × List ℕ) → earlier < count → grammar.arrays before earlier input ≡ Ok made → WholeOrCut (grammar.array made.0 made.1) → WholeOrCut (grammar.arrays before count input)
-arrays_left earlier zero before input made few is next = absurd (omega arith)
-arrays_left zero (suc count) before input made few is next =
+arrays_left : (version : Version) (earlier count : ℕ) (before : Store) (input : List ℕ) (made : Store × List ℕ) → earlier < count → grammar.arrays version before earlier input ≡ Ok made → WholeOrCut (grammar.array version made.0 made.1) → WholeOrCut (grammar.arrays version before count input)
+arrays_left version earlier zero before input made few is next = absurd (omega arith)
+arrays_left version zero (suc count) before input made few is next =
     let d = done_ok before input made.0 made.1 is in
-    at_end (grammar.array before input) (λ next. grammar.arrays (with_new_array before next.0 next.1) count)
-    (subst (λ (b : Store). WholeOrCut (grammar.array b input)) (sym d.0) (subst (λ (i : List ℕ). WholeOrCut (grammar.array made.0 i)) (sym d.1) next))
-    (λ array. no_arrays_left (with_new_array before array.0 array.1) count)
-arrays_left (suc earlier) (suc count) before input made few is next =
-    let f = followed_ok (grammar.array before input) (λ array. grammar.arrays (with_new_array before array.0 array.1) earlier) made is in
-    behind (grammar.array before input) (λ array. grammar.arrays (with_new_array before array.0 array.1) count) f.0 f.1
-    (arrays_left earlier count (with_new_array before f.0.0.0 f.0.0.1) f.0.1 made (omega arith) f.2 next)
+    at_end (grammar.array version before input) (λ next. grammar.arrays version (with_new_array before next.0 next.1) count)
+    (subst (λ (b : Store). WholeOrCut (grammar.array version b input)) (sym d.0) (subst (λ (i : List ℕ). WholeOrCut (grammar.array version made.0 i)) (sym d.1) next))
+    (λ array. no_arrays_left version (with_new_array before array.0 array.1) count)
+arrays_left version (suc earlier) (suc count) before input made few is next =
+    let f = followed_ok (grammar.array version before input) (λ array. grammar.arrays version (with_new_array before array.0 array.1) earlier) made is in
+    behind (grammar.array version before input) (λ array. grammar.arrays version (with_new_array before array.0 array.1) count) f.0 f.1
+    (arrays_left version earlier count (with_new_array before f.0.0.0 f.0.0.1) f.0.1 made (omega arith) f.2 next)
 
 -- ---- the whole
 
@@ -129,38 +133,38 @@ begun (Ok first) Holds holds = (first, refl, holds)
 begun (Err fault) Holds holds = absurd holds
 
 -- What stands behind an array's name, up to an entry.
-abbrev up_to_entry_of : ℕ → ℕ → Part (ℕ × ℕ)
-up_to_entry_of listed arrays =
-    grammar.kind >>= λ kind. grammar.limit >>= λ limit. grammar.key_count limit >>= λ keys. grammar.contents kind limit listed >>= λ _. done (arrays, keys)
+abbrev up_to_entry_of : Version → ℕ → ℕ → Part (ℕ × ℕ)
+up_to_entry_of version listed arrays =
+    grammar.kind >>= λ kind. grammar.limit >>= λ limit. grammar.key_count limit >>= λ keys. grammar.contents version kind limit listed >>= λ _. done (arrays, keys)
 
-body_left : (listed arrays : ℕ) (input : List ℕ) (said : (ℕ × ℕ) × List ℕ) → up_to_entry_of listed arrays input ≡ Ok said → listed ≤ said.0.1 → said.1 ≡ [] → WholeOrCut (grammar.body input) × (said.0.0 ≡ arrays)
-body_left listed arrays input said is some ends =
+body_left : (version : Version) (listed arrays : ℕ) (input : List ℕ) (said : (ℕ × ℕ) × List ℕ) → up_to_entry_of version listed arrays input ≡ Ok said → listed ≤ said.0.1 → said.1 ≡ [] → WholeOrCut (grammar.body version input) × (said.0.0 ≡ arrays)
+body_left version listed arrays input said is some ends =
     let kind = followed_ok (grammar.kind input) _ said is in
     let limit = followed_ok (grammar.limit kind.0.1) _ said kind.2 in
     let count = followed_ok (grammar.key_count limit.0.0 limit.0.1) _ said limit.2 in
-    let held = followed_ok (grammar.contents kind.0.0 limit.0.0 listed count.0.1) _ said count.2 in
+    let held = followed_ok (grammar.contents version kind.0.0 limit.0.0 listed count.0.1) _ said count.2 in
     let same = done_ok {A = ℕ × ℕ} (arrays, count.0.0) held.0.1 said.0 said.1 held.2 in
     let few : listed ≤ count.0.0 = subst (λ (n : ℕ). listed ≤ n) (ap (λ (pair : ℕ × ℕ). pair.1) (sym same.0)) some in
     let rest : held.0.1 ≡ [] = same.1 ∙ ends in
-    let contents = contents_left kind.0.0 limit.0.0 listed count.0.0 count.0.1 held.0.0 few (ended (grammar.contents kind.0.0 limit.0.0 listed count.0.1) held.0 held.1 rest) in (
+    let contents = contents_left version kind.0.0 limit.0.0 listed count.0.0 count.0.1 held.0.0 few (ended (grammar.contents version kind.0.0 limit.0.0 listed count.0.1) held.0 held.1 rest) in (
       behind (grammar.kind input) _ kind.0 kind.1 (behind (grammar.limit kind.0.1) _ limit.0 limit.1 (behind (grammar.key_count limit.0.0 limit.0.1) _ count.0 count.1 contents)),
       ap (λ (pair : ℕ × ℕ). pair.0) (sym same.0),
     )
 
 -- An array behind others, up to an entry.
-array_left : (listed arrays : ℕ) (made : Store) (input : List ℕ) (said : (ℕ × ℕ) × List ℕ) → (grammar.name made >>= λ _. up_to_entry_of listed arrays) input ≡ Ok said → listed ≤ said.0.1 → said.1 ≡ [] → WholeOrCut (grammar.array made input) × (said.0.0 ≡ arrays)
-array_left listed arrays made input said is some ends =
-    let name = followed_ok (grammar.name made input) (λ _. up_to_entry_of listed arrays) said is in
-    let body = body_left listed arrays name.0.1 said name.2 some ends in
-    (behind (grammar.name made input) _ name.0 name.1 (at_end (grammar.body name.0.1) (λ held. done (name.0.0, held)) body.0 (λ held. whole_done (name.0.0, held))), body.1)
+array_left : (version : Version) (listed arrays : ℕ) (made : Store) (input : List ℕ) (said : (ℕ × ℕ) × List ℕ) → (grammar.name made >>= λ _. up_to_entry_of version listed arrays) input ≡ Ok said → listed ≤ said.0.1 → said.1 ≡ [] → WholeOrCut (grammar.array version made input) × (said.0.0 ≡ arrays)
+array_left version listed arrays made input said is some ends =
+    let name = followed_ok (grammar.name made input) (λ _. up_to_entry_of version listed arrays) said is in
+    let body = body_left version listed arrays name.0.1 said name.2 some ends in
+    (behind (grammar.name made input) _ name.0 name.1 (at_end (grammar.body version name.0.1) (λ held. done (name.0.0, held)) body.0 (λ held. whole_done (name.0.0, held))), body.1)
 
 -- All arrays, of which some stand before one that is there up to an entry.
-all_left : (earlier listed arrays : ℕ) (input : List ℕ) (said : (ℕ × ℕ) × List ℕ) → (grammar.arrays [] earlier >>= λ made. grammar.name made >>= λ _. up_to_entry_of listed arrays) input ≡ Ok said → earlier < said.0.0 → listed ≤ said.0.1 → said.1 ≡ []
-    → WholeOrCut (grammar.arrays [] arrays input)
-all_left earlier listed arrays input said is few some ends =
-    let made = followed_ok (grammar.arrays [] earlier input) (λ made. grammar.name made >>= λ _. up_to_entry_of listed arrays) said is in
-    let array = array_left listed arrays made.0.0 made.0.1 said made.2 some ends in
-    arrays_left earlier arrays [] input made.0 (subst (λ (n : ℕ). earlier < n) array.1 few) made.1 array.0
+all_left : (version : Version) (earlier listed arrays : ℕ) (input : List ℕ) (said : (ℕ × ℕ) × List ℕ) → (grammar.arrays version [] earlier >>= λ made. grammar.name made >>= λ _. up_to_entry_of version listed arrays) input ≡ Ok said → earlier < said.0.0 → listed ≤ said.0.1 → said.1 ≡ []
+    → WholeOrCut (grammar.arrays version [] arrays input)
+all_left version earlier listed arrays input said is few some ends =
+    let made = followed_ok (grammar.arrays version [] earlier input) (λ made. grammar.name made >>= λ _. up_to_entry_of version listed arrays) said is in
+    let array = array_left version listed arrays made.0.0 made.0.1 said made.2 some ends in
+    arrays_left version earlier arrays [] input made.0 (subst (λ (n : ℕ). earlier < n) array.1 few) made.1 array.0
 
 whole_or_cut : (dump : List ℕ) → EndsAtEntry dump → WholeOrCut (grammar.store dump)
 whole_or_cut dump ends =
@@ -168,16 +172,17 @@ whole_or_cut dump ends =
     let listed = ends.1 in
     let said = begun (up_to_entry earlier listed dump) (λ said rest. (earlier < said.0) × (listed ≤ said.1) × (rest ≡ [])) ends.2 in
     let magic = followed_ok (grammar.begins dump) _ said.0 said.1 in
+    let version : Version = magic.0.0 in
     let arrays = followed_ok (grammar.array_count magic.0.1) _ said.0 magic.2 in
-    let all = all_left earlier listed arrays.0.0 arrays.0.1 said.0 arrays.2 said.2.0 said.2.1 said.2.2 in
+    let all = all_left version earlier listed arrays.0.0 arrays.0.1 said.0 arrays.2 said.2.0 said.2.1 said.2.2 in
     behind (grammar.begins dump) _ magic.0 magic.1 (behind (grammar.array_count magic.0.1) _ arrays.0 arrays.1
-    (at_end (grammar.arrays [] arrays.0.0 arrays.0.1) (λ made. end >>= λ _. done made) all (λ made. whole_done made)))
+    (at_end (grammar.arrays version [] arrays.0.0 arrays.0.1) (λ made. end >>= λ _. done (version, made)) all (λ made. whole_done (version, made))))
 
 -- Such bytes have no fault, or the one that they are cut off.
 pub no_other_fault : (dump : List ℕ) → EndsAtEntry dump → (fault_of dump ≡ None) ⊎ (fault_of dump ≡ Some truncated)
 no_other_fault dump ends =
     let is = whole_or_cut dump ends in
     ⊎_elim
-    (λ (whole : (store : Store) × (grammar.store dump ≡ Ok (store, []))). inl (ap (λ read. result_err (value_of read)) whole.1))
+    (λ (whole : (read : Version × Store) × (grammar.store dump ≡ Ok (read, []))). inl (ap (λ read. result_err (value_of read)) whole.1))
     (λ (cut : grammar.store dump ≡ Err truncated). inr (ap (λ read. result_err (value_of read)) cut))
     is.cases

@@ -16,6 +16,10 @@ greatest = 0 ∷ 0 ∷ 0 ∷ 0 ∷ 255 ∷ 255 ∷ 255 ∷ 255 ∷ []
 abbrev pub heading : ℕ → List ℕ
 heading count = codes "JDY1" ++ 0 ∷ 0 ∷ 0 ∷ count ∷ []
 
+-- And of one in the second format.
+abbrev pub second_heading : ℕ → List ℕ
+second_heading count = codes "JDY2" ++ 0 ∷ 0 ∷ 0 ∷ count ∷ []
+
 -- The store with the judy1 array `a`, which holds 1 and may hold as many keys as any.
 abbrev pub set_of_one : Store
 set_of_one = (codes "a", judy1 (record { limit = 4294967295; map = from_entries ((1, 0) ∷ []) })) ∷ []
@@ -43,3 +47,22 @@ dump_of_three =
     ++ 1 ∷ 108 ∷ 2 ∷ greatest ++ small 1 ++ small 5 ++ small 9
     ++ 1 ∷ 115 ∷ 3 ∷ small 3 ++ small 2 ++ 0 ∷ 0 ∷ small 1 ++ 0 ∷ 2 ∷ 97 ∷ 98 ∷ small 2
     ++ 1 ∷ 104 ∷ 4 ∷ greatest ++ small 3 ++ 0 ∷ 0 ∷ small 9 ++ 0 ∷ 1 ∷ 0 ∷ small 7 ++ 0 ∷ 1 ∷ 98 ∷ small 8
+
+-- The store of a judysl array with three places, of whose keys each begins the next.
+abbrev pub three_prefixes : Store
+three_prefixes = (codes "s", judysl (record { limit = 3; map = from_entries (([], 1) ∷ (codes "ab", 2) ∷ (codes "abc", 3) ∷ []) })) ∷ []
+
+-- What stands in both of its dumps between the heading and the entries.
+abbrev pub head_of_prefixes : List ℕ
+head_of_prefixes = 1 ∷ 115 ∷ 3 ∷ small 3 ++ small 3
+
+-- Its dump in the first format, of 62 bytes.
+abbrev pub first_dump_of_prefixes : List ℕ
+first_dump_of_prefixes = heading 1 ++ head_of_prefixes ++ 0 ∷ 0 ∷ small 1 ++ 0 ∷ 2 ∷ codes "ab" ++ small 2 ++ 0 ∷ 3 ∷ codes "abc" ++ small 3
+
+-- In the second format its first two entries, and its dump, of 66 bytes.
+abbrev pub two_entries : List ℕ
+two_entries = second_heading 1 ++ head_of_prefixes ++ 0 ∷ 0 ∷ 0 ∷ 0 ∷ small 1 ++ 0 ∷ 0 ∷ 0 ∷ 2 ∷ codes "ab" ++ small 2
+
+abbrev pub second_dump_of_prefixes : List ℕ
+second_dump_of_prefixes = two_entries ++ 0 ∷ 2 ∷ 0 ∷ 1 ∷ codes "c" ++ small 3

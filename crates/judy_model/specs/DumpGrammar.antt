@@ -1,6 +1,6 @@
--- Which bytes are dumps, and of which store: the fields of the format JDY1 in their order, each with what it
--- must be. Bytes that are none have the fault of the first check that fails. (This project's own.)
-use Rattle.std.specs.Prelude.{◌≡◌, ℕ, zero, suc, Bool, true, not, ◌&&◌, ◌==◌, nat_lt, nat_le, is_none, if◌then◌else◌, List, [], ◌∷◌, length, bytes_eq, Option, Some, None, Result, Ok}
+-- Which bytes are dumps, in which format and of which store: the fields in their order, each with what it must be.
+-- Bytes that are none have the fault of the first check that fails. (This project's own.)
+use Rattle.std.specs.Prelude.{◌≡◌, ℕ, zero, suc, ◌+◌, Bool, true, not, ◌&&◌, ◌||◌, ◌==◌, nat_lt, nat_le, is_none, if◌then◌else◌, List, [], ◌∷◌, ◌++◌, length, take, bytes_eq, Option, Some, None, unwrap_or, Result, Ok}
 use Rattle.std.specs.declared.cmp.Ordering.{Ordering}
 use Rattle.std.specs.Ordering.{is_lt}
 use Rattle.std.specs.List.{list_all}
@@ -10,8 +10,8 @@ use Rattle.judy_model.specs.Keys.{word_order, byte_order}
 use Rattle.judy_model.specs.Arrays.{ArrayOf, ArrayValue, judy1, judyl, judysl, judyhs}
 use Rattle.judy_model.specs.Tokens.{is_name_byte}
 use Rattle.judy_model.specs.Stores.{Store, array_named, with_new_array}
-use Rattle.judy_model.specs.Fields.{Fault, bad_magic, too_many, bad_name, same_name, bad_kind, bad_limit, bad_count, bad_key, bad_order, Part, ◌>>=◌, done, bytes, number, field, end, value_of}
-use Rattle.judy_model.specs.DumpText.{magic, length_order}
+use Rattle.judy_model.specs.Fields.{Fault, bad_magic, too_many, bad_name, same_name, bad_kind, bad_limit, bad_count, bad_key, bad_order, bad_prefix, Part, ◌>>=◌, done, bytes, number, field, end, value_of}
+use Rattle.judy_model.specs.DumpText.{Version, jdy1, jdy2, magic, shared_length, length_order}
 
 -- ---- an array's head: its name, its kind, its limit, how many keys follow
 
@@ -69,24 +69,45 @@ string = do
   length ← field (number 2) (((λ length. nat_le length 1024), bad_key) ∷ [])
   bytes length
 
--- One that holds no zero byte.
+-- A key of a judysl array holds no zero byte.
+abbrev pub is_without_zero : List ℕ → Bool
+is_without_zero = list_all (λ byte. not (byte == 0))
+
+-- Such a key, whole.
 abbrev pub string_without_zero : Part (List ℕ)
-string_without_zero = field string (((list_all (λ byte. not (byte == 0))), bad_key) ∷ [])
+string_without_zero = field string ((is_without_zero, bad_key) ∷ [])
+
+-- A key of so many bytes of the one before it and of these behind them shares no longer front with that one.
+abbrev pub is_longest_shared : List ℕ → ℕ → List ℕ → Bool
+is_longest_shared before shared suffix = shared_length before (take shared before ++ suffix) == shared
+
+-- Such a key by the one before it: how many bytes both share, in two bytes, and a byte string behind these.
+abbrev pub string_behind_front : List ℕ → Part (List ℕ)
+string_behind_front before = do
+  shared ← field (number 2) (((λ shared. nat_le shared (length before)), bad_prefix) ∷ [])
+  rest ← field (number 2) (((λ rest. nat_le (shared + rest) 1024), bad_key) ∷ [])
+  suffix ← field (bytes rest) ((is_without_zero, bad_key) ∷ (is_longest_shared before shared, bad_prefix) ∷ [])
+  done (take shared before ++ suffix)
+
+-- Such a key in a format, by the key before it, if there is one. The first one shares nothing.
+abbrev pub string_key : Version → Option (List ℕ) → Part (List ℕ)
+string_key jdy1 before = string_without_zero
+string_key jdy2 before = string_behind_front (unwrap_or before [])
 
 -- Whether a key is greater than the one before it, if there is one.
 abbrev pub is_above : {K : Type 0} → (K → K → Ordering) → Option K → K → Bool
 is_above order None key = true
 is_above order (Some before) key = is_lt (order before key)
 
--- An entry, whose key is greater than the one before it.
-abbrev pub entry : {K : Type 0} → (K → K → Ordering) → Part K → Part ℕ → Option K → Part (K × ℕ)
+-- An entry, whose key is greater than the one before it, by which it may be told.
+abbrev pub entry : {K : Type 0} → (K → K → Ordering) → (Option K → Part K) → Part ℕ → Option K → Part (K × ℕ)
 entry order key value before = do
-  first ← field key ((is_above order before, bad_order) ∷ [])
+  first ← field (key before) ((is_above order before, bad_order) ∷ [])
   held ← value
   done (first, held)
 
 -- So many entries, the first by the key before it, and each by the one before.
-abbrev pub entries : {K : Type 0} → (K → K → Ordering) → Part K → Part ℕ → Option K → ℕ → Part (List (K × ℕ))
+abbrev pub entries : {K : Type 0} → (K → K → Ordering) → (Option K → Part K) → Part ℕ → Option K → ℕ → Part (List (K × ℕ))
 entries order key value before zero = done []
 entries order key value before (suc count) = do
   first ← entry order key value before
@@ -100,61 +121,70 @@ filled made limit listed = do
   done (made (record { limit = limit; map = from_entries held }))
 
 -- An array by its kind, its limit and the number of its keys: so many entries, in the order in which a dump lists the kind's keys.
-abbrev pub contents : ℕ → ℕ → ℕ → Part ArrayValue
-contents kind limit count =
-    if kind == 1 then filled judy1 limit (entries word_order word no_value None count)
-    else if kind == 2 then filled judyl limit (entries word_order word word None count)
-    else if kind == 3 then filled judysl limit (entries byte_order string_without_zero word None count)
-    else filled judyhs limit (entries length_order string word None count)
+abbrev pub contents : Version → ℕ → ℕ → ℕ → Part ArrayValue
+contents version kind limit count =
+    if kind == 1 then filled judy1 limit (entries word_order (λ before. word) no_value None count)
+    else if kind == 2 then filled judyl limit (entries word_order (λ before. word) word None count)
+    else if kind == 3 then filled judysl limit (entries byte_order (string_key version) word None count)
+    else filled judyhs limit (entries length_order (λ before. string) word None count)
 
 -- ---- the whole
 
 -- What stands after an array's name.
-abbrev pub body : Part ArrayValue
-body = do
+abbrev pub body : Version → Part ArrayValue
+body version = do
   kind ← kind
   limit ← limit
   count ← key_count limit
-  contents kind limit count
+  contents version kind limit count
 
 -- An array, by the arrays before it.
-abbrev pub array : Store → Part (List ℕ × ArrayValue)
-array earlier = do
+abbrev pub array : Version → Store → Part (List ℕ × ArrayValue)
+array version earlier = do
   name ← name earlier
-  held ← body
+  held ← body version
   done (name, held)
 
 -- So many arrays.
-abbrev pub arrays : Store → ℕ → Part Store
-arrays earlier zero = done earlier
-arrays earlier (suc count) = do
-  next ← array earlier
-  arrays (with_new_array earlier next.0 next.1) count
+abbrev pub arrays : Version → Store → ℕ → Part Store
+arrays version earlier zero = done earlier
+arrays version earlier (suc count) = do
+  next ← array version earlier
+  arrays version (with_new_array earlier next.0 next.1) count
+
+-- Bytes name a format, and which.
+abbrev pub is_magic : List ℕ → Bool
+is_magic named = bytes_eq (magic jdy1) named || bytes_eq (magic jdy2) named
+
+abbrev pub version_of : List ℕ → Version
+version_of named = if bytes_eq (magic jdy1) named then jdy1 else jdy2
 
 -- The first bytes, which name the format.
-abbrev pub begins : Part (List ℕ)
-begins = field (bytes 4) ((bytes_eq magic, bad_magic) ∷ [])
+abbrev pub begins : Part Version
+begins = do
+  named ← field (bytes 4) ((is_magic, bad_magic) ∷ [])
+  done (version_of named)
 
 -- How many arrays follow.
 abbrev pub array_count : Part ℕ
 array_count = field (number 4) (((λ count. nat_le count 64), too_many) ∷ [])
 
--- All of the bytes.
-abbrev pub store : Part Store
+-- All of the bytes: their format, and a store.
+abbrev pub store : Part (Version × Store)
 store = do
-  _ ← begins
+  version ← begins
   count ← array_count
-  made ← arrays [] count
+  made ← arrays version [] count
   _ ← end
-  done made
+  done (version, made)
 
--- The store that the bytes give, or the first fault.
-abbrev pub read_of : List ℕ → Result Store Fault
+-- The format and the store that the bytes give, or the first fault.
+abbrev pub read_of : List ℕ → Result (Version × Store) Fault
 read_of dump = value_of (store dump)
 
--- Bytes are the dump of a store where they give it.
-abbrev pub IsDump : List ℕ → Store → Type 0
-IsDump dump store = read_of dump ≡ Ok store
+-- Bytes are the dump of a store in a format where they give these two.
+abbrev pub IsDump : Version → List ℕ → Store → Type 0
+IsDump version dump store = read_of dump ≡ Ok (version, store)
 
 -- The first fault of bytes, or none.
 abbrev pub fault_of : List ℕ → Option Fault

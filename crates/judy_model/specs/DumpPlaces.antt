@@ -8,14 +8,14 @@ use Rattle.judy_model.specs.DumpGrammar as grammar
 -- and how many of its keys are said.
 abbrev pub up_to_entry : ℕ → ℕ → Part (ℕ × ℕ)
 up_to_entry earlier listed = do
-  _ ← grammar.begins
+  version ← grammar.begins
   arrays ← grammar.array_count
-  made ← grammar.arrays [] earlier
+  made ← grammar.arrays version [] earlier
   _ ← grammar.name made
   kind ← grammar.kind
   limit ← grammar.limit
   keys ← grammar.key_count limit
-  _ ← grammar.contents kind limit listed
+  _ ← grammar.contents version kind limit listed
   done (arrays, keys)
 
 -- Bytes have no fault, and end behind the key count of an array or behind one of its entries.

@@ -15,6 +15,7 @@ pub data Fault : Type 0 where
   bad_key : Fault
   bad_order : Fault
   trailing : Fault
+  bad_prefix : Fault
 
 -- A part of a text, as it is read from the bytes that stand there: its value and the bytes after it, or the
 -- first fault.

@@ -28,6 +28,7 @@ pub mod DumpExamples
 pub mod DumpOrder
 pub mod Forms
 pub mod Shapes
+pub mod Ways
 pub mod Examples
 pub mod Sizes
 pub mod AmpleRuns

@@ -1,25 +1,25 @@
 //! Short cases of dumps, each computed by the check: the bytes of a store and the faults of bytes that are none.
 
 ghost use Rattle.std.specs.Prelude.{◌≡◌, [], ◌∷◌, ◌++◌, codes, take, length, Some};
-ghost use Rattle.judy_model.specs.Fields.{truncated, bad_magic, too_many, bad_name, same_name, bad_kind, bad_limit, bad_count, bad_key, bad_order, trailing};
-ghost use Rattle.judy_model.specs.DumpText.{dump_of};
+ghost use Rattle.judy_model.specs.Fields.{truncated, bad_magic, too_many, bad_name, same_name, bad_kind, bad_limit, bad_count, bad_key, bad_order, bad_prefix, trailing};
+ghost use Rattle.judy_model.specs.DumpText.{jdy1, jdy2, dump_of};
 ghost use Rattle.judy_model.specs.DumpGrammar.{IsDump, fault_of};
 ghost use Rattle.judy_model.specs.DumpPlaces.{EndsAtEntry};
-ghost use Rattle.judy_model.specs.DumpExamples.{small, heading, overwritten, set_of_one, dump_of_one, three_arrays, dump_of_three};
+ghost use Rattle.judy_model.specs.DumpExamples.{small, heading, second_heading, overwritten, set_of_one, dump_of_one, three_arrays, dump_of_three, three_prefixes, first_dump_of_prefixes, two_entries, second_dump_of_prefixes};
 
 /// The empty store has a dump of eight bytes, a set of one key one of 35.
 pub fn smallest_dumps()
-    ensures empty { dump_of [] ≡ codes "JDY1" ++ 0 ∷ 0 ∷ 0 ∷ 0 ∷ [] }
-    ensures one { dump_of set_of_one ≡ dump_of_one }
+    ensures empty { dump_of jdy1 [] ≡ codes "JDY1" ++ 0 ∷ 0 ∷ 0 ∷ 0 ∷ [] }
+    ensures one { dump_of jdy1 set_of_one ≡ dump_of_one }
     ensures long { length dump_of_one ≡ 35 }
-    ensures empty_again { IsDump (heading 0) [] }
-    ensures one_again { IsDump dump_of_one set_of_one }
+    ensures empty_again { IsDump jdy1 (heading 0) [] }
+    ensures one_again { IsDump jdy1 dump_of_one set_of_one }
 {}
 
 /// Each kind with values has its entries in the order of its keys, judyhs the shorter keys first.
 pub fn store_of_three()
-    ensures text { dump_of three_arrays ≡ dump_of_three }
-    ensures again { IsDump dump_of_three three_arrays }
+    ensures text { dump_of jdy1 three_arrays ≡ dump_of_three }
+    ensures again { IsDump jdy1 dump_of_three three_arrays }
     ensures long { length dump_of_three ≡ 135 }
 {}
 
@@ -53,9 +53,37 @@ pub fn faults_in_store_of_three()
     ensures limit { fault_of (overwritten dump_of_three 46 (small 1)) ≡ Some bad_count }
 {}
 
+/// One store in both formats. The second writes of each key what it doesn't share with the one before.
+pub fn second_format()
+    ensures empty { dump_of jdy2 [] ≡ codes "JDY2" ++ 0 ∷ 0 ∷ 0 ∷ 0 ∷ [] }
+    ensures empty_again { IsDump jdy2 (second_heading 0) [] }
+    ensures first { dump_of jdy1 three_prefixes ≡ first_dump_of_prefixes }
+    ensures second { dump_of jdy2 three_prefixes ≡ second_dump_of_prefixes }
+    ensures first_again { IsDump jdy1 first_dump_of_prefixes three_prefixes }
+    ensures second_again { IsDump jdy2 second_dump_of_prefixes three_prefixes }
+    ensures first_long { length first_dump_of_prefixes ≡ 62 }
+    ensures second_long { length second_dump_of_prefixes ≡ 66 }
+    ensures cut { fault_of (take 65 second_dump_of_prefixes) ≡ Some truncated }
+    ensures no_format { fault_of (codes "JDY3") ≡ Some bad_magic }
+{}
+
+/// The faults of keys in the second format, in the order of their checks.
+pub fn prefix_faults()
+    ensures first_key { fault_of (overwritten second_dump_of_prefixes 27 (0 ∷ 1 ∷ [])) ≡ Some bad_prefix }
+    ensures slack { fault_of (two_entries ++ 0 ∷ 0 ∷ 0 ∷ 3 ∷ codes "abc" ++ small 3) ≡ Some bad_prefix }
+    ensures long_front { fault_of (two_entries ++ 0 ∷ 3 ∷ 0 ∷ 0 ∷ []) ≡ Some bad_prefix }
+    ensures same_key { fault_of (two_entries ++ 0 ∷ 2 ∷ 0 ∷ 0 ∷ []) ≡ Some bad_order }
+    ensures lesser_key { fault_of (two_entries ++ 0 ∷ 1 ∷ 0 ∷ 1 ∷ codes "a") ≡ Some bad_order }
+    ensures zero_byte { fault_of (two_entries ++ 0 ∷ 2 ∷ 0 ∷ 1 ∷ 0 ∷ []) ≡ Some bad_key }
+    ensures zero_byte_first { fault_of (two_entries ++ 0 ∷ 0 ∷ 0 ∷ 3 ∷ codes "ab" ++ 0 ∷ []) ≡ Some bad_key }
+    ensures long_key { fault_of (two_entries ++ 0 ∷ 2 ∷ 3 ∷ 255 ∷ []) ≡ Some bad_key }
+    ensures longest_key { fault_of (two_entries ++ 0 ∷ 2 ∷ 3 ∷ 254 ∷ []) ≡ Some truncated }
+{}
+
 /// Memory may be wanted behind the key count of an array and behind each of its entries.
 pub fn ends_at_entries()
     ensures count { EndsAtEntry (take 27 dump_of_one) }
     ensures entry { EndsAtEntry dump_of_one }
     ensures second { EndsAtEntry (take 72 dump_of_three) }
+    ensures second_format { EndsAtEntry two_entries }
 {}

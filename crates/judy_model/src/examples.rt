@@ -6,6 +6,7 @@ pub mod immediates;
 pub mod keys;
 pub mod ranks;
 pub mod runs;
+pub mod ways;
 pub mod words;
 
 ghost use Rattle.std.specs.Prelude.{◌≡◌, ◌+◌, ◌*◌, ◌-◌, ◌^◌, true, false, [], ◌∷◌, ◌++◌, codes, drop, replicate, Some, None, Ok, Err};

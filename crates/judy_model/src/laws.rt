@@ -22,5 +22,6 @@ pub mod steps;
 pub mod stores;
 pub mod strings;
 pub mod tables;
+pub mod ways;
 pub mod whole_lines;
 pub mod words;

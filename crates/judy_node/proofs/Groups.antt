@@ -121,6 +121,74 @@ map-after words low unit byte (pair ∷ []) rest some any all apart map =
     map-next words (pair.0 % (unit * 256) + 1) unit byte rest some (omega arith) apart map.3
 map-after words low unit byte (pair ∷ other ∷ one) rest some any all apart map = map-after words (pair.0 % (unit * 256) + 1) unit byte (other ∷ one) rest some (omega arith) all.1 apart map.3
 
+-- ---- sorted pairs of which the first and the last have one byte
+
+-- A key of a map is no lower than the map's bound.
+map-at : (words low wide : ℕ) (pairs : Pairs) (at : ℕ) (d : ℕ × ℕ) → IsMap words low wide (low_pairs wide pairs) → at < length pairs → low ≤ (get_or pairs at d).0 % wide
+map-at words low wide [] at d map within = let never : ⊥ = omega arith in absurd never
+map-at words low wide (pair ∷ pairs) zero d map within = map.0
+map-at words low wide (pair ∷ pairs) (suc at) d map within =
+    let first = map.0 in
+    let rest = map-at words (pair.0 % wide + 1) wide pairs at d map.3 (omega arith) in
+    omega arith
+
+-- What lies between two keys of a byte has that byte.
+byte_between : (unit byte key last : ℕ) → 0 < unit → byte * unit ≤ key % (256 * unit) → key % (256 * unit) ≤ last % (256 * unit) → middle unit 256 last ≡ byte → middle unit 256 key ≡ byte
+byte_between unit byte key last some from within same =
+    let any : 0 < 256 = omega arith in
+    let here = mod-mul key any some in
+    let there : last % (256 * unit) ≡ byte * unit + last % unit = mod-mul last any some ∙ ap (λ n. n * unit + last % unit) same in
+    let rest = mod_below key unit some in
+    let left = mod_below last unit some in
+    let spread = add-mul (middle unit 256 key) 1 unit in
+    let next = add-mul byte 1 unit in
+    ⊎_elim
+    (λ (less : middle unit 256 key < byte).
+    let whole : (middle unit 256 key + 1) * unit ≤ byte * unit = mul-le (middle unit 256 key + 1) unit byte unit (omega arith) (omega arith) in
+    let never : ⊥ = omega arith in absurd never)
+    (λ (more : byte ≤ middle unit 256 key).
+    ⊎_elim
+    (λ (less : byte < middle unit 256 key).
+    let whole : (byte + 1) * unit ≤ middle unit 256 key * unit = mul-le (byte + 1) unit (middle unit 256 key) unit (omega arith) (omega arith) in
+    let never : ⊥ = omega arith in absurd never)
+    (λ (no_more : middle unit 256 key ≤ byte). omega arith)
+    (cases_lt byte (middle unit 256 key)))
+    (cases_lt (middle unit 256 key) byte)
+
+all_between : (words low unit byte : ℕ) (pairs : Pairs) (at : ℕ) (d : ℕ × ℕ) → 0 < unit → IsMap words low (256 * unit) (low_pairs (256 * unit) pairs) → at + 1 ≡ length pairs → byte * unit ≤ low
+    → middle unit 256 (get_or pairs at d).0 ≡ byte → AllMiddle unit 256 byte pairs
+all_between words low unit byte [] at d some map is from same = let never : ⊥ = omega arith in absurd never
+all_between words low unit byte (pair ∷ []) zero d some map is from same = (same, tt)
+all_between words low unit byte (pair ∷ []) (suc at) d some map is from same = let never : ⊥ = omega arith in absurd never
+all_between words low unit byte (pair ∷ other ∷ pairs) zero d some map is from same = let never : ⊥ = omega arith in absurd never
+all_between words low unit byte (pair ∷ other ∷ pairs) (suc at) d some map is from same =
+    let first = map.0 in
+    let last = map-at words (pair.0 % (256 * unit) + 1) (256 * unit) (other ∷ pairs) at d map.3 (omega arith) in (
+      byte_between unit byte pair.0 (get_or (other ∷ pairs) at d).0 some (omega arith) (omega arith) same,
+      all_between words (pair.0 % (256 * unit) + 1) unit byte (other ∷ pairs) at d some map.3 (omega arith) (omega arith) same,
+    )
+
+-- So all have the byte that the first and the last have.
+pub ends_share : (words unit byte : ℕ) (pairs : Pairs) (at : ℕ) (d : ℕ × ℕ) → 0 < unit → IsMap words 0 (256 * unit) (low_pairs (256 * unit) pairs) → at + 1 ≡ length pairs
+    → middle unit 256 (get_or pairs 0 d).0 ≡ byte → middle unit 256 (get_or pairs at d).0 ≡ byte → AllMiddle unit 256 byte pairs
+ends_share words unit byte [] at d some map is first last = let never : ⊥ = omega arith in absurd never
+ends_share words unit byte (pair ∷ []) at d some map is first last = (first, tt)
+ends_share words unit byte (pair ∷ other ∷ pairs) zero d some map is first last = let never : ⊥ = omega arith in absurd never
+ends_share words unit byte (pair ∷ other ∷ pairs) (suc at) d some map is first last =
+    let any : 0 < 256 = omega arith in
+    let here : pair.0 % (256 * unit) ≡ byte * unit + pair.0 % unit = mod-mul pair.0 any some ∙ ap (λ n. n * unit + pair.0 % unit) first in
+    (first, all_between words (pair.0 % (256 * unit) + 1) unit byte (other ∷ pairs) at d some map.3 (omega arith) (omega arith) last)
+
+pub middle-at : (unit top head : ℕ) (pairs : Pairs) (at : ℕ) (d : ℕ × ℕ) → AllMiddle unit top head pairs → at < length pairs → middle unit top (get_or pairs at d).0 ≡ head
+middle-at unit top head [] at d all within = let never : ⊥ = omega arith in absurd never
+middle-at unit top head (pair ∷ pairs) zero d all within = all.0
+middle-at unit top head (pair ∷ pairs) (suc at) d all within = middle-at unit top head pairs at d all.1 (omega arith)
+
+pub sharing-all : (unit top head : ℕ) (pairs : Pairs) → AllMiddle unit top head pairs → sharing unit top head pairs ≡ length pairs
+sharing-all unit top head [] all = refl
+sharing-all unit top head (pair ∷ pairs) all =
+    ap (λ b. cond b (1 + sharing unit top head pairs) 0) (eq-eqb (middle unit top pair.0) head all.0) ∙ (let rest = sharing-all unit top head pairs all.1 in omega arith)
+
 -- ---- one child more, behind the others
 
 pub children-push : (words width low : ℕ) (bytes : List ℕ) (kids : List Tree) (byte : ℕ) (kid : Tree) → AreChildren words width low bytes kids → low ≤ byte → AllBelow byte bytes → byte < 256 → IsChild words width kid

@@ -1,8 +1,9 @@
 -- The children of a branch, made one group of pairs after another.
-use Rattle.std.proofs.Common.{◌≡◌, ℕ, suc, ◌+◌, ◌*◌, ◌/◌, ◌%◌, ◌^◌, ◌<◌, ◌≤◌, List, [], ◌∷◌, ◌++◌, length, take, drop, get_or, sym, refl, ap, ◌∙◌, subst, arith, append_assoc, length-append, length-drop}
+use Rattle.std.proofs.Common.{◌≡◌, ◌≢◌, ℕ, suc, ◌+◌, ◌*◌, ◌/◌, ◌%◌, ◌^◌, ◌<◌, ◌≤◌, List, [], ◌∷◌, ◌++◌, length, take, drop, get_or, sym, refl, ap, ◌∙◌, subst, arith, ⊎_elim, append_assoc, length-append, length-drop}
 use Rattle.std.proofs.Math.Nat.{pow-suc, mul_comm, mod-eq_of_lt}
 use Rattle.std.proofs.lemmas.Nat.{le-div, mod_below, div-mul-add}
 use Rattle.std.proofs.Math.Arith.{mod-mul}
+use Rattle.std.proofs.lemmas.Bool.{cases_lt}
 use Rattle.std.proofs.lemmas.List.{append-nil, take-append-drop, take_all}
 use Rattle.judy_model.specs.WordBytes.{number_of}
 use Rattle.judy_model.specs.Forms.{Form, immediate, leaf, bitmap_leaf, branch, loose_in}
@@ -19,7 +20,7 @@ use Rattle.judy_node.specs.Trees.{Pairs, Tree, IsMap, join, forms_in, IsChild, I
 use Rattle.judy_node.specs.Built.{middle, sharing, IsBuilt, AreMade}
 use Rattle.judy_node.proofs.Maps.{map-wider, map-AllBelow}
 use Rattle.judy_node.proofs.Shaped.{branch-child}
-use Rattle.judy_node.proofs.Groups.{AllMiddle, NotMiddle, sharing-within, sharing-front, sharing-rest, sharing-yes, length-low_pairs, low_pairs-append, low_pairs-shared, map-front, map-down, map-after, children-push, join-push, forms-push, below-push, below-wider}
+use Rattle.judy_node.proofs.Groups.{AllMiddle, NotMiddle, sharing-within, sharing-front, sharing-rest, sharing-yes, sharing-all, middle-at, ends_share, length-low_pairs, low_pairs-append, low_pairs-shared, map-front, map-down, map-after, children-push, join-push, forms-push, below-push, below-wider}
 
 -- The unit above a byte.
 pub unit_above : (below : ℕ) → 256 ^ (below + 1) ≡ 256 ^ below * 256
@@ -151,6 +152,21 @@ made_built words below pairs rest bytes kids next more over low high many =
 
 all_share : (unit byte : ℕ) (pairs : Pairs) (end : ℕ) → end ≡ sharing unit 256 byte pairs → length pairs ≤ end → AllMiddle unit 256 byte pairs
 all_share unit byte pairs end is all = subst (AllMiddle unit 256 byte) (ap (λ n. take n pairs) (sym is) ∙ take_all end pairs all) (sharing-front unit 256 byte pairs)
+
+-- Sorted pairs all have a byte where the first and the last have it.
+pub sharing_ends : (words below byte : ℕ) (pairs : Pairs) (at : ℕ) (d : ℕ × ℕ) → IsMap words 0 (256 ^ (below + 1)) (low_pairs (256 ^ (below + 1)) pairs) → at + 1 ≡ length pairs
+    → middle (256 ^ below) 256 (get_or pairs 0 d).0 ≡ byte → middle (256 ^ below) 256 (get_or pairs at d).0 ≡ byte → sharing (256 ^ below) 256 byte pairs ≡ length pairs
+sharing_ends words below byte pairs at d map is first last =
+    let unit = 256 ^ below in
+    let top : 256 ^ (below + 1) ≡ 256 * unit = unit_above below ∙ mul_comm unit 256 in
+    sharing-all unit 256 byte pairs (ends_share words unit byte pairs at d (unit_pos below) (subst (λ n. IsMap words 0 n (low_pairs n pairs)) top map) is first last)
+
+pub sharing_apart : (unit byte : ℕ) (pairs : Pairs) (at : ℕ) (d : ℕ × ℕ) → at < length pairs → middle unit 256 (get_or pairs at d).0 ≢ byte → sharing unit 256 byte pairs < length pairs
+sharing_apart unit byte pairs at d within apart =
+    ⊎_elim
+    (λ (less : sharing unit 256 byte pairs < length pairs). less)
+    (λ (all : length pairs ≤ sharing unit 256 byte pairs). absurd (apart (middle-at unit 256 byte pairs at d (all_share unit byte pairs (sharing unit 256 byte pairs) refl all) within)))
+    (cases_lt (sharing unit 256 byte pairs) (length pairs))
 
 pub one_byte_map : (words below : ℕ) (pairs : Pairs) (byte end : ℕ) → end ≡ sharing (256 ^ below) 256 byte pairs → length pairs ≤ end
     → IsMap words 0 (256 ^ (below + 1)) (low_pairs (256 ^ (below + 1)) pairs) → IsMap words 0 (256 ^ below) (low_pairs (256 ^ below) pairs)

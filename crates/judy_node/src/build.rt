@@ -1,6 +1,6 @@
 //! The tight tree of sorted pairs.
 
-ghost use Rattle.std.specs.Prelude.{◌≡◌, ℕ, suc, ◌+◌, ◌-◌, ◌*◌, ◌/◌, ◌%◌, ◌^◌, ◌<◌, ◌≤◌, [], ◌∷◌, length, drop, IfOk, OnOk, slice_index_or};
+ghost use Rattle.std.specs.Prelude.{◌≡◌, ℕ, suc, ◌+◌, ◌-◌, ◌*◌, ◌/◌, ◌%◌, ◌^◌, ◌<◌, ◌≤◌, [], ◌∷◌, length, drop, IfOk, OnOk, IsTrue, IsFalse, slice_index_or};
 ghost use Rattle.judy_model.specs.Shapes.{immediate_limit};
 ghost use Rattle.judy_leaf.specs.KeyLists.{low_pairs};
 ghost use Rattle.judy_node.specs.Trees.{IsMap, IsChild, AreParts, branch_tree};
@@ -50,6 +50,18 @@ fn group_end(pairs: &[(u64, u64)], below: u8, byte: u8) -> usize
         }
     }
     pairs.len()
+}
+
+// Whether all of sorted pairs have the byte there that the first one has: they do where the last one has it.
+fn all_have<V: Words + Drop>(pairs: &[(u64, u64)], below: u8, byte: u8) -> bool
+    requires below { below ≤ 7 }
+    requires some { 0 < length pairs.now }
+    requires first { byte ≡ middle (256 ^ below) 256 (slice_index_or pairs.now 0 (0, 0)).0 }
+    requires map { IsMap V.WORDS 0 (256 ^ (below + 1)) (low_pairs (256 ^ (below + 1)) pairs.now) }
+    ensures all { IsTrue result → length pairs.now ≤ sharing (256 ^ below) 256 byte pairs.now }
+    ensures apart { IsFalse result → sharing (256 ^ below) 256 byte pairs.now < length pairs.now }
+{
+    byte_above(pairs[pairs.len() - 1].0, below) == byte
 }
 
 /// How many keys of a width, 1 to 8 bytes, an immediate holds.
@@ -211,7 +223,7 @@ fn many<V: Words + Drop>(
     }
     let below = width - 1;
     let byte = byte_above(pairs[0].0, below);
-    if group_end(pairs, below, byte) < pairs.len() {
+    if !all_have::<V>(pairs, below, byte) {
         return split(alloc, below, pairs);
     }
     let kind = many(alloc, below, pairs)?;

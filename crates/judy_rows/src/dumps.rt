@@ -59,7 +59,7 @@ fn smallest_dumps(rt: HostRuntime) {
 // Bytes that are no dump, with their fault.
 const FAULTY: [(&[u8], LoadFault); 14] = [
     (b"", LoadFault::Truncated),
-    (b"JDY2\x00\x00\x00\x00", LoadFault::BadMagic),
+    (b"JDY3\x00\x00\x00\x00", LoadFault::BadMagic),
     (b"JDY1\x00\x00\x00\x41", LoadFault::TooMany),
     (
         b"KDY1\x00\x00\x00\x01\x01a\x01\x00\x00\x00\x00\xff\xff\xff\xff\x00\x00\x00\x00\x00\x00\x00\x01\x00\x00\x00\x00\x00\x00\x00\x01",

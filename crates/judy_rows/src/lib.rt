@@ -25,4 +25,6 @@ mod refusals;
 #[cfg(test)]
 mod scripts;
 #[cfg(test)]
+mod second_format;
+#[cfg(test)]
 mod strings;

@@ -140,6 +140,10 @@ module _ (first : Store) (most left : ℕ) (given_before given : Option (List �
         CutAtWrite-within first most taken_before taken_after after AtEnd (reading.bytes ++ take left room) (drop left (take count room)) within_most (cut first reading.bytes taken_before reading.fed),
       )
 
+      -- where it has one more, that is all that was given
+      pub one_more-here : count ≤ left + 1 → Since given_before given_after (λ bytes. length bytes ≡ most + 1)
+      one_more-here by_one = (reading.bytes ++ take count room, given_more (take count room) given_after is, omega (arith, by_one, length-append reading.bytes (take count room), long, reading.fits))
+
       pub CutAtMost-here : (AtEnd : Type 0) (filled : LineBuffer) (taken_after : Option (List ℕ)) (after : Store)
           → ((before : Store) (fed : List ℕ) (known : Option (List ℕ)) → Fed before fed known buffer taken now → Fed before (fed ++ take left room) known filled taken_after after)
           → Since given_before given_after (λ bytes. Since taken_before taken_after (λ output. CutAtMost first most bytes AtEnd output after))

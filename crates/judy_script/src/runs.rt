@@ -1,11 +1,11 @@
 //! The runs of a script: over a reader, and over bytes in hand.
 
-ghost use Rattle.std.specs.Prelude.{◌≡◌, ℕ, ◌+◌, ◌-◌, ◌<◌, ◌^◌, List, [], true, Err, is_ok, if◌then◌else◌, OnOk, OnErr, IfErr};
+ghost use Rattle.std.specs.Prelude.{◌≡◌, ℕ, ◌+◌, ◌-◌, ◌<◌, ◌^◌, List, [], length, true, Err, is_ok, if◌then◌else◌, OnOk, OnErr, IfErr};
 ghost use Rattle.judy_model.specs.Runs.{Run, CutOff};
 ghost use Rattle.judy_model.specs.RunEnds.{RanToEnd, LeftBy};
 ghost use Rattle.judy_pipe.specs.Pipe.{told};
 ghost use Rattle.judy_shelf.specs.Shelves.{store_of};
-ghost use Rattle.judy_script.specs.declared.fault.RunFault.TheVariants.{Read, Write};
+ghost use Rattle.judy_script.specs.declared.fault.RunFault.TheVariants.{Read, TooLong, Write};
 ghost use Rattle.judy_script.specs.RunEnds.{Since, fault_of, read_failures, write_failures};
 
 use crate::engine::{Buffers, feed, finish, serve};
@@ -26,7 +26,8 @@ const PIECE_LEN: usize = 65536;
 /// those of a run of these bytes by the definitions. Else the fault is
 /// - `Read`, where the source failed: the lines whose LF was read before are executed and answered, and
 ///   nothing else is done;
-/// - `TooLong`, where it gave more than `max_bytes` bytes: the same for the first `max_bytes` of them;
+/// - `TooLong`, where it gave a byte more than `max_bytes`, and was asked for none behind it: the same for the first
+///   `max_bytes` bytes;
 /// - `Write`, where the sink failed, a flush included: the shelf is as after the line whose answer was being
 ///   written, and written are the answers before it and a front of its own.
 ///
@@ -43,6 +44,8 @@ pub fn run<R: Source, W: Sink>(
         RanToEnd (store_of shelf.old) max_bytes script (R.ended source.new ≡ told (R.ended source.old) true) output (store_of shelf.new)))) }
     ensures left { IfErr result (λ fault. Since (R.given source.old) (R.given source.new) (λ bytes. Since (W.taken sink.old) (W.taken sink.new) (λ output.
         LeftBy (store_of shelf.old) max_bytes bytes (R.ended source.new ≡ told (R.ended source.old) true) output (store_of shelf.new) (fault_of fault)))) }
+    // No byte is taken behind the one that is too many.
+    ensures one_more { result ≡ Err TooLong → Since (R.given source.old) (R.given source.new) (λ bytes. length bytes ≡ max_bytes + 1) }
     // A read may fail, so answers that were kept back until then couldn't be handed on without a fault more.
     ensures handed_on { result ≡ Err Read → W.kept sink.old ≡ [] → W.kept sink.new ≡ [] }
     ensures read_failures { (R.tally source.new).failures ≡ (R.tally source.old).failures + read_failures result }
@@ -54,9 +57,12 @@ pub fn run<R: Source, W: Sink>(
     let mut room = [0; PIECE_LEN];
     let mut left = max_bytes;
     'pieces: loop {
-        let Ok(count) = read_some(source, &mut room) else {
+        // One byte more than may come tells that the script is too long.
+        let most = left.min(PIECE_LEN as u64 - 1) as usize + 1;
+        let Ok(count) = read_some(source, &mut room[..most]) else {
             return Err(RunFault::Read);
         };
+        let piece = &room[..most];
         if count == 0 {
             return match finish(&mut buffers, shelf, sink) {
                 Ok(()) => Ok(()),
@@ -64,12 +70,12 @@ pub fn run<R: Source, W: Sink>(
             };
         }
         if count as u64 > left {
-            return match feed(&room[..left as usize], &mut buffers, shelf, sink) {
+            return match feed(&piece[..left as usize], &mut buffers, shelf, sink) {
                 Ok(_) => Err(RunFault::TooLong),
                 Err(_) => Err(RunFault::Write),
             };
         }
-        match serve(&room[..count], &mut buffers, shelf, sink) {
+        match serve(&piece[..count], &mut buffers, shelf, sink) {
             Ok(()) => left -= count as u64,
             Err(_) => return Err(RunFault::Write),
         }

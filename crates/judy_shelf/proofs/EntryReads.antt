@@ -1,7 +1,7 @@
 -- Entries that are read one after another into a map.
 use Rattle.std.proofs.Common.{◌≡◌, ℕ, ◌+◌, ◌-◌, ◌<◌, ◌≤◌, suc, arith, true, false, cond, IsTrue, List, [], ◌∷◌, ◌++◌, Option, Some, None, Result, Ok, Err, refl, sym, ap, subst, ◌∙◌, append_assoc, append-nil, Less, Equal, Greater}
 use Rattle.std.specs.declared.cmp.Ordering.{Ordering}
-use Rattle.std.specs.Ordering.{is_lt, is_eq, eq_by_cmp, ordering_reverse}
+use Rattle.std.specs.Ordering.{is_lt, is_eq, eq_by_cmp}
 use Rattle.std.specs.Cmp.{IsTotalOrder, nat_cmp_total, tied_itself}
 use Rattle.std.specs.Cmp.Lexicographic.{nat_list_cmp_total}
 use Rattle.std.specs.FinMap.{IsAntisymmetric, nat_cmp-IsAntisymmetric, slice_cmp-IsAntisymmetric, find, from_entries, from_entries_push, get, insert, get-from_entries}
@@ -38,7 +38,7 @@ is_Less Less e = refl
 is_Less Equal e = absurd cc
 is_Less Greater e = absurd cc
 
-module _ {K : Type 0} (order : K → K → Ordering) (key : Part K) (value : Part ℕ) (count : ℕ) where
+module _ {K : Type 0} (order : K → K → Ordering) (key : Option K → Part K) (value : Part ℕ) (count : ℕ) where
   abbrev pub whole : Part (List (K × ℕ))
   whole = entries order key value None count
 
@@ -64,22 +64,22 @@ module _ {K : Type 0} (order : K → K → Ordering) (key : Part K) (value : Par
         (fault_first (entries order key value last (suc n)) (λ others. done (held ++ others)) cause mid after
         (fault_first (entry order key value last) (λ first. entries order key value (Some first.0) n >>= λ others. done (first ∷ others)) cause mid after next))
 
-  module _ (last : Option K) (first : K) (before mid : Drawn) (read : ReadsValue (field key ((is_above order last, bad_order) ∷ [])) first before mid) where
+  module _ (last : Option K) (first : K) (before mid : Drawn) (read : ReadsValue (field (key last) ((is_above order last, bad_order) ∷ [])) first before mid) where
     -- A key and its value.
     pub entry_read : (held : ℕ) (after : Drawn) → ReadsValue value held mid after → ReadsValue (entry order key value last) (first, held) before after
     entry_read held after next =
-        value_then (field key ((is_above order last, bad_order) ∷ [])) (λ first. value >>= λ held. done (first, held)) first before mid read (first, held) after
+        value_then (field (key last) ((is_above order last, bad_order) ∷ [])) (λ first. value >>= λ held. done (first, held)) first before mid read (first, held) after
         (value_then value (λ held. done (first, held)) held mid after next (first, held) after (value_done (first, held) after))
 
     -- A key whose value couldn't be read.
     pub entry_value_stopped : (cause : Cause) (after : Drawn) → ReadsFault Nowhere value cause mid after → ReadsFault Nowhere (entry order key value last) cause before after
     entry_value_stopped cause after next =
-        fault_then (field key ((is_above order last, bad_order) ∷ [])) (λ first. value >>= λ held. done (first, held)) first before mid read cause after
+        fault_then (field (key last) ((is_above order last, bad_order) ∷ [])) (λ first. value >>= λ held. done (first, held)) first before mid read cause after
         (fault_first value (λ held. done (first, held)) cause mid after next)
 
   -- A key that couldn't be read.
-  pub entry_key_stopped : (last : Option K) (cause : Cause) (before after : Drawn) → ReadsFault Nowhere (field key ((is_above order last, bad_order) ∷ [])) cause before after → ReadsFault Nowhere (entry order key value last) cause before after
-  entry_key_stopped last cause before after next = fault_first (field key ((is_above order last, bad_order) ∷ [])) (λ first. value >>= λ held. done (first, held)) cause before after next
+  pub entry_key_stopped : (last : Option K) (cause : Cause) (before after : Drawn) → ReadsFault Nowhere (field (key last) ((is_above order last, bad_order) ∷ [])) cause before after → ReadsFault Nowhere (entry order key value last) cause before after
+  entry_key_stopped last cause before after next = fault_first (field (key last) ((is_above order last, bad_order) ∷ [])) (λ first. value >>= λ held. done (first, held)) cause before after next
 
   module _ {map_order : K → K → Ordering} (kind : ArrayOf map_order → ArrayValue) (limit : ℕ) (before after : Drawn) where
     pub filled_value : (held : List (K × ℕ)) → ReadsValue whole held before after → ReadsValue (filled kind limit whole) (kind (record { limit = limit; map = from_entries held })) before after
@@ -88,7 +88,7 @@ module _ {K : Type 0} (order : K → K → Ordering) (key : Part K) (value : Par
     pub filled_fault : {Also : List ℕ → Type 0} → (cause : Cause) → ReadsFault Nowhere whole cause before after → ReadsFault Also (filled kind limit whole) cause before after
     filled_fault cause read = fault_first whole (λ held. done (kind (record { limit = limit; map = from_entries held }))) cause before after read
 
-module _ {K : Type 0} (order : K → K → Ordering) (key : Part K) (value : Part ℕ) where
+module _ {K : Type 0} (order : K → K → Ordering) (key : Option K → Part K) (value : Part ℕ) where
   -- So many entries were read, which are these, however many are said.
   pub record Listing (listed : ℕ) (last : Option K) (held : List (K × ℕ)) (before now : Drawn) : Type 0 where
     pub input : List ℕ

@@ -1,27 +1,43 @@
 -- Names and kinds as they are read.
-use Rattle.std.proofs.Common.{◌≡◌, ◌≢◌, ℕ, ◌<◌, ◌≤◌, ◌⊎◌, inl, inr, Bool, true, false, cond, not, leb, ltb, ◌==◌, ◌/◌, ◌%◌, List, [], ◌∷◌, ◌++◌, length, Option, Some, None, Ok, Err, IsFalse, is_some, is_none, ok_or, MatchOption, refl, sym, ap, subst, ◌∙◌, append-nil, arith}
+use Rattle.std.proofs.Common.{◌≡◌, ℕ, Bool, true, false, cond, not, List, [], ◌∷◌, length, Option, Some, None, Ok, IsFalse, is_some, is_none, ok_or, MatchOption, refl, sym, ap, subst, ◌∙◌}
 use Rattle.std.specs.Borrow.{Bor}
 use Rattle.std.specs.Option.{option_copied, option_map}
 use Rattle.std.specs.List.{list_all}
-use Rattle.std.proofs.lemmas.Bool.{and_parts, eqb-true, eqb-false, ltb-true, leb-true}
-use Rattle.judy_model.specs.Keys.{IsByteString}
+use Rattle.std.proofs.lemmas.Bool.{and_parts}
 use Rattle.judy_model.specs.Tokens.{is_name, is_name_byte, name_of}
 use Rattle.judy_model.specs.Stores.{array_named}
-use Rattle.judy_model.specs.Fields.{bad_name, same_name, bad_kind, bytes, number, field, checked, followed_by}
+use Rattle.judy_model.specs.Fields.{bad_magic, bad_name, same_name, bad_kind, bytes, number, field, done}
+use Rattle.judy_model.specs.DumpText.{magic}
 use Rattle.judy_model.specs.DumpGrammar as grammar
-use Rattle.judy_model.specs.DumpGrammar.{is_new, is_kind, name_checks, is_name_length}
-use Rattle.judy_model.proofs.FieldLemmas.{number-IsSpelled}
+use Rattle.judy_model.specs.DumpGrammar.{is_magic, version_of, is_new, is_kind, name_checks, is_name_length}
 use Rattle.judy_shelf.specs.declared.array.Array.{Array}
 use Rattle.judy_shelf.specs.declared.fault.LoadFault.{LoadFault}
-use Rattle.judy_shelf.specs.declared.fault.LoadFault.TheVariants.{BadKind}
+use Rattle.judy_shelf.specs.declared.fault.LoadFault.TheVariants.{BadKind, BadMagic}
 use Rattle.judy_shelf.specs.declared.kind.Kind.{Kind}
 use Rattle.judy_shelf.specs.declared.kind.Kind.TheVariants.{Judy1, JudyL, JudySl, JudyHs}
+use Rattle.judy_shelf.specs.declared.version.Version.{Version}
+use Rattle.judy_shelf.specs.declared.version.Version.TheVariants.{First, Second}
 use Rattle.judy_shelf.specs.Arrays.{value_of}
 use Rattle.judy_shelf.specs.Shelves.{Entries, store_of}
+use Rattle.judy_shelf.specs.Versions.{format_of}
 use Rattle.judy_shelf.specs.Writes.{kind_number}
 use Rattle.judy_shelf.specs.Reads.{Drawn, told, ReadsValue, ReadsFault, Nowhere, Reads}
 use Rattle.judy_shelf.proofs.ShelfLemmas.{array_named-store_of}
-use Rattle.judy_shelf.proofs.ReadLemmas.{value_passes, value_passes_both, value_fails, value_fails_second}
+use Rattle.judy_shelf.proofs.ReadLemmas.{value_passes, value_passes_both, value_fails, value_fails_second, value_then, value_done, fault_first}
+
+-- ---- the name of the format
+
+module _ (named : List ℕ) (before after : Drawn) (was : ReadsValue (bytes 4) named before after) where
+  version_told_by : (made : Version) → named ≡ magic (format_of made) → is_magic (magic (format_of made)) ≡ true → version_of (magic (format_of made)) ≡ format_of made → ReadsValue grammar.begins (format_of made) before after
+  version_told_by made same known names =
+      subst (λ version. ReadsValue grammar.begins version before after) (ap version_of same ∙ names)
+      (value_then (field (bytes 4) ((is_magic, bad_magic) ∷ [])) (λ named. done (version_of named)) named before after (value_passes (bytes 4) named before after was is_magic bad_magic (ap is_magic same ∙ known)) (version_of named) after
+      (value_done (version_of named) after))
+
+  pub version_told : (found : Option Version) → MatchOption found (IsFalse (is_magic named)) (λ version. named ≡ magic (format_of version)) → Reads format_of grammar.begins before (ok_or found BadMagic) after
+  version_told None unknown = fault_first (field (bytes 4) ((is_magic, bad_magic) ∷ [])) (λ named. done (version_of named)) (told bad_magic) before after (value_fails (bytes 4) named before after was is_magic bad_magic [] unknown)
+  version_told (Some First) same = version_told_by First same refl refl
+  version_told (Some Second) same = version_told_by Second same refl refl
 
 -- ---- names
 

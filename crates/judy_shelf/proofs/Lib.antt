@@ -8,6 +8,8 @@ pub mod ReadLemmas
 pub mod Rooms
 pub mod NumberLemmas
 pub mod HeadLemmas
+pub mod SharedLemmas
+pub mod KeyReads
 pub mod EntryReads
 pub mod ArrayReads
 pub mod SortedLemmas

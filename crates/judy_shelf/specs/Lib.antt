@@ -1,5 +1,6 @@
 pub mod Kinds
 pub mod Arrays
+pub mod Versions
 pub mod Makes
 pub mod Shelves
 pub mod Lends

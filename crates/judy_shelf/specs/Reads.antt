@@ -3,7 +3,8 @@ use Rattle.std.specs.Prelude.{◌≡◌, ℕ, ◌+◌, ◌<◌, ◌≤◌, Bool,
 use Rattle.judy_model.specs.Keys.{IsByteString}
 use Rattle.judy_model.specs.Stores.{Store, IsStore, IsRegular}
 use Rattle.judy_model.specs.Fields as fields
-use Rattle.judy_model.specs.Fields.{Fault, Part, ◌>>=◌, Begins}
+use Rattle.judy_model.specs.Fields.{Fault, Part, ◌>>=◌, done, Begins}
+use Rattle.judy_model.specs.DumpText.{Version}
 use Rattle.judy_model.specs.DumpGrammar as grammar
 use Rattle.judy_model.specs.DumpGrammar.{IsDump}
 use Rattle.judy_model.specs.DumpPlaces.{EndsAtEntry}
@@ -48,6 +49,7 @@ cause_of load.BadKey = told fields.bad_key
 cause_of load.BadOrder = told fields.bad_order
 cause_of load.Trailing = told fields.trailing
 cause_of load.NoMemory = memory
+cause_of load.BadPrefix = told fields.bad_prefix
 
 -- A part has a fault, whatever comes after the bytes.
 abbrev pub IsFaulty : {A : Type 0} → Part A → List ℕ → Fault → Type 0
@@ -125,38 +127,49 @@ abbrev pub AtSome : {A : Type 0} → (ℕ → Part A) → ℕ → List ℕ → T
 AtSome part count input = (listed : ℕ) × (listed ≤ count) × Begins (part listed) (λ _ rest. rest ≡ []) input
 
 -- Behind a key count, and behind each entry.
-abbrev pub InBody : List ℕ → Type 0
-InBody = Begins grammar.kind (λ kind. Begins grammar.limit (λ limit. Begins (grammar.key_count limit) (λ count. AtSome (grammar.contents kind limit) count)))
+abbrev pub InBody : Version → List ℕ → Type 0
+InBody version = Begins grammar.kind (λ kind. Begins grammar.limit (λ limit. Begins (grammar.key_count limit) (λ count. AtSome (grammar.contents version kind limit) count)))
 
 -- The same in an array whose name no earlier one has.
-abbrev pub InArray : Store → List ℕ → Type 0
-InArray earlier = Begins (grammar.name earlier) (λ name. InBody)
+abbrev pub InArray : Version → Store → List ℕ → Type 0
+InArray version earlier = Begins (grammar.name earlier) (λ name. InBody version)
 
 -- In one of so many arrays.
-abbrev pub InArrays : ℕ → List ℕ → Type 0
-InArrays count input = (earlier : ℕ) × (earlier < count) × Begins (grammar.arrays [] earlier) InArray input
+abbrev pub InArrays : Version → ℕ → List ℕ → Type 0
+InArrays version count input = (earlier : ℕ) × (earlier < count) × Begins (grammar.arrays version [] earlier) (InArray version) input
+
+-- Behind the name of the format.
+abbrev pub InCounted : Version → List ℕ → Type 0
+InCounted version = Begins grammar.array_count (InArrays version)
 
 -- In a dump.
 abbrev pub InStore : List ℕ → Type 0
-InStore = Begins grammar.begins (λ magic. Begins grammar.array_count InArrays)
+InStore = Begins grammar.begins InCounted
 
 -- ---- a whole dump
 
--- All of a dump but its end.
-abbrev pub up_to_end : Part Store
-up_to_end = do
-  _ ← grammar.begins
+-- The number of arrays, and these.
+abbrev pub counted : Version → Part Store
+counted version = do
   count ← grammar.array_count
-  grammar.arrays [] count
+  grammar.arrays version [] count
 
--- What a source gave to its end is the dump of a store, which is one, and regular.
+-- All of a dump but its end.
+abbrev pub up_to_end : Part (Version × Store)
+up_to_end = do
+  version ← grammar.begins
+  made ← counted version
+  done (version, made)
+
+-- What a source gave to its end is the dump of a store in one of the formats, and the store is one, and regular.
 pub record LoadsWhole (store : Store) (before after : Drawn) : Type 0 where
   pub input : List ℕ
   pub given : after.given ≡ grown before.given input
   pub bytes : IsByteString input
   pub failures : after.failures ≡ before.failures
   pub ended : IfSome after.ended (λ ended. ended ≡ true)
-  pub is_dump : IsDump input store
+  pub version : Version
+  pub is_dump : IsDump version input store
   pub is_store : IsStore store
   pub is_regular : IsRegular store
 

@@ -1,6 +1,6 @@
 -- What a sink has taken where a text was written to it, whole or in part.
 use Rattle.std.specs.Prelude.{◌≡◌, ℕ, ◌+◌, List, Option, Result, Ok, Err}
-use Rattle.judy_model.specs.DumpText.{dump_of}
+use Rattle.judy_model.specs.DumpText.{Version, dump_of}
 use Rattle.judy_pipe.specs.Pipe.{grown, GrewByFront}
 use Rattle.judy_shelf.specs.declared.fault.DumpFault.{DumpFault}
 use Rattle.judy_shelf.specs.declared.fault.DumpFault.TheVariants.{NoMemory, Write}
@@ -31,12 +31,12 @@ abbrev pub Wrote : {X E : Type 0} → List ℕ → Sunk → Result X E → Sunk 
 Wrote text before (Ok done) after = WroteAll text before after
 Wrote text before (Err fault) after = WroteFront text before after
 
--- The dump of a shelf was written whole, or a front of it; or nothing, where a judyhs array is to be sorted and
+-- The dump of a shelf in a format was written whole, or a front of it; or nothing, where a judyhs array is to be sorted and
 -- there is no memory for it.
-abbrev pub Dumped : Entries → Sunk → Result (Unit {0}) DumpFault → Sunk → Type 0
-Dumped entries before (Ok done) after = WroteAll (dump_of (store_of entries)) before after
-Dumped entries before (Err Write) after = WroteFront (dump_of (store_of entries)) before after
-Dumped entries before (Err NoMemory) after = HoldsBytes entries × (after ≡ before)
+abbrev pub Dumped : Version → Entries → Sunk → Result (Unit {0}) DumpFault → Sunk → Type 0
+Dumped version entries before (Ok done) after = WroteAll (dump_of version (store_of entries)) before after
+Dumped version entries before (Err Write) after = WroteFront (dump_of version (store_of entries)) before after
+Dumped version entries before (Err NoMemory) after = HoldsBytes entries × (after ≡ before)
 
 -- The number of a kind in dumps.
 abbrev pub kind_number : Kind → ℕ

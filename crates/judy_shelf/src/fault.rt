@@ -39,8 +39,8 @@ pub enum LoadFault {
     /// The bytes end before the dump does.
     #[error("the dump is cut off")]
     Truncated,
-    /// The bytes don't begin with `JDY1`.
-    #[error("no dump of this format")]
+    /// The bytes begin neither with `JDY1` nor with `JDY2`.
+    #[error("no dump of a known format")]
     BadMagic,
     /// More than 64 arrays are said.
     #[error("too many arrays")]
@@ -72,6 +72,9 @@ pub enum LoadFault {
     /// There is no memory for an array or a key.
     #[error("out of memory")]
     NoMemory,
+    /// A key of a JDY2 dump that doesn't share the longest front with the key before.
+    #[error("bad shared front")]
+    BadPrefix,
 }
 
 impl LoadFault {
@@ -95,6 +98,7 @@ impl LoadFault {
             LoadFault::BadOrder => b"bad-order",
             LoadFault::Trailing => b"trailing",
             LoadFault::NoMemory => b"no-memory",
+            LoadFault::BadPrefix => b"bad-prefix",
         }
     }
 }

@@ -5,9 +5,10 @@ ghost use Rattle.judy_model.specs.Fields.{field, number, bytes, bad_name, bad_li
 ghost use Rattle.judy_model.specs.Keys.{word_order};
 ghost use Rattle.judy_model.specs.DumpText.{magic};
 ghost use Rattle.judy_model.specs.DumpGrammar as grammar;
-ghost use Rattle.judy_model.specs.DumpGrammar.{is_name_length, is_kind, is_limit, is_above, name_checks};
+ghost use Rattle.judy_model.specs.DumpGrammar.{is_magic, is_name_length, is_kind, is_limit, is_above, name_checks};
 ghost use Rattle.judy_model.specs.Stores.{array_named};
 ghost use Rattle.judy_shelf.specs.Shelves.{store_of};
+ghost use Rattle.judy_shelf.specs.Versions.{format_of};
 ghost use Rattle.judy_shelf.specs.Writes.{kind_number};
 ghost use Rattle.judy_shelf.specs.Reads.{drawn, Reads};
 
@@ -16,22 +17,33 @@ use crate::fields::{read_bytes, read_u8, read_u32, read_u64};
 use crate::kind::Kind;
 use crate::name::Name;
 use crate::shelf::{MAX_LIMIT, Shelf};
+use crate::version::Version;
 use judy_pipe::Source;
 
 // The most bytes of a name. (This project's own.)
 const MAX_NAME_LEN: usize = 32;
 
-// Reads the first bytes of every dump.
-pub(crate) fn read_magic<R: Source>(source: &mut R) -> Result<(), LoadFault>
+// Reads the first bytes of a dump, which name its format.
+pub(crate) fn read_magic<R: Source>(source: &mut R) -> Result<Version, LoadFault>
     requires { (R.tally source.old).failures < 2 ^ 64 - 1 }
-    ensures { Reads (λ _. magic) grammar.begins (drawn (R.given source.old) (R.ended source.old) (R.tally source.old).failures) result (drawn (R.given source.new) (R.ended source.new) (R.tally source.new).failures) }
+    ensures { Reads format_of grammar.begins (drawn (R.given source.old) (R.ended source.old) (R.tally source.old).failures) result (drawn (R.given source.new) (R.ended source.new) (R.tally source.new).failures) }
 {
     let mut bytes = [0; 4];
     read_bytes(source, &mut bytes)?;
-    if bytes != *b"JDY1" {
-        return Err(LoadFault::BadMagic);
+    named_version(bytes).ok_or(LoadFault::BadMagic)
+}
+
+// The format that four bytes name, if they name one.
+fn named_version(named: [u8; 4]) -> Option<Version>
+    ensures { MatchOption result (IsFalse (is_magic named)) (λ version. named ≡ magic (format_of version)) }
+{
+    if named == *b"JDY1" {
+        Some(Version::First)
+    } else if named == *b"JDY2" {
+        Some(Version::Second)
+    } else {
+        None
     }
-    Ok(())
 }
 
 // Reads how many arrays follow.

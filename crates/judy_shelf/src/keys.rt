@@ -1,7 +1,7 @@
 //! The keys of a dump that are byte strings: each is read into one fixed buffer, and the one before it is kept in
 //! another.
 
-ghost use Rattle.std.specs.Prelude.{◌≡◌, ◌≢◌, ◌<◌, ◌≤◌, ◌-◌, ◌^◌, ◌∷◌, [], not, ◌==◌, IfOk, IsTrue, None, Some, length, take, nat_le};
+ghost use Rattle.std.specs.Prelude.{◌≡◌, ◌≢◌, ◌<◌, ◌≤◌, ◌-◌, ◌^◌, ◌∷◌, [], not, ◌==◌, IfOk, IsTrue, None, Some, length, take, nat_le, unwrap_or};
 ghost use Rattle.std.specs.List.{list_all};
 ghost use Rattle.judy_model.specs.Keys.{byte_order};
 ghost use Rattle.judy_model.specs.DumpText.{length_order};
@@ -10,9 +10,12 @@ ghost use Rattle.judy_model.specs.DumpGrammar as grammar;
 ghost use Rattle.judy_model.specs.DumpGrammar.{is_above};
 ghost use Rattle.judy_shelf.specs.Reads.{drawn, Reads};
 ghost use Rattle.judy_shelf.specs.LastKeys.{last_key};
+ghost use Rattle.judy_shelf.specs.Versions.{format_of};
 
 use crate::fault::LoadFault;
 use crate::fields::{read_bytes, read_u16};
+use crate::fronts::read_string_behind_front;
+use crate::version::Version;
 use judy_pipe::Source;
 use judy_sl::KeyBuf;
 
@@ -45,6 +48,18 @@ impl LastKey {
         self.bytes.clear();
         let _ = self.bytes.try_extend_from_slice(key);
         self.is_some = true;
+    }
+
+    // The bytes of the key, or none.
+    pub(crate) fn front(&self) -> &[u8]
+        ensures bytes { result.now ≡ unwrap_or (last_key self.now) [] }
+        ensures most { length result.now ≤ 1024 }
+    {
+        if self.is_some {
+            self.bytes.as_slice()
+        } else {
+            &[]
+        }
     }
 
     // Whether a key is greater, as byte strings are ordered.
@@ -89,9 +104,10 @@ fn read_key<R: Source>(source: &mut R, room: &mut [u8]) -> Result<usize, LoadFau
     Ok(len)
 }
 
-// Reads a key of a judysl array, which is greater than the last one.
+// Reads a key of a judysl array in a format, which is greater than the last one.
 pub(crate) fn read_string_after<R: Source>(
     source: &mut R,
+    version: Version,
     last: &LastKey,
     room: &mut [u8],
 ) -> Result<usize, LoadFault>
@@ -100,15 +116,45 @@ pub(crate) fn read_string_after<R: Source>(
     ensures room { length room.new ≡ 1024 }
     ensures most { IfOk result (λ len. len ≤ 1024) }
     ensures above { IfOk result (λ len. IsTrue (is_above byte_order (last_key last.now) (take len room.new))) }
-    ensures read { Reads (λ len. take len room.new) (field grammar.string_without_zero ((is_above byte_order (last_key last.now), bad_order) ∷ [])) (drawn (R.given source.old) (R.ended source.old) (R.tally source.old).failures) result (drawn (R.given source.new) (R.ended source.new) (R.tally source.new).failures) }
+    ensures read { Reads (λ len. take len room.new) (field (grammar.string_key (format_of version) (last_key last.now)) ((is_above byte_order (last_key last.now), bad_order) ∷ [])) (drawn (R.given source.old) (R.ended source.old) (R.tally source.old).failures) result (drawn (R.given source.new) (R.ended source.new) (R.tally source.new).failures) }
+{
+    let len = read_string(source, version, last, room)?;
+    if !last.is_before(&room[..len]) {
+        return Err(LoadFault::BadOrder);
+    }
+    Ok(len)
+}
+
+// Reads a key of a judysl array in a format, by the last one.
+fn read_string<R: Source>(
+    source: &mut R,
+    version: Version,
+    last: &LastKey,
+    room: &mut [u8],
+) -> Result<usize, LoadFault>
+    requires below { (R.tally source.old).failures < 2 ^ 64 - 1 }
+    requires fits { length room.old ≡ 1024 }
+    ensures room { length room.new ≡ 1024 }
+    ensures most { IfOk result (λ len. len ≤ 1024) }
+    ensures read { Reads (λ len. take len room.new) (grammar.string_key (format_of version) (last_key last.now)) (drawn (R.given source.old) (R.ended source.old) (R.tally source.old).failures) result (drawn (R.given source.new) (R.ended source.new) (R.tally source.new).failures) }
+{
+    match version {
+        Version::First => read_whole_string(source, room),
+        Version::Second => read_string_behind_front(source, last.front(), room),
+    }
+}
+
+// Reads a key of a judysl array that is written whole.
+fn read_whole_string<R: Source>(source: &mut R, room: &mut [u8]) -> Result<usize, LoadFault>
+    requires below { (R.tally source.old).failures < 2 ^ 64 - 1 }
+    requires fits { length room.old ≡ 1024 }
+    ensures room { length room.new ≡ 1024 }
+    ensures most { IfOk result (λ len. len ≤ 1024) }
+    ensures read { Reads (λ len. take len room.new) grammar.string_without_zero (drawn (R.given source.old) (R.ended source.old) (R.tally source.old).failures) result (drawn (R.given source.new) (R.ended source.new) (R.tally source.new).failures) }
 {
     let len = read_key(source, room)?;
-    let key = &room[..len];
-    if !is_without_zero(key) {
+    if !is_without_zero(&room[..len]) {
         return Err(LoadFault::BadKey);
-    }
-    if !last.is_before(key) {
-        return Err(LoadFault::BadOrder);
     }
     Ok(len)
 }
@@ -134,7 +180,7 @@ pub(crate) fn read_bytes_after<R: Source>(
 }
 
 // Whether no byte of a key is zero.
-fn is_without_zero(key: &[u8]) -> bool
+pub(crate) fn is_without_zero(key: &[u8]) -> bool
     ensures { result ≡ list_all (λ byte. not (byte == 0)) key.now }
 {
     key.iter().all(|byte| *byte != 0)

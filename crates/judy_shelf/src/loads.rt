@@ -9,7 +9,8 @@ ghost use Rattle.judy_model.specs.DumpGrammar as grammar;
 ghost use Rattle.judy_model.specs.Stores.{array_named};
 ghost use Rattle.judy_shelf.specs.Arrays.{value_of};
 ghost use Rattle.judy_shelf.specs.Shelves.{store_of};
-ghost use Rattle.judy_shelf.specs.Reads.{drawn, up_to_end, ReadsWanting, AtSome, InBody, InArray, InArrays, InStore, Loaded};
+ghost use Rattle.judy_shelf.specs.Reads.{drawn, counted, ReadsWanting, AtSome, InBody, InArray, InArrays, InCounted, Loaded};
+ghost use Rattle.judy_shelf.specs.Versions.{format_of};
 ghost use Rattle.judy_shelf.specs.Writes.{kind_number};
 
 use crate::array::Array;
@@ -22,17 +23,18 @@ use crate::keys::{LastKey, MAX_KEY_LEN, read_bytes_after, read_string_after};
 use crate::kind::Kind;
 use crate::name::Name;
 use crate::shelf::Shelf;
+use crate::version::Version;
 use judy_hs::{Fnv1a, JudyHs};
 use judy_pipe::Source;
 use judy_sl::JudySl;
 use judy_word::{Judy1, JudyL};
 use std::alloc::Global;
 
-/// Reads a dump in the format JDY1 (this project's own) from its first byte to the end of the source, and gives
-/// the shelf that it is a dump of.
+/// Reads a dump in the format JDY1 or JDY2 (both this project's own), which its first bytes name, from the first
+/// byte to the end of the source, and gives the shelf that it is a dump of.
 ///
-/// At Ok what the source gave in the call is the dump of the shelf's store, which is regular, and its last read
-/// gave the end. Every other answer is the first fault in the order of the fields: what the source gave has that
+/// At Ok what the source gave in the call is the dump of the shelf's store in one of the formats, and the store is
+/// regular; the source's last read gave the end. Every other answer is the first fault in the order of the fields: what the source gave has that
 /// fault, whatever came after it, and no proper front of it has one, but that it is cut off; `Truncated` comes only
 /// where the source's last read gave the end. `Read` comes only where the source failed, which it then did once, and
 /// what it gave before has no fault, but that it may be cut off; `NoMemory` where there is none for an array or a key,
@@ -44,19 +46,23 @@ pub fn load<R: Source>(alloc: Global, source: &mut R) -> Result<Shelf, LoadFault
     requires { (R.tally source.old).failures < 2 ^ 64 - 1 }
     ensures { Loaded (drawn (R.given source.old) (R.ended source.old) (R.tally source.old).failures) result (drawn (R.given source.new) (R.ended source.new) (R.tally source.new).failures) }
 {
-    let shelf = read_store(alloc, source)?;
+    let version = read_magic(source)?;
+    let shelf = read_store(alloc, source, version)?;
     read_end(source)?;
     Ok(shelf)
 }
 
-// Reads all of a dump but its end.
-fn read_store<R: Source>(alloc: Global, source: &mut R) -> Result<Shelf, LoadFault>
+// Reads all of a dump but its first bytes and its end.
+fn read_store<R: Source>(
+    alloc: Global,
+    source: &mut R,
+    version: Version,
+) -> Result<Shelf, LoadFault>
     requires { (R.tally source.old).failures < 2 ^ 64 - 1 }
-    ensures { ReadsWanting InStore store_of up_to_end (drawn (R.given source.old) (R.ended source.old) (R.tally source.old).failures) result (drawn (R.given source.new) (R.ended source.new) (R.tally source.new).failures) }
+    ensures { ReadsWanting (InCounted (format_of version)) store_of (counted (format_of version)) (drawn (R.given source.old) (R.ended source.old) (R.tally source.old).failures) result (drawn (R.given source.new) (R.ended source.new) (R.tally source.new).failures) }
 {
-    read_magic(source)?;
     let count = read_array_count(source)?;
-    read_arrays(alloc, source, count)
+    read_arrays(alloc, source, version, count)
 }
 
 // Reads the keys of a set, so many.
@@ -69,7 +75,7 @@ fn read_set<R: Source>(
     requires below { (R.tally source.old).failures < 2 ^ 64 - 1 }
     requires some { 1 ≤ limit }
     requires most { limit ≤ 4294967295 }
-    ensures { ReadsWanting (AtSome (λ listed. grammar.filled judy1 limit (grammar.entries word_order grammar.word grammar.no_value None listed)) count) (λ set. judy1 (array_of set)) (grammar.filled judy1 limit (grammar.entries word_order grammar.word grammar.no_value None count)) (drawn (R.given source.old) (R.ended source.old) (R.tally source.old).failures) result (drawn (R.given source.new) (R.ended source.new) (R.tally source.new).failures) }
+    ensures { ReadsWanting (AtSome (λ listed. grammar.filled judy1 limit (grammar.entries word_order (λ before. grammar.word) grammar.no_value None listed)) count) (λ set. judy1 (array_of set)) (grammar.filled judy1 limit (grammar.entries word_order (λ before. grammar.word) grammar.no_value None count)) (drawn (R.given source.old) (R.ended source.old) (R.tally source.old).failures) result (drawn (R.given source.new) (R.ended source.new) (R.tally source.new).failures) }
 {
     let mut set = Judy1::new(alloc, limit);
     let mut before = None;
@@ -93,18 +99,17 @@ fn read_words<R: Source>(
     requires below { (R.tally source.old).failures < 2 ^ 64 - 1 }
     requires some { 1 ≤ limit }
     requires most { limit ≤ 4294967295 }
-    ensures { ReadsWanting (AtSome (λ listed. grammar.filled judyl limit (grammar.entries word_order grammar.word grammar.word None listed)) count) (λ words. judyl (array_of words)) (grammar.filled judyl limit (grammar.entries word_order grammar.word grammar.word None count)) (drawn (R.given source.old) (R.ended source.old) (R.tally source.old).failures) result (drawn (R.given source.new) (R.ended source.new) (R.tally source.new).failures) }
+    ensures { ReadsWanting (AtSome (λ listed. grammar.filled judyl limit (grammar.entries word_order (λ before. grammar.word) grammar.word None listed)) count) (λ words. judyl (array_of words)) (grammar.filled judyl limit (grammar.entries word_order (λ before. grammar.word) grammar.word None count)) (drawn (R.given source.old) (R.ended source.old) (R.tally source.old).failures) result (drawn (R.given source.new) (R.ended source.new) (R.tally source.new).failures) }
 {
     let mut words = JudyL::new(alloc, limit);
     let mut before = None;
     'keys: for _ in 0..count {
         let key = read_word_after(source, before)?;
         let value = read_u64(source)?;
-        match words.ins(key) {
-            Ok(slot) => *slot = value,
+        match words.put(key, value) {
+            Ok(_) => before = Some(key),
             Err(_) => return Err(LoadFault::NoMemory),
         }
-        before = Some(key);
     }
     Ok(words)
 }
@@ -113,19 +118,20 @@ fn read_words<R: Source>(
 fn read_strings<R: Source>(
     alloc: Global,
     source: &mut R,
+    version: Version,
     limit: u64,
     count: u64,
 ) -> Result<JudySl, LoadFault>
     requires below { (R.tally source.old).failures < 2 ^ 64 - 1 }
     requires some { 1 ≤ limit }
     requires most { limit ≤ 4294967295 }
-    ensures { ReadsWanting (AtSome (λ listed. grammar.filled judysl limit (grammar.entries byte_order grammar.string_without_zero grammar.word None listed)) count) judysl (grammar.filled judysl limit (grammar.entries byte_order grammar.string_without_zero grammar.word None count)) (drawn (R.given source.old) (R.ended source.old) (R.tally source.old).failures) result (drawn (R.given source.new) (R.ended source.new) (R.tally source.new).failures) }
+    ensures { ReadsWanting (AtSome (λ listed. grammar.filled judysl limit (grammar.entries byte_order (grammar.string_key (format_of version)) grammar.word None listed)) count) judysl (grammar.filled judysl limit (grammar.entries byte_order (grammar.string_key (format_of version)) grammar.word None count)) (drawn (R.given source.old) (R.ended source.old) (R.tally source.old).failures) result (drawn (R.given source.new) (R.ended source.new) (R.tally source.new).failures) }
 {
     let mut strings = JudySl::new(alloc, limit);
     let mut last = LastKey::new();
     let mut room = [0; MAX_KEY_LEN];
     'keys: for _ in 0..count {
-        let len = read_string_after(source, &last, &mut room)?;
+        let len = read_string_after(source, version, &last, &mut room)?;
         let value = read_u64(source)?;
         let key = &room[..len];
         match strings.ins(key) {
@@ -147,7 +153,7 @@ fn read_byte_strings<R: Source>(
     requires below { (R.tally source.old).failures < 2 ^ 64 - 1 }
     requires some { 1 ≤ limit }
     requires most { limit ≤ 4294967295 }
-    ensures { ReadsWanting (AtSome (λ listed. grammar.filled judyhs limit (grammar.entries length_order grammar.string grammar.word None listed)) count) judyhs (grammar.filled judyhs limit (grammar.entries length_order grammar.string grammar.word None count)) (drawn (R.given source.old) (R.ended source.old) (R.tally source.old).failures) result (drawn (R.given source.new) (R.ended source.new) (R.tally source.new).failures) }
+    ensures { ReadsWanting (AtSome (λ listed. grammar.filled judyhs limit (grammar.entries length_order (λ before. grammar.string) grammar.word None listed)) count) judyhs (grammar.filled judyhs limit (grammar.entries length_order (λ before. grammar.string) grammar.word None count)) (drawn (R.given source.old) (R.ended source.old) (R.tally source.old).failures) result (drawn (R.given source.new) (R.ended source.new) (R.tally source.new).failures) }
 {
     let mut strings = JudyHs::new(alloc, limit, Fnv1a);
     let mut last = LastKey::new();
@@ -166,20 +172,21 @@ fn read_byte_strings<R: Source>(
 }
 
 // Reads what stands behind an array's name.
-fn read_body<R: Source>(alloc: Global, source: &mut R) -> Result<Array, LoadFault>
+fn read_body<R: Source>(alloc: Global, source: &mut R, version: Version) -> Result<Array, LoadFault>
     requires { (R.tally source.old).failures < 2 ^ 64 - 1 }
-    ensures { ReadsWanting InBody value_of grammar.body (drawn (R.given source.old) (R.ended source.old) (R.tally source.old).failures) result (drawn (R.given source.new) (R.ended source.new) (R.tally source.new).failures) }
+    ensures { ReadsWanting (InBody (format_of version)) value_of (grammar.body (format_of version)) (drawn (R.given source.old) (R.ended source.old) (R.tally source.old).failures) result (drawn (R.given source.new) (R.ended source.new) (R.tally source.new).failures) }
 {
     let kind = read_kind(source)?;
     let limit = read_limit(source)?;
     let count = read_key_count(source, limit)?;
-    read_contents(alloc, source, kind, limit, count)
+    read_contents(alloc, source, version, kind, limit, count)
 }
 
 // Reads the keys of an array of a kind, so many.
 fn read_contents<R: Source>(
     alloc: Global,
     source: &mut R,
+    version: Version,
     kind: Kind,
     limit: u64,
     count: u64,
@@ -187,12 +194,12 @@ fn read_contents<R: Source>(
     requires below { (R.tally source.old).failures < 2 ^ 64 - 1 }
     requires some { 1 ≤ limit }
     requires most { limit ≤ 4294967295 }
-    ensures { ReadsWanting (AtSome (grammar.contents (kind_number kind) limit) count) value_of (grammar.contents (kind_number kind) limit count) (drawn (R.given source.old) (R.ended source.old) (R.tally source.old).failures) result (drawn (R.given source.new) (R.ended source.new) (R.tally source.new).failures) }
+    ensures { ReadsWanting (AtSome (grammar.contents (format_of version) (kind_number kind) limit) count) value_of (grammar.contents (format_of version) (kind_number kind) limit count) (drawn (R.given source.old) (R.ended source.old) (R.tally source.old).failures) result (drawn (R.given source.new) (R.ended source.new) (R.tally source.new).failures) }
 {
     match kind {
         Kind::Judy1 => Ok(Array::Judy1(read_set(alloc, source, limit, count)?)),
         Kind::JudyL => Ok(Array::JudyL(read_words(alloc, source, limit, count)?)),
-        Kind::JudySl => Ok(Array::JudySl(read_strings(alloc, source, limit, count)?)),
+        Kind::JudySl => Ok(Array::JudySl(read_strings(alloc, source, version, limit, count)?)),
         Kind::JudyHs => Ok(Array::JudyHs(read_byte_strings(alloc, source, limit, count)?)),
     }
 }
@@ -201,26 +208,32 @@ fn read_contents<R: Source>(
 fn read_array<R: Source>(
     alloc: Global,
     source: &mut R,
+    version: Version,
     shelf: &Shelf,
 ) -> Result<(Name, Array), LoadFault>
     requires { (R.tally source.old).failures < 2 ^ 64 - 1 }
     ensures new { IfOk result (λ made. array_named shelf.now made.0 ≡ None) }
-    ensures read { ReadsWanting (InArray (store_of shelf.now)) (λ made. (made.0, value_of made.1)) (grammar.array (store_of shelf.now)) (drawn (R.given source.old) (R.ended source.old) (R.tally source.old).failures) result (drawn (R.given source.new) (R.ended source.new) (R.tally source.new).failures) }
+    ensures read { ReadsWanting (InArray (format_of version) (store_of shelf.now)) (λ made. (made.0, value_of made.1)) (grammar.array (format_of version) (store_of shelf.now)) (drawn (R.given source.old) (R.ended source.old) (R.tally source.old).failures) result (drawn (R.given source.new) (R.ended source.new) (R.tally source.new).failures) }
 {
     let name = read_name(source, shelf)?;
-    let array = read_body(alloc, source)?;
+    let array = read_body(alloc, source, version)?;
     Ok((name, array))
 }
 
 // Reads so many arrays.
-fn read_arrays<R: Source>(alloc: Global, source: &mut R, count: u32) -> Result<Shelf, LoadFault>
+fn read_arrays<R: Source>(
+    alloc: Global,
+    source: &mut R,
+    version: Version,
+    count: u32,
+) -> Result<Shelf, LoadFault>
     requires below { (R.tally source.old).failures < 2 ^ 64 - 1 }
     requires few { count ≤ 64 }
-    ensures { ReadsWanting (InArrays count) store_of (grammar.arrays [] count) (drawn (R.given source.old) (R.ended source.old) (R.tally source.old).failures) result (drawn (R.given source.new) (R.ended source.new) (R.tally source.new).failures) }
+    ensures { ReadsWanting (InArrays (format_of version) count) store_of (grammar.arrays (format_of version) [] count) (drawn (R.given source.old) (R.ended source.old) (R.tally source.old).failures) result (drawn (R.given source.new) (R.ended source.new) (R.tally source.new).failures) }
 {
     let mut shelf = Shelf::new(alloc);
     'arrays: for _ in 0..count {
-        let (name, array) = read_array(alloc, source, &shelf)?;
+        let (name, array) = read_array(alloc, source, version, &shelf)?;
         match shelf.add(name, array) {
             Ok(()) => {}
             Err(_) => return Err(LoadFault::NoMemory),

@@ -4,14 +4,18 @@ ghost use Rattle.std.specs.Prelude.{◌≡◌, ◌<◌, ◌≤◌, ◌+◌, ◌-
 ghost use Rattle.judy_model.specs.Arrays.{limit_of, len_of};
 ghost use Rattle.judy_model.specs.WordBytes.{low_bytes};
 ghost use Rattle.judy_model.specs.DumpText as text;
+ghost use Rattle.judy_model.specs.DumpText.{jdy2};
 ghost use Rattle.judy_shelf.specs.Arrays.{value_of};
+ghost use Rattle.judy_shelf.specs.Versions.{format_of};
 ghost use Rattle.judy_shelf.specs.Writes.{sunk, Wrote, kind_number};
 ghost use Rattle.arrayvec.specs.ArrayVec.{array_vec_len};
 
 use crate::array::Array;
+use crate::fronts::shared_len;
 use crate::kind::Kind;
 use crate::name::Name;
 use crate::shelf::Shelf;
+use crate::version::Version;
 use arrayvec::ArrayVec;
 use byteorder::{BigEndian, ByteOrder};
 use judy_pipe::{BrokenPipe, Sink, write_all};
@@ -44,9 +48,47 @@ pub(crate) fn put_string_entry<W: Sink>(
     requires { (W.tally sink.old).failures < 2 ^ 64 - 1 }
     ensures { Wrote (text.string key.now ++ text.word value) (sunk (W.taken sink.old) (W.tally sink.old).failures) result (sunk (W.taken sink.new) (W.tally sink.new).failures) }
 {
-    put(sink, &len_bytes(key.len()))?;
-    put(sink, key)?;
+    put_string(sink, key)?;
     put_word(sink, value)
+}
+
+// Writes a byte string behind its length.
+fn put_string<W: Sink>(sink: &mut W, key: &[u8]) -> Result<(), BrokenPipe>
+    requires { (W.tally sink.old).failures < 2 ^ 64 - 1 }
+    ensures { Wrote (text.string key.now) (sunk (W.taken sink.old) (W.tally sink.old).failures) result (sunk (W.taken sink.new) (W.tally sink.new).failures) }
+{
+    put(sink, &len_bytes(key.len()))?;
+    put(sink, key)
+}
+
+// Writes a key of a judysl array, by the key before it.
+pub(crate) fn put_string_after<W: Sink>(
+    sink: &mut W,
+    version: Version,
+    before: &[u8],
+    key: &[u8],
+) -> Result<(), BrokenPipe>
+    requires { (W.tally sink.old).failures < 2 ^ 64 - 1 }
+    ensures { Wrote (text.string_key (format_of version) before.now key.now) (sunk (W.taken sink.old) (W.tally sink.old).failures) result (sunk (W.taken sink.new) (W.tally sink.new).failures) }
+{
+    match version {
+        Version::First => put_string(sink, key),
+        Version::Second => put_string_behind_front(sink, before, key),
+    }
+}
+
+// Writes how many bytes a key shares with the one before, and the bytes behind them.
+fn put_string_behind_front<W: Sink>(
+    sink: &mut W,
+    before: &[u8],
+    key: &[u8],
+) -> Result<(), BrokenPipe>
+    requires { (W.tally sink.old).failures < 2 ^ 64 - 1 }
+    ensures { Wrote (text.string_key jdy2 before.now key.now) (sunk (W.taken sink.old) (W.tally sink.old).failures) result (sunk (W.taken sink.new) (W.tally sink.new).failures) }
+{
+    let shared = shared_len(before, key);
+    put(sink, &len_bytes(shared))?;
+    put_string(sink, &key[shared..])
 }
 
 // The bytes of a key's length.
@@ -66,14 +108,24 @@ fn word_bytes(word: u64) -> [u8; 8]
     bytes
 }
 
-// The first bytes of every dump, and the number of arrays.
-pub(crate) fn heading(shelf: &Shelf) -> [u8; 8]
-    ensures { result ≡ text.magic ++ low_bytes 4 (length shelf.now) }
+// The first bytes of a dump, which name its format, and the number of arrays.
+pub(crate) fn heading(version: Version, shelf: &Shelf) -> [u8; 8]
+    ensures { result ≡ text.magic (format_of version) ++ low_bytes 4 (length shelf.now) }
 {
     let mut bytes = [0; 8];
-    bytes[..4].copy_from_slice(b"JDY1");
+    bytes[..4].copy_from_slice(magic(version));
     BigEndian::write_u32(&mut bytes[4..], shelf.len() as u32);
     bytes
+}
+
+// The name of a format.
+fn magic(version: Version) -> &'static [u8; 4]
+    ensures { result.now ≡ text.magic (format_of version) }
+{
+    match version {
+        Version::First => b"JDY1",
+        Version::Second => b"JDY2",
+    }
 }
 
 // What stands before an array's keys: its name behind the name's length, its kind, its limit, and how many

@@ -1,1 +1,2 @@
+mod FormatLemmas
 mod Fronts

@@ -1,3 +1,4 @@
 pub mod CommandLines
 pub mod Ends
+pub mod Formats
 pub mod Stops

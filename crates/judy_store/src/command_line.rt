@@ -1,12 +1,13 @@
 //! The command line, read by `clap`.
 
-ghost use Rattle.std.specs.Prelude.{◌≡◌, ℕ, List, [], IfOk, IfErr, OnOk, codes, map, option_map, string_bytes, false};
+ghost use Rattle.std.specs.Prelude.{◌≡◌, ◌≤◌, ℕ, List, [], IfOk, IfErr, OnOk, codes, map, option_map, string_bytes, false};
 ghost use Rattle.clap.specs.Words.{FailsBy, HasKind, Kinds, app_of, first_value, found_of, kind_of, rule_of};
-ghost use Rattle.judy_store.specs.CommandLines.{EndsWords, command_line, option_rule, refusals, script_rule, value_of};
+ghost use Rattle.judy_store.specs.CommandLines.{EndsWords, command_line, file_options, format_given, format_of_text, format_parser, format_rule, option_rule, refusals, script_rule, value_of};
 ghost use Rattle.judy_store.specs.declared.end.End.TheVariants.{NoMemory};
 
 use crate::end::End;
 use crate::request::Options;
+use clap::builder::ValueParser;
 use clap::error::ErrorKind;
 use clap::{Arg, ArgMatches, Command, Error};
 use std::alloc::{AllocError, Global};
@@ -45,11 +46,12 @@ judystore(1) tells more.";
 
 /// Reads the words of a command line, the program's name first, by the meaning that `clap` gives them.
 ///
-/// At Ok the words are taken, and these are the files that they name. Else it ends with `Help` where they ask for
+/// At Ok the words are taken, and these are the files and the format that they name. Else it ends with `Help` where they ask for
 /// help, with `BadWords` where something is wrong with them, each with clap's text, or with `NoMemory`.
 pub fn options(alloc: Global, words: &[String]) -> Result<Options, End>
     ensures load { IfOk result (λ options. option_map string_bytes options.load ≡ value_of (codes "load") (map string_bytes words.now)) }
     ensures dump { IfOk result (λ options. option_map string_bytes options.dump ≡ value_of (codes "dump") (map string_bytes words.now)) }
+    ensures format { IfOk result (λ options. options.format ≡ format_given (value_of (codes "format") (map string_bytes words.now))) }
     ensures script { IfOk result (λ options. option_map string_bytes options.script ≡ value_of (codes "script") (map string_bytes words.now)) }
     ensures taken { OnOk result (refusals (map string_bytes words.now) ≡ []) }
     ensures refused { IfErr result (EndsWords (refusals (map string_bytes words.now))) }
@@ -61,6 +63,7 @@ pub fn options(alloc: Global, words: &[String]) -> Result<Options, End>
     Ok(Options {
         load: value(alloc, &matches, "load")?,
         dump: value(alloc, &matches, "dump")?,
+        format: format(&matches),
         script: value(alloc, &matches, "script")?,
     })
 }
@@ -77,12 +80,20 @@ fn matched<'a>(alloc: Global, words: &'a [String]) -> Result<ArgMatches<'a>, Err
 fn make_command<'a>(alloc: Global) -> Result<Command<'a>, AllocError>
     ensures app { IfOk result (λ command. app_of command ≡ command_line) }
 {
+    make_file_options(alloc)?
+        .arg(format_argument(alloc))?
+        .arg(script_argument(alloc))
+}
+
+// The command with the options whose values are files.
+fn make_file_options<'a>(alloc: Global) -> Result<Command<'a>, AllocError>
+    ensures app { IfOk result (λ command. app_of command ≡ file_options) }
+{
     Command::new(alloc, "judystore")
         .about(ABOUT)
         .after_help(COMMANDS)
         .arg(load_argument(alloc))?
-        .arg(dump_argument(alloc))?
-        .arg(script_argument(alloc))
+        .arg(dump_argument(alloc))
 }
 
 fn load_argument<'a>(alloc: Global) -> Arg<'a>
@@ -104,6 +115,25 @@ fn dump_argument<'a>(alloc: Global) -> Arg<'a>
         .help("Write the store to this file at the end")
 }
 
+fn format_argument<'a>(alloc: Global) -> Arg<'a>
+    ensures rule { rule_of result ≡ format_rule }
+    ensures local { result.global ≡ false }
+{
+    Arg::new(alloc, "format")
+        .long("format")
+        .value_name("N")
+        .default_value("1")
+        .value_parser(formats())
+        .help("The format of that dump, 1 or 2")
+}
+
+// What clap takes as a format.
+fn formats<'a>() -> ValueParser<'a>
+    ensures { result ≡ format_parser }
+{
+    ValueParser::unsigned(1, 2)
+}
+
 fn script_argument<'a>(alloc: Global) -> Arg<'a>
     ensures rule { rule_of result ≡ script_rule }
     ensures local { result.global ≡ false }
@@ -111,6 +141,26 @@ fn script_argument<'a>(alloc: Global) -> Arg<'a>
     Arg::new(alloc, "script")
         .value_name("SCRIPT")
         .help("The script to run; without one, standard input")
+}
+
+// The format that the matches give.
+fn format(matches: &ArgMatches<'_>) -> u64
+    ensures { result ≡ format_given (first_value (found_of matches.now) (codes "format")) }
+{
+    match matches.get_str("format") {
+        None => 1,
+        Some(text) => format_of_text(text),
+    }
+}
+
+// The number of a format that a text spells; 1 where it spells none.
+fn format_of_text(text: &str) -> u64
+    ensures { result ≡ format_of_text text.now }
+{
+    match text.parse::<u64>() {
+        Ok(number) if 1 <= number && number <= 2 => number,
+        _ => 1,
+    }
 }
 
 // The value of an argument, in memory of its own.

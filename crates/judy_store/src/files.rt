@@ -2,7 +2,7 @@
 
 use crate::end::End;
 use std::alloc::Global;
-use std::fs::File;
+use std::fs::{File, OpenOptions};
 use std::io;
 use std::os::fd::AsRawFd;
 
@@ -19,11 +19,17 @@ pub fn open(rt: &HostRuntime, name: &str) -> Result<File, End> {
     }
 }
 
-/// Creates the file of that name to write it; one that is there is emptied.
+/// Opens the file of that name to write it; one that isn't there is created.
 ///
 /// The one error is `Open`, or `NoMemory` where there is none for the name that it tells.
 pub fn create(rt: &HostRuntime, name: &str) -> Result<File, End> {
-    match File::create(rt, name).and_then(beside_streams) {
+    let mut how = OpenOptions::new();
+    match how
+        .write(true)
+        .create(true)
+        .open(rt, name)
+        .and_then(beside_streams)
+    {
         Ok(file) => Ok(file),
         Err(_) => Err(not_opened(rt.alloc(), name)),
     }

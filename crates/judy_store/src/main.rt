@@ -7,13 +7,14 @@
 //! tell no bytes.
 //!
 //! command_line.rt reads the words into what request.rt has, and work.rt does what they ask, in the program's order:
-//! files.rt opens the files, pipes.rt has the pipes over them, and store.rt what is done with these. end.rt tells how
+//! files.rt opens the files, dump_file.rt has the one that is written, pipes.rt has the pipes over them, and store.rt what is done with these. end.rt tells how
 //! the program ends.
 #![tactic(auto)]
 
 ghost use Rattle.std.specs.Prelude.{◌<◌, ◌-◌, ◌^◌};
 
 mod command_line;
+mod dump_file;
 mod end;
 mod files;
 mod pipes;

@@ -6,12 +6,13 @@ ghost use Rattle.judy_model.specs.RunEnds.{RanToEnd, LeftBy};
 ghost use Rattle.judy_pipe.specs.Pipe.{told};
 ghost use Rattle.judy_shelf.specs.Shelves.{store_of};
 ghost use Rattle.judy_shelf.specs.Writes.{sunk, Dumped};
+ghost use Rattle.judy_store.specs.Formats.{version_of};
 ghost use Rattle.judy_script.specs.RunEnds.{Since, fault_of, read_failures};
 ghost use Rattle.judy_store.specs.Ends.{EndsRun, HandsOn};
 
 use judy_pipe::{Sink, Source};
 use judy_script::{RunFault, run};
-use judy_shelf::{DumpFault, Shelf, dump};
+use judy_shelf::{DumpFault, Shelf, dump, dump2};
 
 /// Runs the script that a source gives, of at most `max_bytes` bytes, and hands its answers on.
 ///
@@ -48,15 +49,30 @@ pub fn run_store<R: Source, W: Sink>(
     }
 }
 
-/// Writes the dump of a shelf, and hands it on.
+/// Writes the dump of a shelf in the format of a number, 2 for JDY2 and else JDY1, and hands it on.
 ///
 /// At Ok the sink took the dump of the store that the shelf is, and keeps nothing of it back. The faults are those
-/// of `dump`; it is `Write` too where the dump was given and its last bytes couldn't be handed on.
-pub fn dump_store<W: Sink>(shelf: &Shelf, sink: &mut W) -> Result<(), DumpFault>
+/// of `dump` and `dump2`; it is `Write` too where the dump was given and its last bytes couldn't be handed on.
+pub fn dump_store<W: Sink>(format: u64, shelf: &Shelf, sink: &mut W) -> Result<(), DumpFault>
     requires { (W.tally sink.old).failures < 2 ^ 64 - 1 }
-    ensures dumped { Dumped shelf.now (sunk (W.taken sink.old) (W.tally sink.old).failures) result (sunk (W.taken sink.new) (W.tally sink.new).failures) }
+    ensures dumped { Dumped (version_of format) shelf.now (sunk (W.taken sink.old) (W.tally sink.old).failures) result (sunk (W.taken sink.new) (W.tally sink.new).failures) }
     ensures handed_on { OnOk result (W.kept sink.new ≡ []) }
 {
-    dump(shelf, sink)?;
-    sink.flush().map_err(|_| DumpFault::Write)
+    dump_format(format, shelf, sink)?;
+    match sink.flush() {
+        Ok(()) => Ok(()),
+        Err(_) => Err(DumpFault::Write),
+    }
+}
+
+// Writes the dump of a shelf in the format of a number.
+fn dump_format<W: Sink>(format: u64, shelf: &Shelf, sink: &mut W) -> Result<(), DumpFault>
+    requires { (W.tally sink.old).failures < 2 ^ 64 - 1 }
+    ensures { Dumped (version_of format) shelf.now (sunk (W.taken sink.old) (W.tally sink.old).failures) result (sunk (W.taken sink.new) (W.tally sink.new).failures) }
+{
+    if format == 2 {
+        dump2(shelf, sink)
+    } else {
+        dump(shelf, sink)
+    }
 }

@@ -1,12 +1,13 @@
 //! What the program does with its files, in its order. Each file is opened when it is its turn.
 
+use crate::dump_file::DumpFile;
 use crate::end::End;
 use crate::files;
 use crate::pipes::{ReadSource, WriteSink};
 use crate::request::Options;
 use crate::store::{dump_store, run_store};
 use judy_pipe::{BufferedSink, BufferedSource};
-use judy_shelf::{Shelf, load};
+use judy_shelf::{DumpFault, Shelf, load};
 use std::io::Read;
 
 // The most bytes of a script. (This project's own.)
@@ -27,7 +28,7 @@ pub fn serve(rt: &HostRuntime, options: &Options) -> Result<(), End> {
         None => answer(rt, rt.stdin(), &mut shelf)?,
     }
     match &options.dump {
-        Some(name) => dumped(rt, name.as_str(), &shelf),
+        Some(name) => dumped(rt, name.as_str(), options.format, &shelf),
         None => Ok(()),
     }
 }
@@ -46,9 +47,15 @@ fn answer<R: Read + Drop>(rt: &HostRuntime, script: R, shelf: &mut Shelf) -> Res
     run_store(&mut source, shelf, &mut sink, MAX_SCRIPT_LEN).map_err(End::Run)
 }
 
-// Writes the dump of a shelf to the file of that name.
-fn dumped(rt: &HostRuntime, name: &str, shelf: &Shelf) -> Result<(), End> {
-    let file = WriteSink::new(files::create(rt, name)?);
-    let mut sink = BufferedSink::<_, BUFFER_LEN>::new(file);
-    dump_store(shelf, &mut sink).map_err(End::Dump)
+// Writes the dump of a shelf in a format to the file of that name. A file that isn't kept didn't take it.
+fn dumped(rt: &HostRuntime, name: &str, format: u64, shelf: &Shelf) -> Result<(), End> {
+    let mut file = DumpFile::new(files::create(rt, name)?);
+    written(&mut file, format, shelf).map_err(End::Dump)?;
+    file.keep().map_err(|_| End::Dump(DumpFault::Write))
+}
+
+// Writes the dump of a shelf in a format to a file.
+fn written(file: &mut DumpFile, format: u64, shelf: &Shelf) -> Result<(), DumpFault> {
+    let mut sink = BufferedSink::<_, BUFFER_LEN>::new(WriteSink::new(file));
+    dump_store(format, shelf, &mut sink)
 }

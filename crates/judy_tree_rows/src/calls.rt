@@ -89,10 +89,22 @@ pub(crate) fn check_call<V: Words + Drop>(
     wanted: Option<u64>,
     most: u64,
 ) {
+    let visits = visits_of(rt, tree, call, word, wanted);
+    at_most(rt, call, word, visits, most);
+}
+
+// Asks a tree about a word, compares the answer, and tells how many nodes the call enters.
+pub(crate) fn visits_of<V: Words + Drop>(
+    rt: &impl Abort,
+    tree: &NodeOf<V>,
+    call: Call,
+    word: u64,
+    wanted: Option<u64>,
+) -> u64 {
     let mut meter = Meter::new(UNMETERED);
     let found = call.ask(tree, word, &mut meter);
     same_answer(rt, call, word, found, wanted);
-    at_most(rt, call, word, meter.visits(), most);
+    meter.visits()
 }
 
 // Compares the answer to a call about a word.

@@ -31,4 +31,6 @@ mod queries;
 #[cfg(test)]
 mod random_trees;
 #[cfg(test)]
+mod sorted;
+#[cfg(test)]
 mod word_arrays;

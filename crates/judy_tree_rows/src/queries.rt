@@ -4,9 +4,9 @@ use crate::array_shapes::set_of;
 use crate::calls::Call::{
     AtOrAfter, AtOrBefore, EmptyAtOrAfter, EmptyAtOrBefore, Lookup, Nth, Rank,
 };
-use crate::calls::{Call, check_call};
+use crate::calls::{Call, check_call, visits_of};
 use crate::nodes::{Grid, check_tree, same_shape, tree_of};
-use crate::plain::note;
+use crate::plain::{note, same};
 use judy_leaf::{Width, Words};
 use judy_node::NodeOf;
 use std::alloc::{AllocError, Global};
@@ -58,6 +58,80 @@ fn visit_bounds(rt: HostRuntime) -> Result<(), Fail> {
     let set = set_of(&rt, rt.alloc(), &pairs);
     same_shape(&rt, set.shape(), [7, 0, 1, 7, 0, 0]);
     ask_all(&rt, set.root(), &EIGHT_LEVELS);
+    Ok(())
+}
+
+const FAR: u64 = 1 << 56;
+
+// For each byte above the last, a key that differs from the ends of the runs in this byte first.
+const FARTHER: [u64; 12] = [
+    FAR - 1 - (1 << 48),
+    FAR - 1 - (1 << 40),
+    FAR - 1 - (1 << 32),
+    FAR - 1 - (1 << 24),
+    FAR - 1 - (1 << 16),
+    FAR - 1 - (1 << 8),
+    FAR + (1 << 8),
+    FAR + (1 << 16),
+    FAR + (1 << 24),
+    FAR + (1 << 32),
+    FAR + (1 << 40),
+    FAR + (1 << 48),
+];
+
+// Runs of 33 keys on both sides of 2^56 with the keys farther off: from the root on eight nodes stand below one another on the way to
+// either run.
+fn beside_far(rt: &impl Abort, alloc: Global, runs: Grid) -> Result<Vec<(u64, u64)>, AllocError> {
+    let mut pairs = runs.pairs::<Width<0>>(rt, alloc)?;
+    for word in FARTHER {
+        note(rt, &mut pairs, word, 0)?;
+    }
+    check_tree::<Width<0>>(rt, alloc, &pairs, [12, 0, 2, 13, 0, 0])?;
+    Ok(pairs)
+}
+
+// Asks each question of a tree, and finds that it enters just so many nodes.
+fn reach_all<V: Words + Drop>(rt: &impl Abort, tree: &NodeOf<V>, table: &[Asked]) {
+    for &(call, word, answer, visits) in table {
+        same(rt, visits_of(rt, tree, call, word, answer), visits, word);
+    }
+}
+
+// The same of the tree of these pairs.
+fn check_reached<V: Words + Drop>(
+    rt: &impl Abort,
+    alloc: Global,
+    pairs: &[(u64, u64)],
+    table: &[Asked],
+) -> Result<(), AllocError> {
+    let tree = tree_of::<V>(rt, alloc, pairs)?;
+    reach_all(rt, &tree, table);
+    Ok(())
+}
+
+const RUNS_THAT_MEET: [Asked; 5] = [
+    (Lookup, FAR, Some(0), 8),
+    (Rank, FAR, Some(39), 8),
+    (Nth, 39, Some(FAR), 8),
+    (EmptyAtOrAfter, FAR - 1, Some(FAR + 33), 15),
+    (EmptyAtOrBefore, FAR, Some(FAR - 34), 15),
+];
+
+const RUNS_APART: [Asked; 2] = [
+    (AtOrAfter, FAR - 1, Some(FAR + 1), 15),
+    (AtOrBefore, FAR, Some(FAR - 2), 15),
+];
+
+// The bounds that are proved, 8 and 15, are reached, so none can be less: the way down to a word ends at the last node, and what is sought
+// stands at the end of the other way.
+#[test]
+fn bounds_on_visits_are_reached(rt: HostRuntime) -> Result<(), Fail> {
+    let meeting = Grid::rows(2, 33, 33, None).starting(FAR - 33);
+    let pairs = beside_far(&rt, rt.alloc(), meeting)?;
+    check_reached::<Width<0>>(&rt, rt.alloc(), &pairs, &RUNS_THAT_MEET)?;
+    let apart = Grid::rows(2, 35, 33, None).starting(FAR - 34);
+    let pairs = beside_far(&rt, rt.alloc(), apart)?;
+    check_reached::<Width<0>>(&rt, rt.alloc(), &pairs, &RUNS_APART)?;
     Ok(())
 }
 

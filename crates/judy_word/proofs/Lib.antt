@@ -7,5 +7,6 @@ mod ExchangeFacts
 mod InsertionFacts
 mod ArrayFacts
 mod EntryFacts
+mod SortedFacts
 pub mod IterFacts
 pub mod TrialLemmas

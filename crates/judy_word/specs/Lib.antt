@@ -6,3 +6,4 @@ pub mod MapSlots
 pub mod Held
 pub mod WordArrays
 pub mod Codes
+pub mod Sorted

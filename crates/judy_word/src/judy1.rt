@@ -231,6 +231,13 @@ impl Judy1 {
         self.tree.is_array();
     }
 
+    // The array that is made of it.
+    pub(crate) fn of(tree: TreeArray<Width<0>>) -> Judy1
+        ensures { result ≡ seen_as tree }
+    {
+        Judy1 { tree }
+    }
+
     // What it is made of.
     pub(crate) fn tree(&self) -> &TreeArray<Width<0>>
         ensures { self.now ≡ seen_as result.now }

@@ -362,6 +362,13 @@ impl JudyL {
         self.tree.by_count_entry(n)
     }
 
+    // The array that is made of it.
+    pub(crate) fn of(tree: TreeArray<Width<1>>) -> JudyL
+        ensures { result ≡ seen_as tree }
+    {
+        JudyL { tree }
+    }
+
     // What it is made of.
     pub(crate) fn tree(&self) -> &TreeArray<Width<1>>
         ensures { self.now ≡ seen_as result.now }

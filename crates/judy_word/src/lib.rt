@@ -8,8 +8,8 @@
 //
 // What lies below both is a `TreeArray`, which is a limit, a tree of judy_node and whether that may be loose: each public call hands
 // on to its calls. tree_array.rt has it, and in the folder of that name stand what is asked of a key (counts.rt), neighbours, the same
-// with values (entries.rt) and empties, all over judy_query; changes, and those that answer the value that was there (values.rt), over judy_change; slots; and the law of what every array keeps
-// (kept.rt). laws.rt has laws of nodes. iter.rt has the iterators, and how an array is printed.
+// with values (entries.rt) and empties, all over judy_query; changes, and those that answer the value that was there (values.rt), over judy_change; slots; arrays made at once of keys that
+// ascend (sorted.rt, in src too); and the law of what every array keeps (kept.rt). laws.rt has laws of nodes. iter.rt has the iterators, and how an array is printed.
 #![tactic(auto)]
 
 mod error;
@@ -17,6 +17,7 @@ mod iter;
 mod judy1;
 mod judyl;
 mod laws;
+mod sorted;
 mod tree_array;
 mod word_map;
 
@@ -28,5 +29,6 @@ pub use laws::{
     a_loaded_map_is_tight, a_loaded_set_is_tight, same_keys_same_nodes,
     same_keys_same_nodes_of_maps,
 };
+pub use sorted::{Keyed, SortedError, check_sorted};
 pub use tree_array::TreeEntries;
 pub use word_map::WordMap;

@@ -20,6 +20,7 @@ mod entries;
 mod kept;
 mod neighbours;
 mod slots;
+mod sorted;
 mod values;
 
 pub use entries::TreeEntries;

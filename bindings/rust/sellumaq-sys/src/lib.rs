@@ -47,6 +47,14 @@ pub struct sellumaq_pair {
     pub value: u64,
 }
 
+/// What a walk tells of a key of bytes: how many these are, and its value.
+#[repr(C)]
+#[derive(Clone, Copy, Debug)]
+pub struct sellumaq_entry {
+    pub length: usize,
+    pub value: u64,
+}
+
 /// The key was there, and nothing changed.
 pub const SELLUMAQ_PRESENT: u32 = 0;
 /// The key was absent, and is there now.
@@ -94,6 +102,12 @@ extern "C" {
         keys: *mut u64,
         capacity: usize,
     ) -> usize;
+    pub fn sellumaq_judy1_from_sorted(
+        set: *mut sellumaq_judy1,
+        keys: *const u64,
+        count: usize,
+        place: *mut usize,
+    ) -> u32;
     pub fn sellumaq_judy1_len(set: *const sellumaq_judy1) -> u64;
     pub fn sellumaq_judy1_count(set: *const sellumaq_judy1, from: u64, to: u64) -> u64;
     pub fn sellumaq_judy1_by_count(set: *const sellumaq_judy1, n: u64, key: *mut u64) -> bool;
@@ -159,6 +173,12 @@ extern "C" {
         pairs: *mut sellumaq_pair,
         capacity: usize,
     ) -> usize;
+    pub fn sellumaq_judyl_from_sorted(
+        map: *mut sellumaq_judyl,
+        pairs: *const sellumaq_pair,
+        count: usize,
+        place: *mut usize,
+    ) -> u32;
     pub fn sellumaq_judyl_len(map: *const sellumaq_judyl) -> u64;
     pub fn sellumaq_judyl_count(map: *const sellumaq_judyl, from: u64, to: u64) -> u64;
     pub fn sellumaq_judyl_by_count(map: *const sellumaq_judyl, n: u64, key: *mut u64) -> bool;
@@ -173,6 +193,19 @@ extern "C" {
         length: usize,
         slot: *mut *mut u64,
     ) -> u32;
+    pub fn sellumaq_judysl_put(
+        map: *mut sellumaq_judysl,
+        key: *const u8,
+        length: usize,
+        value: u64,
+    ) -> u32;
+    pub fn sellumaq_judysl_insert(
+        map: *mut sellumaq_judysl,
+        key: *const u8,
+        length: usize,
+        value: u64,
+        was: *mut u64,
+    ) -> u32;
     pub fn sellumaq_judysl_get(
         map: *const sellumaq_judysl,
         key: *const u8,
@@ -186,6 +219,12 @@ extern "C" {
         slot: *mut *mut u64,
     ) -> bool;
     pub fn sellumaq_judysl_del(map: *mut sellumaq_judysl, key: *const u8, length: usize) -> bool;
+    pub fn sellumaq_judysl_remove(
+        map: *mut sellumaq_judysl,
+        key: *const u8,
+        length: usize,
+        was: *mut u64,
+    ) -> bool;
     pub fn sellumaq_judysl_first(
         map: *const sellumaq_judysl,
         buffer: *mut u8,
@@ -214,6 +253,16 @@ extern "C" {
         length: *mut usize,
         value: *mut u64,
     ) -> u32;
+    pub fn sellumaq_judysl_walk(
+        map: *const sellumaq_judysl,
+        from: *const u8,
+        length: usize,
+        itself: bool,
+        bytes: *mut u8,
+        room: usize,
+        entries: *mut sellumaq_entry,
+        capacity: usize,
+    ) -> usize;
     pub fn sellumaq_judysl_len(map: *const sellumaq_judysl) -> u64;
     pub fn sellumaq_judysl_free(map: *mut sellumaq_judysl) -> u64;
 }
@@ -225,6 +274,19 @@ extern "C" {
         key: *const u8,
         length: usize,
         slot: *mut *mut u64,
+    ) -> u32;
+    pub fn sellumaq_judyhs_put(
+        map: *mut sellumaq_judyhs,
+        key: *const u8,
+        length: usize,
+        value: u64,
+    ) -> u32;
+    pub fn sellumaq_judyhs_insert(
+        map: *mut sellumaq_judyhs,
+        key: *const u8,
+        length: usize,
+        value: u64,
+        was: *mut u64,
     ) -> u32;
     pub fn sellumaq_judyhs_get(
         map: *const sellumaq_judyhs,
@@ -239,6 +301,21 @@ extern "C" {
         slot: *mut *mut u64,
     ) -> bool;
     pub fn sellumaq_judyhs_del(map: *mut sellumaq_judyhs, key: *const u8, length: usize) -> bool;
+    pub fn sellumaq_judyhs_remove(
+        map: *mut sellumaq_judyhs,
+        key: *const u8,
+        length: usize,
+        was: *mut u64,
+    ) -> bool;
+    pub fn sellumaq_judyhs_walk(
+        map: *const sellumaq_judyhs,
+        behind: usize,
+        bytes: *mut u8,
+        room: usize,
+        entries: *mut sellumaq_entry,
+        capacity: usize,
+        count: *mut usize,
+    ) -> bool;
     pub fn sellumaq_judyhs_len(map: *const sellumaq_judyhs) -> u64;
     pub fn sellumaq_judyhs_free(map: *mut sellumaq_judyhs) -> u64;
 }

@@ -1,10 +1,13 @@
-use Rattle.std.proofs.Common.{ap}
-use Rattle.std.specs.Result.{is_ok}
+use Rattle.std.proofs.Common.{Some, sym, ap, ◌∙◌}
+use Rattle.judy_model.proofs.ChangesLemmas.{get-ins_same}
 use Rattle.judy_command.proofs.NamedArrays.{Follows-inserted}
 use Rattle.judy_command.proofs.values.insert.Goals as goal
 
-pub returns-in-Ok : goal.returns-in-Ok
-returns-in-Ok g c =
+pub returns : goal.returns
+returns g c =
     let laws = g.met.M.ValueMap in
-    rw (c.replace.ensures.value, c.replace.ensures.after, c.ins.follows.holds c.args.value (ap is_ok c.in-Ok.is))
-    (Follows-inserted laws.is_total laws.is_antisymmetric g.M.ValueMap.kind_of (g.M.ValueMap.array_of c.args.map.now) (g.M.ValueMap.key_of c.args.key) c.args.value c.in-Ok.slot.now c.in-Ok.ensures.accepted c.in-Ok.ensures.value)
+    let array = g.M.ValueMap.array_of c.args.map.now in
+    let key = g.M.ValueMap.key_of c.args.key in
+    rw c.in_ok-insert.ensures.put
+    (Follows-inserted laws.is_total laws.is_antisymmetric g.M.ValueMap.kind_of array key c.args.value c.in_ok-insert.field-0 c.in_ok-insert.ensures.accepted
+    (ap Some c.in_ok-insert.ensures.was ∙ sym (get-ins_same laws.is_total array.map key)))

@@ -1,47 +1,38 @@
-use Rattle.std.proofs.Common.{◌/◌, ◌%◌, length, get_or, ap, sym, ◌∙◌, arith}
-use Rattle.std.proofs.lemmas.List.{take_all}
-use Rattle.judy_leaf.specs.KeyLists.{low_pairs, with_pair}
-use Rattle.judy_leaf.proofs.BitSteps.{room_for_next, next_is_absent, next_rank, next_pair}
-use Rattle.judy_leaf.proofs.LowPairs.{length-low}
+use Rattle.std.proofs.Common.{◌≡◌, ◌+◌, ◌++◌, length, ap, sym, ◌∙◌, arith}
+use Rattle.judy_leaf.specs.KeyLists.{values_of}
+use Rattle.judy_leaf.proofs.BitsPut.{few_bytes, bits_front, bits_and_values, bits_alone}
 use Rattle.judy_leaf.proofs.bit_edit.put_all.Goals as goal
 
-pub put-requires-clause-absent : goal.put-requires-clause-absent
-put-requires-clause-absent g c =
-    let so_far = c.loop-at.invariant in
-    next_is_absent g.V.Words.WORDS c.loop-at.at (c.args.block.now.tag / 65536) c.args.pairs.now c.loop-at.block so_far.1 so_far.2 c.requires.list c.loop-at-test.true
+pub overflow_cast-pairs : goal.overflow_cast-pairs
+overflow_cast-pairs g c = let few = few_bytes c.args.pairs.now c.requires.list in omega arith
 
-pub put-requires-clause-place : goal.put-requires-clause-place
-put-requires-clause-place g c =
-    let so_far = c.loop-at.invariant in
-    next_rank g.V.Words.WORDS c.loop-at.at (c.args.block.now.tag / 65536) c.args.pairs.now c.loop-at.block so_far.1 so_far.2 c.requires.list c.loop-at-test.true
+pub overflow_add-tag : goal.overflow_add-tag
+overflow_add-tag g c =
+    let few = few_bytes c.args.pairs.now c.requires.list in
+    let most = c.requires.parts.most in
+    let same = c.set_bits.ensures.tag in
+    let tagged = c.tag.ensures.tag in
+    omega arith
 
-pub put-requires-clause-room : goal.put-requires-clause-room
-put-requires-clause-room g c =
-    let so_far = c.loop-at.invariant in
-    let long = length-low 256 c.args.pairs.now in
-    let inside = c.loop-at-test.true in
-    let room = c.requires.room in
-    let same = so_far.0 in
-    room_for_next g.V.Words.WORDS c.loop-at.at (low_pairs 256 c.args.pairs.now) c.loop-at.block (c.args.block.now.tag / 65536) so_far.1 so_far.2 (omega arith) c.loop-at.block.capacity (length c.args.pairs.now) (sym long) (omega arith)
+pub append-requires-clause-front : goal.append-requires-clause-front
+append-requires-clause-front g c = bits_front g.V.Words.WORDS c.args.pairs.now c.args.block.now c.set_bits.new.block c.set_tag.new.self c.requires.parts c.requires.empty c.set_bits.ensures (ap (λ b. b.words) c.set_tag.ensures)
 
-pub loop-at-preserved : goal.loop-at-preserved
-loop-at-preserved g c =
-    let so_far = c.loop-at.invariant in
-    let at = c.loop-at.at in
-    let pair = get_or c.args.pairs.now at (0, 0) in (
-      c.put.ensures.capacity ∙ so_far.0,
-      c.put.ensures.parts,
-      c.put.ensures.list
-          ∙ (λ t. record {
-            width = (so_far.2 t).width;
-            pairs = (ap (λ l. with_pair (pair.0 % 256) pair.1 l.pairs) so_far.2
-                ∙ next_pair g.V.Words.WORDS at (c.args.block.now.tag / 65536) c.args.pairs.now c.loop-at.block so_far.1 so_far.2 c.requires.list c.loop-at-test.true) t;
-          }),
-    )
+pub append-requires-clause-few : goal.append-requires-clause-few
+append-requires-clause-few g c = few_bytes c.args.pairs.now c.requires.list
 
-pub returns-clause-list : goal.returns-clause-list
-returns-clause-list g c =
-    let past = c.loop-at-test.false in
-    let end = c.loop-at.auto.at-end in
-    let long = length-low 256 c.args.pairs.now in
-    c.loop-at.invariant.2 ∙ (λ t. record { width = c.args.block.now.tag / 65536; pairs = take_all c.loop-at.at (low_pairs 256 c.args.pairs.now) (omega arith) t })
+pub returns-then-WORDS-eq1 : goal.returns-then-WORDS-eq1
+returns-then-WORDS-eq1 g c =
+    let done = bits_and_values g.V.Words.WORDS c.args.pairs.now c.args.block.now c.set_bits.new.block c.append.new.block c.requires.parts c.requires.empty (few_bytes c.args.pairs.now c.requires.list) c.set_bits.ensures
+    (ap (λ b. b.tag) c.append.ensures ∙ ap (λ b. b.tag) c.set_tag.ensures ∙ ap (λ n. n + length c.args.pairs.now) c.tag.ensures.tag) (sym c.WORDS.ensures ∙ c.if-WORDS-eq1.true)
+    (ap (λ b. b.words) c.append.ensures ∙ ap (λ b. b.words ++ values_of c.args.pairs.now) c.set_tag.ensures) in
+    record { parts = done.0; list = done.1 }
+
+pub returns-else-WORDS-eq1 : goal.returns-else-WORDS-eq1
+returns-else-WORDS-eq1 g c =
+    let is = c.WORDS.ensures in
+    let most = c.requires.parts.one in
+    let apart = c.if-WORDS-eq1.false in
+    let none : g.V.Words.WORDS ≡ 0 = omega arith in
+    let done = bits_alone g.V.Words.WORDS c.args.pairs.now c.args.block.now c.set_bits.new.block c.set_tag.new.self c.requires.parts c.requires.empty (few_bytes c.args.pairs.now c.requires.list) c.set_bits.ensures
+    (ap (λ b. b.tag) c.set_tag.ensures ∙ ap (λ n. n + length c.args.pairs.now) c.tag.ensures.tag) none (c.requires.no_values none) (ap (λ b. b.words) c.set_tag.ensures) in
+    record { parts = done.0; list = done.1 }

@@ -14,8 +14,8 @@ drop_place-requires-clause-keys g c =
     let taken = key_taken g.row.W c.requires.width c.args.start fewer c.args.at before c.pull_key.new.block (omega arith) keys c.pull_key.ensures in
     record { exact = c.pull_key.ensures.long ∙ c.requires.keys.exact; packed = taken.0 }
 
-pub returns : goal.returns
-returns g c =
+pub returns-else-this-eq1 : goal.returns-else-this-eq1
+returns-else-this-eq1 g c =
     let before = c.args.block.now in
     let fewer = c.args.count - 1 in
     let inside = c.requires.inside in

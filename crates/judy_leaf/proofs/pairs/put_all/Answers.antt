@@ -1,32 +1,25 @@
-use Rattle.std.proofs.Common.{◌≡◌, ◌+◌, ◌*◌, ◌^◌, length, get_or, ap, sym, subst, ◌∙◌, arith}
-use Rattle.std.specs.List.{insert}
-use Rattle.std.proofs.lemmas.List.{take_all}
-use Rattle.judy_leaf.specs.KeyLists.{low_pairs}
-use Rattle.judy_leaf.specs.Leaves.{AreKeysFrom, leaf_list}
-use Rattle.judy_leaf.proofs.Filled.{insert_last}
-use Rattle.judy_leaf.proofs.LowPairs.{length-low, low_at}
+use Rattle.std.proofs.Common.{◌≡◌, ◌++◌, length, ap, sym, ◌∙◌, arith}
+use Rattle.judy_leaf.specs.KeyLists.{values_of}
+use Rattle.judy_leaf.proofs.Appended.{length-values, put_with_values, put_keys_alone}
 use Rattle.judy_leaf.proofs.pairs.put_all.Goals as goal
 
-pub loop-at-preserved : goal.loop-at-preserved
-loop-at-preserved g c =
-    let at = c.loop-at.at in
-    let unit = 256 ^ c.args.width in
-    let so_far = c.loop-at.invariant in
-    let put = c.put.ensures in
-    let long = length-low unit c.args.pairs.now in
-    let inside = c.loop-at-test.true in
-    let pair = get_or c.args.pairs.now at (0, 0) in (
-      put.capacity ∙ so_far.0,
-      put.tag ∙ so_far.1,
-      subst (λ w. AreKeysFrom w (at + 1) (g.V.Words.WORDS * (at + 1)) c.put.new.block) so_far.1 put.are,
-      put.pairs ∙ (λ t. insert (so_far.3 t) at ((ap (λ key. (key, pair.1)) c.low_part.ensures ∙ sym (low_at unit c.args.pairs.now at (0, 0) inside)) t)) ∙ insert_last (low_pairs unit c.args.pairs.now) at (0, 0) (omega arith),
-    )
+pub append-requires-clause-front : goal.append-requires-clause-front
+append-requires-clause-front g c = let none = ap length c.requires.empty in omega arith
 
-pub returns-clause-pairs : goal.returns-clause-pairs
-returns-clause-pairs g c =
-    let n = length c.args.pairs.now in
-    let past = c.loop-at-test.false in
-    let end = c.loop-at.auto.at-end in
-    let long = length-low (256 ^ c.args.width) c.args.pairs.now in
-    let e : n ≡ c.loop-at.at = omega arith in
-    ap (λ k. (leaf_list g.V.Words.WORDS k c.loop-at.block).pairs) e ∙ c.loop-at.invariant.3 ∙ take_all c.loop-at.at (low_pairs (256 ^ c.args.width) c.args.pairs.now) (omega arith)
+pub append-requires-then-WORDS-eq1-clause-behind : goal.append-requires-then-WORDS-eq1-clause-behind
+append-requires-then-WORDS-eq1-clause-behind g c =
+    ap (λ b. length b.words) c.append.ensures ∙ ap (λ words. length (words ++ values_of c.args.pairs.now)) c.requires.empty ∙ length-values c.args.pairs.now
+
+pub returns-then-WORDS-eq1 : goal.returns-then-WORDS-eq1
+returns-then-WORDS-eq1 g c =
+    let done = put_with_values g.V.Words.WORDS c.args.width c.args.pairs.now c.append.new.block c.append-then-WORDS-eq1.new.block (sym c.WORDS.ensures ∙ c.if-WORDS-eq1.true)
+    (ap (λ b. b.tag) c.append.ensures ∙ c.requires.tag) (ap (λ b. b.words) c.append.ensures ∙ ap (λ words. words ++ values_of c.args.pairs.now) c.requires.empty) c.append-then-WORDS-eq1.ensures in
+    record { tag = done.0; keys = done.1; pairs = done.2 }
+
+pub returns-else-WORDS-eq1-clause-pairs : goal.returns-else-WORDS-eq1-clause-pairs
+returns-else-WORDS-eq1-clause-pairs g c =
+    let is = c.WORDS.ensures in
+    let most = c.requires.one in
+    let apart = c.if-WORDS-eq1.false in
+    let none : g.V.Words.WORDS ≡ 0 = omega arith in
+    (put_keys_alone g.V.Words.WORDS c.args.width c.args.pairs.now c.args.block.now c.append-else-WORDS-eq1.new.block none c.requires.tag (c.requires.no_values none) c.append-else-WORDS-eq1.ensures).2

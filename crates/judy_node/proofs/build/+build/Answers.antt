@@ -1,4 +1,4 @@
-use Rattle.std.proofs.Common.{◌≡◌, ◌+◌, ◌-◌, ◌^◌, [], ◌∷◌, ◌++◌, length, drop, sym, refl, ap, ◌∙◌, subst, arith}
+use Rattle.std.proofs.Common.{◌≡◌, ◌+◌, ◌-◌, ◌^◌, ◌<◌, [], ◌∷◌, ◌++◌, length, drop, sym, refl, ap, ◌∙◌, subst, arith}
 use Rattle.std.proofs.lemmas.List.{length-take-le}
 use Rattle.std.proofs.lemmas.Bool.{eqb-true, eqb-false}
 use Rattle.judy_leaf.specs.KeyLists.{low_pairs}
@@ -86,8 +86,8 @@ many-split-requires g t c κs within =
     let high = c.requires.width.1 in
     let apart = c.if-width-eq1.false in
     let falls = c.decreases in
-    let fewer = c.if-group_end-pairs.true in
-    let end = c.group_end.ensures ∙ ap (λ b. sharing (256 ^ (c.args.width - 1)) 256 b c.args.pairs.now) c.byte_above-byte.ensures in
+    let apart_ends = c.all_have.ensures.apart c.if-not-all_have.true in
+    let fewer = subst (λ b. sharing (256 ^ (c.args.width - 1)) 256 b c.args.pairs.now < length c.args.pairs.now) c.byte_above-byte.ensures apart_ends in
     let width : c.args.width ≡ c.args.width - 1 + 1 = omega arith in (
       omega arith,
       (
@@ -124,7 +124,7 @@ many-many-requires g t c κs within =
             (omega arith, omega arith),
             (
               c.requires.more,
-              one_byte_map g.V.Words.WORDS (c.args.width - 1) c.args.pairs.now c.byte_above-byte.result c.group_end.result c.group_end.ensures c.if-group_end-pairs.false
+              one_byte_map g.V.Words.WORDS (c.args.width - 1) c.args.pairs.now c.byte_above-byte.result (sharing (256 ^ (c.args.width - 1)) 256 c.byte_above-byte.result c.args.pairs.now) refl (c.all_have.ensures.all c.if-not-all_have.false)
                   (subst (λ w. IsMap g.V.Words.WORDS 0 (256 ^ w) (low_pairs (256 ^ w) c.args.pairs.now)) width c.requires.map),
             ),
           ),
@@ -140,8 +140,8 @@ many-returns-clause-built g t c =
     let apart = c.if-width-eq1.false in
     let width : c.args.width ≡ c.args.width - 1 + 1 = omega arith in
     subst (λ w. IsBuilt words w c.args.pairs.now (tree_of words c.behind.result)) (sym width)
-    (behind_built words (c.args.width - 1) c.byte_above-byte.result c.group_end.result c.args.pairs.now c.in_ok-kind.kind c.behind.result c.in_ok-kind.ensures.level.0 c.in_ok-kind.ensures.level.1 c.in_ok-kind.ensures.built
-    c.behind.ensures.level c.behind.ensures.tree c.group_end.ensures c.if-group_end-pairs.false (omega arith) (omega arith)
+    (behind_built words (c.args.width - 1) c.byte_above-byte.result (sharing (256 ^ (c.args.width - 1)) 256 c.byte_above-byte.result c.args.pairs.now) c.args.pairs.now c.in_ok-kind.kind c.behind.result c.in_ok-kind.ensures.level.0 c.in_ok-kind.ensures.level.1 c.in_ok-kind.ensures.built
+    c.behind.ensures.level c.behind.ensures.tree refl (c.all_have.ensures.all c.if-not-all_have.false) (omega arith) (omega arith)
     (subst (λ w. IsMap words 0 (256 ^ w) (low_pairs (256 ^ w) c.args.pairs.now)) width c.requires.map))
 
 pub split-loop-rest-init : goal.split-loop-rest-init

@@ -1,4 +1,4 @@
-use Rattle.std.proofs.Common.{◌≡◌, ◌<◌, length, [], ◌∷◌, refl, sym, ap, subst, ◌∙◌, arith, take, drop, get_or, length-drop, ◌-◌, List, ℕ, ◌≤◌}
+use Rattle.std.proofs.Common.{◌≡◌, ◌<◌, length, [], ◌∷◌, refl, sym, ap, ◌∙◌, arith, take, drop, length-drop, ◌-◌, List, ℕ}
 use Rattle.std.proofs.lemmas.List.{take_rest}
 use Rattle.judy_model.specs.Tokens.{tokens_of}
 use Rattle.judy_script.proofs.TokenLemmas.{tokens_of-spaces, tokens_of-front, token_begins}

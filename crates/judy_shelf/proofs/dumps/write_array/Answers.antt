@@ -7,6 +7,7 @@ use Rattle.judy_shelf.specs.Sorted.{pairs_in, sorted_in}
 use Rattle.judy_model.specs.Arrays.{judy1, judyl, judysl, judyhs}
 use Rattle.judy_word.specs.WordArrays.{array_of}
 use Rattle.judy_shelf.specs.Arrays.{value_of}
+use Rattle.judy_shelf.specs.Versions.{format_of}
 use Rattle.judy_shelf.specs.Writes.{sunk, Wrote}
 use Rattle.judy_shelf.proofs.WriteLemmas.{wrote_err}
 use Rattle.judy_shelf.proofs.DumpParts.{array_stopped, array_goes_on}
@@ -17,28 +18,28 @@ returns-in_err-put g c =
     let before = sunk (g.W.Sink.taken c.args.sink.now) (g.W.Sink.tally c.args.sink.now).failures in
     let after = sunk (g.W.Sink.taken c.put.new.sink) (g.W.Sink.tally c.put.new.sink).failures in
     wrote_err _ before after _ c.from_residual.result c.from_residual.ensures.1
-    (array_stopped c.deref.result.now c.args.name.now (value_of c.args.array.now) (c.deref.ensures.0 ∙ c.array_head.ensures) before after c.in_err-put.ensures)
+    (array_stopped (format_of c.args.version) c.deref.result.now c.args.name.now (value_of c.args.array.now) (c.deref.ensures.0 ∙ c.array_head.ensures) before after c.in_err-put.ensures)
 
 pub returns-in-Judy1 : goal.returns-in-Judy1
 returns-in-Judy1 g c =
     let before = sunk (g.W.Sink.taken c.args.sink.now) (g.W.Sink.tally c.args.sink.now).failures in
     let mid = sunk (g.W.Sink.taken c.put.new.sink) (g.W.Sink.tally c.put.new.sink).failures in
     let after = sunk (g.W.Sink.taken c.write_set.new.sink) (g.W.Sink.tally c.write_set.new.sink).failures in
-    array_goes_on c.deref.result.now c.args.name.now (value_of c.args.array.now) (c.deref.ensures.0 ∙ c.array_head.ensures) before (judy1 (array_of c.in-Judy1.set)) mid after c.write_set.result (ap value_of c.in-Judy1.is) c.in_ok-put.ensures c.write_set.ensures
+    array_goes_on (format_of c.args.version) c.deref.result.now c.args.name.now (value_of c.args.array.now) (c.deref.ensures.0 ∙ c.array_head.ensures) before (judy1 (array_of c.in-Judy1.set)) mid after c.write_set.result (ap value_of c.in-Judy1.is) c.in_ok-put.ensures c.write_set.ensures
 
 pub returns-in-JudyL : goal.returns-in-JudyL
 returns-in-JudyL g c =
     let before = sunk (g.W.Sink.taken c.args.sink.now) (g.W.Sink.tally c.args.sink.now).failures in
     let mid = sunk (g.W.Sink.taken c.put.new.sink) (g.W.Sink.tally c.put.new.sink).failures in
     let after = sunk (g.W.Sink.taken c.write_words.new.sink) (g.W.Sink.tally c.write_words.new.sink).failures in
-    array_goes_on c.deref.result.now c.args.name.now (value_of c.args.array.now) (c.deref.ensures.0 ∙ c.array_head.ensures) before (judyl (array_of c.in-JudyL.words)) mid after c.write_words.result (ap value_of c.in-JudyL.is) c.in_ok-put.ensures c.write_words.ensures
+    array_goes_on (format_of c.args.version) c.deref.result.now c.args.name.now (value_of c.args.array.now) (c.deref.ensures.0 ∙ c.array_head.ensures) before (judyl (array_of c.in-JudyL.words)) mid after c.write_words.result (ap value_of c.in-JudyL.is) c.in_ok-put.ensures c.write_words.ensures
 
 pub returns-in-JudySl : goal.returns-in-JudySl
 returns-in-JudySl g c =
     let before = sunk (g.W.Sink.taken c.args.sink.now) (g.W.Sink.tally c.args.sink.now).failures in
     let mid = sunk (g.W.Sink.taken c.put.new.sink) (g.W.Sink.tally c.put.new.sink).failures in
     let after = sunk (g.W.Sink.taken c.write_strings.new.sink) (g.W.Sink.tally c.write_strings.new.sink).failures in
-    array_goes_on c.deref.result.now c.args.name.now (value_of c.args.array.now) (c.deref.ensures.0 ∙ c.array_head.ensures) before (judysl c.in-JudySl.strings) mid after c.write_strings.result (ap value_of c.in-JudySl.is) c.in_ok-put.ensures c.write_strings.ensures
+    array_goes_on (format_of c.args.version) c.deref.result.now c.args.name.now (value_of c.args.array.now) (c.deref.ensures.0 ∙ c.array_head.ensures) before (judysl c.in-JudySl.strings) mid after c.write_strings.result (ap value_of c.in-JudySl.is) c.in_ok-put.ensures c.write_strings.ensures
 
 pub unreachable-requires : goal.unreachable-requires
 unreachable-requires g c =
@@ -53,5 +54,5 @@ returns-in-Some g c =
     let list = entries_by length_order c.in-JudyHs.field-0.map in
     let there = c.requires.sorted list (ap sorted_in c.in-JudyHs.is) in
     let same : pairs_in c.in-Some.keys.now ≡ list = same_Some (pairs_in c.in-Some.keys.now) list (sym (ap (λ keys. option_map pairs_in (option_copied keys)) c.in-Some.is) ∙ there) in
-    array_goes_on c.deref.result.now c.args.name.now (value_of c.args.array.now) (c.deref.ensures.0 ∙ c.array_head.ensures) before (judyhs c.in-JudyHs.field-0) mid after c.write.result (ap value_of c.in-JudyHs.is) c.in_ok-put.ensures
+    array_goes_on (format_of c.args.version) c.deref.result.now c.args.name.now (value_of c.args.array.now) (c.deref.ensures.0 ∙ c.array_head.ensures) before (judyhs c.in-JudyHs.field-0) mid after c.write.result (ap value_of c.in-JudyHs.is) c.in_ok-put.ensures
     (subst (λ pairs. Wrote (flat_map (λ (entry : List ℕ × ℕ). text.string entry.0 ++ text.word entry.1) pairs) mid c.write.result after) same c.write.ensures)

@@ -16,7 +16,7 @@ keys-init g c =
       ap (λ a. a.limit) c.new-strings.ensures,
       ap (λ a. a.map) c.new-strings.ensures,
       subst (λ last. AreNew bytes_keys last []) (sym c.new-last.ensures) (new_none bytes_keys),
-      subst (λ last. Listing length_order grammar.string grammar.word 0 last [] before before) (sym c.new-last.ensures) (listing_none length_order grammar.string grammar.word before),
+      subst (λ last. Listing length_order (λ before. grammar.string) grammar.word 0 last [] before before) (sym c.new-last.ensures) (listing_none length_order (λ before. grammar.string) grammar.word before),
     )
 
 pub returns-in_err-len : goal.returns-in_err-len
@@ -29,10 +29,10 @@ returns-in_err-len g c =
     let held = c.keys.invariant.0 in
     let last = last_key c.keys.last in
     let fault = c.in_err-len.field-0.0 in
-    let stop = listing_fault length_order grammar.string grammar.word c.keys.counter last held before mid c.keys.invariant.4 count some (cause_of fault) after
-    (entry_key_stopped length_order grammar.string grammar.word count last (cause_of fault) mid after c.in_err-len.ensures.read) in
-    reads_err judyhs (grammar.filled judyhs c.args.limit (whole length_order grammar.string grammar.word count)) before after fault c.from_residual.result c.from_residual.ensures.1
-    (filled_fault length_order grammar.string grammar.word count judyhs c.args.limit before after (cause_of fault) stop)
+    let stop = listing_fault length_order (λ before. grammar.string) grammar.word c.keys.counter last held before mid c.keys.invariant.4 count some (cause_of fault) after
+    (entry_key_stopped length_order (λ before. grammar.string) grammar.word count last (cause_of fault) mid after c.in_err-len.ensures.read) in
+    reads_err judyhs (grammar.filled judyhs c.args.limit (whole length_order (λ before. grammar.string) grammar.word count)) before after fault c.from_residual.result c.from_residual.ensures.1
+    (filled_fault length_order (λ before. grammar.string) grammar.word count judyhs c.args.limit before after (cause_of fault) stop)
 
 pub returns-in_err-value : goal.returns-in_err-value
 returns-in_err-value g c =
@@ -46,10 +46,10 @@ returns-in_err-value g c =
     let last = last_key c.keys.last in
     let key = take c.in_ok-len.len c.read_bytes_after.new.room in
     let fault = c.in_err-value.field-0.0 in
-    let stop = listing_fault length_order grammar.string grammar.word c.keys.counter last held before mid c.keys.invariant.4 count some (cause_of fault) after
-    (entry_value_stopped length_order grammar.string grammar.word count last key mid keyed c.in_ok-len.ensures.read (cause_of fault) after c.in_err-value.ensures) in
-    reads_err judyhs (grammar.filled judyhs c.args.limit (whole length_order grammar.string grammar.word count)) before after fault c.from_residual-in_err-value.result c.from_residual-in_err-value.ensures.1
-    (filled_fault length_order grammar.string grammar.word count judyhs c.args.limit before after (cause_of fault) stop)
+    let stop = listing_fault length_order (λ before. grammar.string) grammar.word c.keys.counter last held before mid c.keys.invariant.4 count some (cause_of fault) after
+    (entry_value_stopped length_order (λ before. grammar.string) grammar.word count last key mid keyed c.in_ok-len.ensures.read (cause_of fault) after c.in_err-value.ensures) in
+    reads_err judyhs (grammar.filled judyhs c.args.limit (whole length_order (λ before. grammar.string) grammar.word count)) before after fault c.from_residual-in_err-value.result c.from_residual-in_err-value.ensures.1
+    (filled_fault length_order (λ before. grammar.string) grammar.word count judyhs c.args.limit before after (cause_of fault) stop)
 
 pub returns-in-Err : goal.returns-in-Err
 returns-in-Err g c =
@@ -63,9 +63,9 @@ returns-in-Err g c =
     let last = last_key c.keys.last in
     let key = take c.in_ok-len.len c.read_bytes_after.new.room in
     let value = c.in_ok-value.value in
-    let next = entry_read length_order grammar.string grammar.word count last key mid keyed c.in_ok-len.ensures.read value after c.in_ok-value.ensures in
-    let far = listing_next length_order grammar.string grammar.word c.keys.counter last held before mid c.keys.invariant.4 (key, value) after next in
-    listing_memory length_order grammar.string grammar.word (c.keys.counter + 1) (Some key) (held ++ (key, value) ∷ []) before after far judyhs c.args.limit count some
+    let next = entry_read length_order (λ before. grammar.string) grammar.word count last key mid keyed c.in_ok-len.ensures.read value after c.in_ok-value.ensures in
+    let far = listing_next length_order (λ before. grammar.string) grammar.word c.keys.counter last held before mid c.keys.invariant.4 (key, value) after next in
+    listing_memory length_order (λ before. grammar.string) grammar.word (c.keys.counter + 1) (Some key) (held ++ (key, value) ∷ []) before after far judyhs c.args.limit count some
 
 pub keys-preserved : goal.keys-preserved
 keys-preserved g c =
@@ -79,13 +79,13 @@ keys-preserved g c =
     let value = c.in_ok-value.value in
     let above = c.in_ok-len.ensures.above in
     let new = c.keys.invariant.3 in
-    let next = entry_read length_order grammar.string grammar.word c.args.count last key mid keyed c.in_ok-len.ensures.read value after c.in_ok-value.ensures in
-    let far = listing_next length_order grammar.string grammar.word c.keys.counter last held before mid c.keys.invariant.4 (key, value) after next in (
+    let next = entry_read length_order (λ before. grammar.string) grammar.word c.args.count last key mid keyed c.in_ok-len.ensures.read value after c.in_ok-value.ensures in
+    let far = listing_next length_order (λ before. grammar.string) grammar.word c.keys.counter last held before mid c.keys.invariant.4 (key, value) after next in (
       held ++ (key, value) ∷ [],
       c.keys.invariant.1,
       ap (λ m. insert m key value) c.keys.invariant.2 ∙ sym (made_more bytes_keys last held new key value above),
       subst (λ l. AreNew bytes_keys l (held ++ (key, value) ∷ [])) (sym c.keep.ensures) (new_more bytes_keys last held new key value above),
-      subst (λ l. Listing length_order grammar.string grammar.word (c.keys.counter + 1) l (held ++ (key, value) ∷ []) before after) (sym c.keep.ensures) far,
+      subst (λ l. Listing length_order (λ before. grammar.string) grammar.word (c.keys.counter + 1) l (held ++ (key, value) ∷ []) before after) (sym c.keep.ensures) far,
     )
 
 pub returns : goal.returns
@@ -93,4 +93,4 @@ returns g c =
     let before = drawn (g.R.Source.given c.args.source.now) (g.R.Source.ended c.args.source.now) (g.R.Source.tally c.args.source.now).failures in
     let now = drawn (g.R.Source.given c.keys.source) (g.R.Source.ended c.keys.source) (g.R.Source.tally c.keys.source).failures in
     let all : c.keys.counter ≡ c.args.count = omega arith in
-    listing_filled length_order grammar.string grammar.word c.keys.counter (last_key c.keys.last) c.keys.invariant.0 before now c.keys.invariant.4 judyhs c.args.limit c.args.count c.keys.strings all c.keys.invariant.1 c.keys.invariant.2
+    listing_filled length_order (λ before. grammar.string) grammar.word c.keys.counter (last_key c.keys.last) c.keys.invariant.0 before now c.keys.invariant.4 judyhs c.args.limit c.args.count c.keys.strings all c.keys.invariant.1 c.keys.invariant.2

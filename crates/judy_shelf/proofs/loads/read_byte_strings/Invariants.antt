@@ -11,5 +11,5 @@ use Rattle.judy_shelf.proofs.loads.read_byte_strings.Given as goal
 abbrev pub invariant-keys : goal.invariant-keys
 invariant-keys g l =
     (held : List (List ℕ × ℕ)) × (l.strings.limit ≡ l.limit) × (l.strings.map ≡ from_entries held) × AreNew bytes_keys (last_key l.last) held
-    × Listing length_order grammar.string grammar.word l.counter (last_key l.last) held
+    × Listing length_order (λ before. grammar.string) grammar.word l.counter (last_key l.last) held
     (drawn (g.R.Source.given l.fn.source) (g.R.Source.ended l.fn.source) (g.R.Source.tally l.fn.source).failures) (drawn (g.R.Source.given l.source) (g.R.Source.ended l.source) (g.R.Source.tally l.source).failures)

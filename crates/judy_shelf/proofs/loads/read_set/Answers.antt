@@ -11,7 +11,7 @@ use Rattle.judy_shelf.proofs.loads.read_set.Goals as goal
 pub keys-init : goal.keys-init
 keys-init g c =
     let before = drawn (g.R.Source.given c.args.source.now) (g.R.Source.ended c.args.source.now) (g.R.Source.tally c.args.source.now).failures in
-    ([], ap (λ a. a.limit) c.new-set.ensures, ap (λ a. a.map) c.new-set.ensures, new_none word_keys, listing_none word_order grammar.word grammar.no_value before)
+    ([], ap (λ a. a.limit) c.new-set.ensures, ap (λ a. a.map) c.new-set.ensures, new_none word_keys, listing_none word_order (λ before. grammar.word) grammar.no_value before)
 
 pub returns-in_err-key : goal.returns-in_err-key
 returns-in_err-key g c =
@@ -22,10 +22,10 @@ returns-in_err-key g c =
     let some : c.keys.counter < count = omega arith in
     let held = c.keys.invariant.0 in
     let fault = c.in_err-key.field-0.0 in
-    let stop = listing_fault word_order grammar.word grammar.no_value c.keys.counter c.keys.before held before mid c.keys.invariant.4 count some (cause_of fault) after
-    (entry_key_stopped word_order grammar.word grammar.no_value count c.keys.before (cause_of fault) mid after c.in_err-key.ensures.read) in
-    reads_err (λ set. judy1 (array_of set)) (grammar.filled judy1 c.args.limit (whole word_order grammar.word grammar.no_value count)) before after fault c.from_residual.result c.from_residual.ensures.1
-    (filled_fault word_order grammar.word grammar.no_value count judy1 c.args.limit before after (cause_of fault) stop)
+    let stop = listing_fault word_order (λ before. grammar.word) grammar.no_value c.keys.counter c.keys.before held before mid c.keys.invariant.4 count some (cause_of fault) after
+    (entry_key_stopped word_order (λ before. grammar.word) grammar.no_value count c.keys.before (cause_of fault) mid after c.in_err-key.ensures.read) in
+    reads_err (λ set. judy1 (array_of set)) (grammar.filled judy1 c.args.limit (whole word_order (λ before. grammar.word) grammar.no_value count)) before after fault c.from_residual.result c.from_residual.ensures.1
+    (filled_fault word_order (λ before. grammar.word) grammar.no_value count judy1 c.args.limit before after (cause_of fault) stop)
 
 pub returns-in-Err : goal.returns-in-Err
 returns-in-Err g c =
@@ -36,9 +36,9 @@ returns-in-Err g c =
     let some : c.keys.counter + 1 ≤ count = omega arith in
     let held = c.keys.invariant.0 in
     let key = c.in_ok-key.key in
-    let next = entry_read word_order grammar.word grammar.no_value count c.keys.before key mid after c.in_ok-key.ensures.read 0 after (value_done 0 after) in
-    let far = listing_next word_order grammar.word grammar.no_value c.keys.counter c.keys.before held before mid c.keys.invariant.4 (key, 0) after next in
-    listing_memory word_order grammar.word grammar.no_value (c.keys.counter + 1) (Some key) (held ++ (key, 0) ∷ []) before after far judy1 c.args.limit count some
+    let next = entry_read word_order (λ before. grammar.word) grammar.no_value count c.keys.before key mid after c.in_ok-key.ensures.read 0 after (value_done 0 after) in
+    let far = listing_next word_order (λ before. grammar.word) grammar.no_value c.keys.counter c.keys.before held before mid c.keys.invariant.4 (key, 0) after next in
+    listing_memory word_order (λ before. grammar.word) grammar.no_value (c.keys.counter + 1) (Some key) (held ++ (key, 0) ∷ []) before after far judy1 c.args.limit count some
 
 pub keys-preserved : goal.keys-preserved
 keys-preserved g c =
@@ -49,8 +49,8 @@ keys-preserved g c =
     let key = c.in_ok-key.key in
     let above = c.in_ok-key.ensures.above in
     let new = c.keys.invariant.3 in
-    let next = entry_read word_order grammar.word grammar.no_value c.args.count c.keys.before key mid after c.in_ok-key.ensures.read 0 after (value_done 0 after) in
-    let far = listing_next word_order grammar.word grammar.no_value c.keys.counter c.keys.before held before mid c.keys.invariant.4 (key, 0) after next in
+    let next = entry_read word_order (λ before. grammar.word) grammar.no_value c.args.count c.keys.before key mid after c.in_ok-key.ensures.read 0 after (value_done 0 after) in
+    let far = listing_next word_order (λ before. grammar.word) grammar.no_value c.keys.counter c.keys.before held before mid c.keys.invariant.4 (key, 0) after next in
     let set = c.in-Ok.ensures.set in (
       held ++ (key, 0) ∷ [],
       ap (λ a. a.limit) set ∙ c.keys.invariant.1,
@@ -64,4 +64,4 @@ returns g c =
     let before = drawn (g.R.Source.given c.args.source.now) (g.R.Source.ended c.args.source.now) (g.R.Source.tally c.args.source.now).failures in
     let now = drawn (g.R.Source.given c.keys.source) (g.R.Source.ended c.keys.source) (g.R.Source.tally c.keys.source).failures in
     let all : c.keys.counter ≡ c.args.count = omega arith in
-    listing_filled word_order grammar.word grammar.no_value c.keys.counter c.keys.before c.keys.invariant.0 before now c.keys.invariant.4 judy1 c.args.limit c.args.count (array_of c.keys.set) all c.keys.invariant.1 c.keys.invariant.2
+    listing_filled word_order (λ before. grammar.word) grammar.no_value c.keys.counter c.keys.before c.keys.invariant.0 before now c.keys.invariant.4 judy1 c.args.limit c.args.count (array_of c.keys.set) all c.keys.invariant.1 c.keys.invariant.2

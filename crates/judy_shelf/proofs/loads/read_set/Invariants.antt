@@ -10,5 +10,5 @@ use Rattle.judy_shelf.proofs.loads.read_set.Given as goal
 abbrev pub invariant-keys : goal.invariant-keys
 invariant-keys g l =
     (held : List (ℕ × ℕ)) × (l.set.limit ≡ l.limit) × (l.set.map ≡ from_entries held) × AreNew word_keys l.before held
-    × Listing word_order grammar.word grammar.no_value l.counter l.before held
+    × Listing word_order (λ before. grammar.word) grammar.no_value l.counter l.before held
     (drawn (g.R.Source.given l.fn.source) (g.R.Source.ended l.fn.source) (g.R.Source.tally l.fn.source).failures) (drawn (g.R.Source.given l.source) (g.R.Source.ended l.source) (g.R.Source.tally l.source).failures)

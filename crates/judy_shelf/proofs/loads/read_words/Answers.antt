@@ -1,6 +1,5 @@
 use Rattle.std.proofs.Common.{◌≡◌, ◌+◌, ◌<◌, ◌≤◌, ◌∷◌, [], ◌++◌, Some, sym, ap, ◌∙◌, arith}
 use Rattle.std.specs.FinMap.{insert}
-use Rattle.std.specs.Result.{is_ok}
 use Rattle.judy_model.specs.Arrays.{judyl}
 use Rattle.judy_model.specs.Keys.{word_order}
 use Rattle.judy_model.specs.DumpGrammar as grammar
@@ -13,7 +12,7 @@ use Rattle.judy_shelf.proofs.loads.read_words.Goals as goal
 pub keys-init : goal.keys-init
 keys-init g c =
     let before = drawn (g.R.Source.given c.args.source.now) (g.R.Source.ended c.args.source.now) (g.R.Source.tally c.args.source.now).failures in
-    ([], ap (λ a. a.limit) c.new-words.ensures, ap (λ a. a.map) c.new-words.ensures, new_none word_keys, listing_none word_order grammar.word grammar.word before)
+    ([], ap (λ a. a.limit) c.new-words.ensures, ap (λ a. a.map) c.new-words.ensures, new_none word_keys, listing_none word_order (λ before. grammar.word) grammar.word before)
 
 pub returns-in_err-key : goal.returns-in_err-key
 returns-in_err-key g c =
@@ -24,10 +23,10 @@ returns-in_err-key g c =
     let some : c.keys.counter < count = omega arith in
     let held = c.keys.invariant.0 in
     let fault = c.in_err-key.field-0.0 in
-    let stop = listing_fault word_order grammar.word grammar.word c.keys.counter c.keys.before held before mid c.keys.invariant.4 count some (cause_of fault) after
-    (entry_key_stopped word_order grammar.word grammar.word count c.keys.before (cause_of fault) mid after c.in_err-key.ensures.read) in
-    reads_err (λ words. judyl (array_of words)) (grammar.filled judyl c.args.limit (whole word_order grammar.word grammar.word count)) before after fault c.from_residual.result c.from_residual.ensures.1
-    (filled_fault word_order grammar.word grammar.word count judyl c.args.limit before after (cause_of fault) stop)
+    let stop = listing_fault word_order (λ before. grammar.word) grammar.word c.keys.counter c.keys.before held before mid c.keys.invariant.4 count some (cause_of fault) after
+    (entry_key_stopped word_order (λ before. grammar.word) grammar.word count c.keys.before (cause_of fault) mid after c.in_err-key.ensures.read) in
+    reads_err (λ words. judyl (array_of words)) (grammar.filled judyl c.args.limit (whole word_order (λ before. grammar.word) grammar.word count)) before after fault c.from_residual.result c.from_residual.ensures.1
+    (filled_fault word_order (λ before. grammar.word) grammar.word count judyl c.args.limit before after (cause_of fault) stop)
 
 pub returns-in_err-value : goal.returns-in_err-value
 returns-in_err-value g c =
@@ -39,10 +38,10 @@ returns-in_err-value g c =
     let some : c.keys.counter < count = omega arith in
     let held = c.keys.invariant.0 in
     let fault = c.in_err-value.field-0.0 in
-    let stop = listing_fault word_order grammar.word grammar.word c.keys.counter c.keys.before held before mid c.keys.invariant.4 count some (cause_of fault) after
-    (entry_value_stopped word_order grammar.word grammar.word count c.keys.before c.in_ok-key.key mid keyed c.in_ok-key.ensures.read (cause_of fault) after c.in_err-value.ensures) in
-    reads_err (λ words. judyl (array_of words)) (grammar.filled judyl c.args.limit (whole word_order grammar.word grammar.word count)) before after fault c.from_residual-in_err-value.result c.from_residual-in_err-value.ensures.1
-    (filled_fault word_order grammar.word grammar.word count judyl c.args.limit before after (cause_of fault) stop)
+    let stop = listing_fault word_order (λ before. grammar.word) grammar.word c.keys.counter c.keys.before held before mid c.keys.invariant.4 count some (cause_of fault) after
+    (entry_value_stopped word_order (λ before. grammar.word) grammar.word count c.keys.before c.in_ok-key.key mid keyed c.in_ok-key.ensures.read (cause_of fault) after c.in_err-value.ensures) in
+    reads_err (λ words. judyl (array_of words)) (grammar.filled judyl c.args.limit (whole word_order (λ before. grammar.word) grammar.word count)) before after fault c.from_residual-in_err-value.result c.from_residual-in_err-value.ensures.1
+    (filled_fault word_order (λ before. grammar.word) grammar.word count judyl c.args.limit before after (cause_of fault) stop)
 
 pub returns-in-Err : goal.returns-in-Err
 returns-in-Err g c =
@@ -55,9 +54,9 @@ returns-in-Err g c =
     let held = c.keys.invariant.0 in
     let key = c.in_ok-key.key in
     let value = c.in_ok-value.value in
-    let next = entry_read word_order grammar.word grammar.word count c.keys.before key mid keyed c.in_ok-key.ensures.read value after c.in_ok-value.ensures in
-    let far = listing_next word_order grammar.word grammar.word c.keys.counter c.keys.before held before mid c.keys.invariant.4 (key, value) after next in
-    listing_memory word_order grammar.word grammar.word (c.keys.counter + 1) (Some key) (held ++ (key, value) ∷ []) before after far judyl c.args.limit count some
+    let next = entry_read word_order (λ before. grammar.word) grammar.word count c.keys.before key mid keyed c.in_ok-key.ensures.read value after c.in_ok-value.ensures in
+    let far = listing_next word_order (λ before. grammar.word) grammar.word c.keys.counter c.keys.before held before mid c.keys.invariant.4 (key, value) after next in
+    listing_memory word_order (λ before. grammar.word) grammar.word (c.keys.counter + 1) (Some key) (held ++ (key, value) ∷ []) before after far judyl c.args.limit count some
 
 pub keys-preserved : goal.keys-preserved
 keys-preserved g c =
@@ -70,12 +69,12 @@ keys-preserved g c =
     let value = c.in_ok-value.value in
     let above = c.in_ok-key.ensures.above in
     let new = c.keys.invariant.3 in
-    let written = c.ins.follows.holds value (ap is_ok c.in-Ok.is) in
-    let next = entry_read word_order grammar.word grammar.word c.args.count c.keys.before key mid keyed c.in_ok-key.ensures.read value after c.in_ok-value.ensures in
-    let far = listing_next word_order grammar.word grammar.word c.keys.counter c.keys.before held before mid c.keys.invariant.4 (key, value) after next in (
+    let next = entry_read word_order (λ before. grammar.word) grammar.word c.args.count c.keys.before key mid keyed c.in_ok-key.ensures.read value after c.in_ok-value.ensures in
+    let far = listing_next word_order (λ before. grammar.word) grammar.word c.keys.counter c.keys.before held before mid c.keys.invariant.4 (key, value) after next in
+    let written = c.in-Ok.ensures.put in (
       held ++ (key, value) ∷ [],
-      ap (λ a. a.limit) written.array ∙ c.keys.invariant.1,
-      ap (λ a. a.map) written.array ∙ ap (λ m. insert m key value) c.keys.invariant.2 ∙ sym (made_more word_keys c.keys.before held new key value above),
+      ap (λ a. a.limit) written ∙ c.keys.invariant.1,
+      ap (λ a. a.map) written ∙ ap (λ m. insert m key value) c.keys.invariant.2 ∙ sym (made_more word_keys c.keys.before held new key value above),
       new_more word_keys c.keys.before held new key value above,
       far,
     )
@@ -85,4 +84,4 @@ returns g c =
     let before = drawn (g.R.Source.given c.args.source.now) (g.R.Source.ended c.args.source.now) (g.R.Source.tally c.args.source.now).failures in
     let now = drawn (g.R.Source.given c.keys.source) (g.R.Source.ended c.keys.source) (g.R.Source.tally c.keys.source).failures in
     let all : c.keys.counter ≡ c.args.count = omega arith in
-    listing_filled word_order grammar.word grammar.word c.keys.counter c.keys.before c.keys.invariant.0 before now c.keys.invariant.4 judyl c.args.limit c.args.count (array_of c.keys.words) all c.keys.invariant.1 c.keys.invariant.2
+    listing_filled word_order (λ before. grammar.word) grammar.word c.keys.counter c.keys.before c.keys.invariant.0 before now c.keys.invariant.4 judyl c.args.limit c.args.count (array_of c.keys.words) all c.keys.invariant.1 c.keys.invariant.2

@@ -1,15 +1,24 @@
-use Rattle.std.proofs.Common.{ℕ, List, subst}
-use Rattle.std.proofs.lemmas.List.Elements.{AllWithin-more, AllWithin-upto, All-from_all_within}
+use Rattle.std.proofs.Common.{ℕ, List, All, sym, ap, subst, ◌∙◌}
+use Rattle.std.proofs.lemmas.List.Elements.{All-nil, All-push}
 use Rattle.judy_model.specs.Keys.{IsWord}
-use Rattle.judy_hs.proofs.ValueLemmas.{read_holds, entries_words}
+use Rattle.judy_hs.specs.Chains.{Pairs, value_in}
+use Rattle.judy_hs.specs.ChainEntries.{pairs_of}
+use Rattle.judy_hs.specs.Values.{AreWords}
+use Rattle.judy_hs.proofs.ChainEntryLemmas.{shown, shown-more, shown-on, shown-all}
+use Rattle.judy_hs.proofs.ValueLemmas.{entries_words}
 use Rattle.judy_hs.proofs.chain.Chain.are_words.Goals as goal
 
-pub loop-entry-preserved : goal.loop-entry-preserved
-loop-entry-preserved c =
-    AllWithin-more (λ (entry : List ℕ × ℕ). IsWord entry.1) _ 0 c.loop-entry.entry-index c.loop-entry.invariant
-    (read_holds (λ (entry : List ℕ × ℕ). IsWord entry.1) _ c.loop-entry.entry-index c.entry-item.result c.loop-entry-test.true c.entry-item.is (subst IsWord c.value.ensures c.is_word.ensures))
+pub entries-init : goal.entries-init
+entries-init c = (sym c.self.view_is ∙ ap pairs_of (sym c.into_iter-value-iterator.ensures.into_iter_gives.0), All-nil (λ (pair : List ℕ × ℕ). IsWord pair.1))
+
+pub entries-preserved : goal.entries-preserved
+entries-preserved c = (
+  shown-on c.entries.yielded c.in-Some.field-0-0 c.in-Some.value c.args.self.now c.entries.value-iterator c.next.new.self c.entries.invariant.0 c.in-Some.ensures.steps,
+  subst (All (λ (pair : List ℕ × ℕ). IsWord pair.1)) (sym (shown-more c.entries.yielded c.in-Some.field-0-0 c.in-Some.value))
+      (All-push (λ (pair : List ℕ × ℕ). IsWord pair.1) (shown c.entries.yielded) (c.in-Some.field-0-0.now.items, c.in-Some.value.now) c.entries.invariant.1 c.is_word.ensures),
+)
 
 pub returns : goal.returns
 returns c =
-    rw (← c.self.view_is, ← c.deref-entry-items.ensures.value) (entries_words _
-    (All-from_all_within (λ (entry : List ℕ × ℕ). IsWord entry.1) _ (AllWithin-upto (λ (entry : List ℕ × ℕ). IsWord entry.1) _ 0 c.loop-entry.entry-index _ c.loop-entry-test.false c.loop-entry.invariant)))
+    let all = shown-all c.entries.yielded c.args.self.now c.entries.value-iterator c.entries.invariant.0 c.in-None.ensures.steps.0 in
+    subst (λ (pairs : Pairs). AreWords (value_in pairs)) (sym all) (entries_words (shown c.entries.yielded) c.entries.invariant.1)

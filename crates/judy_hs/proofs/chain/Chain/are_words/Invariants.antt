@@ -1,7 +1,11 @@
-use Rattle.std.specs.Prelude.{ℕ, List}
-use Rattle.std.specs.List.{AllWithin}
+use Rattle.std.proofs.Common.{◌≡◌, ◌++◌, ℕ, List, All}
 use Rattle.judy_model.specs.Keys.{IsWord}
+use Rattle.judy_hs.specs.ChainEntries.{pairs_of}
+use Rattle.judy_hs.proofs.ChainEntryLemmas.{shown}
 use Rattle.judy_hs.proofs.chain.Chain.are_words.Given as goal
 
-abbrev pub invariant-loop-entry : goal.invariant-loop-entry
-invariant-loop-entry l = AllWithin (λ (entry : List ℕ × ℕ). IsWord entry.1) l.entry-items 0 l.entry-index
+-- the values that came are words
+abbrev pub invariant-entries : goal.invariant-entries
+invariant-entries l =
+    (l.self ≡ shown l.yielded ++ pairs_of l.value-iterator)
+    × All (λ (pair : List ℕ × ℕ). IsWord pair.1) (shown l.yielded)

@@ -1,18 +1,13 @@
-use Rattle.std.proofs.Common.{◌≤◌, ◌∙◌, ap, Some, length, refl, arith}
-use Rattle.std.proofs.lemmas.Bool.{false≢true}
-use Rattle.judy_model.proofs.Lent.{lent}
-use Rattle.judy_hs.proofs.ChainLemmas.{pairs-set, entry_at, value_at-entry, value_at-past, not_below}
+use Rattle.std.proofs.Common.{ap, ◌∙◌}
+use Rattle.std.specs.Option.{ghost_name_of}
+use borrow.Follows.Closed.{read_of}
+use Rattle.judy_hs.specs.ChainEntries.{pairs_of}
+use Rattle.judy_hs.proofs.ChainEntryLemmas.{lookup-pairs, written-pairs}
 use Rattle.judy_hs.proofs.chain.Chain.slot.Goals as goal
 
-pub returns-in-Some : goal.returns-in-Some
-returns-in-Some c =
-    let is = entry_at c.self.inside.entries.items c.args.at c.in-Some.entry.now (omega (arith, c.in-Some.ensures.variant.0 refl, c.self.inside.entries.ok.0)) c.in-Some.ensures.value in
+pub returns : goal.returns
+returns c =
     rw (← c.self.view_is) (
-      lent (λ w. pairs-set c.self.inside.entries.items c.args.at w c.in-Some.entry.now is),
-      record { writes_back = tt; value = ap (λ value. Some value) c.slot.ensures.value ∙ value_at-entry c.self.inside.entries.items c.args.at c.in-Some.entry.now is },
+      λ t. read_of (ghost_name_of c.get_mut.result) (λ w. (ap pairs_of (c.get_mut.follows.holds w).0 ∙ written-pairs c.args.key.now c.self.inside.entries.entries w) t) (ap (λ m. pairs_of m.entries) c.get_mut.follows.holds-at-none t),
+      record { writes_back = tt; value = c.get_mut.ensures.value ∙ lookup-pairs c.args.key.now c.self.inside.entries.entries },
     )
-
-pub returns-in-None : goal.returns-in-None
-returns-in-None c =
-    let past : length c.self.inside.entries.items ≤ c.args.at = not_below c.args.at (length c.self.inside.entries.items) (λ below. false≢true (c.in-None.ensures.variant.1 (omega (arith, below, c.self.inside.entries.ok.0)))) in
-    rw (← c.self.view_is) (refl, record { writes_back = tt; value = value_at-past c.self.inside.entries.items c.args.at past })

@@ -7,5 +7,5 @@ pub returns-in-Some : goal.returns-in-Some
 returns-in-Some c =
     let leads = sym c.get.ensures ∙ c.in_ok-place.was in
     let read = rw c.deref.ensures.value at c.in-Some.ensures.lookup in
-    let held = held-is c.self.inside.hashes c.self.inside.chains.items c.in_ok-place.place 0 c.in-Some.chain.now read.3.0 read.1 in
+    let held = held-is c.self.inside.hashes c.self.inside.chains.items c.in_ok-place.place c.in-Some.chain.now read.3.0 read.1 in
     rw (← c.self.view_is, leads) (c.get-in-Some.ensures ∙ ap (λ (pairs : Pairs). value_in pairs c.args.key.now) held)

@@ -5,4 +5,5 @@ use Rattle.judy_model.proofs.DumpLemmas.{one_store, dump_again}
 use Rattle.judy_model.proofs.laws.dumps.one_dump_per_store.Goals as goal
 
 pub returns : goal.returns
-returns c = λ store other is regular other_is other_regular same. one_store (dump_of other) store other (subst (λ dump. IsDump dump store) same (dump_again store is regular)) (dump_again other other_is other_regular)
+returns c = λ one_version other_version store other is regular other_is other_regular same.
+    one_store one_version other_version (dump_of other_version other) store other (subst (λ dump. IsDump one_version dump store) same (dump_again one_version store is regular)) (dump_again other_version other other_is other_regular)

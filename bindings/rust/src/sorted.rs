@@ -1,0 +1,74 @@
+//! Arrays of words that are made at once, of keys that ascend.
+use std::fmt;
+
+/// A key isn't above the one before it: its place among the keys, counted from 0.
+///
+/// ```
+/// use sellumaq::{Judy1, NotAscending};
+///
+/// assert_eq!(Judy1::from_sorted([1, 5, 5]).err(), Some(NotAscending(2)));
+/// assert_eq!(NotAscending(2).to_string(), "the key at place 2 isn't above the one before it");
+/// ```
+#[derive(Clone, Copy, PartialEq, Eq, Debug)]
+pub struct NotAscending(pub usize);
+
+impl fmt::Display for NotAscending {
+    fn fmt(&self, to: &mut fmt::Formatter<'_>) -> fmt::Result {
+        let place = self.0;
+        write!(to, "the key at place {place} isn't above the one before it")
+    }
+}
+
+impl std::error::Error for NotAscending {}
+
+/// Writes how an array of words is made of many items at once, by the call `$from_sorted` over a list of `$told`.
+macro_rules! at_once {
+    ($array:ident; $item:ty; $told:ty, $from_sorted:ident; $sample:literal, $wrong:literal) => {
+        impl $array {
+            fn at_once(told: &[$told]) -> Result<Self, crate::NotAscending> {
+                let (mut array, mut place) = ($array::new(), 0);
+                // SAFETY: the handle is this array's, lent for this call alone, and the place this function's; the list
+                // is as long as is told.
+                let answer = unsafe {
+                    let (keys, count) = (told.as_ptr(), told.len());
+                    sellumaq_sys::$from_sorted(&mut array.handle, keys, count, &mut place)
+                };
+                match answer {
+                    sellumaq_sys::SELLUMAQ_ADDED => Ok(array),
+                    sellumaq_sys::SELLUMAQ_NO_MEMORY => crate::no_room(crate::NoMemory),
+                    _ => Err(crate::NotAscending(place)),
+                }
+            }
+
+            /// Makes an array of keys that strictly ascend, in a part of the time of an insert for each. The error tells
+            /// the first key that isn't above the one before it. It ends the program where there is no memory, as std's
+            /// collections do.
+            ///
+            /// ```
+            #[doc = $sample]
+            /// assert_eq!(array.map(|array| array.len()), Ok(3));
+            #[doc = $wrong]
+            /// ```
+            pub fn from_sorted<I: IntoIterator<Item = $item>>(
+                items: I,
+            ) -> Result<Self, crate::NotAscending> {
+                let told: Vec<$told> = items.into_iter().map(crate::way::Told::of).collect();
+                Self::at_once(&told)
+            }
+        }
+
+        /// Items whose keys strictly ascend make an array at once; others are put in one by one.
+        impl FromIterator<$item> for $array {
+            fn from_iter<I: IntoIterator<Item = $item>>(items: I) -> Self {
+                let told: Vec<$told> = items.into_iter().map(crate::way::Told::of).collect();
+                Self::at_once(&told).unwrap_or_else(|_| {
+                    let mut array = $array::new();
+                    array.extend(told.into_iter().map(crate::way::Told::item));
+                    array
+                })
+            }
+        }
+    };
+}
+
+pub(crate) use at_once;

@@ -1,0 +1,114 @@
+//! The calls of C that give a key of a map from strings, or from byte strings, a value or take it out, and tell the value that was there.
+//!
+//! An insert is one way down the map where a slot is; a removal is two, the look-up's and the delete's.
+
+ghost use Rattle.std.specs.Prelude.{◌≡◌};
+ghost use Rattle.std.specs.FinMap as map;
+ghost use Rattle.judy_model.specs.Arrays as array;
+ghost use Rattle.judy_model.specs.Keys.{IsStringKey};
+ghost use Rattle.judy_c.specs.ByteMaps as bytes;
+ghost use Rattle.judy_c.specs.KeyInserts.{IsShort};
+ghost use Rattle.judy_c.specs.KeyPuts.{IsPut, IsToldOld};
+ghost use Rattle.judy_c.specs.StringMaps as strings;
+ghost use Rattle.judy_c.specs.Told.{IsTold};
+
+use crate::answers::answer_store;
+use crate::bytes::Bytes;
+use crate::judyhs::{sellumaq_judyhs_del, sellumaq_judyhs_get};
+use crate::judysl::{sellumaq_judysl_del, sellumaq_judysl_get};
+use crate::strings::Strings;
+use std::alloc::Global;
+
+/// Gives a key a value, and answers `PRESENT` or `ADDED`; or why it is refused: `BAD_KEY`, `FULL` or `NO_MEMORY`, in this order.
+#[unsafe(no_mangle)]
+pub extern "C" fn sellumaq_judysl_put(
+    alloc: Global,
+    handle: &mut Strings,
+    key: &[u8],
+    value: u64,
+) -> u32
+    ensures { IsPut IsStringKey (strings.array_in handle.old) key.now value result (strings.array_in handle.new) }
+{
+    let mut was = 0;
+    sellumaq_judysl_insert(alloc, handle, key, value, &mut was)
+}
+
+/// Gives a key a value, as `sellumaq_judysl_put` does, and tells the value that was there where it answers `PRESENT`.
+#[unsafe(no_mangle)]
+pub extern "C" fn sellumaq_judysl_insert(
+    alloc: Global,
+    handle: &mut Strings,
+    key: &[u8],
+    value: u64,
+    was: &mut u64,
+) -> u32
+    ensures stored { IsPut IsStringKey (strings.array_in handle.old) key.now value result (strings.array_in handle.new) }
+    ensures told { IsToldOld (map.get (strings.array_in handle.old).map key.now) result was.old was.new }
+{
+    answer_store(handle.insert(alloc, key, value), was)
+}
+
+/// Takes a key out, as `sellumaq_judysl_del` does, and tells the value that it had.
+#[unsafe(no_mangle)]
+pub extern "C" fn sellumaq_judysl_remove(
+    alloc: Global,
+    handle: &mut Strings,
+    key: &[u8],
+    was: &mut u64,
+) -> bool
+    ensures told { IsTold (map.get (strings.array_in handle.old).map key.now) result was.old was.new }
+    ensures deleted { strings.array_in handle.new ≡ array.with_map (strings.array_in handle.old) (array.del (strings.array_in handle.old).map key.now) }
+{
+    let found = sellumaq_judysl_get(alloc, handle, key, was);
+    if found {
+        sellumaq_judysl_del(alloc, handle, key);
+    }
+    found
+}
+
+/// Gives a key a value, and answers `PRESENT` or `ADDED`; or why it is refused: `BAD_KEY`, `FULL` or `NO_MEMORY`, in this order.
+#[unsafe(no_mangle)]
+pub extern "C" fn sellumaq_judyhs_put(
+    alloc: Global,
+    handle: &mut Bytes,
+    key: &[u8],
+    value: u64,
+) -> u32
+    ensures { IsPut IsShort (bytes.array_in handle.old) key.now value result (bytes.array_in handle.new) }
+{
+    let mut was = 0;
+    sellumaq_judyhs_insert(alloc, handle, key, value, &mut was)
+}
+
+/// Gives a key a value, as `sellumaq_judyhs_put` does, and tells the value that was there where it answers `PRESENT`.
+#[unsafe(no_mangle)]
+pub extern "C" fn sellumaq_judyhs_insert(
+    alloc: Global,
+    handle: &mut Bytes,
+    key: &[u8],
+    value: u64,
+    was: &mut u64,
+) -> u32
+    ensures stored { IsPut IsShort (bytes.array_in handle.old) key.now value result (bytes.array_in handle.new) }
+    ensures told { IsToldOld (map.get (bytes.array_in handle.old).map key.now) result was.old was.new }
+{
+    answer_store(handle.insert(alloc, key, value), was)
+}
+
+/// Takes a key out, as `sellumaq_judyhs_del` does, and tells the value that it had.
+#[unsafe(no_mangle)]
+pub extern "C" fn sellumaq_judyhs_remove(
+    alloc: Global,
+    handle: &mut Bytes,
+    key: &[u8],
+    was: &mut u64,
+) -> bool
+    ensures told { IsTold (map.get (bytes.array_in handle.old).map key.now) result was.old was.new }
+    ensures deleted { bytes.array_in handle.new ≡ array.with_map (bytes.array_in handle.old) (array.del (bytes.array_in handle.old).map key.now) }
+{
+    let found = sellumaq_judyhs_get(alloc, handle, key, was);
+    if found {
+        sellumaq_judyhs_del(alloc, handle, key);
+    }
+    found
+}

@@ -1,0 +1,128 @@
+//! The calls of C that make an array at once, of keys that ascend.
+
+ghost use Rattle.std.specs.Prelude.{◌≡◌, IfOk, IfErr};
+ghost use Rattle.std.specs.FinMap as finmap;
+ghost use Rattle.judy_word.specs.Sorted.{IsFault};
+ghost use Rattle.judy_c.specs.Maps.{map_of, set_of};
+ghost use Rattle.judy_c.specs.Sorted.{IsRefused, IsReplaced, entries_of, keys_in, most_keys};
+
+use crate::answers::{BAD_KEY, FULL, NO_MEMORY};
+use crate::loose::Loose;
+use crate::map::Map;
+use crate::set::Set;
+use crate::walks::Pair;
+use judy_word::{Judy1, JudyL, Keyed, SortedError, check_sorted};
+use std::alloc::{AllocError, Global};
+
+// How many keys an array of C may hold: more than any list has.
+const MOST_KEYS: u64 = u64::MAX;
+
+// The array is made.
+const MADE: u32 = 1;
+
+impl Keyed for Pair {
+    ghost key_of = { λ pair. pair.key };
+
+    fn key(&self) -> u64 {
+        self.key
+    }
+}
+
+/// Makes the set one of keys that strictly ascend, in place of what it held, whose memory is given back: 1. Else the set is as it was:
+/// 4, where a key isn't above the one before it, and the place of the first such key is told, counted from 0; 2, where the keys ascend
+/// and there is no memory for them.
+#[unsafe(no_mangle)]
+pub extern "C" fn sellumaq_judy1_from_sorted(
+    alloc: Global,
+    handle: &mut Set,
+    keys: &[u64],
+    place: &mut usize,
+) -> u32
+    ensures { IsReplaced keys.now (finmap.keys (set_of handle.new) ≡ keys.now) (handle.new ≡ handle.old) place.old result place.new }
+{
+    match set_of_sorted(alloc, keys) {
+        Ok(array) => {
+            handle.release(alloc);
+            handle.fill(array);
+            MADE
+        }
+        Err(fault) => refused(fault, place),
+    }
+}
+
+/// Makes the map one of keys that strictly ascend, each with its value, as `sellumaq_judy1_from_sorted` does.
+#[unsafe(no_mangle)]
+pub extern "C" fn sellumaq_judyl_from_sorted(
+    alloc: Global,
+    handle: &mut Map,
+    pairs: &[Pair],
+    place: &mut usize,
+) -> u32
+    ensures { IsReplaced (keys_in pairs.now) (finmap.entries (map_of handle.new) ≡ entries_of pairs.now) (handle.new ≡ handle.old) place.old result place.new }
+{
+    match map_of_sorted(alloc, pairs) {
+        Ok(array) => {
+            handle.release(alloc);
+            handle.fill(array);
+            MADE
+        }
+        Err(fault) => refused(fault, place),
+    }
+}
+
+// Answers by a number why no array was made, and tells the place of the key that is at fault.
+fn refused(fault: SortedError, place: &mut usize) -> u32
+    ensures { IsRefused fault result place.old place.new }
+{
+    match fault {
+        SortedError::NoMemory => NO_MEMORY,
+        SortedError::Full(_) => FULL,
+        SortedError::NotAscending(at) => {
+            *place = at;
+            BAD_KEY
+        }
+    }
+}
+
+// The set of keys that ascend, in a box.
+fn set_of_sorted(alloc: Global, keys: &[u64]) -> Result<Loose<Judy1, Global>, SortedError>
+    ensures made { IfOk result (λ boxed. finmap.keys boxed.value.map ≡ keys.now) }
+    ensures refused { IfErr result (IsFault most_keys keys.now) }
+{
+    let array = Judy1::from_sorted(alloc, MOST_KEYS, keys)?;
+    let Ok(boxed) = Box::new(alloc, array) else {
+        return Err(SortedError::NoMemory);
+    };
+    Ok(Loose::of(boxed))
+}
+
+// The map of pairs whose keys ascend, in a box.
+fn map_of_sorted(alloc: Global, pairs: &[Pair]) -> Result<Loose<JudyL, Global>, SortedError>
+    ensures made { IfOk result (λ boxed. finmap.entries boxed.value.map ≡ entries_of pairs.now) }
+    ensures refused { IfErr result (IsFault most_keys (keys_in pairs.now)) }
+{
+    check_sorted(MOST_KEYS, pairs)?;
+    let Ok(entries) = entries_of(alloc, pairs) else {
+        return Err(SortedError::NoMemory);
+    };
+    let Ok(array) = JudyL::from_sorted(alloc, MOST_KEYS, &entries) else {
+        return Err(SortedError::NoMemory);
+    };
+    let Ok(boxed) = Box::new(alloc, array) else {
+        return Err(SortedError::NoMemory);
+    };
+    Ok(Loose::of(boxed))
+}
+
+// The keys with their values, as an array takes them.
+fn entries_of(alloc: Global, pairs: &[Pair]) -> Result<Vec<(u64, u64)>, AllocError>
+    ensures { IfOk result (λ entries. entries.items ≡ entries_of pairs.now) }
+{
+    let mut entries = Vec::with_capacity(alloc, pairs.len())?;
+    'pairs: for pair in pairs {
+        entries
+            .push((pair.key, pair.value))
+            .map_err(|_| AllocError)?;
+    }
+    Ok(entries)
+}

@@ -1,0 +1,6 @@
+pub mod Spelling
+pub mod TextLemmas
+pub mod SpotLemmas
+pub mod FreeLemmas
+pub mod RecordLemmas
+pub mod OrderLemmas

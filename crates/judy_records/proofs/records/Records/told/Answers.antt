@@ -1,0 +1,8 @@
+use Rattle.std.proofs.Common.{subst}
+use Rattle.judy_places.specs.Places.{NoneLost}
+use Rattle.judy_records.specs.Spots.{links_of}
+use Rattle.judy_records.proofs.RecordLemmas.{links-kept}
+use Rattle.judy_records.proofs.records.Records.told.Goals as goal
+
+pub returns-clause-none_lost : goal.returns-clause-none_lost
+returns-clause-none_lost c = subst (λ list. NoneLost (links_of list) list.first) c.self.view_is (links-kept c.self.inside c.self.invariant)

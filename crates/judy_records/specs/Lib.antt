@@ -1,0 +1,4 @@
+pub mod Texts
+pub mod Spots
+pub mod Inside
+pub mod Lends

@@ -1,0 +1,29 @@
+-- The words of a text: its bytes by eights, each eight as a word, and the last one padded with zeros.
+use Rattle.std.specs.Prelude.{◌≢◌, ℕ, zero, suc, ◌+◌, ◌*◌, ◌/◌, ◌^◌, ◌<◌, List, [], ◌∷◌, length, drop, All}
+
+-- The number that the first so many bytes spell, the first byte the highest; where bytes are missing, zeros stand in their place.
+abbrev pub spelled : ℕ → List ℕ → ℕ
+spelled zero bytes = 0
+spelled (suc width) [] = 0
+spelled (suc width) (byte ∷ bytes) = byte * 256 ^ width + spelled width bytes
+
+-- The word that the first eight bytes spell.
+unfoldable pub first_word : List ℕ → ℕ
+first_word = spelled 8
+
+-- How many words so many bytes take.
+abbrev pub words_for : ℕ → ℕ
+words_for bytes = (bytes + 7) / 8
+
+-- The first so many words of bytes.
+abbrev pub words_in : ℕ → List ℕ → List ℕ
+words_in zero bytes = []
+words_in (suc count) bytes = first_word bytes ∷ words_in count (drop 8 bytes)
+
+-- The words of bytes: as many as they take.
+abbrev pub words_of : List ℕ → List ℕ
+words_of bytes = words_in (words_for (length bytes)) bytes
+
+-- Bytes of which none is zero.
+abbrev pub IsText : List ℕ → Type 0
+IsText bytes = All (λ byte. (byte < 256) × (byte ≢ 0)) bytes

@@ -1,0 +1,180 @@
+//! Records of one length.
+
+ghost use Rattle.std.specs.Prelude.{◌≡◌, ◌≤◌, ◌+◌, ◌↔◌, ℕ, IsTrue, IsOk, OnOk, length};
+ghost use Rattle.std.specs.Borrow.{sem};
+ghost use Rattle.judy_model.specs.Keys.{byte_order};
+ghost use Rattle.judy_places.specs.Places.{NoneLost};
+ghost use Rattle.judy_records.specs.Texts.{words_of, words_for};
+ghost use Rattle.judy_records.specs.Spots.{held, spot_at, IsHeld, value_of, text_of, links_of, empty_list, HasRoom, next_place, with_capacity, put_in, removed};
+
+use crate::text;
+use std::alloc::{AllocError, Global};
+use std::cmp::Ordering;
+use std::marker::Model;
+
+/// Records of one length, each a value and a text of so many words. To contracts it is a `RecordList`.
+#[derive(Drop)]
+pub struct Records {
+    words: Vec<u64>,
+    size: usize,
+    count: usize,
+    free: usize,
+    spare: usize,
+}
+
+impl Model for Records {
+    ghost use Rattle.judy_records.specs.Spots.{RecordList};
+
+    ghost Value = { RecordList };
+
+    ghost use Rattle.judy_records.specs.Inside.{list_of, AreRecords};
+
+    ghost view = { list_of };
+
+    ghost invariant = { AreRecords };
+}
+
+impl Records {
+    ghost use Rattle.judy_records.specs.Lends.{LendsValue};
+
+    /// The list without a record, for texts of so many words, at most 128. It asks for no memory.
+    pub fn new(alloc: Global, size: usize) -> Records
+        requires { size ≤ 128 }
+        ensures { result ≡ empty_list size }
+    {
+        Records {
+            words: Vec::new(alloc),
+            size,
+            count: 0,
+            free: 0,
+            spare: 0,
+        }
+    }
+
+    /// How many words of text each record has.
+    pub fn size(&self) -> usize
+        ensures { result ≡ self.now.size }
+    {
+        self.size
+    }
+
+    /// Does nothing: it tells a caller's proof that no free place is lost.
+    pub fn told(&self)
+        ensures none_lost { NoneLost (links_of self.now) self.now.first }
+        ensures size { self.now.size ≤ 128 }
+    {
+        let _ = &self.words;
+    }
+
+    /// The value of the record at a place.
+    pub fn value(&self, place: usize) -> u64
+        requires { IsHeld (spot_at self.now place) }
+        ensures { result ≡ value_of (spot_at self.now place) }
+    {
+        self.words[place * (self.size + 1)]
+    }
+
+    /// Lends the value of the record at a place; all else stays.
+    pub fn slot(&mut self, place: usize) -> &mut u64
+        requires { IsHeld (spot_at self.old place) }
+        ensures* writes_back { sem 𝓛 (LendsValue self.entry place result) }
+        ensures value { result.now ≡ value_of (spot_at self.old place) }
+    {
+        &mut self.words[place * (self.size + 1)]
+    }
+
+    // The words of the text at a place.
+    fn text(&self, place: usize) -> &[u64]
+        requires { IsHeld (spot_at self.now place) }
+        ensures { result.now ≡ text_of (spot_at self.now place) }
+    {
+        let start = place * (self.size + 1) + 1;
+        &self.words[start..start + self.size]
+    }
+
+    /// Whether the text at a place is that of the bytes. A loop over words.
+    pub fn is_of(&self, place: usize, bytes: &[u8]) -> bool
+        requires { IsHeld (spot_at self.now place) }
+        ensures { IsTrue result ↔ text_of (spot_at self.now place) ≡ words_of bytes.now }
+    {
+        text::is_of(self.text(place), bytes)
+    }
+
+    /// How the text at a place compares with that of the bytes. A loop over words.
+    pub fn order(&self, place: usize, bytes: &[u8]) -> Ordering
+        requires { IsHeld (spot_at self.now place) }
+        ensures { result ≡ byte_order (text_of (spot_at self.now place)) (words_of bytes.now) }
+    {
+        text::order(self.text(place), bytes)
+    }
+
+    /// Makes room for so many more records. Those for which places are free need none, so nothing is asked for where they suffice. For
+    /// the others the list grows by an eighth at least. The error is want of memory, and leaves the list as it was.
+    pub fn reserve(&mut self, more: usize) -> Result<(), AllocError>
+        ensures same { self.new ≡ with_capacity self.old self.new.capacity }
+        ensures room { OnOk result (HasRoom self.new more) }
+        ensures unasked { HasRoom self.old more → (self.new ≡ self.old) × IsOk result }
+    {
+        let lacking = more
+            .saturating_sub(self.spare)
+            .saturating_mul(self.size + 1);
+        if self.words.capacity() - self.words.len() >= lacking {
+            return Ok(());
+        }
+        self.words
+            .reserve_exact(lacking.saturating_add(self.words.len() / 8))
+    }
+
+    /// The place that the next record takes: the first free one, or the end of the list.
+    pub fn next_place(&self) -> usize
+        ensures { result ≡ next_place self.now }
+    {
+        if self.spare > 0 {
+            self.free
+        } else {
+            self.count
+        }
+    }
+
+    /// Puts a record in at the next place, and answers that place. There is room for it (`reserve`), and its text takes as many words as
+    /// each does here.
+    pub fn put(&mut self, value: u64, bytes: &[u8]) -> usize
+        requires room { HasRoom self.old 1 }
+        requires fits { words_for (length bytes.now) ≡ self.old.size }
+        ensures place { result ≡ next_place self.old }
+        ensures put { self.new ≡ put_in self.old (held value (words_of bytes.now)) }
+        ensures room { (more : ℕ) → HasRoom self.old (more + 1) → HasRoom self.new more }
+    {
+        if self.spare == 0 {
+            let place = self.count;
+            text::push_record(&mut self.words, value, self.size, bytes);
+            self.count += 1;
+            return place;
+        }
+        let place = self.free;
+        let start = place * (self.size + 1);
+        self.free = self.words[start] as usize;
+        self.spare -= 1;
+        text::write_record(&mut self.words, start, self.size, value, bytes);
+        place
+    }
+
+    /// Takes the record at a place out. The place is the next to be taken; where no other record is left the list is given back. It asks
+    /// for no memory.
+    pub fn remove(&mut self, place: usize)
+        requires { IsHeld (spot_at self.old place) }
+        ensures { self.new ≡ removed self.old place }
+    {
+        if self.spare + 1 == self.count {
+            let alloc = *self.words.allocator();
+            self.words = Vec::new(alloc);
+            self.count = 0;
+            self.free = 0;
+            self.spare = 0;
+            return;
+        }
+        self.words[place * (self.size + 1)] = self.free as u64;
+        self.free = place;
+        self.spare += 1;
+    }
+}

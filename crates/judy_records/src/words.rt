@@ -1,0 +1,50 @@
+//! Bytes as words.
+
+ghost use Rattle.std.specs.Prelude.{◌≡◌, ◌<◌, ◌/◌, slice_index, length, drop};
+ghost use Rattle.judy_records.specs.Texts.{first_word, words_for};
+
+// The word with which the bytes begin: the first eight, the first of them the highest, zeros where bytes are missing.
+pub fn first_word(bytes: &[u8]) -> u64
+    ensures { result ≡ first_word bytes.now }
+{
+    match bytes.first_chunk::<8>() {
+        Some(whole) => u64::from_be_bytes(*whole),
+        None => short_word(bytes),
+    }
+}
+
+// The same for fewer than eight bytes.
+fn short_word(bytes: &[u8]) -> u64
+    requires { length bytes.now < 8 }
+    ensures { result ≡ first_word bytes.now }
+{
+    let mut word: u64 = 0;
+    for i in 0..8 {
+        word = word * 256 + u64::from(byte_or_zero(bytes, i));
+    }
+    word
+}
+
+// The byte at a place, zero past the end.
+fn byte_or_zero(bytes: &[u8], place: usize) -> u8
+    ensures { result ≡ slice_index bytes.now place }
+{
+    match bytes.get(place) {
+        Some(byte) => *byte,
+        None => 0,
+    }
+}
+
+// The bytes behind the first word.
+pub fn after_first(bytes: &[u8]) -> &[u8]
+    ensures { result.now ≡ drop 8 bytes.now }
+{
+    if bytes.len() <= 8 { &[] } else { &bytes[8..] }
+}
+
+// How many words so many bytes take.
+pub fn words_for(bytes: usize) -> usize
+    ensures { result ≡ words_for bytes }
+{
+    bytes / 8 + (bytes % 8).min(1)
+}

@@ -1,0 +1,3 @@
+pub mod PairLemmas
+pub mod ChunkLemmas
+pub mod SumsLemmas

@@ -1,0 +1,7 @@
+-- What has been added up so far.
+use Rattle.std.proofs.Common.{◌≡◌, take}
+use Rattle.judy_sums.specs.Pairs.{sum_of}
+use Rattle.judy_sums.proofs.chunk.sum.Given as goal
+
+abbrev pub invariant-loop-pair : goal.invariant-loop-pair
+invariant-loop-pair l = l.sum ≡ sum_of (take l.pair-index l.pairs)

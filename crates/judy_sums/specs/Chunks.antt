@@ -1,0 +1,65 @@
+-- Pairs in chunks: one list of pairs after the other.
+use Rattle.std.specs.Prelude.{◌≡◌, ◌<◌, ◌≤◌, ◌^◌, ℕ, suc, List, [], ◌∷◌, length, take, drop, T}
+use Rattle.std.specs.List.{flat_map}
+use Rattle.std.specs.FinMap.{is_sorted}
+use Rattle.judy_model.specs.Keys.{word_order}
+use Rattle.judy_sums.specs.Pairs.{Pairs, sum_of}
+
+-- A chunk begins with the word; one without pairs with any.
+abbrev pub BeginsAt : Pairs → ℕ → Type 0
+BeginsAt [] word = Unit {0}
+BeginsAt (pair ∷ rest) word = word ≡ pair.0
+
+-- It begins at the word or below it.
+abbrev pub BeginsBy : Pairs → ℕ → Type 0
+BeginsBy [] word = Unit {0}
+BeginsBy (pair ∷ rest) word = pair.0 ≤ word
+
+-- It begins above the word.
+abbrev pub BeginsAbove : Pairs → ℕ → Type 0
+BeginsAbove [] word = Unit {0}
+BeginsAbove (pair ∷ rest) word = word < pair.0
+
+-- Each word of the pairs is less than the given one.
+abbrev pub AllBelow : Pairs → ℕ → Type 0
+AllBelow [] word = Unit {0}
+AllBelow (pair ∷ rest) word = (pair.0 < word) × AllBelow rest word
+
+-- Each is at least the given one.
+abbrev pub AllFrom : Pairs → ℕ → Type 0
+AllFrom [] word = Unit {0}
+AllFrom (pair ∷ rest) word = (word ≤ pair.0) × AllFrom rest word
+
+-- The place that a word has among pairs, or would have: the words before it are less, and the others aren't.
+pub record IsPlace (pairs : Pairs) (word at : ℕ) : Type 0 where
+  pub within : at ≤ length pairs
+  pub before : AllBelow (take at pairs) word
+  pub behind : AllFrom (drop at pairs) word
+
+-- The words strictly ascend.
+abbrev pub Ascends : Pairs → Type 0
+Ascends pairs = T (is_sorted word_order pairs)
+
+-- The pairs of all chunks, in a row.
+abbrev pub joined : List Pairs → Pairs
+joined chunks = flat_map (λ chunk. chunk) chunks
+
+-- Each chunk has a pair.
+abbrev pub AllFilled : List Pairs → Type 0
+AllFilled [] = Unit {0}
+AllFilled ([] ∷ rest) = ⊥
+AllFilled ((pair ∷ chunk) ∷ rest) = AllFilled rest
+
+-- What always holds of chunks: their words ascend, from each to the next too, each has a pair, and the pairs and their sum are
+-- words.
+pub record AreChunks (chunks : List Pairs) : Type 0 where
+  pub ascend : Ascends (joined chunks)
+  pub filled : AllFilled chunks
+  pub few : length (joined chunks) < 2 ^ 64
+  pub fits : sum_of (joined chunks) < 2 ^ 64
+
+-- A word belongs to the chunk at a place: those before it have lesser words alone, and those behind it greater ones.
+pub record BelongsTo (chunks : List Pairs) (word at : ℕ) : Type 0 where
+  pub within : at < length chunks
+  pub before : AllBelow (joined (take at chunks)) word
+  pub behind : AllFrom (joined (drop (suc at) chunks)) (suc word)
