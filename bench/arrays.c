@@ -1,5 +1,5 @@
-/* Measures arrays of words beside each other, in one run and on the same keys: Sellumaq's, libJudy's (twice, which shows the run's
- * noise) and, where it is linked, Rust's BTreeMap. measure.h says what it prints.
+/* Measures arrays of words beside each other, in one run and on the same keys: Sellumaq's, by its own names and by HP's, libJudy's (twice, which
+ * shows the run's noise) and, where it is linked, Rust's BTreeMap. measure.h says what it prints.
  *
  *     arrays [KEYS ..]       how many keys, 10000 and 1000000 where none is told
  */
@@ -127,9 +127,21 @@ MEASURE(judy1_sellumaq, sellumaq_judy1, {0}, sellumaq_judy1_free(&a), sellumaq_j
         sellumaq_judy1_next(&a, k, &k), true, sellumaq_judy1_count(&a, 0, k), sellumaq_judy1_by_count(&a, k, &k), sellumaq_judy1_unset(&a, k),
         sink += sellumaq_judy1_from_sorted(&a, keys->sorted, keys->distinct, &(size_t){0}))
 
-MEASURE(judy1_libjudy, Pvoid_t, NULL, Judy1FreeArray(&a, PJE0), Judy1Set(&a, k, PJE0), Judy1Test(a, k, PJE0),
-        Judy1Next(a, &k, PJE0), true, Judy1Count(a, 0, k, PJE0), Judy1ByCount(a, k, &k, PJE0), Judy1Unset(&a, k, PJE0),
-        EACH_SORTED(Judy1Set(&a, k, PJE0)))
+/* By HP's names, one source for both libraries, whose names begin with `BY`. */
+#define MEASURE_SET_BY(BY, NAME) \
+    MEASURE(NAME, Pvoid_t, NULL, BY##Judy1FreeArray(&a, PJE0), BY##Judy1Set(&a, k, PJE0), BY##Judy1Test(a, k, PJE0), \
+            BY##Judy1Next(a, &k, PJE0), true, BY##Judy1Count(a, 0, k, PJE0), BY##Judy1ByCount(a, k, &k, PJE0), \
+            BY##Judy1Unset(&a, k, PJE0), EACH_SORTED(BY##Judy1Set(&a, k, PJE0)))
+
+RELINKED(Judy1FreeArray);
+RELINKED(Judy1Set);
+RELINKED(Judy1Test);
+RELINKED(Judy1Next);
+RELINKED(Judy1Count);
+RELINKED(Judy1ByCount);
+RELINKED(Judy1Unset);
+MEASURE_SET_BY(, judy1_libjudy)
+MEASURE_SET_BY(relinked_, judy1_relinked)
 
 static word sellumaq_value(sellumaq_judyl *map, word key) {
     word value = 0;
@@ -144,25 +156,32 @@ static bool sellumaq_next_entry(sellumaq_judyl *map, word *key, word *sum) {
     return true;
 }
 
-static word libjudy_value(Pvoid_t map, word key) {
-    word *slot = (word *)JudyLGet(map, key, PJE0);
-    return slot ? *slot : 0;
-}
-
-static bool libjudy_next_entry(Pvoid_t map, word *key, word *sum) {
-    word *slot = (word *)JudyLNext(map, (Word_t *)key, PJE0);
-    if (!slot) return false;
-    *sum += *slot;
-    return true;
-}
-
 MEASURE(judyl_sellumaq, sellumaq_judyl, {0}, sellumaq_judyl_free(&a), (void)sellumaq_judyl_put(&a, k, k), sellumaq_value(&a, k),
         sellumaq_next_entry(&a, &k, &found), true, sellumaq_judyl_count(&a, 0, k), sellumaq_judyl_by_count(&a, k, &k), sellumaq_judyl_del(&a, k),
         sink += sellumaq_judyl_from_sorted(&a, keys->pairs, keys->distinct, &(size_t){0}))
 
-MEASURE(judyl_libjudy, Pvoid_t, NULL, JudyLFreeArray(&a, PJE0), *(word *)JudyLIns(&a, k, PJE0) = k, libjudy_value(a, k),
-        libjudy_next_entry(a, &k, &found), true, JudyLCount(a, 0, k, PJE0), JudyLByCount(a, k, (Word_t *)&k, PJE0) != NULL,
-        JudyLDel(&a, k, PJE0), EACH_SORTED(*(word *)JudyLIns(&a, k, PJE0) = k))
+static word behind(PPvoid_t slot) { return slot ? *(word *)slot : 0; }
+
+/* The same of a slot that is the next key's, whose value is added to a sum. */
+static bool sums(PPvoid_t slot, word *sum) {
+    if (slot) *sum += *(word *)slot;
+    return slot != NULL;
+}
+
+#define MEASURE_MAP_BY(BY, NAME) \
+    MEASURE(NAME, Pvoid_t, NULL, BY##JudyLFreeArray(&a, PJE0), *(word *)BY##JudyLIns(&a, k, PJE0) = k, behind(BY##JudyLGet(a, k, PJE0)), \
+            sums(BY##JudyLNext(a, (Word_t *)&k, PJE0), &found), true, BY##JudyLCount(a, 0, k, PJE0), \
+            BY##JudyLByCount(a, k, (Word_t *)&k, PJE0) != NULL, BY##JudyLDel(&a, k, PJE0), EACH_SORTED(*(word *)BY##JudyLIns(&a, k, PJE0) = k))
+
+RELINKED(JudyLFreeArray);
+RELINKED(JudyLIns);
+RELINKED(JudyLGet);
+RELINKED(JudyLNext);
+RELINKED(JudyLCount);
+RELINKED(JudyLByCount);
+RELINKED(JudyLDel);
+MEASURE_MAP_BY(, judyl_libjudy)
+MEASURE_MAP_BY(relinked_, judyl_relinked)
 
 #ifdef WITH_STD
 void *btree_set_new(void);
@@ -195,6 +214,7 @@ MEASURE(judyl_btree, void *, btree_map_new(), btree_map_free(a), btree_map_inser
 static const struct array ARRAYS[] = {
     {"judy1", "sellumaq", judy1_sellumaq}, {"judy1", "libjudy", judy1_libjudy}, {"judy1", "again", judy1_libjudy},
     {"judyl", "sellumaq", judyl_sellumaq}, {"judyl", "libjudy", judyl_libjudy}, {"judyl", "again", judyl_libjudy},
+    {"judy1", "relinked", judy1_relinked}, {"judyl", "relinked", judyl_relinked},
 #ifdef WITH_STD
     {"judy1", "btreemap", judy1_btree},    {"judyl", "btreemap", judyl_btree},
 #endif

@@ -14,6 +14,9 @@
 
 typedef uint64_t word;
 
+/* A call by HP's names of this project's libJudy, beside HP's own of the same name: tools/bench names it so. */
+#define RELINKED(CALL) extern __typeof__(CALL) relinked_##CALL
+
 static word seed;
 
 static word any(void) {

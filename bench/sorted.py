@@ -67,6 +67,12 @@ def show(least, ours, theirs, plain):
         print(f"| {operation} | {missed}{ratios[0]:.2f}{missed} | {'-' if ratios[1] > 1e9 else f'{ratios[1]:.2f}'} | {goal:.1f} |")
 
 
+def show_floor(multiples, theirs):
+    """What a walk takes that does nothing but make the numbers, as one through a Judy array does too."""
+    own, beside = (min(seconds(SETS["walk"], it, (), ()) for _ in range(15)) for it in (range(0, max(multiples) + 1, 16), theirs))
+    print(f"\nA walk over Python's own range of these numbers, which makes each anew too, takes {own / beside:.2f} of SortedSet's time.")
+
+
 def main():
     try:
         from sortedcontainers import SortedDict, SortedSet
@@ -88,6 +94,7 @@ def main():
         chance.shuffle(keys)
         print()
         show(measure({"JudyL": JudyL(pairs), "SortedDict": SortedDict(pairs), "dict": pairs}, DICTS, keys, places), "JudyL", "SortedDict", "dict")
+    show_floor(keys, SortedSet(keys))
 
 
 if __name__ == "__main__":

@@ -1,5 +1,5 @@
-/* Measures maps from strings and byte strings beside each other, in one run and on the same keys: Sellumaq's, libJudy's (twice, which shows
- * the run's noise) and, where they are linked, Rust's BTreeMap and HashMap of byte vectors. measure.h says what it prints.
+/* Measures maps from strings and byte strings beside each other, in one run and on the same keys: Sellumaq's, by its own names and by HP's,
+ * libJudy's (twice, which shows the run's noise) and, where they are linked, Rust's BTreeMap and HashMap of byte vectors. measure.h says what it prints.
  *
  *     strings [KEYS ..]       how many keys, 10000 and 1000000 where none is told
  */
@@ -131,12 +131,30 @@ static word behind(PPvoid_t slot) { return slot ? *(word *)slot : 0; }
 
 MEASURE(judysl_sellumaq, sellumaq_judysl, {0}, sellumaq_judysl_free(&a), judysl_put(&a, k), judysl_value(&a, k), true, judysl_go_on(&a),
         sellumaq_judysl_del(&a, k->bytes, k->length))
-MEASURE(judysl_libjudy, Pvoid_t, NULL, JudySLFreeArray(&a, PJE0), *(word *)JudySLIns(&a, k->bytes, PJE0) = k->length,
-        behind(JudySLGet(a, k->bytes, PJE0)), true, JudySLNext(a, at.bytes, PJE0) != NULL, JudySLDel(&a, k->bytes, PJE0))
 MEASURE(judyhs_sellumaq, sellumaq_judyhs, {0}, sellumaq_judyhs_free(&a), judyhs_put(&a, k), judyhs_value(&a, k), false, false,
         sellumaq_judyhs_del(&a, k->bytes, k->length))
-MEASURE(judyhs_libjudy, Pvoid_t, NULL, JudyHSFreeArray(&a, PJE0), *(word *)JudyHSIns(&a, (void *)k->bytes, k->length, PJE0) = k->length,
-        behind(JudyHSGet(a, (void *)k->bytes, k->length)), false, false, JudyHSDel(&a, (void *)k->bytes, k->length, PJE0))
+
+/* By HP's names, one source for both libraries, whose names begin with `BY`. */
+#define MEASURE_STRINGS_BY(BY, NAME) \
+    MEASURE(NAME, Pvoid_t, NULL, BY##JudySLFreeArray(&a, PJE0), *(word *)BY##JudySLIns(&a, k->bytes, PJE0) = k->length, \
+            behind(BY##JudySLGet(a, k->bytes, PJE0)), true, BY##JudySLNext(a, at.bytes, PJE0) != NULL, BY##JudySLDel(&a, k->bytes, PJE0))
+#define MEASURE_BYTES_BY(BY, NAME) \
+    MEASURE(NAME, Pvoid_t, NULL, BY##JudyHSFreeArray(&a, PJE0), *(word *)BY##JudyHSIns(&a, (void *)k->bytes, k->length, PJE0) = k->length, \
+            behind(BY##JudyHSGet(a, (void *)k->bytes, k->length)), false, false, BY##JudyHSDel(&a, (void *)k->bytes, k->length, PJE0))
+
+RELINKED(JudySLFreeArray);
+RELINKED(JudySLIns);
+RELINKED(JudySLGet);
+RELINKED(JudySLNext);
+RELINKED(JudySLDel);
+RELINKED(JudyHSFreeArray);
+RELINKED(JudyHSIns);
+RELINKED(JudyHSGet);
+RELINKED(JudyHSDel);
+MEASURE_STRINGS_BY(, judysl_libjudy)
+MEASURE_STRINGS_BY(relinked_, judysl_relinked)
+MEASURE_BYTES_BY(, judyhs_libjudy)
+MEASURE_BYTES_BY(relinked_, judyhs_relinked)
 
 #ifdef WITH_STD
 #define DECLARE(MAP) \
@@ -158,6 +176,7 @@ MEASURE(judyhs_std, void *, hash_text_new(), hash_text_free(a), hash_text_insert
 static const struct array ARRAYS[] = {
     {"judysl", "sellumaq", judysl_sellumaq}, {"judysl", "libjudy", judysl_libjudy}, {"judysl", "again", judysl_libjudy},
     {"judyhs", "sellumaq", judyhs_sellumaq}, {"judyhs", "libjudy", judyhs_libjudy}, {"judyhs", "again", judyhs_libjudy},
+    {"judysl", "relinked", judysl_relinked}, {"judyhs", "relinked", judyhs_relinked},
 #ifdef WITH_STD
     {"judysl", "btreemap", judysl_std},      {"judyhs", "hashmap", judyhs_std},
 #endif

@@ -1,5 +1,9 @@
 """What the files of must-fail edits and of their twins say."""
 
+import re
+
+FUNCTION = re.compile(r"\s*(?:pub(?:\([^)]*\))? )?(?:const )?(?:unsafe )?(?:extern \S+ )?fn (\w+)")
+
 
 def pairs_of(edit):
     """The changes of an edit: a file, a text that stands in it once, and the text in its place."""
@@ -24,3 +28,47 @@ def changed(folder, edit):
             raise ValueError(f"{file} has {text.count(old)} times: {old}")
         texts[file] = text.replace(old, new)
     return texts
+
+
+def lines_of(folder, edit):
+    """The lines that an edit changes, as they become, by their file and number. Old and new texts are one line each, so none moves."""
+    found = {}
+    for file, text in changed(folder, edit).items():
+        before = (folder / file).read_text(encoding="utf-8").split("\n")
+        found |= {(file, at): new for at, (old, new) in enumerate(zip(before, text.split("\n"), strict=True)) if old != new}
+    return found
+
+
+def functions_of(folder, edit):
+    """The functions in which an edit changes something, each as its file, the number of its first line, and its name."""
+    found = set()
+    for file, at in lines_of(folder, edit):
+        lines = (folder / file).read_text(encoding="utf-8").split("\n")
+        begun = [(file, begin, name[1]) for begin in range(at + 1) if (name := FUNCTION.match(lines[begin]))]
+        found.add(begun[-1] if begun else (file, -1, ""))
+    return found
+
+
+def groups_of(folder, edits):
+    """The edits in as few lists as a first fit finds, in each of which no two change the same function: so each is refused or not by itself."""
+    groups = []
+    for edit in edits:
+        own = functions_of(folder, edit)
+        for taken, group in groups:
+            if not taken & own:
+                taken |= own
+                group.append(edit)
+                break
+        else:
+            groups.append((own, [edit]))
+    return [group for _, group in groups]
+
+
+def changed_by_all(folder, edits):
+    """The texts of the files that some edits change, which change different functions, as they become where all are applied."""
+    texts = {}
+    for edit in edits:
+        for (file, at), line in lines_of(folder, edit).items():
+            lines = texts.setdefault(file, (folder / file).read_text(encoding="utf-8").split("\n"))
+            lines[at] = line
+    return {file: "\n".join(lines) for file, lines in texts.items()}

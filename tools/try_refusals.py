@@ -33,16 +33,20 @@ LOAD = b"judystore: load: no-memory\n"
 AFTER = b"judystore: dump: no-memory\n"
 
 
+# How many keys a judysl array `s` has, by their order, and whether it has a second.
+COUNTS = [b"count s = #ff", b"bycount s 2"]
+
+
 def string_insert(first, second):
-    """A key that meets the tail of another one, and is put in once more where that was refused."""
+    """A key that meets the tail of another one, and is put in once more where that was refused; keys are counted behind each."""
     ins = b"ins s " + second + b" 4"
-    return [b"make s judysl", b"ins s " + first + b" 3", ins, b"get s " + first, b"get s " + second, b"list", ins]
+    return [b"make s judysl", b"ins s " + first + b" 3", ins, b"get s " + first, b"get s " + second, *COUNTS, b"list", ins, COUNTS[0]]
 
 
 # Row refused-string-insert, and two keys that share so many pieces that the list of levels has no room for theirs.
 STRING_INSERT = string_insert(b"=abcdefgh", b"=abcdefghi")
 DEEP_STRING_INSERT = string_insert(b"=" + b"abcdefgh" * 8 + b"i", b"=" + b"abcdefgh" * 8 + b"j")
-STRING_REFUSED = lines("ok\n was 0\n error no-memory\n 3\n none\n names s:judysl:1\n was 0")
+STRING_REFUSED = lines("ok\n was 0\n error no-memory\n 3\n none\n 1\n none\n names s:judysl:1\n was 0\n 2")
 
 # Row refused-chain-insert, the part of a script: beside a key one that shares its chain, since FNV-1a is 99368133 for
 # both; one of another hash and the same group; and one of a new group.
@@ -189,11 +193,18 @@ ALL_KINDS = lines("""
     ins l 6 3
     del l 5
     ins s =abcdefghijklmnopqrstuvwx 1
+    count s = #ff
     ins s =abcdefghijklmnopqrstuvwy 2
+    count s = #ff
     ins s =abcdefghijklmnop 3
+    count s =abcdefghijklmnop =abcdefghijklmnopqrstuvwx
     del s =abcdefghijklmnopqrstuvwx
+    count s = #ff
     ins s =abcdefgh 4
+    bycount s 2
     ins s =abcdefghijklmnopqrstuvwx 5
+    bycount s 3
+    count s = #ff
     ins h =abcdefghi 1
     ins h =abcdefghj 2
     del h =abcdefghi

@@ -116,6 +116,13 @@ uint32_t sellumaq_judyl_insert(sellumaq_judyl *map, uint64_t key, uint64_t value
 /* The value of a key; false where the key is absent. */
 bool sellumaq_judyl_get(const sellumaq_judyl *map, uint64_t key, uint64_t *value);
 
+/* What a look-up of many keys tells of one: its value and 1; 0 and 0 where it is absent. */
+typedef struct { uint64_t value, there; } sellumaq_found;
+
+/* Looks up the keys of a list, as many as there is room for, and tells of each at its place what `sellumaq_judyl_get` answers; answers how
+ * many these are. Up to 16 keys go down the map side by side and wait for memory together, which takes less time than a call each. */
+size_t sellumaq_judyl_get_many(const sellumaq_judyl *map, const uint64_t *keys, size_t count, sellumaq_found *found, size_t capacity);
+
 /* The slot of a key; false where the key is absent. */
 bool sellumaq_judyl_slot(const sellumaq_judyl *map, uint64_t key, uint64_t **slot);
 
@@ -169,8 +176,9 @@ uint64_t sellumaq_judyl_free(sellumaq_judyl *map);
 
 /* ---- maps from strings and from byte strings: what both have ---- */
 
-/* The most bytes of a key. */
+/* The most bytes of a key of a map from strings, and of one from byte strings: as many as an object of C may have. */
 #define SELLUMAQ_KEY_BYTES 1024
+#define SELLUMAQ_JUDYHS_KEY_BYTES ((size_t)PTRDIFF_MAX)
 
 /* What a walk tells of a key: how many bytes it has, and its value. */
 typedef struct { size_t length; uint64_t value; } sellumaq_entry;
@@ -227,12 +235,21 @@ size_t sellumaq_judysl_walk(const sellumaq_judysl *map, const uint8_t *from, siz
 /* How many keys there are. */
 uint64_t sellumaq_judysl_len(const sellumaq_judysl *map);
 
+/* How many keys there are from one string to another, both included; 0 where the first is above the second, or where a map can't hold one of
+ * the two. For now it takes as long as a walk over the keys that it counts. */
+uint64_t sellumaq_judysl_count(const sellumaq_judysl *map, const uint8_t *from, size_t from_length, const uint8_t *to, size_t to_length);
+
+/* The n-th key, counted from 1, told as those of the scans are: SELLUMAQ_FOUND, and the key is in the first `*length` bytes of the buffer,
+ * whatever was there before. Else nothing is written: SELLUMAQ_NONE for 0 and above the number of keys, SELLUMAQ_TOO_SMALL where it doesn't fit.
+ * For now it takes as long as a walk over the keys up to it. */
+uint32_t sellumaq_judysl_by_count(const sellumaq_judysl *map, uint64_t n, uint8_t *buffer, size_t capacity, size_t *length, uint64_t *value);
+
 /* Gives all memory back, and answers how many keys there were. The handle is the empty array then. */
 uint64_t sellumaq_judysl_free(sellumaq_judysl *map);
 
 /* ---- maps from byte strings to words ----
  *
- * A key is 0 to 1,024 bytes of any value. The keys are in no order. */
+ * A key is 0 or more bytes of any value. The keys are in no order. */
 
 typedef struct { void *array; } sellumaq_judyhs;
 
@@ -248,7 +265,7 @@ uint32_t sellumaq_judyhs_put(sellumaq_judyhs *map, const uint8_t *key, size_t le
 /* The same, and where the key was there it tells the value that it had. It takes no second way down the map. */
 uint32_t sellumaq_judyhs_insert(sellumaq_judyhs *map, const uint8_t *key, size_t length, uint64_t value, uint64_t *was);
 
-/* The value of a key; false where the key is absent, as longer ones always are. */
+/* The value of a key; false where the key is absent. */
 bool sellumaq_judyhs_get(const sellumaq_judyhs *map, const uint8_t *key, size_t length, uint64_t *value);
 
 /* The slot of a key; false where the key is absent. */
@@ -263,7 +280,7 @@ bool sellumaq_judyhs_remove(sellumaq_judyhs *map, const uint8_t *key, size_t len
 
 /* The keys with their values, by the lengths of the keys, and those of one length by their bytes, but for the first `behind` ones; they are
  * told as `sellumaq_judysl_walk` tells them, and `*count` is how many. The map keeps no order: each call makes a list of all keys and sorts it,
- * so that few calls with large buffers are better than many. False, and nothing is written, where there is no memory for the list. */
+ * so that few calls with large buffers are better than many. Where no key was told and one is left, it has more than `room` bytes. False, and nothing is written, where there is no memory for the list. */
 bool sellumaq_judyhs_walk(const sellumaq_judyhs *map, size_t behind, uint8_t *bytes, size_t room, sellumaq_entry *entries, size_t capacity, size_t *count);
 
 /* How many keys there are. */

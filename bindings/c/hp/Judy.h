@@ -2,8 +2,8 @@
  * so that a program written for libJudy compiles and links unchanged. Its functions are in this project's libJudy.
  *
  * What differs from HP's library:
- *   - A string or byte string that is a key has at most 1,024 bytes, and their arrays hold at most 4,294,967,295 keys. An insert beyond
- *     either is refused with JU_ERRNO_FULL. A longer string is found absent, and never deleted; a search may begin at it.
+ *   - A string that is a key has at most 1,024 bytes, and arrays of strings and of byte strings hold at most 4,294,967,295 keys. An
+ *     insert beyond either is refused with JU_ERRNO_FULL. A longer string is found absent, and never deleted; a search may begin at it.
  *   - `MemUsed` and `FreeArray` answer the bytes of the array's blocks as malloc gave them (malloc_usable_size(3)), and `MemActive`
  *     the same as `MemUsed`.
  *   - An array is found corrupt or of another kind by no call, so of the error numbers only those below with a comment come.
@@ -135,7 +135,7 @@ extern const char *JudyLMallocSizes;
 
 /* The short forms: the answer goes into the first word named, and the array is named as the variable that holds it. On an error
  * JUDYERROR is called, which a program may define before it includes this header. With JUDYERROR_NOTEST it isn't called, and the
- * answer tells the error. Each is a block, as HP's are, or an expression where no error can come. */
+ * answer tells the error. Each is a block or an expression, as HP's is. */
 #ifdef JUDYERROR_NOTEST
 
 #define J_SE(name, number) ((void)0)
@@ -154,12 +154,15 @@ extern const char *JudyLMallocSizes;
     { JError_t sellumaq_j_error; JU_ERRNO(&sellumaq_j_error) = (number); JU_ERRID(&sellumaq_j_error) = __LINE__; J_E(name, &sellumaq_j_error); }
 #define SELLUMAQ_J_ANSWER(type, answer, wrong, name, call) \
     { JError_t sellumaq_j_error; PJError_t sellumaq_j_told = &sellumaq_j_error; type sellumaq_j_answer = (call); \
-      (answer) = sellumaq_j_answer; if (sellumaq_j_answer == (type)(wrong)) J_E(name, sellumaq_j_told); }
+      SELLUMAQ_J_SET(answer, sellumaq_j_answer); if (sellumaq_j_answer == (type)(wrong)) J_E(name, sellumaq_j_told); }
 #define SELLUMAQ_J_SLOT(slot, name, call) \
     { JError_t sellumaq_j_error; PJError_t sellumaq_j_told = &sellumaq_j_error; PPvoid_t sellumaq_j_slot = (call); \
-      (slot) = SELLUMAQ_J_POINTER(sellumaq_j_slot); if (sellumaq_j_slot == PPJERR) J_E(name, sellumaq_j_told); }
+      SELLUMAQ_J_SET(slot, SELLUMAQ_J_POINTER(sellumaq_j_slot)); if (sellumaq_j_slot == PPJERR) J_E(name, sellumaq_j_told); }
 
 #endif
+
+/* Sets a variable of the program's that it needn't read: no compiler calls it unused. */
+#define SELLUMAQ_J_SET(variable, value) ((void)(((variable) = (value)) ? 1 : 0))
 
 /* A slot is a pointer of any type to the program. */
 #ifdef __cplusplus
@@ -180,7 +183,7 @@ static inline sellumaq_j_pointer sellumaq_j_pointed(PPvoid_t slot) { sellumaq_j_
 #define J1S(found, array, key) SELLUMAQ_J_INT(found, "Judy1Set", Judy1Set(&(array), key, sellumaq_j_told))
 #define J1SA(found, array, count, keys) SELLUMAQ_J_INT(found, "Judy1SetArray", Judy1SetArray(&(array), count, keys, sellumaq_j_told))
 #define J1U(found, array, key) SELLUMAQ_J_INT(found, "Judy1Unset", Judy1Unset(&(array), key, sellumaq_j_told))
-#define J1C(count, array, from, to) ((count) = Judy1Count((Pcvoid_t)(array), from, to, PJE0))
+#define J1C(count, array, from, to) { SELLUMAQ_J_SET(count, Judy1Count((Pcvoid_t)(array), from, to, PJE0)); }
 #define J1BC(found, array, n, key) SELLUMAQ_J_INT(found, "Judy1ByCount", Judy1ByCount((Pcvoid_t)(array), n, &(key), sellumaq_j_told))
 #define J1FA(bytes, array) SELLUMAQ_J_WORD(bytes, "Judy1FreeArray", Judy1FreeArray(&(array), sellumaq_j_told))
 #define J1MU(bytes, array) ((bytes) = Judy1MemUsed((Pcvoid_t)(array)))
@@ -197,7 +200,7 @@ static inline sellumaq_j_pointer sellumaq_j_pointed(PPvoid_t slot) { sellumaq_j_
 #define JLI(slot, array, key) SELLUMAQ_J_SLOT(slot, "JudyLIns", JudyLIns(&(array), key, sellumaq_j_told))
 #define JLIA(found, array, count, keys, values) SELLUMAQ_J_INT(found, "JudyLInsArray", JudyLInsArray(&(array), count, keys, values, sellumaq_j_told))
 #define JLD(found, array, key) SELLUMAQ_J_INT(found, "JudyLDel", JudyLDel(&(array), key, sellumaq_j_told))
-#define JLC(count, array, from, to) ((count) = JudyLCount((Pcvoid_t)(array), from, to, PJE0))
+#define JLC(count, array, from, to) { SELLUMAQ_J_SET(count, JudyLCount((Pcvoid_t)(array), from, to, PJE0)); }
 #define JLBC(slot, array, n, key) SELLUMAQ_J_SLOT(slot, "JudyLByCount", JudyLByCount((Pcvoid_t)(array), n, &(key), sellumaq_j_told))
 #define JLFA(bytes, array) SELLUMAQ_J_WORD(bytes, "JudyLFreeArray", JudyLFreeArray(&(array), sellumaq_j_told))
 #define JLMU(bytes, array) ((bytes) = JudyLMemUsed((Pcvoid_t)(array)))

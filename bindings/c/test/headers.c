@@ -11,6 +11,23 @@ static void told(const char *name, int number);
 static void told(const char *name, int number) { fprintf(stderr, "%s: %d\n", name, number); }
 #endif
 
+/* Answers that a program doesn't read, and blocks with no semicolon behind them. */
+#ifndef JUDYERROR_NOTEST
+void ignores(Pvoid_t set, Pvoid_t map, uint8_t *string);
+void ignores(Pvoid_t set, Pvoid_t map, uint8_t *string) {
+    int found;
+    Word_t count, key = 0;
+    PWord_t slot;
+    J1S(found, set, 5)
+    J1C(count, set, 0, 9)
+    JLI(slot, map, 5)
+    JLC(count, map, 0, 9)
+    JLFA(count, map)
+    JLN(slot, map, key)
+    JSLN(slot, map, string)
+}
+#endif
+
 /* An array's name may be any, also one that the short forms might use, and a slot any pointer. */
 Word_t uses(Pvoid_t je, Pvoid_t error);
 Word_t uses(Pvoid_t je, Pvoid_t error) {

@@ -120,18 +120,45 @@ static void byte_strings(void) {
     JHSI(slot, map, bytes, 4); CHECK(*slot == 1);
     JHSI(slot, map, bytes, 1024); CHECK(*slot == 0); *slot = 2;
     JHSI(slot, map, bytes, 0); *slot = 3;
-    CHECK(JudyHSIns(&map, bytes, 1025, PJE0) == PPJERR);
+    JHSI(slot, map, bytes, 1025); CHECK(*slot == 0); *slot = 4;
     JHSG(slot, map, bytes, 1024); CHECK(*slot == 2);
     JHSG(slot, map, NULL, 0); CHECK(*slot == 3);
-    JHSG(slot, map, bytes, 1025); CHECK(slot == NULL);
+    JHSG(slot, map, bytes, 1025); CHECK(*slot == 4);
     JHSG(slot, map, NULL, 1); CHECK(slot == NULL);
+    JHSD(found, map, bytes, 1025); CHECK(found == 1);
     JHSD(found, map, bytes, 1025); CHECK(found == 0);
     JHSD(found, map, bytes, 4); CHECK(found == 1);
     JHSD(found, map, bytes, 4); CHECK(found == 0);
     JHSFA(count, map); CHECK(count > 0 && map == NULL);
     JHSI(slot, map, bytes, 9);
     JHSD(found, map, bytes, 9); CHECK(found == 1 && map == NULL);
-    CHECK(JudyHSIns(&map, bytes, 1025, PJE0) == PPJERR && map == NULL);
+    CHECK(JudyHSIns(&map, bytes, ~(Word_t)0, PJE0) == PPJERR && map == NULL);
+}
+
+/* Byte strings of any length: each key's bytes are the array's, a delete gives them back, and so does the end of the array. */
+static void long_byte_strings(void) {
+    enum { LONGEST = 100000 };
+    static const Word_t lengths[] = {1024, 1025, 3542, LONGEST};
+    static uint8_t bytes[LONGEST];
+    Pvoid_t map = NULL;
+    Word_t count, *slot;
+    int found;
+    memset(bytes, 'k', LONGEST);
+    for (int n = 0; n < 4; n++) {
+        JHSG(slot, map, bytes, lengths[n]); CHECK(slot == NULL);
+        JHSI(slot, map, bytes, lengths[n]); CHECK(*slot == 0); *slot = lengths[n];
+        bytes[lengths[n] - 1] = 'j';
+        JHSI(slot, map, bytes, lengths[n]); CHECK(*slot == 0); *slot = 1;
+        bytes[lengths[n] - 1] = 'k';
+    }
+    for (int n = 0; n < 4; n++) {
+        JHSG(slot, map, bytes, lengths[n]); CHECK(*slot == lengths[n]);
+        JHSD(found, map, bytes, lengths[n]); CHECK(found == 1);
+        JHSG(slot, map, bytes, lengths[n]); CHECK(slot == NULL);
+    }
+    JHSFA(count, map); CHECK(count > 1024 + 1025 + 3542 + LONGEST && count < 2 * LONGEST && map == NULL);
+    JHSI(slot, map, bytes, LONGEST);
+    JHSD(found, map, bytes, LONGEST); CHECK(found == 1 && map == NULL);
 }
 
 /* The bytes of each array are its own, whatever the others take, and all of them are given back. */
@@ -218,6 +245,7 @@ int main(int argc, char **argv) {
     maps();
     strings();
     byte_strings();
+    long_byte_strings();
     memory();
     refused();
     puts("hp: ok");

@@ -62,7 +62,7 @@ static void edges(void) {
     sellumaq_judyhs hashed = {0};
     memset(longer, 'x', sizeof longer);
     CHECK(sellumaq_judysl_put(&strings, longer, sizeof longer, 1) == SELLUMAQ_BAD_KEY && sellumaq_judysl_insert(&strings, zero, 2, 1, &was) == SELLUMAQ_BAD_KEY);
-    CHECK(sellumaq_judyhs_insert(&hashed, longer, sizeof longer, 1, &was) == SELLUMAQ_BAD_KEY && sellumaq_judyhs_put(&hashed, zero, 2, 1) == SELLUMAQ_ADDED);
+    CHECK(sellumaq_judyhs_insert(&hashed, longer, SELLUMAQ_JUDYHS_KEY_BYTES + 1, 1, &was) == SELLUMAQ_BAD_KEY && sellumaq_judyhs_put(&hashed, zero, 2, 1) == SELLUMAQ_ADDED);
     CHECK(!sellumaq_judysl_remove(&strings, zero, 1, &was) && strings.array == NULL && was == 7);
     CHECK(sellumaq_judysl_put(&strings, zero, 1, 5) == SELLUMAQ_ADDED && sellumaq_judysl_put(&strings, longer, 1024, 6) == SELLUMAQ_ADDED);
     CHECK(sellumaq_judysl_free(&strings) == 2 && sellumaq_judyhs_free(&hashed) == 1);

@@ -25,11 +25,13 @@ static size_t length_of(int place) { return strlen((char *)strings[place]); }
 static int next_held(int place) { for (; place < STRINGS; place++) if (held[place]) return place; return -1; }
 static int prev_held(int place) { for (; place >= 0; place--) if (held[place]) return place; return -1; }
 
-static uint64_t count_held(void) {
+static uint64_t held_between(int from, int end) {
     uint64_t count = 0;
-    for (int place = 0; place < STRINGS; place++) count += held[place];
+    for (int place = from; place < end; place++) count += held[place];
     return count;
 }
+
+static uint64_t count_held(void) { return held_between(0, STRINGS); }
 
 typedef uint32_t scan(const sellumaq_judysl *map, uint8_t *buffer, size_t capacity, size_t *length, uint64_t *value);
 
@@ -47,6 +49,31 @@ static bool told(scan *call, sellumaq_judysl *map, int from, int place) {
     if (place < 0 || length_of(place) <= length_of(from)) return true;
     memcpy(buffer, strings[from], length = length_of(from));
     return call(map, buffer, found - 1, &length, &value) == SELLUMAQ_TOO_SMALL && length == length_of(from) && !memcmp(buffer, strings[from], length);
+}
+
+/* Whether the n-th key is the one at a place, or there is none for -1; and nothing is written but that. */
+static bool is_nth(const sellumaq_judysl *map, uint64_t n, int place) {
+    uint8_t buffer[LONGEST + 1];
+    size_t length = 77;
+    uint64_t value = 77;
+    memset(buffer, '~', sizeof buffer);
+    uint32_t answer = sellumaq_judysl_by_count(map, n, buffer, LONGEST, &length, &value);
+    if (place < 0) return answer == SELLUMAQ_NONE && length == 77 && value == 77 && buffer[0] == '~';
+    if (answer != SELLUMAQ_FOUND || length != length_of(place) || memcmp(buffer, strings[place], length) || value != values[place]) return false;
+    if (buffer[LONGEST] != '~') return false;
+    length = value = 77;
+    return sellumaq_judysl_by_count(map, n, buffer, length_of(place) - 1, &length, &value) == SELLUMAQ_TOO_SMALL && length == 77 && value == 77;
+}
+
+/* Counts from a string of the table and up to it, and the key that a count gives back. */
+static void compare_counts(const sellumaq_judysl *map, int place) {
+    const uint8_t *from = strings[place], *last = strings[STRINGS - 1];
+    size_t length = length_of(place), last_length = length_of(STRINGS - 1);
+    uint64_t up_to = sellumaq_judysl_count(map, from, 0, from, length);
+    CHECK(up_to == held_between(0, place + 1));
+    CHECK(sellumaq_judysl_count(map, from, length, last, last_length) == held_between(place, STRINGS));
+    CHECK(sellumaq_judysl_count(map, last, last_length, from, length) == (place == STRINGS - 1 ? held[place] : 0));
+    CHECK(is_nth(map, up_to, prev_held(place)) && is_nth(map, up_to + 1, next_held(place + 1)) && is_nth(map, 0, -1));
 }
 
 static void compare(sellumaq_judysl *map, int place) {
@@ -82,6 +109,10 @@ static void edges(sellumaq_judysl *map) {
     length = SELLUMAQ_KEY_BYTES;
     CHECK(sellumaq_judysl_last(map, longest, sizeof longest, &length, &value) == SELLUMAQ_FOUND && length == SELLUMAQ_KEY_BYTES && value == 5);
     CHECK(sellumaq_judysl_prev(map, longest, sizeof longest, &length, &value) == SELLUMAQ_FOUND && length == 0 && value == 0);
+    CHECK(sellumaq_judysl_count(map, zero, 0, longest, SELLUMAQ_KEY_BYTES) == 2 && sellumaq_judysl_count(map, longest, SELLUMAQ_KEY_BYTES, zero, 0) == 0);
+    CHECK(sellumaq_judysl_count(map, zero, 3, longest, SELLUMAQ_KEY_BYTES) == 0 && sellumaq_judysl_count(map, zero, 0, longest, sizeof longest) == 0);
+    CHECK(sellumaq_judysl_by_count(map, 2, longest, sizeof longest, &length, &value) == SELLUMAQ_FOUND && length == SELLUMAQ_KEY_BYTES && value == 5);
+    CHECK(sellumaq_judysl_by_count(map, 1, zero, 0, &length, &value) == SELLUMAQ_FOUND && length == 0 && value == 0);
     CHECK(sellumaq_judysl_free(map) == 2);
 }
 
@@ -90,6 +121,7 @@ int main(void) {
     make_strings();
     edges(&map);
     compare(&map, 5);
+    compare_counts(&map, 5);
     CHECK(map.array == NULL && !sellumaq_judysl_del(&map, strings[3], length_of(3)));
     for (int turn = 0; turn < 20000; turn++) {
         int place = (int)(any() % STRINGS);
@@ -104,6 +136,7 @@ int main(void) {
             held[place] = false;
         }
         compare(&map, (int)(any() % STRINGS));
+        if (turn % 16 == 0) compare_counts(&map, (int)(any() % STRINGS));
     }
     uint64_t left = count_held();
     CHECK(sellumaq_judysl_free(&map) == left && sellumaq_judysl_free(&map) == 0);

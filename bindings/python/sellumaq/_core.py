@@ -1,12 +1,15 @@
 """Which types the arrays stand on: those of the extension, or, where it wasn't built or SELLUMAQ_BINDING is `ctypes`, those of the fallback."""
 
 import os
+from typing import TYPE_CHECKING
 
 BINDING = os.environ.get("SELLUMAQ_BINDING", "")
 if BINDING not in ("", "extension", "ctypes"):
     raise ImportError(f"SELLUMAQ_BINDING is neither `extension` nor `ctypes`: {BINDING}")
 
-if BINDING == "ctypes":
+if TYPE_CHECKING:
+    from ._native import BytesHash, BytesMap, TextHash, TextMap, WordMap, WordSet
+elif BINDING == "ctypes":
     from ._fallback import BytesHash, BytesMap, TextHash, TextMap, WordMap, WordSet
 else:
     try:

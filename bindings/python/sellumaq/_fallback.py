@@ -27,6 +27,7 @@ _FOUND, _NO_MEMORY, _FULL, _BAD_KEY = 1, 2, 3, 4
 _PUT = 0, 1
 
 _MISSING = object()
+_NONE = iter(())
 
 
 class _Handle(ctypes.Structure):
@@ -230,6 +231,10 @@ class WordMap(_Words, _Map):
         if self._calls["put"](self._handle, _checked(key), _checked(value)) == _NO_MEMORY:
             raise MemoryError
 
+    def get_many(self, keys, /):
+        """The values of the keys of an iterable, in a list, with None where one isn't there."""
+        return [WordMap.get(self, key) for key in keys]
+
     def _fill(self, pairs):
         for key, value in pairs:
             WordMap.__setitem__(self, key, value)
@@ -243,7 +248,7 @@ class _Strings(_Map):
             key = self._bytes(key)
         except TypeError:
             return None
-        return (key, len(key)) if len(key) <= MAX_KEY else None
+        return key, len(key)
 
     def __setitem__(self, key, value):
         word, string = _checked(value), self._bytes(key)
@@ -286,7 +291,27 @@ def _could_be_key(string):
 
 
 class _OrderedStrings(_Strings):
-    _kind = _string_calls("judysl", "first", "next", "last", "prev")
+    _kind = _string_calls("judysl", "first", "next", "last", "prev") | {
+        "count": _call("judysl_count", _word, *_key, *_key),
+        "by_count": _call("judysl_by_count", ctypes.c_uint32, _word, *_buffer),
+    }
+
+    def bisect_left(self, string):
+        """How many keys there are below a string."""
+        return self.bisect_right(string) - (string in self)
+
+    def bisect_right(self, string):
+        """How many keys there are up to a string."""
+        key, _ = _could_be_key(self._bytes(string))
+        return self._calls["count"](self._handle, b"", 0, key, len(key))
+
+    def _key_at(self, place):
+        at = whole(place)
+        at += len(self) if at < 0 else 0
+        key, length, value = ctypes.create_string_buffer(MAX_KEY), ctypes.c_size_t(), _word()
+        if 0 <= at < MAX and self._calls["by_count"](self._handle, at + 1, key, MAX_KEY, length, value) == _FOUND:
+            return self._object(ctypes.string_at(key, length.value))
+        raise IndexError(f"no key at place {place!r}")
 
     def _cursor(self, part, low, high, reverse):
         bound = high if reverse else low
@@ -315,19 +340,41 @@ class _Entry(ctypes.Structure):
 
 
 class _Hash(_Strings):
+    # The keys that `popitem` takes out next, of which some may be gone.
+    __slots__ = ("_ahead",)
+
     _kind = _string_calls("judyhs") | {
         "walk": _call("judyhs_walk", ctypes.c_bool, ctypes.c_size_t, *_key, ctypes.POINTER(_Entry), ctypes.c_size_t, ctypes.POINTER(ctypes.c_size_t))
     }
 
+    def clear(self):
+        """Takes every key out and gives the memory back."""
+        self._ahead = _NONE
+        super().clear()
+
+    def popitem(self):
+        """Takes out a pair, which may be any, and answers it; KeyError where the dict is empty. Keys are listed an eighth of them at a time."""
+        while len(self):
+            key = next(getattr(self, "_ahead", _NONE), _MISSING)
+            if key is _MISSING:
+                self._ahead = iter(self._told(KEYS, min(len(self), len(self) // 8 + 64)))
+                continue
+            value = _Hash.pop(self, key, None)
+            if value is not None:
+                return key, value
+        raise KeyError("popitem(): dictionary is empty")
+
     def _list(self, part):
-        """All are told by one call, so that none comes or goes meanwhile."""
-        room, count, found = 64 * (len(self) + 16), ctypes.c_size_t(), []
+        return self._told(part, len(self))
+
+    def _told(self, part, most):
+        """The first keys of a walk. They are told by one call, so that none comes or goes meanwhile."""
+        room, count, found = 64 * (most + 16), ctypes.c_size_t(), []
         while True:
-            capacity = len(self) + 1
-            keys, entries = ctypes.create_string_buffer(room), (_Entry * capacity)()
-            if not self._calls["walk"](self._handle, 0, keys, room, entries, capacity, count):
+            keys, entries = ctypes.create_string_buffer(room), (_Entry * (most + 1))()
+            if not self._calls["walk"](self._handle, 0, keys, room, entries, most, count):
                 raise MemoryError
-            if count.value == len(self):
+            if count.value == min(most, len(self)):
                 break
             room *= 4
         text, at = keys.raw, 0

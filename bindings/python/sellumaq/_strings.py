@@ -8,6 +8,7 @@ from typing import Any
 from . import _core, _views
 from ._core import ITEMS, KEYS, VALUES
 from ._maps import Copied, Dict
+from ._places import PlacedDict
 
 
 class _Text:
@@ -36,7 +37,7 @@ class _Strings(Dict):
             self[key] = value
 
 
-class _Ordered(Copied, _Strings):
+class _Ordered(PlacedDict, Copied, _Strings):
     """What both kinds of JudySL have alike. A bound may be any string, also one that can't be a key."""
 
     def __iter__(self) -> Iterator[Any]:
@@ -50,18 +51,6 @@ class _Ordered(Copied, _Strings):
 
     def _values(self, reverse: bool) -> Iterator[int]:
         return self._cursor(VALUES, None, None, reverse)
-
-    def keys(self) -> _views.Keys:
-        """The keys, in order."""
-        return _views.Keys(self)
-
-    def items(self) -> _views.Items:
-        """The pairs, by the order of their keys."""
-        return _views.Items(self)
-
-    def values(self) -> _views.Values:
-        """The values, by the order of their keys."""
-        return _views.Values(self)
 
     def at_or_after(self, string: Any) -> Any:
         """The least key from a string on, or None.
@@ -93,39 +82,17 @@ class _Ordered(Copied, _Strings):
         out = [bound for bound, kept in zip((minimum, maximum), inclusive) if not kept and bound is not None]
         return (key for key in keys if key not in out) if out else keys
 
-    def range(self, start: Any = None, stop: Any = None) -> Iterator[Any]:
-        """The keys from start on and below stop, in ascending order.
-
-        >>> from sellumaq import JudySL
-        >>> list(JudySL(a=1, b=2, c=3).range("a", "c"))
-        ['a', 'b']
-        """
-        return self.irange(start, stop, (True, False))
-
-    def peekitem(self, *, last: bool = True) -> tuple[Any, int]:
-        """The last pair, or the first one; IndexError where the dict is empty.
-
-        >>> from sellumaq import JudySL
-        >>> JudySL(a=1, b=2).peekitem(last=False)
-        ('a', 1)
-        """
-        pair = next(self._items(last), None)
-        if pair is None:
-            raise IndexError("the dict is empty")
-        return pair
-
-    def popitem(self, *, last: bool = True) -> tuple[Any, int]:
-        """Takes out the last pair, or the first one; KeyError where the dict is empty.
-
-        >>> from sellumaq import JudySL
-        >>> ages = JudySL(a=1, b=2)
-        >>> ages.popitem(), ages
-        (('b', 2), JudySL({'a': 1}))
-        """
-        if not self:
-            raise KeyError("popitem(): dictionary is empty")
-        key, _ = self.peekitem(last=last)
-        return key, self.pop(key)
+    def _at(self, place: Any) -> Any:
+        if place in (0, -1):
+            # No key is counted for these.
+            for key in self if place == 0 else reversed(self):
+                return key
+        if not isinstance(place, slice):
+            return self._key_at(place)
+        places = range(*place.indices(len(self)))
+        if not places or abs(places.step) > 1:
+            return [self._key_at(each) for each in places]
+        return list(self.irange(self._key_at(min(places)), self._key_at(max(places)), reverse=places.step < 0))
 
 
 class JudySL(_core.TextMap, _Text, _Ordered):
@@ -162,20 +129,35 @@ class _Unordered(Copied, _Strings):
         return reversed(self._list(VALUES)) if reverse else iter(self._list(VALUES))
 
     def keys(self) -> _views.Keys:
-        """The keys."""
+        """The keys.
+
+        >>> from sellumaq import JudyHS
+        >>> list(JudyHS(b=2, a=1).keys())
+        ['a', 'b']
+        """
         return _views.Keys(self)
 
     def items(self) -> _views.Items:
-        """The pairs."""
+        """The pairs.
+
+        >>> from sellumaq import JudyHS
+        >>> list(JudyHS(b=2, a=1).items())
+        [('a', 1), ('b', 2)]
+        """
         return _views.Items(self)
 
     def values(self) -> _views.Values:
-        """The values."""
+        """The values.
+
+        >>> from sellumaq import JudyHS
+        >>> list(JudyHS(b=2, a=1).values())
+        [1, 2]
+        """
         return _views.Values(self)
 
 
 class JudyHS(_core.TextHash, _Text, _Unordered):
-    """A dict from str of at most 1,024 bytes in UTF-8 to words, in no order.
+    """A dict from str to words, in no order.
 
     >>> ages = JudyHS(Alan=41, Ada=36)
     >>> ages["Ada"], len(ages), ages == {"Ada": 36, "Alan": 41}, list(ages)
@@ -184,7 +166,7 @@ class JudyHS(_core.TextHash, _Text, _Unordered):
 
 
 class JudyHSBytes(_core.BytesHash, _Bytes, _Unordered):
-    """A dict from at most 1,024 bytes to words, in no order.
+    """A dict from bytes to words, in no order.
 
     >>> JudyHSBytes({b"a\\0": 1})
     JudyHSBytes({b'a\\x00': 1})

@@ -6,9 +6,10 @@ from collections.abc import Iterable, Iterator, MutableSet, Sequence, Set
 from operator import index as whole
 from typing import Any, SupportsIndex
 
-from . import _core, _views
+from . import _core
 from ._core import ITEMS, KEYS, MAX, VALUES
 from ._maps import Copied, Dict
+from ._places import Placed, PlacedDict
 
 
 class _Ordered:
@@ -37,70 +38,8 @@ class _Ordered:
         high = MAX if maximum is None else min(whole(maximum) - (not inclusive[1]), MAX)
         return self._cursor(KEYS, low, high, reverse) if low <= high else iter(())
 
-    def islice(self, start: int | None = None, stop: int | None = None, reverse: bool = False) -> Iterator[int]:
-        """The keys of the places from start on and below stop.
 
-        >>> from sellumaq import Judy1
-        >>> list(Judy1([10, 20, 30, 40]).islice(1, -1))
-        [20, 30]
-        """
-        first, last, _ = slice(start, stop).indices(len(self))
-        return self._cursor(KEYS, self._at(first), self._at(last - 1), reverse) if first < last else iter(())
-
-    def range(self, start: SupportsIndex | None = None, stop: SupportsIndex | None = None) -> Iterator[int]:
-        """The keys from start on and below stop, in ascending order.
-
-        >>> from sellumaq import Judy1
-        >>> list(Judy1([10, 20, 30]).range(10, 30))
-        [10, 20]
-        """
-        return self.irange(start, stop, (True, False))
-
-    def count_range(self, start: SupportsIndex = 0, stop: SupportsIndex = MAX + 1) -> int:
-        """How many keys there are from start on and below stop. No way through them is made.
-
-        >>> from sellumaq import Judy1
-        >>> Judy1([10, 20, 30]).count_range(10, 30)
-        2
-        """
-        return max(self.bisect_left(stop) - self.bisect_left(start), 0)
-
-    def nth(self, n: int) -> int:
-        """The n-th key in ascending order, counted from 0; IndexError where there is none.
-
-        >>> from sellumaq import Judy1
-        >>> Judy1([10, 20, 30]).nth(1)
-        20
-        """
-        if n < 0:
-            raise IndexError(n)
-        return self._at(n)
-
-    def bisect(self, number: SupportsIndex) -> int:
-        """How many keys there are up to a number; `bisect_right` is the same, and `bisect_left` leaves the number out.
-
-        >>> from sellumaq import Judy1
-        >>> some = Judy1([10, 20, 30])
-        >>> some.bisect(20), some.bisect_right(20), some.bisect_left(20)
-        (2, 2, 1)
-        """
-        return self.bisect_right(number)
-
-    def index(self, key: Any, start: int | None = None, stop: int | None = None) -> int:
-        """The place of a key, which must lie from start on and below stop; ValueError where it isn't there.
-
-        >>> from sellumaq import Judy1
-        >>> Judy1([10, 20, 30]).index(30)
-        2
-        """
-        if key in self:
-            place = self.bisect_left(key)
-            if (start is None and stop is None) or place in range(*slice(start, stop).indices(len(self))):
-                return place
-        raise ValueError(f"{key!r} is not in the places asked for")
-
-
-class Judy1(_core.WordSet, _Ordered, MutableSet, Sequence):
+class Judy1(_core.WordSet, _Ordered, Placed, MutableSet, Sequence):
     """A set of the words 0 to 2**64 - 1, in ascending order, whose keys have places.
 
     >>> some = Judy1([30, 10, 20])
@@ -279,12 +218,14 @@ class Judy1(_core.WordSet, _Ordered, MutableSet, Sequence):
         return f"{type(self).__name__}({list(self) if self else ''})"
 
 
-class JudyL(_core.WordMap, _Ordered, Copied, Dict):
+class JudyL(_core.WordMap, _Ordered, PlacedDict, Copied, Dict):
     """A dict from words to words, in ascending order, whose keys have places.
 
     >>> squares = JudyL({n: n * n for n in range(1, 5)})
-    >>> squares[3], squares.get(9), squares.pop(4), squares.peekitem(0)
-    (9, None, 16, (1, 1))
+    >>> squares[3], squares.get(9), squares.get_many([3, 9, 2])
+    (9, None, [9, None, 4])
+    >>> squares.pop(4), squares.peekitem(0)
+    (16, (1, 1))
     >>> squares.keys()[-1], squares.items()[1], squares.values()[:2]
     (3, (2, 4), [1, 4])
     >>> del squares[1]; squares | {7: 49}
@@ -296,36 +237,3 @@ class JudyL(_core.WordMap, _Ordered, Copied, Dict):
 
     def _values(self, reverse: bool) -> Iterator[int]:
         return self._cursor(VALUES, 0, MAX, reverse)
-
-    def keys(self) -> _views.PlacedKeys:
-        """The keys, with their places."""
-        return _views.PlacedKeys(self)
-
-    def items(self) -> _views.PlacedItems:
-        """The pairs, with their places."""
-        return _views.PlacedItems(self)
-
-    def values(self) -> _views.PlacedValues:
-        """The values, with their keys' places."""
-        return _views.PlacedValues(self)
-
-    def peekitem(self, place: int = -1) -> tuple[int, int]:
-        """The pair at a place; IndexError where there is none.
-
-        >>> JudyL({1: 2, 3: 4}).peekitem()
-        (3, 4)
-        """
-        key = self._at(place)
-        return key, self[key]
-
-    def popitem(self, place: int = -1, *, last: bool | None = None) -> tuple[int, int]:
-        """Takes out the pair at a place, or the last or the first one; KeyError where the dict is empty, IndexError where there is none.
-
-        >>> pairs = JudyL({1: 2, 3: 4, 5: 6})
-        >>> pairs.popitem(), pairs.popitem(last=False), pairs
-        ((5, 6), (1, 2), JudyL({3: 4}))
-        """
-        if not self:
-            raise KeyError("popitem(): dictionary is empty")
-        key = self._at(place if last is None else -int(last))
-        return key, self.pop(key)

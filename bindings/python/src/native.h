@@ -29,6 +29,9 @@ typedef struct {
     uint64_t all;  /* how often that happened, or a value was replaced */
 } Changes;
 
+/* A method's docstring, which Python reads the signature from: what the call does, and an example, which the tests run. */
+#define DOC(signature, text, example) signature "\n--\n\n" text "\n\n" example
+
 /* What a cursor gives of a key. */
 enum part { KEYS, VALUES, ITEMS };
 

@@ -15,8 +15,14 @@ typedef struct {
     uint8_t key[SELLUMAQ_KEY_BYTES];
 } Cursor;
 
-/* Puts the cursor at the longest beginning of its bound that can be a key. Where that isn't all of it no key lies between the two: the bytes go on
- * with a zero, or are more than a key has. Going up, the beginning itself is before the bound then. */
+size_t could_be_key(const uint8_t *bytes, size_t length)
+{
+    size_t most = length < SELLUMAQ_KEY_BYTES ? length : SELLUMAQ_KEY_BYTES;
+    const uint8_t *zero = memchr(bytes, 0, most);
+    return zero ? (size_t)(zero - bytes) : most;
+}
+
+/* Puts the cursor at the longest beginning of its bound that can be a key. Going up, where that isn't all of it, it is before the bound. */
 static void begin(Cursor *self, PyObject *bound)
 {
     char *bytes = NULL;
@@ -28,10 +34,7 @@ static void begin(Cursor *self, PyObject *bound)
         return;
     }
     PyBytes_AsStringAndSize(bound, &bytes, &length);
-    const char *zero = memchr(bytes, 0, (size_t)length);
-    self->length = zero ? (size_t)(zero - bytes) : (size_t)length;
-    if (self->length > sizeof self->key)
-        self->length = sizeof self->key;
+    self->length = could_be_key((const uint8_t *)bytes, (size_t)length);
     memcpy(self->key, bytes, self->length);
     self->inclusive = self->reverse || self->length == (size_t)length;
 }

@@ -1,4 +1,4 @@
-/* The keys of a map without order, which are listed at once. */
+/* The keys of a map without order: all of them, listed at once, or some ahead, to be taken out one by one. */
 #include <string.h>
 
 #include "strings.h"
@@ -9,12 +9,12 @@ PyObject *make_key(const Strings *map, const uint8_t *bytes, size_t length)
     return map->is_text ? PyUnicode_DecodeUTF8(text, (Py_ssize_t)length, "surrogatepass") : PyBytes_FromStringAndSize(text, (Py_ssize_t)length);
 }
 
-/* What a walk told of all keys: their bytes, one key behind the other, and the length and the value of each. */
-typedef struct {
-    uint8_t *bytes;
-    sellumaq_entry *entries;
-    size_t count;
-} Told;
+/* `popitem` is told one key in so many ahead, and these more, since each walk lists all keys of the map and sorts them. */
+#define SHARE_AHEAD 8
+#define LEAST_AHEAD 64
+
+/* How many bytes of keys are asked for at least. */
+enum { LEAST_ROOM = 1024 };
 
 static bool grow(Told *told, size_t bytes)
 {
@@ -24,22 +24,21 @@ static bool grow(Told *told, size_t bytes)
     return more != NULL;
 }
 
-/* Asks for all keys before an object is made of one, so that the map can't change meanwhile. False where there is no memory. */
-static bool tell_all(const sellumaq_judyhs *map, Told *told)
+/* Asks for so many keys before an object is made of one, so that the map can't change meanwhile. False where there is no memory. */
+static bool tell(const sellumaq_judyhs *map, size_t count, Told *told)
 {
-    size_t count = sellumaq_judyhs_len(map), used = 0, room = 8 * count, taken;
+    size_t used = 0, room = 8 * count < LEAST_ROOM ? LEAST_ROOM : 8 * count, taken;
     told->entries = PyMem_Malloc(count * sizeof *told->entries);
     if (!told->entries)
         return false;
     while (told->count < count) {
-        room = room < SELLUMAQ_KEY_BYTES ? SELLUMAQ_KEY_BYTES : room;
         if (!grow(told, used + room))
             return false;
         if (!sellumaq_judyhs_walk(map, told->count, told->bytes + used, room, told->entries + told->count, count - told->count, &taken))
             return false;
         while (taken-- > 0)
             used += told->entries[told->count++].length;
-        room = used;
+        room *= 2;
     }
     return true;
 }
@@ -60,11 +59,43 @@ static PyObject *make_list(const Strings *map, enum part part, const Told *told)
     return list;
 }
 
+static void forget(Told *told)
+{
+    PyMem_Free(told->bytes);
+    PyMem_Free(told->entries);
+    *told = (Told){NULL, NULL, 0};
+}
+
 PyObject *list_of(Strings *map, enum part part)
 {
     Told told = {NULL, NULL, 0};
-    PyObject *list = tell_all(&map->handle.hashed, &told) ? make_list(map, part, &told) : PyErr_NoMemory();
-    PyMem_Free(told.bytes);
-    PyMem_Free(told.entries);
+    const sellumaq_judyhs *hashed = &map->handle.hashed;
+    PyObject *list = tell(hashed, sellumaq_judyhs_len(hashed), &told) ? make_list(map, part, &told) : PyErr_NoMemory();
+    forget(&told);
     return list;
+}
+
+void forget_ahead(Strings *map)
+{
+    forget(&map->ahead);
+    map->place = map->begin = 0;
+}
+
+static bool tell_ahead(Strings *map)
+{
+    size_t count = sellumaq_judyhs_len(&map->handle.hashed), most = count / SHARE_AHEAD + LEAST_AHEAD;
+    forget_ahead(map);
+    bool told = tell(&map->handle.hashed, count < most ? count : most, &map->ahead);
+    if (!told)
+        forget_ahead(map);
+    return told;
+}
+
+PyObject *next_ahead(Strings *map)
+{
+    if (map->place == map->ahead.count && !tell_ahead(map))
+        return PyErr_NoMemory();
+    size_t begin = map->begin, length = map->ahead.entries[map->place++].length;
+    map->begin += length;
+    return make_key(map, map->ahead.bytes + begin, length);
 }

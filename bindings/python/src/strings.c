@@ -23,7 +23,7 @@
 STRING_CALLS(judysl, strings)
 STRING_CALLS(judyhs, hashed)
 
-/* A key's bytes. Those of a bytes-like object are a copy, since what it lends may change below the call. */
+/* A key's bytes. Those of a bytes-like object are a copy, since what it lends may change below the call: in place where they are few. */
 typedef struct {
     PyObject *owner; /* what keeps `bytes`, or NULL */
     const uint8_t *bytes;
@@ -61,13 +61,17 @@ static bool read_bytes(PyObject *object, Key *key)
         return set_key(key, Py_NewRef(object));
     if (PyObject_GetBuffer(object, &view, PyBUF_SIMPLE) < 0)
         return false;
-    key->owner = NULL;
-    key->length = (size_t)view.len;
-    key->bytes = key->copy;
-    if (key->length <= sizeof key->copy)
+    bool read = true;
+    if ((size_t)view.len > sizeof key->copy)
+        read = set_key(key, PyBytes_FromStringAndSize(view.buf, view.len));
+    else {
+        key->owner = NULL;
+        key->bytes = key->copy;
+        key->length = (size_t)view.len;
         memcpy(key->copy, view.buf, key->length);
+    }
     PyBuffer_Release(&view);
-    return true;
+    return read;
 }
 
 /* The bytes of a key that is to be stored: false with an error set where the object is of no such kind. */
@@ -76,19 +80,12 @@ static bool read_string(const Strings *self, PyObject *object, Key *key)
     return self->is_text ? read_text(object, key) : read_bytes(object, key);
 }
 
-static bool is_too_long(const Key *key) { return key->length > SELLUMAQ_KEY_BYTES; }
-
 /* The bytes of a key that is looked for: 1, 0 where the object can't be one, -1 with an error set. */
 static int find_string(const Strings *self, PyObject *object, Key *key)
 {
     if (self->is_text ? !PyUnicode_Check(object) : !PyObject_CheckBuffer(object))
         return 0;
-    if (!read_string(self, object, key))
-        return -1;
-    if (!is_too_long(key))
-        return 1;
-    Py_XDECREF(key->owner);
-    return 0;
+    return read_string(self, object, key) ? 1 : -1;
 }
 
 /* Reads a key's value, and takes the key out if that is wanted: 1, 0 where it isn't there, -1 with an error set. */
@@ -103,18 +100,13 @@ static int find_value(Strings *self, PyObject *object, uint64_t *value, bool tak
     return found;
 }
 
-static uint32_t put(Strings *self, const Key *key, uint64_t value)
-{
-    return is_too_long(key) ? SELLUMAQ_BAD_KEY : self->calls->put(&self->handle, key->bytes, key->length, value);
-}
-
 static bool put_value(Strings *self, PyObject *object, PyObject *value)
 {
     Key key;
     uint64_t number;
     if (!read_word(value, &number) || !read_string(self, object, &key))
         return false;
-    uint32_t told = put(self, &key, number);
+    uint32_t told = self->calls->put(&self->handle, key.bytes, key.length, number);
     Py_XDECREF(key.owner);
     switch (told) {
     case SELLUMAQ_PRESENT:
@@ -159,6 +151,7 @@ static void strings_dealloc(PyObject *object)
 {
     PyTypeObject *type = Py_TYPE(object);
     Strings *self = (Strings *)object;
+    forget_ahead(self);
     self->calls->free(&self->handle);
     ((freefunc)PyType_GetSlot(type, Py_tp_free))(object);
     Py_DECREF((PyObject *)type);
@@ -201,6 +194,7 @@ static int strings_set_item(PyObject *object, PyObject *key, PyObject *value)
 static PyObject *strings_clear(PyObject *object, PyObject *Py_UNUSED(none))
 {
     Strings *self = (Strings *)object;
+    forget_ahead(self);
     self->calls->free(&self->handle);
     Py_RETURN_NONE;
 }
@@ -260,6 +254,43 @@ static PyObject *cursor(PyObject *self, PyTypeObject *defining, PyObject *const 
     return new_string_cursor(state->string_cursor, (Strings *)self, (enum part)part, bounds[0], bounds[1], reverse);
 }
 
+/* How many keys there are below a string, or up to it. */
+static PyObject *bisect(PyObject *object, PyObject *string, bool with_itself)
+{
+    Strings *self = (Strings *)object;
+    Key key;
+    uint64_t value;
+    if (!read_string(self, string, &key))
+        return NULL;
+    size_t length = could_be_key(key.bytes, key.length);
+    uint64_t count = sellumaq_judysl_count(&self->handle.strings, (const uint8_t *)"", 0, key.bytes, length);
+    if (!with_itself && length == key.length && self->calls->get(&self->handle, key.bytes, length, &value))
+        count--;
+    Py_XDECREF(key.owner);
+    return make_word(count);
+}
+
+static PyObject *bisect_left(PyObject *self, PyObject *string) { return bisect(self, string, false); }
+static PyObject *bisect_right(PyObject *self, PyObject *string) { return bisect(self, string, true); }
+
+/* The key at a place, which counts from the end where it is negative; IndexError where there is none. */
+static PyObject *key_at(PyObject *object, PyObject *place)
+{
+    Strings *self = (Strings *)object;
+    Py_ssize_t at = PyNumber_AsSsize_t(place, PyExc_IndexError);
+    uint8_t key[SELLUMAQ_KEY_BYTES];
+    size_t length = 0;
+    uint64_t value;
+    if (at == -1 && PyErr_Occurred())
+        return NULL;
+    if (at < 0)
+        at += strings_len(object);
+    if (at >= 0 && sellumaq_judysl_by_count(&self->handle.strings, (uint64_t)at + 1, key, sizeof key, &length, &value) == SELLUMAQ_FOUND)
+        return make_key(self, key, length);
+    PyErr_Format(PyExc_IndexError, "no key at place %R", place);
+    return NULL;
+}
+
 static PyObject *hash_list(PyObject *object, PyObject *part)
 {
     uint64_t wanted;
@@ -272,18 +303,52 @@ static PyObject *hash_list(PyObject *object, PyObject *part)
     return list_of((Strings *)object, (enum part)wanted);
 }
 
-#define STRING_METHODS                                                                                                            \
-    {"clear", strings_clear, METH_NOARGS, "Takes every key out and gives the memory back."},                                      \
-    {"get", (PyCFunction)(void (*)(void))strings_get, METH_FASTCALL, "The value of a key, or the default where it isn't there."}, \
-    {"pop", (PyCFunction)(void (*)(void))strings_pop, METH_FASTCALL, "Takes a key out and answers its value, or the default."}
+/* What was told ahead may be gone from the map, and is passed over then. */
+static PyObject *hash_popitem(PyObject *object, PyObject *Py_UNUSED(none))
+{
+    uint64_t value;
+    while (strings_len(object) > 0) {
+        PyObject *key = next_ahead((Strings *)object);
+        int found = key ? find_value((Strings *)object, key, &value, true) : -1;
+        if (found == 1)
+            return make_part(ITEMS, key, value);
+        Py_XDECREF(key);
+        if (found < 0)
+            return NULL;
+    }
+    PyErr_SetString(PyExc_KeyError, "popitem(): dictionary is empty");
+    return NULL;
+}
+
+#define IN_ORDER ">>> from sellumaq import JudySL\n>>> ages = JudySL(Ada=36, Alan=41, Grace=85)\n"
+#define AGES ">>> from sellumaq import JudyHS\n>>> ages = JudyHS(Ada=36, Alan=41)\n"
+
+#define STRING_METHODS \
+    {"clear", strings_clear, METH_NOARGS, \
+     DOC("clear($self, /)", "Takes every key out and gives the memory back.", AGES ">>> ages.clear(); ages\nJudyHS({})")}, \
+    {"get", (PyCFunction)(void (*)(void))strings_get, METH_FASTCALL, \
+     DOC("get($self, key, default=None, /)", "The value of a key, or the default where it isn't there.", \
+         AGES ">>> ages.get('Ada'), ages.get('Bob', 7)\n(36, 7)")}, \
+    {"pop", (PyCFunction)(void (*)(void))strings_pop, METH_FASTCALL, \
+     DOC("pop($self, key, default=..., /)", "Takes a key out and answers its value, or the default; KeyError where there is neither.", \
+         AGES ">>> ages.pop('Ada'), ages.pop('Ada', 7)\n(36, 7)")}
 
 static PyMethodDef map_methods[] = {
     STRING_METHODS,
+    {"bisect_left", bisect_left, METH_O,
+     DOC("bisect_left($self, string, /)", "How many keys there are below a string.", IN_ORDER ">>> ages.bisect_left('Alan')\n1")},
+    {"bisect_right", bisect_right, METH_O,
+     DOC("bisect_right($self, string, /)", "How many keys there are up to a string.", IN_ORDER ">>> ages.bisect_right('Alan')\n2")},
+    {"_key_at", key_at, METH_O, "The key at a place."},
     {"_cursor", (PyCFunction)(void (*)(void))cursor, METH_METHOD | METH_FASTCALL | METH_KEYWORDS, "A walk between two strings."},
     {NULL, NULL, 0, NULL},
 };
 static PyMethodDef hash_methods[] = {
     STRING_METHODS,
+    {"popitem", hash_popitem, METH_NOARGS,
+     DOC("popitem($self, /)",
+         "Takes out a pair, which may be any, and answers it; KeyError where the dict is empty. Keys are listed an eighth of them at a time.",
+         AGES ">>> pair = ages.popitem(); pair in [('Ada', 36), ('Alan', 41)], len(ages)\n(True, 1)")},
     {"_list", hash_list, METH_O, "All keys, values or pairs, by the lengths of the keys, and those of one length by their bytes."},
     {NULL, NULL, 0, NULL},
 };

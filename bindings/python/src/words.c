@@ -234,15 +234,26 @@ static PyObject *cursor(PyObject *self, PyTypeObject *defining, PyObject *const 
     return new_word_cursor(state->word_cursor, (Words *)self, (enum part)part, low, high, reverse);
 }
 
-#define WORD_METHODS                                                                                                              \
-    {"clear", words_clear, METH_NOARGS, "Takes every key out and gives the memory back."},                                        \
-    {"at_or_after", at_or_after, METH_O, "The least key from a number on, or None."},                                             \
-    {"at_or_before", at_or_before, METH_O, "The greatest key up to a number, or None."},                                          \
-    {"absent_at_or_after", absent_at_or_after, METH_O, "The least word from a number on that is no key, or None."},               \
-    {"absent_at_or_before", absent_at_or_before, METH_O, "The greatest word up to a number that is no key, or None."},            \
-    {"bisect_left", bisect_left, METH_O, "How many keys there are below a number."},                                              \
-    {"bisect_right", bisect_right, METH_O, "How many keys there are up to a number."},                                            \
-    {"_at", item_at, METH_O, "The key at a place, or the list of those of a slice."},                                             \
+#define SOME ">>> from sellumaq import Judy1\n>>> some = Judy1([10, 20, 30])\n"
+
+#define WORD_METHODS \
+    {"clear", words_clear, METH_NOARGS, \
+     DOC("clear($self, /)", "Takes every key out and gives the memory back.", SOME ">>> some.clear(); some\nJudy1()")}, \
+    {"at_or_after", at_or_after, METH_O, \
+     DOC("at_or_after($self, number, /)", "The least key from a number on, or None.", SOME ">>> some.at_or_after(11)\n20")}, \
+    {"at_or_before", at_or_before, METH_O, \
+     DOC("at_or_before($self, number, /)", "The greatest key up to a number, or None.", SOME ">>> some.at_or_before(19)\n10")}, \
+    {"absent_at_or_after", absent_at_or_after, METH_O, \
+     DOC("absent_at_or_after($self, number, /)", "The least word from a number on that is no key, or None.", \
+         SOME ">>> some.absent_at_or_after(10)\n11")}, \
+    {"absent_at_or_before", absent_at_or_before, METH_O, \
+     DOC("absent_at_or_before($self, number, /)", "The greatest word up to a number that is no key, or None.", \
+         SOME ">>> some.absent_at_or_before(10)\n9")}, \
+    {"bisect_left", bisect_left, METH_O, \
+     DOC("bisect_left($self, number, /)", "How many keys there are below a number.", SOME ">>> some.bisect_left(20)\n1")}, \
+    {"bisect_right", bisect_right, METH_O, \
+     DOC("bisect_right($self, number, /)", "How many keys there are up to a number.", SOME ">>> some.bisect_right(20)\n2")}, \
+    {"_at", item_at, METH_O, "The key at a place, or the list of those of a slice."}, \
     {"_cursor", (PyCFunction)(void (*)(void))cursor, METH_METHOD | METH_FASTCALL | METH_KEYWORDS, "A walk between two words."}
 
 #define WORD_SLOTS                            \
@@ -306,9 +317,13 @@ static PyObject *set_fill(PyObject *self, PyObject *keys)
 
 static PyMethodDef set_methods[] = {
     WORD_METHODS,
-    {"add", set_add, METH_O, "Puts a key in. MemoryError where there is no memory for it; the set is as it was then."},
-    {"discard", set_discard, METH_O, "Takes a key out, where it is there."},
-    {"remove", set_remove, METH_O, "Takes a key out; KeyError where it isn't there."},
+    {"add", set_add, METH_O,
+     DOC("add($self, key, /)", "Puts a key in. MemoryError where there is no memory for it; the set is as it was then.",
+         SOME ">>> some.add(5); some\nJudy1([5, 10, 20, 30])")},
+    {"discard", set_discard, METH_O,
+     DOC("discard($self, key, /)", "Takes a key out, where it is there.", SOME ">>> some.discard(20); some.discard(5); some\nJudy1([10, 30])")},
+    {"remove", set_remove, METH_O,
+     DOC("remove($self, key, /)", "Takes a key out; KeyError where it isn't there.", SOME ">>> some.remove(20); some\nJudy1([10, 30])")},
     {"_fill", set_fill, METH_O, "Puts the keys of an iterable in."},
     {NULL, NULL, 0, NULL},
 };
@@ -378,6 +393,58 @@ static PyObject *map_get(PyObject *self, PyObject *const *arguments, Py_ssize_t 
     return found ? make_word(value) : Py_NewRef(count == 2 ? arguments[1] : Py_None);
 }
 
+/* How many keys are handed to the map at a time. */
+enum { GROUP = 256 };
+
+/* Keys that wait to be looked up together; one that can't be a key of the map waits too. */
+typedef struct {
+    int count;
+    bool could_be[GROUP];
+    uint64_t keys[GROUP];
+} Group;
+
+/* Looks the keys of a group up and puts the value of each, or None, behind those of a list; false with an error set. */
+static bool append_values(Words *self, Group *group, PyObject *values)
+{
+    sellumaq_found found[GROUP];
+    sellumaq_judyl_get_many(&self->handle.map, group->keys, (size_t)group->count, found, GROUP);
+    for (int n = 0; n < group->count; n++) {
+        PyObject *value = number_or_none(group->could_be[n] && found[n].there, found[n].value);
+        bool put = value && PyList_Append(values, value) == 0;
+        Py_XDECREF(value);
+        if (!put)
+            return false;
+    }
+    group->count = 0;
+    return true;
+}
+
+/* Puts a key into a group that isn't full; false with an error set. */
+static bool wait_for(Group *group, PyObject *key)
+{
+    int at = group->count++;
+    group->keys[at] = 0;
+    int could_be = read_key(key, &group->keys[at]);
+    group->could_be[at] = could_be == 1;
+    return could_be >= 0;
+}
+
+static PyObject *map_get_many(PyObject *object, PyObject *keys)
+{
+    Words *self = (Words *)object;
+    Group group = {.count = 0};
+    PyObject *each = PyObject_GetIter(keys), *values = each ? PyList_New(0) : NULL, *key;
+    bool well = values;
+    while (well && (key = PyIter_Next(each))) {
+        well = wait_for(&group, key) && (group.count < GROUP || append_values(self, &group, values));
+        Py_DECREF(key);
+    }
+    Py_XDECREF(each);
+    if (!well || PyErr_Occurred() || !append_values(self, &group, values))
+        Py_CLEAR(values);
+    return values;
+}
+
 static PyObject *map_pop(PyObject *object, PyObject *const *arguments, Py_ssize_t count)
 {
     Words *self = (Words *)object;
@@ -431,8 +498,15 @@ static PyObject *map_fill(PyObject *self, PyObject *pairs)
 
 static PyMethodDef map_methods[] = {
     WORD_METHODS,
-    {"get", (PyCFunction)(void (*)(void))map_get, METH_FASTCALL, "The value of a key, or the default where it isn't there."},
-    {"pop", (PyCFunction)(void (*)(void))map_pop, METH_FASTCALL, "Takes a key out and answers its value, or the default."},
+    {"get", (PyCFunction)(void (*)(void))map_get, METH_FASTCALL,
+     DOC("get($self, key, default=None, /)", "The value of a key, or the default where it isn't there.",
+         ">>> from sellumaq import JudyL\n>>> squares = JudyL({2: 4})\n>>> squares.get(2), squares.get(3, 7)\n(4, 7)")},
+    {"get_many", map_get_many, METH_O,
+     DOC("get_many($self, keys, /)", "The values of the keys of an iterable, in a list, with None where one isn't there.",
+         ">>> from sellumaq import JudyL\n>>> squares = JudyL({2: 4, 3: 9})\n>>> squares.get_many([3, 5, 2])\n[9, None, 4]")},
+    {"pop", (PyCFunction)(void (*)(void))map_pop, METH_FASTCALL,
+     DOC("pop($self, key, default=..., /)", "Takes a key out and answers its value, or the default; KeyError where there is neither.",
+         ">>> from sellumaq import JudyL\n>>> squares = JudyL({2: 4})\n>>> squares.pop(2), squares.pop(2, 7)\n(4, 7)")},
     {"_fill", map_fill, METH_O, "Puts the pairs of an iterable in."},
     {NULL, NULL, 0, NULL},
 };

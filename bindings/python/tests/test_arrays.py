@@ -1,9 +1,13 @@
 """Sets and dicts beside Python's own."""
 
+import ast
 import copy
 import ctypes
 import doctest
+import os
 import random
+import sys
+import time
 import unittest
 
 import sellumaq
@@ -65,6 +69,9 @@ class Words(unittest.TestCase):
         self.assertEqual(list(array.items()), sorted(plain.items()))
         self.assertEqual(array, plain)
         self.assertEqual(JudyL(plain), array)
+        asked = [key(words) for _ in range(600)] + sorted(plain) + ["no key", MAX + 1]
+        self.assertEqual(array.get_many(asked), [plain.get(it) for it in asked])
+        self.assertEqual(array.get_many(iter(())), [])
         self.assertEqual(repr(JudyL({5: 6})), "JudyL({5: 6})")
         self.assertRaises(KeyError, lambda: array["no key"])
         with self.assertRaises(ValueError):
@@ -103,6 +110,10 @@ class Strings(unittest.TestCase):
             self.assertEqual(array.at_or_after(low), min((key for key in plain if key >= low), default=None))
             self.assertEqual(array.at_or_before(high), max((key for key in plain if key <= high), default=None))
             self.assertEqual(list(array.range(low, high)), sorted(key for key in plain if low <= key < high))
+            self.assertEqual((array.bisect_left(low), array.bisect_right(high)), (sum(key < low for key in plain), sum(key <= high for key in plain)))
+        ascending = sorted(plain)
+        self.assertEqual([array.nth(n) for n in range(len(plain))], ascending)
+        self.assertEqual([array.index(key) for key in ascending], list(range(len(plain))))
         self.assertEqual(list(array.items()), sorted(plain.items()))
         self.assertEqual(list(array.values()), [value for _, value in sorted(plain.items())])
         self.assertEqual(list(reversed(array)), sorted(plain, reverse=True))
@@ -141,7 +152,12 @@ class Strings(unittest.TestCase):
         self.assertEqual((type(array)(plain), repr(array)), (array, f"{type(array).__name__}({({it: plain[it] for it in keys})})"))
 
     def test_long_keys_without_order(self):
-        """Keys of more bytes than the first call of a walk has room for."""
+        """Keys of more bytes than the first call of a walk has room for, and such as a buffer of bytes has."""
+        few = JudyHSBytes()
+        for length in (0, MAX_KEY, MAX_KEY + 1, 3542, 100000):
+            few[bytearray(length)] = length
+            self.assertEqual(few[memoryview(bytes(length))], length)
+        self.unordered(few, {bytes(length): length for length in few.values()})
         plain = {b"%05d" % n + bytes(n % 1000): n for n in range(3000)}
         array = JudyHSBytes(plain)
         self.unordered(array, plain)
@@ -154,16 +170,48 @@ class Strings(unittest.TestCase):
         array = JudyHS(a=1, bb=2, c=3)
         self.assertEqual([array.popitem() for _ in range(3)], [("a", 1), ("c", 3), ("bb", 2)])
         self.assertRaises(KeyError, array.popitem)
+        for kind, key in ((JudyHS, str), (JudyHSBytes, lambda n: b"%d" % n)):
+            plain = {key(n): n for n in range(3000)}
+            array, taken = kind(plain), {}
+            while array:
+                it, value = array.popitem()
+                self.assertEqual(plain.pop(it), value)
+                taken[it] = value
+                self.assertEqual((len(array), it in array), (len(plain), False))
+                if len(taken) % 500 == 10:
+                    # keys that were to come next go and come again, others come for the first time
+                    for n in range(1500, 1900):
+                        array.pop(key(n), None), plain.pop(key(n), None)
+                    array[key(1700)] = plain[key(1700)] = 7
+                    array[key(9000 + len(taken))] = plain[key(9000 + len(taken))] = 8
+            self.assertFalse(plain)
+            array[key(1)] = 5
+            array.clear()
+            self.assertRaises(KeyError, array.popitem)
+
+    def test_a_pair_is_taken_without_a_list_of_all(self):
+        array = JudyHS((str(n), n) for n in range(20000))
+
+        def seconds(work):
+            begun = time.process_time()
+            work()
+            return time.process_time() - begun
+
+        listing = min(seconds(lambda: list(array)) for _ in range(3))
+        self.assertLess(seconds(lambda: [array.popitem() for _ in range(100)]), 20 * listing)
 
     def test_what_is_no_key(self):
         for array in (JudySL(), JudyHS()):
-            for wrong, error in ((5, TypeError), (b"bytes", TypeError), ("a" * (MAX_KEY + 1), ValueError)):
+            for wrong in (5, b"bytes"):
                 self.assertNotIn(wrong, array)
                 self.assertRaises(KeyError, array.__getitem__, wrong)
-                self.assertRaises(error, array.__setitem__, wrong, 1)
+                self.assertRaises(TypeError, array.__setitem__, wrong, 1)
             self.assertEqual(len(array), 0)
             array["\u00e4" * (MAX_KEY // 2)] = 1
-        self.assertRaises(ValueError, JudySL().__setitem__, "a\0", 1)
+        for wrong in ("a" * (MAX_KEY + 1), "a\0"):
+            self.assertNotIn(wrong, JudySL(a=1))
+            self.assertRaises(ValueError, JudySL().__setitem__, wrong, 1)
+        self.assertRaises(ValueError, JudySLBytes().__setitem__, bytearray(b"a" * (MAX_KEY + 1)), 1)
         self.assertRaises(TypeError, JudySLBytes().__setitem__, "text", 1)
         longest = JudySLBytes({b"\xff" * MAX_KEY: 1})
         self.assertEqual(longest.at_or_before(b"\xff" * (MAX_KEY + 1)), b"\xff" * MAX_KEY)
@@ -227,9 +275,41 @@ class WithoutMemory(unittest.TestCase):
                 self.without(array.__delitem__, key)
             self.assertFalse(array)
 
+    def test_a_pair_that_is_taken_without_order(self):
+        array = JudyHS((str(n), n) for n in range(1000))
+        self.assertGreater(self.refused_in_turn(lambda _: array.popitem(), None, lambda: len(array)), 2)
+        self.assertEqual(len(array), 999)
+
+
+class Examples(unittest.TestCase):
+    def test_each_call_has_an_example(self):
+        for kind in (Judy1, JudyL, JudySL, JudySLBytes, JudyHS, JudyHSBytes):
+            for name in dir(kind):
+                call = getattr(kind, name)
+                # Python's own classes have none, and the fallback's calls are the extension's.
+                if name.startswith("_") or getattr(call, "__module__", "") in ("collections.abc", "sellumaq._fallback"):
+                    continue
+                with self.subTest(f"{kind.__name__}.{name}"):
+                    self.assertIn(">>> ", call.__doc__)
+
+
+    @unittest.skipUnless(sellumaq.BINDING == "extension", "the fallback has no hints")
+    def test_the_hints_are_of_the_calls_that_are_there(self):
+        with open(f"{os.path.dirname(sellumaq.__file__)}/_native.pyi", encoding="utf-8") as file:
+            hinted = {it.name: it for it in ast.parse(file.read()).body if isinstance(it, ast.ClassDef)}
+
+        def names(of):
+            own = {it.name for it in hinted[of].body if isinstance(it, ast.FunctionDef)}
+            return own.union(*(names(base.id) for base in hinted[of].bases))
+
+        native = sys.modules["sellumaq._native"]
+        for name in ("WordSet", "WordMap", "TextMap", "BytesMap", "TextHash", "BytesHash"):
+            self.assertEqual((name, names(name)), (name, set(dir(getattr(native, name))) - set(dir(object)) - {"__module__"}))
+
 
 def load_tests(_loader, tests, _pattern):
-    for module in (sellumaq, sellumaq._maps, sellumaq._strings, sellumaq._words):
+    native = [sys.modules["sellumaq._native"]] if sellumaq.BINDING == "extension" else []
+    for module in (sellumaq, sellumaq._maps, sellumaq._places, sellumaq._strings, sellumaq._words, *native):
         tests.addTests(doctest.DocTestSuite(module))
     return tests
 

@@ -49,6 +49,21 @@ class Threads(unittest.TestCase):
                 self.run_all(*(lambda first=first: write(first) for first in range(4)))
                 self.assertEqual([array[key(n)] for n in range(8000)], list(range(8000)))
 
+    def test_threads_take_the_pairs_of_one_dict(self):
+        for kind in (JudyHS, JudyHSBytes):
+            key, taken = DICTS[kind], []
+            array = kind((key(n), n) for n in range(4000))
+
+            def take():
+                while array:
+                    try:
+                        taken.append(array.popitem())
+                    except KeyError:  # another thread took the last one
+                        return
+
+            self.run_all(take, take, take)
+            self.assertEqual(sorted(taken, key=lambda pair: pair[1]), [(key(n), n) for n in range(4000)])
+
     def test_threads_write_one_set_while_others_walk_and_clear_it(self):
         array = Judy1()
 

@@ -70,6 +70,12 @@ STRINGS = [
     ("list(t.irange('a\\0', 'b\\0')), list(t.irange('b' * 2000)), list(t.irange(None, 'a' * 2000, reverse=True))", (["b"], ["c"], ["a"])),
     ("t | {'d': 4} == {'a': 1, 'b': 2, 'c': 3, 'd': 4}, dict(t.fromkeys('zy', 6))", (True, {"y": 6, "z": 6})),
     ("t.pop('a'), t.pop('z', 9), t.get('b'), t.setdefault('q', 5), list(t)", (1, 9, 2, 5, ["b", "c", "q"])),
+    ("t.peekitem(), t.peekitem(0), t.popitem(1), t.popitem(-1), list(t)", (("c", 3), ("a", 1), ("b", 2), ("c", 3), ["a"])),
+    ("t.keys()[0], t.items()[-1], t.values()[1], t.keys()[1:], t.items()[:1], t.keys()[::-1], t.keys()[::2]", ("a", ("c", 3), 2, ["b", "c"], [("a", 1)], ["c", "b", "a"], ["a", "c"])),
+    ("t.bisect('b'), t.bisect_left('b'), t.bisect_right('b'), t.index('c'), t.keys().index('b')", (2, 1, 2, 2, 1)),
+    ("t.bisect_left('b\\0'), t.bisect_right('b\\0'), t.bisect_left('b' * 2000), t.bisect_right(''), t.bisect_left('z')", (2, 2, 2, 0, 3)),
+    ("list(t.islice(1)), list(t.islice(0, 2, reverse=True)), t.count_range('a', 'c'), t.count_range('c', 'a'), t.count_range(), t.nth(1)", (["b", "c"], ["b", "a"], 2, 0, 3, "b")),
+    ("t.keys().__delitem__(0), t.items().__delitem__(slice(0, 1)), list(t)", (None, None, ["c"])),
     ("5 in t, b'a' in t, 'a\\0' in t, 'a' * 1025 in t", (False, False, False, False)),
 ]
 
@@ -83,6 +89,8 @@ ERRORS = [
     ("d.update(a=1)", TypeError), ("d.__setitem__(1, -1)", ValueError), ("d.__setitem__(1, 2**64)", ValueError), ("d.__setitem__(1, None)", TypeError),
     ("d.get()", TypeError), ("d.pop(1, 2, 3)", TypeError), ("hash(d)", TypeError), ("d | 5", TypeError),
     ("t['z']", KeyError), ("t.peekitem(last=5) and t.clear() or t.peekitem()", IndexError), ("t.irange(5)", TypeError),
+    ("t.keys()[3]", IndexError), ("t.peekitem(-4)", IndexError), ("t.index('z')", ValueError), ("t.index('a', 1)", ValueError), ("t.bisect(5)", TypeError),
+    ("t.nth(-1)", IndexError), ("t.popitem(3)", IndexError), ("t.__class__().popitem()", KeyError),
 ]  # fmt: skip
 
 # An expression, what it is here, and what sortedcontainers answers.

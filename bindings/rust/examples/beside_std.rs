@@ -1,5 +1,11 @@
 //! Measures the arrays beside std's sets and maps: `cargo run --release --example beside_std`. Each figure is the least of seven turns, in
 //! nanoseconds a key, with the ratio to std's.
+// One text measures std's types too, which want keys lent; and it may ask for a newer Rust than the crate.
+#![allow(
+    clippy::needless_borrows_for_generic_args,
+    clippy::redundant_closure,
+    clippy::incompatible_msrv
+)]
 use sellumaq::{Judy1, JudyL};
 use std::collections::{BTreeMap, BTreeSet};
 use std::ptr::read_volatile;

@@ -92,8 +92,22 @@ impl Edge {
         }
     }
 
+    /// The upper end of the strings that lie before the lower end of a range.
+    pub fn before(bound: Bound<&[u8]>) -> Edge {
+        Edge::upper(match bound {
+            Bound::Unbounded => Bound::Excluded(b""),
+            Bound::Included(string) => Bound::Excluded(string),
+            Bound::Excluded(string) => Bound::Included(string),
+        })
+    }
+
     pub fn key(&self) -> &[u8] {
         &self.bytes[..self.length]
+    }
+
+    /// Whether the edge's own string is still to come.
+    pub fn is_included(&self) -> bool {
+        self.included
     }
 
     /// Goes on to the next key, by a scan that begins with the edge's string and one that begins behind it, and answers its value. Where

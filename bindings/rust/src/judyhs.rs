@@ -13,7 +13,7 @@ use std::ops::Index;
 use std::ptr::{null_mut, NonNull};
 
 array!(
-    /// A map from byte strings to words, in no order. A key has at most [`MAX_KEY`](crate::MAX_KEY) bytes, of any value.
+    /// A map from byte strings to words, in no order. A key has any number of bytes, of any value.
     ///
     /// Its iterators list all pairs at first, by the lengths of the keys, and those of one length by their bytes. That takes the
     /// time and the memory of a sorted `Vec` of them; where there is none it ends the program, as std's collections do.

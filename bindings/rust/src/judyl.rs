@@ -56,6 +56,9 @@ entries!(
     "let mut map = sellumaq::JudyL::from([(1, 10), (2, 20)]);", "1", "3", "1", "3"
 );
 
+/// How many keys [`JudyL::get_many`] hands to C at a time.
+const GROUP: usize = 64;
+
 /// A search of C from a word for another.
 type Search = unsafe extern "C" fn(*const sys::sellumaq_judyl, u64, *mut u64) -> bool;
 
@@ -202,6 +205,36 @@ impl JudyL {
         let (handle, mut value) = (self.handle, 0);
         // SAFETY: the handle is this map's, lent for this call alone, which only reads; the word is this function's.
         unsafe { sys::sellumaq_judyl_get(&handle, *key.borrow(), &mut value) }.then_some(value)
+    }
+
+    /// Looks up many keys, as many as both slices have, and writes the value of each to its place; `None` where a key is absent. Up to
+    /// 16 keys go down the map side by side and wait for memory together, which takes less time than [`get`](Self::get) for each.
+    ///
+    /// ```
+    /// let map = sellumaq::JudyL::from([(3, 30), (5, 50)]);
+    /// let mut values = [None; 3];
+    /// map.get_many(&[5, 4, 3], &mut values);
+    /// assert_eq!(values, [Some(50), None, Some(30)]);
+    /// ```
+    pub fn get_many(&self, keys: &[u64], values: &mut [Option<u64>]) {
+        let handle = self.handle;
+        let mut found = [sys::sellumaq_found { value: 0, there: 0 }; GROUP];
+        for (keys, values) in keys.chunks(GROUP).zip(values.chunks_mut(GROUP)) {
+            // SAFETY: the handle is this map's, lent for this call alone, which only reads; as many keys are there as are told, and there
+            // is room for as many answers.
+            let told = unsafe {
+                sys::sellumaq_judyl_get_many(
+                    &handle,
+                    keys.as_ptr(),
+                    keys.len(),
+                    found.as_mut_ptr(),
+                    GROUP,
+                )
+            };
+            for (value, told) in values.iter_mut().zip(&found[..told]) {
+                *value = (told.there == 1).then_some(told.value);
+            }
+        }
     }
 
     /// The value of a key, to change.

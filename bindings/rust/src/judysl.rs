@@ -2,7 +2,7 @@
 use crate::array::array;
 use crate::edge::{Edge, Scan};
 use crate::entry::entries;
-use crate::keyed::{keyed_map, InsertError};
+use crate::keyed::{keyed_map, InsertError, MAX_KEY};
 use crate::ordered::ordered_map;
 use crate::slots::slot_walks;
 use crate::walk::walks;
@@ -209,6 +209,56 @@ impl JudySl {
     pub fn range_mut(&mut self, range: impl StringRange) -> RangeMut<'_> {
         let way = Way::of(&range);
         RangeMut::of(self, way)
+    }
+
+    /// How many keys an upper end lets through.
+    fn count_up_to(&self, end: &Edge) -> usize {
+        let (handle, from, to) = (self.handle, b"", end.key());
+        // SAFETY: the handle is this map's, lent for this call alone, which only reads; both strings are slices'.
+        let count =
+            unsafe { sys::sellumaq_judysl_count(&handle, from.as_ptr(), 0, to.as_ptr(), to.len()) };
+        count as usize - usize::from(!end.is_included() && self.contains_key(to))
+    }
+
+    /// How many keys lie in a range, whose ends may be any strings.
+    ///
+    /// ```
+    /// let map = sellumaq::JudySl::from([("a", 10), ("b", 20), ("c", 30)]);
+    /// assert_eq!((map.count("b"..), map.count("a".."b"), map.count("c".."a")), (2, 1, 0));
+    /// ```
+    pub fn count(&self, range: impl StringRange) -> usize {
+        let (from, to) = range.bounds();
+        let (before, end) = (Edge::before(from), Edge::upper(to));
+        self.count_up_to(&end)
+            .saturating_sub(self.count_up_to(&before))
+    }
+
+    /// How many keys there are below a string.
+    ///
+    /// ```
+    /// let map = sellumaq::JudySl::from([("a", 10), ("b", 20)]);
+    /// assert_eq!((map.rank("b"), map.rank("bb")), (1, 2));
+    /// ```
+    pub fn rank(&self, string: impl AsRef<[u8]>) -> usize {
+        self.count_up_to(&Edge::upper(Bound::Excluded(string.as_ref())))
+    }
+
+    /// The pair of the n-th key in ascending order, counted from 0.
+    ///
+    /// ```
+    /// let map = sellumaq::JudySl::from([("a", 10), ("b", 20)]);
+    /// assert_eq!((map.nth(1), map.nth(2)), (Some((b"b".to_vec(), 20)), None));
+    /// ```
+    pub fn nth(&self, n: usize) -> Option<(Vec<u8>, u64)> {
+        let place = (n as u64).checked_add(1)?;
+        let (handle, mut key, mut length, mut value) = (self.handle, [0; MAX_KEY], 0, 0);
+        let buffer = key.as_mut_ptr();
+        // SAFETY: the handle is this map's, lent for this call alone, which only reads; the buffer has the bytes that it is said to have, and all
+        // that the call writes to is this function's.
+        let told = unsafe {
+            sys::sellumaq_judysl_by_count(&handle, place, buffer, MAX_KEY, &mut length, &mut value)
+        };
+        (told == sys::SELLUMAQ_FOUND).then(|| (key[..length].to_vec(), value))
     }
 
     /// Takes out each key that isn't to be kept, by ascending key; `keep` may change the values. Where it panics, the keys

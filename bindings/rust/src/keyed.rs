@@ -3,7 +3,7 @@ use crate::{no_room, NoMemory};
 use sellumaq_sys as sys;
 use std::fmt;
 
-/// How many bytes a key has at most.
+/// How many bytes a key of a [`JudySl`](crate::JudySl) has at most; one of a [`JudyHs`](crate::JudyHs) may have any number.
 ///
 /// ```
 /// assert_eq!(sellumaq::MAX_KEY, 1024);
@@ -19,7 +19,7 @@ pub const MAX_KEY: usize = 1024;
 /// ```
 #[derive(Clone, Copy, PartialEq, Eq, Debug)]
 pub enum InsertError {
-    /// The bytes are no key: they are more than [`MAX_KEY`], or one of them is zero and the map is a [`JudySl`](crate::JudySl).
+    /// The map is a [`JudySl`](crate::JudySl) and the bytes are no key of it: they are more than [`MAX_KEY`], or one of them is zero.
     BadKey,
     /// The key is absent, and the map holds 4,294,967,295 keys.
     Full,

@@ -1,9 +1,11 @@
 //! The pairs of a map without order, as a list that was told at once.
-use crate::keyed::MAX_KEY;
 use crate::{no_room, NoMemory};
 use sellumaq_sys as sys;
 use std::fmt;
 use std::ops::Range;
+
+/// How many bytes of keys are asked for at least.
+const LEAST_ROOM: usize = 1024;
 
 /// Pairs by the lengths of their keys, and those of one length by their bytes: those that are still to come, from both ends.
 #[derive(Clone)]
@@ -29,17 +31,18 @@ impl List {
             entries: Vec::with_capacity(count),
             places: 0..count,
         };
-        list.bytes.reserve(MAX_KEY.max(count * 8));
+        let mut room = LEAST_ROOM.max(count * 8);
         while list.entries.len() < count {
+            list.bytes.reserve(room);
             // SAFETY: as the caller says.
             unsafe { list.go_on(&handle) };
-            list.bytes.reserve(MAX_KEY.max(list.bytes.len()));
+            room *= 2;
         }
         list.keys = 0..list.bytes.len();
         list
     }
 
-    // Takes the pairs behind those that it has, as many as there is room for, which is for one more key at least.
+    // Takes the pairs behind those that it has, as many as there is room for: none where the next key has more bytes than that.
     //
     // SAFETY: as of `of`.
     unsafe fn go_on(&mut self, handle: &sys::sellumaq_judyhs) {

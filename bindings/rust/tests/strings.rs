@@ -78,6 +78,21 @@ fn a_map_of_strings_is_a_map() {
             map.at_or_after(&from),
             plain.range(from.clone()..).next().map(pair)
         );
+        assert_eq!(map.rank(&from), plain.range(..from.clone()).count());
+        assert_eq!(
+            [
+                map.count(from.clone()..=to.clone()),
+                map.count(from.clone()..to.clone()),
+                map.count((Excluded(&from), Unbounded)),
+            ],
+            [
+                plain.range(from.clone()..=to.clone()).count(),
+                plain.range(from.clone()..to.clone()).count(),
+                plain.range((Excluded(from.clone()), Unbounded)).count(),
+            ]
+        );
+        let place = turn % 97;
+        assert_eq!(map.nth(place), plain.iter().nth(place).map(pair));
         assert_eq!(
             map.at_or_before(&to),
             plain.range(..=to.clone()).next_back().map(pair)
@@ -149,35 +164,36 @@ fn a_map_of_byte_strings_is_a_map() {
 #[test]
 fn bytes_that_are_no_key() {
     let (longest, longer) = ([0xff; MAX_KEY], [0xff; MAX_KEY + 1]);
-    let (mut strings, mut bytes) = (JudySl::new(), JudyHs::new());
+    let mut strings = JudySl::new();
     assert_eq!(
-        (
-            strings.insert(longest, 1),
-            bytes.insert(longest, 1),
-            strings.insert("", 2)
-        ),
-        (None, None, None)
+        (strings.insert(longest, 1), strings.insert("", 2)),
+        (None, None)
     );
     assert_eq!(strings.try_insert(longer, 3), Err(InsertError::BadKey));
-    assert_eq!(bytes.try_insert(longer, 3), Err(InsertError::BadKey));
     assert_eq!(strings.try_insert("a\0b", 3), Err(InsertError::BadKey));
-    assert_eq!(
-        (strings.slot(longer), bytes.slot(longer)),
-        (Err(InsertError::BadKey), Err(InsertError::BadKey))
-    );
-    assert_eq!(
-        (strings.get(longer), bytes.get(longer), strings.get("\0")),
-        (None, None, None)
-    );
-    assert_eq!((strings.get_mut("\0"), bytes.get_mut(longer)), (None, None));
-    assert_eq!((strings.remove("\0"), bytes.remove(longer)), (None, None));
-    assert_eq!((strings.len(), bytes.len()), (2, 1));
+    assert_eq!(strings.slot(longer), Err(InsertError::BadKey));
+    assert_eq!((strings.get(longer), strings.get("\0")), (None, None));
+    assert_eq!(strings.get_mut("\0"), None);
+    assert_eq!(strings.remove("\0"), None);
+    assert_eq!(strings.len(), 2);
     assert_eq!(
         strings.range((Included(&longer[..]), Unbounded)).next(),
         None
     );
     assert_eq!(strings.at_or_before(longer), Some((longest.to_vec(), 1)));
     assert_eq!(strings.range(.."\0").collect::<Vec<_>>(), [(vec![], 2)]);
+}
+
+/// Keys of any length, also such as have more bytes than a walk has room for at first.
+#[test]
+fn long_byte_strings() {
+    let key = |length| vec![b'k'; length];
+    let lengths = [0, MAX_KEY, MAX_KEY + 1, 3542, 100_000];
+    let mut map: JudyHs = lengths.iter().map(|&it| (key(it), it as u64)).collect();
+    assert!(map.keys().map(|it| it.len()).eq(lengths));
+    assert_eq!((map.get(key(3542)), map.get(key(3541))), (Some(3542), None));
+    assert_eq!(map.remove(key(100_000)), Some(100_000));
+    assert!(map.values().eq([0, 1024, 1025, 3542]));
 }
 
 #[test]

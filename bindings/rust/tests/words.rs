@@ -123,6 +123,12 @@ fn a_map_is_a_map() {
                 plain.iter().next_back().map(|it| (*it.0, *it.1))
             );
             assert_eq!(map.clone(), map);
+            let keys: Vec<u64> = (0..words.any() % 150).map(|_| words.key()).collect();
+            let mut values = vec![Some(7); keys.len()];
+            map.get_many(&keys, &mut values);
+            assert!(values
+                .into_iter()
+                .eq(keys.iter().map(|key| plain.get(key).copied())));
         }
     }
     assert_eq!(map.nth(7), plain.iter().nth(7).map(|it| (*it.0, *it.1)));

@@ -1,16 +1,18 @@
 -- What a scan of C tells is what its contract says.
-use Rattle.std.proofs.Common.{◌≡◌, ℕ, zero, suc, ◌≤◌, ◌<◌, ◌++◌, length, drop, List, Option, Some, None, IsTrue, is_some, unwrap_or, refl, sym, ap, subst, ◌∙◌, true≢false}
+use Rattle.std.proofs.Common.{◌≡◌, ℕ, zero, suc, ◌≤◌, ◌<◌, ◌++◌, length, drop, List, [], Option, Some, None, IsTrue, is_some, unwrap_or, refl, sym, ap, subst, ◌∙◌, true≢false}
 use Rattle.std.proofs.lemmas.Bool.{and_parts}
 use Rattle.std.specs.FinMap.{FinMap, contains_key, empty, get-empty}
 use Rattle.judy_model.specs.Keys.{byte_order}
 use Rattle.judy_model.specs.Nearest.{IsFirst, IsNext, IsLast, IsPrev}
 use Rattle.judy_model.proofs.NearestLemmas.{first-IsFirst, next-IsNext, last-IsLast, prev-IsPrev}
 use Rattle.judy_model.proofs.TableLemmas.{byte_order_total, byte_order_same}
+use Rattle.judy_model.specs.Counts.{by_count}
+use Rattle.judy_model.proofs.CountsLemmas.{by_count_found}
 use Rattle.judy_sl.specs.Scans.{value_found}
 use Rattle.judy_c.specs.declared.scans.Scan.{Scan}
 use Rattle.judy_c.specs.declared.scans.Scan.TheVariants.{First, Next, Last, Prev}
 use Rattle.judy_c.specs.Answers.{IsSaid}
-use Rattle.judy_c.specs.KeyScans.{Room, start, IsStart, neighbour, scan_says, entry_says}
+use Rattle.judy_c.specs.KeyScans.{Room, start, IsStart, neighbour, told_says, scan_says, entry_says}
 
 -- a neighbour is a key of the map
 pub neighbour_held : (scan : Scan) (map : FinMap byte_order ℕ) (from key : List ℕ) → neighbour scan map from ≡ Some key → IsTrue (contains_key map key)
@@ -28,21 +30,41 @@ no_neighbour scan map from is = by (neighbour scan map from) refl
     by (Some key) some =
         absurd (true≢false (sym (neighbour_held scan map from key some) ∙ ap (λ m. contains_key m key) is ∙ ap is_some (get-empty byte_order key)))
 
-module _ (map : FinMap byte_order ℕ) (scan : Scan) (before after : Room) (is : IsStart before) where
-  -- what is told of the key that a scan left in its buffer, with the value that it answered, is what is said of the scan
-  pub told : (looked : Option (List ℕ)) → neighbour scan map (start before) ≡ looked → (found : Option ℕ) (key : List ℕ) (answer : ℕ)
-      → key ≡ unwrap_or looked (start before) → found ≡ value_found map looked → IsSaid (entry_says found key before after) answer → IsSaid (scan_says map (neighbour scan map) before after) answer
-  told None none found key zero at value said = (is, none, said.1)
-  told None none found key (suc zero) at value said = absurd (true≢false (sym (ap is_some said.3) ∙ ap is_some value))
-  told None none found key (suc (suc (suc (suc (suc zero))))) at value said = absurd (true≢false (sym said.0 ∙ ap is_some value))
-  told (Some looked) some found key zero at value said =
-      absurd (true≢false (sym (neighbour_held scan map (start before) looked some) ∙ ap is_some (sym value) ∙ ap is_some said.0))
-  told (Some looked) some found key (suc zero) at value said =
+module _ (map : FinMap byte_order ℕ) (before after : Room) where
+  -- what is told of a key of the map that was put into a buffer, with the value that was answered, is what is said of that key
+  pub told_key : (asked looked : Option (List ℕ)) → asked ≡ looked → ((key : List ℕ) → asked ≡ Some key → IsTrue (contains_key map key)) → (from : List ℕ) (found : Option ℕ) (key : List ℕ) (answer : ℕ)
+      → key ≡ unwrap_or looked from → found ≡ value_found map looked → IsSaid (entry_says found key before after) answer → IsSaid (told_says map asked before after) answer
+  told_key asked None none held from found key zero at value said = (none, said.1)
+  told_key asked None none held from found key (suc zero) at value said = absurd (true≢false (sym (ap is_some said.3) ∙ ap is_some value))
+  told_key asked None none held from found key (suc (suc (suc (suc (suc zero))))) at value said = absurd (true≢false (sym said.0 ∙ ap is_some value))
+  told_key asked (Some looked) some held from found key zero at value said =
+      absurd (true≢false (sym (held looked some) ∙ ap is_some (sym value) ∙ ap is_some said.0))
+  told_key asked (Some looked) some held from found key (suc zero) at value said =
       let moved = subst (λ (k : List ℕ). (length k ≤ length before.buffer) × (after.buffer ≡ k ++ drop (length k) before.buffer) × (after.count ≡ length k)) at (said.0, said.1, said.2) in
-      (is, (looked, some, moved.0, (moved.1, moved.2, sym value ∙ said.3)))
-  told (Some looked) some found key (suc (suc (suc (suc (suc zero))))) at value said =
-      (is, (looked, some, subst (λ (k : List ℕ). length before.buffer < length k) at said.1), said.2)
-  told looked is' found key (suc (suc zero)) at value said = absurd said
-  told looked is' found key (suc (suc (suc zero))) at value said = absurd said
-  told looked is' found key (suc (suc (suc (suc zero)))) at value said = absurd said
-  told looked is' found key (suc (suc (suc (suc (suc (suc n)))))) at value said = absurd said
+      (looked, some, moved.0, (moved.1, moved.2, sym value ∙ said.3))
+  told_key asked (Some looked) some held from found key (suc (suc (suc (suc (suc zero))))) at value said =
+      ((looked, some, subst (λ (k : List ℕ). length before.buffer < length k) at said.1), said.2)
+  told_key asked looked is held from found key (suc (suc zero)) at value said = absurd said
+  told_key asked looked is held from found key (suc (suc (suc zero))) at value said = absurd said
+  told_key asked looked is held from found key (suc (suc (suc (suc zero)))) at value said = absurd said
+  told_key asked looked is held from found key (suc (suc (suc (suc (suc (suc n)))))) at value said = absurd said
+
+  -- so it is of the n-th key
+  pub told_nth : (n : ℕ) (found : Option ℕ) (key : List ℕ) (answer : ℕ) → key ≡ unwrap_or (by_count map n) [] → found ≡ value_found map (by_count map n) → IsSaid (entry_says found key before after) answer → IsSaid (told_says map (by_count map n) before after) answer
+  told_nth n = told_key (by_count map n) (by_count map n) refl (λ key is. (by_count_found byte_order_total byte_order_same map n key is).0) []
+
+  module _ (scan : Scan) (is : IsStart before) where
+    -- behind a string that a scan may begin at, what is said of its neighbour is what is said of the scan
+    begun : (answer : ℕ) → IsSaid (told_says map (neighbour scan map (start before)) before after) answer → IsSaid (scan_says map (neighbour scan map) before after) answer
+    begun zero said = (is, said)
+    begun (suc zero) said = (is, said)
+    begun (suc (suc zero)) said = said
+    begun (suc (suc (suc zero))) said = said
+    begun (suc (suc (suc (suc zero)))) said = absurd said
+    begun (suc (suc (suc (suc (suc zero))))) said = (is, said)
+    begun (suc (suc (suc (suc (suc (suc n)))))) said = said
+
+    -- and so it is of the key that a scan left in its buffer
+    pub told : (found : Option ℕ) (key : List ℕ) (answer : ℕ) → key ≡ unwrap_or (neighbour scan map (start before)) (start before) → found ≡ value_found map (neighbour scan map (start before)) → IsSaid (entry_says found key before after) answer → IsSaid (scan_says map (neighbour scan map) before after) answer
+    told found key answer at value said =
+        begun answer (told_key (neighbour scan map (start before)) (neighbour scan map (start before)) refl (neighbour_held scan map (start before)) (start before) found key answer at value said)

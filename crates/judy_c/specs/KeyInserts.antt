@@ -7,9 +7,9 @@ use Rattle.judy_model.specs.Arrays.{ArrayOf, ins, is_full}
 use Rattle.judy_c.specs.declared.answers.Refusal.{Refusal}
 use Rattle.judy_c.specs.declared.answers.Refusal.TheVariants.{NoMemory, Full, BadKey}
 
--- Bytes that are a key of an array over byte strings.
+-- Bytes that are a key of an array over byte strings: no more than memory that is lent may have.
 abbrev pub IsShort : List ℕ → Type 0
-IsShort key = length key ≤ 1024
+IsShort key = length key ≤ 9223372036854775807
 
 -- BadKey: the bytes are no key. Full: they are one that is absent, and the array holds as many keys as its limit. NoMemory: they are
 -- one that is absent, and the array isn't full.

@@ -33,15 +33,24 @@ abbrev pub IsEntry : FinMap byte_order ℕ → List ℕ → Room → Room → Ty
 IsEntry map key before after =
     (after.buffer ≡ key ++ drop (length key) before.buffer) × (after.count ≡ length key) × (get map key ≡ Some after.value)
 
--- The key that is looked for from the string in the buffer is told with its value; or there is none, or it doesn't fit the
--- buffer, or the buffer holds no such string, and then everything stays.
-abbrev pub scan_says : FinMap byte_order ℕ → (List ℕ → Option (List ℕ)) → Room → Room → Says
-scan_says map look before after = record {
-  none = IsStart before × (look (start before) ≡ None) × (after ≡ before);
-  found = IsStart before × ((key : List ℕ) × (look (start before) ≡ Some key) × (length key ≤ length before.buffer) × IsEntry map key before after);
-  bad_key = (IsStart before → ⊥) × (after ≡ before);
-  too_small = IsStart before × ((key : List ℕ) × (look (start before) ≡ Some key) × (length before.buffer < length key)) × (after ≡ before);
+-- A key that is there is told with its value; or there is none, or it doesn't fit the buffer, and then everything stays.
+abbrev pub told_says : FinMap byte_order ℕ → Option (List ℕ) → Room → Room → Says
+told_says map looked before after = record {
+  none = (looked ≡ None) × (after ≡ before);
+  found = (key : List ℕ) × (looked ≡ Some key) × (length key ≤ length before.buffer) × IsEntry map key before after;
+  bad_key = ⊥;
+  too_small = ((key : List ℕ) × (looked ≡ Some key) × (length before.buffer < length key)) × (after ≡ before);
 }
+
+-- The same of the key that is looked for from the string in the buffer; or the buffer holds no such string, and everything stays.
+abbrev pub scan_says : FinMap byte_order ℕ → (List ℕ → Option (List ℕ)) → Room → Room → Says
+scan_says map look before after =
+    let says = told_says map (look (start before)) before after in record {
+      none = IsStart before × says.none;
+      found = IsStart before × says.found;
+      bad_key = (IsStart before → ⊥) × (after ≡ before);
+      too_small = IsStart before × says.too_small;
+    }
 
 -- What is told of a key that was found with its value, or wasn't.
 abbrev pub entry_says : Option ℕ → List ℕ → Room → Room → Says

@@ -18,3 +18,4 @@ pub mod Walks
 pub mod Sorted
 pub mod KeyPuts
 pub mod KeyWalks
+pub mod Looks

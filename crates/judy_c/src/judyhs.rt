@@ -22,7 +22,7 @@ use crate::told::{hand_out, tell};
 use judy_hs::{Eights, JudyHs};
 use std::alloc::Global;
 
-/// The value of a key; one of more than 1,024 bytes is absent. (Manual: JHSG, JudyHSGet.)
+/// The value of a key. (Manual: JHSG, JudyHSGet.)
 #[unsafe(no_mangle)]
 pub extern "C" fn sellumaq_judyhs_get(
     alloc: Global,

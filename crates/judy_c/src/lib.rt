@@ -12,10 +12,10 @@
 //!
 //! set.rt, map.rt, strings.rt and bytes.rt have the handles, and in the folders of these names stand the array behind one, its pointer
 //! and a map's slots. judy1.rt, judyl.rt, judysl.rt and judyhs.rt have the calls, entries.rt those that tell a key with its value,
-//! exchanges.rt those that tell the value that was there, walks.rt those that tell many keys at a time,
-//! sorted.rt those that make an array at once, told.rt how a call answers a
-//! word or a slot that may not be there, answers.rt how one answers by a number, scans.rt the scans over strings, and loose.rt a box
-//! as its pointer. The crate is a static library, and no other stands on it.
+//! exchanges.rt those that tell the value that was there, walks.rt those that tell many keys at a time, looks.rt the one
+//! that looks many up, sorted.rt those that make an array at once, told.rt how a call answers a
+//! word or a slot that may not be there, answers.rt how one answers by a number, scans.rt the scans over strings, string_counts.rt
+//! their counts, and loose.rt a box as its pointer. The crate is a static library, and no other stands on it.
 #![tactic(auto)]
 
 mod answers;
@@ -28,11 +28,13 @@ mod judyl;
 mod judysl;
 mod key_exchanges;
 mod key_walks;
+mod looks;
 mod loose;
 mod map;
 mod scans;
 mod set;
 mod sorted;
+mod string_counts;
 mod strings;
 mod told;
 mod walks;

@@ -73,7 +73,7 @@ fn read_start(buffer: &[u8], count: usize, key: &mut KeyBuf) -> bool
 }
 
 // Tells a key and its value, where it was found and fits the caller's buffer.
-fn tell_entry(
+pub(crate) fn tell_entry(
     found: Option<u64>,
     key: &[u8],
     buffer: &mut [u8],

@@ -1,5 +1,5 @@
--- What a scan of a judysl array leaves and answers.
-use Rattle.std.proofs.Common.{◌≡◌, ℕ, Bool, true, false, List, Option, Some, None, Ok, is_some, refl, sym, ap, ◌∙◌, IsTrue, IfSome, unwrap_or}
+-- What a scan of a judysl array, and the n-th key, leaves and answers.
+use Rattle.std.proofs.Common.{◌≡◌, ℕ, Bool, true, List, Option, Some, None, Ok, is_some, refl, unwrap_or}
 use Rattle.std.specs.Prelude.{◌&&◌}
 use Rattle.std.specs.declared.cmp.Ordering.{Ordering}
 use Rattle.std.specs.FinMap.{FinMap, get, contains_key, nat_cmp-IsAntisymmetric, slice_cmp-IsAntisymmetric}
@@ -7,13 +7,15 @@ use Rattle.std.proofs.lemmas.Bool.{and_parts}
 use Rattle.std.proofs.lemmas.Cmp.{nat_list_cmp_total}
 use Rattle.judy_model.specs.Keys.{byte_order}
 use Rattle.judy_model.specs.Neighbours as neighbours
+use Rattle.judy_model.specs.Counts.{by_count}
 use Rattle.judy_model.specs.Nearest.{IsLeast}
 use Rattle.judy_model.specs.Arrays.{ArrayOf, judysl}
 use Rattle.judy_model.specs.CommandWords as command
 use Rattle.judy_model.specs.CommandWords.{Neighbour}
 use Rattle.judy_model.specs.Replies.{Answer, string_entry}
-use Rattle.judy_model.specs.Commands.{entry_or_nothing, neighbour_of, string_key_at, strings_on_key}
+use Rattle.judy_model.specs.Commands.{entry_or_nothing, neighbour_of, string_key_at, word_at, strings_on_key}
 use Rattle.judy_model.proofs.NearestLemmas.{first-IsFirst, next-IsNext, last-IsLast, prev-IsPrev}
+use Rattle.judy_model.proofs.CountsLemmas.{by_count_found}
 use Rattle.judy_sl.specs.Scans.{value_found}
 use Rattle.judy_command.specs.Replies.{found_entry}
 use Rattle.judy_command.specs.Follows.{Follows}
@@ -39,6 +41,17 @@ module _ (map : FinMap byte_order ℕ) (from : List ℕ) where
 
   pub prev_found : found_entry (value_found map (neighbours.prev map from)) (unwrap_or (neighbours.prev map from) from) ≡ entry_or_nothing string_entry map (neighbours.prev map from)
   prev_found = found _ _ (neighbours.prev map from) (prev-IsPrev nat_list_cmp_total (slice_cmp-IsAntisymmetric nat_cmp-IsAntisymmetric) map from)
+
+  pub nth_found : (n : ℕ) → found_entry (value_found map (by_count map n)) (unwrap_or (by_count map n) from) ≡ entry_or_nothing string_entry map (by_count map n)
+  nth_found n = by (by_count map n) refl
+    where
+      by : (answer : Option (List ℕ)) → by_count map n ≡ answer → found_entry (value_found map answer) (unwrap_or answer from) ≡ entry_or_nothing string_entry map answer
+      by None is = refl
+      by (Some key) is = held key (get map key) refl (by_count_found nat_list_cmp_total (slice_cmp-IsAntisymmetric nat_cmp-IsAntisymmetric) map n key is).0
+
+-- the n-th key, found in the buffer
+pub Follows-nth : (array : ArrayOf byte_order) (token : List ℕ) (n : ℕ) (answer : Answer) → word_at token ≡ Ok n → answer ≡ entry_or_nothing string_entry array.map (by_count array.map n) → Follows (judysl array) (strings_on_key command.by_count array token) (Ok answer) (judysl array)
+Follows-nth array token n answer said is = rw said (is, refl)
 
 -- a neighbour that was found in the buffer of its key
 pub Follows-found : (side : Neighbour) (array : ArrayOf byte_order) (token key : List ℕ) (answer : Answer) → string_key_at token ≡ Ok key → answer ≡ entry_or_nothing string_entry array.map (neighbour_of side array.map key) → Follows (judysl array) (strings_on_key (command.neighbour side) array token) (Ok answer) (judysl array)

@@ -11,11 +11,11 @@ ghost use Rattle.judy_command.specs.Replies.{checked, reply_of};
 ghost use Rattle.judy_command.specs.Follows.{Follows};
 
 use crate::command::{KeyCommand, PairCommand};
-use crate::keys::{bytes_key, string_key};
+use crate::keys::bytes_key;
 use crate::maps::{words_on_key, words_on_pair};
 use crate::reply::{Answer, Refusal, Reply};
 use crate::sets::{set_on_key, set_on_pair};
-use crate::strings::strings_on_key;
+use crate::strings::{strings_on_key, strings_on_pair};
 use crate::values::{map_on_key, map_on_pair};
 use judy_shelf::{Array, Name, Shelf};
 use judy_sl::KeyBuf;
@@ -120,7 +120,7 @@ fn on_pair(
     match array {
         Array::Judy1(set) => set_on_pair(set, command, first, second),
         Array::JudyL(words) => words_on_pair(words, command, first, second),
-        Array::JudySl(strings) => map_on_pair(strings, command, string_key(first, key), second),
+        Array::JudySl(strings) => strings_on_pair(strings, command, first, second, key),
         Array::JudyHs(bytes) => map_on_pair(bytes, command, bytes_key(first, key), second),
     }
 }

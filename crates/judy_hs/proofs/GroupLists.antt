@@ -146,9 +146,3 @@ pub group_listed : (hash_of : List ℕ → ℕ) (key_length : ℕ) (group : Grou
 group_listed hash_of key_length none is = absurd is
 group_listed hash_of key_length (short words) is = listed_short hash_of key_length words is
 group_listed hash_of key_length (long group) is = listed_long hash_of key_length group is
-
--- Its keys have at most 1,024 bytes.
-pub group_length : (hash_of : List ℕ → ℕ) (key_length : ℕ) (group : Group) → IsGroup hash_of key_length group → key_length ≤ 1024
-group_length hash_of key_length none is = absurd is
-group_length hash_of key_length (short words) is = let few = is.few in omega arith
-group_length hash_of key_length (long group) is = is.within

@@ -6,7 +6,8 @@ use borrow.Follows.Closed.{read_of}
 use Rattle.std.proofs.lemmas.Bool.{ne_eqb, false≢true}
 use Rattle.std.proofs.lemmas.Bool.Decides.{Decides-eqb}
 use Rattle.std.proofs.lemmas.List.{get_or_default}
-use Rattle.judy_model.specs.Keys.{word_order, byte_order, IsBytesKey}
+use Rattle.judy_model.specs.Keys.{word_order, byte_order}
+use Rattle.judy_model.specs.KeyLengths.{IsBytesKeyTo}
 use Rattle.judy_model.specs.Arrays.{ArrayOf, with_map, empty_array, ins, del, is_full}
 use Rattle.judy_model.proofs.TableLemmas.{bytes_keys-all, byte_order_total, byte_order_same, get-table, get-table_bad, table_none}
 use Rattle.judy_model.proofs.ChangesLemmas.{write-write, del_absent}
@@ -24,28 +25,29 @@ use Rattle.judy_hs.proofs.TwoLevels.{get_or-set_here, same_or_not}
 use Rattle.judy_hs.proofs.KeyedSteps.{IsMade, IsPut, made-set, made-without, made-gone, put-group}
 
 -- A key that a slice of bytes holds.
-pub is_key_of : (key : List ℕ) → ((i : ℕ) → get_or key i 0 < 256) → length key ≤ 1024 → IsBytesKey key
-is_key_of key small within = record {
+pub is_key_of : (longest : ℕ) (key : List ℕ) → ((i : ℕ) → get_or key i 0 < 256) → length key ≤ longest → IsBytesKeyTo longest key
+is_key_of longest key small within = record {
   is_byte_string = λ k d below. subst (λ byte. byte < 256) (get_or_default key k 0 d below) (small k);
   within_limit = within;
 }
 
-module _ (hash_of : List ℕ → ℕ) where
+module _ (hash_of : List ℕ → ℕ) (longest : ℕ) where
   -- ---- no keys
 
   no_value : (key : List ℕ) → value_of hash_of no_keys key ≡ None
   no_value key = ap (λ found. in_place no_keys found (part_of hash_of key) key) (get-empty word_order (length key))
 
-  pub map_of-none : map_of hash_of no_keys ≡ empty
-  map_of-none = table_none bytes_keys-all (value_of hash_of no_keys) (λ key is_key. no_value key)
+  pub map_of-none : map_of hash_of longest no_keys ≡ empty
+  map_of-none = table_none (bytes_keys-all longest) (value_of hash_of no_keys) (λ key is_key. no_value key)
 
   no_lead : {A : Type 0} (word place : ℕ) → get no_keys.lengths.map word ≡ Some place → A
   no_lead word place e = some_none place (sym e ∙ get-empty word_order word)
 
-  pub IsHs-none : (limit : ℕ) → 1 ≤ limit → limit ≤ 4294967295 → IsHs hash_of limit 0 no_keys
+  pub IsHs-none : (limit : ℕ) → 1 ≤ limit → limit ≤ 4294967295 → IsHs hash_of longest limit 0 no_keys
   IsHs-none limit some most = record {
     is_keyed = record {
       limit = refl;
+      within = λ key_length place e. no_lead key_length place e;
       apart = λ one other place p q. no_lead one place p;
       groups = λ key_length place e. no_lead key_length place e;
     };
@@ -55,21 +57,21 @@ module _ (hash_of : List ℕ → ℕ) where
     limit_fits = most;
   }
 
-  pub array_of-none : (limit : ℕ) → array_of hash_of limit no_keys ≡ empty_array limit
+  pub array_of-none : (limit : ℕ) → array_of hash_of longest limit no_keys ≡ empty_array limit
   array_of-none limit = ap (λ (map : FinMap byte_order ℕ). record { limit = limit; map = map }) map_of-none
 
   module _ (keyed : Keyed) (key : List ℕ) where
     -- The map answers as the groups do, and for what is no key nothing.
-    pub get_is : IsBytesKey key → get (map_of hash_of keyed) key ≡ value_of hash_of keyed key
-    get_is is_key = get-table bytes_keys-all (value_of hash_of keyed) key is_key
+    pub get_is : IsBytesKeyTo longest key → get (map_of hash_of longest keyed) key ≡ value_of hash_of keyed key
+    get_is is_key = get-table (bytes_keys-all longest) (value_of hash_of keyed) key is_key
 
-    pub get_long : 1024 < length key → get (map_of hash_of keyed) key ≡ None
-    get_long over = get-table_bad bytes_keys-all (value_of hash_of keyed) key (λ is. absurd (omega (arith, is.within_limit)))
+    pub get_long : longest < length key → get (map_of hash_of longest keyed) key ≡ None
+    get_long over = get-table_bad (bytes_keys-all longest) (value_of hash_of keyed) key (λ is. absurd (omega (arith, is.within_limit)))
 
     -- ---- where a key stands
 
-    module _ (is_key : IsBytesKey key) (place : ℕ) (inside : Inside) (spot : IsSpot keyed (part_of hash_of key) key place inside) where
-      pub spot-value : get (map_of hash_of keyed) key ≡ value_inside (group_at keyed place) inside key
+    module _ (is_key : IsBytesKeyTo longest key) (place : ℕ) (inside : Inside) (spot : IsSpot keyed (part_of hash_of key) key place inside) where
+      pub spot-value : get (map_of hash_of longest keyed) key ≡ value_inside (group_at keyed place) inside key
       spot-value = get_is is_key ∙ ap (λ found. in_place keyed found (part_of hash_of key) key) spot.leads ∙ value-inside hash_of key is_key.is_byte_string (group_at keyed place) inside spot.is_inside
 
       pub spot-usable : IsUsable (group_at keyed place) inside key
@@ -78,27 +80,27 @@ module _ (hash_of : List ℕ → ℕ) where
       pub spot-removable : IsRemovable (group_at keyed place) inside key
       spot-removable = inside-removable hash_of key is_key.is_byte_string (group_at keyed place) inside spot.is_inside
 
-      pub spot-some : (value : ℕ) × (get (map_of hash_of keyed) key ≡ Some value)
+      pub spot-some : (value : ℕ) × (get (map_of hash_of longest keyed) key ≡ Some value)
       spot-some =
           let found = inside-some hash_of key is_key.is_byte_string (group_at keyed place) inside spot.is_inside in
           (found.0, get_is is_key ∙ ap (λ found. in_place keyed found (part_of hash_of key) key) spot.leads ∙ found.1)
 
-  module _ (limit count : ℕ) (keyed : Keyed) (is : IsHs hash_of limit count keyed) (key : List ℕ) (is_key : IsBytesKey key) where
+  module _ (limit count : ℕ) (keyed : Keyed) (is : IsHs hash_of longest limit count keyed) (key : List ℕ) (is_key : IsBytesKeyTo longest key) where
     -- ---- a value written
 
     module _ (place : ℕ) (inside : Inside) (spot : IsSpot keyed (part_of hash_of key) key place inside) (value : ℕ) where
-      made_with : IsMade hash_of (keyed_with keyed place inside key value) (insert (map_of hash_of keyed) key value)
-      made_with = made-set hash_of keyed is.is_keyed key is_key place spot.leads spot.within (group_with (group_at keyed place) inside key value) value
+      made_with : IsMade hash_of longest (keyed_with keyed place inside key value) (insert (map_of hash_of longest keyed) key value)
+      made_with = made-set hash_of longest keyed is.is_keyed key is_key place spot.leads spot.within (group_with (group_at keyed place) inside key value) value
           (group-write hash_of key is_key.is_byte_string (group_at keyed place) inside value (is.is_keyed.groups (length key) place spot.leads) spot.is_inside)
 
-      pub array-written : array_of hash_of limit (keyed_with keyed place inside key value) ≡ with_value (array_of hash_of limit keyed) key value
+      pub array-written : array_of hash_of longest limit (keyed_with keyed place inside key value) ≡ with_value (array_of hash_of longest limit keyed) key value
       array-written = ap (λ (map : FinMap byte_order ℕ). record { limit = limit; map = map }) made_with.map_is
 
-      pub IsHs-written : IsHs hash_of limit count (keyed_with keyed place inside key value)
+      pub IsHs-written : IsHs hash_of longest limit count (keyed_with keyed place inside key value)
       IsHs-written =
           let held = spot-some keyed key is_key place inside spot in
-          let same : len (map_of hash_of (keyed_with keyed place inside key value)) ≡ len (map_of hash_of keyed) =
-          ap len made_with.map_is ∙ len-insert byte_order_total (map_of hash_of keyed) key value ∙ ap (λ (found : Option ℕ). cond (is_some found) (len (map_of hash_of keyed)) (len (map_of hash_of keyed) + 1)) held.1 in
+          let same : len (map_of hash_of longest (keyed_with keyed place inside key value)) ≡ len (map_of hash_of longest keyed) =
+          ap len made_with.map_is ∙ len-insert byte_order_total (map_of hash_of longest keyed) key value ∙ ap (λ (found : Option ℕ). cond (is_some found) (len (map_of hash_of longest keyed)) (len (map_of hash_of longest keyed) + 1)) held.1 in
           record {
             is_keyed = made_with.is;
             counted = is.counted ∙ sym same;
@@ -117,14 +119,14 @@ module _ (hash_of : List ℕ → ℕ) where
     keyed-takes absent = can_take (get keyed.lengths.map (length key)) refl absent
 
     put_key : (place : ℕ) (inside : Inside) (found : Option ℕ) → get keyed.lengths.map (length key) ≡ found → in_place keyed found (part_of hash_of key) key ≡ None → IsNewSpot keyed (part_of hash_of key) key found place inside
-        → IsPut hash_of keyed is.is_keyed key is_key (added_keyed keyed (part_of hash_of key) key found place inside) place inside
+        → IsPut hash_of longest keyed is.is_keyed key is_key (added_keyed keyed (part_of hash_of key) key found place inside) place inside
     put_key place inside None leads absent new =
-        subst (λ i. IsPut hash_of keyed is.is_keyed key is_key (with_group keyed (part_of hash_of key) key place) place i) (sym new.1) (put-group hash_of keyed is.is_keyed key is_key place leads new.0)
+        subst (λ i. IsPut hash_of longest keyed is.is_keyed key is_key (with_group keyed (part_of hash_of key) key place) place i) (sym new.1) (put-group hash_of longest keyed is.is_keyed key is_key place leads new.0)
     put_key place inside (Some held) leads absent new =
         let group = group_at keyed held in
         let grown = group-add hash_of key is_key.is_byte_string group inside (is.is_keyed.groups (length key) held leads) absent new.2 in
         record {
-          made = made-set hash_of keyed is.is_keyed key is_key held leads new.1 (group_with_key group (part_of hash_of key) key inside) 0 grown.changed;
+          made = made-set hash_of longest keyed is.is_keyed key is_key held leads new.1 (group_with_key group (part_of hash_of key) key inside) 0 grown.changed;
           spot = record {
             leads = leads ∙ ap (λ (p : ℕ). Some p) (sym new.0);
             within = set_within keyed.groups held place (group_with_key group (part_of hash_of key) key inside) new.0 new.1;
@@ -134,20 +136,20 @@ module _ (hash_of : List ℕ → ℕ) where
         }
 
     module _ (place : ℕ) (inside : Inside) (absent : value_of hash_of keyed key ≡ None) (new : IsNewSpot keyed (part_of hash_of key) key (get keyed.lengths.map (length key)) place inside) where
-      put : IsPut hash_of keyed is.is_keyed key is_key (added_keyed keyed (part_of hash_of key) key (get keyed.lengths.map (length key)) place inside) place inside
+      put : IsPut hash_of longest keyed is.is_keyed key is_key (added_keyed keyed (part_of hash_of key) key (get keyed.lengths.map (length key)) place inside) place inside
       put = put_key place inside (get keyed.lengths.map (length key)) refl absent new
 
       pub added-spot : IsSpot (added_keyed keyed (part_of hash_of key) key (get keyed.lengths.map (length key)) place inside) (part_of hash_of key) key place inside
       added-spot = put.spot
 
-      pub added-map : map_of hash_of (added_keyed keyed (part_of hash_of key) key (get keyed.lengths.map (length key)) place inside) ≡ insert (map_of hash_of keyed) key 0
+      pub added-map : map_of hash_of longest (added_keyed keyed (part_of hash_of key) key (get keyed.lengths.map (length key)) place inside) ≡ insert (map_of hash_of longest keyed) key 0
       added-map = put.made.map_is
 
-      pub IsHs-added : count ≢ limit → IsHs hash_of limit (count + 1) (added_keyed keyed (part_of hash_of key) key (get keyed.lengths.map (length key)) place inside)
+      pub IsHs-added : count ≢ limit → IsHs hash_of longest limit (count + 1) (added_keyed keyed (part_of hash_of key) key (get keyed.lengths.map (length key)) place inside)
       IsHs-added room =
           let within = is.within_limit in
-          let more : len (map_of hash_of (added_keyed keyed (part_of hash_of key) key (get keyed.lengths.map (length key)) place inside)) ≡ len (map_of hash_of keyed) + 1 =
-          ap len put.made.map_is ∙ len-insert byte_order_total (map_of hash_of keyed) key 0 ∙ ap (λ (found : Option ℕ). cond (is_some found) (len (map_of hash_of keyed)) (len (map_of hash_of keyed) + 1)) (get_is keyed key is_key ∙ absent) in
+          let more : len (map_of hash_of longest (added_keyed keyed (part_of hash_of key) key (get keyed.lengths.map (length key)) place inside)) ≡ len (map_of hash_of longest keyed) + 1 =
+          ap len put.made.map_is ∙ len-insert byte_order_total (map_of hash_of longest keyed) key 0 ∙ ap (λ (found : Option ℕ). cond (is_some found) (len (map_of hash_of longest keyed)) (len (map_of hash_of longest keyed) + 1)) (get_is keyed key is_key ∙ absent) in
           record {
             is_keyed = put.made.is;
             counted = ap (λ n. n + 1) is.counted ∙ sym more;
@@ -159,21 +161,21 @@ module _ (hash_of : List ℕ → ℕ) where
     -- ---- a key taken out
 
     module _ (place : ℕ) (inside : Inside) (spot : IsSpot keyed (part_of hash_of key) key place inside) where
-      pub made_kept : (IsEmptyGroup (group_without (group_at keyed place) (part_of hash_of key) inside key) → ⊥) → IsMade hash_of (keyed_without keyed place (part_of hash_of key) inside key) (remove (map_of hash_of keyed) key)
-      made_kept used = made-without hash_of keyed is.is_keyed key is_key place spot.leads spot.within (group_without (group_at keyed place) (part_of hash_of key) inside key)
+      pub made_kept : (IsEmptyGroup (group_without (group_at keyed place) (part_of hash_of key) inside key) → ⊥) → IsMade hash_of longest (keyed_without keyed place (part_of hash_of key) inside key) (remove (map_of hash_of longest keyed) key)
+      made_kept used = made-without hash_of longest keyed is.is_keyed key is_key place spot.leads spot.within (group_without (group_at keyed place) (part_of hash_of key) inside key)
           (group-remove hash_of key is_key.is_byte_string (group_at keyed place) inside (is.is_keyed.groups (length key) place spot.leads) spot.is_inside) used
 
-      pub made_emptied : IsEmptyGroup (group_without (group_at keyed place) (part_of hash_of key) inside key) → IsMade hash_of (without_group keyed (length key) place) (remove (map_of hash_of keyed) key)
-      made_emptied gone = made-gone hash_of keyed is.is_keyed key is_key place spot.leads (λ other o.
+      pub made_emptied : IsEmptyGroup (group_without (group_at keyed place) (part_of hash_of key) inside key) → IsMade hash_of longest (without_group keyed (length key) place) (remove (map_of hash_of longest keyed) key)
+      made_emptied gone = made-gone hash_of longest keyed is.is_keyed key is_key place spot.leads (λ other o.
           sym ((group-remove hash_of key is_key.is_byte_string (group_at keyed place) inside (is.is_keyed.groups (length key) place spot.leads) spot.is_inside).step.others other o)
           ∙ empty-none (group_without (group_at keyed place) (part_of hash_of key) inside key) gone (part_of hash_of other) other)
 
     -- The groups without the key are an array of one key less.
-    pub IsHs-removed : (after : Keyed) → IsMade hash_of after (remove (map_of hash_of keyed) key) → (value : ℕ) → get (map_of hash_of keyed) key ≡ Some value → IsHs hash_of limit (count - 1) after
+    pub IsHs-removed : (after : Keyed) → IsMade hash_of longest after (remove (map_of hash_of longest keyed) key) → (value : ℕ) → get (map_of hash_of longest keyed) key ≡ Some value → IsHs hash_of longest limit (count - 1) after
     IsHs-removed after made value held =
         let within = is.within_limit in
-        let less : len (map_of hash_of after) ≡ len (map_of hash_of keyed) - 1 =
-        ap len made.map_is ∙ len-remove byte_order_total (map_of hash_of keyed) key ∙ ap (λ (found : Option ℕ). cond (is_some found) (len (map_of hash_of keyed) - 1) (len (map_of hash_of keyed))) held in
+        let less : len (map_of hash_of longest after) ≡ len (map_of hash_of longest keyed) - 1 =
+        ap len made.map_is ∙ len-remove byte_order_total (map_of hash_of longest keyed) key ∙ ap (λ (found : Option ℕ). cond (is_some found) (len (map_of hash_of longest keyed) - 1) (len (map_of hash_of longest keyed))) held in
         record {
           is_keyed = made.is;
           counted = ap (λ n. n - 1) is.counted ∙ sym less;
@@ -199,19 +201,19 @@ group_or_not none = inl tt
 group_or_not (short words) = empty_or_not words.map
 group_or_not (long group) = empty_or_not group.hashes.map
 
-module _ (hash_of : List ℕ → ℕ) (limit count : ℕ) (keyed : Keyed) (is : IsHs hash_of limit count keyed) (key : List ℕ) (is_key : IsBytesKey key) (place : ℕ) (inside : Inside) (spot : IsSpot keyed (part_of hash_of key) key place inside) (after : Keyed)
+module _ (hash_of : List ℕ → ℕ) (longest limit count : ℕ) (keyed : Keyed) (is : IsHs hash_of longest limit count keyed) (key : List ℕ) (is_key : IsBytesKeyTo longest key) (place : ℕ) (inside : Inside) (spot : IsSpot keyed (part_of hash_of key) key place inside) (after : Keyed)
     (kept : (IsEmptyGroup (group_without (group_at keyed place) (part_of hash_of key) inside key) → ⊥) → after ≡ keyed_without keyed place (part_of hash_of key) inside key)
     (emptied : IsEmptyGroup (group_without (group_at keyed place) (part_of hash_of key) inside key) → after ≡ without_group keyed (length key) place) where
-  removed_made : IsMade hash_of after (remove (map_of hash_of keyed) key)
+  removed_made : IsMade hash_of longest after (remove (map_of hash_of longest keyed) key)
   removed_made = ⊎_elim
-      (λ gone. subst (λ k. IsMade hash_of k (remove (map_of hash_of keyed) key)) (sym (emptied gone)) (made_emptied hash_of limit count keyed is key is_key place inside spot gone))
-      (λ used. subst (λ k. IsMade hash_of k (remove (map_of hash_of keyed) key)) (sym (kept used)) (made_kept hash_of limit count keyed is key is_key place inside spot used))
+      (λ gone. subst (λ k. IsMade hash_of longest k (remove (map_of hash_of longest keyed) key)) (sym (emptied gone)) (made_emptied hash_of longest limit count keyed is key is_key place inside spot gone))
+      (λ used. subst (λ k. IsMade hash_of longest k (remove (map_of hash_of longest keyed) key)) (sym (kept used)) (made_kept hash_of longest limit count keyed is key is_key place inside spot used))
       (group_or_not (group_without (group_at keyed place) (part_of hash_of key) inside key))
 
-  pub IsHs-deleted : IsHs hash_of limit (count - 1) after
-  IsHs-deleted = let held = spot-some hash_of keyed key is_key place inside spot in IsHs-removed hash_of limit count keyed is key is_key after removed_made held.0 held.1
+  pub IsHs-deleted : IsHs hash_of longest limit (count - 1) after
+  IsHs-deleted = let held = spot-some hash_of longest keyed key is_key place inside spot in IsHs-removed hash_of longest limit count keyed is key is_key after removed_made held.0 held.1
 
-  pub array-deleted : array_of hash_of limit after ≡ with_map (array_of hash_of limit keyed) (del (map_of hash_of keyed) key)
+  pub array-deleted : array_of hash_of longest limit after ≡ with_map (array_of hash_of longest limit keyed) (del (map_of hash_of longest keyed) key)
   array-deleted = ap (λ (map : FinMap byte_order ℕ). record { limit = limit; map = map }) removed_made.map_is
 
 -- A key that isn't there isn't deleted.
@@ -255,46 +257,46 @@ pub if_ok : (r : Result (MutBor ℕ) HsError) (P Q : MutBor ℕ → Type 0) → 
 if_ok (Ok slot) P Q f h = f slot h
 if_ok (Err error) P Q f h = tt
 
-module _ (hash_of : List ℕ → ℕ) (limit count : ℕ) (keyed : Keyed) (is : IsHs hash_of limit count keyed) (key : List ℕ) (is_key : IsBytesKey key) where
-  pub full-absent : value_of hash_of keyed key ≡ None → count ≡ limit → IsTrue (is_full (array_of hash_of limit keyed) key)
-  full-absent absent full = is_full_absent (array_of hash_of limit keyed) key (get_is hash_of keyed key is_key ∙ absent) ∙ eq-eqb _ _ (sym is.counted ∙ full)
+module _ (hash_of : List ℕ → ℕ) (longest limit count : ℕ) (keyed : Keyed) (is : IsHs hash_of longest limit count keyed) (key : List ℕ) (is_key : IsBytesKeyTo longest key) where
+  pub full-absent : value_of hash_of keyed key ≡ None → count ≡ limit → IsTrue (is_full (array_of hash_of longest limit keyed) key)
+  full-absent absent full = is_full_absent (array_of hash_of longest limit keyed) key (get_is hash_of longest keyed key is_key ∙ absent) ∙ eq-eqb _ _ (sym is.counted ∙ full)
 
-  pub room-absent : value_of hash_of keyed key ≡ None → count ≢ limit → IsFalse (is_full (array_of hash_of limit keyed) key)
-  room-absent absent room = is_full_absent (array_of hash_of limit keyed) key (get_is hash_of keyed key is_key ∙ absent) ∙ ne_eqb _ _ (λ e. room (is.counted ∙ e))
+  pub room-absent : value_of hash_of keyed key ≡ None → count ≢ limit → IsFalse (is_full (array_of hash_of longest limit keyed) key)
+  room-absent absent room = is_full_absent (array_of hash_of longest limit keyed) key (get_is hash_of longest keyed key is_key ∙ absent) ∙ ne_eqb _ _ (λ e. room (is.counted ∙ e))
 
   module _ (place : ℕ) (inside : Inside) (spot : IsSpot keyed (part_of hash_of key) key place inside) where
     pub present-some : IsSome (value_inside (group_at keyed place) inside key)
-    present-some = let held = spot-some hash_of keyed key is_key place inside spot in ap (λ (found : Option ℕ). is_some found) (sym (spot-value hash_of keyed key is_key place inside spot) ∙ held.1)
+    present-some = let held = spot-some hash_of longest keyed key is_key place inside spot in ap (λ (found : Option ℕ). is_some found) (sym (spot-value hash_of longest keyed key is_key place inside spot) ∙ held.1)
 
-    pub present-room : IsFalse (is_full (array_of hash_of limit keyed) key)
-    present-room = let held = spot-some hash_of keyed key is_key place inside spot in is_full_present (array_of hash_of limit keyed) key held.0 held.1
+    pub present-room : IsFalse (is_full (array_of hash_of longest limit keyed) key)
+    present-room = let held = spot-some hash_of longest keyed key is_key place inside spot in is_full_present (array_of hash_of longest limit keyed) key held.0 held.1
 
-    pub present-value : (slot : ℕ) → Some slot ≡ value_inside (group_at keyed place) inside key → Some slot ≡ get (ins (map_of hash_of keyed) key) key
+    pub present-value : (slot : ℕ) → Some slot ≡ value_inside (group_at keyed place) inside key → Some slot ≡ get (ins (map_of hash_of longest keyed) key) key
     present-value slot e =
-        let held = spot-some hash_of keyed key is_key place inside spot in
-        e ∙ sym (spot-value hash_of keyed key is_key place inside spot) ∙ ap (λ (map : FinMap byte_order ℕ). get map key) (sym (ins_present (map_of hash_of keyed) key held.0 held.1))
+        let held = spot-some hash_of longest keyed key is_key place inside spot in
+        e ∙ sym (spot-value hash_of longest keyed key is_key place inside spot) ∙ ap (λ (map : FinMap byte_order ℕ). get map key) (sym (ins_present (map_of hash_of longest keyed) key held.0 held.1))
 
   module _ (place : ℕ) (inside : Inside) (absent : value_of hash_of keyed key ≡ None) (new : IsNewSpot keyed (part_of hash_of key) key (get keyed.lengths.map (length key)) place inside)
       (after : Keyed) (made : after ≡ added_keyed keyed (part_of hash_of key) key (get keyed.lengths.map (length key)) place inside) where
     pub after-spot : IsSpot after (part_of hash_of key) key place inside
-    after-spot = subst (λ k. IsSpot k (part_of hash_of key) key place inside) (sym made) (added-spot hash_of limit count keyed is key is_key place inside absent new)
+    after-spot = subst (λ k. IsSpot k (part_of hash_of key) key place inside) (sym made) (added-spot hash_of longest limit count keyed is key is_key place inside absent new)
 
-    after_map : map_of hash_of after ≡ insert (map_of hash_of keyed) key 0
-    after_map = ap (map_of hash_of) made ∙ added-map hash_of limit count keyed is key is_key place inside absent new
+    after_map : map_of hash_of longest after ≡ insert (map_of hash_of longest keyed) key 0
+    after_map = ap (map_of hash_of longest) made ∙ added-map hash_of longest limit count keyed is key is_key place inside absent new
 
-    pub after-hs : count ≢ limit → IsHs hash_of limit (count + 1) after
-    after-hs room = subst (IsHs hash_of limit (count + 1)) (sym made) (IsHs-added hash_of limit count keyed is key is_key place inside absent new room)
+    pub after-hs : count ≢ limit → IsHs hash_of longest limit (count + 1) after
+    after-hs room = subst (IsHs hash_of longest limit (count + 1)) (sym made) (IsHs-added hash_of longest limit count keyed is key is_key place inside absent new room)
 
     pub after-some : IsSome (value_inside (group_at after place) inside key)
-    after-some = let held = spot-some hash_of after key is_key place inside after-spot in ap (λ (found : Option ℕ). is_some found) (sym (spot-value hash_of after key is_key place inside after-spot) ∙ held.1)
+    after-some = let held = spot-some hash_of longest after key is_key place inside after-spot in ap (λ (found : Option ℕ). is_some found) (sym (spot-value hash_of longest after key is_key place inside after-spot) ∙ held.1)
 
-    pub after-value : (slot : ℕ) → Some slot ≡ value_inside (group_at after place) inside key → Some slot ≡ get (ins (map_of hash_of keyed) key) key
+    pub after-value : (slot : ℕ) → Some slot ≡ value_inside (group_at after place) inside key → Some slot ≡ get (ins (map_of hash_of longest keyed) key) key
     after-value slot e =
-        e ∙ sym (spot-value hash_of after key is_key place inside after-spot)
-        ∙ ap (λ (map : FinMap byte_order ℕ). get map key) (after_map ∙ sym (ins_absent (map_of hash_of keyed) key (get_is hash_of keyed key is_key ∙ absent)))
+        e ∙ sym (spot-value hash_of longest after key is_key place inside after-spot)
+        ∙ ap (λ (map : FinMap byte_order ℕ). get map key) (after_map ∙ sym (ins_absent (map_of hash_of longest keyed) key (get_is hash_of longest keyed key is_key ∙ absent)))
 
-    pub after-written : count ≢ limit → (value : ℕ) → array_of hash_of limit (keyed_with after place inside key value) ≡ with_value (array_of hash_of limit keyed) key value
+    pub after-written : count ≢ limit → (value : ℕ) → array_of hash_of longest limit (keyed_with after place inside key value) ≡ with_value (array_of hash_of longest limit keyed) key value
     after-written room value =
-        array-written hash_of limit (count + 1) after (after-hs room) key is_key place inside after-spot value
+        array-written hash_of longest limit (count + 1) after (after-hs room) key is_key place inside after-spot value
         ∙ ap (λ (map : FinMap byte_order ℕ). record { limit = limit; map = map })
-        (ap (λ (map : FinMap byte_order ℕ). insert map key value) after_map ∙ write-write byte_order_total (map_of hash_of keyed) key byte_order_same 0 value)
+        (ap (λ (map : FinMap byte_order ℕ). insert map key value) after_map ∙ write-write byte_order_total (map_of hash_of longest keyed) key byte_order_same 0 value)

@@ -5,7 +5,8 @@ use Rattle.std.proofs.lemmas.Bool.{false≢true, cases_order}
 use Rattle.std.proofs.lemmas.List.Elements.{All-nil, All-cons}
 use Rattle.std.proofs.lemmas.Nat.{mod_below}
 use Rattle.std.proofs.Math.Nat.{mod-eq_of_lt}
-use Rattle.judy_model.specs.Keys.{word_order, IsByteString, IsBytesKey}
+use Rattle.judy_model.specs.Keys.{word_order, IsByteString}
+use Rattle.judy_model.specs.KeyLengths.{IsBytesKeyTo}
 use Rattle.judy_model.specs.Arrays.{ArrayOf}
 use Rattle.judy_model.specs.WordBytes.{number_of, low_bytes}
 use Rattle.judy_model.proofs.ByteLemmas.{length-low_bytes, number_of-low_bytes}
@@ -34,30 +35,31 @@ held_is map word held = elim (get map word) as (λ found. IsTrue (is_some found)
 holds : (map : FinMap word_order ℕ) (word value : ℕ) → get map word ≡ Some value → IsTrue (contains_key map word)
 holds map word value held = ap (λ (found : Option ℕ). is_some found) held
 
-module _ (hash_of : List ℕ → ℕ) (keyed : Keyed) (is : IsKeyed hash_of keyed) where
+module _ (hash_of : List ℕ → ℕ) (longest : ℕ) (keyed : Keyed) (is : IsKeyed hash_of longest keyed) where
   -- A key of the map is one whose length leads to the group that holds it.
-  pub key_led : (key : List ℕ) (value : ℕ) → get (map_of hash_of keyed) key ≡ Some value → (place : ℕ) × (get keyed.lengths.map (length key) ≡ Some place) × (in_group (group_at keyed place) (part_of hash_of key) key ≡ Some value)
+  pub key_led : (key : List ℕ) (value : ℕ) → get (map_of hash_of longest keyed) key ≡ Some value → (place : ℕ) × (get keyed.lengths.map (length key) ≡ Some place) × (in_group (group_at keyed place) (part_of hash_of key) key ≡ Some value)
   key_led key value held =
-      let found = (table_some bytes_keys-all (value_of hash_of keyed) key value held).1 in
+      let found = (table_some (bytes_keys-all longest) (value_of hash_of keyed) key value held).1 in
       elim (get keyed.lengths.map (length key)) as (λ lead. in_place keyed lead (part_of hash_of key) key ≡ Some value → (place : ℕ) × (lead ≡ Some place) × (in_group (group_at keyed place) (part_of hash_of key) key ≡ Some value)) [
         | None ↦ λ no. absurd (some_none value (sym no))
         | Some place ↦ λ yes. (place, refl, yes)
       ] found
 
   -- What a group holds under a length that leads to it is in the map.
-  led_key : (n place : ℕ) → get keyed.lengths.map n ≡ Some place → (key : List ℕ) (value : ℕ) → IsBytesKey key → length key ≡ n → in_group (group_at keyed place) (part_of hash_of key) key ≡ Some value → get (map_of hash_of keyed) key ≡ Some value
+  led_key : (n place : ℕ) → get keyed.lengths.map n ≡ Some place → (key : List ℕ) (value : ℕ) → IsBytesKeyTo longest key → length key ≡ n → in_group (group_at keyed place) (part_of hash_of key) key ≡ Some value → get (map_of hash_of longest keyed) key ≡ Some value
   led_key n place leads key value is_key has held =
-      get-table bytes_keys-all (value_of hash_of keyed) key is_key ∙ ap (λ lead. in_place keyed lead (part_of hash_of key) key) (ap (get keyed.lengths.map) has ∙ leads) ∙ held
+      get-table (bytes_keys-all longest) (value_of hash_of keyed) key is_key ∙ ap (λ lead. in_place keyed lead (part_of hash_of key) key) (ap (get keyed.lengths.map) has ∙ leads) ∙ held
 
   -- The key of a word of a short group.
   module _ (n place : ℕ) (leads : get keyed.lengths.map n ≡ Some place) (words : ArrayOf word_order) (at : group_at keyed place ≡ short words) (kept : IsShort n words) where
-    word_key : (word value : ℕ) → get words.map word ≡ Some value → (key : List ℕ) × (length key ≡ n) × (number_of key ≡ word) × (get (map_of hash_of keyed) key ≡ Some value)
+    word_key : (word value : ℕ) → get words.map word ≡ Some value → (key : List ℕ) × (length key ≡ n) × (number_of key ≡ word) × (get (map_of hash_of longest keyed) key ≡ Some value)
     word_key word value held =
         let key = low_bytes n word in
         let has : length key ≡ n = length-low_bytes n word in
         let few = kept.few in
         let spells : number_of key ≡ word = number_of-low_bytes n word ∙ mod-eq_of_lt (kept.fits word value held) in
-        let short_key : length key ≤ 8 = omega arith in (
+        let short_key : length key ≤ 8 = omega arith in
+        let within = is.within n place leads in (
           key,
           has,
           spells,
@@ -65,7 +67,7 @@ module _ (hash_of : List ℕ → ℕ) (keyed : Keyed) (is : IsKeyed hash_of keye
               (ap (λ group. in_group group (part_of hash_of key) key) at ∙ ap (get words.map) (part_short hash_of key short_key ∙ spells) ∙ held),
         )
 
-    key_word : (word value : ℕ) → ((key : List ℕ) × (length key ≡ n) × (number_of key ≡ word) × (get (map_of hash_of keyed) key ≡ Some value)) → get words.map word ≡ Some value
+    key_word : (word value : ℕ) → ((key : List ℕ) × (length key ≡ n) × (number_of key ≡ word) × (get (map_of hash_of longest keyed) key ≡ Some value)) → get words.map word ≡ Some value
     key_word word value found =
         let key = found.0 in
         let few = kept.few in
@@ -78,7 +80,7 @@ module _ (hash_of : List ℕ → ℕ) (keyed : Keyed) (is : IsKeyed hash_of keye
 
   -- The key of a hash of a long group.
   module _ (n place : ℕ) (leads : get keyed.lengths.map n ≡ Some place) (group : Long) (at : group_at keyed place ≡ long group) (kept : IsLong hash_of n group) where
-    hash_key : (word held : ℕ) → get group.hashes.map word ≡ Some held → (key : List ℕ) × (value : ℕ) × (length key ≡ n) × (hash_of key ≡ word) × (get (map_of hash_of keyed) key ≡ Some value)
+    hash_key : (word held : ℕ) → get group.hashes.map word ≡ Some held → (key : List ℕ) × (value : ℕ) × (length key ≡ n) × (hash_of key ≡ word) × (get (map_of hash_of longest keyed) key ≡ Some value)
     hash_key word held e =
         let chain = kept.chains word held e in
         let pair = some_pair (chain_at group held) chain.used in
@@ -87,7 +89,7 @@ module _ (hash_of : List ℕ → ℕ) (keyed : Keyed) (is : IsKeyed hash_of keye
         let many = kept.many in
         let has : length key ≡ n = of.1 in
         let long_key : 8 < length key = omega arith in
-        let within = kept.within in (
+        let within = is.within n place leads in (
           key,
           pair.1,
           has,
@@ -96,7 +98,7 @@ module _ (hash_of : List ℕ → ℕ) (keyed : Keyed) (is : IsKeyed hash_of keye
               (ap (λ group. in_group group (part_of hash_of key) key) at ∙ ap (λ found. in_chain group found key) (ap (get group.hashes.map) (part_long hash_of key long_key ∙ of.2) ∙ e) ∙ pair.2),
         )
 
-    key_hash : (word : ℕ) → ((key : List ℕ) × (value : ℕ) × (length key ≡ n) × (hash_of key ≡ word) × (get (map_of hash_of keyed) key ≡ Some value)) → IsTrue (contains_key group.hashes.map word)
+    key_hash : (word : ℕ) → ((key : List ℕ) × (value : ℕ) × (length key ≡ n) × (hash_of key ≡ word) × (get (map_of hash_of longest keyed) key ≡ Some value)) → IsTrue (contains_key group.hashes.map word)
     key_hash word found =
         let key = found.0 in
         let many = kept.many in
@@ -114,18 +116,18 @@ module _ (hash_of : List ℕ → ℕ) (keyed : Keyed) (is : IsKeyed hash_of keye
 
   -- ---- the clauses
 
-  some_key : (n place : ℕ) → get keyed.lengths.map n ≡ Some place → (group : Group) → group_at keyed place ≡ group → IsGroup hash_of n group → HasLength (map_of hash_of keyed) n
+  some_key : (n place : ℕ) → get keyed.lengths.map n ≡ Some place → (group : Group) → group_at keyed place ≡ group → IsGroup hash_of n group → HasLength (map_of hash_of longest keyed) n
   some_key n place leads none at kept = absurd kept
   some_key n place leads (short words) at kept = let found = word_key n place leads words at kept kept.used.0 kept.used.1 kept.used.2 in (found.0, kept.used.1, found.1, found.3)
   some_key n place leads (long group) at kept = let found = hash_key n place leads group at kept kept.used.0 kept.used.1 kept.used.2 in (found.0, found.1, found.2, found.4)
 
-  led_length : (n place : ℕ) → get keyed.lengths.map n ≡ Some place → HasLength (map_of hash_of keyed) n
+  led_length : (n place : ℕ) → get keyed.lengths.map n ≡ Some place → HasLength (map_of hash_of longest keyed) n
   led_length n place leads = some_key n place leads (group_at keyed place) refl (is.groups n place leads)
 
-  has_led : (n : ℕ) → HasLength (map_of hash_of keyed) n → (place : ℕ) × (get keyed.lengths.map n ≡ Some place)
+  has_led : (n : ℕ) → HasLength (map_of hash_of longest keyed) n → (place : ℕ) × (get keyed.lengths.map n ≡ Some place)
   has_led n found = let led = key_led found.0 found.1 found.3 in (led.0, ap (get keyed.lengths.map) (sym found.2) ∙ led.1)
 
-  pub lengths-are : IsLengths (map_of hash_of keyed) keyed.lengths.map
+  pub lengths-are : IsLengths (map_of hash_of longest keyed) keyed.lengths.map
   lengths-are = λ n. (
     λ held. let lead = held_is keyed.lengths.map n held in led_length n lead.0 lead.1,
     λ found. let lead = has_led n found in holds keyed.lengths.map n lead.0 lead.1,
@@ -136,63 +138,63 @@ module _ (hash_of : List ℕ → ℕ) (keyed : Keyed) (is : IsKeyed hash_of keye
   words_some n (short words) kept = refl
   words_some n (long group) kept = refl
 
-  pub group-there : (n : ℕ) → IsSome (words_at keyed (get keyed.lengths.map n)) ↔ HasLength (map_of hash_of keyed) n
+  pub group-there : (n : ℕ) → IsSome (words_at keyed (get keyed.lengths.map n)) ↔ HasLength (map_of hash_of longest keyed) n
   group-there n = (
-    elim (get keyed.lengths.map n) as (λ lead. get keyed.lengths.map n ≡ lead → IsSome (words_at keyed lead) → HasLength (map_of hash_of keyed) n) [
+    elim (get keyed.lengths.map n) as (λ lead. get keyed.lengths.map n ≡ lead → IsSome (words_at keyed lead) → HasLength (map_of hash_of longest keyed) n) [
       | None ↦ λ e no. absurd (false≢true no)
       | Some place ↦ λ e yes. led_length n place e
     ] refl,
     λ found. let lead = has_led n found in subst (λ l. IsSome (words_at keyed l)) (sym lead.1) (words_some n (group_at keyed lead.0) (is.groups n lead.0 lead.1)),
   )
 
-  short_form : (n place : ℕ) → get keyed.lengths.map n ≡ Some place → n ≤ 8 → (group : Group) → group_at keyed place ≡ group → IsGroup hash_of n group → IfSome (words_of group) (λ words. IsShortGroup (map_of hash_of keyed) n words.map)
+  short_form : (n place : ℕ) → get keyed.lengths.map n ≡ Some place → n ≤ 8 → (group : Group) → group_at keyed place ≡ group → IsGroup hash_of n group → IfSome (words_of group) (λ words. IsShortGroup (map_of hash_of longest keyed) n words.map)
   short_form n place leads few none at kept = tt
   short_form n place leads few (short words) at kept = λ word value. (word_key n place leads words at kept word value, key_word n place leads words at kept word value)
   short_form n place leads few (long group) at kept = absurd (let many = kept.many in omega arith)
 
-  long_form : (n place : ℕ) → get keyed.lengths.map n ≡ Some place → 8 < n → (group : Group) → group_at keyed place ≡ group → IsGroup hash_of n group → IfSome (words_of group) (λ words. IsLongGroup hash_of (map_of hash_of keyed) n words.map)
+  long_form : (n place : ℕ) → get keyed.lengths.map n ≡ Some place → 8 < n → (group : Group) → group_at keyed place ≡ group → IsGroup hash_of n group → IfSome (words_of group) (λ words. IsLongGroup hash_of (map_of hash_of longest keyed) n words.map)
   long_form n place leads many none at kept = tt
   long_form n place leads many (short words) at kept = absurd (let few = kept.few in omega arith)
   long_form n place leads many (long group) at kept = λ word. (λ held. let lead = held_is group.hashes.map word held in hash_key n place leads group at kept word lead.0 lead.1, key_hash n place leads group at kept word)
 
-  pub group-short : (n : ℕ) → n ≤ 8 → IfSome (words_at keyed (get keyed.lengths.map n)) (λ words. IsShortGroup (map_of hash_of keyed) n words.map)
-  group-short n few = elim (get keyed.lengths.map n) as (λ lead. get keyed.lengths.map n ≡ lead → IfSome (words_at keyed lead) (λ words. IsShortGroup (map_of hash_of keyed) n words.map)) [
+  pub group-short : (n : ℕ) → n ≤ 8 → IfSome (words_at keyed (get keyed.lengths.map n)) (λ words. IsShortGroup (map_of hash_of longest keyed) n words.map)
+  group-short n few = elim (get keyed.lengths.map n) as (λ lead. get keyed.lengths.map n ≡ lead → IfSome (words_at keyed lead) (λ words. IsShortGroup (map_of hash_of longest keyed) n words.map)) [
     | None ↦ λ e. tt
     | Some place ↦ λ e. short_form n place e few (group_at keyed place) refl (is.groups n place e)
   ] refl
 
-  pub group-long : (n : ℕ) → 8 < n → IfSome (words_at keyed (get keyed.lengths.map n)) (λ words. IsLongGroup hash_of (map_of hash_of keyed) n words.map)
-  group-long n many = elim (get keyed.lengths.map n) as (λ lead. get keyed.lengths.map n ≡ lead → IfSome (words_at keyed lead) (λ words. IsLongGroup hash_of (map_of hash_of keyed) n words.map)) [
+  pub group-long : (n : ℕ) → 8 < n → IfSome (words_at keyed (get keyed.lengths.map n)) (λ words. IsLongGroup hash_of (map_of hash_of longest keyed) n words.map)
+  group-long n many = elim (get keyed.lengths.map n) as (λ lead. get keyed.lengths.map n ≡ lead → IfSome (words_at keyed lead) (λ words. IsLongGroup hash_of (map_of hash_of longest keyed) n words.map)) [
     | None ↦ λ e. tt
     | Some place ↦ λ e. long_form n place e many (group_at keyed place) refl (is.groups n place e)
   ] refl
 
-module _ (hash_of : List ℕ → ℕ) (keyed : Keyed) (is : IsKeyed hash_of keyed) where
-  told_by : (tell : List ℕ → ℕ) (n : ℕ) → ((key : List ℕ) × (value : ℕ) × (tell key ≡ n) × (get (map_of hash_of keyed) key ≡ Some value)) → (key : List ℕ) × (tell key ≡ n) × IsTrue (contains_key (map_of hash_of keyed) key)
+module _ (hash_of : List ℕ → ℕ) (longest : ℕ) (keyed : Keyed) (is : IsKeyed hash_of longest keyed) where
+  told_by : (tell : List ℕ → ℕ) (n : ℕ) → ((key : List ℕ) × (value : ℕ) × (tell key ≡ n) × (get (map_of hash_of longest keyed) key ≡ Some value)) → (key : List ℕ) × (tell key ≡ n) × IsTrue (contains_key (map_of hash_of longest keyed) key)
   told_by tell n found = (found.0, found.2, ap (λ (o : Option ℕ). is_some o) found.3)
 
-  pub fewer-lengths : len keyed.lengths.map ≤ len (map_of hash_of keyed)
-  fewer-lengths = fewer keyed.lengths.map (map_of hash_of keyed) length (λ n held. told_by length n ((lengths-are hash_of keyed is n).0 held))
+  pub fewer-lengths : len keyed.lengths.map ≤ len (map_of hash_of longest keyed)
+  fewer-lengths = fewer keyed.lengths.map (map_of hash_of longest keyed) length (λ n held. told_by length n ((lengths-are hash_of longest keyed is n).0 held))
 
-  short_fewer : (n : ℕ) (words : ArrayOf word_order) → IsShortGroup (map_of hash_of keyed) n words.map → len words.map ≤ len (map_of hash_of keyed)
-  short_fewer n words form = fewer words.map (map_of hash_of keyed) number_of (λ word held.
+  short_fewer : (n : ℕ) (words : ArrayOf word_order) → IsShortGroup (map_of hash_of longest keyed) n words.map → len words.map ≤ len (map_of hash_of longest keyed)
+  short_fewer n words form = fewer words.map (map_of hash_of longest keyed) number_of (λ word held.
       let value = held_is words.map word held in
       let found = (form word value.0).0 value.1 in
       (found.0, found.2, ap (λ (o : Option ℕ). is_some o) found.3))
 
-  long_fewer : (n : ℕ) (words : ArrayOf word_order) → IsLongGroup hash_of (map_of hash_of keyed) n words.map → len words.map ≤ len (map_of hash_of keyed)
-  long_fewer n words form = fewer words.map (map_of hash_of keyed) hash_of (λ word held.
+  long_fewer : (n : ℕ) (words : ArrayOf word_order) → IsLongGroup hash_of (map_of hash_of longest keyed) n words.map → len words.map ≤ len (map_of hash_of longest keyed)
+  long_fewer n words form = fewer words.map (map_of hash_of longest keyed) hash_of (λ word held.
       let found = (form word).0 held in
       (found.0, found.3, ap (λ (o : Option ℕ). is_some o) found.4))
 
-  some_fewer : (found : Option (ArrayOf word_order)) → ((words : ArrayOf word_order) → found ≡ Some words → len words.map ≤ len (map_of hash_of keyed)) → IfSome found (λ words. len words.map ≤ len (map_of hash_of keyed))
+  some_fewer : (found : Option (ArrayOf word_order)) → ((words : ArrayOf word_order) → found ≡ Some words → len words.map ≤ len (map_of hash_of longest keyed)) → IfSome found (λ words. len words.map ≤ len (map_of hash_of longest keyed))
   some_fewer None few = tt
   some_fewer (Some words) few = few words refl
 
-  pub fewer-words : (n : ℕ) → IfSome (words_at keyed (get keyed.lengths.map n)) (λ words. len words.map ≤ len (map_of hash_of keyed))
+  pub fewer-words : (n : ℕ) → IfSome (words_at keyed (get keyed.lengths.map n)) (λ words. len words.map ≤ len (map_of hash_of longest keyed))
   fewer-words n = some_fewer (words_at keyed (get keyed.lengths.map n)) (λ words e. ⊎_elim
-      (λ (few : n ≤ 8). short_fewer n words (subst (λ (o : Option (ArrayOf word_order)). IfSome o (λ words. IsShortGroup (map_of hash_of keyed) n words.map)) e (group-short hash_of keyed is n few)))
-      (λ (many : 8 < n). long_fewer n words (subst (λ (o : Option (ArrayOf word_order)). IfSome o (λ words. IsLongGroup hash_of (map_of hash_of keyed) n words.map)) e (group-long hash_of keyed is n many)))
+      (λ (few : n ≤ 8). short_fewer n words (subst (λ (o : Option (ArrayOf word_order)). IfSome o (λ words. IsShortGroup (map_of hash_of longest keyed) n words.map)) e (group-short hash_of longest keyed is n few)))
+      (λ (many : 8 < n). long_fewer n words (subst (λ (o : Option (ArrayOf word_order)). IfSome o (λ words. IsLongGroup hash_of (map_of hash_of longest keyed) n words.map)) e (group-long hash_of longest keyed is n many)))
       (⊎_elim (λ same. inl (omega arith)) (λ apart. ⊎_elim (λ less. inl (omega arith)) (λ more. inr more) apart) (cases_order n 8)))
 
   group_limit : (n : ℕ) (group : Group) → IsGroup hash_of n group → IfSome (words_of group) (λ words. words.limit ≡ 18446744073709551615)
@@ -206,12 +208,12 @@ module _ (hash_of : List ℕ → ℕ) (keyed : Keyed) (is : IsKeyed hash_of keye
     | Some place ↦ λ e. group_limit n (group_at keyed place) (is.groups n place e)
   ] refl
 
-  both : (found : Option (ArrayOf word_order)) → IfSome found (λ words. len words.map ≤ len (map_of hash_of keyed)) → IfSome found (λ words. words.limit ≡ 18446744073709551615) → len (map_of hash_of keyed) < 18446744073709551615 → IfSome found (λ words. len words.map < words.limit)
+  both : (found : Option (ArrayOf word_order)) → IfSome found (λ words. len words.map ≤ len (map_of hash_of longest keyed)) → IfSome found (λ words. words.limit ≡ 18446744073709551615) → len (map_of hash_of longest keyed) < 18446744073709551615 → IfSome found (λ words. len words.map < words.limit)
   both None few limit below = tt
   both (Some words) few limit below = omega arith
 
   -- So each has room for one more while the array holds fewer than 2^64 - 1 keys.
-  pub room-words : (n : ℕ) → len (map_of hash_of keyed) < 18446744073709551615 → IfSome (words_at keyed (get keyed.lengths.map n)) (λ words. len words.map < words.limit)
+  pub room-words : (n : ℕ) → len (map_of hash_of longest keyed) < 18446744073709551615 → IfSome (words_at keyed (get keyed.lengths.map n)) (λ words. len words.map < words.limit)
   room-words n below = both (words_at keyed (get keyed.lengths.map n)) (fewer-words n) (limit_words n) below
 
 -- ---- what a reference shows

@@ -3,7 +3,8 @@ use Rattle.std.proofs.Common.{◌≡◌, ◌≢◌, ℕ, zero, suc, ◌^◌, ◌
 use Rattle.std.specs.FinMap.{FinMap, get, insert, remove, empty, get-empty, nat_cmp-IsAntisymmetric}
 use Rattle.std.specs.Cmp.{nat_cmp_total}
 use Rattle.std.proofs.lemmas.Bool.{le-leb, lt-leb, cases_order}
-use Rattle.judy_model.specs.Keys.{word_order, byte_order, IsByteString, IsBytesKey}
+use Rattle.judy_model.specs.Keys.{word_order, byte_order, IsByteString}
+use Rattle.judy_model.specs.KeyLengths.{IsBytesKeyTo}
 use Rattle.judy_model.proofs.TableLemmas.{bytes_keys-all, table_insert, table_remove}
 use Rattle.judy_model.proofs.ByteLemmas.{number_of-lt}
 use Rattle.judy_model.proofs.ChangesLemmas.{get-write_same, get-write_other}
@@ -21,7 +22,7 @@ use Rattle.judy_hs.proofs.TwoLevels.{same_or_not, through, IsTwo, two-set, throu
 use Rattle.judy_hs.proofs.GroupSteps.{some_none, IsOther, IsStep, chain_of_one}
 use Rattle.judy_hs.proofs.GroupChanges.{IsChanged, IsShrunk, put_within}
 
-module _ (hash_of : List ℕ → ℕ) where
+module _ (hash_of : List ℕ → ℕ) (longest : ℕ) where
   -- The value of a key in a group.
   abbrev pub held : Group → List ℕ → Option ℕ
   held group key = in_group group (part_of hash_of key) key
@@ -31,54 +32,58 @@ module _ (hash_of : List ℕ → ℕ) where
   place_is keyed None key = refl
   place_is keyed (Some place) key = refl
 
-  never : (key_length : ℕ) → IsGroup hash_of key_length none → ⊥
-  never key_length is = is
+  -- A group of keys of a length that a key may have.
+  abbrev Good : ℕ → Group → Type 0
+  Good key_length group = IsGroup hash_of key_length group × (key_length ≤ longest)
 
-  two_of : (keyed : Keyed) → IsKeyed hash_of keyed → IsTwo none held (IsGroup hash_of) keyed.lengths.map keyed.groups
-  two_of keyed is = record { apart = is.apart; good = is.groups }
+  never : (key_length : ℕ) → Good key_length none → ⊥
+  never key_length is = is.0
+
+  two_of : (keyed : Keyed) → IsKeyed hash_of longest keyed → IsTwo none held Good keyed.lengths.map keyed.groups
+  two_of keyed is = record { apart = is.apart; good = λ key_length place e. (is.groups key_length place e, is.within key_length place e) }
 
   -- What a change makes of the groups: they keep what they must, and the map is the given one.
   pub record IsMade (keyed : Keyed) (map : FinMap byte_order ℕ) : Type 0 where
-    pub is : IsKeyed hash_of keyed
-    pub map_is : map_of hash_of keyed ≡ map
+    pub is : IsKeyed hash_of longest keyed
+    pub map_is : map_of hash_of longest keyed ≡ map
 
-  bytes_of : (key : List ℕ) → IsBytesKey key → IsByteString key
+  bytes_of : (key : List ℕ) → IsBytesKeyTo longest key → IsByteString key
   bytes_of key is = is.is_byte_string
 
-  module _ (keyed : Keyed) (is : IsKeyed hash_of keyed) (key : List ℕ) (is_key : IsBytesKey key) where
-    other_of : (other : List ℕ) → IsBytesKey other → (other ≡ key → ⊥) → length other ≡ length key → IsOther hash_of key is_key.is_byte_string other
+  module _ (keyed : Keyed) (is : IsKeyed hash_of longest keyed) (key : List ℕ) (is_key : IsBytesKeyTo longest key) where
+    other_of : (other : List ℕ) → IsBytesKeyTo longest other → (other ≡ key → ⊥) → length other ≡ length key → IsOther hash_of key is_key.is_byte_string other
     other_of other also differ same = record { other_bytes = also.is_byte_string; same_length = same; differs = λ e. differ (sym e) }
 
     -- The map of groups that differ at the key alone.
-    written : (after : Keyed) (value : ℕ) → value_of hash_of after key ≡ Some value → ((other : List ℕ) → IsBytesKey other → (other ≡ key → ⊥) → value_of hash_of after other ≡ value_of hash_of keyed other) → map_of hash_of after ≡ insert (map_of hash_of keyed) key value
-    written after value here others = table_insert bytes_keys-all (value_of hash_of keyed) (value_of hash_of after) key value is_key here others
+    written : (after : Keyed) (value : ℕ) → value_of hash_of after key ≡ Some value → ((other : List ℕ) → IsBytesKeyTo longest other → (other ≡ key → ⊥) → value_of hash_of after other ≡ value_of hash_of keyed other) → map_of hash_of longest after ≡ insert (map_of hash_of longest keyed) key value
+    written after value here others = table_insert (bytes_keys-all longest) (value_of hash_of keyed) (value_of hash_of after) key value is_key here others
 
-    removed : (after : Keyed) → value_of hash_of after key ≡ None → ((other : List ℕ) → IsBytesKey other → (other ≡ key → ⊥) → value_of hash_of after other ≡ value_of hash_of keyed other) → map_of hash_of after ≡ remove (map_of hash_of keyed) key
-    removed after here others = table_remove bytes_keys-all (value_of hash_of keyed) (value_of hash_of after) key (λ _. here) others
+    removed : (after : Keyed) → value_of hash_of after key ≡ None → ((other : List ℕ) → IsBytesKeyTo longest other → (other ≡ key → ⊥) → value_of hash_of after other ≡ value_of hash_of keyed other) → map_of hash_of longest after ≡ remove (map_of hash_of longest keyed) key
+    removed after here others = table_remove (bytes_keys-all longest) (value_of hash_of keyed) (value_of hash_of after) key (λ _. here) others
 
     -- ---- another group at the place of the key's group
 
     module _ (place : ℕ) (leads : get keyed.lengths.map (length key) ≡ Some place) (within : place < length keyed.groups) (new : Group) where
-      IsKeyed-set : IsGroup hash_of (length key) new → IsKeyed hash_of (record keyed { groups = set keyed.groups place new })
+      IsKeyed-set : IsGroup hash_of (length key) new → IsKeyed hash_of longest (record keyed { groups = set keyed.groups place new })
       IsKeyed-set good =
-          let both = two-set none held (IsGroup hash_of) never keyed.lengths.map keyed.groups (two_of keyed is) (length key) place leads within new good in
-          record { limit = is.limit; apart = both.apart; groups = both.good }
+          let both = two-set none held Good never keyed.lengths.map keyed.groups (two_of keyed is) (length key) place leads within new (good, is_key.within_limit) in
+          record { limit = is.limit; within = λ key_length at e. (both.good key_length at e).1; apart = both.apart; groups = λ key_length at e. (both.good key_length at e).0 }
 
       value-set : value_of hash_of (record keyed { groups = set keyed.groups place new }) key ≡ held new key
       value-set =
           place_is (record keyed { groups = set keyed.groups place new }) (get keyed.lengths.map (length key)) key
-          ∙ through-set none held (IsGroup hash_of) never keyed.lengths.map keyed.groups (two_of keyed is) (length key) place leads within new key
+          ∙ through-set none held Good never keyed.lengths.map keyed.groups (two_of keyed is) (length key) place leads within new key
 
-      value-set_other : IsStep hash_of key is_key.is_byte_string (group_at keyed place) new → (other : List ℕ) → IsBytesKey other → (other ≡ key → ⊥) → value_of hash_of (record keyed { groups = set keyed.groups place new }) other ≡ value_of hash_of keyed other
+      value-set_other : IsStep hash_of key is_key.is_byte_string (group_at keyed place) new → (other : List ℕ) → IsBytesKeyTo longest other → (other ≡ key → ⊥) → value_of hash_of (record keyed { groups = set keyed.groups place new }) other ≡ value_of hash_of keyed other
       value-set_other step other also differ =
           place_is (record keyed { groups = set keyed.groups place new }) (get keyed.lengths.map (length other)) other
-          ∙ through-set_at none held (IsGroup hash_of) never keyed.lengths.map keyed.groups (two_of keyed is) (length key) place leads within new (length other) other (λ same. step.others other (other_of other also differ same))
+          ∙ through-set_at none held Good never keyed.lengths.map keyed.groups (two_of keyed is) (length key) place leads within new (length other) other (λ same. step.others other (other_of other also differ same))
           ∙ sym (place_is keyed (get keyed.lengths.map (length other)) other)
 
-      pub made-set : (value : ℕ) → IsChanged hash_of key is_key.is_byte_string (group_at keyed place) new (Some value) → IsMade (record keyed { groups = set keyed.groups place new }) (insert (map_of hash_of keyed) key value)
+      pub made-set : (value : ℕ) → IsChanged hash_of key is_key.is_byte_string (group_at keyed place) new (Some value) → IsMade (record keyed { groups = set keyed.groups place new }) (insert (map_of hash_of longest keyed) key value)
       made-set value changed = record { is = IsKeyed-set changed.is; map_is = written (record keyed { groups = set keyed.groups place new }) value (value-set ∙ changed.here) (value-set_other changed.step) }
 
-      pub made-without : IsShrunk hash_of key is_key.is_byte_string (group_at keyed place) new → (IsEmptyGroup new → ⊥) → IsMade (record keyed { groups = set keyed.groups place new }) (remove (map_of hash_of keyed) key)
+      pub made-without : IsShrunk hash_of key is_key.is_byte_string (group_at keyed place) new → (IsEmptyGroup new → ⊥) → IsMade (record keyed { groups = set keyed.groups place new }) (remove (map_of hash_of longest keyed) key)
       made-without shrunk used = record { is = IsKeyed-set (shrunk.kept used); map_is = removed (record keyed { groups = set keyed.groups place new }) (value-set ∙ shrunk.here) (value-set_other shrunk.step) }
 
     -- ---- a group of the key alone, put at a free place
@@ -134,7 +139,6 @@ module _ (hash_of : List ℕ → ℕ) where
       others = λ other o. found_one (get alone (part_of hash_of other)) other o;
       good = record {
         many = many;
-        within = is_key.within_limit;
         limit = refl;
         used = (part_of hash_of key, 0, word_one);
         apart = λ one other place p q. (one_place place one p).0 ∙ sym (one_place place other q).0;
@@ -153,23 +157,23 @@ module _ (hash_of : List ℕ → ℕ) where
         (⊎_elim (λ e. inl (omega arith)) (λ apart. ⊎_elim (λ less. inl (omega arith)) (λ more. inr more) apart) (cases_order (length key) 8))
 
     pub record IsPut (after : Keyed) (place : ℕ) (inside : Inside) : Type 0 where
-      pub made : IsMade after (insert (map_of hash_of keyed) key 0)
+      pub made : IsMade after (insert (map_of hash_of longest keyed) key 0)
       pub spot : IsSpot after (part_of hash_of key) key place inside
 
     pub put-group : (place : ℕ) → get keyed.lengths.map (length key) ≡ None → IsFreeGroup keyed.groups place → IsPut (with_group keyed (part_of hash_of key) key place) place (one_inside (part_of hash_of key) key)
     put-group place absent free =
         let new = one_group (part_of hash_of key) key in
         let after = with_group keyed (part_of hash_of key) key place in
-        let both = two-put none held (IsGroup hash_of) never keyed.lengths.map keyed.groups (two_of keyed is) (length key) place absent free.within free.no_group new one.good in
+        let both = two-put none held Good never keyed.lengths.map keyed.groups (two_of keyed is) (length key) place absent free.within free.no_group new (one.good, is_key.within_limit) in
         record {
           made = record {
-            is = record { limit = is.limit; apart = both.apart; groups = both.good };
+            is = record { limit = is.limit; within = λ key_length at e. (both.good key_length at e).1; apart = both.apart; groups = λ key_length at e. (both.good key_length at e).0 };
             map_is = written after 0
                 (place_is after (get (insert keyed.lengths.map (length key) place) (length key)) key
-                ∙ through-put none held (IsGroup hash_of) never keyed.lengths.map keyed.groups (two_of keyed is) (length key) place absent free.within free.no_group new key
+                ∙ through-put none held Good never keyed.lengths.map keyed.groups (two_of keyed is) (length key) place absent free.within free.no_group new key
                 ∙ one.here)
                 (λ other also differ. place_is after (get (insert keyed.lengths.map (length key) place) (length other)) other
-                ∙ through-put_other none held (IsGroup hash_of) never keyed.lengths.map keyed.groups (two_of keyed is) (length key) place absent free.within free.no_group new (length other) other (λ same. one.others other (other_of other also differ same))
+                ∙ through-put_other none held Good never keyed.lengths.map keyed.groups (two_of keyed is) (length key) place absent free.within free.no_group new (length other) other (λ same. one.others other (other_of other also differ same))
                 ∙ sym (place_is keyed (get keyed.lengths.map (length other)) other));
           };
           spot = record {
@@ -181,16 +185,16 @@ module _ (hash_of : List ℕ → ℕ) where
 
     -- ---- a group taken away
 
-    pub made-gone : (place : ℕ) → get keyed.lengths.map (length key) ≡ Some place → ((other : List ℕ) → IsOther hash_of key is_key.is_byte_string other → held (group_at keyed place) other ≡ None) → IsMade (without_group keyed (length key) place) (remove (map_of hash_of keyed) key)
+    pub made-gone : (place : ℕ) → get keyed.lengths.map (length key) ≡ Some place → ((other : List ℕ) → IsOther hash_of key is_key.is_byte_string other → held (group_at keyed place) other ≡ None) → IsMade (without_group keyed (length key) place) (remove (map_of hash_of longest keyed) key)
     made-gone place leads alone =
         let after = without_group keyed (length key) place in
-        let both = two-gone none held (IsGroup hash_of) never keyed.lengths.map keyed.groups (two_of keyed is) (length key) place leads in
+        let both = two-gone none held Good never keyed.lengths.map keyed.groups (two_of keyed is) (length key) place leads in
         record {
-          is = record { limit = is.limit; apart = both.apart; groups = both.good };
+          is = record { limit = is.limit; within = λ key_length at e. (both.good key_length at e).1; apart = both.apart; groups = λ key_length at e. (both.good key_length at e).0 };
           map_is = removed after
               (place_is after (get (remove keyed.lengths.map (length key)) (length key)) key
-              ∙ through-gone none held (IsGroup hash_of) never keyed.lengths.map keyed.groups (two_of keyed is) (length key) place leads key)
+              ∙ through-gone none held Good never keyed.lengths.map keyed.groups (two_of keyed is) (length key) place leads key)
               (λ other also differ. place_is after (get (remove keyed.lengths.map (length key)) (length other)) other
-              ∙ through-gone_other none held (IsGroup hash_of) never keyed.lengths.map keyed.groups (two_of keyed is) (length key) place leads (length other) other (λ same. alone other (other_of other also differ same))
+              ∙ through-gone_other none held Good never keyed.lengths.map keyed.groups (two_of keyed is) (length key) place leads (length other) other (λ same. alone other (other_of other also differ same))
               ∙ sym (place_is keyed (get keyed.lengths.map (length other)) other));
         }

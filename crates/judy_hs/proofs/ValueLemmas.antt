@@ -7,8 +7,9 @@ use Rattle.std.specs.Cmp.{IsTotalOrder, tied_itself}
 use Rattle.std.proofs.lemmas.List.{get_or_default}
 use Rattle.std.proofs.lemmas.List.Elements.{All-head, All-tail, All-map}
 use Rattle.std.proofs.lemmas.Option.{none-some}
-use Rattle.judy_model.specs.Keys.{IsWord, IsBytesKey, word_order}
-use Rattle.judy_model.specs.Arrays.{ArrayOf, IsArray, judyl, judyhs}
+use Rattle.judy_model.specs.Keys.{IsWord, word_order}
+use Rattle.judy_model.specs.KeyLengths.{IsBytesKeyTo}
+use Rattle.judy_model.specs.Arrays.{ArrayOf, IsArrayOf, IsArray, judyl}
 use Rattle.judy_model.proofs.KeptLemmas.{words_hold}
 use Rattle.judy_model.proofs.Pairs.{find-at}
 use Rattle.judy_model.proofs.TableLemmas.{bytes_keys-all, table_some, byte_order_total}
@@ -80,17 +81,17 @@ entries_hold {order = order} total m P each = λ k d within.
     let pair = get_or (entries m) k d in
     each pair.0 pair.1 (get-entries m pair.0 ∙ find-at order total (entries m) pair.0 k d (entries_sorted m) within (tied_itself total pair.0))
 
-module _ (hash_of : List ℕ → ℕ) (limit count : ℕ) (keyed : Keyed) (is : IsHs hash_of limit count keyed) (words : (part : ℕ) → AreWords (in_keyed keyed part)) where
-  held : (key : List ℕ) (value : ℕ) → get (map_of hash_of keyed) key ≡ Some value → IsBytesKey key × IsWord value
+module _ (hash_of : List ℕ → ℕ) (longest limit count : ℕ) (keyed : Keyed) (is : IsHs hash_of longest limit count keyed) (words : (part : ℕ) → AreWords (in_keyed keyed part)) where
+  held : (key : List ℕ) (value : ℕ) → get (map_of hash_of longest keyed) key ≡ Some value → IsBytesKeyTo longest key × IsWord value
   held key value is =
-      let found = table_some bytes_keys-all (value_of hash_of keyed) key value is in
+      let found = table_some (bytes_keys-all longest) (value_of hash_of keyed) key value is in
       (found.0, words (part_of hash_of key) key value found.1)
 
-  pub is_judyhs : IsArray (judyhs (array_of hash_of limit keyed))
-  is_judyhs = record {
+  pub is_array_of : IsArrayOf (IsBytesKeyTo longest) (array_of hash_of longest limit keyed)
+  is_array_of = record {
     holds_some = is.holds_some;
     limit_is_word = let fits = is.limit_fits in omega arith;
     within_limit = let counted = is.counted in let within = is.within_limit in omega arith;
-    keys_are = All-map IsBytesKey (λ pair. pair.0) (entries (map_of hash_of keyed)) (entries_hold byte_order_total (map_of hash_of keyed) (λ pair. IsBytesKey pair.0) (λ key value is. (held key value is).0));
-    values_are = All-map IsWord (λ pair. pair.1) (entries (map_of hash_of keyed)) (entries_hold byte_order_total (map_of hash_of keyed) (λ pair. IsWord pair.1) (λ key value is. (held key value is).1));
+    keys_are = All-map (IsBytesKeyTo longest) (λ pair. pair.0) (entries (map_of hash_of longest keyed)) (entries_hold byte_order_total (map_of hash_of longest keyed) (λ pair. IsBytesKeyTo longest pair.0) (λ key value is. (held key value is).0));
+    values_are = All-map IsWord (λ pair. pair.1) (entries (map_of hash_of longest keyed)) (entries_hold byte_order_total (map_of hash_of longest keyed) (λ pair. IsWord pair.1) (λ key value is. (held key value is).1));
   }

@@ -31,7 +31,6 @@ module _ (hash_of : List ℕ → ℕ) where
   -- A group of long keys: each hash leads to a chain of its own.
   pub record IsLong (key_length : ℕ) (group : Long) : Type 0 where
     pub many : 8 < key_length
-    pub within : key_length ≤ 1024
     pub limit : group.hashes.limit ≡ 18446744073709551615
     pub used : IsUsed group.hashes.map
     pub apart : (one other place : ℕ) → get group.hashes.map one ≡ Some place → get group.hashes.map other ≡ Some place → one ≡ other
@@ -43,19 +42,21 @@ module _ (hash_of : List ℕ → ℕ) where
   IsGroup key_length (short words) = IsShort key_length words
   IsGroup key_length (long group) = IsLong key_length group
 
-  -- Each length leads to a group of its own.
-  pub record IsKeyed (keyed : Keyed) : Type 0 where
-    pub limit : keyed.lengths.limit ≡ 18446744073709551615
-    pub apart : (one other place : ℕ) → get keyed.lengths.map one ≡ Some place → get keyed.lengths.map other ≡ Some place → one ≡ other
-    pub groups : (key_length place : ℕ) → get keyed.lengths.map key_length ≡ Some place → IsGroup key_length (group_at keyed place)
-
   -- The value of a key.
   abbrev pub value_of : Keyed → List ℕ → Option ℕ
   value_of keyed key = in_keyed keyed (part_of hash_of key) key
 
+module _ (hash_of : List ℕ → ℕ) (longest : ℕ) where
+  -- Each length leads to a group of its own, and none is above that of the longest key.
+  pub record IsKeyed (keyed : Keyed) : Type 0 where
+    pub limit : keyed.lengths.limit ≡ 18446744073709551615
+    pub within : (key_length place : ℕ) → get keyed.lengths.map key_length ≡ Some place → key_length ≤ longest
+    pub apart : (one other place : ℕ) → get keyed.lengths.map one ≡ Some place → get keyed.lengths.map other ≡ Some place → one ≡ other
+    pub groups : (key_length place : ℕ) → get keyed.lengths.map key_length ≡ Some place → IsGroup hash_of key_length (group_at keyed place)
+
   -- The map that the groups are: it answers as they do.
   abbrev pub map_of : Keyed → FinMap byte_order ℕ
-  map_of keyed = table bytes_keys (value_of keyed)
+  map_of keyed = table (bytes_keys longest) (value_of hash_of keyed)
 
   -- The array that they are, under a limit.
   abbrev pub array_of : ℕ → Keyed → ArrayOf byte_order

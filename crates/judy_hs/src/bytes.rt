@@ -16,11 +16,8 @@ use judy_word::{JudyL, WordMap};
 use std::alloc::{AllocError, Global};
 use std::marker::Model;
 
-// The most bytes of a key. (This project's own.)
-const MAX_KEY: usize = 1024;
-
-/// An array that maps keys, byte strings of at most 1,024 bytes, to words. It holds at most as many keys as its limit
-/// (limit: this project's own).
+/// An array that maps keys, byte strings, to words. A key has at most `H::LONGEST` bytes, and the array holds at most as many
+/// keys as its limit (both limits are this project's own).
 #[derive(Drop)]
 pub struct JudyHs<H: ByteHash + Drop> {
     hasher: H,
@@ -43,9 +40,9 @@ impl<H: ByteHash + Drop> Model for JudyHs<H> {
 
     ghost use Rattle.judy_hs.specs.Kept.{array_of, IsHs};
 
-    ghost view = { λ a. array_of H.hash_of a.limit a.groups };
+    ghost view = { λ a. array_of H.hash_of H.LONGEST a.limit a.groups };
 
-    ghost invariant = { λ a. IsHs H.hash_of a.limit a.count a.groups };
+    ghost invariant = { λ a. IsHs H.hash_of H.LONGEST a.limit a.count a.groups };
 }
 
 impl<H: ByteHash + Drop> JudyHs<H> {
@@ -53,6 +50,7 @@ impl<H: ByteHash + Drop> JudyHs<H> {
     ghost use Rattle.judy_hs.specs.Refusals.{IsRefusal};
     ghost use Rattle.judy_hs.specs.Listed.{entries_in};
     ghost use Rattle.judy_model.specs.DumpText.{entries_by, length_order};
+    ghost use Rattle.judy_model.specs.KeyLengths.{IsBytesKeyTo};
     ghost use Rattle.judy_hs.specs.InnerForm.{HasLength, IsLengths, IsShortGroup, IsLongGroup};
 
     /// The empty array that holds at most `limit` keys, from 1 to 4,294,967,295 (limit: this project's own), under a hash.
@@ -74,18 +72,18 @@ impl<H: ByteHash + Drop> JudyHs<H> {
     /// The slot of a key, which is put in with the value 0 where it is absent; a key that is there keeps its value, and
     /// is never refused. What the caller leaves in the slot is then the key's value. (Manual: JHSI, JudyHSIns.)
     ///
-    /// The first that applies: `TooLong` where the key has more than 1,024 bytes; `Full` where it is absent and the array
+    /// The first that applies: `TooLong` where the key has more than `H::LONGEST` bytes; `Full` where it is absent and the array
     /// holds as many keys as its limit (both limits are this project's own); `NoMemory`, only where it is absent and the
     /// array isn't full. Each leaves the array as it was.
     pub fn ins(&mut self, key: &[u8]) -> Result<&mut u64, HsError>
         ensures* writes_back { sem 𝓛 (LendsIns H.row H.ByteHash self.entry key.now result) }
         ensures value { IfOk result (λ slot. Some slot.now ≡ map.get (array.ins self.old.map key.now) key.now) }
-        ensures fits { OnOk result (length key.now ≤ 1024) }
+        ensures fits { OnOk result (length key.now ≤ H.LONGEST) }
         ensures accepted { OnOk result (IsFalse (array.is_full self.old key.now)) }
-        ensures refused { IfErr result (IsRefusal self.old key.now) }
+        ensures refused { IfErr result (IsRefusal H.LONGEST self.old key.now) }
     {
         let is_full = self.count == self.limit;
-        if key.len() > MAX_KEY {
+        if key.len() > H::LONGEST {
             return Err(HsError::TooLong);
         }
         let part = part_of(&self.hasher, key);
@@ -122,14 +120,14 @@ impl<H: ByteHash + Drop> JudyHs<H> {
         }
     }
 
-    /// The slot of a key, and `None` where it is absent, as every key of more than 1,024 bytes is. What the caller leaves
-    /// in the slot is then the key's value. (Manual: JHSG, JudyHSGet, whose answer is this slot.)
+    /// The slot of a key, and `None` where it is absent, as every key of more than `H::LONGEST` bytes is. What the caller
+    /// leaves in the slot is then the key's value. (Manual: JHSG, JudyHSGet, whose answer is this slot.)
     pub fn slot(&mut self, key: &[u8]) -> Option<&mut u64>
         ensures* writes_back { sem 𝓛 (LendsSlot H.row H.ByteHash self.entry key.now result) }
         ensures value { option_copied_mut result ≡ map.get self.old.map key.now }
     {
         let _groups = &self.groups;
-        if key.len() > MAX_KEY {
+        if key.len() > H::LONGEST {
             return None;
         }
         let part = part_of(&self.hasher, key);
@@ -140,14 +138,14 @@ impl<H: ByteHash + Drop> JudyHs<H> {
         }
     }
 
-    /// Takes a key out, and answers whether it was there; a key of more than 1,024 bytes never is. It can't fail and asks
-    /// for no memory of its own. With the last key goes all the memory. (Manual: JHSD, JudyHSDel.)
+    /// Takes a key out, and answers whether it was there; a key of more than `H::LONGEST` bytes never is. It can't fail
+    /// and asks for no memory of its own. With the last key goes all the memory. (Manual: JHSD, JudyHSDel.)
     pub fn del(&mut self, key: &[u8]) -> bool
         ensures answer { result ≡ map.contains_key self.old.map key.now }
         ensures deleted { self.new ≡ array.with_map self.old (array.del self.old.map key.now) }
     {
         let _groups = &self.groups;
-        if key.len() > MAX_KEY {
+        if key.len() > H::LONGEST {
             return false;
         }
         let part = part_of(&self.hasher, key);
@@ -184,13 +182,13 @@ impl<H: ByteHash + Drop> JudyHs<H> {
         freed
     }
 
-    /// The value of a key, and `None` where it is absent, as every key of more than 1,024 bytes is. (Manual: JHSG,
+    /// The value of a key, and `None` where it is absent, as every key of more than `H::LONGEST` bytes is. (Manual: JHSG,
     /// JudyHSGet.)
     pub fn get(&self, key: &[u8]) -> Option<u64>
         ensures { result ≡ map.get self.now.map key.now }
     {
         let groups = &self.groups;
-        if key.len() > MAX_KEY {
+        if key.len() > H::LONGEST {
             return None;
         }
         groups.get(part_of(&self.hasher, key), key)
@@ -262,10 +260,10 @@ impl<H: ByteHash + Drop> JudyHs<H> {
     }
 
     /// A law of every array that a program holds, whatever was left in its slots: its keys are byte strings of at
-    /// most 1,024 bytes, its limit and its values words, and it holds at most as many keys as its limit. It
+    /// most `H::LONGEST` bytes, its limit and its values words, and it holds at most as many keys as its limit. It
     /// answers nothing and reads each value, for a caller whose proof is to know it.
     pub fn is_array(&self)
-        ensures { array.IsArray (array.judyhs self.now) }
+        ensures { array.IsArrayOf (IsBytesKeyTo H.LONGEST) self.now }
     {
         self.groups.are_words();
     }

@@ -3,7 +3,7 @@ use thiserror::Error;
 /// Why an insert added no key. The array is then as it was before the call.
 #[derive(Clone, Copy, Debug, PartialEq, Eq, Error)]
 pub enum HsError {
-    /// The key has more than 1,024 bytes (limit: this project's own).
+    /// The key has more bytes than the array's type lets a key have (limit: this project's own).
     #[error("the key is too long")]
     TooLong,
     /// The key is absent, and the array holds as many keys as its limit (limit: this project's own).

@@ -4,9 +4,14 @@ ghost use Rattle.std.specs.Prelude.{◌≡◌, List, ℕ, fold};
 ghost use Rattle.judy_hs.specs.Fnv.{fnv1a};
 ghost use Rattle.judy_hs.specs.Eights.{by_eights, last_step, word_step};
 
-/// A hash of byte strings: a function of the bytes alone. A `JudyHs` is right for each, also for one that is the same for
-/// all bytes.
+/// What the type of a `JudyHs` says of its keys: how long one may be, and a hash of them, a function of the bytes alone. A
+/// `JudyHs` is right for each, also for a hash that is the same for all bytes.
 pub trait ByteHash {
+    /// The most bytes of a key. (This project's own.)
+    const LONGEST: usize;
+
+    ghost LONGEST: { ℕ };
+
     ghost hash_of: { List ℕ → ℕ };
 
     /// The hash of the bytes.
@@ -14,12 +19,16 @@ pub trait ByteHash {
         ensures { result ≡ hash_of bytes.now };
 }
 
-/// The hash FNV-1a in 32 bits: from 2166136261 on, each byte is xored to the hash, which is then multiplied by 16777619
+/// The hash FNV-1a in 32 bits, for keys of at most 1,024 bytes, as a store has them: from 2166136261 on, each byte is xored to the hash, which is then multiplied by 16777619
 /// modulo 2^32.
 #[derive(Clone, Copy)]
 pub struct Fnv1a;
 
 impl ByteHash for Fnv1a {
+    const LONGEST: usize = 1024;
+
+    ghost LONGEST = { 1024 };
+
     ghost hash_of = { fnv1a };
 
     fn hash(&self, bytes: &[u8]) -> u32 {
@@ -32,11 +41,16 @@ impl ByteHash for Fnv1a {
 /// A hash that takes eight bytes at a step, where `Fnv1a` takes one: a word is xored to the hash, which is then multiplied by
 /// 11400714819323198485 modulo 2^64, and the upper half of that is xored to the lower one. It begins with 14695981039346656037, reads a
 /// word's first byte as its lowest, and ends with the lower half. Where more than eight bytes are left it takes the first eight of them,
-/// and at last the last eight of all, some of them again; of fewer than eight in all, each is a word. (This project's own.)
+/// and at last the last eight of all, some of them again; of fewer than eight in all, each is a word. Keys have at most 9,223,372,036,854,775,807 bytes, as many as memory
+/// that is lent may have. (This project's own.)
 #[derive(Clone, Copy)]
 pub struct Eights;
 
 impl ByteHash for Eights {
+    const LONGEST: usize = 9223372036854775807;
+
+    ghost LONGEST = { 9223372036854775807 };
+
     ghost hash_of = { by_eights };
 
     fn hash(&self, bytes: &[u8]) -> u32 {

@@ -1,5 +1,5 @@
-//! Arrays over byte strings in no order: keys of at most 1,024 bytes of any value, with a limit on how many an
-//! array holds.
+//! Arrays over byte strings in no order: keys of bytes of any value, with a limit on how many an array holds. The type of an
+//! array says how long a key may be.
 //!
 //! `JudyHs` maps such keys to words. Its model is the array of judy_model over byte strings, a limit and a finite
 //! map, and its contracts cite judy_model's definitions. They hold for every hash, one that is the same for all

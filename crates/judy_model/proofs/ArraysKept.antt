@@ -12,7 +12,7 @@ use Rattle.judy_model.specs.Keys.{IsWord, IsStringKey, IsBytesKey, word_order, b
 use Rattle.judy_model.specs.Arrays.{ArrayOf, IsArrayOf, ArrayValue, judy1, judyl, judysl, judyhs, IsArray, limit_of, empty_array, with_map, ins, is_full}
 use Rattle.judy_model.specs.CommandWords as command
 use Rattle.judy_model.specs.CommandWords.{KeyCommand, PairCommand}
-use Rattle.judy_model.specs.Commands.{Outcome, word_at, string_key_at, bytes_key_at, added, inserted, overwritten, set_on_key, set_on_pair, map_on_key, map_on_pair, words_on_key, words_on_pair, strings_on_key, on_key, on_pair, freed_whole}
+use Rattle.judy_model.specs.Commands.{Outcome, word_at, string_key_at, bytes_key_at, added, inserted, overwritten, set_on_key, set_on_pair, map_on_key, map_on_pair, words_on_key, words_on_pair, strings_on_key, strings_on_pair, on_key, on_pair, freed_whole}
 use Rattle.judy_model.specs.Replies.{Refusal}
 use Rattle.judy_model.proofs.ChangesLemmas.{write-ins}
 use Rattle.judy_model.proofs.Inserts.{is_full_present}
@@ -246,10 +246,17 @@ module _ (array : ArrayOf byte_order) where
   strings_key_kept command.del token = strings_map_key command.del token
   strings_key_kept (command.neighbour side) token = followed IsStringKey _ (string_key_at token) _ (string_key_at-IsStringKey token) (λ key good. (refl, λ is. is))
   strings_key_kept (command.empty side) token = tt
-  strings_key_kept command.by_count token = tt
+  strings_key_kept command.by_count token = by_word _ token _ (λ key small. (refl, λ is. is))
 
-  strings_pair_kept : (command : PairCommand) (key value : List ℕ) → IfOk (map_on_pair judysl command array (string_key_at key) value) (Keeps (judysl array))
-  strings_pair_kept command key value = map_pair_kept nat_list_cmp_total (slice_cmp-IsAntisymmetric nat_cmp-IsAntisymmetric) IsStringKey judysl (λ _. refl) (λ _ is. is) (λ _ is. is) array (string_key_at key) (string_key_at-IsStringKey key) command value
+  strings_map_pair : (command : PairCommand) (key value : List ℕ) → IfOk (map_on_pair judysl command array (string_key_at key) value) (Keeps (judysl array))
+  strings_map_pair command key value = map_pair_kept nat_list_cmp_total (slice_cmp-IsAntisymmetric nat_cmp-IsAntisymmetric) IsStringKey judysl (λ _. refl) (λ _ is. is) (λ _ is. is) array (string_key_at key) (string_key_at-IsStringKey key) command value
+
+  strings_pair_kept : (command : PairCommand) (key value : List ℕ) → IfOk (strings_on_pair command array key value) (Keeps (judysl array))
+  strings_pair_kept command.ins key value = strings_map_pair command.ins key value
+  strings_pair_kept command.put key value = strings_map_pair command.put key value
+  strings_pair_kept command.count key value =
+      followed IsStringKey _ (string_key_at key) _ (string_key_at-IsStringKey key) (λ from _.
+      followed IsStringKey _ (string_key_at value) _ (string_key_at-IsStringKey value) (λ to _. (refl, λ is. is)))
 
   bytes_key_kept : (command : KeyCommand) (token : List ℕ) → IfOk (map_on_key judyhs command array (bytes_key_at token)) (Keeps (judyhs array))
   bytes_key_kept command token = map_key_kept nat_list_cmp_total (slice_cmp-IsAntisymmetric nat_cmp-IsAntisymmetric) IsBytesKey judyhs (λ _. refl) (λ _ is. is) (λ _ is. is) array (bytes_key_at token) (bytes_key_at-IsBytesKey token) command

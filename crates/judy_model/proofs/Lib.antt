@@ -58,3 +58,4 @@ pub mod MapsOfPairs
 pub mod RefusedCommands
 pub mod OrderedRefusals
 pub mod RankLaws
+pub mod KeyLengthLemmas

@@ -13,7 +13,7 @@ use Rattle.judy_model.specs.Stores.{Store, array_named, with_array}
 use Rattle.judy_model.specs.Replies.{Refusal, wrong_kind, bad_limit, exists, too_many_arrays}
 use Rattle.judy_model.specs.CommandWords as command
 use Rattle.judy_model.specs.CommandWords.{KeyCommand, PairCommand, Command, only_reads}
-use Rattle.judy_model.specs.Commands.{Outcome, ◌>>=◌, set_on_key, set_on_pair, map_on_key, map_on_pair, words_on_key, words_on_pair, strings_on_key, overwritten, on_key, on_pair, freed_whole, at_name, name_at, word_at, string_key_at, bytes_key_at, limit_at, provided, made, carried_out}
+use Rattle.judy_model.specs.Commands.{Outcome, ◌>>=◌, set_on_key, set_on_pair, map_on_key, map_on_pair, words_on_key, words_on_pair, strings_on_key, strings_on_pair, overwritten, on_key, on_pair, freed_whole, at_name, name_at, word_at, string_key_at, bytes_key_at, limit_at, provided, made, carried_out}
 use Rattle.judy_model.proofs.Outcomes.{chosen, followed, anything, by_word, by_name}
 
 -- a command that may add an array or a key
@@ -81,7 +81,7 @@ strings_key_fits command.get array token = map_key_fits judysl command.get array
 strings_key_fits command.del array token = map_key_fits judysl command.del array (string_key_at token)
 strings_key_fits (command.neighbour side) array token = past _ (string_key_at token) _ (λ key. (λ _. refl, never))
 strings_key_fits (command.empty side) array token = tt
-strings_key_fits command.by_count array token = tt
+strings_key_fits command.by_count array token = by_word _ token _ (λ key _. (λ _. refl, never))
 
 key_fits : (which : KeyCommand) (key : List ℕ) (array : ArrayValue) → IfOk (on_key which key array) (Fits (command.on_key which) array)
 key_fits which key (judy1 set) = set_key_fits which set key
@@ -99,10 +99,15 @@ words_pair_fits command.ins array key value = map_pair_fits judyl command.ins ar
 words_pair_fits command.put array key value = map_pair_fits judyl command.put array (word_at key) value
 words_pair_fits command.count array key value = by_word _ key _ (λ from _. by_word _ value _ (λ to _. (λ _. refl, never)))
 
+strings_pair_fits : (which : PairCommand) (array : ArrayOf byte_order) (key value : List ℕ) → IfOk (strings_on_pair which array key value) (Fits (command.on_pair which) (judysl array))
+strings_pair_fits command.ins array key value = map_pair_fits judysl command.ins array (string_key_at key) value
+strings_pair_fits command.put array key value = map_pair_fits judysl command.put array (string_key_at key) value
+strings_pair_fits command.count array key value = past _ (string_key_at key) _ (λ from. past _ (string_key_at value) _ (λ to. (λ _. refl, never)))
+
 pair_fits : (which : PairCommand) (key value : List ℕ) (array : ArrayValue) → IfOk (on_pair which key value array) (Fits (command.on_pair which) array)
 pair_fits which key value (judy1 set) = set_pair_fits which set key value
 pair_fits which key value (judyl array) = words_pair_fits which array key value
-pair_fits which key value (judysl array) = map_pair_fits judysl which array (string_key_at key) value
+pair_fits which key value (judysl array) = strings_pair_fits which array key value
 pair_fits which key value (judyhs array) = map_pair_fits judyhs which array (bytes_key_at key) value
 
 module _ (store : Store) where

@@ -13,27 +13,27 @@ use Rattle.judy_model.specs.Replies.{Answer, Refusal, flag, number, entry, strin
 use Rattle.judy_model.specs.CommandWords as command
 use Rattle.judy_model.specs.CommandWords.{KeyCommand}
 use Rattle.judy_model.specs.Commands as commands
-use Rattle.judy_model.specs.Commands.{Outcome, ◌>>=◌, unchanged, number_or_nothing, entry_or_nothing, value_of, added, removed, word_at}
+use Rattle.judy_model.specs.Commands.{Outcome, ◌>>=◌, unchanged, number_or_nothing, entry_or_nothing, value_of, added, removed}
 use Rattle.judy_model.specs.CommandLaws.{Answers, Changes, IsRefused, AnswersNumberOrNone, AnswersEntryOrNone, CountsFromTheFirstToTheSecond}
 use Rattle.judy_model.proofs.ChangesLemmas.{del_absent}
 use Rattle.judy_model.proofs.Inserts.{ins_present, is_full_present, is_full_absent}
 use Rattle.judy_model.proofs.CommandLemmas.{Names, key-Changes, key-Answers, key-IsRefused, pair-Answers}
 
-module _ {K : Type 0} {order : K → K → Ordering} (kind : ArrayOf order → ArrayValue) (said : List ℕ → Option K) (no_key : Refusal) (word : List ℕ) (which : KeyCommand) (names : Names word (command.on_key which)) where
+module _ {K S : Type 0} {order : K → K → Ordering} (kind : ArrayOf order → ArrayValue) (said : List ℕ → Option S) (no_key : Refusal) (word : List ℕ) (which : KeyCommand) (names : Names word (command.on_key which)) where
   -- a command that shows what a search finds
-  searched : {A : Type 0} (search : FinMap order ℕ → K → Option A) (shown : FinMap order ℕ → Option A → Answer) → ((token : List ℕ) (array : ArrayOf order) → commands.on_key which token (kind array) ≡ (ok_or (said token) no_key >>= (λ key. Ok (unchanged (kind array) (shown array.map (search array.map key)))))) → (array : ArrayOf order) (token : List ℕ) (from : K) (found : Option A) → said token ≡ Some from → search array.map from ≡ found → commands.on_key which token (kind array) ≡ Ok (unchanged (kind array) (shown array.map found))
+  searched : {A : Type 0} (search : FinMap order ℕ → S → Option A) (shown : FinMap order ℕ → Option A → Answer) → ((token : List ℕ) (array : ArrayOf order) → commands.on_key which token (kind array) ≡ (ok_or (said token) no_key >>= (λ key. Ok (unchanged (kind array) (shown array.map (search array.map key)))))) → (array : ArrayOf order) (token : List ℕ) (from : S) (found : Option A) → said token ≡ Some from → search array.map from ≡ found → commands.on_key which token (kind array) ≡ Ok (unchanged (kind array) (shown array.map found))
   searched search shown does array token from found is at =
       does token array
       ∙ ap (λ key. ok_or key no_key >>= (λ key. Ok (unchanged (kind array) (shown array.map (search array.map key))))) is
       ∙ ap (λ found. Ok (unchanged (kind array) (shown array.map found))) at
 
-  pub numbers : (search : FinMap order ℕ → K → Option ℕ) → ((token : List ℕ) (array : ArrayOf order) → commands.on_key which token (kind array) ≡ (ok_or (said token) no_key >>= (λ key. Ok (unchanged (kind array) (number_or_nothing (search array.map key)))))) → AnswersNumberOrNone kind said word search
+  pub numbers : (search : FinMap order ℕ → S → Option ℕ) → ((token : List ℕ) (array : ArrayOf order) → commands.on_key which token (kind array) ≡ (ok_or (said token) no_key >>= (λ key. Ok (unchanged (kind array) (number_or_nothing (search array.map key)))))) → AnswersNumberOrNone kind said word search
   numbers search does = (
     λ array token from found is at. key-Answers word which names token (kind array) (number found) (searched search (λ map. number_or_nothing) does array token from (Some found) is at),
     λ array token from is at. key-Answers word which names token (kind array) nothing (searched search (λ map. number_or_nothing) does array token from None is at),
   )
 
-  pub entries : (shown : K → ℕ → Answer) (search : FinMap order ℕ → K → Option K) → ((token : List ℕ) (array : ArrayOf order) → commands.on_key which token (kind array) ≡ (ok_or (said token) no_key >>= (λ key. Ok (unchanged (kind array) (entry_or_nothing shown array.map (search array.map key)))))) → AnswersEntryOrNone kind said shown word search
+  pub entries : (shown : K → ℕ → Answer) (search : FinMap order ℕ → S → Option K) → ((token : List ℕ) (array : ArrayOf order) → commands.on_key which token (kind array) ≡ (ok_or (said token) no_key >>= (λ key. Ok (unchanged (kind array) (entry_or_nothing shown array.map (search array.map key)))))) → AnswersEntryOrNone kind said shown word search
   entries shown search does = (
     λ array token from found value is at held. key-Answers word which names token (kind array) (shown found value) (
         searched search (λ map. entry_or_nothing shown map) does array token from (Some found) is at
@@ -67,20 +67,26 @@ by_count_of_set = numbers judy1 word_of bad_word (codes "bycount") command.by_co
 pub by_count_of_words : AnswersEntryOrNone judyl word_of entry (codes "bycount") by_count
 by_count_of_words = entries judyl word_of bad_word (codes "bycount") command.by_count by_count_names entry by_count (λ _ _. refl)
 
+pub by_count_of_strings : AnswersEntryOrNone judysl word_of string_entry (codes "bycount") by_count
+by_count_of_strings = entries judysl word_of bad_word (codes "bycount") command.by_count by_count_names string_entry by_count (λ _ _. refl)
+
 -- counts
-module _ (kind : ArrayOf word_order → ArrayValue) (does : (first second : List ℕ) (array : ArrayOf word_order) → commands.on_pair command.count first second (kind array) ≡ (word_at first >>= (λ from. word_at second >>= (λ to. Ok (unchanged (kind array) (number (count array.map from to))))))) where
-  counts_of : CountsFromTheFirstToTheSecond kind word_of
+module _ {K : Type 0} {order : K → K → Ordering} (kind : ArrayOf order → ArrayValue) (said : List ℕ → Option K) (no_key : Refusal) (does : (first second : List ℕ) (array : ArrayOf order) → commands.on_pair command.count first second (kind array) ≡ (ok_or (said first) no_key >>= (λ from. ok_or (said second) no_key >>= (λ to. Ok (unchanged (kind array) (number (count array.map from to))))))) where
+  counts_of : CountsFromTheFirstToTheSecond kind said
   counts_of array first second from to is this =
       pair-Answers (codes "count") command.count (record { plain = refl; named = refl }) first second (kind array) (number (count array.map from to)) (
       does first second array
-      ∙ ap (λ from. ok_or from bad_word >>= (λ from. word_at second >>= (λ to. Ok (unchanged (kind array) (number (count array.map from to)))))) is
-      ∙ ap (λ to. ok_or to bad_word >>= (λ to. Ok (unchanged (kind array) (number (count array.map from to))))) this)
+      ∙ ap (λ from. ok_or from no_key >>= (λ from. ok_or (said second) no_key >>= (λ to. Ok (unchanged (kind array) (number (count array.map from to)))))) is
+      ∙ ap (λ to. ok_or to no_key >>= (λ to. Ok (unchanged (kind array) (number (count array.map from to))))) this)
 
 pub count_of_set : CountsFromTheFirstToTheSecond judy1 word_of
-count_of_set = counts_of judy1 (λ _ _ _. refl)
+count_of_set = counts_of judy1 word_of bad_word (λ _ _ _. refl)
 
 pub count_of_words : CountsFromTheFirstToTheSecond judyl word_of
-count_of_words = counts_of judyl (λ _ _ _. refl)
+count_of_words = counts_of judyl word_of bad_word (λ _ _ _. refl)
+
+pub count_of_strings : CountsFromTheFirstToTheSecond judysl string_key_of
+count_of_strings = counts_of judysl string_key_of bad_key (λ _ _ _. refl)
 
 -- ---- the commands of a set
 

@@ -17,7 +17,7 @@ use Rattle.judy_model.specs.Sizes.{size_of}
 use Rattle.judy_model.specs.Replies.{Refusal, no_memory, wrong_kind, bad_limit, exists, too_many_arrays, unknown_command}
 use Rattle.judy_model.specs.CommandWords as command
 use Rattle.judy_model.specs.CommandWords.{KeyCommand, PairCommand, Command, command_named}
-use Rattle.judy_model.specs.Commands.{Outcome, ◌>>=◌, added, inserted, overwritten, removed, set_on_key, set_on_pair, map_on_key, map_on_pair, words_on_key, words_on_pair, strings_on_key, on_key, on_pair, freed_whole, at_name, name_at, word_at, string_key_at, bytes_key_at, limit_at, provided, made, carried_out}
+use Rattle.judy_model.specs.Commands.{Outcome, ◌>>=◌, added, inserted, overwritten, removed, set_on_key, set_on_pair, map_on_key, map_on_pair, words_on_key, words_on_pair, strings_on_key, strings_on_pair, on_key, on_pair, freed_whole, at_name, name_at, word_at, string_key_at, bytes_key_at, limit_at, provided, made, carried_out}
 use Rattle.judy_model.specs.Steps.{outcome_of_tokens, outcome_of, settled, step, outcome_grows, grows, Step}
 use Rattle.judy_model.proofs.ChangesLemmas.{len-ins, len-del, write-ins}
 use Rattle.judy_model.proofs.StepLemmas.{outcome_of-never_no_memory, NeverNoMemory}
@@ -144,7 +144,14 @@ module _ (array : ArrayOf byte_order) where
   strings_key_counted command.del token = map_key_counted nat_list_cmp_total (slice_cmp-IsAntisymmetric nat_cmp-IsAntisymmetric) judysl (λ _. refl) array (string_key_at token) command.del
   strings_key_counted (command.neighbour side) token = by_key nat_list_cmp_total (slice_cmp-IsAntisymmetric nat_cmp-IsAntisymmetric) judysl (λ _. refl) array (string_key_at token) _ (λ key. Adds-same (len array.map))
   strings_key_counted (command.empty side) token = tt
-  strings_key_counted command.by_count token = tt
+  strings_key_counted command.by_count token = by_word _ token _ (λ key _. Adds-same (len array.map))
+
+  strings_pair_counted : (command : PairCommand) (key value : List ℕ) → IfOk (strings_on_pair command array key value) (Counted (judysl array))
+  strings_pair_counted command.ins key value = map_pair_counted nat_list_cmp_total (slice_cmp-IsAntisymmetric nat_cmp-IsAntisymmetric) judysl (λ _. refl) array (string_key_at key) command.ins value
+  strings_pair_counted command.put key value = map_pair_counted nat_list_cmp_total (slice_cmp-IsAntisymmetric nat_cmp-IsAntisymmetric) judysl (λ _. refl) array (string_key_at key) command.put value
+  strings_pair_counted command.count key value =
+      followed (λ _. ⊤) _ (string_key_at key) _ (anything (string_key_at key)) (λ from _.
+      followed (λ _. ⊤) _ (string_key_at value) _ (anything (string_key_at value)) (λ to _. Adds-same (len array.map)))
 
 key_counted : (command : KeyCommand) (key : List ℕ) (array : ArrayValue) → IfOk (on_key command key array) (Counted array)
 key_counted command key (judy1 set) = set_key_counted set command key
@@ -155,7 +162,7 @@ key_counted command key (judyhs array) = map_key_counted nat_list_cmp_total (sli
 pair_counted : (command : PairCommand) (key value : List ℕ) (array : ArrayValue) → IfOk (on_pair command key value array) (Counted array)
 pair_counted command key value (judy1 set) = set_pair_counted set command key value
 pair_counted command key value (judyl array) = words_pair_counted array command key value
-pair_counted command key value (judysl array) = map_pair_counted nat_list_cmp_total (slice_cmp-IsAntisymmetric nat_cmp-IsAntisymmetric) judysl (λ _. refl) array (string_key_at key) command value
+pair_counted command key value (judysl array) = strings_pair_counted array command key value
 pair_counted command key value (judyhs array) = map_pair_counted nat_list_cmp_total (slice_cmp-IsAntisymmetric nat_cmp-IsAntisymmetric) judyhs (λ _. refl) array (bytes_key_at key) command value
 
 none_left : {K : Type 0} (order : K → K → Ordering) (n : ℕ) → len (empty {X = ℕ} {R = order}) ≤ n

@@ -13,7 +13,7 @@ use Rattle.judy_model.specs.Replies.{Reply, Refusal, line_too_long, unknown_comm
 use Rattle.judy_model.specs.Kinds.{kind_named}
 use Rattle.judy_model.specs.CommandWords as command
 use Rattle.judy_model.specs.CommandWords.{KeyCommand, PairCommand, Command, command_named}
-use Rattle.judy_model.specs.Commands.{Outcome, ◌>>=◌, provided, limit_at, made, set_on_key, set_on_pair, map_on_key, map_on_pair, words_on_key, words_on_pair, strings_on_key, on_key, on_pair, freed_whole, at_name, carried_out, name_at, word_at, string_key_at, bytes_key_at, array_at}
+use Rattle.judy_model.specs.Commands.{Outcome, ◌>>=◌, provided, limit_at, made, set_on_key, set_on_pair, map_on_key, map_on_pair, words_on_key, words_on_pair, strings_on_key, strings_on_pair, on_key, on_pair, freed_whole, at_name, carried_out, name_at, word_at, string_key_at, bytes_key_at, array_at}
 use Rattle.judy_model.specs.Steps.{outcome_of, outcome_of_tokens, carried_out_by_word, settled, step, outcome_grows, grows, Step}
 
 module _ {A : Type 0} where
@@ -128,7 +128,13 @@ strings_key_never command.get array token = map_key_never judysl command.get arr
 strings_key_never command.del array token = map_key_never judysl command.del array (string_key_at token) (a_string_key token)
 strings_key_never (command.neighbour side) array token = followed (string_key_at token) _ (a_string_key token) (λ key. given _)
 strings_key_never (command.empty side) array token = wrong
-strings_key_never command.by_count array token = wrong
+strings_key_never command.by_count array token = read_never token _ (λ key. given _)
+
+strings_pair_never : (command : PairCommand) (array : ArrayOf byte_order) (key value : List ℕ) → NeverNoMemory (strings_on_pair command array key value)
+strings_pair_never command.ins array key value = map_pair_never judysl command.ins array (string_key_at key) value (a_string_key key)
+strings_pair_never command.put array key value = map_pair_never judysl command.put array (string_key_at key) value (a_string_key key)
+strings_pair_never command.count array key value =
+    followed (string_key_at key) _ (a_string_key key) (λ k. followed (string_key_at value) _ (a_string_key value) (λ v. given _))
 
 key_never : (command : KeyCommand) (key : List ℕ) (array : ArrayValue) → NeverNoMemory (on_key command key array)
 key_never command key (judy1 set) = set_key_never command set key
@@ -139,7 +145,7 @@ key_never command key (judyhs array) = map_key_never judyhs command array (bytes
 pair_never : (command : PairCommand) (key value : List ℕ) (array : ArrayValue) → NeverNoMemory (on_pair command key value array)
 pair_never command key value (judy1 set) = set_pair_never command set key value
 pair_never command key value (judyl array) = words_pair_never command array key value
-pair_never command key value (judysl array) = map_pair_never judysl command array (string_key_at key) value (a_string_key key)
+pair_never command key value (judysl array) = strings_pair_never command array key value
 pair_never command key value (judyhs array) = map_pair_never judyhs command array (bytes_key_at key) value (a_bytes_key key)
 
 -- a command of one array: the rest of its checks, where the name is one of the store's

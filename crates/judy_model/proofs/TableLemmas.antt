@@ -10,7 +10,8 @@ use Rattle.std.specs.FinMap.{IsAntisymmetric, nat_cmp-IsAntisymmetric, slice_cmp
 use Rattle.std.proofs.lemmas.List.Elements.{recursion_from_All, All-from_recursion}
 use Rattle.std.proofs.lemmas.Bool.{false_from_ne_true}
 use Rattle.std.proofs.lemmas.Option.{none-some}
-use Rattle.judy_model.specs.Keys.{IsBytesKey, IsStringKey, byte_order}
+use Rattle.judy_model.specs.Keys.{IsStringKey, byte_order}
+use Rattle.judy_model.specs.KeyLengths.{IsBytesKeyTo}
 use Rattle.judy_model.specs.Empties.{numbers_below}
 use Rattle.judy_model.specs.Tables.{strings_to, bytes_keys, string_keys, tabled, table}
 use Rattle.judy_model.proofs.Orders.{same_from_tie}
@@ -93,12 +94,12 @@ module _ (alphabet : List ℕ) where
       let are = among_from_strings_to most key here in
       (All-from_recursion P key (all_from_among P key (λ byte inside. only byte (all_among (Among alphabet) key byte are.0 inside))), are.1)
 
--- `bytes_keys` lists the keys of judyhs arrays.
-pub bytes_keys-all : ListsAll bytes_keys IsBytesKey
+-- `bytes_keys` lists the keys of arrays over byte strings.
+pub bytes_keys-all : (longest : ℕ) → ListsAll (bytes_keys longest) (IsBytesKeyTo longest)
 unfolding bytes_keys
-bytes_keys-all = record {
-  there = λ key is. strings_to-all (numbers_below 256) (λ byte. byte < 256) (λ byte below. Among-numbers_below 256 byte below) (λ byte here. below_from_among 256 byte here) 1024 key is.is_byte_string is.within_limit;
-  only = λ key here. let are = strings_to-only (numbers_below 256) (λ byte. byte < 256) (λ byte inside. below_from_among 256 byte inside) 1024 key here in record { is_byte_string = are.0; within_limit = are.1 };
+bytes_keys-all longest = record {
+  there = λ key is. strings_to-all (numbers_below 256) (λ byte. byte < 256) (λ byte below. Among-numbers_below 256 byte below) (λ byte here. below_from_among 256 byte here) longest key is.is_byte_string is.within_limit;
+  only = λ key here. let are = strings_to-only (numbers_below 256) (λ byte. byte < 256) (λ byte inside. below_from_among 256 byte inside) longest key here in record { is_byte_string = are.0; within_limit = are.1 };
 }
 
 -- The bytes from 1 to 255.

@@ -33,8 +33,8 @@ pub record Values {K : Type 0} {order : K → K → Ordering} (kind : ArrayOf or
   pub del_bad_key : RefusesABadKey kind said no_key (codes "del")
   pub put_bad_key : RefusesABadFirst kind said no_key (codes "put")
   pub ins_bad_key : RefusesABadFirst kind said no_key (codes "ins")
-  pub put_bad_value : RefusesABadSecond kind said (codes "put")
-  pub ins_bad_value : RefusesABadSecond kind said (codes "ins")
+  pub put_bad_value : RefusesABadSecond kind said word_of bad_word (codes "put")
+  pub ins_bad_value : RefusesABadSecond kind said word_of bad_word (codes "ins")
 
 module _ {K : Type 0} {order : K → K → Ordering} (total : IsTotalOrder order) (same : IsAntisymmetric order) (kind : ArrayOf order → ArrayValue) (said : List ℕ → Option K) (no_key : Refusal)
     (get_is : (token : List ℕ) (array : ArrayOf order) → commands.on_key command.get token (kind array) ≡ map_on_key kind command.get array (ok_or (said token) no_key))
@@ -152,14 +152,14 @@ module _ {K : Type 0} {order : K → K → Ordering} (total : IsTotalOrder order
   ins_bad_first array first second bad =
       pair-IsRefused (codes "ins") command.ins ins_names first second (kind array) no_key (ins_is first second array ∙ ap (λ key. map_on_pair kind command.ins array (ok_or key no_key) second) bad)
 
-  put_bad_second : RefusesABadSecond kind said (codes "put")
+  put_bad_second : RefusesABadSecond kind said word_of bad_word (codes "put")
   put_bad_second array first second key is bad =
       pair-IsRefused (codes "put") command.put put_names first second (kind array) bad_word (
       put_is first second array
       ∙ ap (λ key. map_on_pair kind command.put array (ok_or key no_key) second) is
       ∙ ap (λ value. ok_or value bad_word >>= (λ value. Ok (overwritten kind array key value (get array.map key)))) bad)
 
-  ins_bad_second : RefusesABadSecond kind said (codes "ins")
+  ins_bad_second : RefusesABadSecond kind said word_of bad_word (codes "ins")
   ins_bad_second array first second key is bad =
       pair-IsRefused (codes "ins") command.ins ins_names first second (kind array) bad_word (
       ins_is first second array

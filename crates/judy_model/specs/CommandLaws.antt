@@ -8,7 +8,7 @@ use Rattle.judy_model.specs.Counts.{count}
 use Rattle.judy_model.specs.Lines.{Line, is_too_long, text_of}
 use Rattle.judy_model.specs.Tokens.{tokens_of, is_name, word_of}
 use Rattle.judy_model.specs.Stores.{Store, array_named, with_array}
-use Rattle.judy_model.specs.Replies.{Answer, was, flag, number, nothing, Refusal, argument_count, bad_name, no_such_array, bad_word, wrong_kind, full}
+use Rattle.judy_model.specs.Replies.{Answer, was, flag, number, nothing, Refusal, argument_count, bad_name, no_such_array, wrong_kind, full}
 use Rattle.judy_model.specs.Steps.{step}
 
 -- A line says these tokens where it isn't too long and they stand in it between spaces.
@@ -94,31 +94,32 @@ module _ {K : Type 0} {order : K → K → Ordering} (kind : ArrayOf order → A
   LeavesAnAbsentKey word =
       (array : ArrayOf order) (token : List ℕ) (key : K) → said token ≡ Some key → get array.map key ≡ None → Answers word (token ∷ []) (kind array) (flag false)
 
-  -- ---- searches: a word, and what is found for the key that is said
-
-  -- The number that is found is the answer.
-  abbrev pub AnswersTheNumber : List ℕ → (FinMap order ℕ → K → Option ℕ) → Type 0
-  AnswersTheNumber word search =
-      (array : ArrayOf order) (token : List ℕ) (from : K) (found : ℕ) → said token ≡ Some from → search array.map from ≡ Some found → Answers word (token ∷ []) (kind array) (number found)
-
-  -- The key that is found is the answer, with the value that it has.
-  abbrev pub AnswersTheEntry : (K → ℕ → Answer) → List ℕ → (FinMap order ℕ → K → Option K) → Type 0
-  AnswersTheEntry entry word search =
-      (array : ArrayOf order) (token : List ℕ) (from found : K) (value : ℕ) → said token ≡ Some from → search array.map from ≡ Some found → get array.map found ≡ Some value → Answers word (token ∷ []) (kind array) (entry found value)
-
-  -- Where nothing is found, `none` is.
-  abbrev pub AnswersNone : {A : Type 0} → List ℕ → (FinMap order ℕ → K → Option A) → Type 0
-  AnswersNone word search =
-      (array : ArrayOf order) (token : List ℕ) (from : K) → said token ≡ Some from → search array.map from ≡ None → Answers word (token ∷ []) (kind array) nothing
-
   -- `count` answers how many keys lie from the first one said to the second.
   abbrev pub CountsFromTheFirstToTheSecond : Type 0
   CountsFromTheFirstToTheSecond =
       (array : ArrayOf order) (first second : List ℕ) (from to : K) → said first ≡ Some from → said second ≡ Some to → Answers (codes "count") (first ∷ second ∷ []) (kind array) (number (count array.map from to))
 
+-- ---- searches: a kind, and what a token says to the search, a key or a number
+
+module _ {K S : Type 0} {order : K → K → Ordering} (kind : ArrayOf order → ArrayValue) (said : List ℕ → Option S) where
+  -- The number that is found is the answer.
+  abbrev pub AnswersTheNumber : List ℕ → (FinMap order ℕ → S → Option ℕ) → Type 0
+  AnswersTheNumber word search =
+      (array : ArrayOf order) (token : List ℕ) (from : S) (found : ℕ) → said token ≡ Some from → search array.map from ≡ Some found → Answers word (token ∷ []) (kind array) (number found)
+
+  -- The key that is found is the answer, with the value that it has.
+  abbrev pub AnswersTheEntry : (K → ℕ → Answer) → List ℕ → (FinMap order ℕ → S → Option K) → Type 0
+  AnswersTheEntry entry word search =
+      (array : ArrayOf order) (token : List ℕ) (from : S) (found : K) (value : ℕ) → said token ≡ Some from → search array.map from ≡ Some found → get array.map found ≡ Some value → Answers word (token ∷ []) (kind array) (entry found value)
+
+  -- Where nothing is found, `none` is.
+  abbrev pub AnswersNone : {A : Type 0} → List ℕ → (FinMap order ℕ → S → Option A) → Type 0
+  AnswersNone word search =
+      (array : ArrayOf order) (token : List ℕ) (from : S) → said token ≡ Some from → search array.map from ≡ None → Answers word (token ∷ []) (kind array) nothing
+
   -- ---- bad arguments
 
-  -- A token that says no key is refused.
+  -- A token that says nothing is refused.
   abbrev pub RefusesABadKey : Refusal → List ℕ → Type 0
   RefusesABadKey refusal word = (array : ArrayOf order) (token : List ℕ) → said token ≡ None → IsRefused word (token ∷ []) (kind array) refusal
 
@@ -126,19 +127,19 @@ module _ {K : Type 0} {order : K → K → Ordering} (kind : ArrayOf order → A
   abbrev pub RefusesABadFirst : Refusal → List ℕ → Type 0
   RefusesABadFirst refusal word = (array : ArrayOf order) (first second : List ℕ) → said first ≡ None → IsRefused word (first ∷ second ∷ []) (kind array) refusal
 
-  -- Behind a key, a token that says no word is refused.
-  abbrev pub RefusesABadSecond : List ℕ → Type 0
-  RefusesABadSecond word =
-      (array : ArrayOf order) (first second : List ℕ) (key : K) → said first ≡ Some key → word_of second ≡ None → IsRefused word (first ∷ second ∷ []) (kind array) bad_word
+  -- Behind a first that says something, a second is that says nothing as it is read, by its refusal.
+  abbrev pub RefusesABadSecond : {A : Type 0} → (List ℕ → Option A) → Refusal → List ℕ → Type 0
+  RefusesABadSecond read refusal word =
+      (array : ArrayOf order) (first second : List ℕ) (key : S) → said first ≡ Some key → read second ≡ None → IsRefused word (first ∷ second ∷ []) (kind array) refusal
 
   -- ---- what a search answers
 
   -- The number that is found, or `none`.
-  abbrev pub AnswersNumberOrNone : List ℕ → (FinMap order ℕ → K → Option ℕ) → Type 0
+  abbrev pub AnswersNumberOrNone : List ℕ → (FinMap order ℕ → S → Option ℕ) → Type 0
   AnswersNumberOrNone word search = AnswersTheNumber word search × AnswersNone word search
 
   -- The key that is found and its value, or `none`.
-  abbrev pub AnswersEntryOrNone : (K → ℕ → Answer) → List ℕ → (FinMap order ℕ → K → Option K) → Type 0
+  abbrev pub AnswersEntryOrNone : (K → ℕ → Answer) → List ℕ → (FinMap order ℕ → S → Option K) → Type 0
   AnswersEntryOrNone entry word search = AnswersTheEntry entry word search × AnswersNone word search
 
 -- ---- commands that a kind doesn't have

@@ -202,12 +202,23 @@ words_on_pair command.count array from to = do
   Ok (unchanged (judyl array) (number (counts.count array.map from to)))
 words_on_pair other array key value = map_on_pair judyl other array (word_at key) value
 
--- A judysl array is a map from byte strings to words; it has the neighbours of a key beside.
+-- A judysl array is a map from byte strings to words, which has their order beside: the neighbours of a key, and counts.
 abbrev pub strings_on_key : KeyCommand → ArrayOf byte_order → List ℕ → Result (Outcome ArrayValue) Refusal
 strings_on_key (command.neighbour side) array token = do
   key ← string_key_at token
   Ok (unchanged (judysl array) (entry_or_nothing string_entry array.map (neighbour_of side array.map key)))
+strings_on_key command.by_count array token = do
+  n ← word_at token
+  Ok (unchanged (judysl array) (entry_or_nothing string_entry array.map (counts.by_count array.map n)))
 strings_on_key other array token = map_on_key judysl other array (string_key_at token)
+
+-- And of two keys, or of a key and its value.
+abbrev pub strings_on_pair : PairCommand → ArrayOf byte_order → List ℕ → List ℕ → Result (Outcome ArrayValue) Refusal
+strings_on_pair command.count array from to = do
+  from ← string_key_at from
+  to ← string_key_at to
+  Ok (unchanged (judysl array) (number (counts.count array.map from to)))
+strings_on_pair other array key value = map_on_pair judysl other array (string_key_at key) value
 
 -- ---- the commands of one array
 
@@ -222,7 +233,7 @@ on_key command key (judyhs array) = map_on_key judyhs command array (bytes_key_a
 abbrev pub on_pair : PairCommand → List ℕ → List ℕ → ArrayValue → Result (Outcome ArrayValue) Refusal
 on_pair command key value (judy1 set) = set_on_pair command set key value
 on_pair command key value (judyl array) = words_on_pair command array key value
-on_pair command key value (judysl array) = map_on_pair judysl command array (string_key_at key) value
+on_pair command key value (judysl array) = strings_on_pair command array key value
 on_pair command key value (judyhs array) = map_on_pair judyhs command array (bytes_key_at key) value
 
 -- The array is emptied and keeps its place and its limit.

@@ -36,3 +36,4 @@ pub mod Remaining
 pub mod CutRuns
 pub mod StringOrder
 pub mod RunEnds
+pub mod KeyLengths

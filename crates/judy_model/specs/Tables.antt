@@ -13,9 +13,9 @@ unfoldable pub strings_to : List ℕ → ℕ → List (List ℕ)
 strings_to alphabet zero = [] ∷ []
 strings_to alphabet (suc most) = [] ∷ flat_map (λ byte. map (λ rest. byte ∷ rest) (strings_to alphabet most)) alphabet
 
--- All keys of judyhs arrays: the strings of at most 1,024 bytes.
-unfoldable pub bytes_keys : List (List ℕ)
-bytes_keys = strings_to (numbers_below 256) 1024
+-- All keys of arrays over byte strings whose longest key has so many bytes.
+unfoldable pub bytes_keys : ℕ → List (List ℕ)
+bytes_keys longest = strings_to (numbers_below 256) longest
 
 -- All keys of judysl arrays: those that hold no zero byte.
 unfoldable pub string_keys : List (List ℕ)

@@ -127,7 +127,10 @@ pub fn each_kind_has_its_commands()
     ensures count { step two_arrays (line (codes "count s x 1")) ≡ (Err bad_word, two_arrays) }
     ensures string_first { step string_arrays (line (codes "first t x")) ≡ (Err bad_key, string_arrays) }
     ensures string_empty { step string_arrays (line (codes "fe t x")) ≡ (Err wrong_kind, string_arrays) }
-    ensures string_count { step string_arrays (line (codes "count t x y")) ≡ (Err wrong_kind, string_arrays) }
+    ensures string_count { step string_arrays (line (codes "count t x y")) ≡ (Err bad_key, string_arrays) }
+    ensures string_place { step string_arrays (line (codes "bycount t =a")) ≡ (Err bad_word, string_arrays) }
+    ensures bytes_count { step string_arrays (line (codes "count h x y")) ≡ (Err wrong_kind, string_arrays) }
+    ensures bytes_place { step string_arrays (line (codes "bycount h x")) ≡ (Err wrong_kind, string_arrays) }
     ensures bytes_first { step string_arrays (line (codes "first h x")) ≡ (Err wrong_kind, string_arrays) }
     ensures missing { step two_arrays (line (codes "fe b x")) ≡ (Err no_such_array, two_arrays) }
     ensures string_kind { step [] (line (codes "make b judysl 3")) ≡ (Ok done, (codes "b", judysl (empty_array 3)) ∷ []) }

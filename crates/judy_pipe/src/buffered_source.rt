@@ -51,7 +51,9 @@ impl<R: Source + Drop, const N: usize> BufferedSource<R, N> {
         self.inner
     }
 
-    // Asks for the next piece, of up to `most` bytes, where none is kept.
+    // Asks for the next piece, of up to `most` bytes, where none is kept. It stands apart from the way of most reads, which are given what
+    // is kept and are compiled into their caller, who knows how many bytes it wants.
+    #[inline(never)]
     fn refill(&mut self, most: usize) -> Result<(), BrokenPipe>
         requires within { most ≤ N }
         requires none_kept { self.old.next ≡ self.old.end }
@@ -70,6 +72,7 @@ impl<R: Source + Drop, const N: usize> BufferedSource<R, N> {
     }
 
     // Gives of what is kept as much as fits.
+    #[inline(always)]
     fn give(&mut self, room: &mut [u8]) -> usize
         ensures count { result ≡ min (length room.old) (self.old.end - self.old.next) }
         ensures len { length room.new ≡ length room.old }
@@ -103,6 +106,7 @@ impl<R: Source + Drop, const N: usize> Source for BufferedSource<R, N> {
     ghost never_fails = { λ s. none_failed_ahead (R.is_unfailing s.inner) (R.tally s.inner) (R.never_fails s.inner) };
 
     // Interruptions are tried again while it reads ahead, and counted there.
+    #[inline(always)]
     fn read(&mut self, room: &mut [u8]) -> Result<usize, Stop> {
         if self.next == self.end {
             // Of no bytes none are asked for, and they are no end.

@@ -57,6 +57,8 @@ pub trait Source {
 ///
 /// Ok is how many bytes it gave, where 0 for a `room` that is not empty is the end; the failures are as
 /// before. At the one error, `BrokenPipe`, it gave none and has exactly one failure more.
+// As `BufferedSource::refill` says.
+#[inline(always)]
 pub fn read_some<R: Source>(source: &mut R, room: &mut [u8]) -> Result<usize, BrokenPipe>
     requires { (R.tally source.old).failures < 2 ^ 64 - 1 }
     ensures count { IfOk result (λ n. n ≤ length room.old) }

@@ -1,3 +1,4 @@
+pub mod Ends
 pub mod Maps
 pub mod Parts
 pub mod Rooms

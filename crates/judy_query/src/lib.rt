@@ -10,11 +10,12 @@
 //! leaves fewer there than it found. judy_unmetered isn't among the crates that this one lists, so the compiler refuses it a meter of its
 //! own and each call that reads nodes without a visit.
 //!
-//! values.rt has the value of a key, counts.rt how many keys are below a word, places.rt the key at a place, after.rt and before.rt the
-//! nearest keys, turns.rt where the search for one of these turns off the key's way. empties.rt has the nearest words that are no keys,
-//! absent.rt what a node without children tells of them, rooms.rt where a branch has some: no full child is entered, but passed over by
-//! the number of its keys. walk.rt has the walk, waiting.rt the children that it comes back to, stretch.rt the pairs of one node in turn,
-//! and scan.rt those of a bitmap leaf. branches.rt has what all ways down ask of a branch, ends.rt what they ask where they end.
+//! values.rt has the value of a key, many.rt those of many, whose ways go side by side, counts.rt how many keys are below a word,
+//! places.rt the key at a place, after.rt and before.rt the nearest keys, turns.rt where the search for one of these turns off the key's
+//! way. empties.rt has the nearest words that are no keys, absent.rt what a node without children tells of them, rooms.rt where a branch
+//! has some: no full child is entered, but passed over by the number of its keys. walk.rt has the walk, waiting.rt the children that it
+//! comes back to, stretch.rt the pairs of one node in turn, and scan.rt those of a bitmap leaf. branches.rt has what all ways down ask of
+//! a branch, ends.rt what they ask where they end.
 //!
 //! The crate enters nodes and never opens one. It stands on judy_model, judy_bits, judy_leaf, judy_node and `arrayvec`, and judy_word
 //! stands on it.
@@ -28,6 +29,7 @@ mod counts;
 mod empties;
 mod ends;
 pub mod laws;
+mod many;
 mod places;
 mod rooms;
 mod scan;
@@ -41,6 +43,7 @@ pub use after::{at_or_after, entry_at_or_after};
 pub use before::{at_or_before, entry_at_or_before};
 pub use counts::rank;
 pub use empties::{empty_at_or_after, empty_at_or_before};
+pub use many::{MOST_WAYS, lookup_many};
 pub use places::{entry_nth, nth};
 pub use values::lookup;
 pub use walk::Walk;

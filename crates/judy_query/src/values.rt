@@ -5,6 +5,7 @@ ghost use Rattle.std.specs.FinMap as map;
 ghost use Rattle.judy_node.specs.Trees.{branch_pairs};
 ghost use Rattle.judy_node.specs.Views.{view_pairs};
 ghost use Rattle.judy_node.specs.declared.view.ViewOf.TheVariants.{Branch};
+ghost use Rattle.judy_query.specs.Ends.{value_at, IsEndIfAny};
 ghost use Rattle.judy_query.specs.Maps.{map_of};
 ghost use Rattle.judy_query.specs.Parts.{value_of, IsEnd, IsShown};
 ghost use Rattle.judy_query.specs.Visits.{most_visits_down};
@@ -23,11 +24,30 @@ pub fn lookup<V: Words + Drop>(tree: &NodeOf<V>, key: u64, meter: &mut Meter) ->
     ensures visits { meter.new ≤ meter.old + most_visits_down }
 {
     tree.told();
-    let (end, left) = match tree.enter(meter) {
-        ViewOf::Branch(branch) => end_of_way(branch, key, meter)?,
-        end => (end, key),
-    };
+    let (end, left) = way_of(tree, key, meter)?;
     value_in(&end, left)
+}
+
+/// The node without children that a key leads to, and what is left of the key there; none where its way ends beside a child. At most
+/// 8 visits, and the meter as for `lookup`.
+// As `end_of_way`.
+#[inline(always)]
+pub(crate) fn way_of<'a, V: Words + Drop>(
+    tree: &'a NodeOf<V>,
+    key: u64,
+    meter: &mut Meter,
+) -> Option<(ViewOf<'a, V>, u64)>
+    requires { meter.old ≤ 2 ^ 64 - 17 }
+    ensures value { value_at result ≡ value_of tree.now.pairs key }
+    ensures end { IsEndIfAny V.WORDS result }
+    ensures no_fewer { meter.old ≤ meter.new }
+    ensures visits { meter.new ≤ meter.old + most_visits_down }
+{
+    tree.told();
+    match tree.enter(meter) {
+        ViewOf::Branch(branch) => end_of_way(branch, key, meter),
+        end => Some((end, key)),
+    }
 }
 
 // The node without children that a key of a branch leads to, and what is left of the key there; none where the way ends beside a child.

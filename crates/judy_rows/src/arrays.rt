@@ -161,18 +161,19 @@ fn listing(rt: HostRuntime) {
         (b"drop s", b"freed 1\n"),
     ];
     check_lines(&rt, &mut shelf, &table);
-    // 62 more arrays are 64.
-    for first in b'c'..=b'z' {
-        make(&rt, &mut shelf, &[first]);
+    make_62_more(&rt, &mut shelf);
+    check_64(&rt, &mut shelf);
+}
+
+// Arrays of all other names of one byte than `a` and `b`.
+fn make_62_more<R: Abort>(rt: &R, shelf: &mut Shelf) {
+    for name in b"cdefghijklmnopqrstuvwxyzABCDEFGHIJKLMNOPQRSTUVWXYZ0123456789-_" {
+        make(rt, shelf, &[*name]);
     }
-    for first in b'A'..=b'Z' {
-        make(&rt, &mut shelf, &[first]);
-    }
-    for first in b'0'..=b'9' {
-        make(&rt, &mut shelf, &[first]);
-    }
-    make(&rt, &mut shelf, b"-");
-    make(&rt, &mut shelf, b"_");
+}
+
+// Each other refusal of `make` comes before that of the 65th array.
+fn check_64<R: Abort>(rt: &R, shelf: &mut Shelf) {
     assert_eq!(rt; shelf.len(), 64);
     let table = [
         (
@@ -180,8 +181,12 @@ fn listing(rt: HostRuntime) {
             b"error too-many-arrays\n".as_slice(),
         ),
         (b"make a judyl", b"error exists\n"),
+        (b"make new judyl 0", b"error bad-limit\n"),
+        (b"make new judyl x", b"error bad-word\n"),
+        (b"make new judy2", b"error wrong-kind\n"),
+        (b"make n! judyl", b"error bad-name\n"),
     ];
-    check_lines(&rt, &mut shelf, &table);
+    check_lines(rt, shelf, &table);
 }
 
 fn make<R: Abort>(rt: &R, shelf: &mut Shelf, name: &[u8]) {

@@ -11,6 +11,10 @@ struct Same;
 impl ByteHash for Same {
     ghost use Rattle.std.specs.Prelude.{List, ℕ};
 
+    const LONGEST: usize = 1024;
+
+    ghost LONGEST = { 1024 };
+
     ghost hash_of = { λ _. 7 };
 
     fn hash(&self, _bytes: &[u8]) -> u32 {

@@ -70,6 +70,58 @@ fn string_order(rt: HostRuntime) {
     check_lines(&rt, &mut shelf, &table);
 }
 
+// Over the keys of row `string_order`, beside an array without order.
+#[test]
+fn string_counts(rt: HostRuntime) {
+    let mut shelf = Shelf::new(rt.alloc());
+    let table = [
+        (b"make s judysl".as_slice(), b"ok\n".as_slice()),
+        (b"ins s #ff 6", b"was 0\n"),
+        (b"ins s =abcdefgh 3", b"was 0\n"),
+        (b"ins s = 1", b"was 0\n"),
+        (b"ins s =zz 5", b"was 0\n"),
+        (b"ins s =abcdefghi 4", b"was 0\n"),
+        (b"ins s =abcdefg 2", b"was 0\n"),
+        (b"make h judyhs", b"ok\n"),
+        (b"count s = #ff", b"6\n"),
+        (b"count s =abcdefg =abcdefgh", b"2\n"),
+        (b"count s =b #fe", b"1\n"),
+        (b"count s =zz =", b"0\n"),
+        (b"bycount s 1", b"= 1\n"),
+        (b"bycount s 4", b"=abcdefghi 4\n"),
+        (b"bycount s 6", b"#ff 6\n"),
+        (b"bycount s 7", b"none\n"),
+        (b"bycount s 0", b"none\n"),
+        (b"count s =a x", b"error bad-key\n"),
+        (b"bycount s =a", b"error bad-word\n"),
+        (b"bycount h 1", b"error wrong-kind\n"),
+    ];
+    check_lines(&rt, &mut shelf, &table);
+}
+
+// A key that comes and goes two levels down is counted while it is there.
+#[test]
+fn string_counts_after_changes(rt: HostRuntime) {
+    let mut shelf = Shelf::new(rt.alloc());
+    let table = [
+        (b"make s judysl 3".as_slice(), b"ok\n".as_slice()),
+        (b"ins s =abcdefghijklmnopq 1", b"was 0\n"),
+        (b"ins s =abcdefghijklmnopr 2", b"was 0\n"),
+        (b"ins s =abcdefgh 3", b"was 0\n"),
+        (b"count s = #ff", b"3\n"),
+        (b"count s =abcdefgh =abcdefghijklmnopq", b"2\n"),
+        (b"ins s =b 4", b"error full\n"),
+        (b"count s = #ff", b"3\n"),
+        (b"del s =abcdefghijklmnopq", b"1\n"),
+        (b"count s = #ff", b"2\n"),
+        (b"bycount s 2", b"=abcdefghijklmnopr 2\n"),
+        (b"free s", b"freed 2\n"),
+        (b"count s = #ff", b"0\n"),
+        (b"bycount s 1", b"none\n"),
+    ];
+    check_lines(&rt, &mut shelf, &table);
+}
+
 // The line `ins s =`, 1,025 letters, ` 1`.
 fn too_long_key() -> [u8; 1034] {
     let mut line = [b'a'; 1034];
@@ -94,7 +146,7 @@ fn bad_keys(rt: HostRuntime) {
         (b"ins s =a x", b"error bad-word\n"),
         (b"del s =abcd", b"0\n"),
         (b"fe s 0", b"error wrong-kind\n"),
-        (b"count s =a =b", b"error wrong-kind\n"),
+        (b"count s =a =b", b"1\n"),
         (b"list", b"names s:judysl:1\n"),
     ];
     check_lines(&rt, &mut shelf, &table);
@@ -122,7 +174,7 @@ fn every_command_of_a_judysl(rt: HostRuntime) {
         (b"next s =a", b"none\n"),
         (b"next s #6100", b"error bad-key\n"),
         (b"test s =a", b"error wrong-kind\n"),
-        (b"bycount s abc", b"error wrong-kind\n"),
+        (b"bycount s abc", b"error bad-word\n"),
         (b"free s", b"freed 1\n"),
         (b"get s =a", b"none\n"),
     ];

@@ -27,6 +27,7 @@ pub mod Shrinks
 pub mod Tailed
 pub mod Tried
 pub mod ScanMaps
+pub mod Walked
 pub mod Inserted
 pub mod Removed
 pub mod Branching

@@ -14,6 +14,7 @@
 mod arena;
 mod branches;
 mod child;
+mod counts;
 mod error;
 mod grow;
 mod kept;

@@ -35,8 +35,9 @@ Commands of a script, one a line; each is answered by one line on standard outpu
   last NAME K             the greatest key up to K
   prev NAME K             the greatest key below K
   fe, ne, le, pe NAME I   judy1, judyl: these four among the words that are no keys
-  count NAME I J          judy1, judyl: how many keys there are from I to J
-  bycount NAME N          judy1, judyl: the N-th key, counted from 1
+  count NAME K K2         how many keys there are from K to K2
+                          (this and the next: all kinds but judyhs)
+  bycount NAME N          the N-th key, counted from 1, and its value; or none
 
 KIND is judy1, a set of words, or one of the maps to words: judyl from words,
 judysl from strings in their order, judyhs from byte strings in none. A word is

@@ -1,3 +1,5 @@
 pub mod PairLemmas
 pub mod ChunkLemmas
 pub mod SumsLemmas
+pub mod LevelCounts
+pub mod Parts

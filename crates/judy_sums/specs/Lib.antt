@@ -1,2 +1,4 @@
 pub mod Pairs
 pub mod Chunks
+pub mod Levels
+pub mod Laws

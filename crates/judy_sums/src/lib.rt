@@ -7,6 +7,7 @@
 
 mod chunk;
 mod chunks;
+pub mod laws;
 mod sums;
 
 pub use chunk::Standing;

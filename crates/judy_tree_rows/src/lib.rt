@@ -23,6 +23,8 @@ mod iterators;
 #[cfg(test)]
 mod leaves;
 #[cfg(test)]
+mod many;
+#[cfg(test)]
 mod nodes;
 #[cfg(test)]
 mod plain;

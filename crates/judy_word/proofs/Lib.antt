@@ -10,3 +10,4 @@ mod EntryFacts
 mod SortedFacts
 pub mod IterFacts
 pub mod TrialLemmas
+pub mod Groups

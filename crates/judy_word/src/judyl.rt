@@ -1,5 +1,5 @@
 // The array that maps words to words.
-ghost use Rattle.std.specs.Prelude.{◌≡◌, ◌≤◌, ◌↔◌, Some, None, not, true, false, IfOk, IsOk, IfSome, OnOk, OnErr, IfErr, IsTrue, IsFalse};
+ghost use Rattle.std.specs.Prelude.{◌≡◌, ◌≤◌, ◌↔◌, Some, None, not, true, false, IfOk, IsOk, IfSome, OnOk, OnErr, IfErr, IsTrue, IsFalse, length, map as mapped};
 ghost use Rattle.std.specs.Borrow.{sem};
 ghost use Rattle.std.specs.FinMap as map;
 ghost use Rattle.std.specs.Option.{option_copied_mut, option_map};
@@ -143,6 +143,15 @@ impl JudyL {
         ensures { result ≡ map.get self.now.map i }
     {
         self.tree.get(i)
+    }
+
+    /// The values of keys, each written to the place of its key: what `get` answers of it, so `None` where it is absent. The ways of up to 16
+    /// keys go down side by side, and wait for memory together. (This project's own.)
+    pub fn get_many(&self, keys: &[u64], values: &mut [Option<u64>])
+        requires { length values.old ≡ length keys.now }
+        ensures { values.new ≡ mapped (λ i. map.get self.now.map i) keys.now }
+    {
+        self.tree.get_many(keys, values);
     }
 
     /// The slot of the key `i`, and `None` where it is absent. What the caller leaves in the slot is then the

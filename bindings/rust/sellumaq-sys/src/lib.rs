@@ -47,6 +47,14 @@ pub struct sellumaq_pair {
     pub value: u64,
 }
 
+/// What a look-up of many keys tells of one: its value and 1; 0 and 0 where it is absent.
+#[repr(C)]
+#[derive(Clone, Copy, Debug)]
+pub struct sellumaq_found {
+    pub value: u64,
+    pub there: u64,
+}
+
 /// What a walk tells of a key of bytes: how many these are, and its value.
 #[repr(C)]
 #[derive(Clone, Copy, Debug)]
@@ -75,6 +83,7 @@ pub const SELLUMAQ_TOO_SMALL: u32 = 5;
 
 /// The most bytes of a key.
 pub const SELLUMAQ_KEY_BYTES: usize = 1024;
+pub const SELLUMAQ_JUDYHS_KEY_BYTES: usize = isize::MAX as usize;
 
 // A set of words.
 extern "C" {
@@ -125,6 +134,13 @@ extern "C" {
         was: *mut u64,
     ) -> u32;
     pub fn sellumaq_judyl_get(map: *const sellumaq_judyl, key: u64, value: *mut u64) -> bool;
+    pub fn sellumaq_judyl_get_many(
+        map: *const sellumaq_judyl,
+        keys: *const u64,
+        count: usize,
+        found: *mut sellumaq_found,
+        capacity: usize,
+    ) -> usize;
     pub fn sellumaq_judyl_slot(map: *const sellumaq_judyl, key: u64, slot: *mut *mut u64) -> bool;
     pub fn sellumaq_judyl_del(map: *mut sellumaq_judyl, key: u64) -> bool;
     pub fn sellumaq_judyl_remove(map: *mut sellumaq_judyl, key: u64, was: *mut u64) -> bool;
@@ -248,6 +264,21 @@ extern "C" {
     ) -> u32;
     pub fn sellumaq_judysl_prev(
         map: *const sellumaq_judysl,
+        buffer: *mut u8,
+        capacity: usize,
+        length: *mut usize,
+        value: *mut u64,
+    ) -> u32;
+    pub fn sellumaq_judysl_count(
+        map: *const sellumaq_judysl,
+        from: *const u8,
+        from_length: usize,
+        to: *const u8,
+        to_length: usize,
+    ) -> u64;
+    pub fn sellumaq_judysl_by_count(
+        map: *const sellumaq_judysl,
+        n: u64,
         buffer: *mut u8,
         capacity: usize,
         length: *mut usize,

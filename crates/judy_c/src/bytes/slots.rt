@@ -9,14 +9,14 @@ ghost use Rattle.judy_c.specs.ByteSlots.{LendsSlotOf, LendsInsOf};
 
 use super::Bytes;
 use crate::answers::Refusal;
-use judy_hs::HsError;
+use judy_hs::{ByteHash, Eights, HsError};
 use std::alloc::Global;
 
-// Whether the bytes are a key: at most 1,024.
+// Whether the bytes are a key.
 fn is_key(bytes: &[u8]) -> bool
     ensures { IsTrue result ↔ IsShort bytes.now }
 {
-    bytes.len() <= 1024
+    bytes.len() <= Eights::LONGEST
 }
 
 impl Bytes {

@@ -3,6 +3,7 @@
 ghost use Rattle.std.specs.Prelude.{◌≡◌, [], ◌∷◌, codes, replicate};
 ghost use Rattle.std.specs.declared.cmp.Ordering.TheVariants.{Less, Greater};
 ghost use Rattle.judy_model.specs.Keys.{IsBytesKey, IsStringKey, byte_order};
+ghost use Rattle.judy_model.specs.KeyLengths.{IsBytesKeyTo};
 ghost use Rattle.judy_model.specs.Arrays.{judy1, judyl, judysl, judyhs, empty_array};
 ghost use Rattle.judy_model.specs.Kinds.{kind_word_of};
 
@@ -13,6 +14,15 @@ pub fn bytes_keys_are_any_bytes()
     ensures longest { IsBytesKey (replicate 1024 0) }
     ensures too_long { IsBytesKey (replicate 1025 0) → ⊥ }
     ensures no_byte { IsBytesKey (256 ∷ []) → ⊥ }
+{}
+
+/// Where keys may have three bytes, three are a key and four aren't; where none, the empty string alone is one.
+pub fn the_longest_key_has_as_many_bytes_as_that()
+    ensures three { IsBytesKeyTo 3 (0 ∷ 255 ∷ 0 ∷ []) }
+    ensures four { IsBytesKeyTo 3 (0 ∷ 255 ∷ 0 ∷ 0 ∷ []) → ⊥ }
+    ensures empty { IsBytesKeyTo 0 [] }
+    ensures one { IsBytesKeyTo 0 (0 ∷ []) → ⊥ }
+    ensures no_byte { IsBytesKeyTo 3 (256 ∷ []) → ⊥ }
 {}
 
 /// A key of a judysl array has none.

@@ -1,9 +1,19 @@
-//! Byte strings as key tokens say them and as they are printed.
+//! Which byte strings are keys, and these as key tokens say them and as they are printed.
 
-ghost use Rattle.std.specs.Prelude.{◌≡◌, ℕ, List, [], ◌∷◌, Some, IfSome};
+ghost use Rattle.std.specs.Prelude.{◌≡◌, ◌↔◌, ℕ, ◌<◌, ◌≤◌, List, [], ◌∷◌, length, Some, IfSome};
 ghost use Rattle.judy_model.specs.Keys.{IsByteString, IsBytesKey, IsStringKey};
+ghost use Rattle.judy_model.specs.KeyLengths.{IsBytesKeyTo};
 ghost use Rattle.judy_model.specs.Tokens.{tokens_of};
 ghost use Rattle.judy_model.specs.KeyTokens.{key_of, bytes_key_of, string_key_of, printed_key};
+
+/// A byte string is a key wherever keys may be as long as it is or longer, and nowhere else; in a judyhs array they may have 1,024
+/// bytes.
+pub fn a_byte_string_is_a_key_where_keys_may_be_as_long()
+    ensures as_long { (key : List ℕ) → IsByteString key → IsBytesKeyTo (length key) key }
+    ensures longer { (longest more : ℕ) (key : List ℕ) → longest ≤ more → IsBytesKeyTo longest key → IsBytesKeyTo more key }
+    ensures judyhs { (key : List ℕ) → IsBytesKey key ↔ IsBytesKeyTo 1024 key }
+    ensures shorter { (longest : ℕ) (key : List ℕ) → longest < length key → IsBytesKeyTo longest key → ⊥ }
+{}
 
 /// A key token says a byte string, and one that is a key of the kind, where the kind has such a key.
 pub fn a_key_token_says_a_key()

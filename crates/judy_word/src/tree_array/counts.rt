@@ -1,6 +1,6 @@
 //! What is asked of a key, how many keys stand where, and which key is the n-th.
 
-ghost use Rattle.std.specs.Prelude.{◌≡◌};
+ghost use Rattle.std.specs.Prelude.{◌≡◌, length, map as mapped};
 ghost use Rattle.std.specs.FinMap as map;
 ghost use Rattle.judy_model.specs.Counts as counts;
 ghost use Rattle.judy_word.specs.Held.{map_in};
@@ -8,7 +8,7 @@ ghost use Rattle.judy_word.specs.Held.{map_in};
 use crate::tree_array::TreeArray;
 use judy_bits::Meter;
 use judy_leaf::Words;
-use judy_query::{lookup, nth, rank};
+use judy_query::{MOST_WAYS, lookup, lookup_many, nth, rank};
 use judy_unmetered::UNMETERED;
 
 impl<V: Words + Drop> TreeArray<V> {
@@ -17,6 +17,26 @@ impl<V: Words + Drop> TreeArray<V> {
         ensures { result ≡ map.get (map_in self.now) key }
     {
         lookup(&self.root, key, &mut Meter::new(UNMETERED))
+    }
+
+    /// The values of keys, each written to the place of its key: what `get` answers of it. The ways of up to 16 keys go down the tree side by
+    /// side.
+    #[tactic(auto, using(crate::proofs::Groups::group_more))]
+    pub fn get_many(&self, keys: &[u64], values: &mut [Option<u64>])
+        requires { length values.old ≡ length keys.now }
+        ensures { values.new ≡ mapped (λ key. map.get (map_in self.now) key) keys.now }
+    {
+        let mut at = 0;
+        'groups: while at < keys.len() {
+            let end = at + (keys.len() - at).min(MOST_WAYS);
+            lookup_many(
+                &self.root,
+                &keys[at..end],
+                &mut values[at..end],
+                &mut Meter::new(UNMETERED),
+            );
+            at = end;
+        }
     }
 
     /// Whether a key is there.

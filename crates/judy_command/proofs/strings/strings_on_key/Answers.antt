@@ -1,11 +1,12 @@
 use Rattle.std.proofs.Common.{◌≡◌, sym, ap, ◌∙◌}
 use Rattle.judy_model.specs.Neighbours as neighbours
+use Rattle.judy_model.specs.Counts as counts
 use Rattle.judy_model.specs.CommandWords as command
 use Rattle.judy_model.specs.Replies.{string_entry}
 use Rattle.judy_model.specs.Commands.{entry_or_nothing}
-use Rattle.judy_command.specs.Replies.{answer_of}
+use Rattle.judy_command.specs.Replies.{answer_of, checked}
 use Rattle.judy_command.specs.KeyReads.{read_into}
-use Rattle.judy_command.proofs.ScanLemmas.{first_found, next_found, last_found, prev_found, Follows-found}
+use Rattle.judy_command.proofs.ScanLemmas.{first_found, next_found, last_found, prev_found, nth_found, Follows-found, Follows-nth}
 use Rattle.judy_command.proofs.strings.strings_on_key.Goals as goal
 
 pub returns-in_ok-read_string_key-in-First : goal.returns-in_ok-read_string_key-in-First
@@ -43,3 +44,11 @@ returns-in_ok-read_string_key-in-Prev c =
     let is : answer_of c.entry_or_nothing-in-Prev.result ≡ entry_or_nothing string_entry map (neighbours.prev map key) =
     c.entry_or_nothing-in-Prev.ensures ∙ rw (c.prev.ensures.value, c.prev.ensures.key) (prev_found map key) in
     rw c.in-Prev.is (Follows-found command.prev c.args.strings.now c.args.token.now key _ said is)
+
+pub returns-in_ok-n-in-ByCount : goal.returns-in_ok-n-in-ByCount
+returns-in_ok-n-in-ByCount c =
+    let map = c.args.strings.now.map in
+    let said = sym c.word.ensures.said ∙ ap checked c.in_ok-n-in-ByCount.was in
+    let is : answer_of c.entry_or_nothing-in-ByCount.result ≡ entry_or_nothing string_entry map (counts.by_count map c.in_ok-n-in-ByCount.n) =
+    c.entry_or_nothing-in-ByCount.ensures ∙ rw (c.by_count.ensures.value, c.by_count.ensures.key) (nth_found map c.args.key.now.items c.in_ok-n-in-ByCount.n) in
+    rw c.in-ByCount.is (Follows-nth c.args.strings.now c.args.token.now c.in_ok-n-in-ByCount.n _ said is)

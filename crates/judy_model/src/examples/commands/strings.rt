@@ -66,3 +66,21 @@ pub fn neighbours_on_strings()
     ensures prev_none { IsReplied (two_strings 2) (codes "prev a =ab") (Ok nothing) }
     ensures bad_key { IsReplied (two_strings 2) (codes "prev a #00") (Err bad_key) }
 {}
+
+/// Which key stands at a place, counted from 1, with its value, and how many keys lie from one string to another, both included.
+#[tactic(auto, using(crate::proofs::MapsOfPairs::bytes_computed))]
+pub fn counts_on_strings()
+    ensures first { IsReplied (two_strings 2) (codes "bycount a 1")
+        (Ok (string_entry (codes "ab") 20)) }
+    ensures second { IsReplied (two_strings 2) (codes "bycount a 2")
+        (Ok (string_entry (codes "b") 40)) }
+    ensures zero { IsReplied (two_strings 2) (codes "bycount a 0") (Ok nothing) }
+    ensures more { IsReplied (two_strings 2) (codes "bycount a 3") (Ok nothing) }
+    ensures no_word { IsReplied (two_strings 2) (codes "bycount a =ab") (Err bad_word) }
+    ensures both { IsReplied (two_strings 2) (codes "count a =ab =b") (Ok (number 2)) }
+    ensures one { IsReplied (two_strings 2) (codes "count a =aba #ff") (Ok (number 1)) }
+    ensures upper_end { IsReplied (two_strings 2) (codes "count a = =ab") (Ok (number 1)) }
+    ensures turned { IsReplied (two_strings 2) (codes "count a =b =ab") (Ok (number 0)) }
+    ensures bad_first { IsReplied (two_strings 2) (codes "count a x y") (Err bad_key) }
+    ensures bad_second { IsReplied (two_strings 2) (codes "count a =ab #00") (Err bad_key) }
+{}

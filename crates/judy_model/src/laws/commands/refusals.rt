@@ -58,14 +58,21 @@ pub fn a_bad_word_has_no_empty_neighbours_among_words()
 pub fn a_bad_word_counts_no_key()
     ensures set { RefusesABadKey judy1 word_of bad_word (codes "bycount") }
     ensures words { RefusesABadKey judyl word_of bad_word (codes "bycount") }
+    ensures strings { RefusesABadKey judysl word_of bad_word (codes "bycount") }
 {}
 
 /// `count` refuses a first token that says no word, whatever the second says, and a second one behind a word.
 pub fn count_refuses_a_bad_word_at_either_end()
     ensures set_first { RefusesABadFirst judy1 word_of bad_word (codes "count") }
-    ensures set_second { RefusesABadSecond judy1 word_of (codes "count") }
+    ensures set_second { RefusesABadSecond judy1 word_of word_of bad_word (codes "count") }
     ensures words_first { RefusesABadFirst judyl word_of bad_word (codes "count") }
-    ensures words_second { RefusesABadSecond judyl word_of (codes "count") }
+    ensures words_second { RefusesABadSecond judyl word_of word_of bad_word (codes "count") }
+{}
+
+/// So it does in a judysl array with tokens that say no key.
+pub fn count_refuses_a_bad_key_at_either_end()
+    ensures first { RefusesABadFirst judysl string_key_of bad_key (codes "count") }
+    ensures second { RefusesABadSecond judysl string_key_of string_key_of bad_key (codes "count") }
 {}
 
 /// A judy1 array has no values.
@@ -86,14 +93,12 @@ pub fn maps_have_no_commands_of_sets()
         × HasNoCommandOfOne judyhs (codes "unset") × HasNoCommandOfOne judyhs (codes "test") }
 {}
 
-/// A judysl array has neither empty neighbours nor counts.
-pub fn strings_are_not_counted()
+/// A judysl array has no empty neighbours.
+pub fn strings_have_no_empty_neighbours()
     ensures first { HasNoCommandOfOne judysl (codes "fe") }
     ensures next { HasNoCommandOfOne judysl (codes "ne") }
     ensures last { HasNoCommandOfOne judysl (codes "le") }
     ensures prev { HasNoCommandOfOne judysl (codes "pe") }
-    ensures by_count { HasNoCommandOfOne judysl (codes "bycount") }
-    ensures count { HasNoCommandOfTwo judysl (codes "count") }
 {}
 
 /// A judyhs array has no order, and so no neighbours beside.

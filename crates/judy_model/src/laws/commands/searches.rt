@@ -50,14 +50,16 @@ pub fn empty_neighbours_among_words()
     ensures prev { AnswersNumberOrNone judyl word_of (codes "pe") prev_empty }
 {}
 
-/// `bycount` answers the n-th key, counted from 1, of a judyl array with its value.
+/// `bycount` answers the n-th key, counted from 1, and of a kind with values its value too. The number is a word in each kind.
 pub fn bycount_answers_the_nth_key()
     ensures set { AnswersNumberOrNone judy1 word_of (codes "bycount") by_count }
     ensures words { AnswersEntryOrNone judyl word_of entry (codes "bycount") by_count }
+    ensures strings { AnswersEntryOrNone judysl word_of string_entry (codes "bycount") by_count }
 {}
 
-/// `count` answers how many keys lie from its first word to its second.
+/// `count` answers how many keys lie from its first key to its second.
 pub fn count_answers_how_many_lie_between()
     ensures set { CountsFromTheFirstToTheSecond judy1 word_of }
     ensures words { CountsFromTheFirstToTheSecond judyl word_of }
+    ensures strings { CountsFromTheFirstToTheSecond judysl string_key_of }
 {}

@@ -92,10 +92,10 @@ pub fn a_bad_key_is_refused_before_a_value()
 
 /// A bad value is refused behind a key.
 pub fn a_bad_value_is_refused_behind_a_key()
-    ensures put_words { RefusesABadSecond judyl word_of (codes "put") }
-    ensures put_strings { RefusesABadSecond judysl string_key_of (codes "put") }
-    ensures put_bytes { RefusesABadSecond judyhs bytes_key_of (codes "put") }
-    ensures ins_words { RefusesABadSecond judyl word_of (codes "ins") }
-    ensures ins_strings { RefusesABadSecond judysl string_key_of (codes "ins") }
-    ensures ins_bytes { RefusesABadSecond judyhs bytes_key_of (codes "ins") }
+    ensures put_words { RefusesABadSecond judyl word_of word_of bad_word (codes "put") }
+    ensures put_strings { RefusesABadSecond judysl string_key_of word_of bad_word (codes "put") }
+    ensures put_bytes { RefusesABadSecond judyhs bytes_key_of word_of bad_word (codes "put") }
+    ensures ins_words { RefusesABadSecond judyl word_of word_of bad_word (codes "ins") }
+    ensures ins_strings { RefusesABadSecond judysl string_key_of word_of bad_word (codes "ins") }
+    ensures ins_bytes { RefusesABadSecond judyhs bytes_key_of word_of bad_word (codes "ins") }
 {}

@@ -19,8 +19,8 @@ returns-in-Some-clause-told c =
     let value = c.find-found.ensures.value ∙ ap (λ k. value_found map (neighbour scan map k)) read in
     let held : Some c.in-Some.array.now ≡ c.args.handle.now.array = sym (ap option_copied_mut c.in-Some.is) ∙ c.array.ensures.value in
     subst (λ m. IsSaid (scan_says m (neighbour scan m) before after) c.tell_entry.result) (ap (λ o. (array_of o).map) held)
-    (told map scan before after (c.read_start.ensures.is.0 c.if-not-read_start.false) _ refl c.find-found.result c.as_slice.result.now c.tell_entry.result key value c.tell_entry.ensures)
+    (told map before after scan (c.read_start.ensures.is.0 c.if-not-read_start.false) c.find-found.result c.as_slice.result.now c.tell_entry.result key value c.tell_entry.ensures)
 
 pub returns-in-None-clause-told : goal.returns-in-None-clause-told
 returns-in-None-clause-told c =
-    (c.read_start.ensures.is.0 c.if-not-read_start.false, no_neighbour c.args.self (array_in c.args.handle.now).map _ (ap (λ a. a.map) c.in-None.ensures.null), refl)
+    (c.read_start.ensures.is.0 c.if-not-read_start.false, (no_neighbour c.args.self (array_in c.args.handle.now).map _ (ap (λ a. a.map) c.in-None.ensures.null), refl))

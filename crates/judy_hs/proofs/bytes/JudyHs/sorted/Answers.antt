@@ -5,11 +5,11 @@ use Rattle.judy_hs.proofs.ListedLemmas.{all_can, all_listed}
 use Rattle.judy_hs.proofs.bytes.JudyHs.sorted.Goals as goal
 
 pub list-requires : goal.list-requires
-list-requires g c = all_can g.H.ByteHash.hash_of c.self.inside.groups c.self.invariant.is_keyed
+list-requires g c = all_can g.H.ByteHash.hash_of g.H.ByteHash.LONGEST c.self.inside.groups c.self.invariant.is_keyed
 
 pub returns : goal.returns
 returns g c =
     rw (← c.self.view_is) (
     c.in_ok-list-2.ensures ∙ ap (λ (before : List HsEntry). entries_in before ++ keyed_list c.self.inside.groups) c.in_ok-list.ensures.items
-    ∙ all_listed g.H.ByteHash.hash_of c.self.inside.groups c.self.invariant.is_keyed
+    ∙ all_listed g.H.ByteHash.hash_of g.H.ByteHash.LONGEST c.self.inside.groups c.self.invariant.is_keyed
     )

@@ -1,8 +1,8 @@
 use Rattle.std.proofs.Common.{codes, refl}
 use Rattle.judy_model.specs.CommandWords as command
 use Rattle.judy_model.specs.Arrays.{judysl}
-use Rattle.judy_model.proofs.RefusedCommands.{lacks_one, lacks_two}
-use Rattle.judy_model.proofs.laws.commands.refusals.strings_are_not_counted.Goals as goal
+use Rattle.judy_model.proofs.RefusedCommands.{lacks_one}
+use Rattle.judy_model.proofs.laws.commands.refusals.strings_have_no_empty_neighbours.Goals as goal
 
 pub returns-clause-first : goal.returns-clause-first
 returns-clause-first c = lacks_one judysl (codes "fe") (command.empty command.first) (record { plain = refl; named = refl }) (λ _ _. refl)
@@ -15,9 +15,3 @@ returns-clause-last c = lacks_one judysl (codes "le") (command.empty command.las
 
 pub returns-clause-prev : goal.returns-clause-prev
 returns-clause-prev c = lacks_one judysl (codes "pe") (command.empty command.prev) (record { plain = refl; named = refl }) (λ _ _. refl)
-
-pub returns-clause-by_count : goal.returns-clause-by_count
-returns-clause-by_count c = lacks_one judysl (codes "bycount") command.by_count (record { plain = refl; named = refl }) (λ _ _. refl)
-
-pub returns-clause-count : goal.returns-clause-count
-returns-clause-count c = lacks_two judysl (codes "count") command.count (record { plain = refl; named = refl }) (λ _ _ _. refl)

@@ -1,0 +1,132 @@
+"""What arrays in order have alike: each key has a place."""
+
+from __future__ import annotations
+
+from collections.abc import Iterator
+from typing import Any
+
+from . import _views
+
+
+class Placed:
+    """The calls that go by places. `_at` is the key at one, or a list of those of a slice."""
+
+    def range(self, start: Any = None, stop: Any = None) -> Iterator[Any]:
+        """The keys from start on and below stop, in ascending order.
+
+        >>> from sellumaq import Judy1, JudySL
+        >>> list(Judy1([10, 20, 30]).range(10, 30)), list(JudySL(a=1, b=2, c=3).range("aa"))
+        ([10, 20], ['b', 'c'])
+        """
+        return self.irange(start, stop, (True, False))
+
+    def islice(self, start: int | None = None, stop: int | None = None, reverse: bool = False) -> Iterator[Any]:
+        """The keys of the places from start on and below stop.
+
+        >>> from sellumaq import Judy1
+        >>> list(Judy1([10, 20, 30, 40]).islice(1, -1))
+        [20, 30]
+        """
+        first, last, _ = slice(start, stop).indices(len(self))
+        return self.irange(self._at(first), self._at(last - 1), reverse=reverse) if first < last else iter(())
+
+    def count_range(self, start: Any = None, stop: Any = None) -> int:
+        """How many keys there are from start on and below stop.
+
+        >>> from sellumaq import Judy1, JudySL
+        >>> Judy1([10, 20, 30]).count_range(10, 30), JudySL(a=1, b=2, c=3).count_range("b")
+        (2, 2)
+        """
+        upper = len(self) if stop is None else self.bisect_left(stop)
+        return max(upper - (0 if start is None else self.bisect_left(start)), 0)
+
+    def nth(self, n: int) -> Any:
+        """The n-th key in ascending order, counted from 0; IndexError where there is none.
+
+        >>> from sellumaq import Judy1
+        >>> Judy1([10, 20, 30]).nth(1)
+        20
+        """
+        if n < 0:
+            raise IndexError(n)
+        return self._at(n)
+
+    def bisect(self, key: Any) -> int:
+        """How many keys there are up to a number or a string; `bisect_right` is the same, and `bisect_left` leaves that out.
+
+        >>> from sellumaq import Judy1
+        >>> some = Judy1([10, 20, 30])
+        >>> some.bisect(20), some.bisect_right(20), some.bisect_left(20)
+        (2, 2, 1)
+        """
+        return self.bisect_right(key)
+
+    def index(self, key: Any, start: int | None = None, stop: int | None = None) -> int:
+        """The place of a key, which must lie from start on and below stop; ValueError where it isn't there.
+
+        >>> from sellumaq import Judy1, JudySL
+        >>> Judy1([10, 20, 30]).index(30), JudySL(a=1, b=2).index("b")
+        (2, 1)
+        """
+        if key in self:
+            place = self.bisect_left(key)
+            if (start is None and stop is None) or place in range(*slice(start, stop).indices(len(self))):
+                return place
+        raise ValueError(f"{key!r} is not in the places asked for")
+
+
+class PlacedDict(Placed):
+    """The same of dicts."""
+
+    def keys(self) -> _views.PlacedKeys:
+        """The keys, with their places.
+
+        >>> from sellumaq import JudyL
+        >>> pairs = JudyL({1: 2, 3: 4})
+        >>> list(pairs.keys()), pairs.keys()[0]
+        ([1, 3], 1)
+        """
+        return _views.PlacedKeys(self)
+
+    def items(self) -> _views.PlacedItems:
+        """The pairs, with their places.
+
+        >>> from sellumaq import JudyL
+        >>> pairs = JudyL({1: 2, 3: 4})
+        >>> list(pairs.items()), pairs.items()[0]
+        ([(1, 2), (3, 4)], (1, 2))
+        """
+        return _views.PlacedItems(self)
+
+    def values(self) -> _views.PlacedValues:
+        """The values, with their keys' places.
+
+        >>> from sellumaq import JudyL
+        >>> pairs = JudyL({1: 2, 3: 4})
+        >>> list(pairs.values()), pairs.values()[0]
+        ([2, 4], 2)
+        """
+        return _views.PlacedValues(self)
+
+    def peekitem(self, place: int = -1, *, last: bool | None = None) -> tuple[Any, int]:
+        """The pair at a place, or the last or the first one; IndexError where there is none.
+
+        >>> from sellumaq import JudyL, JudySL
+        >>> JudyL({1: 2, 3: 4}).peekitem(), JudySL(a=1, b=2).peekitem(0)
+        ((3, 4), ('a', 1))
+        """
+        key = self._at(place if last is None else -int(bool(last)))
+        return key, self[key]
+
+    def popitem(self, place: int = -1, *, last: bool | None = None) -> tuple[Any, int]:
+        """Takes out the pair at a place, or the last or the first one; KeyError where the dict is empty, IndexError where there is none.
+
+        >>> from sellumaq import JudyL
+        >>> pairs = JudyL({1: 2, 3: 4, 5: 6})
+        >>> pairs.popitem(), pairs.popitem(last=False), pairs
+        ((5, 6), (1, 2), JudyL({3: 4}))
+        """
+        if not self:
+            raise KeyError("popitem(): dictionary is empty")
+        key, _ = self.peekitem(place, last=last)
+        return key, self.pop(key)

@@ -1,0 +1,64 @@
+//! The values of many keys asked for at once, and where a group of ways ends: behind the 16th key.
+
+use judy_word::JudyL;
+use std::alloc::{AllocError, Global};
+use std::process::Abort;
+
+// A key, and the value wanted of it.
+type Row = (u64, Option<u64>);
+
+// Compares the values of keys with those wanted, each at its place.
+fn check_rows(
+    rt: &impl Abort,
+    alloc: Global,
+    pairs: &JudyL,
+    rows: &[Row],
+) -> Result<(), AllocError> {
+    let keys: Vec<u64> = rows.iter().map(|row| row.0).collect(alloc)?;
+    let wanted: Vec<Option<u64>> = rows.iter().map(|row| row.1).collect(alloc)?;
+    let mut values: Vec<Option<u64>> = rows.iter().map(|_| Some(1)).collect(alloc)?;
+    pairs.get_many(&keys, &mut values);
+    assert_eq!(rt; values, wanted);
+    Ok(())
+}
+
+#[test]
+fn values_of_many_keys(rt: HostRuntime) -> Result<(), AllocError> {
+    let made = JudyL::from_sorted(
+        rt.alloc(),
+        9,
+        &[(5, 50), (6, 0), (1 << 40, 7), (u64::MAX, 9)],
+    );
+    let pairs = made.expect(&rt, "there is memory");
+    check_rows(&rt, rt.alloc(), &pairs, &[])?;
+    check_rows(&rt, rt.alloc(), &pairs, &[(5, Some(50))])?;
+    check_rows(&rt, rt.alloc(), &pairs, &[(4, None)])?;
+    // A value that is 0, beside a key that is absent.
+    check_rows(&rt, rt.alloc(), &pairs, &[(6, Some(0)), (7, None)])?;
+    // One key more than a group has.
+    check_rows(
+        &rt,
+        rt.alloc(),
+        &pairs,
+        &[
+            (6, Some(0)),
+            (3, None),
+            (5, Some(50)),
+            (u64::MAX, Some(9)),
+            (1 << 40, Some(7)),
+            (7, None),
+            (0, None),
+            (5, Some(50)),
+            (5, Some(50)),
+            (6, Some(0)),
+            (1 << 41, None),
+            (1 << 63, None),
+            (4, None),
+            (u64::MAX, Some(9)),
+            (18446744073709551614, None),
+            (6, Some(0)),
+            (1 << 40, Some(7)),
+        ],
+    )?;
+    Ok(())
+}
