@@ -28,7 +28,7 @@ SOURCES := crates.txt $(shell find crates -path '*/out' -prune -o -type f \( -na
 LIB := out/lib
 C_SOURCES := $(wildcard bindings/c/*.h bindings/c/hp/*)
 RUST_FILES := $(patsubst bindings/rust/%,%,$(wildcard bindings/rust/Cargo.toml bindings/rust/README.md bindings/rust/src/*.rs bindings/rust/src/*/*.rs \
-	bindings/rust/sellumaq-sys/Cargo.toml bindings/rust/sellumaq-sys/build.rs bindings/rust/sellumaq-sys/src/*.rs))
+	bindings/rust/serde/Cargo.toml bindings/rust/sellumaq-sys/Cargo.toml bindings/rust/sellumaq-sys/build.rs bindings/rust/sellumaq-sys/src/*.rs))
 C_FLAGS = -std=c11 -D_DEFAULT_SOURCE -O2 -Wall -Wextra
 LIBRARIES := $(addprefix $(LIB)/,libsellumaq.a libsellumaq.so libJudy.a libJudy.so)
 

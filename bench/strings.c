@@ -2,6 +2,7 @@
  * libJudy's (twice, which shows the run's noise) and, where they are linked, Rust's BTreeMap and HashMap of byte vectors. measure.h says what it prints.
  *
  *     strings [KEYS ..]       how many keys, 10000 and 1000000 where none is told
+ *     strings --dictionary    100000 words of a made-up language alone
  */
 #define _GNU_SOURCE
 #include <Judy.h>
@@ -25,6 +26,26 @@ static void word_of_10(text *it) {
     }
 }
 
+static void add(text *it, const char *part) {
+    while (*part) it->bytes[it->length++] = (uint8_t)*part++;
+}
+
+#define ONE_OF(PARTS) PARTS[any() % (sizeof PARTS / sizeof *PARTS)]
+
+/* A word of a dictionary: two or three syllables, and an ending that many words have. */
+static void word_of_dictionary(text *it) {
+    static const char *const begins[] = {"b", "c", "d", "f", "g", "h", "l", "m", "n", "p", "r", "s", "t", "v", "w", "br", "ch", "cr", "fl", "gr", "pr", "sh", "st", "th", "tr", ""};
+    static const char *const middles[] = {"a", "e", "i", "o", "u", "ea", "ou", "ai"};
+    static const char *const ends[] = {"", "", "", "l", "m", "n", "r", "s", "t", "ck", "nd", "nt", "st"};
+    static const char *const endings[] = {"", "", "", "s", "ed", "er", "ing", "ly", "ness", "able", "ment", "ation"};
+    for (size_t left = 2 + any() % 2; left > 0; left--) {
+        add(it, ONE_OF(begins));
+        add(it, ONE_OF(middles));
+        add(it, ONE_OF(ends));
+    }
+    add(it, ONE_OF(endings));
+}
+
 static void url_of_100(text *it) {
     int length = sprintf((char *)it->bytes, "https://www.site-%03u.example/section-%04u/page-", (unsigned)(any() % 200), (unsigned)(any() % 1000));
     for (it->length = (size_t)length; it->length < 100;) letter(it);
@@ -37,7 +58,10 @@ static void random_bytes(text *it) {
 static const struct {
     const char *name;
     void (*make)(text *);
-} PATTERNS[] = {{"words-of-10", word_of_10}, {"urls-of-100", url_of_100}, {"random-8-to-40", random_bytes}};
+} PATTERNS[] = {{"words-of-10", word_of_10}, {"urls-of-100", url_of_100}, {"random-8-to-40", random_bytes}, {"dictionary", word_of_dictionary}};
+
+/* The dictionary is the last pattern, and is measured by itself. */
+enum { USUAL_PATTERNS = sizeof PATTERNS / sizeof *PATTERNS - 1 };
 
 /* The keys as they are put in, the order in which they are looked for, and as many strings that are none, or hardly any of them. */
 struct keys {
@@ -61,6 +85,10 @@ static struct keys *make(size_t n, size_t pattern) {
     }
     return keys;
 }
+
+static const char *dictionary_name(size_t pattern) { return name(USUAL_PATTERNS + pattern); }
+
+static struct keys *make_dictionary(size_t n, size_t pattern) { return make(n, USUAL_PATTERNS + pattern); }
 
 static void drop(struct keys *keys) {
     free(keys->in);
@@ -183,6 +211,8 @@ static const struct array ARRAYS[] = {
 };
 
 int main(int count, char **words) {
-    struct program program = {ARRAYS, sizeof ARRAYS / sizeof *ARRAYS, sizeof PATTERNS / sizeof *PATTERNS, name, make, drop};
+    struct program program = {ARRAYS, sizeof ARRAYS / sizeof *ARRAYS, USUAL_PATTERNS, name, make, drop};
+    struct program dictionary = {ARRAYS, sizeof ARRAYS / sizeof *ARRAYS, 1, dictionary_name, make_dictionary, drop};
+    if (count > 1 && strcmp(words[1], "--dictionary") == 0) return measure_all(&dictionary, 2, (char *[]){words[0], "100000"});
     return measure_all(&program, count, words);
 }

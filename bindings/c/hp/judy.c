@@ -33,11 +33,12 @@ static change begin(PPvoid_t array) {
     return (change){!*array, sellumaq_hp_balance()};
 }
 
-/* Ends it: what the balance has grown by are bytes of the array's. */
+/* Ends it: what the balance has grown by are bytes of the array's, which a change that moves no memory leaves as they were. */
 static void end(PPvoid_t array, change change) {
-    if (!*array) return;
+    Word_t grown = sellumaq_hp_balance() - change.before;
+    if (!*array || (!grown && !change.is_new)) return;
     Word_t *bytes = sellumaq_hp_bytes(*array);
-    *bytes = (change.is_new ? 0 : *bytes) + sellumaq_hp_balance() - change.before;
+    *bytes = (change.is_new ? 0 : *bytes) + grown;
 }
 
 /* What an array that holds no key is after a change: null, as the manual pages say. And its end as a whole, which answers its bytes. */
@@ -78,15 +79,19 @@ int Judy1Set(PPvoid_t array, Word_t key, PJError_t error) {
     CHANGES(refuse);
     change change = begin(array);
     uint32_t done = sellumaq_judy1_set((sellumaq_judy1 *)array, key);
+    if (done != SELLUMAQ_NO_MEMORY) {
+        end(array, change);
+        return (int)done;
+    }
     judy1_end(array, change);
-    return done == SELLUMAQ_NO_MEMORY ? refuse(error, JU_ERRNO_NOMEM) : (int)done;
+    return refuse(error, JU_ERRNO_NOMEM);
 }
 
 int Judy1Unset(PPvoid_t array, Word_t key, PJError_t error) {
     CHANGES(refuse);
     change change = begin(array);
     int was_there = sellumaq_judy1_unset((sellumaq_judy1 *)array, key);
-    judy1_end(array, change);
+    if (was_there) judy1_end(array, change);
     return was_there;
 }
 
@@ -109,7 +114,7 @@ int JudyLDel(PPvoid_t array, Word_t key, PJError_t error) {
     CHANGES(refuse);
     change change = begin(array);
     int was_there = sellumaq_judyl_del((sellumaq_judyl *)array, key);
-    judyl_end(array, change);
+    if (was_there) judyl_end(array, change);
     return was_there;
 }
 
@@ -257,7 +262,7 @@ int JudySLDel(PPvoid_t array, const uint8_t *string, PJError_t error) {
     READS(refuse);
     change change = begin(array);
     int was_there = sellumaq_judysl_del((sellumaq_judysl *)array, string, strlen((const char *)string));
-    judysl_end(array, change);
+    if (was_there) judysl_end(array, change);
     return was_there;
 }
 
@@ -319,7 +324,7 @@ int JudyHSDel(PPvoid_t array, void *bytes, Word_t length, PJError_t error) {
     READS_BYTES(refuse);
     change change = begin(array);
     int was_there = sellumaq_judyhs_del((sellumaq_judyhs *)array, bytes_at(bytes), length);
-    judyhs_end(array, change);
+    if (was_there) judyhs_end(array, change);
     return was_there;
 }
 

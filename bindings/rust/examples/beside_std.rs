@@ -1,5 +1,5 @@
-//! Measures the arrays beside std's sets and maps: `cargo run --release --example beside_std`. Each figure is the least of seven turns, in
-//! nanoseconds a key, with the ratio to std's.
+//! Measures the arrays beside std's sets and maps: `cargo run --release --example beside_std`. Each figure is the least of 15 turns, in
+//! nanoseconds of processor time a key, with the ratio to std's.
 // One text measures std's types too, which want keys lent; and it may ask for a newer Rust than the crate.
 #![allow(
     clippy::needless_borrows_for_generic_args,
@@ -8,8 +8,8 @@
 )]
 use sellumaq::{Judy1, JudyL};
 use std::collections::{BTreeMap, BTreeSet};
+use std::os::raw::c_long;
 use std::ptr::read_volatile;
-use std::time::Instant;
 
 /// A way to make a key of a number.
 type Pattern = (&'static str, fn(u64) -> u64);
@@ -26,15 +26,26 @@ fn see<T: Copy>(value: T) {
     unsafe { read_volatile(&value) };
 }
 
+extern "C" {
+    fn clock() -> c_long;
+}
+
+/// The microseconds of processor time that this program has taken, so that other work on the machine counts little.
+fn microseconds() -> f64 {
+    // SAFETY: it only reads a clock.
+    let now = unsafe { clock() };
+    now as f64
+}
+
 /// The nanoseconds that an act takes by each of so many keys, which what comes before it isn't counted to.
 fn nanoseconds<T>(keys: usize, before: impl Fn() -> T, act: impl Fn(T)) -> f64 {
     let turn = || {
         let made = before();
-        let begin = Instant::now();
+        let begin = microseconds();
         act(made);
-        begin.elapsed().as_secs_f64() * 1e9 / keys as f64
+        (microseconds() - begin) * 1e3 / keys as f64
     };
-    (0..7).map(|_| turn()).fold(f64::INFINITY, f64::min)
+    (0..15).map(|_| turn()).fold(f64::INFINITY, f64::min)
 }
 
 fn tell(what: &str, ours: f64, std: f64) {

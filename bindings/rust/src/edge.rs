@@ -101,6 +101,12 @@ impl Edge {
         })
     }
 
+    /// Moves to a key, which isn't still to come then.
+    pub fn go_behind(&mut self, key: &[u8]) {
+        self.bytes[..key.len()].copy_from_slice(key);
+        (self.length, self.included) = (key.len(), false);
+    }
+
     pub fn key(&self) -> &[u8] {
         &self.bytes[..self.length]
     }

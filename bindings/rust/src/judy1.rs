@@ -40,7 +40,7 @@ at_once!(
     "assert!(sellumaq::Judy1::from_sorted([1, 2, 2]).is_err());"
 );
 
-walks!(Judy1 through Way<Judy1>; u64);
+walks!(Judy1 through Way<u64>; u64);
 
 /// A search of C from a word for another.
 type Search = unsafe extern "C" fn(*const sys::sellumaq_judy1, u64, *mut u64) -> bool;
@@ -203,8 +203,9 @@ impl Judy1 {
     /// assert!(set.iter().eq([0, 3, 6, 9]));
     /// ```
     pub fn retain(&mut self, mut keep: impl FnMut(&u64) -> bool) {
-        let mut span = Span::of(..);
-        while let Some(key) = span.next(|from| self.at_or_after(from)) {
+        // what was brought beyond a key is there still when the key was taken out
+        let mut way = Way::of(Span::of(..));
+        while let Some(key) = way.next(self) {
             if !keep(&key) {
                 self.remove(key);
             }

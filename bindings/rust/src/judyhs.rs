@@ -40,7 +40,7 @@ entries!(
 );
 
 impl JudyHs {
-    fn list(&self) -> List {
+    pub(crate) fn list(&self) -> List {
         // SAFETY: the map is borrowed.
         unsafe { List::of(self.handle, self.len()) }
     }

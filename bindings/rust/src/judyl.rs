@@ -6,13 +6,14 @@ use crate::slots::slot_walks;
 use crate::sorted::at_once;
 use crate::span::{Found, Span};
 use crate::walk::walks;
-use crate::way::Way;
+use crate::way::{Room, Told, Walked, Way};
 use crate::words::{collected, word_array};
 use crate::{no_room, NoMemory};
 use sellumaq_sys as sys;
 use std::borrow::Borrow;
 use std::fmt;
-use std::ops::{Index, RangeBounds};
+use std::mem::MaybeUninit;
+use std::ops::{Index, RangeBounds, RangeInclusive};
 use std::ptr::{null_mut, NonNull};
 
 array!(
@@ -42,7 +43,7 @@ at_once!(
     "assert!(sellumaq::JudyL::from_sorted([(2, 20), (1, 10)]).is_err());"
 );
 
-walks!(JudyL through Way<JudyL>; (u64, u64));
+walks!(JudyL through Way<sys::sellumaq_pair>; (u64, u64));
 
 slot_walks!(JudyL through Steps; u64);
 
@@ -66,29 +67,64 @@ type Search = unsafe extern "C" fn(*const sys::sellumaq_judyl, u64, *mut u64) ->
 type EntrySearch =
     unsafe extern "C" fn(*const sys::sellumaq_judyl, u64, *mut u64, *mut u64) -> bool;
 
-/// A way through a map that lends slots: each step is one way down it, and no value of a slot that is lent is read.
-#[derive(Clone, Debug)]
-struct Steps(Span);
+/// A map whose slots are lent by a way, as that way asks it: to bring its next keys no value beyond them is read, since such a one may be
+/// lent already.
+struct Lending<'a>(&'a JudyL);
+
+impl Lending<'_> {
+    // The one key that a search finds from one word up to another, where it finds one there. Its value isn't read.
+    fn bring_one(
+        &self,
+        call: Search,
+        at: u64,
+        words: RangeInclusive<u64>,
+        only: &mut MaybeUninit<sys::sellumaq_pair>,
+    ) -> usize {
+        let found = self.0.search(call, at).filter(|key| words.contains(key));
+        found.map(|key| only.write(Told::of((key, 0)))).iter().len()
+    }
+}
+
+impl Walked for Lending<'_> {
+    type Told = sys::sellumaq_pair;
+
+    fn walk(&self, from: u64, to: u64, room: &mut Room<sys::sellumaq_pair>) -> usize {
+        if let [only] = room {
+            return self.bring_one(sys::sellumaq_judyl_first, from, from..=to, only);
+        }
+        let count = self.0.count(from..=to).min(room.len());
+        self.0.walk(from, to, &mut room[..count])
+    }
+
+    fn walk_back(&self, from: u64, to: u64, room: &mut Room<sys::sellumaq_pair>) -> usize {
+        match room {
+            [only] => self.bring_one(sys::sellumaq_judyl_last, to, from..=to, only),
+            room => self.0.walk_back(from, to, room),
+        }
+    }
+
+    fn count_between(&self, from: u64, to: u64) -> u64 {
+        self.0.count_between(from, to)
+    }
+}
+
+/// A way through a map that lends slots. What it tells of values is of no use: they may have changed since they were read.
+#[derive(Clone)]
+struct Steps(Way<sys::sellumaq_pair>);
 
 impl Steps {
     fn next(&mut self, map: &JudyL) -> Option<(u64, u64)> {
-        self.0.next(|from| map.at_or_after(from))
+        self.0.next(&Lending(map))
     }
 
     fn next_back(&mut self, map: &JudyL) -> Option<(u64, u64)> {
-        self.0.next_back(|to| map.at_or_before(to))
+        self.0.next_back(&Lending(map))
     }
 }
 
-impl From<Way<JudyL>> for Steps {
-    fn from(way: Way<JudyL>) -> Self {
-        Steps(way.left())
-    }
-}
-
-impl From<Steps> for Way<JudyL> {
-    fn from(steps: Steps) -> Self {
-        Way::of(steps.0)
+impl From<Way<sys::sellumaq_pair>> for Steps {
+    fn from(way: Way<sys::sellumaq_pair>) -> Self {
+        Steps(way)
     }
 }
 
@@ -363,7 +399,7 @@ impl JudyL {
     /// assert!(map.values().eq([30, 71]));
     /// ```
     pub fn range_mut(&mut self, range: impl RangeBounds<u64>) -> RangeMut<'_> {
-        RangeMut::of(self, Steps(Span::of(range)))
+        RangeMut::of(self, Steps(Way::of(Span::of(range))))
     }
 
     /// Takes out each key that isn't to be kept, by ascending key; `keep` may change the values. Where it panics, the keys
@@ -378,7 +414,8 @@ impl JudyL {
     /// assert!(map.iter().eq([(0, 0), (5, 10)]));
     /// ```
     pub fn retain(&mut self, mut keep: impl FnMut(&u64, &mut u64) -> bool) {
-        let mut way = Steps(Span::of(..));
+        // what was brought beyond a key is there still when the key was taken out
+        let mut way = Way::of(Span::of(..));
         while let Some((key, _)) = way.next(self) {
             let kept = self.get_mut(key).map(|value| keep(&key, value));
             if kept == Some(false) {

@@ -1,6 +1,6 @@
 //! Maps from strings to words, their entries and iterators.
 use crate::array::array;
-use crate::edge::{Edge, Scan};
+use crate::edge::Edge;
 use crate::entry::entries;
 use crate::keyed::{keyed_map, InsertError, MAX_KEY};
 use crate::ordered::ordered_map;
@@ -13,6 +13,10 @@ use std::hash::{Hash, Hasher};
 use std::mem::{swap, take};
 use std::ops::{Bound, Index};
 use std::ptr::{null_mut, NonNull};
+
+mod way;
+
+use way::{Steps, Way};
 
 pub use crate::edge::StringRange;
 
@@ -36,7 +40,7 @@ keyed_map!(
 
 walks!(JudySl through Way; (Vec<u8>, u64));
 
-slot_walks!(JudySl through Way; Vec<u8>);
+slot_walks!(JudySl through Steps; Vec<u8>);
 
 ordered_map!(
     JudySl; Vec<u8>, AsRef<[u8]>;
@@ -47,50 +51,6 @@ entries!(
     JudySl, judysl, InsertError, InsertError::end; [K: AsRef<[u8]>]; K, K::as_ref => &[u8];
     "let mut map = sellumaq::JudySl::from([(\"a\", 10), (\"b\", 20)]);", "\"a\"", "\"c\"", "b\"a\"", "b\"c\""
 );
-
-const UP: [Scan; 2] = [sys::sellumaq_judysl_first, sys::sellumaq_judysl_next];
-const DOWN: [Scan; 2] = [sys::sellumaq_judysl_last, sys::sellumaq_judysl_prev];
-
-/// The way of an iterator through a map: each step is one way down it.
-#[derive(Clone)]
-struct Way {
-    front: Edge,
-    back: Edge,
-}
-
-impl Way {
-    fn of(range: &impl StringRange) -> Way {
-        let (from, to) = range.bounds();
-        Way {
-            front: Edge::lower(from),
-            back: Edge::upper(to),
-        }
-    }
-
-    fn next_entry(&mut self, map: &JudySl) -> Option<(&[u8], u64)> {
-        // SAFETY: the map is borrowed, and the scans are this kind's.
-        let value = unsafe { self.front.step(map.handle, UP) }?;
-        let key = self.front.key();
-        self.back.lets_below(key).then_some((key, value))
-    }
-
-    fn next_back_entry(&mut self, map: &JudySl) -> Option<(&[u8], u64)> {
-        // SAFETY: as in `next_entry`.
-        let value = unsafe { self.back.step(map.handle, DOWN) }?;
-        let key = self.back.key();
-        self.front.lets_above(key).then_some((key, value))
-    }
-
-    fn next(&mut self, map: &JudySl) -> Option<(Vec<u8>, u64)> {
-        self.next_entry(map)
-            .map(|(key, value)| (key.to_vec(), value))
-    }
-
-    fn next_back(&mut self, map: &JudySl) -> Option<(Vec<u8>, u64)> {
-        self.next_back_entry(map)
-            .map(|(key, value)| (key.to_vec(), value))
-    }
-}
 
 impl JudySl {
     fn owned(key: &impl AsRef<[u8]>) -> Vec<u8> {
@@ -104,7 +64,7 @@ impl JudySl {
     /// assert_eq!(map.first_key_value(), Some((b"a".to_vec(), 10)));
     /// ```
     pub fn first_key_value(&self) -> Option<(Vec<u8>, u64)> {
-        self.iter().next()
+        Steps::of(&(..)).next(self)
     }
 
     /// The pair of the greatest key.
@@ -114,7 +74,7 @@ impl JudySl {
     /// assert_eq!(map.last_key_value(), Some((b"b".to_vec(), 20)));
     /// ```
     pub fn last_key_value(&self) -> Option<(Vec<u8>, u64)> {
-        self.iter().next_back()
+        Steps::of(&(..)).next_back(self)
     }
 
     /// The entry of the least key.
@@ -156,8 +116,7 @@ impl JudySl {
     /// assert_eq!(map.at_or_after("aa"), Some((b"b".to_vec(), 20)));
     /// ```
     pub fn at_or_after(&self, from: impl AsRef<[u8]>) -> Option<(Vec<u8>, u64)> {
-        self.range((Bound::Included(from.as_ref()), Bound::Unbounded))
-            .next()
+        Steps::of(&(Bound::Included(from.as_ref()), Bound::Unbounded)).next(self)
     }
 
     /// The pair of the greatest key up to a string, which may be any.
@@ -167,8 +126,7 @@ impl JudySl {
     /// assert_eq!(map.at_or_before("aa"), Some((b"a".to_vec(), 10)));
     /// ```
     pub fn at_or_before(&self, from: impl AsRef<[u8]>) -> Option<(Vec<u8>, u64)> {
-        self.range((Bound::Unbounded, Bound::Included(from.as_ref())))
-            .next_back()
+        Steps::of(&(Bound::Unbounded, Bound::Included(from.as_ref()))).next_back(self)
     }
 
     /// The pairs by ascending key.
@@ -207,8 +165,7 @@ impl JudySl {
     /// assert_eq!(map["b"], 21);
     /// ```
     pub fn range_mut(&mut self, range: impl StringRange) -> RangeMut<'_> {
-        let way = Way::of(&range);
-        RangeMut::of(self, way)
+        RangeMut::of(self, Steps::of(&range))
     }
 
     /// How many keys an upper end lets through.
@@ -270,6 +227,7 @@ impl JudySl {
     /// assert_eq!((map.len(), map["b"]), (1, 20));
     /// ```
     pub fn retain(&mut self, mut keep: impl FnMut(&[u8], &mut u64) -> bool) {
+        // what was brought beyond a key is there still when the key was taken out
         let mut way = Way::of(&(..));
         while let Some((key, _)) = way.next_entry(self) {
             let kept = self.get_mut(key).map(|value| keep(key, value));
@@ -305,6 +263,7 @@ impl JudySl {
     /// assert_eq!(map.len(), 1);
     /// ```
     pub fn split_off(&mut self, key: impl AsRef<[u8]>) -> Self {
+        // as in `retain`
         let mut way = Way::of(&(Bound::Included(key.as_ref()), Bound::Unbounded));
         let mut upper = JudySl::new();
         while let Some((key, value)) = way.next_entry(self) {

@@ -19,9 +19,12 @@
 //! assert!(squares.range(10..).eq([(16, 4), (25, 5)]));
 //! ```
 //!
-//! Arrays may be sent to other threads and be read by several at a time.
+//! Arrays may be sent to other threads and be read by several at a time. With the manifest in the folder `serde` they have Serde's two traits:
+//! a set is a sequence, a map is a map, and strings are bytes.
 #![warn(missing_docs, clippy::undocumented_unsafe_blocks)]
 #![deny(unsafe_op_in_unsafe_fn)]
+// The feature `serde` stands in the manifest of the folder serde alone.
+#![allow(unexpected_cfgs)]
 
 mod array;
 mod edge;
@@ -33,6 +36,8 @@ pub mod judysl;
 mod keyed;
 mod list;
 mod ordered;
+#[cfg(feature = "serde")]
+mod serial;
 mod slots;
 mod sorted;
 mod span;

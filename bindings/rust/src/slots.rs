@@ -48,8 +48,13 @@ macro_rules! slot_walks {
 
         impl std::fmt::Debug for RangeMut<'_> {
             fn fmt(&self, to: &mut std::fmt::Formatter<'_>) -> std::fmt::Result {
-                // what is shown hasn't been lent
-                Range { array: self.map, way: self.way.clone().into() }.fmt(to)
+                let mut way = self.way.clone();
+                let mut rest = to.debug_list();
+                while let Some((key, _)) = way.next(self.map) {
+                    // what is shown hasn't been lent
+                    rest.entry(&(&key, self.map.get(&key).unwrap_or_default()));
+                }
+                rest.finish()
             }
         }
 

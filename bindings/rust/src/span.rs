@@ -1,4 +1,4 @@
-//! The words of a range, and a way through the keys among them from both ends.
+//! The words of a range, and a way through the keys among them.
 use std::ops::{Bound, RangeBounds};
 
 /// What a search finds: a key, or a key beside its value.
@@ -57,21 +57,6 @@ impl Span {
         let (from, to) = self.0.take()?;
         let found = at_or_after(from).filter(|found| found.key() <= to)?;
         self.go_behind(found.key(), to);
-        Some(found)
-    }
-
-    /// The greatest key left, by the search for the greatest up to a word.
-    pub fn next_back<T: Found>(
-        &mut self,
-        at_or_before: impl FnOnce(u64) -> Option<T>,
-    ) -> Option<T> {
-        let (from, to) = self.0.take()?;
-        let found = at_or_before(to).filter(|found| found.key() >= from)?;
-        self.0 = found
-            .key()
-            .checked_sub(1)
-            .filter(|next| *next >= from)
-            .map(|next| (from, next));
         Some(found)
     }
 

@@ -1,7 +1,7 @@
 //! Iterators over an ordered array that change nothing in it.
 
 /// Writes the iterators `Range`, `Iter` and `IntoIter` of an `$array` over its way through a range, a `$way`, which has
-/// `next`, `next_back`, each given the array, and answers an `$item`.
+/// `next`, `next_back`, `fold` and `rfold`, each given the array, and answers an `$item`.
 macro_rules! walks {
     ($array:ident through $way:ty; $item:ty) => {
         #[doc = concat!("What a [`", stringify!($array), "`] holds in a range, by ascending key, from both ends.")]
@@ -17,6 +17,11 @@ macro_rules! walks {
             #[inline]
             fn next(&mut self) -> Option<$item> {
                 self.way.next(self.array)
+            }
+
+            #[inline]
+            fn fold<B, F: FnMut(B, $item) -> B>(self, start: B, act: F) -> B {
+                self.way.fold(self.array, start, act)
             }
 
             fn last(mut self) -> Option<$item> {
@@ -36,6 +41,11 @@ macro_rules! walks {
             #[inline]
             fn next_back(&mut self) -> Option<$item> {
                 self.way.next_back(self.array)
+            }
+
+            #[inline]
+            fn rfold<B, F: FnMut(B, $item) -> B>(self, start: B, act: F) -> B {
+                self.way.rfold(self.array, start, act)
             }
         }
 
@@ -63,6 +73,11 @@ macro_rules! walks {
                 self.range.next()
             }
 
+            #[inline]
+            fn fold<B, F: FnMut(B, $item) -> B>(self, start: B, act: F) -> B {
+                self.range.fold(start, act)
+            }
+
             fn size_hint(&self) -> (usize, Option<usize>) {
                 (self.left, Some(self.left))
             }
@@ -85,6 +100,11 @@ macro_rules! walks {
             fn next_back(&mut self) -> Option<$item> {
                 self.left = self.left.checked_sub(1)?;
                 self.range.next_back()
+            }
+
+            #[inline]
+            fn rfold<B, F: FnMut(B, $item) -> B>(self, start: B, act: F) -> B {
+                self.range.rfold(start, act)
             }
         }
 
@@ -120,6 +140,11 @@ macro_rules! walks {
                 self.way.next(&self.array)
             }
 
+            #[inline]
+            fn fold<B, F: FnMut(B, $item) -> B>(self, start: B, act: F) -> B {
+                self.way.fold(&self.array, start, act)
+            }
+
             fn size_hint(&self) -> (usize, Option<usize>) {
                 (self.left, Some(self.left))
             }
@@ -130,6 +155,11 @@ macro_rules! walks {
             fn next_back(&mut self) -> Option<$item> {
                 self.left = self.left.checked_sub(1)?;
                 self.way.next_back(&self.array)
+            }
+
+            #[inline]
+            fn rfold<B, F: FnMut(B, $item) -> B>(self, start: B, act: F) -> B {
+                self.way.rfold(&self.array, start, act)
             }
         }
 
@@ -175,8 +205,14 @@ macro_rules! halves {
         impl $(<$life>)? Iterator for $name $(<$life>)? {
             type Item = $item;
 
+            #[inline]
             fn next(&mut self) -> Option<$item> {
                 self.pairs.next().map(|pair| pair.$half)
+            }
+
+            #[inline]
+            fn fold<B, F: FnMut(B, $item) -> B>(self, start: B, mut act: F) -> B {
+                self.pairs.fold(start, |done, pair| act(done, pair.$half))
             }
 
             fn size_hint(&self) -> (usize, Option<usize>) {
@@ -189,8 +225,14 @@ macro_rules! halves {
         }
 
         impl $(<$life>)? DoubleEndedIterator for $name $(<$life>)? {
+            #[inline]
             fn next_back(&mut self) -> Option<$item> {
                 self.pairs.next_back().map(|pair| pair.$half)
+            }
+
+            #[inline]
+            fn rfold<B, F: FnMut(B, $item) -> B>(self, start: B, mut act: F) -> B {
+                self.pairs.rfold(start, |done, pair| act(done, pair.$half))
             }
         }
 

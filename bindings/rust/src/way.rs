@@ -4,7 +4,7 @@ use sellumaq_sys::sellumaq_pair;
 use std::mem::MaybeUninit;
 
 /// How many keys a call of C brings at most. An iterator has a place for each.
-const MOST: usize = 64;
+const MOST: usize = 128;
 
 /// How many keys without a gap are asked for at once, at most.
 const LONGEST_RUN: u64 = 1 << 16;
@@ -64,10 +64,11 @@ pub type Room<T> = [MaybeUninit<T>];
 pub trait Walked {
     type Told: Told;
 
-    /// Writes the keys from a word on to the beginning of some room, in ascending order, and answers how many these are.
-    fn walk(&self, from: u64, room: &mut Room<Self::Told>) -> usize;
+    /// Writes the keys from one word up to another to the beginning of some room, in ascending order, as many as there is room for, and
+    /// answers how many these are. Keys above these words may come behind them.
+    fn walk(&self, from: u64, to: u64, room: &mut Room<Self::Told>) -> usize;
 
-    /// The same of the greatest keys from one word up to another, as many as there is room for.
+    /// The same of the greatest keys from one word up to another, and of no others.
     fn walk_back(&self, from: u64, to: u64, room: &mut Room<Self::Told>) -> usize;
 
     /// How many keys there are from one word up to another.
@@ -76,9 +77,10 @@ pub trait Walked {
 
 /// What is still to come of a range: the keys that were brought, which lie below the words left where the way goes up, and
 /// above them where it goes down. In a set they may be a run of keys without a gap, which a count tells, and so none is brought.
-pub struct Way<A: Walked> {
+#[derive(Clone)]
+pub struct Way<T: Told> {
     words: Span,
-    brought: [MaybeUninit<A::Told>; MOST],
+    brought: [MaybeUninit<T>; MOST],
     begin: usize,
     end: usize,
     // The key at the place 0 of a run.
@@ -90,8 +92,8 @@ pub struct Way<A: Walked> {
     room: usize,
 }
 
-impl<A: Walked> Way<A> {
-    pub fn of(words: Span) -> Way<A> {
+impl<T: Told> Way<T> {
+    pub fn of(words: Span) -> Way<T> {
         Way {
             words,
             brought: [MaybeUninit::uninit(); MOST],
@@ -105,7 +107,7 @@ impl<A: Walked> Way<A> {
     }
 
     #[inline]
-    pub fn next(&mut self, array: &A) -> Option<<A::Told as Told>::Item> {
+    pub fn next(&mut self, array: &impl Walked<Told = T>) -> Option<T::Item> {
         if (self.goes_down || self.begin == self.end) && !self.bring_up(array) {
             return None;
         }
@@ -115,7 +117,7 @@ impl<A: Walked> Way<A> {
     }
 
     #[inline]
-    pub fn next_back(&mut self, array: &A) -> Option<<A::Told as Told>::Item> {
+    pub fn next_back(&mut self, array: &impl Walked<Told = T>) -> Option<T::Item> {
         if (!self.goes_down || self.begin == self.end) && !self.bring_down(array) {
             return None;
         }
@@ -124,8 +126,41 @@ impl<A: Walked> Way<A> {
         Some(told.item())
     }
 
-    /// The words that are still to come, those of the keys that were brought with them.
-    pub fn left(&self) -> Span {
+    /// Hands on to an act, by ascending key, all that is still to come. What was brought is gone through in one loop.
+    #[inline]
+    pub fn fold<B>(
+        mut self,
+        array: &impl Walked<Told = T>,
+        start: B,
+        mut act: impl FnMut(B, T::Item) -> B,
+    ) -> B {
+        let mut done = start;
+        while !self.goes_down && self.begin < self.end || self.bring_up(array) {
+            done = (self.begin..self.end).fold(done, |done, at| act(done, self.told(at).item()));
+            self.begin = self.end;
+        }
+        done
+    }
+
+    /// The same by descending key.
+    #[inline]
+    pub fn rfold<B>(
+        mut self,
+        array: &impl Walked<Told = T>,
+        start: B,
+        mut act: impl FnMut(B, T::Item) -> B,
+    ) -> B {
+        let mut done = start;
+        while self.goes_down && self.begin < self.end || self.bring_down(array) {
+            let places = (self.begin..self.end).rev();
+            done = places.fold(done, |done, at| act(done, self.told(at).item()));
+            self.end = self.begin;
+        }
+        done
+    }
+
+    // The words that are still to come, those of the keys that were brought with them.
+    fn left(&self) -> Span {
         if self.begin == self.end {
             return self.words.clone();
         }
@@ -134,12 +169,10 @@ impl<A: Walked> Way<A> {
         Span::of(from.min(brought.0)..=to.max(brought.1))
     }
 
-    fn told(&self, at: usize) -> A::Told {
+    #[inline]
+    fn told(&self, at: usize) -> T {
         debug_assert!(self.begin <= at && at < self.end);
-        if let Some(told) = self
-            .run
-            .and_then(|first| A::Told::of_key(first + at as u64))
-        {
+        if let Some(told) = self.run.and_then(|first| T::of_key(first + at as u64)) {
             return told;
         }
         // SAFETY: `at` is from `begin` to `end`, between which a call of `walk` wrote.
@@ -164,7 +197,7 @@ impl<A: Walked> Way<A> {
 
     // Brings the least keys left; false where there are none.
     #[inline(never)]
-    fn bring_up(&mut self, array: &A) -> bool {
+    fn bring_up(&mut self, array: &impl Walked<Told = T>) -> bool {
         self.turn(false);
         let (from, to) = match self.words.ends() {
             Some(ends) => ends,
@@ -174,7 +207,7 @@ impl<A: Walked> Way<A> {
             return true;
         }
         let room = self.widen();
-        let count = array.walk(from, &mut self.brought[..room]);
+        let count = array.walk(from, to, &mut self.brought[..room]);
         (self.begin, self.end) = (0, count);
         self.look_for_gaps(count);
         while self.end > 0 && self.told(self.end - 1).key() > to {
@@ -196,9 +229,9 @@ impl<A: Walked> Way<A> {
     }
 
     // Takes the next words for a run where all of them are keys: twice as many at each time.
-    fn take_run(&mut self, array: &A, from: u64, to: u64) -> bool {
+    fn take_run(&mut self, array: &impl Walked<Told = T>, from: u64, to: u64) -> bool {
         self.run = None;
-        if self.longest == 0 || A::Told::of_key(from).is_none() {
+        if self.longest == 0 || T::of_key(from).is_none() {
             return false;
         }
         let (first, last) = if self.goes_down {
@@ -222,7 +255,7 @@ impl<A: Walked> Way<A> {
 
     // Brings the greatest keys left; false where there are none.
     #[inline(never)]
-    fn bring_down(&mut self, array: &A) -> bool {
+    fn bring_down(&mut self, array: &impl Walked<Told = T>) -> bool {
         self.turn(true);
         let (from, to) = match self.words.ends() {
             Some(ends) => ends,
@@ -241,14 +274,5 @@ impl<A: Walked> Way<A> {
             Span::NONE
         };
         self.end > 0
-    }
-}
-
-impl<A: Walked> Clone for Way<A> {
-    fn clone(&self) -> Self {
-        Way {
-            words: self.words.clone(),
-            ..*self
-        }
     }
 }

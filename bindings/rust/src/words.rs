@@ -120,7 +120,7 @@ macro_rules! word_array {
         impl crate::way::Walked for $array {
             type Told = $told;
 
-            fn walk(&self, from: u64, room: &mut crate::way::Room<$told>) -> usize {
+            fn walk(&self, from: u64, _to: u64, room: &mut crate::way::Room<$told>) -> usize {
                 let handle = self.handle;
                 // SAFETY: as in `search`; the call writes to no more of the room than there is.
                 unsafe { sellumaq_sys::$walk(&handle, from, room.as_mut_ptr().cast(), room.len()) }
@@ -136,7 +136,7 @@ macro_rules! word_array {
                 }
                 let count = self.count(from..=to).min(room.len());
                 let first = self.nth_key(self.count(..=to) - count);
-                first.map_or(0, |first| self.walk(first, &mut room[..count]))
+                first.map_or(0, |first| self.walk(first, to, &mut room[..count]))
             }
 
             fn count_between(&self, from: u64, to: u64) -> u64 {

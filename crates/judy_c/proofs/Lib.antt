@@ -1,13 +1,10 @@
-pub mod Boxed
-pub mod BoxedSet
 pub mod Holding
-pub mod Handles
-pub mod SetHandles
-pub mod BoxedStrings
+pub mod WordHandles
+pub mod HeldMemory
+pub mod HeldFacts
+pub mod Recast
 pub mod StringHandles
 pub mod ScanFacts
-pub mod BoxedBytes
-pub mod ByteHandles
 pub mod HandsOut
 pub mod AnswersInsert
 pub mod SortedAnswers

@@ -1,5 +1,5 @@
 -- What a fault of a list of keys is answered as.
-use Rattle.std.proofs.Common.{◌≡◌, ℕ, ◌<◌, List, length, sym, ◌∙◌, subst}
+use Rattle.std.proofs.Common.{ℕ, ◌<◌, List, length, sym, ◌∙◌, subst}
 use Rattle.judy_word.specs.Sorted.{IsFault}
 use Rattle.judy_word.specs.declared.sorted.SortedError.{SortedError}
 use Rattle.judy_word.specs.declared.sorted.SortedError.TheVariants.{NotAscending, Full, NoMemory}

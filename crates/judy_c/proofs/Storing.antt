@@ -1,6 +1,6 @@
 -- Whether a key that was given a value was there, by the number of keys before and after.
 use Rattle.std.proofs.Common.{◌≡◌, ℕ, ◌+◌, cond, List, Option, Some, None, is_some, refl, sym, ap, ◌∙◌, arith}
-use Rattle.std.specs.FinMap.{FinMap, get, insert, len, len-insert}
+use Rattle.std.specs.FinMap.{get, insert, len, len-insert}
 use Rattle.judy_model.specs.Keys.{byte_order}
 use Rattle.judy_model.specs.Arrays.{ArrayOf, ins}
 use Rattle.judy_model.proofs.TableLemmas.{byte_order_total}

@@ -1,26 +1,12 @@
 -- What a handle that holds an array of strings, or none, stands for.
-use Rattle.std.proofs.Common.{◌≡◌, ℕ, Bool, false, true≢false, List, refl, sym, ap, ◌∙◌, Option, Some, None, IfSome, IfNone, MutBor, IsFalse, not, ◌&&◌, ◌==◌}
+use Rattle.std.proofs.Common.{◌≡◌, ℕ, Bool, false, true≢false, List, refl, sym, ap, ◌∙◌, Option, Some, None, IsFalse, not, ◌&&◌, ◌==◌}
 use Rattle.std.specs.Prelude.{is_some}
-use Rattle.std.specs.FinMap.{FinMap, get, len, empty, get-empty, len-empty}
-use Rattle.std.specs.Option.{option_copied_mut}
+use Rattle.std.specs.FinMap.{FinMap, get, contains_key, len, empty, get-empty, len-empty}
 use Rattle.judy_model.specs.Keys.{byte_order}
 use Rattle.judy_model.specs.Arrays.{ArrayOf, empty_array, with_map, del, is_full}
 use Rattle.judy_model.proofs.SortedMaps.{remove_absent}
 use Rattle.judy_model.proofs.TableLemmas.{byte_order_total, byte_order_same}
-use Rattle.judy_c.specs.declared.strings.Strings.{Strings}
-use Rattle.judy_c.specs.StringLends.{with_array}
-use Rattle.judy_c.specs.StringMaps.{array_in, array_of}
 use Rattle.judy_c.specs.Told.{IsTold}
-
--- the handle with the array that it holds is the handle
-pub held_again : (m : Strings) (lent : Option (MutBor (ArrayOf byte_order))) → option_copied_mut lent ≡ m.array → IfSome lent (λ array. with_array m array.now ≡ m)
-held_again m None held = tt
-held_again m (Some array) held = ap (λ (o : Option (ArrayOf byte_order)). record m { array = o }) held
-
--- a handle that holds none stands for the empty array
-pub null_strings : (m : Strings) (lent : Option (MutBor (ArrayOf byte_order))) → option_copied_mut lent ≡ m.array → IfNone lent (array_in m ≡ empty_array 4294967295)
-null_strings m None none = ap array_of (sym none)
-null_strings m (Some array) none = tt
 
 -- a key that is absent is taken out by no change
 pub absent_deleted : (array : ArrayOf byte_order) (key : List ℕ) → get array.map key ≡ None → array ≡ with_map array (del array.map key)
@@ -34,6 +20,10 @@ nothing_deleted array key is = absent_deleted array key (ap (λ (a : ArrayOf byt
 pub not_told : (found : Option ℕ) (told : Bool) (before after : ℕ) → IsTold found told before after → told ≡ false → found ≡ None
 not_told None told before after fact untold = refl
 not_told (Some value) told before after fact untold = absurd (true≢false (sym fact.0 ∙ untold))
+
+-- it doesn't have this key
+pub nothing_there : (array : ArrayOf byte_order) (key : List ℕ) → array ≡ empty_array 4294967295 → false ≡ contains_key array.map key
+nothing_there array key is = sym (ap (λ (a : ArrayOf byte_order). contains_key a.map key) is ∙ ap is_some (get-empty byte_order key))
 
 -- it holds no key
 pub nothing_held : (array : ArrayOf byte_order) (key : List ℕ) → array ≡ empty_array 4294967295 → get array.map key ≡ None

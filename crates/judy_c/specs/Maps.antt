@@ -1,19 +1,15 @@
 -- The array that a handle stands for.
-use Rattle.std.specs.Prelude.{ℕ, Option, Some, None}
+use Rattle.std.specs.Prelude.{ℕ, Option, Some, None, unwrap_or}
 use Rattle.std.specs.FinMap.{FinMap, get}
 use Rattle.judy_c.specs.declared.map.Map.{Map}
 use Rattle.judy_c.specs.declared.set.Set.{Set}
+use Rattle.judy_c.specs.NullArrays.{unbounded}
 use Rattle.judy_model.specs.Keys.{word_order}
-use Rattle.judy_word.specs.WordArrays.{WordArray, no_keys}
+use Rattle.judy_word.specs.WordArrays.{WordArray}
 
--- The empty array that may hold any number of keys.
-abbrev pub unbounded : WordArray
-unbounded = no_keys 18446744073709551615
-
--- A handle that holds none stands for it.
+-- The array that a handle holds; one that holds none stands for the empty array that may hold any number of keys.
 abbrev pub array_of : Option WordArray → WordArray
-array_of None = unbounded
-array_of (Some array) = array
+array_of held = unwrap_or held unbounded
 
 -- The map of a handle.
 abbrev pub map_of : Map → FinMap word_order ℕ

@@ -5,9 +5,7 @@ ghost use Rattle.judy_model.specs.Keys.{byte_order};
 ghost use Rattle.judy_model.specs.Arrays.{ArrayOf};
 ghost use Rattle.judy_c.specs.Owned.{bytes_coded};
 
-mod array;
 mod puts;
-mod raw;
 mod slots;
 
 use std::marker::Model;

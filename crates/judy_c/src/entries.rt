@@ -63,10 +63,11 @@ pub extern "C" fn sellumaq_judyl_last_entry(
     ensures value { IsTold (value_beside (map_of handle.old) (neighbours.last (map_of handle.old) from)) result value.old value.new }
     ensures same { handle.new ≡ handle.old }
 {
-    match handle.array() {
-        Some(array) => tell_entry(array.last_entry(from), key, value),
-        None => tell_entry(JudyL::unbounded(alloc).last_entry(from), key, value),
-    }
+    tell_entry(
+        handle.ask(alloc, |array| array.last_entry(from)),
+        key,
+        value,
+    )
 }
 
 /// The greatest key below a word, with its value. (Manual: JLP, JudyLPrev.)
@@ -82,8 +83,9 @@ pub extern "C" fn sellumaq_judyl_prev_entry(
     ensures value { IsTold (value_beside (map_of handle.old) (neighbours.prev (map_of handle.old) from)) result value.old value.new }
     ensures same { handle.new ≡ handle.old }
 {
-    match handle.array() {
-        Some(array) => tell_entry(array.prev_entry(from), key, value),
-        None => tell_entry(JudyL::unbounded(alloc).prev_entry(from), key, value),
-    }
+    tell_entry(
+        handle.ask(alloc, |array| array.prev_entry(from)),
+        key,
+        value,
+    )
 }

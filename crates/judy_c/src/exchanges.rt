@@ -9,7 +9,6 @@ ghost use Rattle.judy_c.specs.Told.{IsTold};
 
 use crate::map::Map;
 use crate::told::tell;
-use judy_word::JudyL;
 use std::alloc::Global;
 
 /// Gives a key a value, as `sellumaq_judyl_put` does, and tells the value that was there where it answers 0.
@@ -50,6 +49,6 @@ pub extern "C" fn sellumaq_judyl_remove(
 {
     match handle.array() {
         Some(array) => tell(array.remove(key), was),
-        None => tell(JudyL::unbounded(alloc).remove(key), was),
+        None => false,
     }
 }

@@ -41,10 +41,7 @@ pub extern "C" fn sellumaq_judy1_test(alloc: Global, handle: &mut Set, key: u64)
     ensures answer { result ≡ map.contains_key (set_of handle.old) key }
     ensures same { handle.new ≡ handle.old }
 {
-    match handle.array() {
-        Some(array) => array.test(key),
-        None => Judy1::unbounded(alloc).test(key),
-    }
+    handle.ask(alloc, |array| array.test(key))
 }
 
 /// Takes a key out, and answers whether it was there. It can't fail. (Manual: J1U, Judy1Unset.)
@@ -55,7 +52,7 @@ pub extern "C" fn sellumaq_judy1_unset(alloc: Global, handle: &mut Set, key: u64
 {
     match handle.array() {
         Some(array) => array.unset(key),
-        None => Judy1::unbounded(alloc).unset(key),
+        None => false,
     }
 }
 
@@ -104,10 +101,7 @@ pub extern "C" fn sellumaq_judy1_last(
     ensures told { IsTold (neighbours.last (set_of handle.old) from) result key.old key.new }
     ensures same { handle.new ≡ handle.old }
 {
-    match handle.array() {
-        Some(array) => tell(array.last(from), key),
-        None => tell(Judy1::unbounded(alloc).last(from), key),
-    }
+    tell(handle.ask(alloc, |array| array.last(from)), key)
 }
 
 /// The greatest key below a word. (Manual: J1P, Judy1Prev.)
@@ -121,10 +115,7 @@ pub extern "C" fn sellumaq_judy1_prev(
     ensures told { IsTold (neighbours.prev (set_of handle.old) from) result key.old key.new }
     ensures same { handle.new ≡ handle.old }
 {
-    match handle.array() {
-        Some(array) => tell(array.prev(from), key),
-        None => tell(Judy1::unbounded(alloc).prev(from), key),
-    }
+    tell(handle.ask(alloc, |array| array.prev(from)), key)
 }
 
 /// The least word from one on that is no key. (Manual: J1FE, Judy1FirstEmpty.)
@@ -138,10 +129,7 @@ pub extern "C" fn sellumaq_judy1_first_empty(
     ensures told { IsTold (empties.first_empty (set_of handle.old) from) result word.old word.new }
     ensures same { handle.new ≡ handle.old }
 {
-    match handle.array() {
-        Some(array) => tell(array.first_empty(from), word),
-        None => tell(Judy1::unbounded(alloc).first_empty(from), word),
-    }
+    tell(handle.ask(alloc, |array| array.first_empty(from)), word)
 }
 
 /// The least word above one that is no key. (Manual: J1NE, Judy1NextEmpty.)
@@ -155,10 +143,7 @@ pub extern "C" fn sellumaq_judy1_next_empty(
     ensures told { IsTold (empties.next_empty (set_of handle.old) from) result word.old word.new }
     ensures same { handle.new ≡ handle.old }
 {
-    match handle.array() {
-        Some(array) => tell(array.next_empty(from), word),
-        None => tell(Judy1::unbounded(alloc).next_empty(from), word),
-    }
+    tell(handle.ask(alloc, |array| array.next_empty(from)), word)
 }
 
 /// The greatest word up to one that is no key. (Manual: J1LE, Judy1LastEmpty.)
@@ -172,10 +157,7 @@ pub extern "C" fn sellumaq_judy1_last_empty(
     ensures told { IsTold (empties.last_empty (set_of handle.old) from) result word.old word.new }
     ensures same { handle.new ≡ handle.old }
 {
-    match handle.array() {
-        Some(array) => tell(array.last_empty(from), word),
-        None => tell(Judy1::unbounded(alloc).last_empty(from), word),
-    }
+    tell(handle.ask(alloc, |array| array.last_empty(from)), word)
 }
 
 /// The greatest word below one that is no key. (Manual: J1PE, Judy1PrevEmpty.)
@@ -189,10 +171,7 @@ pub extern "C" fn sellumaq_judy1_prev_empty(
     ensures told { IsTold (empties.prev_empty (set_of handle.old) from) result word.old word.new }
     ensures same { handle.new ≡ handle.old }
 {
-    match handle.array() {
-        Some(array) => tell(array.prev_empty(from), word),
-        None => tell(Judy1::unbounded(alloc).prev_empty(from), word),
-    }
+    tell(handle.ask(alloc, |array| array.prev_empty(from)), word)
 }
 
 /// How many keys there are.
@@ -201,10 +180,7 @@ pub extern "C" fn sellumaq_judy1_len(alloc: Global, handle: &mut Set) -> u64
     ensures count { result ≡ map.len (set_of handle.old) }
     ensures same { handle.new ≡ handle.old }
 {
-    match handle.array() {
-        Some(array) => array.len(),
-        None => Judy1::unbounded(alloc).len(),
-    }
+    handle.ask(alloc, |array| array.len())
 }
 
 /// How many keys there are from one word to another, both included; 0 where the first is above the second. (Manual: J1C,
@@ -214,10 +190,7 @@ pub extern "C" fn sellumaq_judy1_count(alloc: Global, handle: &mut Set, from: u6
     ensures count { result ≡ counts.count (set_of handle.old) from to }
     ensures same { handle.new ≡ handle.old }
 {
-    match handle.array() {
-        Some(array) => array.count(from, to),
-        None => Judy1::unbounded(alloc).count(from, to),
-    }
+    handle.ask(alloc, |array| array.count(from, to))
 }
 
 /// The n-th key in ascending order, counted from 1. (Manual: J1BC, Judy1ByCount.)
@@ -231,10 +204,7 @@ pub extern "C" fn sellumaq_judy1_by_count(
     ensures told { IsTold (counts.by_count (set_of handle.old) n) result key.old key.new }
     ensures same { handle.new ≡ handle.old }
 {
-    match handle.array() {
-        Some(array) => tell(array.by_count(n), key),
-        None => tell(Judy1::unbounded(alloc).by_count(n), key),
-    }
+    tell(handle.ask(alloc, |array| array.by_count(n)), key)
 }
 
 /// Takes every key out, gives all memory back, and answers how many keys there were. (Manual: J1FA, Judy1FreeArray, which

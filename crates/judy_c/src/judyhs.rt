@@ -17,9 +17,7 @@ ghost use Rattle.std.specs.Borrow.{sem};
 
 use crate::answers::answer_insert;
 use crate::bytes::Bytes;
-use crate::strings::MOST_KEYS;
 use crate::told::{hand_out, tell};
-use judy_hs::{Eights, JudyHs};
 use std::alloc::Global;
 
 /// The value of a key. (Manual: JHSG, JudyHSGet.)
@@ -33,10 +31,7 @@ pub extern "C" fn sellumaq_judyhs_get(
     ensures told { IsTold (map.get (array_in handle.old).map key.now) result value.old value.new }
     ensures same { handle.new ≡ handle.old }
 {
-    match handle.array() {
-        Some(array) => tell(array.get(key), value),
-        None => tell(JudyHs::new(alloc, MOST_KEYS, Eights).get(key), value),
-    }
+    tell(handle.ask(alloc, |array| array.get(key)), value)
 }
 
 /// Hands out the slot of a key, which is put in with the value 0 where it is absent: what is left there is the key's value.
@@ -77,7 +72,7 @@ pub extern "C" fn sellumaq_judyhs_del(alloc: Global, handle: &mut Bytes, key: &[
 {
     match handle.array() {
         Some(array) => array.del(key),
-        None => JudyHs::new(alloc, MOST_KEYS, Eights).del(key),
+        None => false,
     }
 }
 
@@ -87,10 +82,7 @@ pub extern "C" fn sellumaq_judyhs_len(alloc: Global, handle: &mut Bytes) -> u64
     ensures count { result ≡ map.len (array_in handle.old).map }
     ensures same { handle.new ≡ handle.old }
 {
-    match handle.array() {
-        Some(array) => array.len(),
-        None => JudyHs::new(alloc, MOST_KEYS, Eights).len(),
-    }
+    handle.ask(alloc, |array| array.len())
 }
 
 /// Takes every key out, gives all memory back, and answers how many keys there were. (Manual: JHSFA, JudyHSFreeArray, which

@@ -33,10 +33,7 @@ pub extern "C" fn sellumaq_judyl_get(
     ensures told { IsTold (map.get (map_of handle.old) key) result value.old value.new }
     ensures same { handle.new ≡ handle.old }
 {
-    match handle.array() {
-        Some(array) => tell(array.get(key), value),
-        None => tell(JudyL::unbounded(alloc).get(key), value),
-    }
+    tell(handle.ask(alloc, |array| array.get(key)), value)
 }
 
 /// Hands out the slot of a key, which is put in with the value 0 where it is absent: what is left there is the key's value. False
@@ -92,7 +89,7 @@ pub extern "C" fn sellumaq_judyl_del(alloc: Global, handle: &mut Map, key: u64) 
 {
     match handle.array() {
         Some(array) => array.del(key),
-        None => JudyL::unbounded(alloc).del(key),
+        None => false,
     }
 }
 
@@ -141,10 +138,7 @@ pub extern "C" fn sellumaq_judyl_last(
     ensures told { IsTold (neighbours.last (map_of handle.old) from) result key.old key.new }
     ensures same { handle.new ≡ handle.old }
 {
-    match handle.array() {
-        Some(array) => tell(array.last(from), key),
-        None => tell(JudyL::unbounded(alloc).last(from), key),
-    }
+    tell(handle.ask(alloc, |array| array.last(from)), key)
 }
 
 /// The greatest key below a word. (Manual: JLP, JudyLPrev.)
@@ -158,10 +152,7 @@ pub extern "C" fn sellumaq_judyl_prev(
     ensures told { IsTold (neighbours.prev (map_of handle.old) from) result key.old key.new }
     ensures same { handle.new ≡ handle.old }
 {
-    match handle.array() {
-        Some(array) => tell(array.prev(from), key),
-        None => tell(JudyL::unbounded(alloc).prev(from), key),
-    }
+    tell(handle.ask(alloc, |array| array.prev(from)), key)
 }
 
 /// The least word from one on that is no key. (Manual: JLFE, JudyLFirstEmpty.)
@@ -175,10 +166,7 @@ pub extern "C" fn sellumaq_judyl_first_empty(
     ensures told { IsTold (empties.first_empty (map_of handle.old) from) result word.old word.new }
     ensures same { handle.new ≡ handle.old }
 {
-    match handle.array() {
-        Some(array) => tell(array.first_empty(from), word),
-        None => tell(JudyL::unbounded(alloc).first_empty(from), word),
-    }
+    tell(handle.ask(alloc, |array| array.first_empty(from)), word)
 }
 
 /// The least word above one that is no key. (Manual: JLNE, JudyLNextEmpty.)
@@ -192,10 +180,7 @@ pub extern "C" fn sellumaq_judyl_next_empty(
     ensures told { IsTold (empties.next_empty (map_of handle.old) from) result word.old word.new }
     ensures same { handle.new ≡ handle.old }
 {
-    match handle.array() {
-        Some(array) => tell(array.next_empty(from), word),
-        None => tell(JudyL::unbounded(alloc).next_empty(from), word),
-    }
+    tell(handle.ask(alloc, |array| array.next_empty(from)), word)
 }
 
 /// The greatest word up to one that is no key. (Manual: JLLE, JudyLLastEmpty.)
@@ -209,10 +194,7 @@ pub extern "C" fn sellumaq_judyl_last_empty(
     ensures told { IsTold (empties.last_empty (map_of handle.old) from) result word.old word.new }
     ensures same { handle.new ≡ handle.old }
 {
-    match handle.array() {
-        Some(array) => tell(array.last_empty(from), word),
-        None => tell(JudyL::unbounded(alloc).last_empty(from), word),
-    }
+    tell(handle.ask(alloc, |array| array.last_empty(from)), word)
 }
 
 /// The greatest word below one that is no key. (Manual: JLPE, JudyLPrevEmpty.)
@@ -226,10 +208,7 @@ pub extern "C" fn sellumaq_judyl_prev_empty(
     ensures told { IsTold (empties.prev_empty (map_of handle.old) from) result word.old word.new }
     ensures same { handle.new ≡ handle.old }
 {
-    match handle.array() {
-        Some(array) => tell(array.prev_empty(from), word),
-        None => tell(JudyL::unbounded(alloc).prev_empty(from), word),
-    }
+    tell(handle.ask(alloc, |array| array.prev_empty(from)), word)
 }
 
 /// How many keys there are.
@@ -238,10 +217,7 @@ pub extern "C" fn sellumaq_judyl_len(alloc: Global, handle: &mut Map) -> u64
     ensures count { result ≡ map.len (map_of handle.old) }
     ensures same { handle.new ≡ handle.old }
 {
-    match handle.array() {
-        Some(array) => array.len(),
-        None => JudyL::unbounded(alloc).len(),
-    }
+    handle.ask(alloc, |array| array.len())
 }
 
 /// How many keys there are from one word to another, both included; 0 where the first is above the second. (Manual: JLC,
@@ -251,10 +227,7 @@ pub extern "C" fn sellumaq_judyl_count(alloc: Global, handle: &mut Map, from: u6
     ensures count { result ≡ counts.count (map_of handle.old) from to }
     ensures same { handle.new ≡ handle.old }
 {
-    match handle.array() {
-        Some(array) => array.count(from, to),
-        None => JudyL::unbounded(alloc).count(from, to),
-    }
+    handle.ask(alloc, |array| array.count(from, to))
 }
 
 /// The n-th key in ascending order, counted from 1. (Manual: JLBC, JudyLByCount.)
@@ -268,10 +241,7 @@ pub extern "C" fn sellumaq_judyl_by_count(
     ensures told { IsTold (counts.by_count (map_of handle.old) n) result key.old key.new }
     ensures same { handle.new ≡ handle.old }
 {
-    match handle.array() {
-        Some(array) => tell(array.by_count(n), key),
-        None => tell(JudyL::unbounded(alloc).by_count(n), key),
-    }
+    tell(handle.ask(alloc, |array| array.by_count(n)), key)
 }
 
 /// Takes every key out, gives all memory back, and answers how many keys there were. (Manual: JLFA, JudyLFreeArray, which

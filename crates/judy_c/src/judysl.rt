@@ -24,9 +24,8 @@ ghost use Rattle.std.specs.Borrow.{sem};
 
 use crate::answers::answer_insert;
 use crate::scans::Scan;
-use crate::strings::{MOST_KEYS, Strings};
+use crate::strings::Strings;
 use crate::told::{hand_out, tell};
-use judy_sl::JudySl;
 use std::alloc::Global;
 
 /// The value of a key; bytes that are no key are absent. (Manual: JSLG, JudySLGet.)
@@ -40,10 +39,7 @@ pub extern "C" fn sellumaq_judysl_get(
     ensures told { IsTold (map.get (array_in handle.old).map key.now) result value.old value.new }
     ensures same { handle.new ≡ handle.old }
 {
-    match handle.array() {
-        Some(array) => tell(array.get(key), value),
-        None => tell(JudySl::new(alloc, MOST_KEYS).get(key), value),
-    }
+    tell(handle.ask(alloc, |array| array.get(key)), value)
 }
 
 /// Hands out the slot of a key, which is put in with the value 0 where it is absent: what is left there is the key's value.
@@ -84,7 +80,7 @@ pub extern "C" fn sellumaq_judysl_del(alloc: Global, handle: &mut Strings, key: 
 {
     match handle.array() {
         Some(array) => array.del(key),
-        None => JudySl::new(alloc, MOST_KEYS).del(key),
+        None => false,
     }
 }
 
@@ -150,10 +146,7 @@ pub extern "C" fn sellumaq_judysl_len(alloc: Global, handle: &mut Strings) -> u6
     ensures count { result ≡ map.len (array_in handle.old).map }
     ensures same { handle.new ≡ handle.old }
 {
-    match handle.array() {
-        Some(array) => array.len(),
-        None => JudySl::new(alloc, MOST_KEYS).len(),
-    }
+    handle.ask(alloc, |array| array.len())
 }
 
 /// Takes every key out, gives all memory back, and answers how many keys there were. (Manual: JSLFA, JudySLFreeArray, which

@@ -10,8 +10,9 @@
 //! array, and the pointers that a call is given are to words of the caller's, or to as many bytes as are told beside them, and not
 //! null; no two of one call overlap.
 //!
-//! set.rt, map.rt, strings.rt and bytes.rt have the handles, and in the folders of these names stand the array behind one, its pointer
-//! and a map's slots. judy1.rt, judyl.rt, judysl.rt and judyhs.rt have the calls, entries.rt those that tell a key with its value,
+//! set.rt, map.rt, strings.rt and bytes.rt have the handles, and in the folders of these names stand a map's slots. A struct that C knows has
+//! no type parameter: held.rt has what each of them holds, whatever the array's type, with its pointer and the array behind it, handles.rt
+//! lends each handle as that, and arrays.rt has the array for which a null handle stands. judy1.rt, judyl.rt, judysl.rt and judyhs.rt have the calls, entries.rt those that tell a key with its value,
 //! exchanges.rt those that tell the value that was there, walks.rt those that tell many keys at a time, looks.rt the one
 //! that looks many up, sorted.rt those that make an array at once, told.rt how a call answers a
 //! word or a slot that may not be there, answers.rt how one answers by a number, scans.rt the scans over strings, string_counts.rt
@@ -19,9 +20,12 @@
 #![tactic(auto)]
 
 mod answers;
+mod arrays;
 mod bytes;
 mod entries;
 mod exchanges;
+mod handles;
+mod held;
 mod judy1;
 mod judyhs;
 mod judyl;

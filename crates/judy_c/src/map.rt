@@ -4,8 +4,6 @@ ghost use Rattle.std.specs.Prelude.{Option};
 ghost use Rattle.judy_word.specs.WordArrays.{WordArray};
 ghost use Rattle.judy_c.specs.Owned.{map_coded};
 
-mod array;
-mod raw;
 mod slots;
 
 use std::marker::Model;

@@ -4,9 +4,6 @@ ghost use Rattle.std.specs.Prelude.{Option};
 ghost use Rattle.judy_word.specs.WordArrays.{WordArray};
 ghost use Rattle.judy_c.specs.Owned.{set_coded};
 
-mod array;
-mod raw;
-
 use std::marker::Model;
 
 /// The handle by which C holds a set: null, or the address of a box of a `Judy1`, which it owns.

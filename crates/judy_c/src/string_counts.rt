@@ -8,8 +8,9 @@ ghost use Rattle.judy_c.specs.Answers.{IsSaid};
 ghost use Rattle.judy_c.specs.KeyScans.{told_says};
 ghost use Rattle.judy_c.specs.StringMaps.{array_in};
 
+use crate::arrays::Array;
 use crate::scans::tell_entry;
-use crate::strings::{MOST_KEYS, Strings};
+use crate::strings::Strings;
 use judy_sl::{JudySl, KeyBuf, is_key};
 use std::alloc::Global;
 
@@ -29,10 +30,7 @@ pub extern "C" fn sellumaq_judysl_count(
     if !is_key(from) || !is_key(to) {
         return 0;
     }
-    match handle.array() {
-        Some(array) => array.count(from, to),
-        None => JudySl::new(alloc, MOST_KEYS).count(from, to),
-    }
+    handle.ask(alloc, |array| array.count(from, to))
 }
 
 /// The n-th key in ascending order, counted from 1, written to a buffer; with its length and its value. `FOUND`; or `NONE` for 0 and
@@ -62,6 +60,6 @@ fn nth_entry(alloc: Global, handle: &mut Strings, n: u64, key: &mut KeyBuf) -> O
 {
     match handle.array() {
         Some(array) => array.by_count(n, key),
-        None => JudySl::new(alloc, MOST_KEYS).by_count(n, key),
+        None => JudySl::empty(alloc).by_count(n, key),
     }
 }

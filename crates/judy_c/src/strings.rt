@@ -5,16 +5,10 @@ ghost use Rattle.judy_model.specs.Keys.{byte_order};
 ghost use Rattle.judy_model.specs.Arrays.{ArrayOf};
 ghost use Rattle.judy_c.specs.Owned.{strings_coded};
 
-mod array;
 mod puts;
-mod raw;
 mod slots;
 
 use std::marker::Model;
-
-// How many keys the array of a handle may hold, here and in bytes.rt: the most that an array of strings or of byte strings may be
-// given as its limit.
-pub(crate) const MOST_KEYS: u64 = 4294967295;
 
 /// The handle by which C holds a map from strings: null, or the address of a box of a `JudySl`, which it owns.
 #[repr(C)]

@@ -29,15 +29,15 @@ abbrev pub AreOf : ℕ → BranchParts → Type 0
 AreOf words parts = IsBranch words parts.width parts.skip parts.bytes parts.kids parts.count
 
 -- A branch with more keys than one that wasn't loose, and no fewer children, isn't loose either.
-grown_tight : (skipped bytes more : List ℕ) (count : ℕ) (old new : List Tree) → IsTight (branch_tree 0 skipped bytes old count) → length bytes ≤ length more → loose_in (forms_in new) ≤ loose_in (forms_in old)
-    → loose_in (branch skipped more (count + 1) ∷ forms_in new) ≡ 0
-grown_tight skipped bytes more count old new tight longer less =
+pub grown_tight : (skipped bytes more : List ℕ) (count added : ℕ) (old new : List Tree) → IsTight (branch_tree 0 skipped bytes old count) → length bytes ≤ length more → loose_in (forms_in new) ≤ loose_in (forms_in old)
+    → loose_in (branch skipped more (count + added) ∷ forms_in new) ≡ 0
+grown_tight skipped bytes more count added old new tight longer less =
     let parts = tight-parts (branch skipped bytes count) (forms_in old) tight in
     let needed = branch_needed skipped bytes count parts.0 in
     let many = needed.0 in
     let two = needed.1 in
     let none = parts.1 in
-    tight-head (branch skipped more (count + 1)) (forms_in new) (branch_tight skipped more (count + 1) (omega arith) (omega arith)) (omega arith)
+    tight-head (branch skipped more (count + added)) (forms_in new) (branch_tight skipped more (count + added) (omega arith) (omega arith)) (omega arith)
 
 module _ (words width : ℕ) (skipped bytes : List ℕ) (kids : List Tree) (count : ℕ) (is : IsBranch words width skipped bytes kids count) (byte rest : ℕ) (fits : rest < 256 ^ width) where
   abbrev unit : ℕ
@@ -56,7 +56,7 @@ module _ (words width : ℕ) (skipped bytes : List ℕ) (kids : List Tree) (coun
   -- ---- a child changed
 
   module _ (at : ℕ) (kid : Tree) (here : slice_get bytes at ≡ Some byte) (there : slice_get kids at ≡ Some kid) where
-    cut : IsAt words width 0 bytes kids at byte kid
+    pub cut : IsAt words width 0 bytes kids at byte kid
     cut = child-at words width 0 bytes kids at byte kid is.parts.children here there
 
     abbrev front : List ℕ
@@ -74,13 +74,13 @@ module _ (words width : ℕ) (skipped bytes : List ℕ) (kids : List Tree) (coun
     abbrev with_middle : Pairs → Pairs
     with_middle middle = join unit block front before ++ (shift ((block + byte) * unit) middle ++ join unit block back behind)
 
-    old_pairs : branch_pairs width skipped bytes kids ≡ with_middle kid.pairs
+    pub old_pairs : branch_pairs width skipped bytes kids ≡ with_middle kid.pairs
     old_pairs = (λ t. join unit block (cut.bytes_are t) (cut.kids_are t)) ∙ join-with words width block front back before behind byte cut.around kid
 
-    set_is : (new : Tree) → set kids at new ≡ before ++ new ∷ behind
+    pub set_is : (new : Tree) → set kids at new ≡ before ++ new ∷ behind
     set_is new = set_split kids at new (slice_get_within kids at kid there)
 
-    new_pairs : (new : Tree) → branch_pairs width skipped bytes (set kids at new) ≡ with_middle new.pairs
+    pub new_pairs : (new : Tree) → branch_pairs width skipped bytes (set kids at new) ≡ with_middle new.pairs
     new_pairs new = (λ t. join unit block (cut.bytes_are t) (set_is new t)) ∙ join-with words width block front back before behind byte cut.around new
 
     -- The branch has the key where the child has what is left of it.
@@ -134,7 +134,7 @@ module _ (words width : ℕ) (skipped bytes : List ℕ) (kids : List Tree) (coun
       child_added = record {
         absent = child_has ∙ added.absent;
         pairs = more_pairs;
-        tight = λ tight. grown_tight skipped bytes bytes count kids (set kids at new) tight (omega arith) (more_loose tight);
+        tight = λ tight. grown_tight skipped bytes bytes count 1 kids (set kids at new) tight (omega arith) (more_loose tight);
       }
 
   -- ---- a child put in
@@ -191,5 +191,5 @@ module _ (words width : ℕ) (skipped bytes : List ℕ) (kids : List Tree) (coun
       put_added = record {
         absent = gap_absent;
         pairs = put_pairs;
-        tight = λ was. grown_tight skipped bytes (insert bytes at byte) count kids (insert kids at new) was (let long = put_long in omega arith) (let same = put_loose in omega arith);
+        tight = λ was. grown_tight skipped bytes (insert bytes at byte) count 1 kids (insert kids at new) was (let long = put_long in omega arith) (let same = put_loose in omega arith);
       }

@@ -15,3 +15,4 @@ pub mod RootFacts
 pub mod KidInserts
 pub mod GivenValues
 pub mod WayFacts
+pub mod AppendFacts

@@ -3,3 +3,4 @@ pub mod LeafTrees
 pub mod Inserted
 pub mod Exchanged
 pub mod Splits
+pub mod Appended

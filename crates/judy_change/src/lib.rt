@@ -11,13 +11,15 @@
 //! inserts.rt has the calls that put a key in or lend a slot, exchanges.rt the call that gives a key a value and answers the one that was
 //! there, specs/Exchanged.antt what it leaves, and way_down.rt the way of an insert. It ends at a node that takes the key
 //! or gives way to a larger one (immediates.rt, leaves.rt, bitmaps.rt), at a branch that gets a child (put.rt), or at a node that
-//! skips other bytes than the key begins with, which gets a branch above it (split.rt); gap.rt puts a pair among others. removals.rt has
+//! skips other bytes than the key begins with, which gets a branch above it (split.rt); gap.rt puts a pair among others, and appends.rt many
+//! behind all others, a new node at once. removals.rt has
 //! the way of a removal, remove_leaf.rt its end, settle.rt the smaller nodes, removed.rt what is answered.
 //!
 //! The crate stands on judy_model, judy_bits, judy_block, judy_leaf and judy_node, of which it uses the parts for writing; judy_word
 //! stands on it.
 #![tactic(auto)]
 
+mod appends;
 mod bitmaps;
 mod exchanges;
 mod gap;
@@ -33,6 +35,7 @@ mod settle;
 mod split;
 mod way_down;
 
+pub use appends::append;
 pub use exchanges::exchange;
 pub use inserts::{insert, insert_with, slot};
 pub use removals::remove;

@@ -1,19 +1,18 @@
 -- Entries that are read one after another into a map.
-use Rattle.std.proofs.Common.{◌≡◌, ℕ, ◌+◌, ◌-◌, ◌<◌, ◌≤◌, suc, arith, true, false, cond, IsTrue, List, [], ◌∷◌, ◌++◌, Option, Some, None, Result, Ok, Err, refl, sym, ap, subst, ◌∙◌, append_assoc, append-nil, Less, Equal, Greater}
+use Rattle.std.proofs.Common.{◌≡◌, ℕ, ◌+◌, ◌-◌, ◌<◌, ◌≤◌, suc, arith, true, false, cond, IsTrue, List, [], ◌∷◌, ◌++◌, Option, Some, None, is_some, Result, Ok, Err, refl, sym, ap, subst, ◌∙◌, append_assoc, append-nil, Less, Equal, Greater}
 use Rattle.std.specs.declared.cmp.Ordering.{Ordering}
 use Rattle.std.specs.Ordering.{is_lt, is_eq, eq_by_cmp}
 use Rattle.std.specs.Cmp.{IsTotalOrder, nat_cmp_total, tied_itself}
 use Rattle.std.specs.Cmp.Lexicographic.{nat_list_cmp_total}
-use Rattle.std.specs.FinMap.{IsAntisymmetric, nat_cmp-IsAntisymmetric, slice_cmp-IsAntisymmetric, find, from_entries, from_entries_push, get, insert, get-from_entries}
+use Rattle.std.specs.FinMap.{IsAntisymmetric, nat_cmp-IsAntisymmetric, slice_cmp-IsAntisymmetric, find, from_entries, from_entries_push, get, contains_key, insert, get-from_entries}
 use Rattle.std.specs.FinMap.Entries.{find-append}
 use Rattle.std.proofs.lemmas.List.Elements.{All-nil, All-append}
-use Rattle.judy_model.specs.Arrays.{ArrayOf, ArrayValue, ins}
+use Rattle.judy_model.specs.Arrays.{ArrayOf, ArrayValue}
 use Rattle.judy_model.specs.Keys.{IsByteString, word_order, byte_order}
 use Rattle.judy_model.specs.DumpText.{length_order}
 use Rattle.judy_model.proofs.KindLemmas.{length_order-total}
 use Rattle.judy_model.specs.Fields.{Fault, truncated, bad_order, Part, field, followed_by, ◌>>=◌, done, Behind}
 use Rattle.judy_model.specs.DumpGrammar.{is_above, entry, entries, filled}
-use Rattle.judy_model.proofs.Inserts.{ins_absent}
 use Rattle.judy_pipe.specs.Pipe.{grown}
 use Rattle.judy_pipe.proofs.Moves.{grown-grown}
 use Rattle.judy_shelf.specs.Reads.{Drawn, Cause, memory, OfFronts, ReadsValue, ReadsFault, Nowhere, AtSome}
@@ -216,9 +215,9 @@ module _ {K : Type 0} {order map_order : K → K → Ordering} (orders : KeyOrde
     pub made_more : from_entries {R = map_order} (held ++ (key, value) ∷ []) ≡ insert (from_entries held) key value
     made_more = from_entries_push orders.map_total orders.same held key value (new key above)
 
-    pub absent_key : get (from_entries {R = map_order} held) key ≡ None
+    absent_key : get (from_entries {R = map_order} held) key ≡ None
     absent_key = get-from_entries orders.map_total held key ∙ new key above
 
-    -- An insert of the key.
-    pub set_more : ins (from_entries {R = map_order} held) key ≡ insert (from_entries held) key 0
-    set_more = ins_absent (from_entries held) key absent_key
+    -- An insert of the key, which would leave one that is there.
+    pub put_more : cond (contains_key (from_entries {R = map_order} held) key) (from_entries {R = map_order} held) (insert (from_entries {R = map_order} held) key value) ≡ insert (from_entries {R = map_order} held) key value
+    put_more = ap (λ (found : Option ℕ). cond (is_some found) (from_entries {R = map_order} held) (insert (from_entries {R = map_order} held) key value)) absent_key

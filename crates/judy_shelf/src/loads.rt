@@ -27,7 +27,7 @@ use crate::version::Version;
 use judy_hs::{Fnv1a, JudyHs};
 use judy_pipe::Source;
 use judy_sl::JudySl;
-use judy_word::{Judy1, JudyL};
+use judy_word::{FillingMap, FillingSet, Judy1, JudyL};
 use std::alloc::Global;
 
 /// Reads a dump in the format JDY1 or JDY2 (both this project's own), which its first bytes name, from the first
@@ -41,7 +41,8 @@ use std::alloc::Global;
 /// and only where what the source gave has no fault and ends behind a key count or an entry. So no byte is taken behind
 /// the field that decides, and a source that never ends is left.
 ///
-/// Memory is asked for by the keys that were read, one after another, and never by a number that the bytes say.
+/// Memory is asked for by the keys that were read, and never by a number that the bytes say. Up to 4,096 keys of an array of words are
+/// read before they are put in.
 pub fn load<R: Source>(alloc: Global, source: &mut R) -> Result<Shelf, LoadFault>
     requires { (R.tally source.old).failures < 2 ^ 64 - 1 }
     ensures { Loaded (drawn (R.given source.old) (R.ended source.old) (R.tally source.old).failures) result (drawn (R.given source.new) (R.ended source.new) (R.tally source.new).failures) }
@@ -77,16 +78,19 @@ fn read_set<R: Source>(
     requires most { limit ≤ 4294967295 }
     ensures { ReadsWanting (AtSome (λ listed. grammar.filled judy1 limit (grammar.entries word_order (λ before. grammar.word) grammar.no_value None listed)) count) (λ set. judy1 (array_of set)) (grammar.filled judy1 limit (grammar.entries word_order (λ before. grammar.word) grammar.no_value None count)) (drawn (R.given source.old) (R.ended source.old) (R.tally source.old).failures) result (drawn (R.given source.new) (R.ended source.new) (R.tally source.new).failures) }
 {
-    let mut set = Judy1::new(alloc, limit);
+    let mut set = FillingSet::new(alloc, limit);
     let mut before = None;
     'keys: for _ in 0..count {
         let key = read_word_after(source, before)?;
-        match set.set(key) {
-            Ok(_) => before = Some(key),
+        match set.put(key, 0) {
+            Ok(()) => before = Some(key),
             Err(_) => return Err(LoadFault::NoMemory),
         }
     }
-    Ok(set)
+    match set.into_set() {
+        Ok(filled) => Ok(filled),
+        Err(_) => Err(LoadFault::NoMemory),
+    }
 }
 
 // Reads the keys of a map, so many, and the value of each behind it.
@@ -101,17 +105,20 @@ fn read_words<R: Source>(
     requires most { limit ≤ 4294967295 }
     ensures { ReadsWanting (AtSome (λ listed. grammar.filled judyl limit (grammar.entries word_order (λ before. grammar.word) grammar.word None listed)) count) (λ words. judyl (array_of words)) (grammar.filled judyl limit (grammar.entries word_order (λ before. grammar.word) grammar.word None count)) (drawn (R.given source.old) (R.ended source.old) (R.tally source.old).failures) result (drawn (R.given source.new) (R.ended source.new) (R.tally source.new).failures) }
 {
-    let mut words = JudyL::new(alloc, limit);
+    let mut words = FillingMap::new(alloc, limit);
     let mut before = None;
     'keys: for _ in 0..count {
         let key = read_word_after(source, before)?;
         let value = read_u64(source)?;
         match words.put(key, value) {
-            Ok(_) => before = Some(key),
+            Ok(()) => before = Some(key),
             Err(_) => return Err(LoadFault::NoMemory),
         }
     }
-    Ok(words)
+    match words.into_map() {
+        Ok(filled) => Ok(filled),
+        Err(_) => Err(LoadFault::NoMemory),
+    }
 }
 
 // Reads the keys of an array of strings, so many, and the value of each behind it.

@@ -29,11 +29,12 @@ spelled-front zero bytes more long = refl
 spelled-front (suc width) [] more long = let never : ⊥ = omega arith in absurd never
 spelled-front (suc width) (byte ∷ bytes) more long = ap (λ rest. byte * 256 ^ width + rest) (spelled-front width bytes more (omega arith))
 
-piece-front : (bytes more : List ℕ) → 8 ≤ length bytes → piece_of (bytes ++ more) ≡ piece_of bytes
+-- Nor of the piece.
+pub piece-front : (bytes more : List ℕ) → 8 ≤ length bytes → piece_of (bytes ++ more) ≡ piece_of bytes
 unfolding piece_of
 piece-front bytes more long = spelled-front 8 bytes more long
 
-pieces-front : (bytes more : List ℕ) → 8 ≤ length bytes → pieces (bytes ++ more) ≡ piece_of bytes ∷ pieces (drop 8 bytes ++ more)
+pub pieces-front : (bytes more : List ℕ) → 8 ≤ length bytes → pieces (bytes ++ more) ≡ piece_of bytes ∷ pieces (drop 8 bytes ++ more)
 pieces-front bytes more long =
     let both = length-append bytes more in
     pieces_long (bytes ++ more) (omega arith) ∙ (λ t. piece-front bytes more long t ∷ pieces (drop-append-le 8 bytes more long t))

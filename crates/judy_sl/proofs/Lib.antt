@@ -39,3 +39,4 @@ pub mod Words
 pub mod Rooms
 pub mod Exact
 pub mod Looked
+pub mod Behind

@@ -3,7 +3,7 @@ use Rattle.std.proofs.Common.{◌≡◌, ◌≢◌, ℕ, zero, suc, ◌+◌, ◌
 use Rattle.std.specs.FinMap.{FinMap, nat_cmp-IsAntisymmetric, keys, get, contains_key, empty, empty_of_len, same_map, get-empty}
 use Rattle.std.specs.Cmp.{nat_cmp_total}
 use Rattle.std.proofs.lemmas.Bool.{cases_eq, cases_lt}
-use Rattle.std.proofs.lemmas.List.{append_assoc, append-nil, length-append}
+use Rattle.std.proofs.lemmas.List.{append_assoc, append-nil, length-append, length-drop}
 use Rattle.judy_model.specs.Keys.{IsWord, IsStringKey, word_order}
 use Rattle.judy_model.proofs.Ascending.{Among}
 use Rattle.judy_model.proofs.KeysLemmas.{length-keys, contains_key-from_among}
@@ -18,6 +18,7 @@ use Rattle.judy_sl.proofs.PieceLemmas.{text_of_key, pieces_are, piece_of-lt, tex
 use Rattle.judy_sl.proofs.PieceBytes.{spelling-pieces, spelling-append}
 use Rattle.judy_sl.proofs.ScanLevels.{pieces_rest, at_tail, lookup_final, lookup_inner, end_final, end_tail, end_level}
 use Rattle.judy_sl.proofs.ScanWays.{AreInner-more}
+use Rattle.judy_sl.proofs.OnWay.{pieces-head}
 
 -- ---- each entry begins a key
 
@@ -25,16 +26,27 @@ not_nil : (front : List ℕ) (piece : ℕ) (rest : List ℕ) → [] ≢ front ++
 not_nil [] piece rest e = cc
 not_nil (first ∷ front) piece rest e = cc
 
--- The pieces of a text are words.
-piece_in : (front : List ℕ) (piece : ℕ) (rest bytes : List ℕ) → IsText bytes → pieces bytes ≡ front ++ piece ∷ rest → IsWord piece
-piece_in [] piece rest bytes text is = ⊎_elim
-    (λ short. let both : piece_of bytes ∷ [] ≡ piece ∷ rest = sym (pieces_short bytes short) ∙ is in let one : piece_of bytes ≡ piece = cc in subst IsWord one (piece_of-lt bytes text))
-    (λ long. let both : piece_of bytes ∷ pieces (drop 8 bytes) ≡ piece ∷ rest = sym (pieces_long bytes long) ∙ is in let one : piece_of bytes ≡ piece = cc in subst IsWord one (piece_of-lt bytes text))
-    (cases_lt (length bytes) 8)
-piece_in (first ∷ front) piece rest bytes text is = ⊎_elim
+-- A text with these pieces, no longer than a key may be.
+pub record TextBehind (ps : List ℕ) : Type 0 where
+  pub bytes : List ℕ
+  pub text : IsText bytes
+  pub spells : pieces bytes ≡ ps
+  pub within : length bytes ≤ 1024
+
+-- What stands behind the first pieces of a text are the pieces of one.
+pub text_behind : (front : List ℕ) (piece : ℕ) (rest bytes : List ℕ) → IsText bytes → length bytes ≤ 1024 → pieces bytes ≡ front ++ piece ∷ rest → TextBehind (piece ∷ rest)
+text_behind [] piece rest bytes text within is = record { bytes = bytes; text = text; spells = is; within = within }
+text_behind (first ∷ front) piece rest bytes text within is = ⊎_elim
     (λ short. let both : piece_of bytes ∷ [] ≡ first ∷ front ++ piece ∷ rest = sym (pieces_short bytes short) ∙ is in let none : [] ≡ front ++ piece ∷ rest = cc in absurd (not_nil front piece rest none))
-    (λ long. let both : piece_of bytes ∷ pieces (drop 8 bytes) ≡ first ∷ front ++ piece ∷ rest = sym (pieces_long bytes long) ∙ is in let others : pieces (drop 8 bytes) ≡ front ++ piece ∷ rest = cc in piece_in front piece rest (drop 8 bytes) (text-drop 8 bytes text) others)
+    (λ long. let both : piece_of bytes ∷ pieces (drop 8 bytes) ≡ first ∷ front ++ piece ∷ rest = sym (pieces_long bytes long) ∙ is in
+    let others : pieces (drop 8 bytes) ≡ front ++ piece ∷ rest = cc in
+    let left = length-drop 8 bytes in
+    text_behind front piece rest (drop 8 bytes) (text-drop 8 bytes text) (omega arith) others)
     (cases_lt (length bytes) 8)
+
+-- The first of them is the piece with which it begins.
+pub text_begins : (piece : ℕ) (rest : List ℕ) (text : TextBehind (piece ∷ rest)) → piece_of text.bytes ≡ piece
+text_begins piece rest text = let head = pieces-head text.bytes in let both : piece_of text.bytes ∷ head.0 ≡ piece ∷ rest = sym head.1 ∙ text.spells in cc
 
 -- A map that holds no key is empty.
 pub empty_from_none : (map : FinMap word_order ℕ) → ((key : ℕ) → IsFalse (contains_key map key)) → map ≡ empty
@@ -44,7 +56,7 @@ empty_from_none map none = same_map nat_cmp_total nat_cmp-IsAntisymmetric map em
     absent None e = refl
     absent (Some value) e = absurd (true≢false e)
 
-value_held : (map : FinMap word_order ℕ) (piece : ℕ) → IsTrue (contains_key map piece) → (value : ℕ) × (get map piece ≡ Some value)
+pub value_held : (map : FinMap word_order ℕ) (piece : ℕ) → IsTrue (contains_key map piece) → (value : ℕ) × (get map piece ≡ Some value)
 value_held map piece held = by (get map piece) refl held
   where
     by : (found : Option ℕ) → get map piece ≡ found → IsTrue (is_some found) → (value : ℕ) × (get map piece ≡ Some value)
@@ -118,8 +130,10 @@ module _ {world : World} {behind : ℕ → List ℕ} (is_world : IsWorld world b
 
   -- The entries of a level are words.
   pub level_words : (seat : ℕ) (map : FinMap word_order ℕ) → world seat ≡ level map → (piece : ℕ) → IsTrue (contains_key map piece) → IsWord piece
-  level_words seat map is piece held = let key = begins seat map piece is held in
-      piece_in (behind seat) piece key.rest key.spelled.key (text_of_key key.spelled.key key.spelled.is_key) key.spelled.spells
+  level_words seat map is piece held =
+      let key = begins seat map piece is held in
+      let text = text_behind (behind seat) piece key.rest key.spelled.key (text_of_key key.spelled.key key.spelled.is_key) key.spelled.is_key.is_bytes_key.within_limit key.spelled.spells in
+      subst IsWord (text_begins piece key.rest text) (piece_of-lt text.bytes text.text)
 
 -- ---- the way down
 

@@ -1,5 +1,5 @@
 -- A walk from key to key: at which place of all keys it stands, and how many keys it has counted.
-use Rattle.std.proofs.Common.{◌≡◌, ℕ, suc, ◌+◌, ◌-◌, ◌<◌, ◌≤◌, true, false, not, ◌&&◌, ◌⊎◌, IsTrue, IsFalse, ⊎_elim, List, [], length, slice_get, Option, Some, None, is_some, unwrap_or, ◌≢◌, sym, refl, ap, ◌∙◌, subst, arith, true≢false, is_lt, is_le}
+use Rattle.std.proofs.Common.{◌≡◌, ℕ, suc, ◌+◌, ◌<◌, ◌≤◌, true, false, not, ◌&&◌, ◌⊎◌, IsTrue, IsFalse, ⊎_elim, List, [], length, slice_get, Option, Some, None, is_some, unwrap_or, sym, refl, ap, ◌∙◌, subst, arith, true≢false, is_lt, is_le}
 use Rattle.std.specs.FinMap.{FinMap, keys, get, len}
 use Rattle.std.proofs.lemmas.Bool.{cases_lt}
 use Rattle.std.proofs.lemmas.Option.{slice_get_cases, none-some}

@@ -12,3 +12,4 @@ pub mod Branches
 pub mod Lends
 pub mod Levels
 pub mod Words
+pub mod Behind

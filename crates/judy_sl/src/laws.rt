@@ -4,6 +4,7 @@
 ghost use Rattle.std.specs.Prelude.{◌≡◌, ℕ, List, [], ◌∷◌, codes};
 ghost use Rattle.judy_model.specs.Keys.{IsStringKey, byte_order};
 ghost use Rattle.judy_sl.specs.Pieces.{pieces, spelling, ArePieces};
+ghost use Rattle.judy_sl.specs.Behind.{KeysStandEntryByEntry};
 
 /// Exactly the last piece of a key is final.
 pub fn the_last_piece_is_final()
@@ -18,6 +19,11 @@ pub fn pieces_spell_their_key()
 /// Keys compare as their pieces do, the first that differ deciding, as numbers.
 pub fn keys_compare_as_their_pieces()
     ensures { (one other : List ℕ) → IsStringKey one → IsStringKey other → byte_order one other ≡ byte_order (pieces one) (pieces other) }
+{}
+
+/// The keys behind a level stand entry by entry: the bytes of a piece before what is left of each key behind it.
+pub fn keys_stand_entry_by_entry()
+    ensures { KeysStandEntryByEntry }
 {}
 
 /// Short keys in pieces, as a reader would work them out.

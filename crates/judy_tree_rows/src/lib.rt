@@ -17,9 +17,13 @@ mod changes;
 #[cfg(test)]
 mod draws;
 #[cfg(test)]
+mod filled;
+#[cfg(test)]
 mod immediates;
 #[cfg(test)]
 mod iterators;
+#[cfg(test)]
+mod known_nodes;
 #[cfg(test)]
 mod leaves;
 #[cfg(test)]

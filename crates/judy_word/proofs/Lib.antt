@@ -11,3 +11,4 @@ mod SortedFacts
 pub mod IterFacts
 pub mod TrialLemmas
 pub mod Groups
+pub mod FrontFacts

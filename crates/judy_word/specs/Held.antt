@@ -1,9 +1,9 @@
 -- What an array over a tree holds, and what it always keeps.
-use Rattle.std.specs.Prelude.{◌≡◌, ℕ, ◌≤◌, Bool, false, if◌then◌else◌, length}
+use Rattle.std.specs.Prelude.{◌≡◌, ℕ, ◌^◌, ◌≤◌, Bool, false, if◌then◌else◌, [], ◌∷◌, length}
 use Rattle.std.specs.FinMap.{FinMap, contains_key, insert}
 use Rattle.judy_model.specs.Keys.{word_order}
 use Rattle.judy_model.specs.Arrays.{ArrayOf}
-use Rattle.judy_node.specs.Trees.{Tree, IsNode, IsTight}
+use Rattle.judy_node.specs.Trees.{Pairs, Tree, IsMap, IsNode, IsTight}
 use Rattle.judy_node.specs.Roots.{empty_tree}
 use Rattle.judy_node.specs.Slots as slots
 use Rattle.judy_query.specs.Maps.{map_of}
@@ -25,6 +25,15 @@ array_in held = record { limit = held.limit; map = map_in held }
 -- A map with a key that has a value where it was absent; a key that is there keeps its own.
 abbrev pub with_new : FinMap word_order ℕ → ℕ → ℕ → FinMap word_order ℕ
 with_new map key value = if contains_key map key then map else insert map key value
+
+-- The same with one pair after another.
+abbrev pub with_all : FinMap word_order ℕ → Pairs → FinMap word_order ℕ
+with_all map [] = map
+with_all map (pair ∷ pairs) = with_all (with_new map pair.0 pair.1) pairs
+
+-- What an array that is filled keeps: it isn't loose, and the pairs that aren't put in yet ascend.
+abbrev pub IsFilling : ℕ → Held → Pairs → Type 0
+IsFilling words held kept = IsMap words 0 (256 ^ 8) kept × (held.loose ≡ false)
 
 -- Nothing, below a limit.
 abbrev pub nothing_held : ℕ → Held

@@ -9,10 +9,11 @@
 // What lies below both is a `TreeArray`, which is a limit, a tree of judy_node and whether that may be loose: each public call hands
 // on to its calls. tree_array.rt has it, and in the folder of that name stand what is asked of a key (counts.rt), neighbours, the same
 // with values (entries.rt) and empties, all over judy_query; changes, and those that answer the value that was there (values.rt), over judy_change; slots; arrays made at once of keys that
-// ascend (sorted.rt, in src too); and the law of what every array keeps (kept.rt). laws.rt has laws of nodes. iter.rt has the iterators, and how an array is printed.
+// ascend (sorted.rt, in src too); fronts of such lists put in (fronts.rt, and filling.rt in src, arrays that are filled by keys that ascend); and the law of what every array keeps (kept.rt). laws.rt has laws of nodes. iter.rt has the iterators, and how an array is printed.
 #![tactic(auto)]
 
 mod error;
+mod filling;
 mod iter;
 mod judy1;
 mod judyl;
@@ -22,6 +23,7 @@ mod tree_array;
 mod word_map;
 
 pub use error::InsertError;
+pub use filling::{Filling, FillingMap, FillingSet};
 pub use iter::{Entries, Keys};
 pub use judy1::Judy1;
 pub use judyl::JudyL;

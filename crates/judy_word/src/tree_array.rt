@@ -17,6 +17,7 @@ mod changes;
 mod counts;
 mod empties;
 mod entries;
+mod fronts;
 mod kept;
 mod neighbours;
 mod slots;
@@ -24,6 +25,7 @@ mod sorted;
 mod values;
 
 pub use entries::TreeEntries;
+pub(crate) use fronts::set_all;
 
 /// An array of words over a tree, with `V` words of value a key, none or one: a set or a map. It holds at most as many keys as its
 /// limit. To its callers it is that limit, its tree with all nodes, and whether the tree may have a node that is larger than its keys need.

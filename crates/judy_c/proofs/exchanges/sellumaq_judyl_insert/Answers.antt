@@ -3,7 +3,7 @@ use Rattle.std.proofs.Common.{◌≡◌, ap, subst, sym, refl, Option}
 use Rattle.std.specs.Prelude.{ℕ, false, OnErr}
 use Rattle.judy_c.specs.Maps.{map_of}
 use Rattle.judy_c.specs.Told.{IsTold}
-use Rattle.judy_c.proofs.Handles.{null_has_none, null_has_no_value}
+use Rattle.judy_c.proofs.WordHandles.{null_has_none, null_has_no_value}
 use Rattle.judy_c.proofs.exchanges.sellumaq_judyl_insert.Goals as goal
 
 pub returns-in-Err-clause-stored : goal.returns-in-Err-clause-stored

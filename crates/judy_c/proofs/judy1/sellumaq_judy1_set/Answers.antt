@@ -2,7 +2,7 @@
 use Rattle.std.proofs.Common.{◌≡◌, ap, subst}
 use Rattle.std.specs.Prelude.{OnErr}
 use Rattle.judy_c.specs.Maps.{set_of}
-use Rattle.judy_c.proofs.Handles.{null_has_none}
+use Rattle.judy_c.proofs.WordHandles.{null_has_none}
 use Rattle.judy_c.proofs.judy1.sellumaq_judy1_set.Goals as goal
 
 pub returns-in-Err : goal.returns-in-Err

@@ -1,17 +1,18 @@
 use Rattle.std.proofs.Common.{◌≡◌, ◌+◌, ◌<◌, ◌≤◌, ◌∷◌, [], ◌++◌, Some, sym, ap, ◌∙◌, arith}
-use Rattle.judy_model.specs.Arrays.{judy1, ins}
+use Rattle.judy_model.specs.Arrays.{judy1}
 use Rattle.judy_model.specs.Keys.{word_order}
 use Rattle.judy_model.specs.DumpGrammar as grammar
 use Rattle.judy_word.specs.WordArrays.{array_of}
+use Rattle.judy_word.specs.Held.{with_new}
 use Rattle.judy_shelf.specs.Reads.{drawn, cause_of}
 use Rattle.judy_shelf.proofs.ReadLemmas.{reads_err, value_done}
-use Rattle.judy_shelf.proofs.EntryReads.{word_keys, whole, listing_none, listing_next, listing_fault, listing_memory, listing_filled, entry_read, entry_key_stopped, filled_fault, new_none, new_more, set_more, made_more}
+use Rattle.judy_shelf.proofs.EntryReads.{word_keys, whole, listing_none, listing_next, listing_fault, listing_memory, listing_filled, entry_read, entry_key_stopped, filled_fault, new_none, new_more, put_more, made_more}
 use Rattle.judy_shelf.proofs.loads.read_set.Goals as goal
 
 pub keys-init : goal.keys-init
 keys-init g c =
     let before = drawn (g.R.Source.given c.args.source.now) (g.R.Source.ended c.args.source.now) (g.R.Source.tally c.args.source.now).failures in
-    ([], ap (λ a. a.limit) c.new-set.ensures, ap (λ a. a.map) c.new-set.ensures, new_none word_keys, listing_none word_order (λ before. grammar.word) grammar.no_value before)
+    ([], c.new-set.ensures.limit, c.new-set.ensures.map, new_none word_keys, listing_none word_order (λ before. grammar.word) grammar.no_value before)
 
 pub returns-in_err-key : goal.returns-in_err-key
 returns-in_err-key g c =
@@ -51,17 +52,26 @@ keys-preserved g c =
     let new = c.keys.invariant.3 in
     let next = entry_read word_order (λ before. grammar.word) grammar.no_value c.args.count c.keys.before key mid after c.in_ok-key.ensures.read 0 after (value_done 0 after) in
     let far = listing_next word_order (λ before. grammar.word) grammar.no_value c.keys.counter c.keys.before held before mid c.keys.invariant.4 (key, 0) after next in
-    let set = c.in-Ok.ensures.set in (
+    let set = c.in-Ok.ensures in (
       held ++ (key, 0) ∷ [],
       ap (λ a. a.limit) set ∙ c.keys.invariant.1,
-      ap (λ a. a.map) set ∙ ap (λ m. ins m key) c.keys.invariant.2 ∙ set_more word_keys c.keys.before held new key 0 above ∙ sym (made_more word_keys c.keys.before held new key 0 above),
+      ap (λ a. a.map) set ∙ ap (λ m. with_new m key 0) c.keys.invariant.2 ∙ put_more word_keys c.keys.before held new key 0 above ∙ sym (made_more word_keys c.keys.before held new key 0 above),
       new_more word_keys c.keys.before held new key 0 above,
       far,
     )
 
-pub returns : goal.returns
-returns g c =
+pub returns-in-Err-into_set : goal.returns-in-Err-into_set
+returns-in-Err-into_set g c =
+    let before = drawn (g.R.Source.given c.args.source.now) (g.R.Source.ended c.args.source.now) (g.R.Source.tally c.args.source.now).failures in
+    let now = drawn (g.R.Source.given c.keys.source) (g.R.Source.ended c.keys.source) (g.R.Source.tally c.keys.source).failures in
+    let all : c.keys.counter ≤ c.args.count = omega arith in
+    listing_memory word_order (λ before. grammar.word) grammar.no_value c.keys.counter c.keys.before c.keys.invariant.0 before now c.keys.invariant.4 judy1 c.args.limit c.args.count all
+
+pub returns-in-Ok-into_set : goal.returns-in-Ok-into_set
+returns-in-Ok-into_set g c =
     let before = drawn (g.R.Source.given c.args.source.now) (g.R.Source.ended c.args.source.now) (g.R.Source.tally c.args.source.now).failures in
     let now = drawn (g.R.Source.given c.keys.source) (g.R.Source.ended c.keys.source) (g.R.Source.tally c.keys.source).failures in
     let all : c.keys.counter ≡ c.args.count = omega arith in
-    listing_filled word_order (λ before. grammar.word) grammar.no_value c.keys.counter c.keys.before c.keys.invariant.0 before now c.keys.invariant.4 judy1 c.args.limit c.args.count (array_of c.keys.set) all c.keys.invariant.1 c.keys.invariant.2
+    let made = c.in-Ok-into_set.ensures.array in
+    listing_filled word_order (λ before. grammar.word) grammar.no_value c.keys.counter c.keys.before c.keys.invariant.0 before now c.keys.invariant.4 judy1 c.args.limit c.args.count (array_of c.in-Ok-into_set.filled) all
+    (ap (λ a. a.limit) made ∙ c.keys.invariant.1) (ap (λ a. a.map) made ∙ c.keys.invariant.2)

@@ -1,18 +1,18 @@
 use Rattle.std.proofs.Common.{◌≡◌, ◌+◌, ◌<◌, ◌≤◌, ◌∷◌, [], ◌++◌, Some, sym, ap, ◌∙◌, arith}
-use Rattle.std.specs.FinMap.{insert}
 use Rattle.judy_model.specs.Arrays.{judyl}
 use Rattle.judy_model.specs.Keys.{word_order}
 use Rattle.judy_model.specs.DumpGrammar as grammar
 use Rattle.judy_word.specs.WordArrays.{array_of}
+use Rattle.judy_word.specs.Held.{with_new}
 use Rattle.judy_shelf.specs.Reads.{drawn, cause_of}
 use Rattle.judy_shelf.proofs.ReadLemmas.{reads_err}
-use Rattle.judy_shelf.proofs.EntryReads.{word_keys, whole, listing_none, listing_next, listing_fault, listing_memory, listing_filled, entry_read, entry_key_stopped, entry_value_stopped, filled_fault, new_none, new_more, made_more}
+use Rattle.judy_shelf.proofs.EntryReads.{word_keys, whole, listing_none, listing_next, listing_fault, listing_memory, listing_filled, entry_read, entry_key_stopped, entry_value_stopped, filled_fault, new_none, new_more, put_more, made_more}
 use Rattle.judy_shelf.proofs.loads.read_words.Goals as goal
 
 pub keys-init : goal.keys-init
 keys-init g c =
     let before = drawn (g.R.Source.given c.args.source.now) (g.R.Source.ended c.args.source.now) (g.R.Source.tally c.args.source.now).failures in
-    ([], ap (λ a. a.limit) c.new-words.ensures, ap (λ a. a.map) c.new-words.ensures, new_none word_keys, listing_none word_order (λ before. grammar.word) grammar.word before)
+    ([], c.new-words.ensures.limit, c.new-words.ensures.map, new_none word_keys, listing_none word_order (λ before. grammar.word) grammar.word before)
 
 pub returns-in_err-key : goal.returns-in_err-key
 returns-in_err-key g c =
@@ -71,17 +71,26 @@ keys-preserved g c =
     let new = c.keys.invariant.3 in
     let next = entry_read word_order (λ before. grammar.word) grammar.word c.args.count c.keys.before key mid keyed c.in_ok-key.ensures.read value after c.in_ok-value.ensures in
     let far = listing_next word_order (λ before. grammar.word) grammar.word c.keys.counter c.keys.before held before mid c.keys.invariant.4 (key, value) after next in
-    let written = c.in-Ok.ensures.put in (
+    let written = c.in-Ok.ensures in (
       held ++ (key, value) ∷ [],
       ap (λ a. a.limit) written ∙ c.keys.invariant.1,
-      ap (λ a. a.map) written ∙ ap (λ m. insert m key value) c.keys.invariant.2 ∙ sym (made_more word_keys c.keys.before held new key value above),
+      ap (λ a. a.map) written ∙ ap (λ m. with_new m key value) c.keys.invariant.2 ∙ put_more word_keys c.keys.before held new key value above ∙ sym (made_more word_keys c.keys.before held new key value above),
       new_more word_keys c.keys.before held new key value above,
       far,
     )
 
-pub returns : goal.returns
-returns g c =
+pub returns-in-Err-into_map : goal.returns-in-Err-into_map
+returns-in-Err-into_map g c =
+    let before = drawn (g.R.Source.given c.args.source.now) (g.R.Source.ended c.args.source.now) (g.R.Source.tally c.args.source.now).failures in
+    let now = drawn (g.R.Source.given c.keys.source) (g.R.Source.ended c.keys.source) (g.R.Source.tally c.keys.source).failures in
+    let all : c.keys.counter ≤ c.args.count = omega arith in
+    listing_memory word_order (λ before. grammar.word) grammar.word c.keys.counter c.keys.before c.keys.invariant.0 before now c.keys.invariant.4 judyl c.args.limit c.args.count all
+
+pub returns-in-Ok-into_map : goal.returns-in-Ok-into_map
+returns-in-Ok-into_map g c =
     let before = drawn (g.R.Source.given c.args.source.now) (g.R.Source.ended c.args.source.now) (g.R.Source.tally c.args.source.now).failures in
     let now = drawn (g.R.Source.given c.keys.source) (g.R.Source.ended c.keys.source) (g.R.Source.tally c.keys.source).failures in
     let all : c.keys.counter ≡ c.args.count = omega arith in
-    listing_filled word_order (λ before. grammar.word) grammar.word c.keys.counter c.keys.before c.keys.invariant.0 before now c.keys.invariant.4 judyl c.args.limit c.args.count (array_of c.keys.words) all c.keys.invariant.1 c.keys.invariant.2
+    let made = c.in-Ok-into_map.ensures.array in
+    listing_filled word_order (λ before. grammar.word) grammar.word c.keys.counter c.keys.before c.keys.invariant.0 before now c.keys.invariant.4 judyl c.args.limit c.args.count (array_of c.in-Ok-into_map.filled) all
+    (ap (λ a. a.limit) made ∙ c.keys.invariant.1) (ap (λ a. a.map) made ∙ c.keys.invariant.2)

@@ -1,5 +1,5 @@
 -- `Bytes::insert`: whether the key was there is told by the number of keys before and after.
-use Rattle.std.proofs.Common.{◌≡◌, ℕ, sym, ap, subst, ◌∙◌, Some, None, Ok}
+use Rattle.std.proofs.Common.{◌≡◌, sym, ap, subst, ◌∙◌, Some, None, Ok}
 use Rattle.std.specs.Prelude.{is_ok}
 use Rattle.std.specs.FinMap.{len}
 use Rattle.judy_sl.specs.Lends.{with_value}

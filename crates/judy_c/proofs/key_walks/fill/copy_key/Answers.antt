@@ -1,5 +1,5 @@
 -- `copy_key`: what stands behind the place that was written stays.
-use Rattle.std.proofs.Common.{◌≡◌, ◌+◌, ◌-◌, ◌≤◌, length, ap, ◌∙◌, arith}
+use Rattle.std.proofs.Common.{◌≡◌, ◌+◌, ◌-◌, length, ap, ◌∙◌, arith}
 use Rattle.std.proofs.lemmas.Slice.{drop-put_mid}
 use Rattle.judy_c.proofs.key_walks.fill.copy_key.Goals as goal
 

@@ -1,9 +1,9 @@
 -- `fill_list`: each turn writes the pair of the next entry; where there is none, or no room for it, those that fit are written.
-use Rattle.std.proofs.Common.{◌≡◌, ◌+◌, ◌-◌, ◌<◌, ◌≤◌, true, false, nat_le, ◌∷◌, length, drop, refl, sym, ap, subst, ◌∙◌, arith}
+use Rattle.std.proofs.Common.{◌≡◌, ◌+◌, ◌-◌, true, false, nat_le, ◌∷◌, length, drop, sym, ap, subst, ◌∙◌}
 use Rattle.std.proofs.lemmas.Bool.{ltb-true, ltb-false}
 use Rattle.judy_hs.specs.Listed.{entries_in, key_bytes}
 use Rattle.judy_c.specs.KeyWalks.{Pairs, page_of, fitting}
-use Rattle.judy_c.proofs.PageLemmas.{IsSoFar, so_far_none, so_far_all, so_far_more, fitting_none, fitting_long}
+use Rattle.judy_c.proofs.PageLemmas.{IsSoFar, so_far_all, so_far_more, fitting_none, fitting_long}
 use Rattle.judy_c.proofs.PairLemmas.{entries_some, entries_none}
 use Rattle.judy_c.proofs.key_walks.fill.fill_list.Goals as goal
 

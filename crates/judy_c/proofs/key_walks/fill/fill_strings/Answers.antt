@@ -1,8 +1,8 @@
 -- `fill_strings`: each turn writes the pair of the next key; where there is none, or no room for it, those that fit are written.
-use Rattle.std.proofs.Common.{◌≡◌, ◌≢◌, ◌+◌, ◌-◌, ◌&&◌, ◌==◌, Bool, true, false, All, nat_le, ℕ, List, ◌∷◌, length, unwrap_or, refl, sym, ap, subst, ◌∙◌, arith}
+use Rattle.std.proofs.Common.{◌≡◌, ◌+◌, ◌-◌, ◌&&◌, ◌==◌, Bool, true, false, nat_le, ℕ, ◌∷◌, length, refl, sym, ap, subst, ◌∙◌, arith}
 use Rattle.std.proofs.lemmas.Bool.{ne_eqb}
 use Rattle.judy_c.specs.KeyWalks.{Pairs, page_of, pairs_from, beside, fitting}
-use Rattle.judy_c.proofs.PageLemmas.{IsSoFar, so_far_none, so_far_all, so_far_more, fitting_none, fitting_long}
+use Rattle.judy_c.proofs.PageLemmas.{IsSoFar, so_far_all, so_far_more, fitting_none, fitting_long}
 use Rattle.judy_c.proofs.PairLemmas.{steps, ends}
 use Rattle.judy_c.proofs.key_walks.fill.fill_strings.Goals as goal
 

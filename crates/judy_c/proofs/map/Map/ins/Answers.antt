@@ -2,7 +2,7 @@
 use Rattle.std.proofs.Common.{◌≡◌, refl, sym, ap, subst, true≢false}
 use Rattle.std.specs.Prelude.{OnErr}
 use Rattle.judy_c.specs.Maps.{map_of}
-use Rattle.judy_c.proofs.Handles.{null_has_none}
+use Rattle.judy_c.proofs.WordHandles.{null_has_none}
 use Rattle.judy_c.proofs.map.Map.ins.Goals as goal
 
 pub returns-in-Err : goal.returns-in-Err

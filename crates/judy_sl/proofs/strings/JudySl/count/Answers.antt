@@ -1,5 +1,5 @@
 use Rattle.std.proofs.Common.{◌≡◌, ◌∙◌, ◌&&◌, ◌+◌, ◌++◌, true, false, is_ok, is_some, is_le, length, unwrap_or, Result, Ok, Err, OnOk, sym, ap, subst, arith, true≢false}
-use Rattle.judy_model.specs.Counts.{count, rank}
+use Rattle.judy_model.specs.Counts.{rank}
 use Rattle.judy_model.specs.Keys.{byte_order}
 use Rattle.judy_model.specs.Neighbours.{first}
 use Rattle.judy_sl.specs.Scans.{value_found}

@@ -1,0 +1,178 @@
+//! The ways of iterators through a map from strings, from both ends of a range.
+use super::{JudySl, StringRange};
+use crate::edge::{Edge, Scan};
+use crate::keyed::MAX_KEY;
+use sellumaq_sys as sys;
+use std::iter::from_fn;
+use std::ops::Range;
+
+const UP: [Scan; 2] = [sys::sellumaq_judysl_first, sys::sellumaq_judysl_next];
+const DOWN: [Scan; 2] = [sys::sellumaq_judysl_last, sys::sellumaq_judysl_prev];
+
+/// How many keys a call of C brings at most, and how many bytes these have.
+const MOST: usize = 64;
+const ROOM: usize = 2 * MAX_KEY;
+
+/// A way of which each step is one way down the map, and reads no value but that of the key found.
+#[derive(Clone)]
+pub struct Steps {
+    front: Edge,
+    back: Edge,
+}
+
+impl Steps {
+    pub fn of(range: &impl StringRange) -> Steps {
+        let (from, to) = range.bounds();
+        Steps {
+            front: Edge::lower(from),
+            back: Edge::upper(to),
+        }
+    }
+
+    pub fn next(&mut self, map: &JudySl) -> Option<(Vec<u8>, u64)> {
+        // SAFETY: the map is borrowed, and the scans are this kind's.
+        let value = unsafe { self.front.step(map.handle, UP) }?;
+        let key = self.front.key();
+        self.back.lets_below(key).then(|| (key.to_vec(), value))
+    }
+
+    pub fn next_back(&mut self, map: &JudySl) -> Option<(Vec<u8>, u64)> {
+        // SAFETY: as in `next`.
+        let value = unsafe { self.back.step(map.handle, DOWN) }?;
+        let key = self.back.key();
+        self.front.lets_above(key).then(|| (key.to_vec(), value))
+    }
+}
+
+impl From<Way> for Steps {
+    /// The steps of a way that has brought nothing.
+    fn from(way: Way) -> Steps {
+        way.ends
+    }
+}
+
+/// Pairs that were brought: the keys one behind the other, and how many of them were given.
+#[derive(Clone)]
+struct Page {
+    bytes: [u8; ROOM],
+    entries: [sys::sellumaq_entry; MOST],
+    count: usize,
+    given: usize,
+    // Where the key given last stands.
+    key: Range<usize>,
+    // How many pairs the next call brings: one at first, for a way that is soon left.
+    most: usize,
+}
+
+impl Page {
+    fn empty() -> Page {
+        Page {
+            bytes: [0; ROOM],
+            entries: [sys::sellumaq_entry {
+                length: 0,
+                value: 0,
+            }; MOST],
+            count: 0,
+            given: 0,
+            key: 0..0,
+            most: 1,
+        }
+    }
+
+    // The key that was given last.
+    fn last(&self) -> Option<&[u8]> {
+        (self.given > 0).then(|| &self.bytes[self.key.clone()])
+    }
+
+    // Gives the next pair, where one is left.
+    fn next(&mut self) -> (&[u8], u64) {
+        let entry = self.entries[self.given];
+        self.given += 1;
+        self.key = self.key.end..self.key.end + entry.length;
+        (&self.bytes[self.key.clone()], entry.value)
+    }
+
+    // Brings the pairs of a map from an edge on, and answers whether there are any.
+    fn fill(&mut self, map: &JudySl, from: &Edge) -> bool {
+        let (handle, key, itself) = (map.handle, from.key(), from.is_included());
+        let (bytes, entries) = (self.bytes.as_mut_ptr(), self.entries.as_mut_ptr());
+        let (start, length) = (key.as_ptr(), key.len());
+        // SAFETY: the map is borrowed, and the call only reads it; the key is a slice's, and both buffers have the room that they are
+        // said to have.
+        self.count = unsafe {
+            sys::sellumaq_judysl_walk(
+                &handle, start, length, itself, bytes, ROOM, entries, self.most,
+            )
+        };
+        (self.given, self.key) = (0, 0..0);
+        self.most = (self.most * 8).min(MOST);
+        self.count > 0
+    }
+}
+
+/// A way that brings many pairs a call of C from its lower end on; from the upper end each step is one way down the map. The front end is the
+/// one that the pairs were brought from.
+#[derive(Clone)]
+pub struct Way {
+    ends: Steps,
+    page: Page,
+}
+
+impl Way {
+    pub fn of(range: &impl StringRange) -> Way {
+        Way {
+            ends: Steps::of(range),
+            page: Page::empty(),
+        }
+    }
+
+    // Brings the next pairs; false where none is left.
+    fn bring(&mut self, map: &JudySl) -> bool {
+        if let Some(key) = self.page.last() {
+            self.ends.front.go_behind(key);
+        }
+        self.page.fill(map, &self.ends.front)
+    }
+
+    pub fn next_entry(&mut self, map: &JudySl) -> Option<(&[u8], u64)> {
+        if self.page.given == self.page.count && !self.bring(map) {
+            return None;
+        }
+        let (key, value) = self.page.next();
+        self.ends.back.lets_below(key).then_some((key, value))
+    }
+
+    pub fn next_back_entry(&mut self, map: &JudySl) -> Option<(&[u8], u64)> {
+        // SAFETY: the map is borrowed, and the scans are this kind's.
+        let value = unsafe { self.ends.back.step(map.handle, DOWN) }?;
+        let key = self.ends.back.key();
+        let is_left = match self.page.last() {
+            Some(given) => key > given,
+            None => self.ends.front.lets_above(key),
+        };
+        is_left.then_some((key, value))
+    }
+
+    pub fn next(&mut self, map: &JudySl) -> Option<(Vec<u8>, u64)> {
+        self.next_entry(map)
+            .map(|(key, value)| (key.to_vec(), value))
+    }
+
+    pub fn next_back(&mut self, map: &JudySl) -> Option<(Vec<u8>, u64)> {
+        self.next_back_entry(map)
+            .map(|(key, value)| (key.to_vec(), value))
+    }
+
+    pub fn fold<B>(mut self, map: &JudySl, start: B, act: impl FnMut(B, (Vec<u8>, u64)) -> B) -> B {
+        from_fn(|| self.next(map)).fold(start, act)
+    }
+
+    pub fn rfold<B>(
+        mut self,
+        map: &JudySl,
+        start: B,
+        act: impl FnMut(B, (Vec<u8>, u64)) -> B,
+    ) -> B {
+        from_fn(|| self.next_back(map)).fold(start, act)
+    }
+}

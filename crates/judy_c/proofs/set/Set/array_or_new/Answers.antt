@@ -1,0 +1,20 @@
+-- `Set::array_or_new`: what is lent by what the handle holds is lent by the handle.
+use Rattle.std.proofs.Common.{◌≡◌, refl, ap, subst, ◌∙◌, None, IfOk, unwrap_or}
+use Rattle.std.specs.Prelude.{OnErr}
+use Rattle.judy_word.specs.WordArrays.{WordArray}
+use Rattle.judy_c.specs.AsHeld.{as_set}
+use Rattle.judy_c.specs.NullArrays.{unbounded}
+use Rattle.judy_c.specs.declared.held.Held.{Held}
+use Rattle.judy_c.proofs.HeldFacts.{on_err}
+use Rattle.judy_c.proofs.set.Set.array_or_new.Goals as goal
+
+pub returns : goal.returns
+returns c =
+    let made = c.array_or_new in let is = c.held.ensures.value in (
+      (refl, made.follows.holds, on_err made.result (λ stays. ap as_set (stays ∙ is)) made.follows.holds-at-none),
+      record {
+        writes_back = tt;
+        value = subst (λ (held : Held WordArray). IfOk made.result (λ array. array.now ≡ unwrap_or held.array unbounded)) is made.ensures.value;
+        null = subst (λ (held : Held WordArray). OnErr made.result (held.array ≡ None)) is made.ensures.null;
+      },
+    )

@@ -1,0 +1,171 @@
+//! Arrays that are filled by keys that ascend, as a dump lists them.
+
+ghost use Rattle.std.specs.Prelude.{◌≡◌, ◌≤◌, ◌^◌, false, [], ◌∷◌, ◌++◌, IfOk, OnOk, IsTrue, IsFalse};
+ghost use Rattle.std.specs.FinMap as map;
+ghost use Rattle.judy_model.specs.Arrays as array;
+ghost use Rattle.judy_model.specs.Shapes.{AllBelow};
+ghost use Rattle.judy_leaf.specs.KeyLists.{keys_of};
+ghost use Rattle.judy_node.specs.Trees.{IsMap};
+ghost use Rattle.judy_word.specs.Held.{map_in, array_in, with_new};
+ghost use Rattle.judy_word.specs.WordArrays.{array_of};
+
+use crate::error::InsertError;
+use crate::judy1::Judy1;
+use crate::judyl::JudyL;
+use crate::tree_array::{TreeArray, set_all};
+use judy_leaf::{Width, Words};
+use std::alloc::Global;
+use std::marker::Model;
+
+// How many keys are kept at most: 64 KiB with their values.
+const MOST_KEPT: usize = 4096;
+
+/// An array that is filled by one key after another. As long as they ascend it keeps up to 4,096 of them, and then puts these in
+/// together: those that make one new node behind all others at once.
+///
+/// Contracts see the array that it comes to.
+#[derive(Drop)]
+pub struct Filling<V: Words + Drop> {
+    tree: TreeArray<V>,
+    kept: Vec<(u64, u64)>,
+}
+
+/// A set that is filled.
+pub type FillingSet = Filling<Width<0>>;
+
+/// A map that is filled.
+pub type FillingMap = Filling<Width<1>>;
+
+impl<V: Words + Drop> Model for Filling<V> {
+    ghost use Rattle.std.specs.Coded.{coded_ℕ};
+    ghost use Rattle.judy_model.specs.Keys.{word_order};
+    ghost use Rattle.judy_model.specs.Arrays.{ArrayOf, array_code};
+    ghost use Rattle.judy_word.specs.Held.{map_in, with_all, IsFilling};
+
+    ghost Value = { ArrayOf word_order };
+
+    ghost coded = { array_code coded_ℕ };
+
+    ghost view = { λ a. record { limit = a.tree.limit; map = with_all (map_in a.tree) a.kept.items } };
+
+    ghost invariant = { λ a. IsFilling V.WORDS a.tree a.kept.items };
+}
+
+// Whether a key is above those of sorted pairs.
+fn is_above<V: Words + Drop>(pairs: &[(u64, u64)], key: u64) -> bool
+    requires { IsMap V.WORDS 0 (256 ^ 8) pairs.now }
+    ensures { IsTrue result → AllBelow key (keys_of pairs.now) }
+{
+    if pairs.is_empty() {
+        return true;
+    }
+    if key <= pairs[pairs.len() - 1].0 {
+        return false;
+    }
+    true
+}
+
+// Puts a key with its value behind sorted pairs, where it is above them and there is room for it. Whether it did.
+fn push_above<V: Words + Drop>(kept: &mut Vec<(u64, u64)>, key: u64, value: u64) -> bool
+    requires no_value { V.WORDS ≡ 0 → value ≡ 0 }
+    requires map { IsMap V.WORDS 0 (256 ^ 8) kept.old.items }
+    ensures map { IsMap V.WORDS 0 (256 ^ 8) kept.new.items }
+    ensures pushed { IsTrue result → kept.new.items ≡ kept.old.items ++ (key, value) ∷ [] }
+    ensures same { IsFalse result → kept.new.items ≡ kept.old.items }
+{
+    if kept.len() == MOST_KEPT || !is_above::<V>(kept, key) {
+        return false;
+    }
+    if kept.push((key, value)).is_err() {
+        return false;
+    }
+    true
+}
+
+impl<V: Words + Drop> Filling<V> {
+    /// The array without keys, with that limit, which is at least 1. It asks for no memory.
+    pub fn new(alloc: Global, limit: u64) -> Filling<V>
+        requires { 1 ≤ limit }
+        ensures limit { result.limit ≡ limit }
+        ensures map { result.map ≡ map.empty }
+    {
+        Filling {
+            tree: TreeArray::new(alloc, limit),
+            kept: Vec::new(alloc),
+        }
+    }
+
+    /// Gives an absent key a value, 0 where keys have none; one that is there keeps its own.
+    ///
+    /// The error is that of an insert, of this key or of one that is kept, or want of memory to keep it; the array is to be let go then.
+    pub fn put(&mut self, key: u64, value: u64) -> Result<(), InsertError>
+        requires one { V.WORDS ≤ 1 }
+        requires no_value { V.WORDS ≡ 0 → value ≡ 0 }
+        ensures { OnOk result (self.new ≡ array.with_map self.old (with_new self.old.map key value)) }
+    {
+        if !self.has_room() {
+            return Err(InsertError::NoMemory);
+        }
+        if self.keep(key, value) {
+            return Ok(());
+        }
+        set_all(&mut self.tree, &self.kept)?;
+        self.kept.clear();
+        if self.kept.push((key, value)).is_err() {
+            self.tree.set_with(key, value)?;
+        }
+        Ok(())
+    }
+
+    // Makes room to keep one more key, unless as many are kept as may be. Whether there is memory for it.
+    fn has_room(&mut self) -> bool
+        ensures { self.new ≡ self.old }
+    {
+        if self.kept.len() == MOST_KEPT {
+            return true;
+        }
+        self.kept.reserve(1).is_ok()
+    }
+
+    // Keeps a key with its value, where it is above those that are kept and there is room for it. Whether it did.
+    fn keep(&mut self, key: u64, value: u64) -> bool
+        requires no_value { V.WORDS ≡ 0 → value ≡ 0 }
+        ensures kept { IsTrue result → self.new ≡ array.with_map self.old (with_new self.old.map key value) }
+        ensures same { IsFalse result → self.new ≡ self.old }
+    {
+        push_above::<V>(&mut self.kept, key, value)
+    }
+
+    // What it is made of, when all keys are put in.
+    fn into_tree(self) -> Result<TreeArray<V>, InsertError>
+        requires { V.WORDS ≤ 1 }
+        ensures array { IfOk result (λ tree. array_in tree ≡ self) }
+        ensures tight { IfOk result (λ tree. tree.loose ≡ false) }
+    {
+        let Filling { mut tree, kept } = self;
+        set_all(&mut tree, &kept)?;
+        Ok(tree)
+    }
+}
+
+impl Filling<Width<1>> {
+    /// The map that it comes to, each node as small as its keys allow. The error is that of an insert of a key that is kept; nothing is left
+    /// then.
+    pub fn into_map(self) -> Result<JudyL, InsertError>
+        ensures array { IfOk result (λ words. array_of words ≡ self) }
+        ensures tight { IfOk result (λ words. words.loose ≡ false) }
+    {
+        Ok(JudyL::of(self.into_tree()?))
+    }
+}
+
+impl Filling<Width<0>> {
+    /// The set that it comes to, each node as small as its keys allow. The error is that of an insert of a key that is kept; nothing is left
+    /// then.
+    pub fn into_set(self) -> Result<Judy1, InsertError>
+        ensures array { IfOk result (λ set. array_of set ≡ self) }
+        ensures tight { IfOk result (λ set. set.loose ≡ false) }
+    {
+        Ok(Judy1::of(self.into_tree()?))
+    }
+}

@@ -1,0 +1,71 @@
+//! The first of sorted pairs put in, as many at once as make one new node.
+
+ghost use Rattle.std.specs.Prelude.{◌≡◌, ◌^◌, ◌<◌, ◌≤◌, length, take, IfOk, OnOk};
+ghost use Rattle.judy_model.specs.Arrays as arrays;
+ghost use Rattle.judy_node.specs.Trees.{IsMap};
+ghost use Rattle.judy_word.specs.Held.{map_in, array_in, with_all};
+
+use crate::error::InsertError;
+use crate::tree_array::TreeArray;
+use judy_change::append;
+use judy_leaf::Words;
+
+// Puts sorted pairs in; a key that is there keeps its value. The error is that of an insert of one of them, and then those before it
+// are put in.
+pub(crate) fn set_all<V: Words + Drop>(
+    array: &mut TreeArray<V>,
+    pairs: &[(u64, u64)],
+) -> Result<(), InsertError>
+    requires one { V.WORDS ≤ 1 }
+    requires map { IsMap V.WORDS 0 (256 ^ 8) pairs.now }
+    ensures set { OnOk result (array_in array.new ≡ arrays.with_map (array_in array.old) (with_all (map_in array.old) pairs.now)) }
+    ensures loose { array.new.loose ≡ array.old.loose }
+{
+    let mut done = 0;
+    'fronts: while done < pairs.len() {
+        let count = array.set_front(&pairs[done..])?;
+        done += count;
+    }
+    Ok(())
+}
+
+impl<V: Words + Drop> TreeArray<V> {
+    // Puts the first of sorted pairs in, at least one of them, and answers how many: as many as make one new node behind all others, if
+    // there is memory for it, else one as `set_with` does. Refused as that is.
+    fn set_front(&mut self, pairs: &[(u64, u64)]) -> Result<usize, InsertError>
+        requires one { V.WORDS ≤ 1 }
+        requires some { 0 < length pairs.now }
+        requires map { IsMap V.WORDS 0 (256 ^ 8) pairs.now }
+        ensures some { IfOk result (λ count. 1 ≤ count) }
+        ensures within { IfOk result (λ count. count ≤ length pairs.now) }
+        ensures set { IfOk result (λ count. array_in self.new ≡ arrays.with_map (array_in self.old) (with_all (map_in self.old) (take count pairs.now))) }
+        ensures loose { self.new.loose ≡ self.old.loose }
+    {
+        let count = self.append(pairs);
+        if count > 0 {
+            return Ok(count);
+        }
+        let (key, value) = pairs[0];
+        self.set_with(key, value)?;
+        Ok(1)
+    }
+
+    // Puts the first of sorted pairs behind all others, as many as make one new node, and answers how many, perhaps none. They are none
+    // too where there is no memory for the node, or no room for all of the pairs.
+    fn append(&mut self, pairs: &[(u64, u64)]) -> usize
+        requires one { V.WORDS ≤ 1 }
+        requires some { 0 < length pairs.now }
+        requires map { IsMap V.WORDS 0 (256 ^ 8) pairs.now }
+        ensures within { result ≤ length pairs.now }
+        ensures set { array_in self.new ≡ arrays.with_map (array_in self.old) (with_all (map_in self.old) (take result pairs.now)) }
+        ensures loose { self.new.loose ≡ self.old.loose }
+    {
+        self.root.told();
+        if pairs.len() as u64 > self.limit - self.root.pop() {
+            return 0;
+        }
+        let count = append(self.alloc, &mut self.root, pairs);
+        self.root.told();
+        count
+    }
+}
