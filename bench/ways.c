@@ -1,8 +1,8 @@
 /* Measures calls that do more at once beside those that do it key by key, in one run and on the same keys, and libJudy beside both:
  *
  *   by-key    put, get, next_entry (of a set next), del, and a put for each of the keys in ascending order
- *   at-once   insert and remove, which tell the value that was there, get_many of 16 keys, walk of 64 keys, from_sorted
- *   libjudy   JudyLIns, JudyLGet, JudyLNext, JudyLDel (of a set Judy1Set and fellows), and an insert for each in ascending order
+ *   at-once   insert and remove, which tell the value that was there, get_many (of a set test_many) of 16 keys, walk of 64 keys, from_sorted
+ *   libjudy   JudyLIns, JudyLGet, JudyLNext, JudyLDel (of a set Judy1Set, Judy1Test and fellows), and an insert for each in ascending order
  *
  * measure.h says what it prints.
  *
@@ -126,10 +126,28 @@ static word set_at_once(const sellumaq_judy1 *set) {
     return sum;
 }
 
+static word tests_by_key(const sellumaq_judy1 *set, const word *keys, size_t n) {
+    word sum = 0;
+    for (size_t i = 0; i < n; i++) sum += sellumaq_judy1_test(set, keys[i]);
+    return sum;
+}
+
+static word tests_at_once(const sellumaq_judy1 *set, const word *keys, size_t n) {
+    word sum = 0;
+    bool there[GROUP];
+    for (size_t i = 0; i < n; i += GROUP) {
+        size_t told = sellumaq_judy1_test_many(set, keys + i, n - i, there, GROUP);
+        for (size_t at = 0; at < told; at++) sum += there[at];
+    }
+    return sum;
+}
+
 static void sets_by_key(const struct keys *keys, double *told) {
     sellumaq_judy1 set = {0};
     word found = 0;
     for (size_t i = 0; i < keys->n; i++) sellumaq_judy1_set(&set, keys->in[i]);
+    ONCE(HIT, keys->n, found += tests_by_key(&set, keys->order, keys->n));
+    ONCE(MISS, keys->n, found += tests_by_key(&set, keys->out, keys->n));
     ONCE(WALK, keys->distinct, found += set_by_key(&set));
     sellumaq_judy1_free(&set);
     ONCE(BULK, keys->distinct, EACH_SORTED(found += sellumaq_judy1_set(&set, k)));
@@ -141,6 +159,8 @@ static void sets_at_once(const struct keys *keys, double *told) {
     sellumaq_judy1 set = {0};
     word found = 0;
     for (size_t i = 0; i < keys->n; i++) sellumaq_judy1_set(&set, keys->in[i]);
+    ONCE(HIT, keys->n, found += tests_at_once(&set, keys->order, keys->n));
+    ONCE(MISS, keys->n, found += tests_at_once(&set, keys->out, keys->n));
     ONCE(WALK, keys->distinct, found += set_at_once(&set));
     sellumaq_judy1_free(&set);
     ONCE(BULK, keys->distinct, found += sellumaq_judy1_from_sorted(&set, keys->sorted, keys->distinct, &(size_t){0}));
@@ -152,6 +172,8 @@ static void sets_of_libjudy(const struct keys *keys, double *told) {
     Pvoid_t set = NULL;
     word found = 0, key = 0;
     for (size_t i = 0; i < keys->n; i++) Judy1Set(&set, keys->in[i], PJE0);
+    EACH(HIT, found += (word)Judy1Test(set, keys->order[i], PJE0));
+    EACH(MISS, found += (word)Judy1Test(set, keys->out[i], PJE0));
     ONCE(WALK, keys->distinct, for (int there = Judy1First(set, &key, PJE0); there; there = Judy1Next(set, &key, PJE0)) found += key);
     Judy1FreeArray(&set, PJE0);
     ONCE(BULK, keys->distinct, EACH_SORTED(found += (word)Judy1Set(&set, k, PJE0)));

@@ -10,6 +10,7 @@ command-line-ends), the files that it writes.
 
 import os
 import pty
+import resource
 import select
 import signal
 import socket
@@ -224,6 +225,26 @@ def check_longest(checks, program):
             checks.expect(f"{name}, the dump", read(os.path.join(folder, "e")), dump)
 
 
+# The stack that the manual page says is enough, in bytes, and a script with an array of each kind.
+STACK = 192 * 1024
+OF_EACH_KIND = b"".join(
+    b"make %s %s\n%s %s %s\ncount %s %s %s\n" % (kind, kind, call, kind, key, kind, key.split()[0], key.split()[0])
+    for kind, call, key in [(b"judy1", b"set", b"5"), (b"judyl", b"ins", b"5 7"), (b"judysl", b"ins", b"=key 7"), (b"judyhs", b"ins", b"=more-than-eight 7")]
+)
+
+
+def check_stack(checks, program):
+    """A small stack is enough: for a script, and for a load and a dump of what it left."""
+    small = lambda: resource.setrlimit(resource.RLIMIT_STACK, (STACK, STACK))
+    with tempfile.TemporaryDirectory() as folder:
+        write(os.path.join(folder, "s"), OF_EACH_KIND)
+        answers = b"ok\n1\n1\n" + 2 * b"ok\nwas 0\n1\n" + b"ok\nwas 0\nerror wrong-kind\n"
+        checks.expect("a small stack, a script", run_in(folder, program, ["--dump", "one", "s"], small), (0, answers, b""))
+        for words in (["--load", "one", "--format", "2", "--dump", "two", "/dev/null"], ["--load", "two", "--dump", "again", "/dev/null"]):
+            checks.expect(f"a small stack, {' '.join(words)}", run_in(folder, program, words, small), (0, b"", b""))
+        checks.expect("a small stack, the dump of its dump", read(os.path.join(folder, "again")), read(os.path.join(folder, "one")))
+
+
 # The library by which no file can be kept, command lines, and their ends with it.
 REFUSE_SYNC = os.path.join(os.path.dirname(os.path.abspath(__file__)), "refuse_sync.c")
 SYNCS = [
@@ -424,6 +445,7 @@ def main():
     check_command_lines(checks, program)
     check_refused(checks, program)
     check_longest(checks, program)
+    check_stack(checks, program)
     check_closed(checks, program)
     check_sync(checks, program)
     check_faltering(checks, program)

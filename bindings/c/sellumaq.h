@@ -62,6 +62,11 @@ bool sellumaq_judy1_unset(sellumaq_judy1 *set, uint64_t key);
 /* Whether a key is there. */
 bool sellumaq_judy1_test(const sellumaq_judy1 *set, uint64_t key);
 
+/* Looks up the keys of a list, as many as there is room for, and tells of each at its place what `sellumaq_judy1_test` answers; answers how
+ * many these are. Up to 16 keys go down the set side by side and wait for memory together. In large sets of words far apart that takes less time
+ * than a call each, and in sets that stand in the caches more. */
+size_t sellumaq_judy1_test_many(const sellumaq_judy1 *set, const uint64_t *keys, size_t count, bool *there, size_t capacity);
+
 /* The nearest keys: the least from `from` on, the least above it, the greatest up to it, the greatest below it. False where
  * there is none. */
 bool sellumaq_judy1_first(const sellumaq_judy1 *set, uint64_t from, uint64_t *key);

@@ -135,7 +135,8 @@ static void byte_strings(void) {
     CHECK(JudyHSIns(&map, bytes, ~(Word_t)0, PJE0) == PPJERR && map == NULL);
 }
 
-/* Byte strings of any length: each key's bytes are the array's, a delete gives them back, and so does the end of the array. */
+/* Byte strings of any length: each key's bytes are the array's. What a delete leaves free is the next key's of that length; the last key of
+ * a length gives all of it back, and so does the end of the array. */
 static void long_byte_strings(void) {
     enum { LONGEST = 100000 };
     static const Word_t lengths[] = {1024, 1025, 3542, LONGEST};
@@ -155,8 +156,15 @@ static void long_byte_strings(void) {
         JHSG(slot, map, bytes, lengths[n]); CHECK(*slot == lengths[n]);
         JHSD(found, map, bytes, lengths[n]); CHECK(found == 1);
         JHSG(slot, map, bytes, lengths[n]); CHECK(slot == NULL);
+        bytes[0] = 'i';
+        JHSI(slot, map, bytes, lengths[n]); CHECK(*slot == 0);
+        bytes[0] = 'k';
     }
-    JHSFA(count, map); CHECK(count > 1024 + 1025 + 3542 + LONGEST && count < 2 * LONGEST && map == NULL);
+    JHSFA(count, map); CHECK(count > 2 * (1024 + 1025 + 3542 + LONGEST) && count < 5 * LONGEST / 2 && map == NULL);
+    JHSI(slot, map, bytes, 1024);
+    JHSI(slot, map, bytes, LONGEST);
+    JHSD(found, map, bytes, LONGEST); CHECK(found == 1);
+    JHSFA(count, map); CHECK(count > 1024 && count < 3542 && map == NULL);
     JHSI(slot, map, bytes, LONGEST);
     JHSD(found, map, bytes, LONGEST); CHECK(found == 1 && map == NULL);
 }

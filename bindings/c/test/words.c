@@ -47,19 +47,23 @@ static void walks(sellumaq_judy1 *set, sellumaq_judyl *map, int from, size_t cap
 }
 
 /* Whether many keys from a place on, an odd number of them, are looked up as each by itself, and nothing is written behind them. */
-static void looks(sellumaq_judyl *map, int from, size_t count, size_t capacity) {
+static void looks(sellumaq_judy1 *set, sellumaq_judyl *map, int from, size_t count, size_t capacity) {
     uint64_t keys[WORDS] = {0};
     sellumaq_found found[WORDS + 1];
+    union { bool told[WORDS + 1]; unsigned char bytes[WORDS + 1]; } there;
     memset(found, 0x5a, sizeof found);
+    memset(there.bytes, 0x5a, sizeof there);
     uint64_t beyond = found[0].value;
     size_t told = count < capacity ? count : capacity;
     for (size_t n = 0; n < count; n++) keys[n] = word_at((unsigned)(from + 7 * (int)n) % WORDS);
     CHECK(sellumaq_judyl_get_many(map, keys, count, found, capacity) == told);
+    CHECK(sellumaq_judy1_test_many(set, keys, count, there.told, capacity) == told);
     for (size_t n = 0; n < told; n++) {
         int place = (from + 7 * (int)n) % WORDS;
         CHECK(found[n].there == held[place] && found[n].value == (held[place] ? values[place] : 0));
+        CHECK(there.bytes[n] == held[place]);
     }
-    for (size_t n = told; n <= WORDS; n++) CHECK(found[n].value == beyond && found[n].there == beyond);
+    for (size_t n = told; n <= WORDS; n++) CHECK(found[n].value == beyond && found[n].there == beyond && there.bytes[n] == 0x5a);
 }
 
 static void compare(sellumaq_judy1 *set, sellumaq_judyl *map, int place) {
@@ -85,7 +89,7 @@ static void compare(sellumaq_judy1 *set, sellumaq_judyl *map, int place) {
     CHECK(told(sellumaq_judyl_by_count(map, n, &found), &found, n ? prev_held(place) : -1));
     CHECK(sellumaq_judy1_len(set) == held_in(0, WORDS - 1) && sellumaq_judyl_len(map) == held_in(0, WORDS - 1));
     walks(set, map, place, place % 3 ? (size_t)place % 16 : WORDS);
-    looks(map, place, (size_t)place % 70, place % 2 ? WORDS : (size_t)place % 40);
+    looks(set, map, place, (size_t)place % 70, place % 2 ? WORDS : (size_t)place % 40);
 }
 
 static void empties(sellumaq_judy1 *set, sellumaq_judyl *map) {

@@ -214,6 +214,10 @@ class WordSet(_Words):
         if not self._has("unset", key):
             raise KeyError(key)
 
+    def contains_many(self, keys, /):
+        """Whether each of the keys of an iterable is there, in a list."""
+        return [WordSet.__contains__(self, key) for key in keys]
+
     def _fill(self, keys):
         for key in keys:
             WordSet.add(self, key)

@@ -47,6 +47,8 @@ class Judy1(_core.WordSet, _Ordered, Placed, MutableSet, Sequence):
     True
     >>> some[0], some[-1], some[1:]
     (20, 40, [30, 40])
+    >>> some.contains_many([40, 5, 30])
+    [True, False, True]
     >>> some.at_or_after(21), some.at_or_before(19), some.absent_at_or_after(20), some.absent_at_or_before(20)
     (30, None, 21, 19)
     >>> some.clear(); some

@@ -261,6 +261,58 @@ static PyObject *cursor(PyObject *self, PyTypeObject *defining, PyObject *const 
     {Py_sq_length, words_len},                \
     {Py_sq_contains, words_contains}
 
+/* How many keys are handed to an array at a time. */
+enum { GROUP = 256 };
+
+/* Keys that wait to be looked up together; one that can't be a key of the array waits too. */
+typedef struct {
+    int count;
+    bool could_be[GROUP];
+    uint64_t keys[GROUP];
+} Group;
+
+/* Looks the keys of a group up and puts what is told of each behind what a list has; false with an error set. */
+typedef bool Append(Words *self, const Group *group, PyObject *told);
+
+/* Puts an object of our own, which may be NULL with an error set, behind what a list has; false with an error set. */
+static bool append(PyObject *list, PyObject *object)
+{
+    bool put = object && PyList_Append(list, object) == 0;
+    Py_XDECREF(object);
+    return put;
+}
+
+/* Puts a key into a group that isn't full; false with an error set. */
+static bool wait_for(Group *group, PyObject *key)
+{
+    int at = group->count++;
+    group->keys[at] = 0;
+    int could_be = read_key(key, &group->keys[at]);
+    group->could_be[at] = could_be == 1;
+    return could_be >= 0;
+}
+
+/* What is told of the keys of an iterable, in a list. */
+static PyObject *look_up_many(PyObject *object, PyObject *keys, Append *append_told)
+{
+    Words *self = (Words *)object;
+    Group group = {.count = 0};
+    PyObject *each = PyObject_GetIter(keys), *told = each ? PyList_New(0) : NULL, *key;
+    bool well = told;
+    while (well && (key = PyIter_Next(each))) {
+        well = wait_for(&group, key);
+        if (well && group.count == GROUP) {
+            well = append_told(self, &group, told);
+            group.count = 0;
+        }
+        Py_DECREF(key);
+    }
+    Py_XDECREF(each);
+    if (!well || PyErr_Occurred() || !append_told(self, &group, told))
+        Py_CLEAR(told);
+    return told;
+}
+
 /* ---- sets ---- */
 
 static bool put_key(Words *self, PyObject *key)
@@ -299,6 +351,19 @@ static PyObject *set_remove(PyObject *self, PyObject *key)
     Py_RETURN_NONE;
 }
 
+/* Looks the keys of a group up and puts whether each is there behind what a list has; false with an error set. */
+static bool append_whether(Words *self, const Group *group, PyObject *told)
+{
+    bool there[GROUP];
+    sellumaq_judy1_test_many(&self->handle.set, group->keys, (size_t)group->count, there, GROUP);
+    bool put = true;
+    for (int n = 0; put && n < group->count; n++)
+        put = append(told, PyBool_FromLong(group->could_be[n] && there[n]));
+    return put;
+}
+
+static PyObject *set_contains_many(PyObject *self, PyObject *keys) { return look_up_many(self, keys, append_whether); }
+
 static PyObject *set_fill(PyObject *self, PyObject *keys)
 {
     PyObject *each = PyObject_GetIter(keys), *key;
@@ -324,6 +389,9 @@ static PyMethodDef set_methods[] = {
      DOC("discard($self, key, /)", "Takes a key out, where it is there.", SOME ">>> some.discard(20); some.discard(5); some\nJudy1([10, 30])")},
     {"remove", set_remove, METH_O,
      DOC("remove($self, key, /)", "Takes a key out; KeyError where it isn't there.", SOME ">>> some.remove(20); some\nJudy1([10, 30])")},
+    {"contains_many", set_contains_many, METH_O,
+     DOC("contains_many($self, keys, /)", "Whether each of the keys of an iterable is there, in a list.",
+         SOME ">>> some.contains_many([20, 15, 30])\n[True, False, True]")},
     {"_fill", set_fill, METH_O, "Puts the keys of an iterable in."},
     {NULL, NULL, 0, NULL},
 };
@@ -393,57 +461,18 @@ static PyObject *map_get(PyObject *self, PyObject *const *arguments, Py_ssize_t 
     return found ? make_word(value) : Py_NewRef(count == 2 ? arguments[1] : Py_None);
 }
 
-/* How many keys are handed to the map at a time. */
-enum { GROUP = 256 };
-
-/* Keys that wait to be looked up together; one that can't be a key of the map waits too. */
-typedef struct {
-    int count;
-    bool could_be[GROUP];
-    uint64_t keys[GROUP];
-} Group;
-
 /* Looks the keys of a group up and puts the value of each, or None, behind those of a list; false with an error set. */
-static bool append_values(Words *self, Group *group, PyObject *values)
+static bool append_values(Words *self, const Group *group, PyObject *values)
 {
     sellumaq_found found[GROUP];
     sellumaq_judyl_get_many(&self->handle.map, group->keys, (size_t)group->count, found, GROUP);
-    for (int n = 0; n < group->count; n++) {
-        PyObject *value = number_or_none(group->could_be[n] && found[n].there, found[n].value);
-        bool put = value && PyList_Append(values, value) == 0;
-        Py_XDECREF(value);
-        if (!put)
-            return false;
-    }
-    group->count = 0;
-    return true;
+    bool put = true;
+    for (int n = 0; put && n < group->count; n++)
+        put = append(values, number_or_none(group->could_be[n] && found[n].there, found[n].value));
+    return put;
 }
 
-/* Puts a key into a group that isn't full; false with an error set. */
-static bool wait_for(Group *group, PyObject *key)
-{
-    int at = group->count++;
-    group->keys[at] = 0;
-    int could_be = read_key(key, &group->keys[at]);
-    group->could_be[at] = could_be == 1;
-    return could_be >= 0;
-}
-
-static PyObject *map_get_many(PyObject *object, PyObject *keys)
-{
-    Words *self = (Words *)object;
-    Group group = {.count = 0};
-    PyObject *each = PyObject_GetIter(keys), *values = each ? PyList_New(0) : NULL, *key;
-    bool well = values;
-    while (well && (key = PyIter_Next(each))) {
-        well = wait_for(&group, key) && (group.count < GROUP || append_values(self, &group, values));
-        Py_DECREF(key);
-    }
-    Py_XDECREF(each);
-    if (!well || PyErr_Occurred() || !append_values(self, &group, values))
-        Py_CLEAR(values);
-    return values;
-}
+static PyObject *map_get_many(PyObject *self, PyObject *keys) { return look_up_many(self, keys, append_values); }
 
 static PyObject *map_pop(PyObject *object, PyObject *const *arguments, Py_ssize_t count)
 {

@@ -47,6 +47,9 @@ class Words(unittest.TestCase):
         self.assertEqual(list(array), sorted(plain))
         self.assertEqual(list(reversed(array)), sorted(plain, reverse=True))
         self.assertEqual(array, plain)
+        asked = [key(words) for _ in range(600)] + sorted(plain) + ["no key", MAX + 1]
+        self.assertEqual(array.contains_many(asked), [it in plain for it in asked])
+        self.assertEqual(array.contains_many(iter(())), [])
         self.assertEqual(array | {1, 2}, plain | {1, 2})
         self.assertEqual(array.nth(3), sorted(plain)[3])
         self.assertEqual(array.absent_at_or_after(0), next(it for it in range(99) if it not in plain))

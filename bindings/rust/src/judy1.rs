@@ -95,6 +95,31 @@ impl Judy1 {
         unsafe { sys::sellumaq_judy1_test(&handle, *key.borrow()) }
     }
 
+    /// Looks up many keys, as many as both slices have, and writes whether each is there to its place. Up to 16 keys go down the set side by
+    /// side and wait for memory together. In large sets of words far apart that takes less time than [`contains`](Self::contains) for each,
+    /// and in sets that stand in the caches more.
+    ///
+    /// ```
+    /// let set = sellumaq::Judy1::from([3, 5]);
+    /// let mut there = [false; 3];
+    /// set.contains_many(&[5, 4, 3], &mut there);
+    /// assert_eq!(there, [true, false, true]);
+    /// ```
+    pub fn contains_many(&self, keys: &[u64], there: &mut [bool]) {
+        let handle = self.handle;
+        // SAFETY: the handle is this set's, lent for this call alone, which only reads; as many keys are there as are told, and room for
+        // as many answers. Each that is written is 0 or 1.
+        unsafe {
+            sys::sellumaq_judy1_test_many(
+                &handle,
+                keys.as_ptr(),
+                keys.len(),
+                there.as_mut_ptr(),
+                there.len(),
+            );
+        }
+    }
+
     /// A key, where it is there.
     ///
     /// ```

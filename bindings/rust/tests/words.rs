@@ -64,6 +64,12 @@ fn a_set_is_a_set() {
                 .eq(plain.range(from..=to).rev().copied()));
             assert_eq!(format!("{set:?}"), format!("{plain:?}"));
             assert_eq!(set.clone(), set);
+            let keys: Vec<u64> = (0..words.any() % 150).map(|_| words.key()).collect();
+            let mut there = vec![turn % 200 == 0; keys.len()];
+            set.contains_many(&keys, &mut there);
+            assert!(there
+                .into_iter()
+                .eq(keys.iter().map(|key| plain.contains(key))));
         }
     }
     let absent = (0..).find(|word| !plain.contains(word));

@@ -1,6 +1,6 @@
--- How a call of C tells the values of many keys.
-use Rattle.std.specs.Prelude.{ℕ, List, Option, Some, None, map}
-use Rattle.std.specs.FinMap.{FinMap, get}
+-- How a call of C tells the values of many keys, or whether they are there.
+use Rattle.std.specs.Prelude.{ℕ, List, Option, Some, None, Bool, map, if◌then◌else◌}
+use Rattle.std.specs.FinMap.{FinMap, get, contains_key}
 use Rattle.judy_model.specs.Keys.{word_order}
 use Rattle.judy_c.specs.declared.looks.Found.{Found}
 
@@ -12,3 +12,11 @@ found_of (Some value) = record { value = value; there = 1 }
 -- What is told of keys, of each by itself.
 abbrev pub found_in : FinMap word_order ℕ → List ℕ → List Found
 found_in pairs keys = map (λ key. found_of (get pairs key)) keys
+
+-- Whether a key is there, as C is told.
+abbrev pub byte_of : Bool → ℕ
+byte_of there = if there then 1 else 0
+
+-- The same of keys, of each by itself.
+abbrev pub there_in : FinMap word_order ℕ → List ℕ → List ℕ
+there_in pairs keys = map (λ key. byte_of (contains_key pairs key)) keys

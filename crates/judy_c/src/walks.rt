@@ -5,13 +5,12 @@
 
 ghost use Rattle.std.specs.Prelude.{◌≡◌};
 ghost use Rattle.judy_c.specs.Maps.{map_of, set_of};
-ghost use Rattle.judy_c.specs.Walks.{IsFilled, keys_from, pairs_from, pairs_of};
+ghost use Rattle.judy_c.specs.Walks.{IsFilled, keys_from, pairs_from};
 
 use crate::map::Map;
 use crate::set::Set;
-use judy_word::{Entries, Judy1, JudyL, Keys};
+use judy_word::{FromPair, Judy1, JudyL};
 use std::alloc::Global;
-use std::iter::Iterator;
 
 /// A key with its value, as C has them.
 #[repr(C)]
@@ -21,8 +20,17 @@ pub struct Pair {
     pub value: u64,
 }
 
+impl FromPair for Pair {
+    ghost made = { λ key value. record { key = key; value = value } };
+
+    #[inline(always)]
+    fn from_pair(key: u64, value: u64) -> Pair {
+        Pair { key, value }
+    }
+}
+
 /// The keys of a set from a word on, in ascending order, as many as the buffer has room for; answers how many these are. Fewer than
-/// there is room for are the last ones. It is one way down the set, and a step for each key.
+/// there is room for are the last ones. It is one way down the set, and then a node at a time is copied.
 #[unsafe(no_mangle)]
 pub extern "C" fn sellumaq_judy1_walk(
     alloc: Global,
@@ -34,13 +42,13 @@ pub extern "C" fn sellumaq_judy1_walk(
     ensures same { handle.new ≡ handle.old }
 {
     match handle.array() {
-        Some(array) => fill_keys(array.iter_from(from), keys),
-        None => fill_keys(Judy1::unbounded(alloc).iter_from(from), keys),
+        Some(array) => array.iter_from(from).fill(keys),
+        None => Judy1::unbounded(alloc).iter_from(from).fill(keys),
     }
 }
 
 /// The keys of a map from a word on with their values, by ascending key, as many as the buffer has room for; answers how many these
-/// are. Fewer than there is room for are the last ones. It is one way down the map, and a step for each key.
+/// are. Fewer than there is room for are the last ones. It is one way down the map, and then a node at a time is copied.
 #[unsafe(no_mangle)]
 pub extern "C" fn sellumaq_judyl_walk(
     alloc: Global,
@@ -52,37 +60,7 @@ pub extern "C" fn sellumaq_judyl_walk(
     ensures same { handle.new ≡ handle.old }
 {
     match handle.array() {
-        Some(array) => fill_pairs(array.iter_from(from), pairs),
-        None => fill_pairs(JudyL::unbounded(alloc).iter_from(from), pairs),
+        Some(array) => array.iter_from(from).fill(pairs),
+        None => JudyL::unbounded(alloc).iter_from(from).fill(pairs),
     }
-}
-
-// Writes the keys that are still to come to the beginning of a buffer, as many as fit, and answers how many these are.
-fn fill_keys(mut rest: Keys<'_>, room: &mut [u64]) -> usize
-    ensures { IsFilled rest.entry room.old result room.new }
-{
-    let mut count = 0;
-    while count < room.len() {
-        let Some(key) = rest.next() else {
-            break;
-        };
-        room[count] = key;
-        count += 1;
-    }
-    count
-}
-
-// The same of keys with their values.
-fn fill_pairs(mut rest: Entries<'_>, room: &mut [Pair]) -> usize
-    ensures { IsFilled (pairs_of rest.entry) room.old result room.new }
-{
-    let mut count = 0;
-    while count < room.len() {
-        let Some((key, value)) = rest.next() else {
-            break;
-        };
-        room[count] = Pair { key, value };
-        count += 1;
-    }
-    count
 }

@@ -66,11 +66,6 @@ put-pairs (entry ∷ rest) kept value =
       | Greater ↦ ap (λ (pairs : Pairs). (entry.0.items, entry.1) ∷ pairs) (put-pairs rest kept value)
     ]
 
--- Without entries there are no pairs, and the other way.
-pub none-pairs : {A : Type 0} (entries : List (Vec ℕ A × ℕ)) → pairs_of entries ≡ [] → entries ≡ []
-none-pairs [] none = refl
-none-pairs (entry ∷ rest) none = absurd (let f : ⊥ = cc in f)
-
 -- ---- a walk through the entries
 
 -- The entries that came.

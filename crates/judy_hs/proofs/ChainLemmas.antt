@@ -6,7 +6,7 @@ use Rattle.std.proofs.lemmas.Slice.Eq.{bytes_eq-Decides}
 use Rattle.std.proofs.lemmas.Bool.{false_from_ne_true, false≢true}
 use Rattle.judy_model.specs.Keys.{byte_order}
 use Rattle.judy_model.proofs.TableLemmas.{byte_order_total, byte_order_same}
-use Rattle.judy_hs.specs.Chains.{Pairs, has_key, value_in, AreApart, with_value, with_pair, without}
+use Rattle.judy_hs.specs.Chains.{Pairs, has_key, value_in, AreApart, with_value, with_pair, joined, without}
 
 -- ---- equality of bytes
 
@@ -114,6 +114,18 @@ value_in-put_other (pair ∷ rest) key value other differ =
       | Greater ↦ λ e. value_in-tail pair (with_pair rest key value) rest other (value_in-put_other rest key value other differ)
     ] refl
 
+-- Behind the first one.
+absent-first : (pair : List ℕ × ℕ) (rest : Pairs) (key : List ℕ) → value_in (pair ∷ rest) key ≡ None → pair.0 ≢ key
+absent-first pair rest key absent same = absurd (let f : Some pair.1 ≡ None = sym (value_in-here pair rest key same) ∙ absent in cc)
+
+pub value_in-joined : (pairs : Pairs) (key : List ℕ) (value : ℕ) → value_in pairs key ≡ None → value_in (joined pairs key value) key ≡ Some value
+value_in-joined [] key value absent = value_in-head key value []
+value_in-joined (pair ∷ rest) key value absent = value_in-later pair (with_pair rest key value) key (absent-first pair rest key absent) ∙ value_in-put rest key value
+
+pub value_in-joined_other : (pairs : Pairs) (key : List ℕ) (value : ℕ) (other : List ℕ) → key ≢ other → value_in (joined pairs key value) other ≡ value_in pairs other
+value_in-joined_other [] key value other differ = value_in-later (key, value) [] other differ
+value_in-joined_other (pair ∷ rest) key value other differ = value_in-tail pair (with_pair rest key value) rest other (value_in-put_other rest key value other differ)
+
 -- ---- a key taken out
 
 module _ (pair : List ℕ × ℕ) (rest : Pairs) (key : List ℕ) where
@@ -158,6 +170,12 @@ module _ (key : List ℕ) where
             (value_in-put_other rest key value pair.0 (λ same. differ (sym same)) ∙ apart.0, AreApart-put rest value (sym (value_in-later pair rest key differ) ∙ absent) apart.1)
       ] refl
 
+  pub AreApart-joined : (pairs : Pairs) (value : ℕ) → value_in pairs key ≡ None → AreApart pairs → AreApart (joined pairs key value)
+  AreApart-joined [] value absent apart = (refl, tt)
+  AreApart-joined (pair ∷ rest) value absent apart =
+      let differ = absent-first pair rest key absent in
+      (value_in-put_other rest key value pair.0 (λ same. differ (sym same)) ∙ apart.0, AreApart-put rest value (sym (value_in-later pair rest key differ) ∙ absent) apart.1)
+
   pub AreApart-without : (pairs : Pairs) → AreApart pairs → AreApart (without pairs key)
   AreApart-without [] apart = tt
   AreApart-without (pair ∷ rest) apart = elim (bytes_cases pair.0 key) [
@@ -175,35 +193,3 @@ some_pair (pair ∷ rest) used = (pair.0, pair.1, value_in-here pair rest pair.0
 -- A chain with a value for a key has one.
 pub some_used : (pairs : Pairs) (key : List ℕ) → IsSome (value_in pairs key) → pairs ≢ []
 some_used pairs key is gone = false≢true (subst (λ (pairs : Pairs). IsSome (value_in pairs key)) gone is)
-
--- It keeps one where a value is written, and where a key is put in.
-pub written-used : (pairs : Pairs) (key : List ℕ) (value : ℕ) → pairs ≢ [] → with_value pairs key value ≢ []
-written-used [] key value used = absurd (used refl)
-written-used (pair ∷ rest) key value used = elim (has_key key pair) as (λ b. cond b ((pair.0, value) ∷ rest) (pair ∷ with_value rest key value) ≢ []) [
-  | true ↦ λ e. cc
-  | false ↦ λ e. cc
-]
-
-pub put-used : (pairs : Pairs) (key : List ℕ) (value : ℕ) → with_pair pairs key value ≢ []
-put-used pairs key value = some_used (with_pair pairs key value) key (some_is (value_in (with_pair pairs key value) key) value (value_in-put pairs key value))
-
--- ---- the chain of one key
-
-module _ (held key : List ℕ) (value : ℕ) (is : IsSome (value_in ((held, value) ∷ []) key)) where
-  one-same : bytes_eq held key ≡ true
-  one-same = elim (bytes_eq held key) as (λ b. IsSome (cond b (Some value) None) → b ≡ true) [
-    | true ↦ λ some. refl
-    | false ↦ λ some. absurd (false≢true some)
-  ] is
-
-  -- A key that is in it has its value,
-  pub one-value : Some value ≡ value_in ((held, value) ∷ []) key
-  one-value = sym (ap (λ b. cond b (Some value) None) one-same)
-
-  -- and with another one, or without it, it is
-  pub one-written : (new : ℕ) → (held, new) ∷ [] ≡ with_value ((held, value) ∷ []) key new
-  one-written new = sym (chosen (bytes_eq held key) ((held, new) ∷ []) ((held, value) ∷ []) one-same)
-
-  -- what that key makes of it.
-  pub one-without : [] ≡ without ((held, value) ∷ []) key
-  one-without = sym (chosen (bytes_eq held key) [] ((held, value) ∷ []) one-same)

@@ -1,5 +1,5 @@
 -- One group under the changes of its calls: what each leaves at the key, at the other keys, and of what groups keep.
-use Rattle.std.proofs.Common.{◌≡◌, ◌≢◌, ℕ, zero, suc, ◌<◌, ◌≤◌, true, false, cond, List, [], ◌∷◌, length, get_or, set, Option, Some, None, IfSome, IsSome, nat_lt, inl, inr, refl, sym, ap, ◌∙◌, subst, ⊎_elim, arith}
+use Rattle.std.proofs.Common.{◌≡◌, ◌≢◌, ℕ, zero, suc, ◌<◌, ◌≤◌, true, false, cond, List, [], ◌∷◌, length, get_or, set, Option, Some, None, IsSome, nat_lt, inl, inr, refl, sym, ap, ◌∙◌, subst, ⊎_elim, arith}
 use Rattle.std.specs.FinMap.{FinMap, get, insert, remove, empty, entries, len-entries, empty_of_len, get-entries, get-empty, find}
 use Rattle.std.specs.Cmp.{nat_cmp_total, tied_itself}
 use Rattle.std.specs.Ordering.{is_eq}
@@ -10,12 +10,12 @@ use Rattle.judy_model.specs.Arrays.{with_map}
 use Rattle.judy_model.proofs.ChangesLemmas.{get-write_same, get-del_same}
 use Rattle.judy_hs.specs.declared.group.Inside.{Inside}
 use Rattle.judy_hs.specs.declared.group.Inside.TheVariants.{Word, Chained}
-use Rattle.judy_hs.specs.Chains.{Pairs, value_in, with_value, with_pair, without, AreApart}
+use Rattle.judy_hs.specs.Chains.{Pairs, value_in, with_value, joined, without, AreApart}
 use Rattle.judy_hs.specs.LongGroups.{Long, chain_at, in_chain, IsLongPlace, IsFound, added_long, hashes_without, put_at}
-use Rattle.judy_hs.specs.Groups.{Group, none, short, long, in_group, IsInside, IsNewInside, CanTakeKey, IsRemovable, IsUsable, IsEmptyGroup, value_inside, group_with, group_with_key, group_without}
+use Rattle.judy_hs.specs.Groups.{Group, none, short, long, in_group, IsInside, IsNewInside, IsUsable, IsEmptyGroup, value_inside, group_with, group_with_key, group_without}
 use Rattle.judy_hs.specs.Parts.{part_of}
 use Rattle.judy_hs.specs.Kept.{IsUsed, IsLong, IsGroup}
-use Rattle.judy_hs.proofs.ChainLemmas.{has_some, some_is, value_in-head, value_in-written, value_in-written_other, value_in-put, value_in-put_other, value_in-without, value_in-without_other, AreApart-written, AreApart-put, AreApart-without}
+use Rattle.judy_hs.proofs.ChainLemmas.{has_some, some_is, value_in-head, value_in-written, value_in-written_other, value_in-joined, value_in-joined_other, value_in-without, value_in-without_other, AreApart-written, AreApart-joined, AreApart-without}
 use Rattle.judy_hs.proofs.TwoLevels.{get_or-set_here, get_or-put}
 use Rattle.judy_hs.proofs.GroupSteps.{IsStep, short-write, IsShort-write, short-remove, IsShort-remove, has_value, long-changed, IsLong-changed, in_long-changed, long-chain, IsLong-chain, in_long-chain, long-gone, IsLong-gone}
 
@@ -98,16 +98,6 @@ module _ (hash_of : List ℕ → ℕ) (key : List ℕ) (bytes : IsByteString key
 
   -- ---- a key put in
 
-  can_take : (group : Long) (found : Option ℕ) → get group.hashes.map (part_of hash_of key) ≡ found → IsLong hash_of (length key) group → IfSome found (λ place. chain_at group place ≢ [])
-  can_take group None e is = tt
-  can_take group (Some place) e is = (is.chains (part_of hash_of key) place e).used
-
-  -- A group takes a key that it doesn't hold.
-  pub group-takes : (group : Group) → IsGroup hash_of (length key) group → in_group group (part_of hash_of key) key ≡ None → CanTakeKey group (part_of hash_of key)
-  group-takes none is absent = is
-  group-takes (short words) is absent = absent
-  group-takes (long group) is absent = can_take group (get group.hashes.map (part_of hash_of key)) refl is
-
   pub record IsGrown (before after : Group) (inside : Inside) : Type 0 where
     pub changed : IsChanged before after (Some 0)
     pub there : IsInside after (part_of hash_of key) key inside
@@ -129,16 +119,16 @@ module _ (hash_of : List ℕ → ℕ) (key : List ℕ) (bytes : IsByteString key
       }
   long-add group place (Some held) e is absent new =
       let old = chain_at group held in
-      let grown = with_pair old key 0 in
+      let grown = joined old key 0 in
       let chain = is.chains (part_of hash_of key) held e in
       let within = used_within group.chains held chain.used in
-      let value = value_in-put old key 0 in
-      let others : (other : List ℕ) → (key ≡ other → ⊥) → value_in grown other ≡ value_in old other = λ other differ. value_in-put_other old key 0 other differ in
+      let value = value_in-joined old key 0 absent in
+      let others : (other : List ℕ) → (key ≡ other → ⊥) → value_in grown other ≡ value_in old other = λ other differ. value_in-joined_other old key 0 other differ in
       record {
         changed = record {
           step = long-changed hash_of key bytes group is held grown e within others;
           here = in_long-changed hash_of key bytes group is held grown e within ∙ value;
-          is = IsLong-changed hash_of key bytes group is held grown e within (has_value hash_of key bytes grown key 0 value) (AreApart-put key old 0 absent chain.apart) others;
+          is = IsLong-changed hash_of key bytes group is held grown e within (has_value hash_of key bytes grown key 0 value) (AreApart-joined key old 0 absent chain.apart) others;
         };
         there = record {
           leads = e ∙ ap (λ (p : ℕ). Some p) (sym new);
@@ -170,12 +160,12 @@ module _ (hash_of : List ℕ → ℕ) (key : List ℕ) (bytes : IsByteString key
     pub kept : (IsEmptyGroup after → ⊥) → IsGroup hash_of (length key) after
 
   long-without : (group : Long) (place : ℕ) (left : Pairs) → without (chain_at group place) key ≡ left → IsLong hash_of (length key) group → IsLongPlace group (part_of hash_of key) key place
-      → IsShrunk (long group) (long (record { hashes = hashes_without group (part_of hash_of key) left; chains = set group.chains place left }))
+      → IsShrunk (long group) (long (record group { hashes = hashes_without group (part_of hash_of key) left; chains = set group.chains place left }))
   long-without group place [] e is there =
       let alone : (other : List ℕ) → (key ≡ other → ⊥) → value_in (chain_at group place) other ≡ None = λ other differ. sym (value_in-without_other (chain_at group place) key other differ) ∙ ap (λ (pairs : Pairs). value_in pairs other) e in
       record {
         step = long-gone hash_of key bytes group is place there.leads alone;
-        here = ap (λ found. in_chain (record { hashes = with_map group.hashes (remove group.hashes.map (part_of hash_of key)); chains = set group.chains place [] }) found key) (get-del_same nat_cmp_total group.hashes.map (part_of hash_of key));
+        here = ap (λ found. in_chain (record group { hashes = with_map group.hashes (remove group.hashes.map (part_of hash_of key)); chains = set group.chains place [] }) found key) (get-del_same nat_cmp_total group.hashes.map (part_of hash_of key));
         kept = λ used. IsLong-gone hash_of key bytes group is place there.leads alone (used_map (remove group.hashes.map (part_of hash_of key)) used);
       }
   long-without group place (pair ∷ rest) e is there =
@@ -198,12 +188,6 @@ module _ (hash_of : List ℕ → ℕ) (key : List ℕ) (bytes : IsByteString key
   group-remove (short words) (Chained place) is there = absurd there
   group-remove (long group) (Word word) is there = absurd there
   group-remove (long group) (Chained place) is there = long-without group place (without (chain_at group place) key) refl is there
-
-  pub inside-removable : (group : Group) (inside : Inside) → IsInside group (part_of hash_of key) key inside → IsRemovable group inside key
-  inside-removable none inside there = there
-  inside-removable (short words) inside there = tt
-  inside-removable (long group) (Word word) there = there
-  inside-removable (long group) (Chained place) there = (there.within, there.is_there)
 
 -- A group without a key holds none.
 pub empty-none : (group : Group) → IsEmptyGroup group → (part : ℕ) (key : List ℕ) → in_group group part key ≡ None

@@ -11,7 +11,7 @@ use Rattle.judy_hs.specs.declared.group.GroupPlace.TheVariants.{Free, Short, Lon
 use Rattle.judy_hs.specs.declared.group.Inside.{Inside}
 use Rattle.judy_hs.specs.declared.group.Inside.TheVariants.{Word, Chained}
 use Rattle.judy_hs.specs.LongGroups.{put_at, one_word, one_long}
-use Rattle.judy_hs.specs.Groups.{Group, none, short, long, group_with, group_with_key, group_without, one_group, CanTakeKey, IsRemovable}
+use Rattle.judy_hs.specs.Groups.{Group, none, short, long, group_with, group_with_key, group_without, one_group, CanTakeKey, IsInside}
 use Rattle.judy_hs.specs.GroupPlaces.{group_of, groups_of, link_of, links_of}
 use Rattle.judy_hs.specs.GroupLends.{place_with}
 use Rattle.judy_hs.specs.Keyed.{Keyed, keyed_with, IsFreeGroup}
@@ -91,8 +91,8 @@ link-with (Long group) (Chained place) key value = refl
 pub can-some : (group : Group) (part : ℕ) → CanTakeKey group part → group ≢ none
 can-some group part can e = subst (λ (g : Group). CanTakeKey g part) e can
 
-pub removable-some : (group : Group) (inside : Inside) (key : List ℕ) → IsRemovable group inside key → group ≢ none
-removable-some group inside key can e = subst (λ (g : Group). IsRemovable g inside key) e can
+pub inside-group : (group : Group) (part : ℕ) (key : List ℕ) (inside : Inside) → IsInside group part key inside → group ≢ none
+inside-group group part key inside is e = subst (λ (g : Group). IsInside g part key inside) e is
 
 pub without-some : (group : Group) (part : ℕ) (inside : Inside) (key : List ℕ) → group ≢ none → group_without group part inside key ≢ none
 without-some none part inside key some e = some refl

@@ -138,7 +138,7 @@ module _ (hash_of : List ℕ → ℕ) (key : List ℕ) (bytes : IsByteString key
         → IsLong hash_of (length key) (record group { chains = set group.chains place new })
     IsLong-changed place new leads within used apart others =
         let two = two-set [] value_in (IsChain hash_of (length key)) (never (length key)) group.hashes.map group.chains (two_of group is) (part_of hash_of key) place leads within new (chain_changed (chain_at group place) new (part_of hash_of key) has used apart others (is.chains (part_of hash_of key) place leads)) in
-        record { many = is.many; limit = is.limit; used = is.used; apart = two.apart; chains = two.good }
+        record { many = is.many; length_is = is.length_is; limit = is.limit; used = is.used; apart = two.apart; chains = two.good }
 
     pub in_long-changed : (place : ℕ) (new : Pairs) → get group.hashes.map (part_of hash_of key) ≡ Some place → place < length group.chains → in_long (record group { chains = set group.chains place new }) (part_of hash_of key) key ≡ value_in new key
     in_long-changed place new leads within =
@@ -157,7 +157,7 @@ module _ (hash_of : List ℕ → ℕ) (key : List ℕ) (bytes : IsByteString key
     pub IsLong-chain : (place : ℕ) → get group.hashes.map (part_of hash_of key) ≡ None → IsFreePlace group.chains place → IsLong hash_of (length key) (with_chain group (part_of hash_of key) key place)
     IsLong-chain place absent free =
         let two = two-put [] value_in (IsChain hash_of (length key)) (never (length key)) group.hashes.map group.chains (two_of group is) (part_of hash_of key) place absent free.within free.no_key ((key, 0) ∷ []) (chain_of_one (part_of hash_of key) has) in
-        record { many = is.many; limit = is.limit; used = (part_of hash_of key, place, get-write_same nat_cmp_total group.hashes.map (part_of hash_of key) place); apart = two.apart; chains = two.good }
+        record { many = is.many; length_is = is.length_is; limit = is.limit; used = (part_of hash_of key, place, get-write_same nat_cmp_total group.hashes.map (part_of hash_of key) place); apart = two.apart; chains = two.good }
 
     pub in_long-chain : (place : ℕ) → get group.hashes.map (part_of hash_of key) ≡ None → IsFreePlace group.chains place → in_long (with_chain group (part_of hash_of key) key place) (part_of hash_of key) key ≡ Some 0
     in_long-chain place absent free =
@@ -167,16 +167,16 @@ module _ (hash_of : List ℕ → ℕ) (key : List ℕ) (bytes : IsByteString key
 
     -- The chain of the key alone taken away.
     module _ (place : ℕ) (leads : get group.hashes.map (part_of hash_of key) ≡ Some place) (alone : (other : List ℕ) → key ≢ other → value_in (chain_at group place) other ≡ None) where
-      pub long-gone : IsStep (long group) (long (record { hashes = with_map group.hashes (remove group.hashes.map (part_of hash_of key)); chains = set group.chains place [] }))
+      pub long-gone : IsStep (long group) (long (record group { hashes = with_map group.hashes (remove group.hashes.map (part_of hash_of key)); chains = set group.chains place [] }))
       long-gone = record {
         others = λ other o.
-            let after : Long = record { hashes = with_map group.hashes (remove group.hashes.map (part_of hash_of key)); chains = set group.chains place [] } in
+            let after : Long = record group { hashes = with_map group.hashes (remove group.hashes.map (part_of hash_of key)); chains = set group.chains place [] } in
             chain_is after (get (remove group.hashes.map (part_of hash_of key)) (part_of hash_of other)) other
             ∙ through-gone_other [] value_in (IsChain hash_of (length key)) (never (length key)) group.hashes.map group.chains (two_of group is) (part_of hash_of key) place leads (part_of hash_of other) other (λ _. alone other o.differs)
             ∙ sym (chain_is group (get group.hashes.map (part_of hash_of other)) other);
       }
 
-      pub IsLong-gone : IsUsed (remove group.hashes.map (part_of hash_of key)) → IsLong hash_of (length key) (record { hashes = with_map group.hashes (remove group.hashes.map (part_of hash_of key)); chains = set group.chains place [] })
+      pub IsLong-gone : IsUsed (remove group.hashes.map (part_of hash_of key)) → IsLong hash_of (length key) (record group { hashes = with_map group.hashes (remove group.hashes.map (part_of hash_of key)); chains = set group.chains place [] })
       IsLong-gone used =
           let two = two-gone [] value_in (IsChain hash_of (length key)) (never (length key)) group.hashes.map group.chains (two_of group is) (part_of hash_of key) place leads in
-          record { many = is.many; limit = is.limit; used = used; apart = two.apart; chains = two.good }
+          record { many = is.many; length_is = is.length_is; limit = is.limit; used = used; apart = two.apart; chains = two.good }

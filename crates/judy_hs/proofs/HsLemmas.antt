@@ -1,5 +1,5 @@
 -- Arrays: what the changes of their groups make of them.
-use Rattle.std.proofs.Common.{◌≡◌, ◌≢◌, ℕ, ◌+◌, ◌-◌, ◌<◌, ◌≤◌, ◌==◌, Bool, true, false, not, cond, List, length, get_or, set, Option, Some, None, is_some, IsSome, IfSome, Result, Ok, Err, IsOk, IfOk, OnOk, IfErr, MutBor, IsTrue, IsFalse, ◌↔◌, eq-eqb, refl, sym, ap, ◌∙◌, subst, ◌⊎◌, inl, inr, ⊎_elim, arith}
+use Rattle.std.proofs.Common.{◌≡◌, ◌≢◌, ℕ, ◌+◌, ◌-◌, ◌<◌, ◌≤◌, ◌==◌, Bool, true, false, not, cond, List, length, get_or, set, Option, Some, None, is_some, IsSome, Result, Ok, Err, IsOk, IfOk, OnOk, IfErr, MutBor, IsTrue, IsFalse, ◌↔◌, eq-eqb, refl, sym, ap, ◌∙◌, subst, ◌⊎◌, inl, inr, ⊎_elim, arith}
 use Rattle.std.specs.FinMap.{FinMap, get, insert, remove, empty, len, contains_key, len-empty, len-insert, len-remove, get-empty, empty_of_len}
 use Rattle.std.specs.Borrow.{name_if_ok}
 use borrow.Follows.Closed.{read_of}
@@ -14,13 +14,13 @@ use Rattle.judy_model.proofs.ChangesLemmas.{write-write, del_absent}
 use Rattle.judy_model.proofs.Inserts.{ins_present, ins_absent, is_full_present, is_full_absent}
 use Rattle.judy_hs.specs.declared.error.HsError.{HsError}
 use Rattle.judy_hs.specs.declared.group.Inside.{Inside}
-use Rattle.judy_hs.specs.Groups.{Group, none, short, long, IsInside, IsUsable, IsRemovable, IsEmptyGroup, CanTakeKey, value_inside, group_with, group_with_key, group_without}
+use Rattle.judy_hs.specs.Groups.{Group, none, short, long, IsInside, IsUsable, IsEmptyGroup, value_inside, group_with, group_with_key, group_without}
 use Rattle.judy_hs.specs.Keyed.{Keyed, no_keys, group_at, in_place, IsSpot, IsNewSpot, keyed_with, with_group, added_keyed, keyed_without, without_group}
 use Rattle.judy_hs.specs.Parts.{part_of}
 use Rattle.judy_hs.specs.Kept.{value_of, map_of, array_of, IsHs}
 use Rattle.judy_hs.specs.Slots.{with_value}
 use Rattle.judy_hs.proofs.GroupSteps.{some_none}
-use Rattle.judy_hs.proofs.GroupChanges.{group-write, group-add, group-remove, group-takes, inside-usable, inside-removable, value-inside, inside-some, empty-none, set_within}
+use Rattle.judy_hs.proofs.GroupChanges.{group-write, group-add, group-remove, inside-usable, value-inside, inside-some, empty-none, set_within}
 use Rattle.judy_hs.proofs.TwoLevels.{get_or-set_here, same_or_not}
 use Rattle.judy_hs.proofs.KeyedSteps.{IsMade, IsPut, made-set, made-without, made-gone, put-group}
 
@@ -77,9 +77,6 @@ module _ (hash_of : List ℕ → ℕ) (longest : ℕ) where
       pub spot-usable : IsUsable (group_at keyed place) inside key
       spot-usable = inside-usable hash_of key is_key.is_byte_string (group_at keyed place) inside spot.is_inside
 
-      pub spot-removable : IsRemovable (group_at keyed place) inside key
-      spot-removable = inside-removable hash_of key is_key.is_byte_string (group_at keyed place) inside spot.is_inside
-
       pub spot-some : (value : ℕ) × (get (map_of hash_of longest keyed) key ≡ Some value)
       spot-some =
           let found = inside-some hash_of key is_key.is_byte_string (group_at keyed place) inside spot.is_inside in
@@ -110,13 +107,6 @@ module _ (hash_of : List ℕ → ℕ) (longest : ℕ) where
           }
 
     -- ---- a key put in
-
-    can_take : (found : Option ℕ) → get keyed.lengths.map (length key) ≡ found → in_place keyed found (part_of hash_of key) key ≡ None → IfSome found (λ place. CanTakeKey (group_at keyed place) (part_of hash_of key))
-    can_take None leads absent = tt
-    can_take (Some place) leads absent = group-takes hash_of key is_key.is_byte_string (group_at keyed place) (is.is_keyed.groups (length key) place leads) absent
-
-    pub keyed-takes : value_of hash_of keyed key ≡ None → IfSome (get keyed.lengths.map (length key)) (λ place. CanTakeKey (group_at keyed place) (part_of hash_of key))
-    keyed-takes absent = can_take (get keyed.lengths.map (length key)) refl absent
 
     put_key : (place : ℕ) (inside : Inside) (found : Option ℕ) → get keyed.lengths.map (length key) ≡ found → in_place keyed found (part_of hash_of key) key ≡ None → IsNewSpot keyed (part_of hash_of key) key found place inside
         → IsPut hash_of longest keyed is.is_keyed key is_key (added_keyed keyed (part_of hash_of key) key found place inside) place inside

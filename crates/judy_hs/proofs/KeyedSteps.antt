@@ -139,6 +139,7 @@ module _ (hash_of : List ℕ → ℕ) (longest : ℕ) where
       others = λ other o. found_one (get alone (part_of hash_of other)) other o;
       good = record {
         many = many;
+        length_is = refl;
         limit = refl;
         used = (part_of hash_of key, 0, word_one);
         apart = λ one other place p q. (one_place place one p).0 ∙ sym (one_place place other q).0;

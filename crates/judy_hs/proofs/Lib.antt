@@ -3,6 +3,10 @@ pub mod ChainLemmas
 pub mod ChainEntryLemmas
 pub mod PlaceSteps
 pub mod LongLemmas
+pub mod LongChanges
+pub mod LongMoves
+pub mod LongPuts
+pub mod SharedLemmas
 pub mod GroupLemmas
 pub mod TwoLevels
 pub mod PartLemmas

@@ -1,281 +1,215 @@
--- Groups of long keys: what a change of their lists makes of them.
-use Rattle.std.proofs.Common.{◌≡◌, ◌≢◌, ℕ, zero, suc, ◌<◌, ◌≤◌, inl, inr, true, false, cond, List, [], ◌∷◌, ◌++◌, length, get_or, set, Option, None, Some, nat_lt, IsSome, Result, Ok, Err, OnOk, OnErr, refl, sym, ap, ◌∙◌, subst, arith}
-use Rattle.std.specs.FinMap.{get, insert}
-use Rattle.std.proofs.lemmas.List.{map-set, get_or-map, length-map, map-append, get_or_past, get_or_default, get_or-set_same, get_or-set_other}
-use Rattle.std.proofs.lemmas.Bool.{cases_eq}
-use Rattle.std.proofs.lemmas.Option.{none-some}
-use Rattle.judy_places.specs.Places.{IsNextPlace}
-use Rattle.judy_places.proofs.PlaceLemmas.{free-inside}
-use Rattle.judy_model.specs.Keys.{word_order}
-use Rattle.judy_model.specs.Arrays.{ArrayOf, with_map}
-use Rattle.judy_hs.specs.declared.long_group.ChainPlace.{ChainPlace}
-use Rattle.judy_hs.specs.declared.long_group.ChainPlace.TheVariants.{Free, Few, Many, Taken}
-use Rattle.judy_hs.specs.Chains.{Pairs, value_in, with_value, with_pair, without}
-use Rattle.judy_hs.specs.LongGroups.{Long, long_with, put_at, with_chain, added_long, IsAdded, IsFound, hashes_without, without_key, IsFreePlace}
-use Rattle.judy_hs.specs.ChainPlaces.{pairs_at, chains_of, link_of, links_of, HasKey, IsOne, AreChainPlaces}
-use Rattle.judy_hs.specs.LongLends.{place_with}
-use Rattle.judy_hs.proofs.ChainLemmas.{one-written, written-used, put-used}
-use Rattle.judy_hs.proofs.TwoLevels.{get_or-put, get_or-put_other}
-use Rattle.judy_hs.proofs.ListLemmas.{set-twice, set_same}
-use Rattle.judy_hs.proofs.PlaceSteps.{put-places, end-places, set-places, free-places}
+-- Groups of long keys: what stands at their places, and what a change at one place makes of them.
+use Rattle.std.proofs.Common.{◌≡◌, ◌≢◌, ◌↔◌, ℕ, zero, suc, ◌+◌, ◌<◌, ◌≤◌, inl, inr, true, false, cond, nat_lt, List, [], ◌∷◌, ◌++◌, length, get_or, set, All, refl, sym, ap, ◌∙◌, subst, arith}
+use Rattle.std.specs.BTreeMap.{BTreeMap}
+use Rattle.std.specs.FinMap.{FinMap}
+use Rattle.std.proofs.lemmas.List.{ext_get_or, length-set, get_or_default, get_or-set_same, get_or-set_other, set-get_or}
+use Rattle.std.proofs.lemmas.Bool.{cases_eq, cases_lt, lt-ltb, le-ltb}
+use Rattle.judy_model.specs.Keys.{word_order, IsByteString}
+use Rattle.judy_model.specs.Arrays.{ArrayOf}
+use Rattle.judy_records.specs.Texts.{words_of, bytes_in}
+use Rattle.judy_records.specs.Spots.{Spot, free, held, RecordList, IsHeld, spot_at, value_of, text_of, with_spot}
+use Rattle.judy_records.proofs.FreeLemmas.{held-inside}
+use Rattle.judy_records.proofs.BackLemmas.{bytes-back}
+use Rattle.judy_hs.specs.Chains.{Pairs}
+use Rattle.judy_hs.specs.LongGroups.{Long, put_at}
+use Rattle.judy_hs.specs.LongRecords.{others_at, pairs_of, pairs_from, all_pairs, IsKeyOf, IsSpelled, AreLongRecords}
+
+-- ---- keys in records
+
+-- What a slice of bytes holds are bytes.
+pub bytes_are : (bytes : List ℕ) → ((i : ℕ) → get_or bytes i 0 < 256) → IsByteString bytes
+bytes_are bytes small = λ k d below. subst (λ byte. byte < 256) (get_or_default bytes k 0 d below) (small k)
+
+-- The bytes of the words of a key are the key.
+pub key-back : (key_length : ℕ) (key : List ℕ) → IsKeyOf key_length key → bytes_in key_length (words_of key) ≡ key
+key-back key_length key is = ap (λ n. bytes_in n (words_of key)) (sym is.1) ∙ bytes-back key is.0
+
+-- A record that spells a key has the words of exactly that one,
+pub spells-key : (key_length : ℕ) (spot : Spot) → IsHeld spot → IsSpelled key_length spot → (key : List ℕ) → IsKeyOf key_length key → (text_of spot ≡ words_of key) ↔ (bytes_in key_length (text_of spot) ≡ key)
+spells-key key_length (free next) is spelled key good = absurd is
+spells-key key_length (held value text) is spelled key good = (
+  λ same. ap (bytes_in key_length) same ∙ key-back key_length key good,
+  λ same.
+      let own : spelled.0 ≡ key = sym (key-back key_length spelled.0 spelled.1) ∙ ap (bytes_in key_length) spelled.2 ∙ same in
+      sym spelled.2 ∙ ap words_of own,
+)
+
+-- which has that length.
+pub spells-long : (key_length : ℕ) (spot : Spot) → IsHeld spot → IsSpelled key_length spot → length (bytes_in key_length (text_of spot)) ≡ key_length
+spells-long key_length (free next) is spelled = absurd is
+spells-long key_length (held value text) is spelled = ap (λ (bytes : List ℕ). length bytes) (ap (bytes_in key_length) (sym spelled.2) ∙ key-back key_length spelled.0 spelled.1) ∙ spelled.1.1
+
+-- ---- what stands at a place
+
+module _ (key_length : ℕ) (chains : BTreeMap ℕ Pairs) where
+  length-from : (at : ℕ) (spots : List Spot) → length (pairs_from key_length chains at spots) ≡ length spots
+  length-from at [] = refl
+  length-from at (spot ∷ rest) = ap (λ n. suc n) (length-from (suc at) rest)
+
+  get-from : (at : ℕ) (spots : List Spot) (place : ℕ) → get_or (pairs_from key_length chains at spots) place [] ≡ pairs_of key_length (others_at chains (at + place)) (get_or spots place (free 0))
+  get-from at [] place = refl
+  get-from at (spot ∷ rest) zero = (let e : at ≡ at + 0 = omega arith in ap (λ n. pairs_of key_length (others_at chains n) spot) e)
+  get-from at (spot ∷ rest) (suc place) =
+      let e : suc at + place ≡ at + suc place = omega arith in
+      get-from (suc at) rest place ∙ ap (λ n. pairs_of key_length (others_at chains n) (get_or rest place (free 0))) e
+
+  set-from : (at : ℕ) (spots : List Spot) (place : ℕ) (spot : Spot) → pairs_from key_length chains at (set spots place spot) ≡ set (pairs_from key_length chains at spots) place (pairs_of key_length (others_at chains (at + place)) spot)
+  set-from at [] place spot = refl
+  set-from at (first ∷ rest) zero spot = (let e : at ≡ at + 0 = omega arith in ap (λ n. pairs_of key_length (others_at chains n) spot ∷ pairs_from key_length chains (suc at) rest) e)
+  set-from at (first ∷ rest) (suc place) spot =
+      let e : suc at + place ≡ at + suc place = omega arith in
+      ap (λ (pairs : List Pairs). pairs_of key_length (others_at chains at) first ∷ pairs)
+      (set-from (suc at) rest place spot ∙ ap (λ n. set (pairs_from key_length chains (suc at) rest) place (pairs_of key_length (others_at chains n) spot)) e)
+
+  append-from : (at : ℕ) (spots : List Spot) (spot : Spot) → pairs_from key_length chains at (spots ++ spot ∷ []) ≡ pairs_from key_length chains at spots ++ pairs_of key_length (others_at chains (at + length spots)) spot ∷ []
+  append-from at [] spot = (let e : at ≡ at + 0 = omega arith in ap (λ n. pairs_of key_length (others_at chains n) spot ∷ []) e)
+  append-from at (first ∷ rest) spot =
+      let e : suc at + length rest ≡ at + suc (length rest) = omega arith in
+      ap (λ (pairs : List Pairs). pairs_of key_length (others_at chains at) first ∷ pairs)
+      (append-from (suc at) rest spot ∙ ap (λ n. pairs_from key_length chains (suc at) rest ++ pairs_of key_length (others_at chains n) spot ∷ []) e)
+
+  module _ (records : RecordList) where
+    pub length-pairs : length (all_pairs key_length chains records) ≡ length records.spots
+    length-pairs = length-from 0 records.spots
+
+    pub pairs-at : (place : ℕ) → get_or (all_pairs key_length chains records) place [] ≡ pairs_of key_length (others_at chains place) (spot_at records place)
+    pairs-at place =
+        let e : 0 + place ≡ place = omega arith in
+        get-from 0 records.spots place ∙ ap (λ n. pairs_of key_length (others_at chains n) (spot_at records place)) e
+
+-- What is put at a place within the list or at its end.
+pub pairs-put : (key_length : ℕ) (chains : BTreeMap ℕ Pairs) (records : RecordList) (place : ℕ) (spot : Spot) → place ≤ length records.spots
+    → pairs_from key_length chains 0 (put_at records.spots place spot) ≡ put_at (all_pairs key_length chains records) place (pairs_of key_length (others_at chains place) spot)
+pairs-put key_length chains records place spot within = elim (cases_lt place (length records.spots)) [
+  | inl inside ↦
+      let e : nat_lt place (length records.spots) ≡ true = lt-ltb place (length records.spots) inside in
+      let f : nat_lt place (length (all_pairs key_length chains records)) ≡ true = ap (nat_lt place) (length-pairs key_length chains records) ∙ e in
+      ap (λ b. pairs_from key_length chains 0 (cond b (set records.spots place spot) (records.spots ++ spot ∷ []))) e
+      ∙ set-from key_length chains 0 records.spots place spot
+      ∙ ap (λ n. set (all_pairs key_length chains records) place (pairs_of key_length (others_at chains n) spot)) (let z : 0 + place ≡ place = omega arith in z)
+      ∙ sym (ap (λ b. cond b (set (all_pairs key_length chains records) place (pairs_of key_length (others_at chains place) spot)) (all_pairs key_length chains records ++ pairs_of key_length (others_at chains place) spot ∷ [])) f)
+  | inr past ↦
+      let e : nat_lt place (length records.spots) ≡ false = le-ltb place (length records.spots) past in
+      let f : nat_lt place (length (all_pairs key_length chains records)) ≡ false = ap (nat_lt place) (length-pairs key_length chains records) ∙ e in
+      let end : 0 + length records.spots ≡ place = omega (arith, within, past) in
+      ap (λ b. pairs_from key_length chains 0 (cond b (set records.spots place spot) (records.spots ++ spot ∷ []))) e
+      ∙ append-from key_length chains 0 records.spots spot
+      ∙ ap (λ n. all_pairs key_length chains records ++ pairs_of key_length (others_at chains n) spot ∷ []) end
+      ∙ sym (ap (λ b. cond b (set (all_pairs key_length chains records) place (pairs_of key_length (others_at chains place) spot)) (all_pairs key_length chains records ++ pairs_of key_length (others_at chains place) spot ∷ [])) f)
+]
+
+-- Keys stand exactly where a record does,
+used-held : (key_length : ℕ) (others : Pairs) (spot : Spot) → pairs_of key_length others spot ≢ [] → IsHeld spot
+used-held key_length others (free next) used = absurd (used refl)
+used-held key_length others (held value text) used = tt
+
+held-used : (key_length : ℕ) (others : Pairs) (spot : Spot) → IsHeld spot → pairs_of key_length others spot ≢ []
+held-used key_length others (free next) is = absurd is
+held-used key_length others (held value text) is = λ e. cc
+
+-- first its own.
+pub held-pairs : (key_length : ℕ) (others : Pairs) (spot : Spot) → IsHeld spot → pairs_of key_length others spot ≡ (bytes_in key_length (text_of spot), value_of spot) ∷ others
+held-pairs key_length others (free next) is = absurd is
+held-pairs key_length others (held value text) is = refl
+
+module _ (key_length : ℕ) (chains : BTreeMap ℕ Pairs) (records : RecordList) (place : ℕ) where
+  pub used-is : get_or (all_pairs key_length chains records) place [] ≢ [] → IsHeld (spot_at records place)
+  used-is used = used-held key_length (others_at chains place) (spot_at records place) (λ none. used (pairs-at key_length chains records place ∙ none))
+
+  module _ (is : IsHeld (spot_at records place)) where
+    pub is-used : get_or (all_pairs key_length chains records) place [] ≢ []
+    is-used none = held-used key_length (others_at chains place) (spot_at records place) is (sym (pairs-at key_length chains records place) ∙ none)
+
+    pub held-within : place < length (all_pairs key_length chains records)
+    held-within = (let inside = held-inside records.spots place is in let long = length-pairs key_length chains records in omega (arith, inside, long))
+
+    pub at-held : get_or (all_pairs key_length chains records) place [] ≡ (bytes_in key_length (text_of (spot_at records place)), value_of (spot_at records place)) ∷ others_at chains place
+    at-held = pairs-at key_length chains records place ∙ held-pairs key_length (others_at chains place) (spot_at records place) is
+
+-- ---- the group
 
 -- The group that its parts are.
-abbrev pub long_of : ArrayOf word_order → List ChainPlace → Long
-long_of hashes places = record { hashes = hashes; chains = chains_of places }
+abbrev pub long_of : ArrayOf word_order → ℕ → BTreeMap ℕ Pairs → RecordList → Long
+long_of hashes key_length chains records = record { key_length = key_length; hashes = hashes; chains = all_pairs key_length chains records }
 
--- The chain at a place that is there.
-pub pairs_at-get : (places : List ChainPlace) (place : ℕ) (d : ChainPlace) → place < length places → pairs_at (get_or places place d) ≡ get_or (chains_of places) place []
-pairs_at-get places place d within = sym (get_or-map pairs_at places place d [] within)
+-- ---- a change at one place
 
-pub chains_of-set : (places : List ChainPlace) (place : ℕ) (new : ChainPlace) → chains_of (set places place new) ≡ set (chains_of places) place (pairs_at new)
-chains_of-set places place new = map-set pairs_at places place new
+module _ (key_length : ℕ) (chains after : BTreeMap ℕ Pairs) (records : RecordList) (place : ℕ) (within : place < length records.spots) (spot : Spot) (same : (at : ℕ) → at ≢ place → others_at after at ≡ others_at chains at) where
+  pub spot-here : spot_at (with_spot records place spot) place ≡ spot
+  spot-here = get_or-set_same records.spots place spot (free 0) within
 
--- ---- a key taken out
+  pub spot-there : (at : ℕ) → at ≢ place → spot_at (with_spot records place spot) at ≡ spot_at records at
+  spot-there at apart = get_or-set_other records.spots place at spot (free 0) apart
 
-kept : (long : Long) (hash : ℕ) (left : Pairs) → left ≢ [] → hashes_without long hash left ≡ long.hashes
-kept long hash [] used = absurd (used refl)
-kept long hash (pair ∷ rest) used = refl
-
-module _ (hashes : ArrayOf word_order) (places : List ChainPlace) (hash place : ℕ) (key : List ℕ) (new : ChainPlace) (is : pairs_at new ≡ without (get_or (chains_of places) place []) key) where
-  -- A chain that keeps a key stays.
-  pub key-without : pairs_at new ≢ [] → long_of hashes (set places place new) ≡ without_key (long_of hashes places) hash place key
-  key-without used =
-      let left = without (get_or (chains_of places) place []) key in
-      (λ t. record { hashes = hashes; chains = chains_of-set places place new t })
-      ∙ ap (λ (pairs : Pairs). record { hashes = hashes; chains = set (chains_of places) place pairs }) is
-      ∙ ap (λ (kept : ArrayOf word_order). record { hashes = kept; chains = set (chains_of places) place left }) (sym (kept (long_of hashes places) hash left (λ none. used (is ∙ none))))
-
-  -- A chain without a key goes.
-  pub chain-without : (next : ℕ) → pairs_at new ≡ [] → long_of (hashes_without (long_of hashes places) hash []) (set (set places place new) place (Free next)) ≡ without_key (long_of hashes places) hash place key
-  chain-without next gone =
-      (λ t. record { hashes = hashes_without (long_of hashes places) hash []; chains = chains_of (set-twice places place new (Free next) t) })
-      ∙ (λ t. record { hashes = hashes_without (long_of hashes places) hash []; chains = chains_of-set places place (Free next) t })
-      ∙ ap (λ (left : Pairs). record { hashes = hashes_without (long_of hashes places) hash left; chains = set (chains_of places) place left }) (sym gone ∙ is)
-
--- ---- a chain put in
-
-pub chains_of-put : (places : List ChainPlace) (place : ℕ) (new : ChainPlace) → chains_of (put_at places place new) ≡ put_at (chains_of places) place (pairs_at new)
-chains_of-put places place new =
-    let long : length (chains_of places) ≡ length places = length-map places pairs_at in
-    rw long (elim (nat_lt place (length places)) as (λ b. chains_of (cond b (set places place new) (places ++ new ∷ [])) ≡ cond b (set (chains_of places) place (pairs_at new)) (chains_of places ++ pairs_at new ∷ [])) [
-      | true ↦ chains_of-set places place new
-      | false ↦ map-append pairs_at places (new ∷ [])
-    ])
-
-pub with_chain-put : (hashes made : ArrayOf word_order) (places : List ChainPlace) (hash place : ℕ) (key : List ℕ) (new : ChainPlace) → made ≡ with_map hashes (insert hashes.map hash place) → pairs_at new ≡ (key, 0) ∷ []
-    → long_of made (put_at places place new) ≡ with_chain (long_of hashes places) hash key place
-with_chain-put hashes made places hash place key new is one =
-    ap (λ (all : List Pairs). record { hashes = made; chains = all }) (chains_of-put places place new)
-    ∙ (λ t. record { hashes = is t; chains = put_at (chains_of places) place (one t) })
-
--- A hash that led nowhere leads to a chain of one key.
-pub added-new : (hashes made : ArrayOf word_order) (places : List ChainPlace) (hash place : ℕ) (key : List ℕ) (new : ChainPlace)
-    → get hashes.map hash ≡ None → IsFreePlace (chains_of places) place → made ≡ with_map hashes (insert hashes.map hash place) → pairs_at new ≡ (key, 0) ∷ []
-    → IsAdded (long_of hashes places) (long_of made (put_at places place new)) hash key place
-added-new hashes made places hash place key new absent free is one =
-    subst (λ (found : Option ℕ). IsFound (long_of hashes places) found place × (long_of made (put_at places place new) ≡ added_long (long_of hashes places) hash key found place)) (sym absent) (
-      free,
-      with_chain-put hashes made places hash place key new is one,
-    )
-
--- ---- a key put into a chain
-
-pub added-held : (hashes : ArrayOf word_order) (places : List ChainPlace) (hash place : ℕ) (key : List ℕ) (new : ChainPlace)
-    → get hashes.map hash ≡ Some place → pairs_at new ≡ with_pair (get_or (chains_of places) place []) key 0
-    → IsAdded (long_of hashes places) (long_of hashes (set places place new)) hash key place
-added-held hashes places hash place key new leads is =
-    subst (λ (found : Option ℕ). IsFound (long_of hashes places) found place × (long_of hashes (set places place new) ≡ added_long (long_of hashes places) hash key found place)) (sym leads) (
-      refl,
-      ap (λ (all : List Pairs). record { hashes = hashes; chains = all }) (chains_of-set places place new ∙ ap (set (chains_of places) place) is),
-    )
-
--- ---- a value written
-
-pairs_at-with : (new : ChainPlace) (key : List ℕ) (value : ℕ) → IsSome (value_in (pairs_at new) key) → pairs_at (place_with new key value) ≡ with_value (pairs_at new) key value
-pairs_at-with (Free next) key value is = refl
-pairs_at-with (Few few held) key value is = one-written few key held is value
-pairs_at-with (Many many held) key value is = one-written many.items key held is value
-pairs_at-with (Taken chain) key value is = refl
-
-module _ (hashes : ArrayOf word_order) (places : List ChainPlace) (place : ℕ) (held : ChainPlace) (within : place < length places) (is : held ≡ get_or places place held) where
-  pub held-is : pairs_at held ≡ get_or (chains_of places) place []
-  held-is = ap pairs_at is ∙ pairs_at-get places place held within
-
-  pub long-written : (key : List ℕ) → IsSome (value_in (get_or (chains_of places) place []) key) → (value : ℕ) → long_of hashes (set places place (place_with held key value)) ≡ long_with (long_of hashes places) place key value
-  long-written key there value = ap (λ (all : List Pairs). record { hashes = hashes; chains = all })
-      (chains_of-set places place (place_with held key value)
-      ∙ ap (set (chains_of places) place) (pairs_at-with held key value (subst (λ (pairs : Pairs). IsSome (value_in pairs key)) (sym held-is) there) ∙ ap (λ (pairs : Pairs). with_value pairs key value) held-is))
-
-  pub long-back : long_of hashes (set places place held) ≡ long_of hashes places
-  long-back = ap (long_of hashes) (set_same places place held is)
-
--- A place within the chains is one of the list.
-pub within-places : (hashes : ArrayOf word_order) (places : List ChainPlace) (long : Long) (place : ℕ) → long_of hashes places ≡ long → place < length long.chains → place < length places
-within-places hashes places long place is within =
-    let same : length places ≡ length long.chains = sym (length-map places pairs_at) ∙ ap (λ (long : Long). length long.chains) is in
-    omega arith
-
--- A place with a key is one of the list.
-pub used-within : (places : List ChainPlace) (place : ℕ) → get_or (chains_of places) place [] ≢ [] → place < length places
-used-within [] place used = absurd (used refl)
-used-within (first ∷ rest) zero used = omega arith
-used-within (first ∷ rest) (suc place) used = omega (arith, used-within rest place used)
-
--- ---- what the places keep
-
-link-key : (place : ChainPlace) → pairs_at place ≢ [] → link_of place ≡ None
-link-key (Free next) used = absurd (used refl)
-link-key (Few few value) used = refl
-link-key (Many many value) used = refl
-link-key (Taken chain) used = refl
-
-has-key : (place : ChainPlace) → pairs_at place ≢ [] → HasKey place
-has-key (Free next) used = absurd (used refl)
-has-key (Few few value) used = tt
-has-key (Many many value) used = tt
-has-key (Taken chain) used = used
-
-keys-there : (place : ChainPlace) → link_of place ≡ None → HasKey place → pairs_at place ≢ []
-keys-there (Free next) taken has = absurd (none-some next (sym taken))
-keys-there (Few few value) taken has = λ e. cc
-keys-there (Many many value) taken has = λ e. cc
-keys-there (Taken chain) taken has = has
-
--- A place with one key is taken.
-pub link-one : (place : ChainPlace) → IsOne place → link_of place ≡ None
-link-one (Free next) one = absurd one
-link-one (Few few value) one = refl
-link-one (Many many value) one = refl
-link-one (Taken chain) one = absurd one
-
-pub has-one : (place : ChainPlace) → IsOne place → HasKey place
-has-one (Free next) one = absurd one
-has-one (Few few value) one = tt
-has-one (Many many value) one = tt
-has-one (Taken chain) one = absurd one
-
-link-with : (place : ChainPlace) (key : List ℕ) (value : ℕ) → link_of (place_with place key value) ≡ link_of place
-link-with (Free next) key value = refl
-link-with (Few few held) key value = refl
-link-with (Many many held) key value = refl
-link-with (Taken chain) key value = refl
-
-has-with : (place : ChainPlace) (key : List ℕ) (value : ℕ) → HasKey place → HasKey (place_with place key value)
-has-with (Free next) key value has = tt
-has-with (Few few held) key value has = tt
-has-with (Many many held) key value has = tt
-has-with (Taken chain) key value has = written-used chain key value has
-
--- A chain keeps a key, whether one was put in or refused.
-pub added-some : {A E : Type 0} (result : Result A E) (key : List ℕ) (before after : ChainPlace) → OnOk result (pairs_at after ≡ with_pair (pairs_at before) key 0) → OnErr result (after ≡ before) → pairs_at before ≢ [] → pairs_at after ≢ []
-added-some (Ok done) key before after added same some e = put-used (pairs_at before) key 0 (sym added ∙ e)
-added-some (Err error) key before after added same some e = some (sym (ap pairs_at same) ∙ e)
-
-module _ (places : List ChainPlace) (free : ℕ) (are : AreChainPlaces places free) where
-  -- Keys at a place of the list, where another thing is put there, or at the end.
-  have-set : (at : ℕ) (new : ChainPlace) → at < length places → HasKey new → (k : ℕ) → HasKey (get_or (set places at new) k (Free 0))
-  have-set at new inside has k = elim (cases_eq k at) [
-    | inl e ↦ subst HasKey (sym (ap (λ n. get_or (set places at new) n (Free 0)) e ∙ get_or-set_same places at new (Free 0) inside)) has
-    | inr apart ↦ subst HasKey (sym (get_or-set_other places at k new (Free 0) apart)) (are.have_keys k)
-  ]
-
-  -- The end is the next place only where each place has a chain.
-  pub chains-last : (place next : ℕ) → IsNextPlace (links_of places) free place next → place ≡ length (chains_of places) → (at : ℕ) → at < length (chains_of places) → get_or (chains_of places) at [] ≢ []
-  chains-last place next is end at inside =
-      let long : length (chains_of places) ≡ length places = length-map places pairs_at in
-      let within : at < length places = omega (arith, inside, long) in
-      let all = end-places link_of places free are.none_lost place next is (end ∙ long) at in
-      subst (λ (pairs : Pairs). pairs ≢ []) (pairs_at-get places at (Free 0) within)
-      (keys-there (get_or places at (Free 0)) (sym (get_or-map link_of places at (Free 0) None within) ∙ all) (are.have_keys at))
-
-  -- The next place has no chain.
-  pub chains-free : (place next : ℕ) → IsNextPlace (links_of places) free place next → IsFreePlace (chains_of places) place
-  chains-free place next is = record {
-    within = free-within place next is;
-    no_key = free-empty place next is;
-    last = chains-last place next is;
-  }
+  -- The keys of that place alone are others.
+  pub pairs-changed : all_pairs key_length after (with_spot records place spot) ≡ set (all_pairs key_length chains records) place (pairs_of key_length (others_at after place) spot)
+  pairs-changed =
+      ext_get_or [] (all_pairs key_length after (with_spot records place spot)) (set (all_pairs key_length chains records) place new)
+      (length-pairs key_length after (with_spot records place spot) ∙ length-set records.spots place spot ∙ sym long ∙ sym (length-set (all_pairs key_length chains records) place new))
+      (λ at inside. each at)
     where
-      free-within : (place next : ℕ) → IsNextPlace (links_of places) free place next → place ≤ length (chains_of places)
-      free-within place next (inl is) =
-          let inside = free-inside (links_of places) free next is.0 in
-          let one : length (links_of places) ≡ length places = length-map places link_of in
-          let two : length (chains_of places) ≡ length places = length-map places pairs_at in
-          let here = is.1 in
-          omega (arith, inside, one, two, here)
-      free-within place next (inr is) =
-          let one : length (links_of places) ≡ length places = length-map places link_of in
-          let two : length (chains_of places) ≡ length places = length-map places pairs_at in
-          let here = is.1 in
-          omega (arith, one, two, here)
+      new : Pairs
+      new = pairs_of key_length (others_at after place) spot
 
-      empty-at : (items : List ChainPlace) (at next : ℕ) → get_or (links_of items) at None ≡ Some next → get_or (chains_of items) at [] ≡ []
-      empty-at [] at next is = refl
-      empty-at (Free link ∷ rest) zero next is = refl
-      empty-at (Few few value ∷ rest) zero next is = absurd (none-some next is)
-      empty-at (Many many value ∷ rest) zero next is = absurd (none-some next is)
-      empty-at (Taken chain ∷ rest) zero next is = absurd (none-some next is)
-      empty-at (one ∷ rest) (suc at) next is = empty-at rest at next is
+      long : length (all_pairs key_length chains records) ≡ length records.spots
+      long = length-pairs key_length chains records
 
-      free-empty : (place next : ℕ) → IsNextPlace (links_of places) free place next → get_or (chains_of places) place [] ≡ []
-      free-empty place next (inl is) = ap (λ at. get_or (chains_of places) at []) is.1 ∙ empty-at places free next is.0
-      free-empty place next (inr is) =
-          let one : length (links_of places) ≡ length places = length-map places link_of in
-          let two : length (chains_of places) ≡ length places = length-map places pairs_at in
-          let here = is.1 in
-          get_or_past (chains_of places) place [] (omega (arith, one, two, here))
+      each : (at : ℕ) → get_or (all_pairs key_length after (with_spot records place spot)) at [] ≡ get_or (set (all_pairs key_length chains records) place new) at []
+      each at = elim (cases_eq at place) [
+        | inl here ↦
+            pairs-at key_length after (with_spot records place spot) at
+            ∙ ap (λ n. pairs_of key_length (others_at after n) (spot_at (with_spot records place spot) n)) here
+            ∙ ap (pairs_of key_length (others_at after place)) spot-here
+            ∙ sym (get_or-set_same (all_pairs key_length chains records) place new [] (omega (arith, within, long)))
+            ∙ ap (λ n. get_or (set (all_pairs key_length chains records) place new) n []) (sym here)
+        | inr apart ↦
+            pairs-at key_length after (with_spot records place spot) at
+            ∙ (λ t. pairs_of key_length (same at apart t) (spot-there at apart t))
+            ∙ sym (pairs-at key_length chains records at)
+            ∙ sym (get_or-set_other (all_pairs key_length chains records) place at new [] apart)
+      ]
 
-  -- A chain of a key is put at the next place.
-  pub places-put : (place next : ℕ) (new : ChainPlace) → IsOne new → IsNextPlace (links_of places) free place next → AreChainPlaces (put_at places place new) next
-  places-put place next new one is = record {
-    none_lost = put-places link_of places free are.none_lost place next new is (link-one new one);
-    have_keys = λ k. elim (cases_eq k place) [
-      | inl e ↦ subst HasKey (sym (ap (λ n. get_or (put_at places place new) n (Free 0)) e ∙ get_or-put places place new (Free 0) within)) (has-one new one)
-      | inr apart ↦ subst HasKey (sym (get_or-put_other places place k new (Free 0) within apart)) (are.have_keys k)
-    ];
-  }
-    where
-      within : place ≤ length places
-      within = (let w = (chains-free place next is).within in let two : length (chains_of places) ≡ length places = length-map places pairs_at in omega (arith, w, two))
+module _ (hashes : FinMap word_order ℕ) (key_length : ℕ) (chains : BTreeMap ℕ Pairs) (records : RecordList) (are : AreLongRecords hashes key_length chains records) (place : ℕ) (is : IsHeld (spot_at records place))
+    (after : BTreeMap ℕ Pairs) (same : (at : ℕ) → at ≢ place → others_at after at ≡ others_at chains at) (keys : All (λ pair. IsKeyOf key_length pair.0) (others_at after place)) where
+  pub spot-within : place < length records.spots
+  spot-within = held-inside records.spots place is
 
-  module _ (at : ℕ) (held : ChainPlace) (is : held ≡ get_or places at held) (inside : at < length places) where
-    has-held : HasKey held
-    has-held = subst HasKey (sym (is ∙ get_or_default places at held (Free 0) inside)) (are.have_keys at)
-
-    pub places-back : AreChainPlaces (set places at held) free
-    places-back = subst (λ (items : List ChainPlace). AreChainPlaces items free) (sym (set_same places at held is)) are
-
-    -- A value is written in the chain,
-    pub places-with : (key : List ℕ) (value : ℕ) → AreChainPlaces (set places at (place_with held key value)) free
-    places-with key value = record {
-      none_lost = set-places link_of places free are.none_lost at held is (place_with held key value) (link-with held key value);
-      have_keys = have-set at (place_with held key value) inside (has-with held key value has-held);
+  -- Another record stands there, or other keys beside it.
+  module _ (spot : Spot) (stands : IsHeld spot) (spelled : IsSpelled key_length spot) where
+    pub changed-kept : AreLongRecords hashes key_length after (with_spot records place spot)
+    changed-kept = record {
+      size = are.size;
+      apart = are.apart;
+      led = λ hash at leads. still-held at (are.led hash at leads);
+      spelled = λ at. elim (cases_eq at place) [
+        | inl here ↦ subst (λ n. IsSpelled key_length (spot_at (with_spot records place spot) n)) (sym here) (subst (IsSpelled key_length) (sym (spot-here key_length chains after records place spot-within spot same)) spelled)
+        | inr apart ↦ subst (IsSpelled key_length) (sym (spot-there key_length chains after records place spot-within spot same at apart)) (are.spelled at)
+      ];
+      beside = λ at some. elim (cases_eq at place) [
+        | inl here ↦ subst (λ n. IsHeld (spot_at (with_spot records place spot) n)) (sym here) (subst IsHeld (sym (spot-here key_length chains after records place spot-within spot same)) stands)
+        | inr apart ↦ still-held at (are.beside at (λ none. some (same at apart ∙ none)))
+      ];
+      keys = λ at. elim (cases_eq at place) [
+        | inl here ↦ subst (λ n. All (λ pair. IsKeyOf key_length pair.0) (others_at after n)) (sym here) keys
+        | inr apart ↦ subst (λ (pairs : Pairs). All (λ pair. IsKeyOf key_length pair.0) pairs) (sym (same at apart)) (are.keys at)
+      ];
     }
+      where
+        still-held : (at : ℕ) → IsHeld (spot_at records at) → IsHeld (spot_at (with_spot records place spot) at)
+        still-held at was = elim (cases_eq at place) [
+          | inl here ↦ subst (λ n. IsHeld (spot_at (with_spot records place spot) n)) (sym here) (subst IsHeld (sym (spot-here key_length chains after records place spot-within spot same)) stands)
+          | inr apart ↦ subst IsHeld (sym (spot-there key_length chains after records place spot-within spot same at apart)) was
+        ]
 
-    module _ (used : pairs_at held ≢ []) (new : ChainPlace) where
-      -- the chain keeps a key,
-      pub places-set : pairs_at new ≢ [] → AreChainPlaces (set places at new) free
-      places-set some = record {
-        none_lost = set-places link_of places free are.none_lost at held is new (link-key new some ∙ sym (link-key held used));
-        have_keys = have-set at new inside (has-key new some);
-      }
+  -- The record there stays.
+  own : with_spot records place (spot_at records place) ≡ records
+  own = ap (λ (spots : List Spot). record records { spots = spots }) (set-get_or records.spots place (free 0))
 
-      -- or goes.
-      pub places-free : AreChainPlaces (set (set places at new) at (Free free)) at
-      places-free = record {
-        none_lost = free-places link_of places free are.none_lost at held is inside (link-key held used) new (Free free) refl;
-        have_keys = λ k. subst (λ (items : List ChainPlace). HasKey (get_or items k (Free 0))) (sym (set-twice places at new (Free free))) (have-set at (Free free) inside tt k);
-      }
+  pub beside-kept : AreLongRecords hashes key_length after records
+  beside-kept = subst (λ (now : RecordList). AreLongRecords hashes key_length after now) own (changed-kept (spot_at records place) is (are.spelled place))
 
--- ---- one place
-
-pub places-one : (place : ChainPlace) → IsOne place → AreChainPlaces (place ∷ []) 1
-places-one place one = record { none_lost = (0, taken); have_keys = has }
-  where
-    taken : (at : ℕ) → get_or (links_of (place ∷ [])) at None ≡ None
-    taken zero = link-one place one
-    taken (suc at) = refl
-
-    has : (at : ℕ) → HasKey (get_or (place ∷ []) at (Free 0))
-    has zero = has-one place one
-    has (suc at) = tt
+  pub beside-changed : all_pairs key_length after records ≡ set (all_pairs key_length chains records) place ((bytes_in key_length (text_of (spot_at records place)), value_of (spot_at records place)) ∷ others_at after place)
+  beside-changed =
+      ap (all_pairs key_length after) (sym own)
+      ∙ pairs-changed key_length chains after records place spot-within (spot_at records place) same
+      ∙ ap (set (all_pairs key_length chains records) place) (held-pairs key_length (others_at after place) (spot_at records place) is)

@@ -2,11 +2,13 @@
 use Rattle.std.proofs.Common.{◌≡◌, ℕ, zero, suc, ◌<◌, true, false, cond, List, [], ◌∷◌, map, length, get_or, Option, Some, None, All, bytes_eq, refl, sym, subst, ◌∙◌, arith}
 use Rattle.std.specs.List.{HoldsAt}
 use Rattle.std.specs.FinMap.{FinMap, get, get-entries, entries, entries_sorted}
+use Rattle.std.specs.FinMap.Entries.{find}
+use Rattle.std.specs.Ordering.{is_eq}
 use Rattle.std.specs.declared.cmp.Ordering.{Ordering}
 use Rattle.std.specs.Cmp.{IsTotalOrder, tied_itself}
 use Rattle.std.proofs.lemmas.List.{get_or_default}
 use Rattle.std.proofs.lemmas.List.Elements.{All-head, All-tail, All-map}
-use Rattle.std.proofs.lemmas.Option.{none-some}
+use Rattle.std.proofs.lemmas.Option.{none-some, same_Some}
 use Rattle.judy_model.specs.Keys.{IsWord, word_order}
 use Rattle.judy_model.specs.KeyLengths.{IsBytesKeyTo}
 use Rattle.judy_model.specs.Arrays.{ArrayOf, IsArrayOf, IsArray, judyl}
@@ -14,15 +16,13 @@ use Rattle.judy_model.proofs.KeptLemmas.{words_hold}
 use Rattle.judy_model.proofs.Pairs.{find-at}
 use Rattle.judy_model.proofs.TableLemmas.{bytes_keys-all, table_some, byte_order_total}
 use Rattle.judy_hs.specs.Chains.{Pairs, value_in}
-use Rattle.judy_hs.specs.ChainPlaces.{pairs_at, chains_of}
-use Rattle.judy_hs.specs.LongGroups.{in_long, in_chain}
+use Rattle.judy_hs.specs.LongGroups.{Long, chain_at, in_long, in_chain}
 use Rattle.judy_hs.specs.Groups.{Group, none, in_group}
 use Rattle.judy_hs.specs.GroupPlaces.{group_of, groups_of}
 use Rattle.judy_hs.specs.Keyed.{Keyed, in_keyed, in_place}
 use Rattle.judy_hs.specs.Kept.{IsHs, value_of, map_of, array_of}
 use Rattle.judy_hs.specs.Values.{AreWords}
 use Rattle.judy_hs.specs.Parts.{part_of}
-use Rattle.judy_hs.specs.declared.long_group.ChainPlace.{ChainPlace}
 use Rattle.judy_hs.specs.declared.group.GroupPlace.{GroupPlace}
 
 -- What holds of an element that is read holds at its place.
@@ -48,15 +48,38 @@ entries_words (entry ∷ rest) each key value is =
 no_words : (find : List ℕ → Option ℕ) → ((key : List ℕ) → find key ≡ None) → AreWords find
 no_words find absent key value is = absurd (none-some value (sym (absent key) ∙ is))
 
+pub none_words : AreWords (value_in [])
+none_words = no_words (value_in []) (λ key. refl)
+
+-- A pair whose value is a word, before others.
+pub first_words : (pairs : Pairs) (key : List ℕ) (read value : ℕ) (others : Pairs) → pairs ≡ (key, value) ∷ others → read ≡ value → IsWord read → AreWords (value_in others) → AreWords (value_in pairs)
+first_words pairs key read value others is same word words = subst (λ (pairs : Pairs). AreWords (value_in pairs)) (sym is) first
+  where
+    first : AreWords (value_in ((key, value) ∷ others))
+    first other found = elim (bytes_eq key other) as (λ b. cond b (Some value) (value_in others other) ≡ Some found → IsWord found) [
+      | true ↦ λ here. subst IsWord (same ∙ same_Some value found here) word
+      | false ↦ λ later. words other found later
+    ]
+
 -- ---- groups of long keys
 
-module _ (hashes : ArrayOf word_order) (places : List ChainPlace) (each : All (λ (place : ChainPlace). AreWords (value_in (pairs_at place))) places) where
-  led_words : (found : Option ℕ) → AreWords (in_chain (record { hashes = hashes; chains = chains_of places }) found)
-  led_words None = no_words _ (λ key. refl)
-  led_words (Some place) = at_place pairs_at [] (λ (chain : Pairs). AreWords (value_in chain)) (no_words (value_in []) (λ key. refl)) places each place
+-- What holds of the value of each entry holds of what a look-up finds.
+find_all : {K X : Type 0} (order : K → K → Ordering) (P : X → Type 0) (pairs : List (K × X)) (key : K) (value : X) → All (λ pair. P pair.1) pairs → find order key pairs ≡ Some value → P value
+find_all order P [] key value all is = absurd (none-some value is)
+find_all order P (pair ∷ rest) key value all is =
+    elim (is_eq (order key pair.0)) as (λ b. cond b (Some pair.1) (find order key rest) ≡ Some value → P value) [
+      | true ↦ λ here. subst P (same_Some pair.1 value here) (All-head (λ pair. P pair.1) pair rest all)
+      | false ↦ λ later. find_all order P rest key value (All-tail (λ pair. P pair.1) pair rest all) later
+    ] is
 
-  pub chains_words : (hash : ℕ) → AreWords (in_long (record { hashes = hashes; chains = chains_of places }) hash)
-  chains_words hash = led_words (get hashes.map hash)
+module _ (group : Long) (each : All (λ (entry : ℕ × ℕ). AreWords (value_in (chain_at group entry.1))) (entries group.hashes.map)) where
+  led_words : (found : Option ℕ) → ((place : ℕ) → found ≡ Some place → AreWords (value_in (chain_at group place))) → AreWords (in_chain group found)
+  led_words None words = no_words _ (λ key. refl)
+  led_words (Some place) words = words place refl
+
+  pub chains_words : (hash : ℕ) → AreWords (in_long group hash)
+  chains_words hash = led_words (get group.hashes.map hash) (λ place is.
+      find_all word_order (λ place. AreWords (value_in (chain_at group place))) (entries group.hashes.map) hash place each (sym (get-entries group.hashes.map hash) ∙ is))
 
 -- ---- groups of short keys
 

@@ -30,6 +30,11 @@ with_value (pair ∷ rest) key value = cond (has_key key pair) ((pair.0, value) 
 abbrev pub with_pair : Pairs → List ℕ → ℕ → Pairs
 with_pair pairs key value = insert_entry byte_order pairs key value
 
+-- The same where the first pair stays the first one.
+abbrev pub joined : Pairs → List ℕ → ℕ → Pairs
+joined [] key value = (key, value) ∷ []
+joined (first ∷ rest) key value = first ∷ with_pair rest key value
+
 -- The pairs without a key.
 abbrev pub without : Pairs → List ℕ → Pairs
 without [] key = []

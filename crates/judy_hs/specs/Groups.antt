@@ -88,6 +88,12 @@ group_with (short words) (Chained place) key value = short words
 group_with (long group) (Word word) key value = long group
 group_with (long group) (Chained place) key value = long (long_with group place key value)
 
+-- A key is as long as those of the group.
+abbrev pub IsOfLength : Group → List ℕ → Type 0
+IsOfLength none key = Unit {0}
+IsOfLength (short words) key = Unit {0}
+IsOfLength (long group) key = length key ≡ group.key_length
+
 -- A new key can be put in: there is a group, and the chain of its hash, if there is one, has a key.
 abbrev pub CanTakeKey : Group → ℕ → Type 0
 CanTakeKey none part = ⊥
@@ -109,14 +115,7 @@ group_with_key (short words) part key inside = short (with_map words (insert wor
 group_with_key (long group) part key (Word word) = long group
 group_with_key (long group) part key (Chained place) = long (added_long group part key (get group.hashes.map part) place)
 
--- The key that stands there can be taken out.
-abbrev pub IsRemovable : Group → Inside → List ℕ → Type 0
-IsRemovable none inside key = ⊥
-IsRemovable (short words) inside key = Unit {0}
-IsRemovable (long group) (Word word) key = ⊥
-IsRemovable (long group) (Chained place) key = (place < length group.chains) × IsSome (value_in (chain_at group place) key)
-
--- The group without it.
+-- The group without the key that stands there.
 abbrev pub group_without : Group → ℕ → Inside → List ℕ → Group
 group_without none part inside key = none
 group_without (short words) part inside key = short (with_map words (remove words.map part))

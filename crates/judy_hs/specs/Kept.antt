@@ -28,9 +28,10 @@ module _ (hash_of : List ℕ → ℕ) where
     pub apart : AreApart chain
     pub keys : (key : List ℕ) (value : ℕ) → value_in chain key ≡ Some value → IsByteString key × (length key ≡ key_length) × (hash_of key ≡ hash)
 
-  -- A group of long keys: each hash leads to a chain of its own.
+  -- A group of long keys of that length: each hash leads to a chain of its own.
   pub record IsLong (key_length : ℕ) (group : Long) : Type 0 where
     pub many : 8 < key_length
+    pub length_is : group.key_length ≡ key_length
     pub limit : group.hashes.limit ≡ 18446744073709551615
     pub used : IsUsed group.hashes.map
     pub apart : (one other place : ℕ) → get group.hashes.map one ≡ Some place → get group.hashes.map other ≡ Some place → one ≡ other

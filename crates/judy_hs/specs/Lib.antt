@@ -3,7 +3,7 @@ pub mod ChainEntries
 pub mod Values
 pub mod ChainLends
 pub mod LongGroups
-pub mod ChainPlaces
+pub mod LongRecords
 pub mod LongLends
 pub mod Groups
 pub mod GroupPlaces

@@ -11,12 +11,13 @@ use Rattle.judy_hs.specs.LongGroups.{Long, chain_at}
 use Rattle.judy_hs.specs.Groups.{Group, none, short, long}
 use Rattle.judy_hs.specs.Keyed.{Keyed, group_at}
 use Rattle.judy_hs.specs.declared.entry.HsKey.{HsKey}
-use Rattle.judy_hs.specs.declared.entry.HsKey.TheVariants.{Short, Long as Borrowed}
+use Rattle.judy_hs.specs.declared.entry.HsKey.TheVariants.{Short, Copied, Long as Borrowed}
 use Rattle.judy_hs.specs.declared.entry.HsEntry.{HsEntry}
 
 -- The bytes of a key, whether copied or borrowed.
 abbrev pub key_bytes : HsKey → List ℕ
 key_bytes (Short bytes) = bytes.items
+key_bytes (Copied bytes) = bytes.items
 key_bytes (Borrowed bytes) = bytes.now
 
 -- Whether an entry comes before another by the bytes of their keys.

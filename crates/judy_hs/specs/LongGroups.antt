@@ -4,10 +4,11 @@ use Rattle.std.specs.Coded.{Coded, code_by, coded×, coded_list, coded_ℕ}
 use Rattle.std.specs.FinMap.{get, insert, empty, remove}
 use Rattle.judy_model.specs.Keys.{word_order}
 use Rattle.judy_model.specs.Arrays.{ArrayOf, array_code, with_map}
-use Rattle.judy_hs.specs.Chains.{Pairs, value_in, with_value, with_pair, without}
+use Rattle.judy_hs.specs.Chains.{Pairs, value_in, with_value, joined, without}
 
--- The array from hashes to the places of chains, and the chains.
+-- How long the keys are, the array from hashes to the places of chains, and the chains: the keys that share a hash, most often one alone.
 pub record Long : Type 0 where
+  pub key_length : ℕ
   pub hashes : ArrayOf word_order
   pub chains : List Pairs
 
@@ -15,13 +16,17 @@ pub record Long : Type 0 where
 abbrev pub pairs_code : Coded Pairs
 pairs_code = coded_list (coded× (coded_list coded_ℕ) coded_ℕ)
 
--- A group is stored as the pair of its array and its chains.
+-- A group is stored as its parts.
 abbrev pub long_code : Coded Long
-long_code = code_by (ArrayOf word_order × List Pairs) (coded× (array_code coded_ℕ) (coded_list pairs_code)) (λ long. (long.hashes, long.chains)) (λ pair. record { hashes = pair.0; chains = pair.1 }) (λ _. refl)
+long_code = code_by ((ℕ × ArrayOf word_order) × List Pairs) (coded× (coded× coded_ℕ (array_code coded_ℕ)) (coded_list pairs_code)) (λ long. ((long.key_length, long.hashes), long.chains)) (λ parts. record { key_length = parts.0.0; hashes = parts.0.1; chains = parts.1 }) (λ _. refl)
 
 -- The chain at a place: of no key where the place is free or there is none.
 abbrev pub chain_at : Long → ℕ → Pairs
 chain_at long place = get_or long.chains place []
+
+-- Some hash leads there, or, where it is none, nowhere.
+abbrev pub IsLed : Long → Option ℕ → Type 0
+IsLed long found = (hash : ℕ) × (found ≡ get long.hashes.map hash)
 
 -- The value of a key, by what its hash leads to.
 abbrev pub in_chain : Long → Option ℕ → List ℕ → Option ℕ
@@ -48,7 +53,7 @@ one_word word value = record { limit = 18446744073709551615; map = insert empty 
 
 -- The group of one key.
 abbrev pub one_long : ℕ → List ℕ → Long
-one_long hash key = record { hashes = one_word hash 0; chains = ((key, 0) ∷ []) ∷ [] }
+one_long hash key = record { key_length = length key; hashes = one_word hash 0; chains = ((key, 0) ∷ []) ∷ [] }
 
 -- A list with an element put at a place within it, or at its end.
 abbrev pub put_at : {X : Type 0} → List X → ℕ → X → List X
@@ -62,11 +67,11 @@ pub record IsFreePlace (chains : List Pairs) (place : ℕ) : Type 0 where
 
 -- The group with a chain of one key, at a place under a hash that led nowhere.
 abbrev pub with_chain : Long → ℕ → List ℕ → ℕ → Long
-with_chain long hash key place = record { hashes = with_map long.hashes (insert long.hashes.map hash place); chains = put_at long.chains place ((key, 0) ∷ []) }
+with_chain long hash key place = record long { hashes = with_map long.hashes (insert long.hashes.map hash place); chains = put_at long.chains place ((key, 0) ∷ []) }
 
 -- The group with one key more in the chain at a place.
 abbrev pub with_key : Long → List ℕ → ℕ → Long
-with_key long key place = record long { chains = slice_set long.chains place (with_pair (chain_at long place) key 0) }
+with_key long key place = record long { chains = slice_set long.chains place (joined (chain_at long place) key 0) }
 
 -- What a new key made of the group: a key more in the chain of its hash, or a chain of its own at a free place.
 abbrev pub added_long : Long → ℕ → List ℕ → Option ℕ → ℕ → Long
@@ -91,7 +96,7 @@ hashes_without long hash (pair ∷ rest) = long.hashes
 abbrev pub without_key : Long → ℕ → ℕ → List ℕ → Long
 without_key long hash place key =
     let left = without (chain_at long place) key in
-    record { hashes = hashes_without long hash left; chains = slice_set long.chains place left }
+    record long { hashes = hashes_without long hash left; chains = slice_set long.chains place left }
 
 -- The group with a value for a key of one of its chains.
 abbrev pub long_with : Long → ℕ → List ℕ → ℕ → Long

@@ -249,8 +249,8 @@ impl<H: ByteHash + Drop> JudyHs<H> {
     }
 
     /// All keys with their values, by the lengths of the keys, and those of one length by their bytes: the order of a
-    /// dump. Long keys are borrowed and not copied. `AllocError` where there is no memory for the list. (This project's
-    /// own.)
+    /// dump. The list has copies of the keys, and so takes about as much memory as they do. `AllocError` where there is
+    /// none for it. (This project's own.)
     pub fn sorted(&self) -> Result<Vec<HsEntry<'_>>, AllocError>
         ensures { IfOk result (λ list. entries_in list.items ≡ entries_by length_order self.now.map) }
     {

@@ -1,6 +1,6 @@
-//! Two long keys or more of one length and one hash, with their values, in the order of their bytes.
+//! Long keys of one length and one hash, with their values, in the order of their bytes.
 
-ghost use Rattle.std.specs.Prelude.{◌≡◌, ◌++◌, [], ◌↔◌, IsTrue, OnOk, IfOk, OnErr, ◌∷◌};
+ghost use Rattle.std.specs.Prelude.{◌≡◌, ◌++◌, [], ◌↔◌, IsTrue, OnOk, OnErr, ◌∷◌, MatchOption};
 ghost use Rattle.std.specs.Borrow.{sem};
 ghost use Rattle.std.specs.Option.{option_copied_mut};
 ghost use Rattle.judy_hs.specs.Chains.{value_in, with_pair, without};
@@ -42,21 +42,6 @@ impl Chain {
         }
     }
 
-    // The chain of a key with its value and of another one with the value 0.
-    pub fn of_two(
-        alloc: Global,
-        first: &[u8],
-        value: u64,
-        second: &[u8],
-    ) -> Result<Chain, AllocError>
-        ensures { IfOk result (λ chain. chain ≡ with_pair ((first.now, value) ∷ []) second.now 0) }
-    {
-        let mut chain = Chain::new(alloc);
-        chain.put(alloc, first, value)?;
-        chain.put(alloc, second, 0)?;
-        Ok(chain)
-    }
-
     // Puts a key in with its value.
     pub fn put(&mut self, alloc: Global, key: &[u8], value: u64) -> Result<(), AllocError>
         ensures added { OnOk result (self.new ≡ with_pair self.old key.now value) }
@@ -86,6 +71,13 @@ impl Chain {
         ensures { self.new ≡ without self.old key.now }
     {
         self.entries.remove(key);
+    }
+
+    // Takes the first key with its value out, where there is one.
+    pub fn take_first(&mut self) -> Option<(Vec<u8>, u64)>
+        ensures { MatchOption result ((self.old ≡ []) × (self.new ≡ [])) (λ first. self.old ≡ (first.0.items, first.1) ∷ self.new) }
+    {
+        self.entries.pop_first()
     }
 
     // Whether no key is left.

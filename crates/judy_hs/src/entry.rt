@@ -7,12 +7,14 @@ ghost use Rattle.judy_hs.specs.Listed.{key_bytes, is_before};
 
 use arrayvec::ArrayVec;
 
-/// A key in a list of entries: a copy where it has at most 8 bytes, and else the array's own.
+/// A key in a list of entries: a copy, or the array's own where others share its hash.
 #[derive(Drop)]
 pub enum HsKey<'a> {
     /// A key of at most 8 bytes.
     Short(ArrayVec<u8, 8>),
     /// A longer key.
+    Copied(Vec<u8>),
+    /// A longer key that the array has as bytes.
     Long(&'a [u8]),
 }
 
@@ -23,6 +25,7 @@ impl<'a> HsKey<'a> {
     {
         match self {
             HsKey::Short(bytes) => bytes.as_slice(),
+            HsKey::Copied(bytes) => bytes.as_slice(),
             HsKey::Long(bytes) => bytes,
         }
     }

@@ -29,7 +29,7 @@ pub enum GroupPlace {
 }
 
 impl GroupPlace {
-    ghost use Rattle.judy_hs.specs.Groups.{none, in_group, chain_in, words_of, IsInside, IsNewInside, IsUsable, value_inside, group_with_key, group_without, CanTakeKey, IsRemovable, IsEmptyGroup};
+    ghost use Rattle.judy_hs.specs.Groups.{none, in_group, chain_in, words_of, IsInside, IsNewInside, IsOfLength, IsUsable, value_inside, group_with_key, group_without, CanTakeKey, IsEmptyGroup};
     ghost use Rattle.judy_hs.specs.GroupPlaces.{group_of};
     ghost use Rattle.judy_hs.specs.Trials.{IfAdded, UnlessAdded, UnlessOpen};
     ghost use Rattle.judy_hs.specs.GroupLends.{LendsInside};
@@ -105,6 +105,7 @@ impl GroupPlace {
     ) -> Result<Inside, AllocError>
         requires chain { chain ≡ chain_in (group_of self.old) part }
         requires room { IfSome (words_of (group_of self.old)) (λ words. map_len words.map < words.limit) }
+        requires of_length { IsOfLength (group_of self.old) key.now }
         requires takes { CanTakeKey (group_of self.old) part }
         ensures place { IfOk result (IsNewInside (group_of self.old) part) }
         ensures added { IfOk result (λ inside. group_of self.new ≡ group_with_key (group_of self.old) part key.now inside) }
@@ -127,6 +128,7 @@ impl GroupPlace {
     // Puts a key in with the value 0 where it and each key with its hash are absent, by one way down, and answers where it stands.
     pub fn try_add(&mut self, alloc: Global, part: u64, key: &[u8]) -> Trial<Inside>
         requires room { IfSome (words_of (group_of self.old)) (λ words. map_len words.map < words.limit) }
+        requires of_length { IsOfLength (group_of self.old) key.now }
         ensures absent { UnlessOpen result (in_group (group_of self.old) part key.now ≡ None) }
         ensures place { IfAdded result (IsNewInside (group_of self.old) part) }
         ensures added { IfAdded result (λ inside. group_of self.new ≡ group_with_key (group_of self.old) part key.now inside) }
@@ -151,7 +153,7 @@ impl GroupPlace {
 
     // Takes a key out that stands there, and says whether no key is left.
     pub fn remove(&mut self, part: u64, inside: Inside, key: &[u8]) -> bool
-        requires { IsRemovable (group_of self.old) inside key.now }
+        requires { IsInside (group_of self.old) part key.now inside }
         ensures removed { group_of self.new ≡ group_without (group_of self.old) part inside key.now }
         ensures answer { IsTrue result ↔ IsEmptyGroup (group_of self.new) }
     {

@@ -5,6 +5,7 @@ ghost use Rattle.std.specs.Prelude.{ℕ, ◌++◌, OnOk, ◌≡◌, ◌≢◌, �
 ghost use Rattle.std.specs.Borrow.{sem};
 ghost use Rattle.std.specs.FinMap.{get, len as map_len};
 ghost use Rattle.std.specs.Option.{option_copied_mut};
+ghost use Rattle.judy_hs.specs.LongGroups.{put_at};
 ghost use Rattle.judy_hs.specs.Groups.{one_group, one_inside};
 ghost use Rattle.judy_hs.specs.GroupPlaces.{group_of, groups_of, links_of};
 ghost use Rattle.judy_hs.specs.Keyed.{IsFreeGroup};
@@ -13,7 +14,7 @@ ghost use Rattle.judy_places.specs.Places.{NoneLost, IsNextPlace};
 use crate::entry::HsEntry;
 use crate::error::HsError;
 use crate::group::{GroupPlace, Inside};
-use crate::long_group::{LongGroup, put};
+use crate::long_group::LongGroup;
 use crate::trial::Trial;
 use judy_word::{InsertError, WordMap};
 use std::alloc::{AllocError, Global};
@@ -77,7 +78,7 @@ fn group_of_one(alloc: Global, part: u64, key: &[u8]) -> Result<(GroupPlace, Ins
 }
 
 impl Groups {
-    ghost use Rattle.judy_hs.specs.Groups.{IsUsable, CanTakeKey, IsRemovable, IsEmptyGroup, value_inside, group_without};
+    ghost use Rattle.judy_hs.specs.Groups.{IsUsable, CanTakeKey, IsInside, IsOfLength, IsEmptyGroup, value_inside, group_without};
     ghost use Rattle.judy_hs.specs.Keyed.{no_keys, in_keyed, chain_led, words_at, group_at, IsSpot, IsNewSpot, added_keyed, with_group, keyed_without, without_group};
     ghost use Rattle.judy_hs.specs.Trials.{IfAdded, UnlessAdded, UnlessOpen};
     ghost use Rattle.judy_hs.specs.KeyedLends.{LendsSpot, LendsSpotOk};
@@ -179,6 +180,7 @@ impl Groups {
     // answers where it stands.
     pub fn try_add(&mut self, alloc: Global, tries: bool, part: u64, key: &[u8]) -> Trial<Spot>
         requires group { IfSome (words_at self.old (get self.old.lengths.map (length key.now))) (λ words. map_len words.map < words.limit) }
+        requires of_length { IfSome (get self.old.lengths.map (length key.now)) (λ place. IsOfLength (group_at self.old place) key.now) }
         ensures tried { UnlessOpen result (IsTrue tries) }
         ensures absent { UnlessOpen result (in_keyed self.old part key.now ≡ None) }
         ensures place { IfAdded result (λ spot. IsNewSpot self.old part key.now (get self.old.lengths.map (length key.now)) spot.group spot.inside) }
@@ -214,6 +216,7 @@ impl Groups {
         requires chain { way.chain ≡ chain_led self.old way.group part }
         requires lengths { map_len self.old.lengths.map < self.old.lengths.limit }
         requires group { IfSome (words_at self.old (get self.old.lengths.map (length key.now))) (λ words. map_len words.map < words.limit) }
+        requires of_length { IfSome (get self.old.lengths.map (length key.now)) (λ place. IsOfLength (group_at self.old place) key.now) }
         requires takes { IfSome (get self.old.lengths.map (length key.now)) (λ place. CanTakeKey (group_at self.old place) part) }
         ensures place { IfOk result (λ spot. IsNewSpot self.old part key.now (get self.old.lengths.map (length key.now)) spot.group spot.inside) }
         ensures added { IfOk result (λ spot. self.new ≡ added_keyed self.old part key.now (get self.old.lengths.map (length key.now)) spot.group spot.inside) }
@@ -254,7 +257,7 @@ impl Groups {
     // Takes a key out that stands there. A group that becomes empty goes, with the length of its keys.
     pub fn remove(&mut self, part: u64, key: &[u8], spot: Spot)
         requires within { spot.group < length self.old.groups }
-        requires removable { IsRemovable (group_at self.old spot.group) spot.inside key.now }
+        requires is_inside { IsInside (group_at self.old spot.group) part key.now spot.inside }
         ensures kept { (IsEmptyGroup (group_without (group_at self.old spot.group) part spot.inside key.now) → ⊥)
             → self.new ≡ keyed_without self.old spot.group part spot.inside key.now }
         ensures emptied { IsEmptyGroup (group_without (group_at self.old spot.group) part spot.inside key.now)
@@ -351,5 +354,18 @@ fn free_place(groups: &mut Vec<GroupPlace>, free: usize) -> Result<(usize, usize
             groups.reserve(1)?;
             Ok((groups.len(), free))
         }
+    }
+}
+
+// Puts a group at a place of the list, or at its end, where room is reserved.
+fn put(groups: &mut Vec<GroupPlace>, place: usize, group: GroupPlace)
+    requires within { place ≤ length groups.old.items }
+    requires room { place ≡ length groups.old.items → vec_len groups.old < vec_capacity groups.old }
+    ensures { groups.new.items ≡ put_at groups.old.items place group }
+{
+    if place < groups.len() {
+        groups[place] = group;
+    } else {
+        groups.push_reserved(group);
     }
 }

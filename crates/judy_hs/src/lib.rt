@@ -7,8 +7,8 @@
 //! arrays of judy_word.
 //!
 //! Inside, keys are grouped by their length (groups.rt, group.rt). A key of at most 8 bytes is a word (part.rt), and its
-//! group a `JudyL` from these words to the values; longer keys are found by their hash (hash.rt), in a chain of the keys
-//! that share it (long_group.rt, chain.rt), where their bytes decide. An insert is tried as that of a new key where the
+//! group a `JudyL` from these words to the values; longer keys are found by their hash (hash.rt), which leads to the record of
+//! the key (long_group.rt), or to a chain of the keys that share it (shared.rt, chain.rt); their bytes decide. An insert is tried as that of a new key where the
 //! last one was (trial.rt).
 #![tactic(auto)]
 
@@ -21,6 +21,7 @@ mod groups;
 mod hash;
 mod long_group;
 mod part;
+mod shared;
 mod trial;
 
 pub use bytes::JudyHs;

@@ -30,3 +30,5 @@ pub mod HalfSteps
 pub mod WholeWords
 pub mod Appended
 pub mod BitsPut
+pub mod NextKeys
+pub mod Fills

@@ -1,10 +1,10 @@
 -- Keys of which a word holds one: they are the words, and come and go with them.
-use Rattle.std.proofs.Common.{◌≡◌, ℕ, zero, suc, ◌+◌, ◌-◌, ◌*◌, ◌/◌, ◌%◌, ◌^◌, ◌<◌, ◌≤◌, List, [], ◌∷◌, ◌++◌, length, take, drop, replicate, set, refl, ap, sym, ◌∙◌, subst, arith}
+use Rattle.std.proofs.Common.{◌≡◌, ℕ, zero, suc, ◌+◌, ◌-◌, ◌*◌, ◌/◌, ◌^◌, ◌<◌, ◌≤◌, List, [], ◌∷◌, ◌++◌, length, take, drop, replicate, set, refl, ap, sym, ◌∙◌, subst, arith}
 use Rattle.std.specs.List.{AllByRecursion, insert, remove}
 use Rattle.std.proofs.Math.Nat.{pow-zero, pow-suc, mod-eq_of_lt}
 use Rattle.std.proofs.lemmas.List.{take_all, drop_all, length-drop}
 use Rattle.judy_block.specs.Contents.{Contents, with_gap, without_gap}
-use Rattle.judy_leaf.specs.Packing.{digits, places, places_of, keys_in, IsPacked, IsTight, IsWidth}
+use Rattle.judy_leaf.specs.Packing.{digits, places_of, keys_in, IsPacked, IsTight, IsWidth}
 use Rattle.judy_leaf.specs.Leaves.{words_for, keys_from, AreKeysFrom}
 use Rattle.judy_leaf.specs.KeyChanges.{IsKeyChange}
 use Rattle.judy_leaf.proofs.ValueSteps.{put_is, without_is, length-insert, length-remove}

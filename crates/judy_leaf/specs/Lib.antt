@@ -10,3 +10,4 @@ pub mod BitLeaves
 pub mod BitChanges
 pub mod Nearby
 pub mod Searches
+pub mod Fills

@@ -1,6 +1,6 @@
 //! The reading of a bitmap leaf whose block stands in a node.
 
-ghost use Rattle.std.specs.Prelude.{◌≡◌, ◌<◌, ◌≤◌, ◌==◌, length, slice_index};
+ghost use Rattle.std.specs.Prelude.{◌≡◌, ◌+◌, ◌<◌, ◌≤◌, ◌==◌, length, slice_index, slice_get, Some};
 ghost use Rattle.std.specs.List.{AllByRecursion};
 ghost use Rattle.judy_model.specs.Keys.{word_order};
 ghost use Rattle.judy_model.specs.Nearest.{IsFirst, IsLast};
@@ -132,6 +132,20 @@ impl<'a, V: Words + Drop> BitRef<'a, V> {
     {
         match self.bits().nth(at) {
             Some(byte) => u64::from(byte),
+            None => unreachable!(),
+        }
+    }
+
+    /// The first key from a byte on, where there is one.
+    pub fn next_key(&self, byte: u64) -> u64
+        requires { set.rank (keys_of self.now.pairs) byte < length self.now.pairs }
+        ensures key { slice_get (keys_of self.now.pairs) (set.rank (keys_of self.now.pairs) byte) ≡ Some result }
+        ensures past { set.rank (keys_of self.now.pairs) (result + 1) ≡ set.rank (keys_of self.now.pairs) byte + 1 }
+        ensures below { result < 256 }
+    {
+        self.told();
+        match self.next_from(byte as u8) {
+            Some(key) => u64::from(key),
             None => unreachable!(),
         }
     }

@@ -185,7 +185,12 @@ pub(crate) fn absent_up_to(
 }
 
 // The key at a place.
-fn key_in_block<const W: usize>(block: &Block, start: usize, count: usize, at: usize) -> u64
+pub(crate) fn key_in_block<const W: usize>(
+    block: &Block,
+    start: usize,
+    count: usize,
+    at: usize,
+) -> u64
     requires width { IsWidth W }
     requires start { start ≤ 32 }
     requires keys { AreKeysFrom W count start block.now }

@@ -150,6 +150,16 @@ impl<'a, V: Words + Drop> LeafRef<'a, V> {
         )
     }
 
+    // The same of a leaf whose keys have `W` bytes.
+    pub(crate) fn key_of<const W: usize>(&self, at: usize) -> u64
+        requires width { self.now.width ≡ W }
+        requires inside { at < length self.now.pairs }
+        ensures { result ≡ slice_index (keys_of self.now.pairs) at }
+    {
+        let count = usize::from(self.count);
+        keys::key_in_block::<W>(self.block, V::WORDS * count, count, at)
+    }
+
     /// The value at such a place, 0 where keys have no value.
     pub fn value_at(&self, at: usize) -> u64
         requires { at < length self.now.pairs }

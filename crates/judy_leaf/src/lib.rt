@@ -15,7 +15,7 @@
 //! type. place.rt has the places of one word, for a width that is known when a program is compiled; packed.rt searches words, by lanes.rt
 //! where keys have one byte or two and by halves.rt where they have eight, gaps.rt follows keys that are neighbours to a number that is no key, and edit.rt changes the words
 //! of a block, place by place. keys.rt and one_word.rt know the width at run time and hand on to these. values.rt and pairs.rt put
-//! values beside the keys, fill.rt writes pairs into a slice, in_place.rt changes leaves whose parts stand in a node, convert.rt
+//! values beside the keys, fill.rt writes pairs into a slice, or what from_pair.rt makes of them, in_place.rt changes leaves whose parts stand in a node, convert.rt
 //! makes an immediate of a leaf's pairs and a leaf of an immediate's, and bit_edit.rt changes the block of a bitmap leaf. The crate
 //! stands on judy_model, judy_bits and judy_block; the nodes of the tree stand on it.
 #![tactic(auto)]
@@ -26,6 +26,7 @@ mod bit_ref;
 mod convert;
 mod edit;
 mod fill;
+mod from_pair;
 mod gaps;
 mod halves;
 mod imm;
@@ -43,6 +44,7 @@ mod words;
 
 pub use bit_leaf::{BitLeaf, BitLeafOf};
 pub use bit_ref::BitRef;
+pub use from_pair::FromPair;
 pub use imm::{Imm, ImmOf};
 pub use in_place::{put_in_bit_leaf, put_in_leaf, take_from_bit_leaf, take_from_leaf};
 pub use leaf::{Leaf, LeafOf};

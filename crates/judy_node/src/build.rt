@@ -10,7 +10,7 @@ ghost use Rattle.judy_node.specs.Built.{sharing, middle, IsBuilt, AreMade};
 use crate::child::{BranchOf, ChildOf, KindOf};
 use crate::head::Head;
 use crate::sums::Sums;
-use judy_bits::{ByteSet, Skip, low_part, moved_up, without_low};
+use judy_bits::{ByteSet, Skip, low_part, moved_up, without_tail};
 use judy_leaf::{BitLeafOf, ImmOf, LeafOf, Words};
 use std::alloc::{AllocError, Global};
 use std::marker::PhantomData;
@@ -20,7 +20,7 @@ fn byte_above(key: u64, below: u8) -> u8
     requires { below ≤ 7 }
     ensures { result ≡ middle (256 ^ below) 256 key }
 {
-    low_part(without_low(key, usize::from(below)), 1) as u8
+    low_part(without_tail(key, usize::from(below)), 1) as u8
 }
 
 // How many bytes the keys of sorted pairs have there: so many children they will be.

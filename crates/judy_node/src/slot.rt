@@ -32,6 +32,7 @@ impl<V: Words + Drop> KindOf<V> {
 
     // Where the value of a key stands, in a node whose keys have `width` bytes; none where an immediate or a leaf doesn't have the
     // key, or a branch has no child for it.
+    #[inline(always)]
     fn seat(&self, width: u8, key: u64) -> Option<Seat>
         requires words { V.WORDS ≡ 1 }
         requires level { IsLevel V.WORDS self.now }
@@ -72,6 +73,7 @@ impl<V: Words + Drop> KindOf<V> {
     }
 
     // The slot at a place; below a branch, that of what is left of the key.
+    #[inline(always)]
     fn slot_at<L: Level>(&mut self, at: usize, rest: u64) -> Option<&mut u64>
         requires words { V.WORDS ≡ 1 }
         requires seat { HasSeat V.WORDS L.DEPTH self.old at }
@@ -87,6 +89,7 @@ impl<V: Words + Drop> KindOf<V> {
     }
 
     // The same in a node that has no node below it, where nothing is left of the key.
+    #[inline(always)]
     fn slot_in_leaf(&mut self, at: usize, _rest: u64) -> Option<&mut u64>
         requires words { V.WORDS ≡ 1 }
         requires seat { HasSeat V.WORDS 0 self.old at }
@@ -109,6 +112,7 @@ impl<V: Words + Drop> BranchOf<V> {
     ghost use Rattle.judy_node.specs.Seats.{branch_written, with_child, child_at};
 
     // The child at a place.
+    #[inline(always)]
     fn child_at(&mut self, at: usize) -> &mut ChildOf<V>
         requires { at < length self.old.children.items }
         ensures* changes { sem 𝓛 (Lends (the_row V.row V.Words) (child V.row V.Words) self.entry result (with_child self.entry.now at)) }
@@ -118,6 +122,7 @@ impl<V: Words + Drop> BranchOf<V> {
     }
 
     // The slot of a key of the child at a place.
+    #[inline(always)]
     fn slot_at<L: Level>(&mut self, at: usize, rest: u64) -> Option<&mut u64>
         requires words { V.WORDS ≡ 1 }
         requires inside { at < length self.old.children.items }
@@ -130,6 +135,7 @@ impl<V: Words + Drop> BranchOf<V> {
     }
 
     // The same where the children may be branches of a lower level.
+    #[inline(always)]
     fn slot_below<L: Level>(&mut self, at: usize, rest: u64) -> Option<&mut u64>
         requires words { V.WORDS ≡ 1 }
         requires inside { at < length self.old.children.items }
@@ -143,6 +149,7 @@ impl<V: Words + Drop> BranchOf<V> {
     }
 
     // The same where no child has a node below it.
+    #[inline(always)]
     fn slot_of_leaf(&mut self, at: usize, rest: u64) -> Option<&mut u64>
         requires words { V.WORDS ≡ 1 }
         requires inside { at < length self.old.children.items }
@@ -161,6 +168,7 @@ impl<V: Words + Drop> ChildOf<V> {
     ghost use Rattle.judy_node.specs.contracts.child.ChildOf.{the_row};
 
     // The slot of a key of the node, whose keys have `width` bytes.
+    #[inline(always)]
     fn slot_at<L: Level>(&mut self, width: u8, key: u64) -> Option<&mut u64>
         requires words { V.WORDS ≡ 1 }
         requires child { IsChild V.WORDS width self.old }
@@ -174,6 +182,7 @@ impl<V: Words + Drop> ChildOf<V> {
     }
 
     // The same of a node whose keys have one byte, which has no node below it.
+    #[inline(always)]
     fn slot_of_byte(&mut self, width: u8, key: u64) -> Option<&mut u64>
         requires words { V.WORDS ≡ 1 }
         requires child { IsChild V.WORDS width self.old }
@@ -211,6 +220,7 @@ pub struct Bottom;
 impl Level for Bottom {
     ghost DEPTH = { 1 };
 
+    #[inline(always)]
     fn slot<V: Words + Drop>(branch: &mut BranchOf<V>, at: usize, rest: u64) -> Option<&mut u64> {
         branch.slot_of_leaf(at, rest)
     }
@@ -222,6 +232,7 @@ pub struct Above<L>(PhantomData<L>);
 impl<L: Level> Level for Above<L> {
     ghost DEPTH = { L.DEPTH + 1 };
 
+    #[inline(always)]
     fn slot<V: Words + Drop>(branch: &mut BranchOf<V>, at: usize, rest: u64) -> Option<&mut u64> {
         branch.slot_below::<L>(at, rest)
     }
@@ -236,6 +247,7 @@ impl<V: Words + Drop> RootOf<V> {
     ghost use Rattle.judy_node.specs.Seats.{root_written};
 
     // Whether the root shows by itself that a key is absent.
+    #[inline(always)]
     fn misses(&self, key: u64) -> bool
         ensures { result ≡ root_misses self.now key }
     {
@@ -247,6 +259,7 @@ impl<V: Words + Drop> RootOf<V> {
     }
 
     // The slot of a key.
+    #[inline(always)]
     fn slot(&mut self, key: u64) -> Option<&mut u64>
         requires words { V.WORDS ≡ 1 }
         requires root { IsRoot V.WORDS self.old }
@@ -268,6 +281,7 @@ impl<V: Words + Drop> NodeOf<V> {
 
     /// Lends the value of a key, of a tree whose keys have values; none where the key is absent. The tree becomes the one with the
     /// value that is left in the slot, and nothing else changes, its form neither.
+    #[inline(always)]
     pub fn slot(&mut self, key: u64) -> Option<&mut u64>
         requires words { V.WORDS ≡ 1 }
         ensures* changes { sem 𝓛 (LendsIf (the_row V.row V.Words) word self.entry result (with_value self.entry.now key) self.entry.now) }

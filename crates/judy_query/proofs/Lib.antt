@@ -13,4 +13,5 @@ pub mod TurnFacts
 pub mod NearFacts
 pub mod WalkFacts
 mod ScanFacts
+mod GivingFacts
 mod LaterFacts

@@ -32,7 +32,7 @@ pub stretch_step : (base at next : ℕ) (pairs : Pairs) (key value : ℕ) → ne
 stretch_step base at next pairs key value sum there =
     ap (shift base) (drop_there at pairs (key, value) there) ∙ ap (λ n. (base + key, value) ∷ shift base (drop n pairs)) (sym sum)
 
-drop-shift : (by n : ℕ) (pairs : Pairs) → drop n (shift by pairs) ≡ shift by (drop n pairs)
+pub drop-shift : (by n : ℕ) (pairs : Pairs) → drop n (shift by pairs) ≡ shift by (drop n pairs)
 drop-shift by n [] = drop_all n [] (omega arith) ∙ ap (shift by) (sym (drop_all n [] (omega arith)))
 drop-shift by zero (pair ∷ pairs) = refl
 drop-shift by (suc n) (pair ∷ pairs) = drop-shift by n pairs

@@ -5,3 +5,4 @@ pub mod Rooms
 pub mod Turns
 pub mod Visits
 pub mod Walks
+pub mod Givings

@@ -3,13 +3,13 @@
 ghost use Rattle.std.specs.Prelude.{◌≡◌, ◌+◌, ◌-◌, ◌*◌, ◌^◌, ◌<◌, ◌≤◌, ◌==◌, Some, length, slice_get};
 ghost use Rattle.judy_model.specs.Empties.{first_empty, last_empty};
 ghost use Rattle.judy_node.specs.Trees.{IsMap, IsChild};
-ghost use Rattle.judy_node.specs.Views.{IsView};
 ghost use Rattle.judy_query.specs.Maps.{map_of};
 ghost use Rattle.judy_query.specs.Rooms.{IsFirstAbsent, IsLastAbsent, IsRoomFrom, IsRoomUpTo};
 ghost use Rattle.judy_query.specs.Visits.{most_visits_down, most_visits_near};
 
 use crate::absent::{first_absent, last_absent};
 use crate::rooms::{Room, has_next, is_full, last_word, room_from, room_up_to};
+use crate::sparing::{Inner, Sparing, Top};
 use judy_bits::Meter;
 use judy_leaf::Words;
 use judy_node::{ChildOf, NodeOf, Step, ViewOf};
@@ -26,6 +26,20 @@ pub fn empty_at_or_after<V: Words + Drop>(
     ensures no_fewer { meter.old ≤ meter.new }
     ensures visits { meter.new ≤ meter.old + most_visits_near }
 {
+    empty_from(tree, key, meter)
+}
+
+// The same by a meter that spares full children.
+pub(crate) fn empty_from<V: Words + Drop, M: Sparing>(
+    tree: &NodeOf<V>,
+    key: u64,
+    meter: &mut M,
+) -> Option<u64>
+    requires { M.visits meter.old ≤ 2 ^ 64 - 17 }
+    ensures word { result ≡ first_empty (map_of tree.now.pairs) key }
+    ensures no_fewer { M.visits meter.old ≤ M.visits meter.new }
+    ensures visits { M.visits meter.new ≤ M.visits meter.old + most_visits_near }
+{
     tree.told();
     match seek_up(tree, key, meter) {
         Room::Nowhere => None,
@@ -34,26 +48,19 @@ pub fn empty_at_or_after<V: Words + Drop>(
     }
 }
 
-// Enters a child that isn't full: no other is entered in search of a word that is no key, not even on the key's own way.
-fn enter<'a, V: Words + Drop>(child: &'a ChildOf<V>, width: u8, meter: &mut Meter) -> ViewOf<'a, V>
-    requires below { meter.old < 2 ^ 64 - 1 }
-    requires child { IsChild V.WORDS width child.now }
-    requires room { length child.now.pairs < 256 ^ width }
-    ensures visits { meter.new ≡ meter.old + 1 }
-    ensures view { IsView V.WORDS width child.now result }
-{
-    child.enter(width, meter)
-}
-
 // Goes down the way of a key as far as nodes aren't full, and remembers the nearest room behind it.
-fn seek_up<'a, V: Words + Drop>(tree: &'a NodeOf<V>, key: u64, meter: &mut Meter) -> Room<'a, V>
-    requires { meter.old ≤ 2 ^ 64 - 17 }
+fn seek_up<'a, V: Words + Drop, M: Sparing>(
+    tree: &'a NodeOf<V>,
+    key: u64,
+    meter: &mut M,
+) -> Room<'a, V>
+    requires { M.visits meter.old ≤ 2 ^ 64 - 17 }
     ensures room { IsRoomFrom V.WORDS tree.now.pairs key (2 ^ 64) result }
-    ensures no_fewer { meter.old ≤ meter.new }
-    ensures visits { meter.new ≤ meter.old + most_visits_down }
+    ensures no_fewer { M.visits meter.old ≤ M.visits meter.new }
+    ensures visits { M.visits meter.new ≤ M.visits meter.old + most_visits_down }
 {
     tree.told();
-    let mut view = tree.enter(meter);
+    let mut view = meter.enter_root(Top(tree));
     let mut width = 8;
     let mut left = key;
     let mut later = Room::Nowhere;
@@ -68,7 +75,7 @@ fn seek_up<'a, V: Words + Drop>(tree: &'a NodeOf<V>, key: u64, meter: &mut Meter
         }
         width = branch.width;
         left = rest;
-        view = enter(child, width, meter);
+        view = meter.enter(Inner(child), width);
     }
     match first_absent(&view, width, left) {
         Some(word) => Room::At(key - left + word),
@@ -77,16 +84,16 @@ fn seek_up<'a, V: Words + Drop>(tree: &'a NodeOf<V>, key: u64, meter: &mut Meter
 }
 
 // The least word that is no key of a child that isn't full.
-fn least_absent<V: Words + Drop>(child: &ChildOf<V>, width: u8, meter: &mut Meter) -> u64
-    requires below { meter.old ≤ 2 ^ 64 - 9 }
+fn least_absent<V: Words + Drop, M: Sparing>(child: &ChildOf<V>, width: u8, meter: &mut M) -> u64
+    requires below { M.visits meter.old ≤ 2 ^ 64 - 9 }
     requires child { IsChild V.WORDS width child.now }
     requires narrow { width ≤ 7 }
     requires room { length child.now.pairs < 256 ^ width }
     ensures word { IsFirstAbsent child.now.pairs 0 (256 ^ width) (Some result) }
-    ensures no_fewer { meter.old ≤ meter.new }
-    ensures visits { meter.new ≤ meter.old + width }
+    ensures no_fewer { M.visits meter.old ≤ M.visits meter.new }
+    ensures visits { M.visits meter.new ≤ M.visits meter.old + width }
 {
-    let mut view = enter(child, width, meter);
+    let mut view = meter.enter(Inner(child), width);
     let mut wide = width;
     let mut start = 0;
     'down: while let ViewOf::Branch(branch) = view {
@@ -98,7 +105,7 @@ fn least_absent<V: Words + Drop>(child: &ChildOf<V>, width: u8, meter: &mut Mete
             Room::In(inner, width, from) => {
                 wide = width;
                 start = from;
-                view = enter(inner, width, meter);
+                view = meter.enter(Inner(inner), width);
             }
             Room::Nowhere => unreachable!(),
         }
@@ -121,6 +128,20 @@ pub fn empty_at_or_before<V: Words + Drop>(
     ensures no_fewer { meter.old ≤ meter.new }
     ensures visits { meter.new ≤ meter.old + most_visits_near }
 {
+    empty_up_to(tree, key, meter)
+}
+
+// The same by a meter that spares full children.
+pub(crate) fn empty_up_to<V: Words + Drop, M: Sparing>(
+    tree: &NodeOf<V>,
+    key: u64,
+    meter: &mut M,
+) -> Option<u64>
+    requires { M.visits meter.old ≤ 2 ^ 64 - 17 }
+    ensures word { result ≡ last_empty (map_of tree.now.pairs) key }
+    ensures no_fewer { M.visits meter.old ≤ M.visits meter.new }
+    ensures visits { M.visits meter.new ≤ M.visits meter.old + most_visits_near }
+{
     tree.told();
     match seek_down(tree, key, meter) {
         Room::Nowhere => None,
@@ -130,14 +151,18 @@ pub fn empty_at_or_before<V: Words + Drop>(
 }
 
 // Goes down the way of a key as far as nodes aren't full, and remembers the nearest room before it.
-fn seek_down<'a, V: Words + Drop>(tree: &'a NodeOf<V>, key: u64, meter: &mut Meter) -> Room<'a, V>
-    requires { meter.old ≤ 2 ^ 64 - 17 }
+fn seek_down<'a, V: Words + Drop, M: Sparing>(
+    tree: &'a NodeOf<V>,
+    key: u64,
+    meter: &mut M,
+) -> Room<'a, V>
+    requires { M.visits meter.old ≤ 2 ^ 64 - 17 }
     ensures room { IsRoomUpTo V.WORDS tree.now.pairs 0 (key + 1) result }
-    ensures no_fewer { meter.old ≤ meter.new }
-    ensures visits { meter.new ≤ meter.old + most_visits_down }
+    ensures no_fewer { M.visits meter.old ≤ M.visits meter.new }
+    ensures visits { M.visits meter.new ≤ M.visits meter.old + most_visits_down }
 {
     tree.told();
-    let mut view = tree.enter(meter);
+    let mut view = meter.enter_root(Top(tree));
     let mut width = 8;
     let mut left = key;
     let mut earlier = Room::Nowhere;
@@ -152,7 +177,7 @@ fn seek_down<'a, V: Words + Drop>(tree: &'a NodeOf<V>, key: u64, meter: &mut Met
         }
         width = branch.width;
         left = rest;
-        view = enter(child, width, meter);
+        view = meter.enter(Inner(child), width);
     }
     match last_absent(&view, width, left) {
         Some(word) => Room::At(key - left + word),
@@ -161,16 +186,16 @@ fn seek_down<'a, V: Words + Drop>(tree: &'a NodeOf<V>, key: u64, meter: &mut Met
 }
 
 // The greatest word that is no key of a child that isn't full.
-fn greatest_absent<V: Words + Drop>(child: &ChildOf<V>, width: u8, meter: &mut Meter) -> u64
-    requires below { meter.old ≤ 2 ^ 64 - 9 }
+fn greatest_absent<V: Words + Drop, M: Sparing>(child: &ChildOf<V>, width: u8, meter: &mut M) -> u64
+    requires below { M.visits meter.old ≤ 2 ^ 64 - 9 }
     requires child { IsChild V.WORDS width child.now }
     requires narrow { width ≤ 7 }
     requires room { length child.now.pairs < 256 ^ width }
     ensures word { IsLastAbsent child.now.pairs 0 (256 ^ width) (Some result) }
-    ensures no_fewer { meter.old ≤ meter.new }
-    ensures visits { meter.new ≤ meter.old + width }
+    ensures no_fewer { M.visits meter.old ≤ M.visits meter.new }
+    ensures visits { M.visits meter.new ≤ M.visits meter.old + width }
 {
-    let mut view = enter(child, width, meter);
+    let mut view = meter.enter(Inner(child), width);
     let mut wide = width;
     let mut start = 0;
     'down: while let ViewOf::Branch(branch) = view {
@@ -182,7 +207,7 @@ fn greatest_absent<V: Words + Drop>(child: &ChildOf<V>, width: u8, meter: &mut M
             Room::In(inner, width, from) => {
                 wide = width;
                 start = from;
-                view = enter(inner, width, meter);
+                view = meter.enter(Inner(inner), width);
             }
             Room::Nowhere => unreachable!(),
         }

@@ -1,7 +1,14 @@
-//! A law of the bounds on visits: the contract of a function with an empty body, so that the check proves it; no program calls it.
+//! Laws of visits: contracts of functions that no program calls, so that the check proves them.
 
-ghost use Rattle.std.specs.Prelude.{◌≡◌, ◌+◌, ◌*◌, ◌^◌};
+ghost use Rattle.std.specs.Prelude.{◌≡◌, ◌+◌, ◌-◌, ◌*◌, ◌^◌, ◌≤◌, false};
+ghost use Rattle.judy_model.specs.Empties.{first_empty, last_empty};
+ghost use Rattle.judy_query.specs.Maps.{map_of};
 ghost use Rattle.judy_query.specs.Visits.{most_visits_down, most_visits_below, most_visits_near};
+
+use crate::empties::{empty_from, empty_up_to};
+pub use crate::watch::Watch;
+use judy_leaf::Words;
+use judy_node::NodeOf;
 
 /// A way down enters at most one node for each byte of a word. The two ways of a neighbour part at a branch or below one, so
 /// together they enter one node less than for each byte twice.
@@ -10,3 +17,19 @@ pub fn a_visit_for_each_byte()
     ensures below { 256 * 256 ^ most_visits_below ≡ 2 ^ 64 }
     ensures near { 256 * 256 ^ most_visits_near ≡ 2 ^ 64 * 2 ^ 64 }
 {}
+
+/// Both searches for a word that is no key, by a meter that looks at each child that it enters: none is full, not even on the key's own way.
+///
+/// A watch is all that they have to enter the tree by. It has counted at most `u64::MAX - 32` visits.
+pub fn no_full_child_is_entered<V: Words + Drop>(
+    tree: &NodeOf<V>,
+    key: u64,
+    watch: &mut Watch,
+) -> (Option<u64>, Option<u64>)
+    requires { watch.old.meter ≤ 2 ^ 64 - 33 }
+    ensures above { result.0 ≡ first_empty (map_of tree.now.pairs) key }
+    ensures below { result.1 ≡ last_empty (map_of tree.now.pairs) key }
+    ensures spared { watch.new.full ≡ false }
+{
+    (empty_from(tree, key, watch), empty_up_to(tree, key, watch))
+}

@@ -13,7 +13,8 @@
 //! values.rt has the value of a key, many.rt those of many, whose ways go side by side, counts.rt how many keys are below a word,
 //! places.rt the key at a place, after.rt and before.rt the nearest keys, turns.rt where the search for one of these turns off the key's
 //! way. empties.rt has the nearest words that are no keys, absent.rt what a node without children tells of them, rooms.rt where a branch
-//! has some: no full child is entered, but passed over by the number of its keys. walk.rt has the walk, waiting.rt the children that it
+//! has some: no full child is entered, but passed over by the number of its keys. sparing.rt has the meters by which that search goes down,
+//! watch.rt one of them that looks at each child, for a law (laws.rt). walk.rt has the walk, waiting.rt the children that it
 //! comes back to, stretch.rt the pairs of one node in turn, and scan.rt those of a bitmap leaf. branches.rt has what all ways down ask of
 //! a branch, ends.rt what they ask where they end.
 //!
@@ -28,16 +29,19 @@ mod branches;
 mod counts;
 mod empties;
 mod ends;
+mod givings;
 pub mod laws;
 mod many;
 mod places;
 mod rooms;
 mod scan;
+mod sparing;
 mod stretch;
 mod turns;
 mod values;
 mod waiting;
 mod walk;
+mod watch;
 
 pub use after::{at_or_after, entry_at_or_after};
 pub use before::{at_or_before, entry_at_or_before};

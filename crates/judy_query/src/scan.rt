@@ -39,7 +39,7 @@ pub(crate) fn entry_on<V: Words + Drop>(view: &ViewOf<'_, V>, at: u64, byte: &mu
     let ViewOf::BitLeaf(skipped, list) = view else {
         return entry_in(view, at);
     };
-    let key = next_byte(list, *byte);
+    let key = list.next_key(*byte);
     *byte = key + 1;
     (*skipped * 256 + key, list.value_at(at as usize))
 }
@@ -51,18 +51,4 @@ fn behind<V: Words + Drop>(list: &BitRef<'_, V>, at: usize) -> u64
 {
     list.told();
     list.key_at(at) + 1
-}
-
-// The first key from a byte on, of a bitmap leaf that has one there.
-fn next_byte<V: Words + Drop>(list: &BitRef<'_, V>, byte: u64) -> u64
-    requires { set.rank (keys_of list.now.pairs) byte < length list.now.pairs }
-    ensures key { slice_get (keys_of list.now.pairs) (set.rank (keys_of list.now.pairs) byte) ≡ Some result }
-    ensures past { set.rank (keys_of list.now.pairs) (result + 1) ≡ set.rank (keys_of list.now.pairs) byte + 1 }
-    ensures below { result < 256 }
-{
-    list.told();
-    match list.next_from(byte as u8) {
-        Some(key) => u64::from(key),
-        None => unreachable!(),
-    }
 }

@@ -1,14 +1,16 @@
 //! The pairs of a node that isn't a branch, one after another.
 
-ghost use Rattle.std.specs.Prelude.{◌≡◌, ◌+◌, ◌^◌, ◌≤◌, length, drop};
+ghost use Rattle.std.specs.Prelude.{◌≡◌, ◌+◌, ◌^◌, ◌≤◌, length, drop, min};
 ghost use Rattle.std.specs.Iterator.{YieldsFirst};
 ghost use Rattle.judy_leaf.specs.KeyLists.{shift};
 ghost use Rattle.judy_node.specs.Views.{view_pairs};
+ghost use Rattle.judy_query.specs.Givings.{AreGiven};
 ghost use Rattle.judy_query.specs.Parts.{IsEnd, IsShown, width_of};
 
 use crate::ends::len_in;
+use crate::givings::fill_in;
 use crate::scan::{byte_before, entry_on};
-use judy_leaf::Words;
+use judy_leaf::{FromPair, Words};
 use judy_node::ViewOf;
 use std::marker::Model;
 
@@ -67,5 +69,18 @@ impl<'a, V: Words + Drop> Stretch<'a, V> {
         let (key, value) = entry_on(&self.view, self.at, &mut self.byte);
         self.at += 1;
         Some((self.base + key, value))
+    }
+
+    /// Writes what stands for the next pairs to the front of a slice, as many as there are and it has places for, and answers how many
+    /// these are.
+    pub(crate) fn fill<E: FromPair>(&mut self, out: &mut [E]) -> usize
+        ensures given { AreGiven E.made self.old self.new out.old out.new result }
+        ensures most { result ≡ min (length out.old) (length self.old) }
+    {
+        let count = out.len().min((self.len - self.at) as usize);
+        fill_in(&self.view, self.at as usize, self.base, &mut out[..count]);
+        self.at += count as u64;
+        self.byte = byte_before(&self.view, self.at);
+        count
     }
 }

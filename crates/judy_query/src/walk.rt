@@ -1,10 +1,11 @@
 //! A walk through the pairs of a tree by ascending key, which remembers its way.
 
-ghost use Rattle.std.specs.Prelude.{◌≡◌, ◌+◌, ◌-◌, ◌^◌, ◌<◌, ◌≤◌, [], ◌++◌, length, drop};
+ghost use Rattle.std.specs.Prelude.{◌≡◌, ◌+◌, ◌-◌, ◌^◌, ◌<◌, ◌≤◌, [], ◌++◌, ◌*◌, length, drop, min};
 ghost use Rattle.std.specs.Iterator.{YieldsFirst};
 ghost use Rattle.judy_bits.specs.ByteSets as set;
 ghost use Rattle.judy_leaf.specs.KeyLists.{shift, keys_of};
 ghost use Rattle.judy_node.specs.Views.{view_pairs};
+ghost use Rattle.judy_query.specs.Givings.{AreGiven};
 ghost use Rattle.judy_query.specs.Parts.{IsShown, width_of};
 ghost use Rattle.judy_query.specs.Turns.{IsTurn, IsFirst};
 ghost use Rattle.judy_query.specs.Walks.{rest_of_turn, waiting, AreTurns};
@@ -12,12 +13,13 @@ ghost use Rattle.judy_query.specs.Visits.{most_visits_below, most_visits_down};
 
 use crate::branches::{byte_behind, byte_from, reached, start_at};
 use crate::ends::rank_in;
+use crate::givings::give_whole;
 use crate::stretch::Stretch;
 use crate::turns::Turn;
 use crate::waiting::{Turns, keep, take};
 use arrayvec::ArrayVec;
 use judy_bits::Meter;
-use judy_leaf::Words;
+use judy_leaf::{FromPair, Words};
 use judy_node::{NodeOf, Step, ViewOf};
 use std::marker::Model;
 
@@ -69,6 +71,28 @@ impl<'a, V: Words + Drop> Walk<'a, V> {
         let turn = take(&mut self.turns)?;
         self.stretch = first_from(turn, &mut self.turns, meter);
         self.stretch.next()
+    }
+
+    /// Writes what stands for the next pairs to the front of a slice, as many as there are and it has places for, and answers how many
+    /// these are: fewer than there are places for are the last ones. The nodes below one branch are written one after another. At most
+    /// 7 visits a pair; the meter has room for those of all places.
+    pub fn fill<E: FromPair>(&mut self, out: &mut [E], meter: &mut Meter) -> usize
+        requires { meter.old + most_visits_below * length out.old ≤ 2 ^ 64 - 17 }
+        ensures given { AreGiven E.made self.old self.new out.old out.new result }
+        ensures most { result ≡ min (length out.old) (length self.old) }
+        ensures no_fewer { meter.old ≤ meter.new }
+        ensures visits { meter.new ≤ meter.old + most_visits_below * result }
+    {
+        let mut count = self.stretch.fill(out);
+        while count < out.len() {
+            let Some(turn) = take(&mut self.turns) else {
+                break;
+            };
+            let (stretch, more) = give_from(turn, &mut self.turns, &mut out[count..], meter);
+            self.stretch = stretch;
+            count += more;
+        }
+        count
     }
 }
 
@@ -136,6 +160,52 @@ fn first_from<'a, V: Words + Drop>(
     keep(branch, place + 1, u64::from(byte) + 1, base, turns);
     let view = branch.children[place].enter(branch.width, meter);
     first_of(view, base + start_at(branch, byte), turns, meter)
+}
+
+// Writes what stands for the pairs that a turn leads to, and those behind it in its branch, to the front of a slice that has a place,
+// as many as fit: whole nodes while they fit and have no children, and then the first pairs below the next node, whose others are left.
+fn give_from<'a, V: Words + Drop, E: FromPair>(
+    turn: Turn<'a, V>,
+    turns: &mut Turns<'a, V>,
+    out: &mut [E],
+    meter: &mut Meter,
+) -> (Stretch<'a, V>, usize)
+    requires turn { IsTurn V.WORDS turn }
+    requires first { IsFirst turn }
+    requires turns { AreTurns V.WORDS 0 turns.old.items }
+    requires room { length turns.old.items + 1 + turn.branch.now.width ≤ 8 }
+    requires place { 0 < length out.old }
+    requires below { meter.old + most_visits_below * length out.old ≤ 2 ^ 64 - 17 }
+    ensures turns { AreTurns V.WORDS 0 turns.new.items }
+    ensures given { AreGiven E.made (rest_of_turn turn.entry ++ waiting turns.old.items) (result.0 ++ waiting turns.new.items) out.old out.new result.1 }
+    ensures some { 0 < result.1 }
+    ensures most { result.1 < length out.old → length result.0 ≡ 0 }
+    ensures no_fewer { meter.old ≤ meter.new }
+    ensures visits { meter.new ≤ meter.old + most_visits_below * result.1 }
+{
+    let Turn {
+        branch,
+        mut place,
+        base,
+        mut edge,
+    } = turn;
+    let mut count = 0;
+    while count < out.len() && place < branch.children.len() {
+        let byte = byte_from(branch, place, edge);
+        let start = base + start_at(branch, byte);
+        let view = branch.children[place].enter(branch.width, meter);
+        place += 1;
+        edge = u64::from(byte) + 1;
+        let Some(whole) = give_whole(&view, start, &mut out[count..]) else {
+            keep(branch, place, edge, base, turns);
+            let mut stretch = first_of(view, start, turns, meter);
+            let more = stretch.fill(&mut out[count..]);
+            return (stretch, count + more);
+        };
+        count += whole;
+    }
+    keep(branch, place, edge, base, turns);
+    (Stretch::new(ViewOf::Null, 0, 0), count)
 }
 
 // The pairs of the first node without children below a node that was entered; the others are kept.

@@ -4,3 +4,4 @@ pub mod SpotLemmas
 pub mod FreeLemmas
 pub mod RecordLemmas
 pub mod OrderLemmas
+pub mod BackLemmas

@@ -8,7 +8,7 @@ use Rattle.std.proofs.lemmas.List.{get_or-drop, drop-drop, length-set, length-ma
 use Rattle.judy_places.specs.Places.{NoneLost, free_places}
 use Rattle.judy_records.specs.declared.records.Records.TheInside.{Inside}
 use Rattle.judy_records.specs.Texts.{words_for, words_in, words_of}
-use Rattle.judy_records.specs.Spots.{Spot, free, held, spot_at, IsHeld, value_of, text_of, link_of, links_of, empty_list, with_value, HasRoom, free_or, next_place, put_by, put_in, taken_out, removed}
+use Rattle.judy_records.specs.Spots.{Spot, free, held, spot_at, IsHeld, value_of, text_of, link_of, links_of, empty_list, with_spot, with_value, HasRoom, free_or, next_place, put_by, put_in, taken_out, removed}
 use Rattle.judy_records.specs.Inside.{first_spot, spots_in, freed, list_of, AreRecords, AreChained}
 use Rattle.judy_records.proofs.SpotLemmas.{length-spots, place-within, get-spots, spots-value, spots-push, spots-place, before, behind}
 use Rattle.judy_records.proofs.TextLemmas.{length-words}
@@ -205,6 +205,39 @@ module _ (list : Inside) (are : AreRecords list) (value : ℕ) (bytes : List ℕ
         ∙ ap (λ (spots : List Spot). record (list_of list) { spots = spots ++ held value (words_of bytes) ∷ [] }) (sym (none-freed (all list are) list.free list.spare none))
         ∙ ap (λ link. put_by link (list_of list) (held value (words_of bytes))) (sym (none-linked (all list are) list.free (spots-taken list.count list.size list.words.items) list.spare are.chained none))
 
+  -- Over the words of a place.
+  module _ (place : ℕ) (within : place < list.count) where
+    abbrev pub placed : List ℕ
+    placed = before list.count list.size list.words.items are.long place within ++ (words ++ behind list.count list.size list.words.items are.long place within)
+
+    placed-spots : spots_in list.count list.size placed ≡ set (all list are) place (held value (words_of bytes))
+    placed-spots = spots-place list.count list.size list.words.items are.long place within words words-long ∙ ap (set (all list are) place) words-spot
+
+    pub placed-long : length placed ≡ list.count * (list.size + 1)
+    placed-long =
+        let start = place * (list.size + 1) in
+        let inside = place-within place list.count (list.size + 1) within in
+        let all_long = are.long in
+        let front = length-take-le start list.words.items (omega (arith, inside, all_long)) in
+        let long = length-append (take start list.words.items) (words ++ drop (list.size + 1) (drop start list.words.items)) in
+        let rest = length-append words (drop (list.size + 1) (drop start list.words.items)) in
+        let past = length-drop (list.size + 1) (drop start list.words.items) in
+        let left = length-drop start list.words.items in
+        let own = words-long in
+        omega (arith, inside, front, long, rest, past, left, own, all_long)
+
+  -- In the place of a record that stands.
+  module _ (place : ℕ) (is : IsHeld (spot_at (list_of list) place)) where
+    pub set-list : record (list_of list) { spots = freed list.spare list.free (spots_in list.count list.size (placed place (held-within list are place is))) } ≡ with_spot (list_of list) place (held value (words_of bytes))
+    set-list =
+        ap (λ spots. record (list_of list) { spots = spots })
+        (ap (freed list.spare list.free) (placed-spots place (held-within list are place is)) ∙ freed-set place (held value (words_of bytes)) list.spare list.free (all list are) is)
+
+    pub set-chained : AreChained list.spare list.free (spots_in list.count list.size (placed place (held-within list are place is)))
+    set-chained =
+        subst (λ spots. AreChained list.spare list.free spots) (sym (placed-spots place (held-within list are place is)))
+        (chained-set place (held value (words_of bytes)) list.spare list.free (all list are) is are.chained)
+
   -- At the first free place.
   module _ (some : 0 < list.spare) where
     pub free-within : list.free < list.count
@@ -222,31 +255,14 @@ module _ (list : Inside) (are : AreRecords list) (value : ℕ) (bytes : List ℕ
         let e : list.free * (list.size + 1) + 0 ≡ list.free * (list.size + 1) = omega arith in
         sym (ap value_of (get-spots list.count list.size list.words.items list.free (free 0) free-within) ∙ get_or-drop (list.free * (list.size + 1)) list.words.items 0 0 ∙ ap (λ n. get_or list.words.items n 0) e)
 
-    -- The words once the record is written there.
-    abbrev pub written : List ℕ
-    written = before list.count list.size list.words.items are.long list.free free-within ++ (words ++ behind list.count list.size list.words.items are.long list.free free-within)
+    pub written-chained : AreChained (list.spare - 1) (next_of (all list are) list.free) (spots_in list.count list.size (placed list.free free-within))
+    written-chained = subst (λ spots. AreChained (list.spare - 1) (next_of (all list are) list.free) spots) (sym (placed-spots list.free free-within)) (some-freed (all list are) list.free list.spare are.chained some (held value (words_of bytes))).1
 
-    written-spots : spots_in list.count list.size written ≡ set (all list are) list.free (held value (words_of bytes))
-    written-spots = spots-place list.count list.size list.words.items are.long list.free free-within words words-long ∙ ap (set (all list are) list.free) words-spot
-
-    pub written-chained : AreChained (list.spare - 1) (next_of (all list are) list.free) (spots_in list.count list.size written)
-    written-chained = subst (λ spots. AreChained (list.spare - 1) (next_of (all list are) list.free) spots) (sym written-spots) (some-freed (all list are) list.free list.spare are.chained some (held value (words_of bytes))).1
-
-    pub written-list : record (list_of list) { spots = freed (list.spare - 1) (next_of (all list are) list.free) (spots_in list.count list.size written); first = next_of (all list are) list.free } ≡ put_in (list_of list) (held value (words_of bytes))
+    pub written-list : record (list_of list) { spots = freed (list.spare - 1) (next_of (all list are) list.free) (spots_in list.count list.size (placed list.free free-within)); first = next_of (all list are) list.free } ≡ put_in (list_of list) (held value (words_of bytes))
     written-list =
         ap (λ spots. record (list_of list) { spots = spots; first = next_of (all list are) list.free })
-        (ap (freed (list.spare - 1) (next_of (all list are) list.free)) written-spots ∙ (some-freed (all list are) list.free list.spare are.chained some (held value (words_of bytes))).0)
+        (ap (freed (list.spare - 1) (next_of (all list are) list.free)) (placed-spots list.free free-within) ∙ (some-freed (all list are) list.free list.spare are.chained some (held value (words_of bytes))).0)
         ∙ ap (λ link. put_by link (list_of list) (held value (words_of bytes))) (sym (some-linked (all list are) list.free (spots-taken list.count list.size list.words.items) list.spare are.chained some))
 
-    pub written-long : length written ≡ list.count * (list.size + 1)
-    written-long =
-        let start = list.free * (list.size + 1) in
-        let inside = free-inside in
-        let front = length-take-le start list.words.items (omega (arith, inside)) in
-        let long = length-append (take start list.words.items) (words ++ drop (list.size + 1) (drop start list.words.items)) in
-        let rest = length-append words (drop (list.size + 1) (drop start list.words.items)) in
-        let past = length-drop (list.size + 1) (drop start list.words.items) in
-        let left = length-drop start list.words.items in
-        let own = words-long in
-        let all_long = are.long in
-        omega (arith, inside, front, long, rest, past, left, own, all_long)
+    pub written-long : length (placed list.free free-within) ≡ list.count * (list.size + 1)
+    written-long = placed-long list.free free-within

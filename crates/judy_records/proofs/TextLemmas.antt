@@ -82,9 +82,6 @@ module _ (text rest : List ℕ) (count : ℕ) where
   pub order-end : length text ≤ count → 0 < length rest → byte_order (drop count text) (words_of rest) ≡ Less
   order-end past some = (λ i. byte_order (drop_all count text past i) (words-cons rest some i))
 
-  pub order-both : length text ≤ count → length rest ≡ 0 → byte_order (drop count text) (words_of rest) ≡ Equal
-  order-both past none = (λ i. byte_order (drop_all count text past i) (words_in (words_for (none i)) rest))
-
   module _ (inside : count < length text) (some : 0 < length rest) where
     parted : byte_order (drop count text) (words_of rest) ≡ ordering_then (nat_cmp (get_or text count 0) (first_word rest)) (byte_order (drop (count + 1) text) (words_of (drop 8 rest)))
     parted = λ i. byte_order (drop_more text count 0 inside i) (words-cons rest some i)

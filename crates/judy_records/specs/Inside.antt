@@ -36,4 +36,4 @@ list_of list = record {
 pub record AreRecords (list : Inside) : Type 0 where
   pub long : length list.words.items ≡ list.count * (list.size + 1)
   pub chained : AreChained list.spare list.free (spots_in list.count list.size list.words.items)
-  pub size_within : list.size ≤ 128
+  pub size_within : list.size ≤ 2305843009213693952

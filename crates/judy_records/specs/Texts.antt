@@ -1,5 +1,7 @@
 -- The words of a text: its bytes by eights, each eight as a word, and the last one padded with zeros.
-use Rattle.std.specs.Prelude.{◌≢◌, ℕ, zero, suc, ◌+◌, ◌*◌, ◌/◌, ◌^◌, ◌<◌, List, [], ◌∷◌, length, drop, All}
+use Rattle.std.specs.Prelude.{◌≢◌, ℕ, zero, suc, ◌+◌, ◌*◌, ◌/◌, ◌^◌, ◌<◌, List, [], ◌∷◌, length, take, drop, All}
+use Rattle.std.specs.List.{flat_map}
+use Rattle.judy_model.specs.WordBytes.{low_bytes}
 
 -- The number that the first so many bytes spell, the first byte the highest; where bytes are missing, zeros stand in their place.
 abbrev pub spelled : ℕ → List ℕ → ℕ
@@ -23,6 +25,10 @@ words_in (suc count) bytes = first_word bytes ∷ words_in count (drop 8 bytes)
 -- The words of bytes: as many as they take.
 abbrev pub words_of : List ℕ → List ℕ
 words_of bytes = words_in (words_for (length bytes)) bytes
+
+-- The first so many bytes that words spell, eight each.
+abbrev pub bytes_in : ℕ → List ℕ → List ℕ
+bytes_in count words = take count (flat_map (λ word. low_bytes 8 word) words)
 
 -- Bytes of which none is zero.
 abbrev pub IsText : List ℕ → Type 0

@@ -11,3 +11,4 @@ mod text;
 mod words;
 
 pub use records::Records;
+pub use words::words_for;

@@ -1,13 +1,13 @@
 //! Records of one length.
 
-ghost use Rattle.std.specs.Prelude.{◌≡◌, ◌≤◌, ◌+◌, ◌↔◌, ℕ, IsTrue, IsOk, OnOk, length};
+ghost use Rattle.std.specs.Prelude.{◌≡◌, ◌≤◌, ◌+◌, ◌↔◌, ℕ, IsTrue, IsOk, IfOk, OnOk, length};
 ghost use Rattle.std.specs.Borrow.{sem};
 ghost use Rattle.judy_model.specs.Keys.{byte_order};
 ghost use Rattle.judy_places.specs.Places.{NoneLost};
-ghost use Rattle.judy_records.specs.Texts.{words_of, words_for};
-ghost use Rattle.judy_records.specs.Spots.{held, spot_at, IsHeld, value_of, text_of, links_of, empty_list, HasRoom, next_place, with_capacity, put_in, removed};
+ghost use Rattle.judy_records.specs.Texts.{words_of, words_for, bytes_in};
+ghost use Rattle.judy_records.specs.Spots.{held, spot_at, IsHeld, value_of, text_of, links_of, empty_list, HasRoom, next_place, with_capacity, with_spot, put_in, taken_out, removed};
 
-use crate::text;
+use crate::{text, words};
 use std::alloc::{AllocError, Global};
 use std::cmp::Ordering;
 use std::marker::Model;
@@ -37,9 +37,10 @@ impl Model for Records {
 impl Records {
     ghost use Rattle.judy_records.specs.Lends.{LendsValue};
 
-    /// The list without a record, for texts of so many words, at most 128. It asks for no memory.
+    /// The list without a record, for texts of so many words: at most 2^61, which is more than any slice of bytes takes. It asks for no
+    /// memory.
     pub fn new(alloc: Global, size: usize) -> Records
-        requires { size ≤ 128 }
+        requires { size ≤ 2305843009213693952 }
         ensures { result ≡ empty_list size }
     {
         Records {
@@ -61,7 +62,7 @@ impl Records {
     /// Does nothing: it tells a caller's proof that no free place is lost.
     pub fn told(&self)
         ensures none_lost { NoneLost (links_of self.now) self.now.first }
-        ensures size { self.now.size ≤ 128 }
+        ensures size { self.now.size ≤ 2305843009213693952 }
     {
         let _ = &self.words;
     }
@@ -106,6 +107,15 @@ impl Records {
         ensures { result ≡ byte_order (text_of (spot_at self.now place)) (words_of bytes.now) }
     {
         text::order(self.text(place), bytes)
+    }
+
+    /// A copy of the first so many bytes of the text at a place: where a byte string of that length was put in, it is that. A loop over
+    /// words. The error is want of memory.
+    pub fn bytes(&self, alloc: Global, place: usize, count: usize) -> Result<Vec<u8>, AllocError>
+        requires { IsHeld (spot_at self.now place) }
+        ensures { IfOk result (λ bytes. bytes.items ≡ bytes_in count (text_of (spot_at self.now place))) }
+    {
+        words::bytes_in(alloc, self.text(place), count)
     }
 
     /// Makes room for so many more records. Those for which places are free need none, so nothing is asked for where they suffice. For
@@ -159,6 +169,16 @@ impl Records {
         place
     }
 
+    /// Puts a record in the place of the one that stands there. Its text takes as many words as each does here. It asks for no memory.
+    pub fn set(&mut self, place: usize, value: u64, bytes: &[u8])
+        requires is_held { IsHeld (spot_at self.old place) }
+        requires fits { words_for (length bytes.now) ≡ self.old.size }
+        ensures { self.new ≡ with_spot self.old place (held value (words_of bytes.now)) }
+    {
+        let start = place * (self.size + 1);
+        text::write_record(&mut self.words, start, self.size, value, bytes);
+    }
+
     /// Takes the record at a place out. The place is the next to be taken; where no other record is left the list is given back. It asks
     /// for no memory.
     pub fn remove(&mut self, place: usize)
@@ -171,8 +191,16 @@ impl Records {
             self.count = 0;
             self.free = 0;
             self.spare = 0;
-            return;
+        } else {
+            self.take_out(place);
         }
+    }
+
+    /// The same where the list is kept, also with no record left, for a caller that drops it then.
+    pub fn take_out(&mut self, place: usize)
+        requires { IsHeld (spot_at self.old place) }
+        ensures { self.new ≡ taken_out self.old place }
+    {
         self.words[place * (self.size + 1)] = self.free as u64;
         self.free = place;
         self.spare += 1;

@@ -1,7 +1,9 @@
 //! Bytes as words.
 
-ghost use Rattle.std.specs.Prelude.{◌≡◌, ◌<◌, ◌/◌, slice_index, length, drop};
-ghost use Rattle.judy_records.specs.Texts.{first_word, words_for};
+ghost use Rattle.std.specs.Prelude.{◌≡◌, ◌<◌, ◌/◌, IfOk, slice_index, length, drop};
+ghost use Rattle.judy_records.specs.Texts.{first_word, words_for, bytes_in};
+
+use std::alloc::{AllocError, Global};
 
 // The word with which the bytes begin: the first eight, the first of them the highest, zeros where bytes are missing.
 pub fn first_word(bytes: &[u8]) -> u64
@@ -42,9 +44,21 @@ pub fn after_first(bytes: &[u8]) -> &[u8]
     if bytes.len() <= 8 { &[] } else { &bytes[8..] }
 }
 
-// How many words so many bytes take.
+/// How many words so many bytes take.
 pub fn words_for(bytes: usize) -> usize
     ensures { result ≡ words_for bytes }
 {
     bytes / 8 + (bytes % 8).min(1)
+}
+
+// The first so many bytes that words spell. The error is want of memory.
+pub fn bytes_in(alloc: Global, words: &[u64], count: usize) -> Result<Vec<u8>, AllocError>
+    ensures { IfOk result (λ bytes. bytes.items ≡ bytes_in count words.now) }
+{
+    let mut bytes = Vec::with_capacity(alloc, words.len().saturating_mul(8))?;
+    for word in words {
+        bytes.extend_from_slice(&word.to_be_bytes())?;
+    }
+    bytes.truncate(count);
+    Ok(bytes)
 }

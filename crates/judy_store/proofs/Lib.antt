@@ -1,2 +1,1 @@
-mod FormatLemmas
 mod Fronts

@@ -1,11 +1,19 @@
 -- How an end of the program shows.
 use Rattle.std.specs.Prelude.{◌≡◌, ℕ, ◌+◌, ◌⊎◌, List, [], ◌∷◌, ◌++◌, codes, string_bytes, Result, Ok, Err}
+use Rattle.judy_options.specs.declared.refusal.Refusal.{Refusal}
+use Rattle.judy_options.specs.declared.refusal.Refusal.TheVariants as refusal
 use Rattle.judy_script.specs.declared.fault.RunFault.{RunFault}
 use Rattle.judy_script.specs.declared.fault.RunFault.TheVariants.{Read, Write, TooLong}
 use Rattle.judy_script.specs.Faults.{fault_word}
 use Rattle.judy_shelf.specs.Faults.{dump_word, load_word}
 use Rattle.judy_store.specs.declared.end.End.{End}
 use Rattle.judy_store.specs.declared.end.End.TheVariants as end
+
+-- The end where the words of the command line aren't taken.
+abbrev pub end_of : Refusal → End
+end_of (refusal.Help text) = end.Help text
+end_of (refusal.BadWords text) = end.BadWords text
+end_of refusal.NoMemory = end.NoMemory
 
 -- The exit status: 0 where the program did what it was asked, 2 where the command line was refused, else 1.
 abbrev pub status_of : End → ℕ

@@ -1,4 +1,3 @@
-pub mod CommandLines
 pub mod Ends
 pub mod Formats
 pub mod Stops

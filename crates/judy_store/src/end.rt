@@ -5,6 +5,7 @@ ghost use Rattle.judy_pipe.specs.Pipe.{grown, GrewByFront};
 ghost use Rattle.judy_script.specs.declared.fault.RunFault.TheVariants.{Write};
 ghost use Rattle.judy_store.specs.Ends.{status_of, line_of};
 
+use judy_options::Refusal;
 use judy_pipe::{BrokenPipe, Sink, write_all};
 use judy_script::RunFault;
 use judy_shelf::{DumpFault, LoadFault};
@@ -28,6 +29,21 @@ pub enum End {
     Run(RunFault),
     /// The dump ended with a fault.
     Dump(DumpFault),
+}
+
+impl From<Refusal> for End {
+    ghost use Rattle.std.specs.Prelude.{◌≡◌};
+    ghost use Rattle.judy_store.specs.Ends.{end_of};
+
+    ghost from_gives = { λ refusal end. end ≡ end_of refusal };
+
+    fn from(refusal: Refusal) -> End {
+        match refusal {
+            Refusal::Help(text) => End::Help(text),
+            Refusal::BadWords(text) => End::BadWords(text),
+            Refusal::NoMemory => End::NoMemory,
+        }
+    }
 }
 
 /// The exit status of an end: 0 where the program did what it was asked, 2 where the command line was refused,

@@ -2,30 +2,29 @@
 //! answers to standard output, and dumps the store where it is asked to.
 //!
 //! What it calls is proved to give the scripted answers (`judy_script`) and to read and write dumps (`judy_shelf`),
-//! for a reader and a writer that tell their bytes, and to read its command line by the meaning that `clap` gives it.
+//! for a reader and a writer that tell their bytes, and to read its command line by the meaning that `clap` gives it
+//! (`judy_options`).
 //! Of the bytes of real files and terminals nothing is claimed: the program's own pipes count their failures and
 //! tell no bytes.
 //!
-//! command_line.rt reads the words into what request.rt has, and work.rt does what they ask, in the program's order:
+//! work.rt does what the words ask, in the program's order:
 //! files.rt opens the files, dump_file.rt has the one that is written, pipes.rt has the pipes over them, and store.rt what is done with these. end.rt tells how
 //! the program ends.
 #![tactic(auto)]
 
 ghost use Rattle.std.specs.Prelude.{◌<◌, ◌-◌, ◌^◌};
 
-mod command_line;
 mod dump_file;
 mod end;
 mod files;
 mod pipes;
-mod request;
 mod store;
 mod work;
 
-use crate::command_line::options;
 use crate::end::{End, status, write_line};
 use crate::pipes::WriteSink;
 use crate::work::serve;
+use judy_options::options;
 use judy_pipe::{BufferedSink, Sink};
 use judy_script::RunFault;
 use std::env;

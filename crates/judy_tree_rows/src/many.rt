@@ -1,6 +1,6 @@
-//! The values of many keys asked for at once, and where a group of ways ends: behind the 16th key.
+//! Many keys asked for at once, and where a group of ways ends: behind the 16th key.
 
-use judy_word::JudyL;
+use judy_word::{Judy1, JudyL};
 use std::alloc::{AllocError, Global};
 use std::process::Abort;
 
@@ -58,6 +58,56 @@ fn values_of_many_keys(rt: HostRuntime) -> Result<(), AllocError> {
             (18446744073709551614, None),
             (6, Some(0)),
             (1 << 40, Some(7)),
+        ],
+    )?;
+    Ok(())
+}
+
+// Compares whether keys are there with what is wanted, each at its place.
+fn check_set(
+    rt: &impl Abort,
+    alloc: Global,
+    words: &Judy1,
+    rows: &[(u64, bool)],
+) -> Result<(), AllocError> {
+    let keys: Vec<u64> = rows.iter().map(|row| row.0).collect(alloc)?;
+    let wanted: Vec<bool> = rows.iter().map(|row| row.1).collect(alloc)?;
+    let mut there: Vec<bool> = rows.iter().map(|row| !row.1).collect(alloc)?;
+    words.test_many(&keys, &mut there);
+    assert_eq!(rt; there, wanted);
+    Ok(())
+}
+
+#[test]
+fn whether_many_keys_are_there(rt: HostRuntime) -> Result<(), AllocError> {
+    let made = Judy1::from_sorted(rt.alloc(), 9, &[0, 5, 6, 1 << 40, u64::MAX]);
+    let words = made.expect(&rt, "there is memory");
+    check_set(&rt, rt.alloc(), &words, &[])?;
+    check_set(&rt, rt.alloc(), &words, &[(5, true)])?;
+    check_set(&rt, rt.alloc(), &words, &[(4, false), (0, true)])?;
+    // One key more than a group has.
+    check_set(
+        &rt,
+        rt.alloc(),
+        &words,
+        &[
+            (6, true),
+            (3, false),
+            (5, true),
+            (u64::MAX, true),
+            (1 << 40, true),
+            (7, false),
+            (0, true),
+            (5, true),
+            (5, true),
+            (1, false),
+            (1 << 41, false),
+            (1 << 63, false),
+            (4, false),
+            (u64::MAX, true),
+            (18446744073709551614, false),
+            (6, true),
+            (1 << 40, true),
         ],
     )?;
     Ok(())

@@ -7,8 +7,11 @@ use crate::calls::Call::{
 use crate::calls::{Call, check_call, visits_of};
 use crate::nodes::{Grid, check_tree, same_shape, tree_of};
 use crate::plain::{note, same};
+use judy_bits::Meter;
 use judy_leaf::{Width, Words};
 use judy_node::NodeOf;
+use judy_query::laws::{Watch, no_full_child_is_entered};
+use judy_unmetered::UNMETERED;
 use std::alloc::{AllocError, Global};
 use std::process::Abort;
 use std::test::Fail;
@@ -153,6 +156,29 @@ const TWO_FULL_NODES: [Asked; 5] = [
     (EmptyAtOrBefore, 513, Some(513), 1),
 ];
 
+// Both searches for a word that is no key enter the root of a tree whose children are full, and no child; their law runs them so.
+fn check_watched<V: Words + Drop>(
+    rt: &impl Abort,
+    alloc: Global,
+    pairs: &[(u64, u64)],
+    keys: &[u64],
+    above: u64,
+) -> Result<(), AllocError> {
+    let tree = tree_of::<V>(rt, alloc, pairs)?;
+    for key in keys {
+        check_spared(rt, &tree, *key, above);
+    }
+    Ok(())
+}
+
+// The same of one key.
+fn check_spared<V: Words + Drop>(rt: &impl Abort, tree: &NodeOf<V>, key: u64, above: u64) {
+    let mut watch = Watch::new(Meter::new(UNMETERED));
+    let found = no_full_child_is_entered(tree, key, &mut watch);
+    assert_eq!(rt; found, (Some(above), None), "{key}");
+    same(rt, watch.visits(), 2, key);
+}
+
 // The root is entered and no full node below it.
 #[test]
 fn full_ranges(rt: HostRuntime) -> Result<(), Fail> {
@@ -160,6 +186,7 @@ fn full_ranges(rt: HostRuntime) -> Result<(), Fail> {
     check_asked::<Width<0>>(&rt, rt.alloc(), &one, &ONE_FULL_NODE)?;
     let two = Grid::run(512, None).pairs::<Width<0>>(&rt, rt.alloc())?;
     check_asked::<Width<0>>(&rt, rt.alloc(), &two, &TWO_FULL_NODES)?;
+    check_watched::<Width<0>>(&rt, rt.alloc(), &two, &[300, 511], 512)?;
     Ok(())
 }
 

@@ -1,5 +1,5 @@
 -- Arrays over a tree as arrays of the model: the empty one, and one with a value written through a slot.
-use Rattle.std.proofs.Common.{◌≡◌, ℕ, ◌^◌, Bool, true, false, not, Option, Some, None, Result, Ok, Err, IfOk, is_some, MutBor, refl, sym, ap, ◌∙◌}
+use Rattle.std.proofs.Common.{◌≡◌, ℕ, ◌^◌, Bool, true, false, not, Option, Some, None, Result, Ok, Err, IfOk, is_some, unwrap_or, option_and_then, MutBor, refl, sym, ap, ◌∙◌}
 use Rattle.std.specs.Cmp.{nat_cmp_total}
 use Rattle.std.specs.Option.{option_copied_mut, ghost_name_of}
 use Rattle.std.specs.FinMap.{FinMap, get, contains_key, nat_cmp-IsAntisymmetric}
@@ -73,3 +73,8 @@ value-there some = ap is_some (sym some)
 pub lent_if : {D : Type 0} (result : Option (MutBor ℕ)) (first second : ℕ → D) (none : D) → ((before : ℕ) → option_copied_mut result ≡ Some before → (left : ℕ) → first left ≡ second left) → read_of (ghost_name_of result) first none ≡ read_of (ghost_name_of result) second none
 lent_if None first second none same = refl
 lent_if (Some slot) first second none same = λ t. read_of (ghost_name_of (Some slot)) (λ left. same slot.now refl left t) none
+
+-- A key that was found, and has a value, is there.
+pub found_there : (map : FinMap word_order ℕ) (found : Option ℕ) (other key value : ℕ) → key ≡ unwrap_or found other → option_and_then (get map) found ≡ Some value → contains_key map key ≡ true
+found_there map None other key value same is = cc
+found_there map (Some at) other key value same is = ap is_some (ap (get map) same ∙ is)

@@ -1,5 +1,5 @@
 // The keys of an array, one after another, and how an array is printed.
-ghost use Rattle.std.specs.Prelude.{◌≡◌, drop};
+ghost use Rattle.std.specs.Prelude.{◌≡◌, ◌<◌, ◌^◌, ◌++◌, length, min, take, drop};
 ghost use Rattle.std.specs.FinMap as map;
 ghost use Rattle.judy_model.specs.Counts as counts;
 
@@ -41,6 +41,20 @@ impl<'a> Iterator for Keys<'a> {
     fn next(&mut self) -> Option<u64> {
         let (key, _) = self.entries.next()?;
         Some(key)
+    }
+}
+
+impl<'a> Keys<'a> {
+    /// Writes the next keys to the front of a slice, as many as there are and it has places for, and answers how many these are: fewer
+    /// than there are places for are the last ones. It copies a node at a time, which is faster than as many steps. The slice has fewer
+    /// than 2^60 places.
+    pub fn fill(&mut self, out: &mut [u64]) -> usize
+        requires places { length out.old < 2 ^ 60 }
+        ensures count { result ≡ min (length out.old) (length self.old) }
+        ensures out { out.new ≡ take result self.old ++ drop result out.old }
+        ensures left { self.new ≡ drop result self.old }
+    {
+        self.entries.fill(out)
     }
 }
 

@@ -1,5 +1,5 @@
 // The array that is a set of words.
-ghost use Rattle.std.specs.Prelude.{◌≡◌, ◌≤◌, ◌↔◌, not, true, false, IfOk, IsOk, OnOk, IfErr, OnErr, IsTrue, IsFalse};
+ghost use Rattle.std.specs.Prelude.{◌≡◌, ◌≤◌, ◌↔◌, not, true, false, IfOk, IsOk, OnOk, IfErr, OnErr, IsTrue, IsFalse, length, map as mapped};
 ghost use Rattle.std.specs.FinMap as map;
 ghost use Rattle.judy_model.specs.Arrays as array;
 ghost use Rattle.judy_model.specs.Counts as counts;
@@ -102,6 +102,15 @@ impl Judy1 {
     {
         self.tree.told();
         self.tree.has(i)
+    }
+
+    /// Whether keys are there, each told at the place of its key: what `test` answers of it. The ways of up to 16 keys go down side by side, and
+    /// wait for memory together. (This project's own.)
+    pub fn test_many(&self, keys: &[u64], there: &mut [bool])
+        requires { length there.old ≡ length keys.now }
+        ensures { there.new ≡ mapped (λ i. map.contains_key self.now.map i) keys.now }
+    {
+        self.tree.has_many(keys, there);
     }
 
     /// How many keys the set holds from `a` to `b`, both included; 0 where `a` is above `b` (that corner is

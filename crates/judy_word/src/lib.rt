@@ -25,6 +25,7 @@ mod word_map;
 pub use error::InsertError;
 pub use filling::{Filling, FillingMap, FillingSet};
 pub use iter::{Entries, Keys};
+pub use judy_leaf::FromPair;
 pub use judy1::Judy1;
 pub use judyl::JudyL;
 pub use laws::{

@@ -90,6 +90,13 @@ extern "C" {
     pub fn sellumaq_judy1_set(set: *mut sellumaq_judy1, key: u64) -> u32;
     pub fn sellumaq_judy1_unset(set: *mut sellumaq_judy1, key: u64) -> bool;
     pub fn sellumaq_judy1_test(set: *const sellumaq_judy1, key: u64) -> bool;
+    pub fn sellumaq_judy1_test_many(
+        set: *const sellumaq_judy1,
+        keys: *const u64,
+        count: usize,
+        there: *mut bool,
+        capacity: usize,
+    ) -> usize;
     pub fn sellumaq_judy1_first(set: *const sellumaq_judy1, from: u64, key: *mut u64) -> bool;
     pub fn sellumaq_judy1_next(set: *const sellumaq_judy1, from: u64, key: *mut u64) -> bool;
     pub fn sellumaq_judy1_last(set: *const sellumaq_judy1, from: u64, key: *mut u64) -> bool;

@@ -1,6 +1,6 @@
 //! What is asked of a key, how many keys stand where, and which key is the n-th.
 
-ghost use Rattle.std.specs.Prelude.{◌≡◌, length, map as mapped};
+ghost use Rattle.std.specs.Prelude.{◌≡◌, ◌≤◌, length, map as mapped};
 ghost use Rattle.std.specs.FinMap as map;
 ghost use Rattle.judy_model.specs.Counts as counts;
 ghost use Rattle.judy_word.specs.Held.{map_in};
@@ -44,6 +44,39 @@ impl<V: Words + Drop> TreeArray<V> {
         ensures { result ≡ map.contains_key (map_in self.now) key }
     {
         self.get(key).is_some()
+    }
+
+    /// Whether keys are there, each told at the place of its key: what `has` answers of it. The ways of up to 16 keys go down the tree side by
+    /// side.
+    #[tactic(auto, using(crate::proofs::Groups::group_more))]
+    pub fn has_many(&self, keys: &[u64], there: &mut [bool])
+        requires { length there.old ≡ length keys.now }
+        ensures { there.new ≡ mapped (λ key. map.contains_key (map_in self.now) key) keys.now }
+    {
+        let mut at = 0;
+        'groups: while at < keys.len() {
+            let end = at + (keys.len() - at).min(MOST_WAYS);
+            self.has_few(&keys[at..end], &mut there[at..end]);
+            at = end;
+        }
+    }
+
+    // The same of keys that go side by side.
+    fn has_few(&self, keys: &[u64], there: &mut [bool])
+        requires few { length keys.now ≤ 16 }
+        requires room { length there.old ≡ length keys.now }
+        ensures { there.new ≡ mapped (λ key. map.contains_key (map_in self.now) key) keys.now }
+    {
+        let mut values = [None; MOST_WAYS];
+        lookup_many(
+            &self.root,
+            keys,
+            &mut values[..keys.len()],
+            &mut Meter::new(UNMETERED),
+        );
+        'there: for at in 0..keys.len() {
+            there[at] = values[at].is_some();
+        }
     }
 
     // How many keys are below a word.

@@ -1,6 +1,6 @@
 //! The nearest keys and the n-th with their values, each in one way down the tree, and all of them one after another.
 
-ghost use Rattle.std.specs.Prelude.{◌≡◌, Some, IfSome, drop};
+ghost use Rattle.std.specs.Prelude.{◌≡◌, ◌<◌, ◌^◌, ◌++◌, Some, IfSome, length, min, take, drop, map as mapped};
 ghost use Rattle.std.specs.FinMap as map;
 ghost use Rattle.std.specs.Option.{option_map};
 ghost use Rattle.judy_model.specs.Counts as counts;
@@ -9,7 +9,7 @@ ghost use Rattle.judy_word.specs.Held.{map_in};
 
 use crate::tree_array::TreeArray;
 use judy_bits::Meter;
-use judy_leaf::Words;
+use judy_leaf::{FromPair, Words};
 use judy_query::{Walk, entry_at_or_after, entry_at_or_before, entry_nth};
 use judy_unmetered::UNMETERED;
 use std::iter::Iterator;
@@ -41,6 +41,20 @@ impl<'a, V: Words + Drop> Iterator for TreeEntries<'a, V> {
 
     fn next(&mut self) -> Option<(u64, u64)> {
         self.walk.next(&mut Meter::new(UNMETERED))
+    }
+}
+
+impl<'a, V: Words + Drop> TreeEntries<'a, V> {
+    /// Writes what stands for the next keys with their values to the front of a slice, as many as there are and it has places for, and
+    /// answers how many these are: fewer than there are places for are the last ones. It copies a node at a time, which is faster than as
+    /// many steps. The slice has fewer than 2^60 places.
+    pub fn fill<E: FromPair>(&mut self, out: &mut [E]) -> usize
+        requires places { length out.old < 2 ^ 60 }
+        ensures count { result ≡ min (length out.old) (length self.old) }
+        ensures out { out.new ≡ take result (mapped (λ entry. E.made entry.0 entry.1) self.old) ++ drop result out.old }
+        ensures left { self.new ≡ drop result self.old }
+    {
+        self.walk.fill(out, &mut Meter::new(UNMETERED))
     }
 }
 

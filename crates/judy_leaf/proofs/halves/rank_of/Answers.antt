@@ -1,4 +1,4 @@
-use Rattle.std.proofs.Common.{◌≡◌, arith}
+use Rattle.std.proofs.Common.{arith}
 use Rattle.judy_leaf.proofs.LeafLists.{rank_within}
 use Rattle.judy_leaf.proofs.HalfSteps.{rank_behind, rank_at_most}
 use Rattle.judy_leaf.proofs.halves.rank_of.Goals as goal

@@ -1,4 +1,4 @@
-use Rattle.std.proofs.Common.{sym, subst, take, ◌-◌, ◌*◌, ◌/◌, length, ap, ◌∙◌}
+use Rattle.std.proofs.Common.{sym, subst, ◌-◌, ◌*◌, ◌/◌, length, ap, ◌∙◌}
 use Rattle.std.specs.List.Sorted.{IsStrictlySortedBy}
 use Rattle.judy_model.specs.Keys.{word_order}
 use Rattle.judy_bits.specs.ByteSets as set

@@ -12,9 +12,9 @@ invariant-down g l =
     × IsRun l.child.pairs (l.start + 256 ^ width_of l.view) (256 ^ l.width)
     × (l.start + 256 ^ width_of l.view ≤ 256 ^ l.width)
     × (length (view_pairs l.view) < 256 ^ width_of l.view)
-    × (l.meter + width_of l.view ≤ l.initial.meter + l.width)
+    × (g.M.Sparing.visits l.meter + width_of l.view ≤ g.M.Sparing.visits l.initial.meter + l.width)
     × (width_of l.view ≤ l.width)
-    × (l.initial.meter ≤ l.meter)
+    × (g.M.Sparing.visits l.initial.meter ≤ g.M.Sparing.visits l.meter)
 
 abbrev pub decreases-down : goal.decreases-down
 decreases-down g l = width_of l.view

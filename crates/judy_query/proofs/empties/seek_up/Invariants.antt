@@ -8,8 +8,8 @@ invariant-down g l =
     IsDown g.V.Words.WORDS l.tree.pairs l.view l.key l.left
     × (l.width ≡ width_of l.view)
     × IsRoomFrom g.V.Words.WORDS l.tree.pairs (l.key - l.left + 256 ^ width_of l.view) (2 ^ 64) l.later
-    × (l.meter + width_of l.view ≤ l.initial.meter + 8)
-    × (l.initial.meter ≤ l.meter)
+    × (g.M.Sparing.visits l.meter + width_of l.view ≤ g.M.Sparing.visits l.initial.meter + 8)
+    × (g.M.Sparing.visits l.initial.meter ≤ g.M.Sparing.visits l.meter)
 
 abbrev pub decreases-down : goal.decreases-down
 decreases-down g l = width_of l.view

@@ -2,7 +2,7 @@ use Rattle.std.proofs.Common.{◌<◌, ap, sym, ◌∙◌, subst, Some}
 use Rattle.std.proofs.lemmas.Option.{slice_get-get_or}
 use Rattle.judy_leaf.specs.KeyLists.{keys_of}
 use Rattle.judy_leaf.proofs.LeafLists.{length-keys_of}
-use Rattle.judy_query.proofs.ScanFacts.{rank_behind}
+use Rattle.judy_leaf.proofs.NextKeys.{rank_behind}
 use Rattle.judy_query.proofs.scan.behind.Goals as goal
 
 pub returns : goal.returns

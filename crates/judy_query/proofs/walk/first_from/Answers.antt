@@ -7,7 +7,7 @@ use Rattle.judy_node.specs.Views.{view_pairs}
 use Rattle.judy_query.specs.Parts.{IsStart}
 use Rattle.judy_query.specs.Walks.{waiting}
 use Rattle.judy_query.proofs.BranchRooms.{bytes_ascend}
-use Rattle.judy_query.proofs.ScanFacts.{rank_behind}
+use Rattle.judy_leaf.proofs.NextKeys.{rank_behind}
 use Rattle.judy_query.proofs.Downs.{kid_is, start_room}
 use Rattle.judy_query.proofs.Splits.{rest_of}
 use Rattle.judy_query.proofs.WalkFacts.{entered_width, entered_shown, entered_some, entered_fits, entered_pairs}

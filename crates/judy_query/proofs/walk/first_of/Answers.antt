@@ -8,7 +8,7 @@ use Rattle.judy_node.proofs.Maps.{length-shift}
 use Rattle.judy_query.specs.Parts.{IsStart, width_of}
 use Rattle.judy_query.specs.Walks.{waiting}
 use Rattle.judy_query.proofs.BranchRooms.{bytes_ascend, rank_zero}
-use Rattle.judy_query.proofs.ScanFacts.{rank_behind}
+use Rattle.judy_leaf.proofs.NextKeys.{rank_behind}
 use Rattle.judy_query.proofs.Downs.{start_room}
 use Rattle.judy_query.proofs.WalkFacts.{IsWalked, first_inside, entered_width, walked_child}
 use Rattle.judy_query.proofs.walk.first_of.Goals as goal

@@ -6,6 +6,10 @@ pub returns-clause-short : goal.returns-clause-short
 unfolding first_word
 returns-clause-short c = refl
 
+pub returns-clause-zeros : goal.returns-clause-zeros
+unfolding first_word
+returns-clause-zeros c = refl
+
 pub returns-clause-long : goal.returns-clause-long
 unfolding first_word
 returns-clause-long c = refl

@@ -1,5 +1,5 @@
 use Rattle.std.proofs.Common.{◌∙◌, arith}
-use Rattle.judy_hs.proofs.HsLemmas.{is_key_of, get_is, get_long, spot-some, spot-removable, IsHs-deleted, array-deleted, not_deleted, not_contained, contained, counts_one}
+use Rattle.judy_hs.proofs.HsLemmas.{is_key_of, get_is, get_long, spot-some, IsHs-deleted, array-deleted, not_deleted, not_contained, contained, counts_one}
 use Rattle.judy_hs.specs.Kept.{map_of, array_of}
 use Rattle.judy_hs.proofs.bytes.JudyHs.del.Goals as goal
 
@@ -9,11 +9,8 @@ returns-then-key-LONGEST-clause-answer g c = rw (← c.self.view_is) (not_contai
 pub returns-then-key-LONGEST-clause-deleted : goal.returns-then-key-LONGEST-clause-deleted
 returns-then-key-LONGEST-clause-deleted g c = rw (← c.self.view_is) (not_deleted (array_of g.H.ByteHash.hash_of g.H.ByteHash.LONGEST c.self.inside.limit c.self.inside.groups) c.args.key.now (get_long g.H.ByteHash.hash_of g.H.ByteHash.LONGEST c.self.inside.groups c.args.key.now (rw c.LONGEST.ensures at c.if-key-LONGEST.true)))
 
-pub remove-requires-clause-removable : goal.remove-requires-clause-removable
-remove-requires-clause-removable g c =
-    let is_key = is_key_of g.H.ByteHash.LONGEST c.args.key.now (λ i. omega (arith, c.type_inv.key i)) (rw c.LONGEST.ensures at c.if-key-LONGEST.false) in
-    let spot = rw c.part_of-part.ensures at c.in-Some.ensures in
-    spot-removable g.H.ByteHash.hash_of g.H.ByteHash.LONGEST c.self.inside.groups c.args.key.now is_key c.in-Some.spot.group c.in-Some.spot.inside spot
+pub remove-requires-clause-is_inside : goal.remove-requires-clause-is_inside
+remove-requires-clause-is_inside g c = c.in-Some.ensures.is_inside
 
 pub overflow_sub-self : goal.overflow_sub-self
 overflow_sub-self g c =

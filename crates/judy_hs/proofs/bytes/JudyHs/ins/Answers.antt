@@ -4,7 +4,7 @@ use borrow.Follows.Closed.{read_of}
 use Rattle.judy_hs.specs.Kept.{array_of, IsHs}
 use Rattle.judy_hs.proofs.HsLemmas.{is_key_of, get_is, spot-usable, array-written, IsHs-written, ok_only, on_ok, if_ok, if_err, full-absent, room-absent, present-some, present-room, present-value, room-tried, after-spot, after-hs, after-some, after-value, after-written}
 use Rattle.std.proofs.lemmas.Bool.{false≢true}
-use Rattle.judy_hs.proofs.InnerLemmas.{fewer-lengths, room-words}
+use Rattle.judy_hs.proofs.InnerLemmas.{fewer-lengths, room-words, length-led}
 use Rattle.judy_hs.proofs.bytes.JudyHs.ins.Goals.{then-self, else-self}
 use Rattle.judy_hs.proofs.bytes.JudyHs.ins.Goals as goal
 
@@ -12,7 +12,10 @@ use Rattle.judy_hs.proofs.bytes.JudyHs.ins.Goals as goal
 
 pub try_add-requires : goal.try_add-requires
 try_add-requires g c =
-    record { group = room-words g.H.ByteHash.hash_of g.H.ByteHash.LONGEST c.self.inside.groups c.self.invariant.is_keyed (length c.args.key.now) (omega (arith, c.self.invariant.counted, c.self.invariant.within_limit, c.self.invariant.limit_fits)) }
+    record {
+      group = room-words g.H.ByteHash.hash_of g.H.ByteHash.LONGEST c.self.inside.groups c.self.invariant.is_keyed (length c.args.key.now) (omega (arith, c.self.invariant.counted, c.self.invariant.within_limit, c.self.invariant.limit_fits));
+      of_length = length-led g.H.ByteHash.hash_of g.H.ByteHash.LONGEST c.self.inside.groups c.self.invariant.is_keyed c.args.key.now;
+    }
 
 pub slot_of-requires-clause-usable : goal.slot_of-requires-clause-usable
 slot_of-requires-clause-usable g c =
@@ -124,6 +127,11 @@ pub add-requires-clause-group : goal.add-requires-clause-group
 add-requires-clause-group g c =
     let is : IsHs g.H.ByteHash.hash_of g.H.ByteHash.LONGEST c.self.inside.limit c.self.inside.count c.try_add.new.self = subst (IsHs g.H.ByteHash.hash_of g.H.ByteHash.LONGEST c.self.inside.limit c.self.inside.count) (sym c.in-Open.ensures.unchanged) c.self.invariant in
     room-words g.H.ByteHash.hash_of g.H.ByteHash.LONGEST c.try_add.new.self is.is_keyed (length c.args.key.now) (omega (arith, is.counted, is.within_limit, is.limit_fits))
+
+pub add-requires-clause-of_length : goal.add-requires-clause-of_length
+add-requires-clause-of_length g c =
+    let is : IsHs g.H.ByteHash.hash_of g.H.ByteHash.LONGEST c.self.inside.limit c.self.inside.count c.try_add.new.self = subst (IsHs g.H.ByteHash.hash_of g.H.ByteHash.LONGEST c.self.inside.limit c.self.inside.count) (sym c.in-Open.ensures.unchanged) c.self.invariant in
+    length-led g.H.ByteHash.hash_of g.H.ByteHash.LONGEST c.try_add.new.self is.is_keyed c.args.key.now
 
 pub slot_of-requires-in-Ok-clause-usable : goal.slot_of-requires-in-Ok-clause-usable
 slot_of-requires-in-Ok-clause-usable g c =

@@ -2,7 +2,7 @@ use Rattle.std.proofs.Common.{◌≢◌, refl, sym, ap, ◌∙◌, subst}
 use Rattle.std.proofs.lemmas.Bool.{false≢true}
 use Rattle.judy_hs.specs.GroupPlaces.{group_of}
 use Rattle.judy_hs.specs.Groups.{none, Group, group_without, IsEmptyGroup}
-use Rattle.judy_hs.proofs.GroupLemmas.{within-places, held-is, keyed-set, keyed-free, removable-some, without-some, groups-set, groups-gone}
+use Rattle.judy_hs.proofs.GroupLemmas.{within-places, held-is, keyed-set, keyed-free, inside-group, without-some, groups-set, groups-gone}
 use Rattle.judy_hs.proofs.groups.Groups.remove.Goals as goal
 
 pub returns-then-emptied-clause-emptied : goal.returns-then-emptied-clause-emptied
@@ -31,12 +31,12 @@ pub invariant_of-self : goal.invariant_of-self
 invariant_of-self c =
     let within = within-places c.self.inside.lengths c.self.inside.groups.items c.args.self.now c.args.spot.group c.self.view_is c.requires.within in
     let held = held-is c.self.inside.lengths c.self.inside.groups.items c.args.spot.group c.index_mut.result.now within c.index_mut.ensures.value in
-    let some : group_of c.index_mut.result.now ≢ none = (λ gone. removable-some _ c.args.spot.inside c.args.key.now (rw (← c.self.view_is) at c.requires.removable) (sym held ∙ gone)) in
+    let some : group_of c.index_mut.result.now ≢ none = (λ gone. inside-group _ c.args.part c.args.key.now c.args.spot.inside (rw (← c.self.view_is) at c.requires.is_inside) (sym held ∙ gone)) in
     groups-gone c.self.inside.groups.items c.self.inside.free c.self.invariant c.args.spot.group c.index_mut.result.now c.index_mut.ensures.value some c.remove-emptied.new.self within
 
 pub invariant_of-self-else-emptied : goal.invariant_of-self-else-emptied
 invariant_of-self-else-emptied c =
     let within = within-places c.self.inside.lengths c.self.inside.groups.items c.args.self.now c.args.spot.group c.self.view_is c.requires.within in
     let held = held-is c.self.inside.lengths c.self.inside.groups.items c.args.spot.group c.index_mut.result.now within c.index_mut.ensures.value in
-    let some : group_of c.index_mut.result.now ≢ none = (λ gone. removable-some _ c.args.spot.inside c.args.key.now (rw (← c.self.view_is) at c.requires.removable) (sym held ∙ gone)) in
+    let some : group_of c.index_mut.result.now ≢ none = (λ gone. inside-group _ c.args.part c.args.key.now c.args.spot.inside (rw (← c.self.view_is) at c.requires.is_inside) (sym held ∙ gone)) in
     groups-set c.self.inside.groups.items c.self.inside.free c.self.invariant c.args.spot.group c.index_mut.result.now c.index_mut.ensures.value some c.remove-emptied.new.self (λ gone. without-some _ c.args.part c.args.spot.inside c.args.key.now some (sym c.remove-emptied.ensures.removed ∙ gone))

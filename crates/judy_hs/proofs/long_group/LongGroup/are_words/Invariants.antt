@@ -1,9 +1,12 @@
-use Rattle.std.specs.List.{AllWithin}
+use Rattle.std.proofs.Common.{◌≡◌, ◌++◌, ℕ, All}
+use Rattle.std.specs.FinMap.{entries}
 use Rattle.judy_hs.specs.Chains.{value_in}
-use Rattle.judy_hs.specs.ChainPlaces.{pairs_at}
+use Rattle.judy_hs.specs.LongGroups.{chain_at}
 use Rattle.judy_hs.specs.Values.{AreWords}
-use Rattle.judy_hs.specs.declared.long_group.ChainPlace.{ChainPlace}
 use Rattle.judy_hs.proofs.long_group.LongGroup.are_words.Given as goal
 
-abbrev pub invariant-loop-place : goal.invariant-loop-place
-invariant-loop-place l = AllWithin (λ (place : ChainPlace). AreWords (value_in (pairs_at place))) l.place-items 0 l.place-index
+-- the values at the places that came are words
+abbrev pub invariant-hashes : goal.invariant-hashes
+invariant-hashes l =
+    (entries l.self.hashes.map ≡ l.yielded ++ l.place-iterator)
+    × All (λ (entry : ℕ × ℕ). AreWords (value_in (chain_at l.self entry.1))) l.yielded

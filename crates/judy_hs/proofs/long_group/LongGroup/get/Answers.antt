@@ -1,11 +1,9 @@
-use Rattle.std.proofs.Common.{sym, ap, ◌∙◌}
-use Rattle.judy_hs.specs.Chains.{Pairs, value_in}
-use Rattle.judy_hs.proofs.LongLemmas.{held-is}
+use Rattle.std.proofs.Common.{◌≢◌, [], sym, subst, ◌∙◌}
+use Rattle.judy_hs.specs.LongGroups.{Long, chain_at}
+use Rattle.judy_hs.proofs.LongLemmas.{is-used}
 use Rattle.judy_hs.proofs.long_group.LongGroup.get.Goals as goal
 
-pub returns-in-Some : goal.returns-in-Some
-returns-in-Some c =
+pub value_at-requires : goal.value_at-requires
+value_at-requires c =
     let leads = sym c.get.ensures ∙ c.in_ok-place.was in
-    let read = rw c.deref.ensures.value at c.in-Some.ensures.lookup in
-    let held = held-is c.self.inside.hashes c.self.inside.chains.items c.in_ok-place.place c.in-Some.chain.now read.3.0 read.1 in
-    rw (← c.self.view_is, leads) (c.get-in-Some.ensures ∙ ap (λ (pairs : Pairs). value_in pairs c.args.key.now) held)
+    subst (λ (long : Long). chain_at long c.in_ok-place.place ≢ []) c.self.view_is (is-used c.self.inside.key_length c.self.inside.chains c.self.inside.records c.in_ok-place.place (c.self.invariant.led c.args.hash c.in_ok-place.place leads))

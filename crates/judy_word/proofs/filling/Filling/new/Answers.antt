@@ -1,9 +1,7 @@
 use Rattle.std.proofs.Common.{ap, ◌∙◌}
-use Rattle.std.specs.FinMap.{FinMap}
-use Rattle.judy_model.specs.Keys.{word_order}
 use Rattle.judy_node.specs.Trees.{Pairs}
 use Rattle.judy_word.specs.Held.{map_in, with_all}
-use Rattle.judy_word.specs.WordArrays.{WordArray, seen_as}
+use Rattle.judy_word.specs.WordArrays.{WordArray}
 use Rattle.judy_word.proofs.ArrayFacts.{nothing-empty}
 use Rattle.judy_word.proofs.filling.Filling.new.Goals as goal
 

@@ -1,0 +1,31 @@
+use Rattle.std.proofs.Common.{◌+◌, ◌^◌, ◌++◌, [], ◌∷◌, length, refl, ◌∙◌, arith}
+use Rattle.std.proofs.lemmas.List.{take_more_set}
+use Rattle.judy_leaf.proofs.Bounds.{key_below}
+use Rattle.judy_leaf.proofs.Fills.{made_more, all_made}
+use Rattle.judy_leaf.proofs.imm.ImmOf.fill_from.Goals as goal
+
+pub overflow_add-base : goal.overflow_add-base
+overflow_add-base g c =
+    let inside = c.loop-place-test.true in
+    let room = c.requires.inside in
+    let fits = c.requires.fits in
+    let below = key_below (256 ^ c.args.self.now.width) c.args.self.now.pairs (c.args.at + c.loop-place.place) c.len-count.ensures.list.below (omega arith) in
+    let is = c.key_at.ensures in
+    omega arith
+
+pub loop-place-preserved : goal.loop-place-preserved
+loop-place-preserved g c =
+    let inside = c.loop-place-test.true in
+    let room = c.requires.inside in
+    let long = c.loop-place.auto.out in
+    let n = c.args.at + c.loop-place.place in
+    let made = g.E.FromPair.made in
+    take_more_set c.loop-place.out c.loop-place.place c.from_pair.result (omega arith)
+    ∙ (λ t. c.loop-place.invariant t ++ (c.from_pair.ensures ∙ (λ t. made (c.args.base + c.key_at.ensures t) (c.value_at.ensures t))) t ∷ [])
+    ∙ made_more made c.args.base c.args.self.now.pairs c.args.at c.loop-place.place n refl (omega arith)
+
+pub returns : goal.returns
+returns g c =
+    let past = c.loop-place-test.false in
+    let most = c.loop-place.auto.place-end in
+    all_made g.E.FromPair.made c.args.base c.args.at c.loop-place.place (length c.args.out.now) c.args.self.now.pairs c.loop-place.out (omega arith) (c.loop-place.auto.out ∙ omega arith) c.loop-place.invariant

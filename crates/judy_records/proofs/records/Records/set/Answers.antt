@@ -1,0 +1,40 @@
+use Rattle.std.proofs.Common.{ap, sym, ◌∙◌, arith, subst, length}
+use Rattle.judy_records.specs.Texts.{words_of}
+use Rattle.judy_records.specs.Spots.{IsHeld, spot_at, held, with_spot}
+use Rattle.judy_records.specs.Inside.{spots_in, freed, AreChained}
+use Rattle.judy_records.proofs.RecordLemmas.{word-inside, held-within, placed-long, set-list, set-chained}
+use Rattle.judy_records.proofs.records.Records.set.Goals as goal
+
+pub overflow_mul-start : goal.overflow_mul-start
+overflow_mul-start c =
+    let inside = word-inside c.self.inside c.self.invariant c.args.place (subst (λ list. IsHeld (spot_at list c.args.place)) (sym c.self.view_is) c.requires.is_held) in
+    omega (arith, inside, c.self.inside.words.ok, c.self.inside.words.small)
+
+pub write_record-requires : goal.write_record-requires
+write_record-requires c =
+    let inside = word-inside c.self.inside c.self.invariant c.args.place (subst (λ list. IsHeld (spot_at list c.args.place)) (sym c.self.view_is) c.requires.is_held) in
+    omega (arith, inside, c.self.inside.words.ok)
+
+pub invariant_of-self : goal.invariant_of-self
+invariant_of-self c =
+    let is = subst (λ list. IsHeld (spot_at list c.args.place)) (sym c.self.view_is) c.requires.is_held in
+    let size = c.requires.fits ∙ ap (λ list. list.size) (sym c.self.view_is) in
+    record {
+      long = ap length c.write_record.ensures.words ∙ placed-long c.self.inside c.self.invariant c.args.value c.args.bytes.now size c.args.place (held-within c.self.inside c.self.invariant c.args.place is);
+      chained = subst (λ items. AreChained c.self.inside.spare c.self.inside.free (spots_in c.self.inside.count c.self.inside.size items)) (sym c.write_record.ensures.words)
+          (set-chained c.self.inside c.self.invariant c.args.value c.args.bytes.now size c.args.place is);
+      size_within = c.self.invariant.size_within;
+    }
+
+pub returns : goal.returns
+returns c =
+    let is = subst (λ list. IsHeld (spot_at list c.args.place)) (sym c.self.view_is) c.requires.is_held in
+    let size = c.requires.fits ∙ ap (λ list. list.size) (sym c.self.view_is) in
+    (λ i. record {
+      size = c.self.inside.size;
+      spots = freed c.self.inside.spare c.self.inside.free (spots_in c.self.inside.count c.self.inside.size (c.write_record.ensures.words i));
+      first = c.self.inside.free;
+      capacity = c.write_record.ensures.capacity i;
+    })
+    ∙ set-list c.self.inside c.self.invariant c.args.value c.args.bytes.now size c.args.place is
+    ∙ ap (λ list. with_spot list c.args.place (held c.args.value (words_of c.args.bytes.now))) c.self.view_is
