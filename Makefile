@@ -41,7 +41,7 @@ help:
 	@echo 'make lib         proves and builds the library for C, and leaves it in out/lib; make lib-test tries it'
 	@echo 'make python      builds the Python package, and leaves it in out/python'
 	@echo 'make bindings-test  tries it from C, Rust and Python'
-	@echo 'make bench       measures the arrays beside libJudy, BTreeMap and HashMap, and the program beside BTreeMap'
+	@echo 'make bench       measures the arrays beside libJudy, BTreeMap and HashMap, the program beside BTreeMap, and the bindings beside their peers'
 	@echo 'make install     puts the program and the library for C, Rust and Python under PREFIX ($(PREFIX)); make uninstall takes them away'
 	@echo 'make install-libjudy  links the library of HP'"'"'s names to where the linker looks for libJudy'
 	@echo 'make install-test  runs the programs of the README over a library that was installed'
@@ -144,6 +144,9 @@ bench: lib judystore
 	@tools/bench $(LIB) --svg docs/bench.svg $(KEYS)
 	@tools/bench_program ./judystore
 	@python3 bindings/python/build_package.py $(LIB) out/python && PYTHONPATH=out/python bench/sorted.py
+	@if command -v cargo >/dev/null 2>&1; then \
+		cd bindings/rust && SELLUMAQ_LIB=$(abspath $(LIB)) cargo run --offline --release --quiet --example beside_std; \
+	else echo 'no cargo here: the Rust crate is not measured beside std'; fi
 
 # Under DESTDIR, which is for those who pack: the program with its page, and the library with what each language needs to use it. What is
 # built already is taken as it is, so this needs no kit then. Each file gets its mode here, whatever the umask.

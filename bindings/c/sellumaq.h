@@ -151,6 +151,12 @@ bool sellumaq_judyl_next_entry(const sellumaq_judyl *map, uint64_t from, uint64_
 bool sellumaq_judyl_last_entry(const sellumaq_judyl *map, uint64_t from, uint64_t *key, uint64_t *value);
 bool sellumaq_judyl_prev_entry(const sellumaq_judyl *map, uint64_t from, uint64_t *key, uint64_t *value);
 
+/* The same four keys with the slots of their values. */
+bool sellumaq_judyl_first_slot(const sellumaq_judyl *map, uint64_t from, uint64_t *key, uint64_t **slot);
+bool sellumaq_judyl_next_slot(const sellumaq_judyl *map, uint64_t from, uint64_t *key, uint64_t **slot);
+bool sellumaq_judyl_last_slot(const sellumaq_judyl *map, uint64_t from, uint64_t *key, uint64_t **slot);
+bool sellumaq_judyl_prev_slot(const sellumaq_judyl *map, uint64_t from, uint64_t *key, uint64_t **slot);
+
 /* The same four among the words that are no keys. */
 bool sellumaq_judyl_first_empty(const sellumaq_judyl *map, uint64_t from, uint64_t *word);
 bool sellumaq_judyl_next_empty(const sellumaq_judyl *map, uint64_t from, uint64_t *word);
@@ -175,6 +181,9 @@ uint64_t sellumaq_judyl_count(const sellumaq_judyl *map, uint64_t from, uint64_t
 
 /* The n-th key, counted from 1; false for 0 and above the number of keys. */
 bool sellumaq_judyl_by_count(const sellumaq_judyl *map, uint64_t n, uint64_t *key);
+
+/* The same key with the slot of its value. */
+bool sellumaq_judyl_by_count_slot(const sellumaq_judyl *map, uint64_t n, uint64_t *key, uint64_t **slot);
 
 /* Gives all memory back, and answers how many keys there were. The handle is the empty array then. */
 uint64_t sellumaq_judyl_free(sellumaq_judyl *map);

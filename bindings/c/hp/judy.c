@@ -156,13 +156,14 @@ SET_SEARCH(Judy1PrevEmpty, sellumaq_judy1_prev_empty)
     PPvoid_t name(Pcvoid_t array, Word_t *word, PJError_t error) { \
         SEARCHES(refuse_slot); \
         sellumaq_judyl map = {(void *)array}; \
-        return call(&map, *word, word) ? JudyLGet(array, *word, error) : NULL; \
+        uint64_t *slot; \
+        return call(&map, *word, word, &slot) ? (PPvoid_t)slot : NULL; \
     }
 
-MAP_SEARCH(JudyLFirst, sellumaq_judyl_first)
-MAP_SEARCH(JudyLNext, sellumaq_judyl_next)
-MAP_SEARCH(JudyLLast, sellumaq_judyl_last)
-MAP_SEARCH(JudyLPrev, sellumaq_judyl_prev)
+MAP_SEARCH(JudyLFirst, sellumaq_judyl_first_slot)
+MAP_SEARCH(JudyLNext, sellumaq_judyl_next_slot)
+MAP_SEARCH(JudyLLast, sellumaq_judyl_last_slot)
+MAP_SEARCH(JudyLPrev, sellumaq_judyl_prev_slot)
 
 #define MAP_EMPTIES(name, call) \
     int name(Pcvoid_t array, Word_t *word, PJError_t error) { \
@@ -185,7 +186,8 @@ int Judy1ByCount(Pcvoid_t array, Word_t n, Word_t *word, PJError_t error) {
 PPvoid_t JudyLByCount(Pcvoid_t array, Word_t n, Word_t *word, PJError_t error) {
     SEARCHES(refuse_slot);
     sellumaq_judyl map = {(void *)array};
-    return sellumaq_judyl_by_count(&map, n, word) ? JudyLGet(array, *word, error) : NULL;
+    uint64_t *slot;
+    return sellumaq_judyl_by_count_slot(&map, n, word, &slot) ? (PPvoid_t)slot : NULL;
 }
 
 Word_t Judy1Count(Pcvoid_t array, Word_t from, Word_t to, PJError_t error) {

@@ -30,6 +30,11 @@ static bool told_both(bool answer, const uint64_t *found, const uint64_t *value,
     return told(answer, found, place) && (!answer || *value == values[place]);
 }
 
+/* Whether it handed out that key's slot. */
+static bool lent(bool answer, const uint64_t *found, uint64_t *const *slot, int place) {
+    return told(answer, found, place) && (!answer || **slot == values[place]);
+}
+
 /* Whether the walks from a place on write the table's keys, as many as fit and no word behind them. */
 static void walks(sellumaq_judy1 *set, sellumaq_judyl *map, int from, size_t capacity) {
     uint64_t keys[WORDS + 1];
@@ -74,20 +79,26 @@ static void compare(sellumaq_judy1 *set, sellumaq_judyl *map, int place) {
     CHECK(told(sellumaq_judy1_first(set, from, &found), &found, next_held(place)));
     CHECK(told(sellumaq_judyl_first(map, from, &found), &found, next_held(place)));
     CHECK(told_both(sellumaq_judyl_first_entry(map, from, &found, &value), &found, &value, next_held(place)));
+    CHECK(lent(sellumaq_judyl_first_slot(map, from, &found, &slot), &found, &slot, next_held(place)));
     CHECK(told(sellumaq_judy1_next(set, from, &found), &found, next_held(place + 1)));
     CHECK(told(sellumaq_judyl_next(map, from, &found), &found, next_held(place + 1)));
     CHECK(told_both(sellumaq_judyl_next_entry(map, from, &found, &value), &found, &value, next_held(place + 1)));
+    CHECK(lent(sellumaq_judyl_next_slot(map, from, &found, &slot), &found, &slot, next_held(place + 1)));
     CHECK(told(sellumaq_judy1_last(set, from, &found), &found, prev_held(place)));
     CHECK(told(sellumaq_judyl_last(map, from, &found), &found, prev_held(place)));
     CHECK(told_both(sellumaq_judyl_last_entry(map, from, &found, &value), &found, &value, prev_held(place)));
+    CHECK(lent(sellumaq_judyl_last_slot(map, from, &found, &slot), &found, &slot, prev_held(place)));
     CHECK(told(sellumaq_judy1_prev(set, from, &found), &found, prev_held(place - 1)));
     CHECK(told(sellumaq_judyl_prev(map, from, &found), &found, prev_held(place - 1)));
     CHECK(told_both(sellumaq_judyl_prev_entry(map, from, &found, &value), &found, &value, prev_held(place - 1)));
+    CHECK(lent(sellumaq_judyl_prev_slot(map, from, &found, &slot), &found, &slot, prev_held(place - 1)));
     CHECK(sellumaq_judy1_count(set, 0, from) == held_in(0, place) && sellumaq_judyl_count(map, from, UINT64_MAX) == held_in(place, WORDS - 1));
     uint64_t n = held_in(0, place);
     CHECK(told(sellumaq_judy1_by_count(set, n, &found), &found, n ? prev_held(place) : -1));
     CHECK(told(sellumaq_judyl_by_count(map, n, &found), &found, n ? prev_held(place) : -1));
+    CHECK(lent(sellumaq_judyl_by_count_slot(map, n, &found, &slot), &found, &slot, n ? prev_held(place) : -1));
     CHECK(sellumaq_judy1_len(set) == held_in(0, WORDS - 1) && sellumaq_judyl_len(map) == held_in(0, WORDS - 1));
+    if (sellumaq_judyl_first_slot(map, from, &found, &slot)) values[next_held(place)] = *slot = 3 * *slot + 1;
     walks(set, map, place, place % 3 ? (size_t)place % 16 : WORDS);
     looks(set, map, place, (size_t)place % 70, place % 2 ? WORDS : (size_t)place % 40);
 }

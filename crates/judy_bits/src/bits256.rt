@@ -96,6 +96,8 @@ impl Bits256 {
     }
 
     /// The place of a member, which is its rank; none where the byte isn't a member.
+    // As a set's: a call would cost as much as the count.
+    #[inline(always)]
     pub fn place(&self, byte: u8) -> Option<usize>
         ensures { result ≡ set.place self.now byte }
     {

@@ -50,6 +50,15 @@ impl ByteSet {
         }
     }
 
+    /// The set of the members of bits: of many bytes made at once, since the form is looked for once.
+    pub fn of_bits(bits: Bits256) -> ByteSet
+        ensures { result ≡ bits }
+    {
+        ByteSet {
+            members: in_form(bits),
+        }
+    }
+
     /// How many members there are.
     pub fn len(&self) -> usize
         ensures count { result ≡ length self.now }

@@ -6,6 +6,7 @@ pub mod LongLemmas
 pub mod LongChanges
 pub mod LongMoves
 pub mod LongPuts
+pub mod MoveLemmas
 pub mod SharedLemmas
 pub mod GroupLemmas
 pub mod TwoLevels

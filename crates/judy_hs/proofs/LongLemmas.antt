@@ -1,18 +1,20 @@
 -- Groups of long keys: what stands at their places, and what a change at one place makes of them.
-use Rattle.std.proofs.Common.{◌≡◌, ◌≢◌, ◌↔◌, ℕ, zero, suc, ◌+◌, ◌<◌, ◌≤◌, inl, inr, true, false, cond, nat_lt, List, [], ◌∷◌, ◌++◌, length, get_or, set, All, refl, sym, ap, ◌∙◌, subst, arith}
-use Rattle.std.specs.BTreeMap.{BTreeMap}
+use Rattle.std.proofs.Common.{◌≡◌, ◌≢◌, ◌↔◌, ℕ, zero, suc, ◌+◌, ◌<◌, ◌≤◌, inl, inr, true, false, cond, nat_lt, nat_cmp, Option, unwrap_or, is_some, IsSome, List, [], ◌∷◌, ◌++◌, length, get_or, set, All, refl, sym, ap, ◌∙◌, subst, arith}
+use Rattle.std.specs.BTreeMap.{BTreeMap, btree_map_len, is_at}
+use Rattle.std.specs.Map.{lookup}
 use Rattle.std.specs.FinMap.{FinMap}
-use Rattle.std.proofs.lemmas.List.{ext_get_or, length-set, get_or_default, get_or-set_same, get_or-set_other, set-get_or}
-use Rattle.std.proofs.lemmas.Bool.{cases_eq, cases_lt, lt-ltb, le-ltb}
+use Rattle.std.proofs.lemmas.List.{nil_from_length, ext_get_or, length-set, get_or_default, get_or-set_same, get_or-set_other, set-get_or}
+use Rattle.std.proofs.lemmas.Bool.{false≢true, cases_eq, cases_lt, lt-ltb, le-ltb}
 use Rattle.judy_model.specs.Keys.{word_order, IsByteString}
 use Rattle.judy_model.specs.Arrays.{ArrayOf}
 use Rattle.judy_records.specs.Texts.{words_of, bytes_in}
 use Rattle.judy_records.specs.Spots.{Spot, free, held, RecordList, IsHeld, spot_at, value_of, text_of, with_spot}
 use Rattle.judy_records.proofs.FreeLemmas.{held-inside}
 use Rattle.judy_records.proofs.BackLemmas.{bytes-back}
-use Rattle.judy_hs.specs.Chains.{Pairs}
+use Rattle.judy_hs.specs.Chains.{Pairs, value_in}
 use Rattle.judy_hs.specs.LongGroups.{Long, put_at}
 use Rattle.judy_hs.specs.LongRecords.{others_at, pairs_of, pairs_from, all_pairs, IsKeyOf, IsSpelled, AreLongRecords}
+use Rattle.judy_hs.proofs.ChainLemmas.{bytes_cases, value_in-later}
 
 -- ---- keys in records
 
@@ -125,6 +127,23 @@ module _ (key_length : ℕ) (chains : BTreeMap ℕ Pairs) (records : RecordList)
 
     pub at-held : get_or (all_pairs key_length chains records) place [] ≡ (bytes_in key_length (text_of (spot_at records place)), value_of (spot_at records place)) ∷ others_at chains place
     at-held = pairs-at key_length chains records place ∙ held-pairs key_length (others_at chains place) (spot_at records place) is
+
+-- ---- keys that share no hash
+
+-- Where there is no chain nothing stands beside a record,
+none-beside : (chains : BTreeMap ℕ Pairs) (place : ℕ) → btree_map_len chains ≡ 0 → others_at chains place ≡ []
+none-beside chains place none = ap (λ (found : Option Pairs). unwrap_or found []) (ap (lookup (is_at (nat_cmp place))) (nil_from_length chains.entries none))
+
+-- and a key that stands there is its own.
+own-alone : (pair : List ℕ × ℕ) (others : Pairs) (key : List ℕ) → others ≡ [] → IsSome (value_in (pair ∷ others) key) → pair.0 ≡ key
+own-alone pair others key none some = elim (bytes_cases pair.0 key) [
+  | inl same ↦ same
+  | inr differ ↦ absurd (false≢true (sym (ap is_some (value_in-later pair others key differ ∙ ap (λ (pairs : Pairs). value_in pairs key) none)) ∙ some))
+]
+
+pub own-only : (key_length : ℕ) (chains : BTreeMap ℕ Pairs) (place : ℕ) (spot : Spot) (key : List ℕ) → btree_map_len chains ≡ 0 → IsHeld spot → IsSome (value_in (pairs_of key_length (others_at chains place) spot) key) → bytes_in key_length (text_of spot) ≡ key
+own-only key_length chains place (free next) key none is some = absurd is
+own-only key_length chains place (held value text) key none is some = own-alone (bytes_in key_length text, value) (others_at chains place) key (none-beside chains place none) some
 
 -- ---- the group
 

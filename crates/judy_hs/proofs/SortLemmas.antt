@@ -10,7 +10,7 @@ use Rattle.std.specs.FinMap.{find, is_sorted, entries, get, from_entries, get-fr
 use Rattle.std.specs.FinMap.Entries.{below_all}
 use Rattle.std.proofs.lemmas.Bool.{false_from_ne_true}
 use Rattle.std.proofs.lemmas.List.{length-take, drop_at, drop_all, drop-map, take_at, take_all, take-map, take-append-drop, append-nil, map-append, length-drop, length-map, get_or-map}
-use Rattle.std.proofs.lemmas.List.Sorted.{IsPermutation-sym, IsPermutation-map, Contains-permutation}
+use Rattle.std.proofs.lemmas.List.Sorted.{IsPermutation-sym, IsPermutation-trans, IsPermutation-map, Contains-permutation}
 use Rattle.std.proofs.lemmas.Map.Keys.{IsDistinct-IsPermutation, apart_from_distinct, sorted_from_all_adjacent}
 use Rattle.std.proofs.lemmas.Option.{none-some}
 use Rattle.judy_model.specs.Keys.{byte_order}
@@ -162,20 +162,20 @@ keys_listed : (xs : List HsEntry) → map (λ (p : List ℕ × ℕ). p.0) (entri
 keys_listed [] = refl
 keys_listed (x ∷ xs) = ap (λ (more : List (List ℕ)). key_bytes x.key ∷ more) (keys_listed xs)
 
--- Pairs were put behind those of a list, and then the entries from there on were sorted.
-module _ (before added : Pairs) (middle new : List HsEntry) (start : ℕ) (long : start ≡ length before) (put : entries_in middle ≡ before ++ added) where
+-- Pairs were put behind those of a list in any order, and then the entries from there on were sorted.
+module _ (before all added : Pairs) (middle new : List HsEntry) (start : ℕ) (long : start ≡ length before) (put : entries_in middle ≡ before ++ added) where
   front_kept : take start new ≡ take start middle → entries_in (take start new) ≡ before
   front_kept same = ap entries_in same ∙ sym (take-map (λ (entry : HsEntry). (key_bytes entry.key, entry.value)) start middle) ∙ ap (take start) put ∙ take_at before added start (sym long)
 
   rest_added : entries_in (drop start middle) ≡ added
   rest_added = sym (drop-map (λ (entry : HsEntry). (key_bytes entry.key, entry.value)) start middle) ∙ ap (drop start) put ∙ drop_at before added start (sym long)
 
-  pub sorted_behind : AreApart added → take start new ≡ take start middle → IsPermutation (drop start middle) (drop start new) → IsSortedBy is_before (drop start new) → entries_in new ≡ before ++ entries (from_entries {R = byte_order} added)
-  sorted_behind apart same moved sorted =
+  pub sorted_behind : AreApart all → IsPermutation all added → take start new ≡ take start middle → IsPermutation (drop start middle) (drop start new) → IsSortedBy is_before (drop start new) → entries_in new ≡ before ++ entries (from_entries {R = byte_order} all)
+  sorted_behind apart any same moved sorted =
       let pair : HsEntry → List ℕ × ℕ = λ entry. (key_bytes entry.key, entry.value) in
-      let pairs_moved : IsPermutation added (entries_in (drop start new)) = subst (λ xs. IsPermutation xs (entries_in (drop start new))) rest_added (IsPermutation-map pair (drop start middle) (drop start new) moved) in
+      let pairs_moved : IsPermutation all (entries_in (drop start new)) = IsPermutation-trans all added (entries_in (drop start new)) any (subst (λ xs. IsPermutation xs (entries_in (drop start new))) rest_added (IsPermutation-map pair (drop start middle) (drop start new) moved)) in
       let one : map (λ (p : List ℕ × ℕ). p.0) (entries_in (drop start new)) ≡ map (λ (entry : HsEntry). key_bytes entry.key) (drop start new) = keys_listed (drop start new) in
-      let differ = keys_still_differ added (entries_in (drop start new)) apart pairs_moved in
+      let differ = keys_still_differ all (entries_in (drop start new)) apart pairs_moved in
       let ascending = strictly (λ (entry : HsEntry). key_bytes entry.key) (drop start new) (subst (IsDistinct bytes_eq) one differ) sorted in
       ap entries_in (sym (take-append-drop start new)) ∙ map-append pair (take start new) (drop start new)
-      ∙ (λ t. front_kept same t ++ sorted_list added (entries_in (drop start new)) apart pairs_moved (subst (IsStrictlySortedBy byte_order) (sym one) ascending) t)
+      ∙ (λ t. front_kept same t ++ sorted_list all (entries_in (drop start new)) apart pairs_moved (subst (IsStrictlySortedBy byte_order) (sym one) ascending) t)

@@ -1,6 +1,7 @@
 -- The entries of an array as a list: by the lengths of their keys, and those of one length by their bytes.
-use Rattle.std.specs.Prelude.{◌≤◌, ℕ, Bool, List, [], map}
+use Rattle.std.specs.Prelude.{◌≡◌, ◌≤◌, ◌++◌, ℕ, Bool, List, [], map}
 use Rattle.std.specs.List.{flat_map}
+use Rattle.std.specs.List.Sorted.{IsPermutation}
 use Rattle.std.specs.Ordering.{is_lt}
 use Rattle.std.specs.FinMap.{entries, from_entries}
 use Rattle.judy_model.specs.Keys.{word_order, byte_order}
@@ -32,11 +33,19 @@ entries_in entries = map (λ entry. (key_bytes entry.key, entry.value)) entries
 abbrev pub short_list : ℕ → ArrayOf word_order → Pairs
 short_list key_length words = map (λ entry. (low_bytes key_length entry.0, entry.1)) (entries words.map)
 
+-- The places to which the hashes of a group lead, in the order of the hashes.
+abbrev pub places_of : Long → List ℕ
+places_of group = map (λ entry. entry.1) (entries group.hashes.map)
+
 -- The chains of a group, one after the other.
 abbrev pub chained : Long → Pairs
 chained group = flat_map (λ entry. chain_at group entry.1) (entries group.hashes.map)
 
--- The same by the bytes of the keys.
+-- Its pairs were listed behind others, in any order.
+abbrev pub AreListed : Long → Pairs → Pairs → Type 0
+AreListed group before after = (added : Pairs) × IsPermutation (chained group) added × (after ≡ before ++ added)
+
+-- Its pairs by the bytes of the keys.
 abbrev pub long_list : Long → Pairs
 long_list group = entries (from_entries {R = byte_order} (chained group))
 

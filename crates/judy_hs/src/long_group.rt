@@ -1,13 +1,15 @@
 //! The keys of one length above 8 bytes, by their hashes. A hash leads to a place, which has the record of a key. Where other keys share
 //! the hash, a chain has these (shared.rt).
 
-ghost use Rattle.std.specs.Prelude.{ℕ, ◌≡◌, ◌≢◌, [], ◌<◌, IfOk, OnOk, OnErr, None, Some, MatchOption, ◌++◌, ◌↔◌, IsTrue, IsSome, IfSome, length};
+ghost use Rattle.std.specs.Prelude.{ℕ, ◌≡◌, ◌≢◌, [], ◌<◌, IfOk, OnOk, OnErr, None, Some, MatchOption, ◌++◌, ◌↔◌, IsTrue, IsSome, IfSome, All, length};
+ghost use Rattle.std.specs.List.{flat_map};
+ghost use Rattle.std.specs.List.Sorted.{IsPermutation};
 ghost use Rattle.std.specs.FinMap.{get, empty, len as map_len};
 ghost use Rattle.std.specs.Borrow.{sem};
 ghost use Rattle.std.specs.Option.{option_copied_mut};
 ghost use Rattle.judy_records.specs.Spots.{IsHeld, spot_at, text_of};
 ghost use Rattle.judy_records.specs.Texts.{bytes_in};
-ghost use Rattle.judy_hs.specs.LongRecords.{IsSpelled};
+ghost use Rattle.judy_hs.specs.LongRecords.{IsSpelled, others_at, pairs_of};
 ghost use Rattle.judy_hs.specs.Chains.{value_in};
 ghost use Rattle.judy_hs.specs.Listed.{entries_in};
 
@@ -56,12 +58,31 @@ fn is_key(records: &Records, key_length: usize, place: usize, key: &[u8]) -> boo
     key.len() == key_length && records.is_of(place, key)
 }
 
+// The same for a key that stands at the place, in its record or among the others. Where no two keys share a hash no byte is looked at.
+fn is_own(
+    records: &Records,
+    chains: &BTreeMap<usize, Chain>,
+    key_length: usize,
+    place: usize,
+    key: &[u8],
+) -> bool
+    requires held { IsHeld (spot_at records.now place) }
+    requires spelled { IsSpelled key_length (spot_at records.now place) }
+    requires there { IsSome (value_in (pairs_of key_length (others_at chains.now place) (spot_at records.now place)) key.now) }
+    ensures { IsTrue result ↔ bytes_in key_length (text_of (spot_at records.now place)) ≡ key.now }
+{
+    if chains.is_empty() {
+        return true;
+    }
+    is_key(records, key_length, place, key)
+}
+
 impl LongGroup {
     ghost use Rattle.judy_hs.specs.LongGroups.{one_long, in_long, in_chain, chain_at, IsLed, IsLongPlace, IsAdded, value_of_place, without_key};
     ghost use Rattle.judy_hs.specs.Trials.{IfAdded, UnlessAdded, UnlessOpen, IfOpen};
     ghost use Rattle.judy_hs.specs.LongLends.{LendsLong};
     ghost use Rattle.judy_hs.specs.Chains.{AreApart};
-    ghost use Rattle.judy_hs.specs.Listed.{chained, long_list};
+    ghost use Rattle.judy_hs.specs.Listed.{chained, long_list, places_of, AreListed};
     ghost use Rattle.judy_hs.specs.Values.{AreWords};
 
     // The group of one key, with the value 0.
@@ -134,7 +155,7 @@ impl LongGroup {
         ensures* writes_back { sem 𝓛 (LendsLong self.entry place key.now result) }
         ensures value { option_copied_mut result ≡ value_of_place self.old place key.now }
     {
-        if is_key(&self.records, self.key_length, place, key) {
+        if is_own(&self.records, &self.chains, self.key_length, place, key) {
             return Some(self.records.slot(place));
         }
         match self.chains.get_mut(&place) {
@@ -210,7 +231,7 @@ impl LongGroup {
         requires is_there { IsSome (value_in (chain_at self.old place) key.now) }
         ensures { self.new ≡ without_key self.old hash place key.now }
     {
-        if !is_key(&self.records, self.key_length, place, key) {
+        if !is_own(&self.records, &self.chains, self.key_length, place, key) {
             leave(&mut self.chains, place, key);
             return;
         }
@@ -243,17 +264,43 @@ impl LongGroup {
         ensures { OnOk result (entries_in list.new.items ≡ entries_in list.old.items ++ long_list self.now) }
     {
         let start = list.len();
-        self.list_places(list)?;
+        self.list_unsorted(list)?;
         sort_from(list, start);
         Ok(())
     }
 
-    // Adds its keys with their values to a list, place by place.
-    fn list_places<'a>(&'a self, list: &mut Vec<HsEntry<'a>>) -> Result<(), AllocError>
-        ensures { OnOk result (entries_in list.new.items ≡ entries_in list.old.items ++ chained self.now) }
+    // Adds them in the order of their places. Where keys were put in by their bytes, most of them come so, and the sort goes through memory in order.
+    fn list_unsorted<'a>(&'a self, list: &mut Vec<HsEntry<'a>>) -> Result<(), AllocError>
+        ensures { OnOk result (AreListed self.now (entries_in list.old.items) (entries_in list.new.items)) }
     {
+        let places = self.places(*list.allocator())?;
+        self.list_places(&places, list)
+    }
+
+    // The places to which hashes lead, in ascending order.
+    fn places(&self, alloc: Global) -> Result<Vec<u64>, AllocError>
+        ensures places { IfOk result (λ places. IsPermutation (places_of self.now) places.items) }
+        ensures used { IfOk result (λ places. All (λ place. chain_at self.now place ≢ []) places.items) }
+    {
+        let mut places = Vec::with_capacity(alloc, self.hashes.len() as usize)?;
         'hashes: for (_, place) in &self.hashes {
-            self.list_place(place as usize, list)?;
+            places.push(place)?;
+        }
+        places.sort_unstable();
+        Ok(places)
+    }
+
+    // Adds the keys at places with their values to a list, place by place.
+    fn list_places<'a>(
+        &'a self,
+        places: &[u64],
+        list: &mut Vec<HsEntry<'a>>,
+    ) -> Result<(), AllocError>
+        requires { All (λ place. chain_at self.now place ≢ []) places.now }
+        ensures { OnOk result (entries_in list.new.items ≡ entries_in list.old.items ++ flat_map (chain_at self.now) places.now) }
+    {
+        for place in places {
+            self.list_place(*place as usize, list)?;
         }
         Ok(())
     }

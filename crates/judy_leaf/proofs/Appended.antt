@@ -1,15 +1,17 @@
 -- The pairs of a leaf written into its block one part after the other: the values, then the keys.
-use Rattle.std.proofs.Common.{◌≡◌, ℕ, zero, suc, ◌+◌, ◌-◌, ◌*◌, ◌/◌, ◌%◌, ◌^◌, ◌<◌, List, [], ◌∷◌, ◌++◌, length, take, drop, replicate, get_or, set, refl, ap, sym, ◌∙◌, subst, arith, append_assoc, length-append}
+use Rattle.std.proofs.Common.{◌≡◌, ℕ, zero, suc, ◌+◌, ◌-◌, ◌*◌, ◌/◌, ◌%◌, ◌^◌, ◌<◌, ◌≤◌, List, [], ◌∷◌, ◌++◌, length, take, drop, replicate, get_or, set, refl, ap, sym, ◌∙◌, subst, arith, append_assoc, length-append}
 use Rattle.std.specs.List.{AllByRecursion, insert}
 use Rattle.std.proofs.Math.Nat.{div-eq_of_lt}
+use Rattle.std.proofs.lemmas.Nat.{mod_below}
 use Rattle.std.proofs.lemmas.List.{append-nil, take_all, drop_all, take_more, take_more_set, length-replicate, take-append-le}
 use Rattle.judy_block.specs.Contents.{Contents, with_gap}
-use Rattle.judy_leaf.specs.Packing.{IsPacked, IsWidth}
+use Rattle.judy_leaf.specs.Packing.{IsPacked, IsTight, IsWidth}
 use Rattle.judy_leaf.specs.KeyLists.{keys_of, values_of, pairs_of, low_pairs}
 use Rattle.judy_leaf.specs.Leaves.{words_for, keys_from, leaf_list, AreKeysFrom}
 use Rattle.judy_leaf.specs.KeyChanges.{IsKeyChange}
 use Rattle.judy_leaf.proofs.Placed.{per_pos}
 use Rattle.judy_leaf.proofs.Filled.{insert_last}
+use Rattle.judy_leaf.proofs.WholeWords.{keys_are, fits_word, words_are, packed_words}
 
 -- ---- values
 
@@ -113,6 +115,57 @@ keys_done width start at n keys before after end long done =
       keys = there.keys;
       changed = there.changed ∙ take_all n keys (omega arith);
     }
+
+-- ---- keys of which a word holds one, in one gap
+
+pub keys_below : (unit : ℕ) (some : 0 < unit) (pairs : List (ℕ × ℕ)) → AllByRecursion (λ key. key < unit) (keys_of (low_pairs unit pairs))
+keys_below unit some [] = tt
+keys_below unit some (pair ∷ pairs) = (mod_below pair.0 unit some, keys_below unit some pairs)
+
+-- The next key written.
+pub key_written : (words front keys : List ℕ) (start place at key : ℕ) → place ≡ start + at → place < length words → at < length keys → key ≡ get_or keys at 0 → take (start + at) words ≡ front ++ take at keys
+    → take (start + (at + 1)) (set words place key) ≡ front ++ take (at + 1) keys
+key_written words front keys start place at key is room inside same so_far =
+    let next : start + (at + 1) ≡ place + 1 = omega arith in
+    ap (λ n. take n (set words place key)) next
+    ∙ take_more_set words place key room
+    ∙ ap (λ l. l ++ key ∷ []) (ap (λ n. take n words) is ∙ so_far)
+    ∙ append_assoc front (take at keys) (key ∷ [])
+    ∙ ap (λ k. front ++ (take at keys ++ k ∷ [])) same
+    ∙ ap (λ l. front ++ l) (sym (take_more keys at 0 (omega arith)))
+
+drop_front : (words keys : List ℕ) (start : ℕ) → start ≡ length words → drop start (words ++ keys) ≡ keys
+drop_front [] keys zero is = refl
+drop_front [] keys (suc start) is = let never : ⊥ = omega arith in absurd never
+drop_front (x ∷ words) keys zero is = let never : ⊥ = omega arith in absurd never
+drop_front (x ∷ words) keys (suc start) is = drop_front words keys start (omega arith)
+
+module _ (width : ℕ) (is_width : IsWidth width) (one : 8 / width ≡ 1) where
+  all_tight : (keys : List ℕ) → AllByRecursion (λ key. key < 256 ^ width) keys → AllByRecursion (IsTight width) keys
+  all_tight [] below = tt
+  all_tight (key ∷ keys) below = (fits_word width is_width one key below.0, all_tight keys below.1)
+
+  -- All keys written.
+  pub keys_written : (start n at : ℕ) (keys : List ℕ) (before gap after : Contents) → gap ≡ record before { words = with_gap start n before.words } → start ≡ length before.words
+      → after.capacity ≡ gap.capacity → after.tag ≡ gap.tag → length after.words ≡ length gap.words → at ≡ n → length keys ≡ n → n ≤ 32
+      → take (start + at) after.words ≡ take start gap.words ++ take at keys → AllByRecursion (λ key. key < 256 ^ width) keys → IsKeyChange width start 0 n (λ _. keys) before after
+  keys_written start n at keys before gap after opened is capacity tag long end many few so_far below =
+      let behind : gap.words ≡ before.words ++ replicate n 0 = ap (λ b. b.words) opened ∙ gap_behind before.words start n is in
+      let all = ap length behind ∙ gap_length before.words n in
+      let front : take start gap.words ≡ before.words = ap (take start) behind ∙ gap_front before.words start n is in
+      let words : after.words ≡ before.words ++ keys = sym (take_all (start + at) after.words (omega arith)) ∙ so_far ∙ (λ t. front t ++ take_all at keys (omega arith) t) in
+      let back : drop start after.words ≡ keys = ap (drop start) words ∙ drop_front before.words keys start is in
+      let as_many = words_are width is_width one n in
+      let sum = ap length words ∙ length-append before.words keys in
+      let exact : length after.words ≡ start + words_for width n = omega arith in
+      let packed : IsPacked width n (drop start after.words) = subst (IsPacked width n) (sym back) (packed_words width is_width one n keys many (all_tight keys below)) in
+      record {
+        capacity = capacity ∙ ap (λ b. b.capacity) opened;
+        tag = tag ∙ ap (λ b. b.tag) opened;
+        front = ap (take start) words ∙ take-append-le start before.words keys (omega arith);
+        keys = record { few = few; exact = exact; packed = packed };
+        changed = keys_are width is_width one n (drop start after.words) packed ∙ ap (take n) back ∙ take_all n keys (omega arith);
+      }
 
 -- ---- pairs
 

@@ -8,7 +8,7 @@ use Rattle.judy_bits.specs.ByteSets.{IsByteSet}
 use Rattle.judy_model.proofs.ByteLemmas.{unit_pos}
 use Rattle.judy_bits.proofs.MemberLemmas.{members_of-IsByteSet}
 use Rattle.judy_block.specs.Contents.{Contents}
-use Rattle.judy_leaf.specs.KeyLists.{KeyList, keys_of, values_of, pairs_of, shift, IsKeyList}
+use Rattle.judy_leaf.specs.KeyLists.{KeyList, keys_of, pairs_of, IsKeyList}
 use Rattle.judy_leaf.specs.Packing.{places, places_of, keys_in}
 use Rattle.judy_leaf.specs.Leaves.{leaf_list, keys_from, IsLeafParts}
 use Rattle.judy_leaf.specs.BitLeaves.{bit_keys}
@@ -69,8 +69,6 @@ leaf_keys_are words count block list level is = subst IsKeyList is (record {
   below = leaf_below words count block (leaf_list words count block) refl;
 })
 
--- ---- pairs written one after another
-
 pub key_below : (top : ℕ) (pairs : List (ℕ × ℕ)) (at : ℕ) → AllByRecursion (λ key. key < top) (keys_of pairs) → at < length pairs → get_or (keys_of pairs) at 0 < top
 key_below top [] at below inside = let never : ⊥ = omega arith in absurd never
 key_below top (pair ∷ pairs) zero below inside = below.0
@@ -78,16 +76,3 @@ key_below top (pair ∷ pairs) (suc at) below inside = key_below top pairs at be
 
 pub byte_below : (pairs : List (ℕ × ℕ)) (at : ℕ) → IsByteSet (keys_of pairs) → at < length pairs → get_or (keys_of pairs) at 0 < 256
 byte_below pairs at is inside = key_below 256 pairs at (all_bytes (keys_of pairs) is.bytes) inside
-
-pub length-shift : (by : ℕ) (pairs : List (ℕ × ℕ)) → length (shift by pairs) ≡ length pairs
-length-shift by [] = refl
-length-shift by (pair ∷ pairs) = ap suc (length-shift by pairs)
-
--- The next pair.
-pub shift_more : (by : ℕ) (pairs : List (ℕ × ℕ)) (at : ℕ) → at < length pairs → take at (shift by pairs) ++ (by + get_or (keys_of pairs) at 0, get_or (values_of pairs) at 0) ∷ [] ≡ take (at + 1) (shift by pairs)
-shift_more by pairs at inside = more by pairs at inside ∙ ap (λ n. take n (shift by pairs)) (let e : suc at ≡ at + 1 = omega arith in e)
-  where
-    more : (by : ℕ) (pairs : List (ℕ × ℕ)) (at : ℕ) → at < length pairs → take at (shift by pairs) ++ (by + get_or (keys_of pairs) at 0, get_or (values_of pairs) at 0) ∷ [] ≡ take (suc at) (shift by pairs)
-    more by [] at inside = let never : ⊥ = omega arith in absurd never
-    more by (pair ∷ pairs) zero inside = refl
-    more by (pair ∷ pairs) (suc at) inside = ap (λ rest. (by + pair.0, pair.1) ∷ rest) (more by pairs at (omega arith))

@@ -45,7 +45,7 @@ module _ (width : ℕ) (is : IsWidth width) (one : 8 / width ≡ 1) where
       let power : (256 ^ width) ^ (8 / width) ≡ 256 ^ width = ap (λ n. (256 ^ width) ^ n) one ∙ pow-suc (256 ^ width) 0 ∙ ap (λ n. n * 256 ^ width) (pow-zero (256 ^ width)) ∙ omega arith in
       subst (λ bound. word < bound) power tight
 
-  fits_word : (word : ℕ) → word < 256 ^ width → IsTight width word
+  pub fits_word : (word : ℕ) → word < 256 ^ width → IsTight width word
   fits_word word below =
       let power : (256 ^ width) ^ (8 / width) ≡ 256 ^ width = ap (λ n. (256 ^ width) ^ n) one ∙ pow-suc (256 ^ width) 0 ∙ ap (λ n. n * 256 ^ width) (pow-zero (256 ^ width)) ∙ omega arith in
       subst (λ bound. word < bound) (sym power) below
@@ -60,13 +60,13 @@ module _ (width : ℕ) (is : IsWidth width) (one : 8 / width ≡ 1) where
   pub keys_are : (count : ℕ) (words : List ℕ) → IsPacked width count words → keys_in width count words ≡ take count words
   keys_are count words packed = ap (take count) (places_are words packed.tight)
 
-  words_are : (count : ℕ) → words_for width count ≡ count
+  pub words_are : (count : ℕ) → words_for width count ≡ count
   words_are count = (λ t. (count + (one t - 1)) / one t) ∙ whole count
     where
       whole : (n : ℕ) → (n + (1 - 1)) / 1 ≡ n
       whole n = omega arith
 
-  packed_words : (count : ℕ) (words : List ℕ) → length words ≡ count → AllByRecursion (IsTight width) words → IsPacked width count words
+  pub packed_words : (count : ℕ) (words : List ℕ) → length words ≡ count → AllByRecursion (IsTight width) words → IsPacked width count words
   packed_words count words long tight =
       let all : length words * (8 / width) ≡ count = ap (λ n. length words * n) one ∙ omega arith in
       record {

@@ -11,3 +11,4 @@ pub mod BitChanges
 pub mod Nearby
 pub mod Searches
 pub mod Fills
+pub mod NextBits

@@ -6,6 +6,7 @@ ghost use Rattle.judy_model.specs.Keys.{word_order};
 ghost use Rattle.judy_model.specs.Nearest.{IsFirst, IsLast};
 ghost use Rattle.judy_bits.specs.ByteSets as set;
 ghost use Rattle.judy_bits.specs.ByteSets.{IsByteSet};
+ghost use Rattle.judy_bits.specs.BitWords.{members_of};
 ghost use Rattle.judy_leaf.specs.KeyLists.{keys_of, values_of, IsKeyList};
 ghost use Rattle.judy_leaf.specs.BitLeaves.{IsBitParts, bit_list};
 ghost use Rattle.judy_leaf.specs.Nearby.{pair_from, pair_up_to, is_absent};
@@ -54,7 +55,16 @@ impl<'a, V: Words + Drop> BitRef<'a, V> {
         ensures value { result ≡ keys_of self.now.pairs }
         ensures is_set { IsByteSet (keys_of self.now.pairs) }
     {
-        BitsRef::of_words(&self.block.words()[..4])
+        BitsRef::of_words(self.bit_words())
+    }
+
+    // The four words whose bits they are.
+    pub(crate) fn bit_words(&self) -> &[u64]
+        ensures four { length result.now ≡ 4 }
+        ensures keys { members_of result.now ≡ keys_of self.now.pairs }
+        ensures is_set { IsByteSet (keys_of self.now.pairs) }
+    {
+        &self.block.words()[..4]
     }
 
     /// A law, told by a call that does nothing: the keys are a set of bytes.
@@ -104,6 +114,8 @@ impl<'a, V: Words + Drop> BitRef<'a, V> {
     }
 
     /// The place of a key; none where the word isn't one of the keys.
+    // At the end of each look-up among dense keys, for which a call would cost as much as the count.
+    #[inline(always)]
     pub fn find(&self, key: u64) -> Option<usize>
         ensures { result ≡ set.place (keys_of self.now.pairs) key }
     {

@@ -3,12 +3,12 @@
 ghost use Rattle.std.specs.Prelude.{◌≡◌, ◌+◌, ◌^◌, ◌≤◌, length, take, drop};
 ghost use Rattle.judy_leaf.specs.KeyLists.{shift};
 ghost use Rattle.judy_leaf.specs.Fills.{made_of};
-ghost use Rattle.judy_leaf.specs.Packing.{IsWidth};
 
 use crate::bit_ref::BitRef;
 use crate::from_pair::FromPair;
 use crate::imm::ImmOf;
 use crate::leaf_ref::LeafRef;
+use crate::next_bits::{left_from, take_next};
 use crate::words::Words;
 
 impl<V: Words + Drop> ImmOf<V> {
@@ -104,11 +104,11 @@ impl<'a, V: Words + Drop> BitRef<'a, V> {
         if out.is_empty() {
             return;
         }
-        let mut byte = self.key_at(at);
+        let words = self.bit_words();
+        let (mut word, mut left) = left_from(words, self.key_at(at));
         for place in 0..out.len() {
-            let key = self.next_key(byte);
+            let key = take_next(words, &mut word, &mut left);
             out[place] = E::from_pair(base + key, self.value_at(at + place));
-            byte = key + 1;
         }
     }
 }

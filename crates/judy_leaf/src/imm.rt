@@ -62,6 +62,24 @@ impl<V: Words + Drop> ImmOf<V> {
         }
     }
 
+    /// An immediate of one key of `width` bytes, 1 to 8, with its value, which is 0 where keys have no value.
+    #[tactic(auto, using(crate::proofs::OneKey::one_list))]
+    pub fn one(width: u8, key: u64, value: u64) -> ImmOf<V>
+        requires words { V.WORDS ≤ 1 }
+        requires width { IsWidth width }
+        requires below { key < 256 ^ width }
+        requires no_value { V.WORDS ≡ 0 → value ≡ 0 }
+        ensures { result ≡ record { width = width; pairs = (key, value) ∷ [] } }
+    {
+        ImmOf {
+            width,
+            count: 1,
+            keys: key,
+            value,
+            words: PhantomData,
+        }
+    }
+
     /// A law, told by a call that does nothing: the keys ascend and have `width` bytes.
     pub fn told(&self)
         ensures { IsKeyList self.now }
@@ -210,6 +228,21 @@ impl<V: Words + Drop> ImmOf<V> {
     /// The immediate of pairs, no more than fit, whose keys are read by their lowest `width` bytes, 1 to 8; these strictly ascend.
     /// Where keys have no value, each value is 0.
     pub fn from_sorted(width: u8, pairs: &[(u64, u64)]) -> ImmOf<V>
+        requires words { V.WORDS ≤ 1 }
+        requires list { IsKeyList (record { width = width; pairs = low_pairs (256 ^ width) pairs.now }) }
+        requires few { length pairs.now ≤ imm_room V.WORDS width }
+        requires no_values { V.WORDS ≡ 0 → AllByRecursion (λ pair. pair.1 ≡ 0) pairs.now }
+        ensures { result ≡ record { width = width; pairs = low_pairs (256 ^ width) pairs.now } }
+    {
+        if pairs.len() == 1 {
+            let (key, value) = pairs[0];
+            return ImmOf::one(width, low_part(key, usize::from(width)), value);
+        }
+        ImmOf::few_of_sorted(width, pairs)
+    }
+
+    // The same, one key after another.
+    fn few_of_sorted(width: u8, pairs: &[(u64, u64)]) -> ImmOf<V>
         requires words { V.WORDS ≤ 1 }
         requires list { IsKeyList (record { width = width; pairs = low_pairs (256 ^ width) pairs.now }) }
         requires few { length pairs.now ≤ imm_room V.WORDS width }

@@ -306,6 +306,38 @@ fn append_in<const W: usize>(block: &mut Block, start: usize, pairs: &[(u64, u64
     requires room { start + words_for W (length pairs.now) ≤ block.old.capacity }
     ensures { IsKeyChange W start 0 (length pairs.now) (λ _. keys_of (low_pairs (256 ^ W) pairs.now)) block.old block.new }
 {
+    if 8 / W == 1 {
+        append_words::<W>(block, start, pairs);
+    } else {
+        append_packed::<W>(block, start, pairs);
+    }
+}
+
+// The same where a word has one key: the words are made at once.
+fn append_words<const W: usize>(block: &mut Block, start: usize, pairs: &[(u64, u64)])
+    requires width { IsWidth W }
+    requires one { 8 / W ≡ 1 }
+    requires start { start ≤ 32 }
+    requires few { length pairs.now ≤ 32 }
+    requires behind { length block.old.words ≡ start }
+    requires room { start + words_for W (length pairs.now) ≤ block.old.capacity }
+    ensures { IsKeyChange W start 0 (length pairs.now) (λ _. keys_of (low_pairs (256 ^ W) pairs.now)) block.old block.new }
+{
+    block.open_gap(start, pairs.len());
+    for at in 0..pairs.len() {
+        block.put(start + at, low_part(pairs[at].0, W));
+    }
+}
+
+// The same where a word has more.
+fn append_packed<const W: usize>(block: &mut Block, start: usize, pairs: &[(u64, u64)])
+    requires width { IsWidth W }
+    requires start { start ≤ 32 }
+    requires few { length pairs.now ≤ 32 }
+    requires behind { length block.old.words ≡ start }
+    requires room { start + words_for W (length pairs.now) ≤ block.old.capacity }
+    ensures { IsKeyChange W start 0 (length pairs.now) (λ _. keys_of (low_pairs (256 ^ W) pairs.now)) block.old block.new }
+{
     for at in 0..pairs.len() {
         insert_in::<W>(block, start, at, at, low_part(pairs[at].0, W));
     }

@@ -4,7 +4,8 @@ ghost use Rattle.std.specs.Prelude.{◌≡◌, ◌+◌, ◌*◌, ◌<◌, ◌≤
 ghost use Rattle.std.specs.List.{remove, AllByRecursion};
 ghost use Rattle.judy_bits.specs.ByteSets as set;
 ghost use Rattle.judy_leaf.specs.KeyLists.{keys_of, values_of, with_pair, with_value_at, low_pairs, IsKeyList};
-ghost use Rattle.judy_leaf.specs.Leaves.{IsLeafParts, leaf_list};
+ghost use Rattle.judy_leaf.specs.Leaves.{IsLeafParts, leaf_list, words_for};
+ghost use Rattle.judy_leaf.specs.Packing.{IsWidth};
 
 use crate::in_place::put_in_leaf;
 use crate::leaf_ref::LeafRef;
@@ -133,8 +134,54 @@ impl<V: Words + Drop> LeafOf<V> {
         requires no_values { V.WORDS ≡ 0 → AllByRecursion (λ pair. pair.1 ≡ 0) pairs.now }
         ensures { IfOk result (λ leaf. leaf ≡ record { width = width; pairs = low_pairs (256 ^ width) pairs.now }) }
     {
-        let needed = V::WORDS * pairs.len() + keys::words_of(usize::from(width), pairs.len());
-        let mut block = Block::new(alloc, needed / 4 * 4 + 4)?;
+        let needed = LeafOf::<V>::words_needed(width, pairs);
+        LeafOf::filled(alloc, width, pairs, needed / 4 * 4 + 4)
+    }
+
+    /// The same in a block that has room for hardly more: with its header it fills what the allocator gives, 8 bytes beside whole sixteens.
+    pub fn snug_from_sorted(
+        alloc: Global,
+        width: u8,
+        pairs: &[(u64, u64)],
+    ) -> Result<LeafOf<V>, AllocError>
+        requires words { V.WORDS ≤ 1 }
+        requires list { IsKeyList (record { width = width; pairs = low_pairs (256 ^ width) pairs.now }) }
+        requires few { length pairs.now ≤ 32 }
+        requires no_values { V.WORDS ≡ 0 → AllByRecursion (λ pair. pair.1 ≡ 0) pairs.now }
+        ensures { IfOk result (λ leaf. leaf ≡ record { width = width; pairs = low_pairs (256 ^ width) pairs.now }) }
+    {
+        let needed = LeafOf::<V>::words_needed(width, pairs);
+        LeafOf::filled(alloc, width, pairs, (needed.max(1) + 1) / 2 * 2)
+    }
+
+    // How many words of a block the pairs take.
+    fn words_needed(width: u8, pairs: &[(u64, u64)]) -> usize
+        requires words { V.WORDS ≤ 1 }
+        requires width { IsWidth width }
+        requires few { length pairs.now ≤ 32 }
+        ensures value { result ≡ V.WORDS * length pairs.now + words_for width (length pairs.now) }
+        ensures within { result ≤ 65 }
+    {
+        V::WORDS * pairs.len() + keys::words_of(usize::from(width), pairs.len())
+    }
+
+    // The same in a block of a capacity, into which they fit.
+    fn filled(
+        alloc: Global,
+        width: u8,
+        pairs: &[(u64, u64)],
+        capacity: usize,
+    ) -> Result<LeafOf<V>, AllocError>
+        requires words { V.WORDS ≤ 1 }
+        requires list { IsKeyList (record { width = width; pairs = low_pairs (256 ^ width) pairs.now }) }
+        requires few { length pairs.now ≤ 32 }
+        requires no_values { V.WORDS ≡ 0 → AllByRecursion (λ pair. pair.1 ≡ 0) pairs.now }
+        requires some { 1 ≤ capacity }
+        requires within { capacity ≤ 65535 }
+        requires room { V.WORDS * length pairs.now + words_for width (length pairs.now) ≤ capacity }
+        ensures { IfOk result (λ leaf. leaf ≡ record { width = width; pairs = low_pairs (256 ^ width) pairs.now }) }
+    {
+        let mut block = Block::new(alloc, capacity)?;
         block.set_tag(u32::from(width));
         pairs::put_all::<V>(&mut block, usize::from(width), pairs);
         Ok(LeafOf {

@@ -16,7 +16,8 @@
 //! where keys have one byte or two and by halves.rt where they have eight, gaps.rt follows keys that are neighbours to a number that is no key, and edit.rt changes the words
 //! of a block, place by place. keys.rt and one_word.rt know the width at run time and hand on to these. values.rt and pairs.rt put
 //! values beside the keys, fill.rt writes pairs into a slice, or what from_pair.rt makes of them, in_place.rt changes leaves whose parts stand in a node, convert.rt
-//! makes an immediate of a leaf's pairs and a leaf of an immediate's, and bit_edit.rt changes the block of a bitmap leaf. The crate
+//! makes an immediate of a leaf's pairs and a leaf of an immediate's, next_bits.rt has the bits of a bitmap leaf in turn, and bit_edit.rt
+//! changes its block. The crate
 //! stands on judy_model, judy_bits and judy_block; the nodes of the tree stand on it.
 #![tactic(auto)]
 
@@ -35,6 +36,7 @@ mod keys;
 mod lanes;
 mod leaf;
 mod leaf_ref;
+mod next_bits;
 mod one_word;
 mod packed;
 mod pairs;

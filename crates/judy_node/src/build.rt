@@ -10,7 +10,7 @@ ghost use Rattle.judy_node.specs.Built.{sharing, middle, IsBuilt, AreMade};
 use crate::child::{BranchOf, ChildOf, KindOf};
 use crate::head::Head;
 use crate::sums::Sums;
-use judy_bits::{ByteSet, Skip, low_part, moved_up, without_tail};
+use judy_bits::{Bits256, ByteSet, Skip, low_part, moved_up, without_tail};
 use judy_leaf::{BitLeafOf, ImmOf, LeafOf, Words};
 use std::alloc::{AllocError, Global};
 use std::marker::PhantomData;
@@ -23,20 +23,16 @@ fn byte_above(key: u64, below: u8) -> u8
     low_part(without_tail(key, usize::from(below)), 1) as u8
 }
 
-// How many bytes the keys of sorted pairs have there: so many children they will be.
+// How many bytes the keys of sorted pairs have there: so many children they will be. A bit is set for each, since whether the next key has
+// another byte can't be foreseen.
 fn bytes_above(pairs: &[(u64, u64)], below: u8) -> usize
     requires { below ≤ 7 }
 {
-    let mut count = 0;
-    let mut before = None;
+    let mut bits = Bits256::new();
     for pair in pairs {
-        let byte = byte_above(pair.0, below);
-        if before != Some(byte) {
-            count += 1;
-        }
-        before = Some(byte);
+        bits.add(byte_above(pair.0, below));
     }
-    count
+    bits.len()
 }
 
 // How many of the first pairs have a byte there.
@@ -73,6 +69,19 @@ pub fn most_in_immediate<V: Words + Drop>(width: u8) -> usize
         8 / usize::from(width)
     } else {
         1
+    }
+}
+
+// Whether an immediate holds so many keys of a width, 1 to 8 bytes: as `most_in_immediate`, without a division.
+fn fits_immediate<V: Words + Drop>(count: usize, width: u8) -> bool
+    requires { 1 ≤ width }
+    ensures few { IsTrue result → count ≤ immediate_limit V.WORDS width }
+    ensures more { IsFalse result → immediate_limit V.WORDS width < count }
+{
+    if V::WORDS == 0 {
+        count <= 8 && count * usize::from(width) <= 8
+    } else {
+        count <= 1
     }
 }
 
@@ -115,6 +124,24 @@ pub fn leaf_of_sorted<V: Words + Drop>(
     Ok(KindOf::Leaf(count, block))
 }
 
+// The same in a block that has room for hardly more, for a leaf that stands behind all others when it is made.
+fn snug_leaf<V: Words + Drop>(
+    alloc: Global,
+    width: u8,
+    pairs: &[(u64, u64)],
+) -> Result<KindOf<V>, AllocError>
+    requires one { V.WORDS ≤ 1 }
+    requires width { (1 ≤ width) × (width ≤ 8) }
+    requires more { immediate_limit V.WORDS width < length pairs.now }
+    requires within { length pairs.now ≤ 32 }
+    requires map { IsMap V.WORDS 0 (256 ^ width) (low_pairs (256 ^ width) pairs.now) }
+    ensures level { IfOk result (λ kind. IsLevel V.WORDS kind) }
+    ensures built { IfOk result (λ kind. IsBuilt V.WORDS width pairs.now (tree_of V.WORDS kind)) }
+{
+    let (count, block) = LeafOf::<V>::snug_from_sorted(alloc, width, pairs)?.into_parts();
+    Ok(KindOf::Leaf(count, block))
+}
+
 // A bitmap leaf of sorted pairs, whose keys are one byte.
 fn bits<V: Words + Drop>(alloc: Global, pairs: &[(u64, u64)]) -> Result<KindOf<V>, AllocError>
     requires one { V.WORDS ≤ 1 }
@@ -127,12 +154,13 @@ fn bits<V: Words + Drop>(alloc: Global, pairs: &[(u64, u64)]) -> Result<KindOf<V
     Ok(KindOf::Bit(Head::new(0), block))
 }
 
-// Makes the child of the first pairs, those of one byte, and puts it behind the others. The answer is the rest of the
-// pairs.
+// Makes the child of the first pairs, those of one byte, and puts it behind the others, and the byte among theirs. The answer is the rest of
+// the pairs.
 #[cycle(build)]
 fn add_group<'a, V: Words + Drop>(
     alloc: Global,
-    branch: &mut BranchOf<V>,
+    children: &mut Vec<ChildOf<V>>,
+    bytes: &mut Bits256,
     below: u8,
     pairs: &[(u64, u64)],
     rest: &'a [(u64, u64)],
@@ -141,21 +169,20 @@ fn add_group<'a, V: Words + Drop>(
     requires width { (1 ≤ below) × (below ≤ 7) }
     requires some { 0 < length rest.now }
     requires two { sharing (256 ^ below) 256 (middle (256 ^ below) 256 (slice_index_or pairs.now 0 (0, 0)).0) pairs.now < length pairs.now }
-    requires made { (next : ℕ) × AreMade V.WORDS below pairs.now rest.now branch.old.bytes branch.old.children.items next }
+    requires made { (next : ℕ) × AreMade V.WORDS below pairs.now rest.now bytes.old children.old.items next }
     ensures fewer { IfOk result (λ left. length left.now < length rest.now) }
-    ensures made { IfOk result (λ left. (next : ℕ) × AreMade V.WORDS below pairs.now left.now branch.new.bytes branch.new.children.items next) }
-    ensures others { (branch.new.skip ≡ branch.old.skip) × (branch.new.width ≡ branch.old.width) × (branch.new.population ≡ branch.old.population) }
+    ensures made { IfOk result (λ left. (next : ℕ) × AreMade V.WORDS below pairs.now left.now bytes.new children.new.items next) }
 {
     let byte = byte_above(rest[0].0, below);
     let end = group_end(rest, below, byte);
-    if branch.children.try_reserve(1).is_err() {
+    if children.try_reserve(1).is_err() {
         return Err(AllocError);
     }
     let Ok(child) = child_of_sorted(alloc, below, &rest[..end]) else {
         return Err(AllocError);
     };
-    branch.bytes.add(byte);
-    let Ok(()) = branch.children.push(child) else {
+    bytes.add(byte);
+    let Ok(()) = children.push(child) else {
         return Err(AllocError);
     };
     let (_, left) = rest.split_at(end);
@@ -176,8 +203,12 @@ pub fn child_of_sorted<V: Words + Drop>(
     requires map { IsMap V.WORDS 0 (256 ^ width) (low_pairs (256 ^ width) pairs.now) }
     ensures { IfOk result (λ child. IsBuilt V.WORDS width pairs.now child) }
 {
-    if pairs.len() <= most_in_immediate::<V>(width) {
+    if fits_immediate::<V>(pairs.len(), width) {
         return Ok(ChildOf::close(immediate_of_sorted(width, pairs)));
+    }
+    if pairs.len() <= 32 {
+        let leaf = snug_leaf(alloc, width, pairs)?;
+        return Ok(ChildOf::close(leaf));
     }
     let kind = kind_of_sorted(alloc, width, pairs)?;
     Ok(ChildOf::close(kind))
@@ -245,25 +276,26 @@ fn split<V: Words + Drop>(
     ensures level { IfOk result (λ kind. IsLevel V.WORDS kind × IsDeep kind) }
     ensures built { IfOk result (λ kind. IsBuilt V.WORDS (below + 1) pairs.now (tree_of V.WORDS kind)) }
 {
-    let Ok(children) = Vec::with_capacity(alloc, bytes_above(pairs, below)) else {
+    let Ok(mut children) = Vec::with_capacity(alloc, bytes_above(pairs, below)) else {
         return Err(AllocError);
     };
-    let mut branch = BranchOf {
-        children,
-        skip: Skip::new(&[]),
-        width: below,
-        bytes: ByteSet::new(),
-        population: pairs.len() as u64,
-        sums: Sums::none(),
-        words: PhantomData,
-    };
+    let mut bytes = Bits256::new();
     let mut rest = pairs;
     while !rest.is_empty() {
-        let Ok(left) = add_group(alloc, &mut branch, below, pairs, rest) else {
+        let Ok(left) = add_group(alloc, &mut children, &mut bytes, below, pairs, rest) else {
             return Err(AllocError);
         };
         rest = left;
     }
+    let mut branch = BranchOf {
+        children,
+        skip: Skip::new(&[]),
+        width: below,
+        bytes: ByteSet::of_bits(bytes),
+        population: pairs.len() as u64,
+        sums: Sums::none(),
+        words: PhantomData,
+    };
     branch.sums = branch.sums_of_children(alloc);
     match Box::new(alloc, branch) {
         Ok(branch) => Ok(KindOf::Branch(branch)),

@@ -15,7 +15,8 @@ use Rattle.judy_bits.specs.ByteSets.{has, rank}
 use Rattle.judy_bits.proofs.SetLemmas.{has_at, rank_at, slice_get-rank, filter_all, not_below}
 use Rattle.judy_leaf.specs.KeyLists.{keys_of, shift}
 use Rattle.judy_leaf.proofs.Nearest.{up_to-rank, up_to-member, absent_at}
-use Rattle.judy_node.specs.Trees.{Tree, IsChild, IsBranch, branch_pairs}
+use Rattle.judy_leaf.proofs.LeafLists.{rank_within}
+use Rattle.judy_node.specs.Trees.{Pairs, Tree, IsChild, IsBranch, branch_pairs}
 use Rattle.judy_node.specs.Steps.{IsStep}
 use Rattle.judy_node.specs.declared.step.Step.{Step}
 use Rattle.judy_node.specs.declared.step.Step.TheVariants.{Missing, Below, Above}
@@ -90,6 +91,26 @@ rank_all words width skipped bytes kids count is =
 pub byte_some : (xs : List ℕ) (byte at : ℕ) → rank xs byte ≡ at → 0 < at → 0 < byte
 byte_some xs zero at ranked some = let none = rank_zero xs in let never : ⊥ = omega arith in absurd never
 byte_some xs (suc byte) at ranked some = omega arith
+
+-- The byte before one below which some are, and the place before theirs.
+pub record IsPrevious (bytes : List ℕ) (byte at : ℕ) : Type 0 where
+  pub byte_is : byte - 1 + 1 ≡ byte
+  pub small : byte - 1 < 256
+  pub inside : at - 1 < length bytes
+  pub ranked : rank bytes (byte - 1 + 1) ≡ at - 1 + 1
+
+pub previous : (bytes : List ℕ) (byte at : ℕ) → rank bytes byte ≡ at → 0 < at → byte ≤ 256 → IsPrevious bytes byte at
+previous bytes byte at ranked some most =
+    let more = byte_some bytes byte at ranked some in
+    let within = rank_within bytes byte in
+    let next : byte - 1 + 1 ≡ byte = omega arith in
+    record { byte_is = next; small = omega arith; inside = omega arith; ranked = ap (rank bytes) next ∙ ranked ∙ (let e : at ≡ at - 1 + 1 = omega arith in e) }
+
+-- A run from the block of a byte on begins behind the block before.
+pub previous_run : (pairs : Pairs) (base block byte unit start end : ℕ) → byte - 1 + 1 ≡ byte → start ≡ base + (block + (byte - 1)) * unit → IsRun pairs (base + (block + byte) * unit) end → IsRun pairs (start + unit) end
+previous_run pairs base block byte unit start end next is_start run =
+    let step = next_unit block (byte - 1) unit in
+    subst (λ m. IsRun pairs m end) (ap (λ m. base + (block + m) * unit) (sym next) ∙ (let e : base + (block + (byte - 1 + 1)) * unit ≡ start + unit = omega arith in e)) run
 
 -- Where none are, it isn't 256.
 pub first_small : (words width : ℕ) (skipped bytes : List ℕ) (kids : List Tree) (count byte : ℕ) → IsBranch words width skipped bytes kids count → rank bytes byte ≡ 0 → byte ≤ 256 → byte < 256
@@ -205,6 +226,11 @@ module _ (words width : ℕ) (skipped bytes : List ℕ) (kids : List Tree) (coun
     raised_absent word key is_word absent =
         ap (has (keys_of (shift base (branch_pairs width skipped bytes kids)))) is_word
         ∙ (window-shift (branch_pairs width skipped bytes kids) base (suc key)).same key (omega arith) ∙ absent
+
+    -- A word that leads to no child.
+    pub raised_beside : (step : Step) (key word : ℕ) → word ≡ base + key → IsBeside step → IsStep (256 ^ width) (number_of skipped * 256) bytes key step → key < 256 ^ (length skipped + 1 + width)
+        → has (keys_of (shift base (branch_pairs width skipped bytes kids))) word ≡ false
+    raised_beside step key word is_word beside steps within = raised_absent word key is_word (beside_absent step key beside steps within)
 
     -- The first word of a byte without a child.
     pub start_absent : (byte start : ℕ) → start ≡ base + (number_of skipped * 256 + byte) * 256 ^ width → byte < 256 → has bytes byte ≡ false

@@ -82,9 +82,6 @@ module _ {E : Type 0} (made : ℕ → ℕ → E) where
   made-append [] two = refl
   made-append (pair ∷ one) two = ap (λ rest. made pair.0 pair.1 ∷ rest) (made-append one two)
 
-  pub given_none : (all : Pairs) (out : List E) → AreGiven made all all out out 0
-  given_none all out = record { within = omega arith; there = omega arith; out = refl; others = refl }
-
   -- What comes behind the pairs is left.
   pub given_with : (all left : Pairs) (before after : List E) (count : ℕ) → AreGiven made all left before after count → (rest : Pairs) → AreGiven made (all ++ rest) (left ++ rest) before after count
   given_with all left before after count given rest =

@@ -9,6 +9,7 @@ pub mod Runs
 pub mod Blocks
 pub mod BranchRooms
 pub mod RoomSteps
+pub mod SideRooms
 pub mod TurnFacts
 pub mod NearFacts
 pub mod WalkFacts

@@ -1,5 +1,5 @@
 -- The pairs nearest to a key, in a part of a tree and beside it.
-use Rattle.std.proofs.Common.{◌≡◌, ℕ, ◌+◌, ◌-◌, ◌<◌, ◌≤◌, ⊎_elim, Bool, true, false, cond, nat_le, [], ◌∷◌, ◌++◌, length, find, Option, Some, None, IfSome, slice_get, sym, refl, ap, ◌∙◌, subst, arith, length-append, leb-true, le-leb, is_le, is_ge}
+use Rattle.std.proofs.Common.{◌≡◌, ℕ, ◌+◌, ◌-◌, ◌^◌, ◌<◌, ◌≤◌, ⊎_elim, Bool, true, false, cond, nat_le, [], ◌∷◌, ◌++◌, length, find, Option, Some, None, IfSome, slice_get, sym, refl, ap, ◌∙◌, subst, arith, length-append, leb-true, le-leb, is_le, is_ge}
 use Rattle.std.specs.Option.{option_or}
 use Rattle.std.proofs.lemmas.Bool.{false_from_ne_true, cases_lt, cases_order}
 use Rattle.std.proofs.lemmas.List.{append-nil}
@@ -10,7 +10,9 @@ use Rattle.judy_model.proofs.WordOrder.{is_le_word, is_ge_word}
 use Rattle.judy_leaf.specs.KeyLists.{shift}
 use Rattle.judy_leaf.specs.Nearby.{pair_from, pair_up_to}
 use Rattle.judy_node.specs.Trees.{Pairs, IsMap}
-use Rattle.judy_query.specs.Parts.{IsPart, raised, value_of}
+use Rattle.judy_node.specs.Views.{view_pairs}
+use Rattle.judy_node.specs.declared.view.ViewOf.{ViewOf}
+use Rattle.judy_query.specs.Parts.{IsPart, IsDown, raised, value_of, width_of}
 use Rattle.judy_query.specs.Turns.{last_pair}
 use Rattle.judy_query.proofs.Finds.{here, later, value-above}
 use Rattle.judy_query.proofs.RankFacts.{at-behind}
@@ -192,3 +194,19 @@ last_pair-append one (pair ∷ other) =
     let same : last_pair (one ++ (pair ∷ other)) ≡ last_pair (pair ∷ other) = at-behind (length (pair ∷ other) - 1) (length (one ++ (pair ∷ other)) - 1) one (pair ∷ other) (omega arith) in
     let there = slice_get-get_or (pair ∷ other) (length (pair ∷ other) - 1) pair (omega arith) in
     same ∙ there ∙ sym (ap (λ found. option_or found (last_pair one)) there)
+
+-- ---- the way of a key
+
+module _ {V : _} (words : ℕ) (tree : Pairs) (view : ViewOf V) (key left : ℕ) (down : IsDown words tree view key left) where
+  -- What is nearest to the key is so at the node, or is the nearest beside the way.
+  pub down_from : (found : Option (ℕ × ℕ)) → found ≡ pair_from (view_pairs view) left → option_or (raised (key - left) found) (slice_get down.back 0) ≡ pair_from tree key
+  down_from found is =
+      let above = down.above in
+      ap (λ found. option_or (raised (key - left) found) (slice_get down.back 0)) is
+      ∙ sym (part-from words (256 ^ 8) tree (key - left) (256 ^ width_of view) left key (view_pairs view) down.front down.back down.part (omega arith) down.inside)
+
+  pub down_up_to : (found : Option (ℕ × ℕ)) → found ≡ pair_up_to (view_pairs view) left → option_or (raised (key - left) found) (last_pair down.front) ≡ pair_up_to tree key
+  down_up_to found is =
+      let above = down.above in
+      ap (λ found. option_or (raised (key - left) found) (last_pair down.front)) is
+      ∙ sym (part-up_to words (256 ^ 8) tree (key - left) (256 ^ width_of view) left key (view_pairs view) down.front down.back down.part (omega arith) down.inside)

@@ -1,8 +1,8 @@
 -- Rooms along the way down a tree.
-use Rattle.std.proofs.Common.{◌≡◌, ◌≢◌, ℕ, ◌+◌, ◌-◌, ◌*◌, ◌<◌, ◌≤◌, ◌^◌, length, get_or, slice_get, Some, sym, refl, ap, ◌∙◌, subst, arith, false}
+use Rattle.std.proofs.Common.{◌≡◌, ◌≢◌, ℕ, ◌+◌, ◌-◌, ◌*◌, ◌<◌, ◌≤◌, ◌^◌, length, get_or, slice_get, Some, sym, refl, ap, ◌∙◌, arith, false}
 use Rattle.std.proofs.lemmas.Option.{slice_get-get_or}
 use Rattle.judy_model.specs.WordBytes.{number_of}
-use Rattle.judy_bits.specs.ByteSets.{has, rank}
+use Rattle.judy_bits.specs.ByteSets.{has}
 use Rattle.judy_leaf.specs.KeyLists.{keys_of, shift}
 use Rattle.judy_node.specs.Trees.{Pairs, Tree, IsChild, branch_pairs}
 use Rattle.judy_node.specs.Views.{view_pairs}
@@ -17,8 +17,7 @@ use Rattle.judy_query.specs.Parts.{IsDown, width_of}
 use Rattle.judy_query.specs.Rooms.{IsRun, IsWindow, HasRoom, IsFirstAbsent, IsLastAbsent, IsRoomFrom, IsRoomUpTo, nearer}
 use Rattle.judy_query.proofs.Downs.{child_inside}
 use Rattle.judy_query.proofs.Runs.{run-full, run-later, window-part, window-window, window-shift, run-join, run-window}
-use Rattle.judy_query.proofs.Splits.{next_unit}
-use Rattle.judy_query.proofs.BranchRooms.{block_within, bytes_ascend, rank_next, rank_before, kid_window, kid_is}
+use Rattle.judy_query.proofs.BranchRooms.{block_within, kid_window, kid_is}
 
 -- ---- the same words of two lists
 
@@ -114,23 +113,9 @@ word-in-last words all from to kid width start word low run room told =
       room.window.same word (omega arith) ∙ told.2,
     )
 
--- The last room of a branch that has no words behind its bytes.
-pub greatest_room : {V : _} (words : ℕ) (all pairs : Pairs) (start end unit top : ℕ) (room : Room V) → end ≡ unit → IsWindow all start unit pairs → IsRun all (start + unit) top
-    → IsRoomUpTo words (shift start pairs) start (start + end) room → IsRoomUpTo words all start top room
-greatest_room words all pairs start end unit top room same window run told =
-    room-before words all start (start + unit) top room run
-    (room-window-down words all pairs start unit (start + unit) room (omega arith) window (subst (λ n. IsRoomUpTo words (shift start pairs) start (start + n) room) same told))
-
 -- Where all words of a window are keys, all of its own are.
 pub run-back : (all pairs : Pairs) (base unit : ℕ) → IsWindow all base unit pairs → IsRun all base (base + unit) → IsRun pairs 0 unit
 run-back all pairs base unit window run = record { rising = omega arith; held = λ word low high. sym (window.same word high) ∙ run.held (base + word) (omega arith) (omega arith) }
-
--- The first room of a branch whose skipped bytes are all 0.
-pub least_room : {V : _} (words : ℕ) (all pairs : Pairs) (start unit top number : ℕ) (room : Room V) → number ≡ 0 → IsWindow all start top pairs → IsRun all 0 start
-    → IsRoomFrom words (shift start pairs) (start + (number * 256 + 0) * unit) (start + top) room → IsRoomFrom words all 0 (start + top) room
-least_room words all pairs start unit top number room none window run told =
-    let same : start + (number * 256 + 0) * unit ≡ start = ap (λ n. start + n * unit) (let e : number * 256 + 0 ≡ 0 = omega arith in e) ∙ (let e : start + 0 * unit ≡ start = omega arith in e) in
-    room-behind words all 0 start (start + top) room run (room-window words all pairs start top start room (omega arith) window (subst (λ n. IsRoomFrom words (shift start pairs) n (start + top) room) same told))
 
 -- ---- the way of a key
 
@@ -167,48 +152,6 @@ module _ {V : _} (words : ℕ) (tree : Pairs) (view : ViewOf V) (key left : ℕ)
 
 module _ {V : _} (words : ℕ) (tree : Pairs) (b : _) (key left : ℕ) (down : IsDown {V = V} words tree (Branch b) key left) where
   module _ (byte place rest : ℕ) (steps : IsStep (256 ^ b.now.width) (number_of b.now.skip * 256) b.now.bytes left (Child byte place rest)) where
-    -- The child is at the place of its byte, and as many bytes are below the next one.
-    pub next_place : place + 1 ≡ rank b.now.bytes (byte + 1)
-    next_place =
-        let ascend = bytes_ascend words b.now.width b.now.skip b.now.bytes b.now.children.items b.now.population down.shown.place.1 in
-        sym (rank_next b.now.bytes ascend byte place (rank_before b.now.bytes byte place ascend steps.1) steps.1)
-
-    -- As many bytes are below its byte.
-    pub own_place : place ≡ rank b.now.bytes byte
-    own_place = sym (rank_before b.now.bytes byte place (bytes_ascend words b.now.width b.now.skip b.now.bytes b.now.children.items b.now.population down.shown.place.1) steps.1)
-
-    -- The nearest room before the child.
-    pub previous_room : (room earlier : Room V) → IsRoomUpTo words (shift (key - left) (branch_pairs b.now.width b.now.skip b.now.bytes b.now.children.items)) (key - left) (key - left + (number_of b.now.skip * 256 + byte) * 256 ^ b.now.width) room
-        → IsRoomUpTo words tree 0 (key - left) earlier → IsRoomUpTo words tree 0 (key - rest) (nearer room earlier)
-    previous_room room earlier told other =
-        let top = 256 ^ (length b.now.skip + 1 + b.now.width) in
-        let is_key = steps.0.key_is in
-        let above = down.above in
-        let inside = down.inside in
-        let start : key - left + (number_of b.now.skip * 256 + byte) * 256 ^ b.now.width ≡ key - rest = omega arith in
-        room-nearer-down words tree 0 (key - left) (key - rest) room earlier (omega arith)
-        (subst (λ n. IsRoomUpTo words tree (key - left) n room) start
-        (room-window-down words tree (branch_pairs b.now.width b.now.skip b.now.bytes b.now.children.items) (key - left) top (key - left + (number_of b.now.skip * 256 + byte) * 256 ^ b.now.width) room (omega arith)
-        (down_window words tree (Branch b) key left down) told))
-        other
-
-    -- The nearest room behind the child.
-    pub next_room : (room later : Room V) → IsRoomFrom words (shift (key - left) (branch_pairs b.now.width b.now.skip b.now.bytes b.now.children.items)) (key - left + (number_of b.now.skip * 256 + (byte + 1)) * 256 ^ b.now.width) (key - left + 256 ^ (length b.now.skip + 1 + b.now.width)) room
-        → IsRoomFrom words tree (key - left + 256 ^ (length b.now.skip + 1 + b.now.width)) (2 ^ 64) later → IsRoomFrom words tree (key - rest + 256 ^ b.now.width) (2 ^ 64) (nearer room later)
-    next_room room later told other =
-        let unit = 256 ^ b.now.width in
-        let top = 256 ^ (length b.now.skip + 1 + b.now.width) in
-        let next = next_unit (number_of b.now.skip * 256) byte (256 ^ b.now.width) in
-        let is_key = steps.0.key_is in
-        let above = down.above in
-        let fits = down.part.fits in
-        let start : key - left + (number_of b.now.skip * 256 + (byte + 1)) * unit ≡ key - rest + unit = omega arith in
-        room-nearer words tree (key - rest + unit) (key - left + top) (2 ^ 64) room later (omega arith)
-        (subst (λ n. IsRoomFrom words tree n (key - left + top) room) start
-        (room-window words tree (branch_pairs b.now.width b.now.skip b.now.bytes b.now.children.items) (key - left) top (key - left + (number_of b.now.skip * 256 + (byte + 1)) * unit) room (omega arith)
-        (down_window words tree (Branch b) key left down) told))
-        other
-
     module _ (kid : Tree) (is : kid ≡ get_or b.now.children.items place kid) where
       there : slice_get b.now.children.items place ≡ Some kid
       there = slice_get-get_or b.now.children.items place kid (child_inside words tree b key left down byte place rest steps) ∙ ap Some (sym is)

@@ -1,10 +1,15 @@
 -- Words that are no keys, beside runs of words that all are.
-use Rattle.std.specs.Prelude.{◌≡◌, ℕ, ◌+◌, ◌^◌, ◌<◌, ◌≤◌, IsTrue, IsFalse, Option, Some, None, length}
+use Rattle.std.specs.Prelude.{◌≡◌, ℕ, ◌+◌, ◌-◌, ◌^◌, ◌<◌, ◌≤◌, IsTrue, IsFalse, Option, Some, None, length}
+use Rattle.std.specs.FinMap.{FinMap}
+use Rattle.judy_model.specs.Keys.{word_order}
+use Rattle.judy_model.specs.Empties.{first_empty, last_empty}
 use Rattle.judy_bits.specs.ByteSets.{has}
 use Rattle.judy_leaf.specs.KeyLists.{keys_of}
 use Rattle.judy_node.specs.Trees.{Pairs, Tree, IsChild}
 use Rattle.judy_query.specs.declared.rooms.Room.{Room}
 use Rattle.judy_query.specs.declared.rooms.Room.TheVariants.{Nowhere, At, In}
+use Rattle.judy_query.specs.declared.sides.Side.{Side}
+use Rattle.judy_query.specs.declared.sides.Side.TheVariants.{Up, Down}
 
 -- Each word from one up to another, which isn't included, is a key.
 pub record IsRun (pairs : Pairs) (from to : ℕ) : Type 0 where
@@ -55,3 +60,40 @@ abbrev pub nearer : {V : _} → Room V → Room V → Room V
 nearer Nowhere other = other
 nearer (At word) other = At word
 nearer (In child width start) other = In child width start
+
+-- ---- on either side
+
+-- The words from a key on, on one side and below a top, begin here.
+abbrev pub low_of : Side → ℕ → ℕ
+low_of Up key = key
+low_of Down key = 0
+
+-- And they end below this one.
+abbrev pub high_of : Side → ℕ → ℕ → ℕ
+high_of Up key top = top
+high_of Down key top = key + 1
+
+-- Which of so many words is met first.
+abbrev pub end_of : Side → ℕ → ℕ
+end_of Up unit = 0
+end_of Down unit = unit - 1
+
+-- The first word on one side, from one word on and below another, that is no key; none where all of them are keys.
+abbrev pub IsAbsent : Side → Pairs → ℕ → ℕ → Option ℕ → Type 0
+IsAbsent Up pairs from top answer = IsFirstAbsent pairs from top answer
+IsAbsent Down pairs from top answer = IsLastAbsent pairs from top answer
+
+-- Where that word is.
+abbrev pub IsRoom : {V : _} → Side → ℕ → Pairs → ℕ → ℕ → Room V → Type 0
+IsRoom Up words all from top room = IsRoomFrom words all from top room
+IsRoom Down words all from top room = IsRoomUpTo words all from top room
+
+-- The same past a block of so many words.
+abbrev pub IsRoomPast : {V : _} → Side → ℕ → Pairs → ℕ → ℕ → ℕ → ℕ → Room V → Type 0
+IsRoomPast Up words all from top start unit room = IsRoomFrom words all (start + unit) top room
+IsRoomPast Down words all from top start unit room = IsRoomUpTo words all from start room
+
+-- The nearest word from a key on that is no key of a map.
+abbrev pub nearest_empty : Side → FinMap word_order ℕ → ℕ → Option ℕ
+nearest_empty Up map key = first_empty map key
+nearest_empty Down map key = last_empty map key

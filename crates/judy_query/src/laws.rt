@@ -5,7 +5,8 @@ ghost use Rattle.judy_model.specs.Empties.{first_empty, last_empty};
 ghost use Rattle.judy_query.specs.Maps.{map_of};
 ghost use Rattle.judy_query.specs.Visits.{most_visits_down, most_visits_below, most_visits_near};
 
-use crate::empties::{empty_from, empty_up_to};
+use crate::empties::empty_beside;
+use crate::sides::Side;
 pub use crate::watch::Watch;
 use judy_leaf::Words;
 use judy_node::NodeOf;
@@ -31,5 +32,7 @@ pub fn no_full_child_is_entered<V: Words + Drop>(
     ensures below { result.1 ≡ last_empty (map_of tree.now.pairs) key }
     ensures spared { watch.new.full ≡ false }
 {
-    (empty_from(tree, key, watch), empty_up_to(tree, key, watch))
+    let above = empty_beside(Side::Up, tree, key, watch);
+    let below = empty_beside(Side::Down, tree, key, watch);
+    (above, below)
 }

@@ -12,11 +12,12 @@
 //!
 //! values.rt has the value of a key, many.rt those of many, whose ways go side by side, counts.rt how many keys are below a word,
 //! places.rt the key at a place, after.rt and before.rt the nearest keys, turns.rt where the search for one of these turns off the key's
-//! way. empties.rt has the nearest words that are no keys, absent.rt what a node without children tells of them, rooms.rt where a branch
-//! has some: no full child is entered, but passed over by the number of its keys. sparing.rt has the meters by which that search goes down,
-//! watch.rt one of them that looks at each child, for a law (laws.rt). walk.rt has the walk, waiting.rt the children that it
-//! comes back to, stretch.rt the pairs of one node in turn, and scan.rt those of a bitmap leaf. branches.rt has what all ways down ask of
-//! a branch, ends.rt what they ask where they end.
+//! way. empties.rt has the nearest words that are no keys, by one search for both sides of a key, of which sides.rt has what differs;
+//! absent.rt what a node without children tells of them, rooms.rt where a branch has some: no full child is entered, but passed over by
+//! the number of its keys. sparing.rt has the meters by which that search goes down, watch.rt one of them that looks at each child, for a
+//! law (laws.rt). walk.rt has the walk, waiting.rt the children that it comes back to, stretch.rt the pairs of one node in turn, scan.rt
+//! those of a bitmap leaf, and givings.rt many of them at a time. branches.rt has what all ways down ask of a branch, ends.rt what they
+//! ask where they end.
 //!
 //! The crate enters nodes and never opens one. It stands on judy_model, judy_bits, judy_leaf, judy_node and `arrayvec`, and judy_word
 //! stands on it.
@@ -35,6 +36,7 @@ mod many;
 mod places;
 mod rooms;
 mod scan;
+mod sides;
 mod sparing;
 mod stretch;
 mod turns;

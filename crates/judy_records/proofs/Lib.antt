@@ -5,3 +5,4 @@ pub mod FreeLemmas
 pub mod RecordLemmas
 pub mod OrderLemmas
 pub mod BackLemmas
+pub mod ChunkLemmas

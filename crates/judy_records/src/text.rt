@@ -1,26 +1,32 @@
-//! Texts as words: how they are written, and how they compare with bytes.
+//! Texts as words: how they are written, and how they compare with bytes. The whole words of bytes are read by a loop that tests nothing else, which the
+//! compiler turns into code for several words a step; a shorter word behind them is read by itself.
 
 ghost use Rattle.std.specs.Prelude.{◌≡◌, ◌↔◌, ◌≤◌, ◌+◌, ◌-◌, ◌∷◌, ◌++◌, take, drop, IsTrue, length, vec_len, vec_capacity};
 ghost use Rattle.judy_model.specs.Keys.{byte_order};
 ghost use Rattle.judy_records.specs.Texts.{words_in, words_of, words_for};
 
-use crate::words::{after_first, first_word, words_for};
+use crate::words::{after_first, first_word, last_word, words_for};
 use std::cmp::Ordering;
+use std::mem;
 
-// Writes the words of the bytes over a text, which is as long as they are, or as many words of it as there are.
+// Writes the words of the bytes over a text, which is as long as they are.
 pub fn write(text: &mut [u64], bytes: &[u8])
-    ensures { text.new ≡ words_in (length text.old) bytes.now }
+    requires { length text.old ≡ words_for (length bytes.now) }
+    ensures { text.new ≡ words_of bytes.now }
 {
-    let mut rest = bytes;
-    for word in text.iter_mut() {
-        *word = first_word(rest);
-        rest = after_first(rest);
+    let (chunks, rest) = bytes.as_chunks::<8>();
+    for i in 0..chunks.len() {
+        text[i] = u64::from_be_bytes(chunks[i]);
+    }
+    if !rest.is_empty() {
+        text[chunks.len()] = last_word(bytes);
     }
 }
 
-// Writes a record, its value and then so many words of the bytes, over the one that begins at a word.
+// Writes a record, its value and then the words of the bytes, as many as that, over the one that begins at a word.
 pub fn write_record(words: &mut Vec<u64>, start: usize, size: usize, value: u64, bytes: &[u8])
-    requires { start + (size + 1) ≤ vec_len words.old }
+    requires within { start + (size + 1) ≤ vec_len words.old }
+    requires fits { words_for (length bytes.now) ≡ size }
     ensures words { words.new.items ≡ take start words.old.items ++ ((value ∷ words_in size bytes.now) ++ drop (size + 1) (drop start words.old.items)) }
     ensures capacity { vec_capacity words.new ≡ vec_capacity words.old }
 {
@@ -28,18 +34,34 @@ pub fn write_record(words: &mut Vec<u64>, start: usize, size: usize, value: u64,
     write(&mut words[start + 1..start + 1 + size], bytes);
 }
 
-// Puts a record of so many words of text behind the words, for which there is memory.
+// Puts a record behind the words, its value and then the words of the bytes, as many as that. There is memory for it. The list is taken out
+// meanwhile, so that its length needn't be written word by word.
 pub fn push_record(words: &mut Vec<u64>, value: u64, size: usize, bytes: &[u8])
-    requires { vec_len words.old + (size + 1) ≤ vec_capacity words.old }
+    requires room { vec_len words.old + (size + 1) ≤ vec_capacity words.old }
+    requires fits { words_for (length bytes.now) ≡ size }
     ensures words { words.new.items ≡ words.old.items ++ value ∷ words_in size bytes.now }
     ensures capacity { vec_capacity words.new ≡ vec_capacity words.old }
 {
+    let alloc = *words.allocator();
+    let all = mem::replace(words, Vec::new(alloc));
+    *words = with_record(all, value, bytes);
+}
+
+// The words with a record behind them.
+fn with_record(mut words: Vec<u64>, value: u64, bytes: &[u8]) -> Vec<u64>
+    requires { vec_len words + (words_for (length bytes.now) + 1) ≤ vec_capacity words }
+    ensures words { result.items ≡ words.items ++ value ∷ words_of bytes.now }
+    ensures capacity { vec_capacity result ≡ vec_capacity words }
+{
     words.push_reserved(value);
-    let mut rest = bytes;
-    for _word in 0..size {
-        words.push_reserved(first_word(rest));
-        rest = after_first(rest);
+    let (chunks, rest) = bytes.as_chunks::<8>();
+    for i in 0..chunks.len() {
+        words.push_reserved(u64::from_be_bytes(chunks[i]));
     }
+    if !rest.is_empty() {
+        words.push_reserved(last_word(bytes));
+    }
+    words
 }
 
 // Whether a text is that of the bytes.
@@ -49,11 +71,13 @@ pub fn is_of(text: &[u64], bytes: &[u8]) -> bool
     if text.len() != words_for(bytes.len()) {
         return false;
     }
+    let (chunks, rest) = bytes.as_chunks::<8>();
     let mut same = true;
-    let mut rest = bytes;
-    for word in text {
-        same &= *word == first_word(rest);
-        rest = after_first(rest);
+    for i in 0..chunks.len() {
+        same &= text[i] == u64::from_be_bytes(chunks[i]);
+    }
+    if !rest.is_empty() {
+        same &= text[chunks.len()] == last_word(bytes);
     }
     same
 }

@@ -1,6 +1,6 @@
 //! Bytes as words.
 
-ghost use Rattle.std.specs.Prelude.{◌≡◌, ◌<◌, ◌/◌, IfOk, slice_index, length, drop};
+ghost use Rattle.std.specs.Prelude.{◌≡◌, ◌<◌, ◌/◌, ◌*◌, ◌%◌, IfOk, slice_index, length, drop};
 ghost use Rattle.judy_records.specs.Texts.{first_word, words_for, bytes_in};
 
 use std::alloc::{AllocError, Global};
@@ -15,7 +15,8 @@ pub fn first_word(bytes: &[u8]) -> u64
     }
 }
 
-// The same for fewer than eight bytes.
+// The same for fewer than eight bytes. It stands apart, so that what reads eight at once is inlined.
+#[inline(never)]
 fn short_word(bytes: &[u8]) -> u64
     requires { length bytes.now < 8 }
     ensures { result ≡ first_word bytes.now }
@@ -34,6 +35,18 @@ fn byte_or_zero(bytes: &[u8], place: usize) -> u8
     match bytes.get(place) {
         Some(byte) => *byte,
         None => 0,
+    }
+}
+
+// The word that stands behind the whole ones: the last bytes, fewer than eight, and then zeros. Where there are eight in all, these are read at once, and
+// the bytes before them are shifted out.
+pub fn last_word(bytes: &[u8]) -> u64
+    requires { 0 < length bytes.now % 8 }
+    ensures { result ≡ first_word (drop (8 * (length bytes.now / 8)) bytes.now) }
+{
+    match bytes.last_chunk::<8>() {
+        Some(last) => u64::from_be_bytes(*last) << (64 - bytes.len() % 8 * 8),
+        None => short_word(bytes),
     }
 }
 

@@ -116,7 +116,7 @@ module _ {world : World} {behind : ℕ → List ℕ} (is : IsWorld world behind)
       pub begins : (more : List ℕ) → piece_of (piece_bytes piece ++ more) ≡ piece
       pub splits : (more : List ℕ) → pieces (piece_bytes piece ++ more) ≡ piece ∷ pieces more
 
-    inner_front : (piece at : ℕ) → get words piece ≡ Some at → IsInner piece → Front piece
+    pub inner_front : (piece at : ℕ) → get words piece ≡ Some at → IsInner piece → Front piece
     inner_front piece at entry inner =
         let one = entry_text piece at entry in
         let text = one.1 in

@@ -40,3 +40,5 @@ pub mod Rooms
 pub mod Exact
 pub mod Looked
 pub mod Behind
+pub mod LevelEntries
+pub mod RunWays

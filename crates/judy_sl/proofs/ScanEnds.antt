@@ -164,11 +164,11 @@ follow_start look world key turn at = record {
 }
 
 module _ {look : Look} {world : World} {behind : ℕ → List ℕ} (is_world : IsWorld world behind) (key : List ℕ) (map : FinMap word_order ℕ) (piece : ℕ) (bytes : List ℕ) (on : OnFollow look world key map piece bytes) where
-  place_is : behind on.seat ≡ on.front
+  pub place_is : behind on.seat ≡ on.front
   place_is = walk-behind world behind is_world 0 on.front on.seat on.inner on.way ∙ ap (λ place. place ++ on.front) is_world.first
 
   -- A key that begins so is what its pieces spell.
-  key_spelled : (rest : List ℕ) (key : SpellKey (on.front ++ piece ∷ rest)) → key.key ≡ (bytes ++ piece_bytes piece) ++ spelling rest
+  pub key_spelled : (rest : List ℕ) (key : SpellKey (on.front ++ piece ∷ rest)) → key.key ≡ (bytes ++ piece_bytes piece) ++ spelling rest
   key_spelled rest key = sym (spelling-pieces key.key (text_of_key key.key key.is_key)) ∙ ap spelling key.spells ∙ spelling-append on.front (piece ∷ rest)
       ∙ ap (λ front. front ++ (piece_bytes piece ++ spelling rest)) (sym on.spells) ∙ sym (append_assoc bytes (piece_bytes piece) (spelling rest))
 
@@ -198,7 +198,7 @@ module _ {look : Look} {world : World} {behind : ℕ → List ℕ} (is_world : I
       (sym (append-nil (bytes ++ piece_bytes piece)))
 
   module _ (at : ℕ) (is : get map piece ≡ Some at) (inner : IsInner piece) where
-    leads : (behind (suc at) ≡ on.front ++ piece ∷ []) × (world (suc at) ≢ gone)
+    pub leads : (behind (suc at) ≡ on.front ++ piece ∷ []) × (world (suc at) ≢ gone)
     leads = let there = (is_world.levels on.seat map on.is_level).leads piece at is inner in (there.0 ∙ ap (λ place. place ++ piece ∷ []) place_is, there.1)
 
     -- It leads on.
@@ -207,7 +207,7 @@ module _ {look : Look} {world : World} {behind : ℕ → List ℕ} (is_world : I
 
     -- To a tail.
     module _ (held : List ℕ) (value : ℕ) (tailed : world (suc at) ≡ tail (pieces held) value) (text : IsText held) where
-      tail_key : SpellKey (on.front ++ piece ∷ pieces held)
+      pub tail_key : SpellKey (on.front ++ piece ∷ pieces held)
       tail_key = subst SpellKey (ap (λ place. place ++ pieces held) leads.0 ∙ append_assoc on.front (piece ∷ []) (pieces held)) (is_world.tails (suc at) (pieces held) value tailed)
 
       -- The buffer has room for it.
@@ -229,7 +229,7 @@ module _ {look : Look} {world : World} {behind : ℕ → List ℕ} (is_world : I
       pub follow_some : IsFirstEntry look.side below None → ⊥
       follow_some none = is_world.used at below is_below (empty_from_none below none)
 
-      follow_level : (next : ℕ) → IsFirstEntry look.side below (Some next) → OnFollow look world key below next (bytes ++ piece_bytes piece)
+      unfoldable pub follow_level : (next : ℕ) → IsFirstEntry look.side below (Some next) → OnFollow look world key below next (bytes ++ piece_bytes piece)
       follow_level next first = record {
         front = on.front ++ piece ∷ [];
         seat = suc at;

@@ -1,7 +1,7 @@
 -- The two ways of a scan: down the pieces of a key, and down from the entry where it turns.
-use Rattle.std.proofs.Common.{◌≡◌, ℕ, suc, ◌-◌, ◌<◌, ◌≤◌, false, IsTrue, List, [], ◌∷◌, ◌++◌, length, take, drop, Option, Some, None, IfSome, sym, refl, ap, ◌∙◌, subst, arith}
+use Rattle.std.proofs.Common.{◌≡◌, ℕ, suc, ◌+◌, ◌-◌, ◌*◌, ◌<◌, ◌≤◌, false, IsTrue, List, [], ◌∷◌, ◌++◌, length, take, drop, Option, Some, None, IfSome, sym, refl, ap, ◌∙◌, subst, arith}
 use Rattle.std.specs.FinMap.{FinMap, get}
-use Rattle.std.proofs.lemmas.List.{append_assoc, take-append-drop, take_at, length-append, append-nil}
+use Rattle.std.proofs.lemmas.List.{append_assoc, take-append-drop, take_at, length-append, length-drop, append-nil}
 use Rattle.judy_model.specs.Keys.{word_order}
 use Rattle.judy_sl.specs.declared.scans.Look.{Look}
 use Rattle.judy_sl.specs.declared.scans.Turn.{Turn}
@@ -11,6 +11,7 @@ use Rattle.judy_sl.specs.Scans.{IsNearestEntry, piece_in, IsEntryOf, turn_or, me
 use Rattle.judy_sl.proofs.Ways.{pieces_short, pieces_long, walk-more}
 use Rattle.judy_sl.proofs.PieceLemmas.{text-drop, piece-IsFinal, piece-IsInner}
 use Rattle.judy_sl.proofs.PieceBytes.{bytes-piece, spelling-append}
+use Rattle.judy_sl.proofs.OnWay.{pieces-head}
 use Rattle.judy_sl.proofs.ScanLevels.{NoneBehind, none_child, moved_near, turned_near, turned_none, last_near, last_none, tail_end}
 
 pub AreInner-more : (front : List ℕ) (piece : ℕ) → AreInner front → IsInner piece → AreInner (front ++ piece ∷ [])
@@ -26,6 +27,8 @@ pub record OnScan (look : Look) (world : World) (key : List ℕ) (map : FinMap w
   pub inner : AreInner front
   pub is_level : world seat ≡ level map
   pub cut : key ≡ spelling front ++ rest
+  pub parts : pieces key ≡ front ++ pieces rest
+  pub long : length key ≡ 8 * length front + length rest
   pub text : IsText rest
   pub near : (near : List ℕ) → IsNear look world seat (pieces rest) near → IsNear look world 0 (pieces key) (front ++ near)
 
@@ -44,6 +47,8 @@ module _ (look : Look) (world : World) (key : List ℕ) where
     inner = tt;
     is_level = is;
     cut = refl;
+    parts = refl;
+    long = omega arith;
     text = text;
     near = λ near h. h;
   }
@@ -66,6 +71,9 @@ module _ (look : Look) (world : World) (key : List ℕ) where
       way = on.way;
       inner = on.inner;
       deep = passed;
+      long = (let so = on.long in omega (arith, so));
+      within = omega arith;
+      parts = (let head = pieces-head rest in (piece_of rest, head.0, on.parts ∙ ap (λ ps. on.front ++ ps) head.1));
       map = map;
       is_level = on.is_level;
       held = is;
@@ -107,6 +115,8 @@ module _ (look : Look) (world : World) (key : List ℕ) where
             cut = on.cut ∙ ap (λ bytes. spelling on.front ++ bytes) (sym (take-append-drop 8 rest) ∙ ap (λ bytes. bytes ++ drop 8 rest) (sym (bytes-piece rest on.text) ∙ sym (append-nil (piece_bytes (piece_of rest)))))
                 ∙ sym (append_assoc (spelling on.front) (spelling (piece_of rest ∷ [])) (drop 8 rest))
                 ∙ ap (λ bytes. bytes ++ drop 8 rest) (sym (spelling-append on.front (piece_of rest ∷ [])));
+            parts = on.parts ∙ ap (λ ps. on.front ++ ps) one ∙ sym (append_assoc on.front (piece_of rest ∷ []) (pieces (drop 8 rest)));
+            long = (let so = on.long in let more = length-append on.front (piece_of rest ∷ []) in let left = length-drop 8 rest in omega (arith, so, more, left));
             text = text-drop 8 rest on.text;
             near = λ near h. subst (IsNear look world 0 (pieces key)) (sym (append_assoc on.front (piece_of rest ∷ []) near))
                 (on.near (piece_of rest ∷ near) (subst (λ from. IsNear look world on.seat from (piece_of rest ∷ near)) (sym one) (moved_near look world on.seat map on.is_level (piece_of rest) found (pieces (drop 8 rest)) near is inner h)));

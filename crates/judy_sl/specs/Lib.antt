@@ -13,3 +13,5 @@ pub mod Lends
 pub mod Levels
 pub mod Words
 pub mod Behind
+pub mod Runs
+pub mod Cursors

@@ -1,5 +1,5 @@
 -- The neighbours of a key, found level by level.
-use Rattle.std.specs.Prelude.{◌≡◌, ℕ, Bool, true, false, ◌&&◌, if◌then◌else◌, IsTrue, IsFalse, List, ◌∷◌, ◌++◌, take, Option, None, Some, IfSome}
+use Rattle.std.specs.Prelude.{◌≡◌, ℕ, ◌*◌, ◌≤◌, Bool, true, false, ◌&&◌, if◌then◌else◌, IsTrue, IsFalse, List, ◌∷◌, ◌++◌, length, take, Option, None, Some, IfSome}
 use Rattle.std.specs.declared.cmp.Ordering.{Ordering}
 use Rattle.std.specs.Ordering.{is_lt, is_le}
 use Rattle.std.specs.Cmp.Lexicographic.{slice_cmp}
@@ -40,6 +40,10 @@ IsFirstEntry side map = IsLeast (along side) (contains_key map)
 -- A look to a side, where the key itself counts or doesn't.
 abbrev pub look_to : Side → Bool → Look
 look_to side itself = record { side = side; itself = itself }
+
+-- A look above a key.
+abbrev pub upward : Bool → Look
+upward itself = look_to Above itself
 
 -- The neighbour of a key on a side.
 abbrev pub neighbour_along : Side → Bool → FinMap byte_order ℕ → List ℕ → Option (List ℕ)
@@ -90,14 +94,17 @@ module _ (look : Look) (world : World) where
     pub found : lookup world seat (piece ∷ rest) ≡ Some value
     pub first : (ps : List ℕ) (value : ℕ) → ArePieces (piece ∷ ps) → lookup world seat (piece ∷ ps) ≡ Some value → IsTrue (is_le (slice_cmp (along look.side) rest ps))
 
-  -- The turn is at an entry of a level, behind the front of a key, and the first of the keys behind that entry is
-  -- met first of all.
+  -- The turn is at an entry of a level, behind the front of a key, eight bytes a piece, and the first of the keys behind
+  -- that entry is met first of all.
   pub record IsTurnAt (key : List ℕ) (turn : Turn) : Type 0 where
     pub front : List ℕ
     pub seat : ℕ
     pub way : walk world 0 front ≡ Some seat
     pub inner : AreInner front
     pub deep : take turn.depth key ≡ spelling front
+    pub long : turn.depth ≡ 8 * length front
+    pub within : turn.depth ≤ length key
+    pub parts : (piece : ℕ) × (rest : List ℕ) × (pieces key ≡ front ++ piece ∷ rest)
     pub map : FinMap word_order ℕ
     pub is_level : world seat ≡ level map
     pub held : get map turn.piece ≡ Some turn.value

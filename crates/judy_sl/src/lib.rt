@@ -8,13 +8,14 @@
 //! Inside, a key is cut into pieces of eight bytes (specs/Pieces.antt), and a tree of `JudyL`s finds them piece by
 //! piece (specs/World.antt); `Arena` keeps all levels and tails of an array in one list (specs/Arenas.antt). arena.rt
 //! has the way of a key, grow.rt and branches.rt how a key comes in, shrink.rt how one goes, and scans.rt the
-//! neighbours.
+//! neighbours; cursor.rt and runs.rt have walks that go from key to key by what a level still has.
 #![tactic(auto)]
 
 mod arena;
 mod branches;
 mod child;
 mod counts;
+mod cursor;
 mod error;
 mod grow;
 mod kept;
@@ -22,10 +23,12 @@ mod keys;
 pub mod laws;
 mod level;
 mod pieces;
+mod runs;
 mod scans;
 mod shrink;
 mod strings;
 
+pub use cursor::KeyCursor;
 pub use error::SlError;
 pub use keys::{KeyBuf, is_key};
 pub use strings::JudySl;

@@ -7,7 +7,7 @@ ghost use Rattle.judy_model.specs.Keys.{IsWord};
 ghost use Rattle.judy_model.specs.Neighbours as neighbours;
 ghost use Rattle.judy_sl.specs.Pieces.{IsText};
 ghost use Rattle.judy_sl.specs.Arenas.{world_of, map_of, IsArena};
-ghost use Rattle.judy_sl.specs.Scans.{look_to, is_beyond, along_bytes, IsNearestEntry, IsFirstEntry, piece_in, IsEntryOf, turn_or, neighbour_along, value_found, IsTurn, IsTurnAt, IsNeighbour};
+ghost use Rattle.judy_sl.specs.Scans.{look_to, upward, is_beyond, along_bytes, IsNearestEntry, IsFirstEntry, piece_in, IsEntryOf, turn_or, neighbour_along, value_found, IsTurn, IsTurnAt, IsNeighbour};
 
 use crate::arena::Arena;
 use crate::child::Child;
@@ -104,6 +104,16 @@ impl Look {
         }
     }
 
+    // Above a key, where the key itself counts or doesn't.
+    pub fn upward(itself: bool) -> Look
+        ensures { result ≡ upward itself }
+    {
+        Look {
+            side: Side::Above,
+            itself,
+        }
+    }
+
     // The entry of a key's last level that is met first.
     fn last_entry(self, level: &WordMap, piece: u64) -> Option<(u64, u64)>
         ensures nearest { IsNearestEntry self.side self.itself level.now.map piece (piece_in result) }
@@ -142,7 +152,7 @@ impl Arena {
     }
 
     // The entry behind which the neighbour of the key stands.
-    fn turn(&self, look: Look, key: &[u8]) -> Option<Turn>
+    pub fn turn(&self, look: Look, key: &[u8]) -> Option<Turn>
         requires is_arena { IsArena self.now }
         requires without_zero { All (λ byte. byte ≢ 0) key.now }
         ensures is_text { IsText key.now }

@@ -1,8 +1,10 @@
 // The slots of a map handle.
-ghost use Rattle.std.specs.Prelude.{◌≡◌};
+ghost use Rattle.std.specs.Prelude.{◌≡◌, unwrap_or, option_and_then};
 ghost use Rattle.std.specs.Borrow.{sem};
 ghost use Rattle.std.specs.FinMap as map;
 ghost use Rattle.std.specs.Option.{option_copied_mut};
+ghost use Rattle.judy_model.specs.Counts as counts;
+ghost use Rattle.judy_model.specs.Neighbours as neighbours;
 ghost use Rattle.judy_c.specs.Maps.{map_of};
 ghost use Rattle.judy_c.specs.Puts.{IsMade};
 ghost use Rattle.judy_c.specs.SlotLends.{LendsSlotOf};
@@ -33,6 +35,66 @@ impl Map {
                 Err(_) => None,
             },
             Err(_) => None,
+        }
+    }
+
+    // The slot of the least key from a word on, which is told; `None` where there is none.
+    pub(crate) fn first_slot(&mut self, from: u64, key: &mut u64) -> Option<&mut u64>
+        ensures* writes_back { sem 𝓛 (LendsSlotOf self.entry key.new result) }
+        ensures key { key.new ≡ unwrap_or (neighbours.first (map_of self.old) from) key.old }
+        ensures value { option_copied_mut result ≡ option_and_then (map.get (map_of self.old)) (neighbours.first (map_of self.old) from) }
+    {
+        match self.array() {
+            Some(array) => array.first_slot(from, key),
+            None => None,
+        }
+    }
+
+    // The slot of the least key above a word, which is told; `None` where there is none.
+    pub(crate) fn next_slot(&mut self, from: u64, key: &mut u64) -> Option<&mut u64>
+        ensures* writes_back { sem 𝓛 (LendsSlotOf self.entry key.new result) }
+        ensures key { key.new ≡ unwrap_or (neighbours.next (map_of self.old) from) key.old }
+        ensures value { option_copied_mut result ≡ option_and_then (map.get (map_of self.old)) (neighbours.next (map_of self.old) from) }
+    {
+        match self.array() {
+            Some(array) => array.next_slot(from, key),
+            None => None,
+        }
+    }
+
+    // The slot of the greatest key up to a word, which is told; `None` where there is none.
+    pub(crate) fn last_slot(&mut self, from: u64, key: &mut u64) -> Option<&mut u64>
+        ensures* writes_back { sem 𝓛 (LendsSlotOf self.entry key.new result) }
+        ensures key { key.new ≡ unwrap_or (neighbours.last (map_of self.old) from) key.old }
+        ensures value { option_copied_mut result ≡ option_and_then (map.get (map_of self.old)) (neighbours.last (map_of self.old) from) }
+    {
+        match self.array() {
+            Some(array) => array.last_slot(from, key),
+            None => None,
+        }
+    }
+
+    // The slot of the greatest key below a word, which is told; `None` where there is none.
+    pub(crate) fn prev_slot(&mut self, from: u64, key: &mut u64) -> Option<&mut u64>
+        ensures* writes_back { sem 𝓛 (LendsSlotOf self.entry key.new result) }
+        ensures key { key.new ≡ unwrap_or (neighbours.prev (map_of self.old) from) key.old }
+        ensures value { option_copied_mut result ≡ option_and_then (map.get (map_of self.old)) (neighbours.prev (map_of self.old) from) }
+    {
+        match self.array() {
+            Some(array) => array.prev_slot(from, key),
+            None => None,
+        }
+    }
+
+    // The slot of the n-th key, which is told; `None` where there is none.
+    pub(crate) fn by_count_slot(&mut self, n: u64, key: &mut u64) -> Option<&mut u64>
+        ensures* writes_back { sem 𝓛 (LendsSlotOf self.entry key.new result) }
+        ensures key { key.new ≡ unwrap_or (counts.by_count (map_of self.old) n) key.old }
+        ensures value { option_copied_mut result ≡ option_and_then (map.get (map_of self.old)) (counts.by_count (map_of self.old) n) }
+    {
+        match self.array() {
+            Some(array) => array.by_count_slot(n, key),
+            None => None,
         }
     }
 }

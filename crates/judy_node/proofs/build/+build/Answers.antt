@@ -33,7 +33,7 @@ add_group-child_of_sorted-requires g t c κs within =
               c.requires.width,
               (
                 omega arith,
-                group_map g.V.Words.WORDS c.args.below c.args.pairs.now c.args.rest.now c.args.branch.now.bytes c.args.branch.now.children.items made.0 c.byte_above-byte.result c.group_end-end.result made.1 c.group_end-end.ensures,
+                group_map g.V.Words.WORDS c.args.below c.args.pairs.now c.args.rest.now c.args.bytes.now c.args.children.now.items made.0 c.byte_above-byte.result c.group_end-end.result made.1 c.group_end-end.ensures,
               ),
             ),
           ),
@@ -52,16 +52,17 @@ add_group-returns-clause-fewer g t c =
 pub add_group-returns-clause-made : goal.add_group-returns-clause-made
 add_group-returns-clause-made g t c =
     let words = g.V.Words.WORDS in
-    let old = c.args.branch.now in
+    let old = c.args.bytes.now in
+    let before = c.args.children.now.items in
     let made = c.requires.made in
-    let bytes = c.add.ensures ∙ with_byte-push c.byte_above-byte.result old.bytes
-    (byte_before words c.args.below c.args.pairs.now c.args.rest.now old.bytes old.children.items made.0 c.byte_above-byte.result made.1 c.requires.some c.byte_above-byte.ensures) in
+    let bytes = c.add.ensures ∙ with_byte-push c.byte_above-byte.result old
+    (byte_before words c.args.below c.args.pairs.now c.args.rest.now old before made.0 c.byte_above-byte.result made.1 c.requires.some c.byte_above-byte.ensures) in
     let kids = c.in-Ok-push.ensures.items ∙ ap (λ kids. kids ++ c.in-Ok.child ∷ []) c.try_reserve.ensures.items in (
       c.byte_above-byte.result + 1,
       subst (λ left. AreMade words c.args.below c.args.pairs.now left c.add.new.self c.push.new.self.items (c.byte_above-byte.result + 1)) (sym c.split_at.ensures.back)
           (subst (λ bs. AreMade words c.args.below c.args.pairs.now (drop c.group_end-end.result c.args.rest.now) bs c.push.new.self.items (c.byte_above-byte.result + 1)) (sym bytes)
-          (subst (λ ks. AreMade words c.args.below c.args.pairs.now (drop c.group_end-end.result c.args.rest.now) (old.bytes ++ c.byte_above-byte.result ∷ []) ks (c.byte_above-byte.result + 1)) (sym kids)
-          (made_more words c.args.below c.args.pairs.now c.args.rest.now old.bytes old.children.items made.0 c.byte_above-byte.result c.group_end-end.result c.in-Ok.child made.1 c.requires.some
+          (subst (λ ks. AreMade words c.args.below c.args.pairs.now (drop c.group_end-end.result c.args.rest.now) (old ++ c.byte_above-byte.result ∷ []) ks (c.byte_above-byte.result + 1)) (sym kids)
+          (made_more words c.args.below c.args.pairs.now c.args.rest.now old before made.0 c.byte_above-byte.result c.group_end-end.result c.in-Ok.child made.1 c.requires.some
           c.byte_above-byte.ensures (omega (arith, c.byte_above-byte.type_inv)) c.group_end-end.ensures c.in-Ok.ensures c.requires.two))),
     )
 
@@ -69,8 +70,7 @@ pub child_of_sorted-kind_of_sorted-requires : goal.child_of_sorted-kind_of_sorte
 child_of_sorted-kind_of_sorted-requires g t c κs within =
     let width = c.requires.width in
     let high = width.1 in
-    let limit = c.most_in_immediate.ensures in
-    let more = c.if-pairs-most_in_immediate.false in
+    let more = c.fits_immediate.ensures.more c.if-fits_immediate.false in
     let falls = c.decreases in
     (omega arith, (within, (c.requires.one, ((width.0, omega arith), (omega arith, c.requires.map)))))
 
@@ -148,15 +148,10 @@ pub split-loop-rest-init : goal.split-loop-rest-init
 split-loop-rest-init g t c =
     let words = g.V.Words.WORDS in
     let many = c.requires.more in (
-      (
-        0,
-        subst (λ bs. AreMade words c.args.below c.args.pairs.now c.args.pairs.now bs c.in-Ok.children.items 0) (sym c.new-2.ensures)
-            (subst (λ ks. AreMade words c.args.below c.args.pairs.now c.args.pairs.now [] ks 0) (sym c.in-Ok.ensures.items)
-            (made_none words c.args.below c.args.pairs.now c.requires.map (omega arith))),
-      ),
-      c.new.ensures,
-      refl,
-      refl,
+      0,
+      subst (λ bs. AreMade words c.args.below c.args.pairs.now c.args.pairs.now bs c.in-Ok.children.items 0) (sym c.new-bytes.ensures)
+          (subst (λ ks. AreMade words c.args.below c.args.pairs.now c.args.pairs.now [] ks 0) (sym c.in-Ok.ensures.items)
+          (made_none words c.args.below c.args.pairs.now c.requires.map (omega arith))),
     )
 
 pub split-add_group-requires : goal.split-add_group-requires
@@ -165,29 +160,26 @@ split-add_group-requires g t c κs within =
     let test = c.loop-rest-test.true in
     let empty = c.is_empty.ensures in
     let apart = eqb-false (length c.loop-rest.rest.now) 0 (sym empty ∙ test) in
-    (omega arith, (within, (c.requires.one, (c.requires.width, (omega arith, (c.requires.two, c.loop-rest.invariant.0))))))
+    (omega arith, (within, (omega arith, (c.requires.one, (c.requires.width, (omega arith, (c.requires.two, c.loop-rest.invariant)))))))
 
 pub split-loop-rest-smaller : goal.split-loop-rest-smaller
 split-loop-rest-smaller g t c = c.in-Ok-add_group.ensures.fewer
 
 pub split-loop-rest-preserved : goal.split-loop-rest-preserved
-split-loop-rest-preserved g t c =
-    let others = c.in-Ok-add_group.ensures.others in
-    let before = c.loop-rest.invariant in
-    (c.in-Ok-add_group.ensures.made, others.0 ∙ before.1, others.1 ∙ before.2, others.2 ∙ before.3)
+split-loop-rest-preserved g t c = c.in-Ok-add_group.ensures.made
 
 pub split-returns-in-Ok-new-clause-level : goal.split-returns-in-Ok-new-clause-level
 split-returns-in-Ok-new-clause-level g t c =
     let words = g.V.Words.WORDS in
-    let at = c.loop-rest.invariant in
-    let b = c.loop-rest.branch in
+    let made = c.loop-rest.invariant in
+    let kids = c.loop-rest.children.items in
+    let n = length c.args.pairs.now in
     let over = length_none c.loop-rest.rest.now (eqb-true (length c.loop-rest.rest.now) 0 (sym c.is_empty.ensures ∙ c.loop-rest-test.false)) in (
       (
         subst (λ v. IsBranch words v.width v.skip v.bytes v.children.items v.population) (sym c.in-Ok-new.ensures.ok)
-            (subst (λ w. IsBranch words w b.skip b.bytes b.children.items b.population) (sym at.2)
-            (subst (λ s. IsBranch words c.args.below s b.bytes b.children.items b.population) (sym at.1)
-            (subst (λ n. IsBranch words c.args.below [] b.bytes b.children.items n) (sym at.3)
-            (made_branch words c.args.below c.args.pairs.now c.loop-rest.rest.now b.bytes b.children.items at.0.0 at.0.1 over c.requires.width.0 c.requires.width.1 c.requires.more)))),
+            (subst (λ s. IsBranch words c.args.below s c.of_bits.result kids n) (sym c.new.ensures)
+            (subst (λ bs. IsBranch words c.args.below [] bs kids n) (sym c.of_bits.ensures)
+            (made_branch words c.args.below c.args.pairs.now c.loop-rest.rest.now c.loop-rest.bytes kids made.0 made.1 over c.requires.width.0 c.requires.width.1 c.requires.more))),
         subst (λ v. AreSums v.sums v.children.items) (sym c.in-Ok-new.ensures.ok) c.sums_of_children.ensures,
       ),
       tt,
@@ -196,14 +188,14 @@ split-returns-in-Ok-new-clause-level g t c =
 pub split-returns-in-Ok-new-clause-built : goal.split-returns-in-Ok-new-clause-built
 split-returns-in-Ok-new-clause-built g t c =
     let words = g.V.Words.WORDS in
-    let at = c.loop-rest.invariant in
-    let b = c.loop-rest.branch in
+    let made = c.loop-rest.invariant in
+    let kids = c.loop-rest.children.items in
+    let n = length c.args.pairs.now in
     let over = length_none c.loop-rest.rest.now (eqb-true (length c.loop-rest.rest.now) 0 (sym c.is_empty.ensures ∙ c.loop-rest-test.false)) in
     subst (λ v. IsBuilt words (c.args.below + 1) c.args.pairs.now (branch_tree v.width v.skip v.bytes v.children.items v.population)) (sym c.in-Ok-new.ensures.ok)
-    (subst (λ w. IsBuilt words (c.args.below + 1) c.args.pairs.now (branch_tree w b.skip b.bytes b.children.items b.population)) (sym at.2)
-    (subst (λ s. IsBuilt words (c.args.below + 1) c.args.pairs.now (branch_tree c.args.below s b.bytes b.children.items b.population)) (sym at.1)
-    (subst (λ n. IsBuilt words (c.args.below + 1) c.args.pairs.now (branch_tree c.args.below [] b.bytes b.children.items n)) (sym at.3)
-    (made_built words c.args.below c.args.pairs.now c.loop-rest.rest.now b.bytes b.children.items at.0.0 at.0.1 over c.requires.width.0 c.requires.width.1 c.requires.more))))
+    (subst (λ s. IsBuilt words (c.args.below + 1) c.args.pairs.now (branch_tree c.args.below s c.of_bits.result kids n)) (sym c.new.ensures)
+    (subst (λ bs. IsBuilt words (c.args.below + 1) c.args.pairs.now (branch_tree c.args.below [] bs kids n)) (sym c.of_bits.ensures)
+    (made_built words c.args.below c.args.pairs.now c.loop-rest.rest.now c.loop-rest.bytes kids made.0 made.1 over c.requires.width.0 c.requires.width.1 c.requires.more)))
 
 pub add_group-split_at-requires : goal.add_group-split_at-requires
 add_group-split_at-requires g t c =
@@ -213,10 +205,10 @@ add_group-split_at-requires g t c =
 pub split-sums_of_children-requires : goal.split-sums_of_children-requires
 split-sums_of_children-requires g t c =
     let words = g.V.Words.WORDS in
-    let at = c.loop-rest.invariant in
-    let b = c.loop-rest.branch in
+    let made = c.loop-rest.invariant in
+    let kids = c.loop-rest.children.items in
+    let n = length c.args.pairs.now in
     let over = length_none c.loop-rest.rest.now (eqb-true (length c.loop-rest.rest.now) 0 (sym c.is_empty.ensures ∙ c.loop-rest-test.false)) in
-    subst (λ w. IsBranch words w b.skip b.bytes b.children.items b.population) (sym at.2)
-    (subst (λ s. IsBranch words c.args.below s b.bytes b.children.items b.population) (sym at.1)
-    (subst (λ n. IsBranch words c.args.below [] b.bytes b.children.items n) (sym at.3)
-    (made_branch words c.args.below c.args.pairs.now c.loop-rest.rest.now b.bytes b.children.items at.0.0 at.0.1 over c.requires.width.0 c.requires.width.1 c.requires.more)))
+    subst (λ s. IsBranch words c.args.below s c.of_bits.result kids n) (sym c.new.ensures)
+    (subst (λ bs. IsBranch words c.args.below [] bs kids n) (sym c.of_bits.ensures)
+    (made_branch words c.args.below c.args.pairs.now c.loop-rest.rest.now c.loop-rest.bytes kids made.0 made.1 over c.requires.width.0 c.requires.width.1 c.requires.more))

@@ -1,4 +1,4 @@
-use Rattle.std.proofs.Common.{◌≡◌, ℕ, ◌+◌, ◌*◌, [], length}
+use Rattle.std.proofs.Common.{ℕ, ◌+◌, ◌*◌, length}
 use Rattle.judy_node.specs.Built.{AreMade}
 use Rattle.judy_node.proofs.build.+build.Given as goal
 
@@ -18,9 +18,7 @@ abbrev pub decreases-split : goal.decreases-split
 decreases-split g l = 5 * l.below + 4
 
 abbrev pub invariant-split-loop-rest : goal.invariant-split-loop-rest
-invariant-split-loop-rest g l =
-    ((next : ℕ) × AreMade g.V.Words.WORDS l.below l.pairs l.rest l.branch.bytes l.branch.children.items next)
-    × (l.branch.skip ≡ []) × (l.branch.width ≡ l.below) × (l.branch.population ≡ length l.pairs)
+invariant-split-loop-rest g l = (next : ℕ) × AreMade g.V.Words.WORDS l.below l.pairs l.rest l.bytes l.children.items next
 
 abbrev pub decreases-split-loop-rest : goal.decreases-split-loop-rest
 decreases-split-loop-rest g l = length l.rest

@@ -1,4 +1,4 @@
-use Rattle.std.proofs.Common.{◌≡◌, suc, ◌+◌, ◌-◌, ◌*◌, ◌^◌, [], length, slice_get, Some, sym, refl, ap, ◌∙◌, arith, is_ge}
+use Rattle.std.proofs.Common.{◌≡◌, suc, ◌+◌, ◌-◌, ◌*◌, ◌^◌, [], length, slice_get, None, Some, sym, refl, ap, ◌∙◌, arith, is_ge}
 use Rattle.std.specs.Option.{option_or}
 use Rattle.judy_model.specs.Keys.{word_order}
 use Rattle.judy_model.specs.WordBytes.{number_of}
@@ -6,9 +6,9 @@ use Rattle.judy_leaf.specs.KeyLists.{shift}
 use Rattle.judy_node.specs.Views.{view_pairs}
 use Rattle.judy_node.specs.declared.step.Step.TheVariants.{Child}
 use Rattle.judy_node.specs.declared.view.ViewOf.TheVariants.{Branch}
-use Rattle.judy_query.specs.Parts.{raised, width_of, passed}
+use Rattle.judy_query.specs.Parts.{width_of, passed}
 use Rattle.judy_query.proofs.Downs.{down_root, down_child, down_gap, child_inside, child_is, beside_is, branch_is, passed_few, beside_reached}
-use Rattle.judy_query.proofs.NearFacts.{part-from, head-append, found_below}
+use Rattle.judy_query.proofs.NearFacts.{part-from, head-append, found_below, down_from}
 use Rattle.judy_query.proofs.LaterFacts.{reached_rank}
 use Rattle.judy_query.proofs.Splits.{rest_of}
 use Rattle.judy_query.proofs.after.entry_at_or_after.Goals as goal
@@ -101,20 +101,15 @@ pub returns-in-Some : goal.returns-in-Some
 returns-in-Some g c =
     let words = g.V.Words.WORDS in
     let pairs = c.args.tree.now.pairs in
-    let base = c.args.key - c.in-Child.rest in
     let view = c.enter-in-down.result in
     let next = down_child words pairs c.down.at.0 c.args.key c.down.at.1 c.down.invariant.0 c.in-Child.field-0 c.in-Child.place c.in-Child.rest c.in-Child.ensures c.index.result.now c.index.ensures view c.enter-in-down.ensures.view in
-    let down = next.down in
-    let above = down.above in
-    let less = next.width_is in
-    let some = down.shown.some in
-    let whole : c.args.key ≡ base + c.in-Child.rest = omega arith in
+    let above = next.down.above in
+    let whole : c.args.key ≡ c.args.key - c.in-Child.rest + c.in-Child.rest = omega arith in
+    let some = next.down.shown.some in
     record {
-      entry = (λ t. Some (whole t, c.in-Some.value))
-          ∙ sym (part-from words (256 ^ 8) pairs base (256 ^ width_of view) c.in-Child.rest c.args.key (view_pairs view) down.front down.back down.part whole down.inside
-          ∙ ap (λ found. option_or (raised base found) (slice_get down.back 0)) c.in-Some.ensures);
+      entry = (λ t. Some (whole t, c.in-Some.value)) ∙ down_from words pairs view c.args.key c.in-Child.rest next.down (Some (c.in-Child.rest, c.in-Some.value)) (sym c.in-Some.ensures);
       no_fewer = omega (arith, c.down.invariant.4, c.enter-in-down.ensures.visits);
-      visits = omega (arith, c.down.invariant.3, c.enter-in-down.ensures.visits);
+      visits = omega (arith, c.down.invariant.3, c.enter-in-down.ensures.visits, next.width_is);
     }
 
 pub pair_behind-requires-in_default-from_in : goal.pair_behind-requires-in_default-from_in
@@ -148,20 +143,14 @@ returns-in_default-from_in g c =
     let way = c.down.invariant in
     let view = c.enter-in-down.result in
     let next = down_child words pairs c.down.at.0 c.args.key c.down.at.1 way.0 c.in-Child.field-0 c.in-Child.place c.in-Child.rest c.in-Child.ensures c.index.result.now c.index.ensures view c.enter-in-down.ensures.view in
-    let down = next.down in
-    let above = down.above in
-    let less = next.width_is in
-    let some = down.shown.some in
+    let behind = shift base (rest_of (256 ^ b.width) (number_of b.skip * 256) b.bytes b.children.items (suc c.in-Child.place)) in
+    let some = next.down.shown.some in
     let visits = c.enter-in-down.ensures.visits in
     record {
-      entry = c.pair_behind-in_default-from_in.ensures.entry
-          ∙ (λ t. option_or (slice_get (shift base (rest_of (256 ^ b.width) (number_of b.skip * 256) b.bytes b.children.items (suc c.in-Child.place))) 0) (sym way.1 t))
-          ∙ sym (head-append (shift base (rest_of (256 ^ b.width) (number_of b.skip * 256) b.bytes b.children.items (suc c.in-Child.place))) way.0.back)
-          ∙ sym (ap (λ ps. slice_get ps 0) next.back_is)
-          ∙ sym (part-from words (256 ^ 8) pairs (c.args.key - c.in-Child.rest) (256 ^ width_of view) c.in-Child.rest c.args.key (view_pairs view) down.front down.back down.part (omega arith) down.inside
-          ∙ ap (λ found. option_or (raised (c.args.key - c.in-Child.rest) found) (slice_get down.back 0)) (sym c.from_in-in_default-enter.ensures ∙ c.in_default-from_in.is));
+      entry = c.pair_behind-in_default-from_in.ensures.entry ∙ (λ t. option_or (slice_get behind 0) (sym way.1 t)) ∙ sym (head-append behind way.0.back) ∙ sym (ap (λ ps. slice_get ps 0) next.back_is)
+          ∙ down_from words pairs view c.args.key c.in-Child.rest next.down None (sym c.in_default-from_in.is ∙ c.from_in-in_default-enter.ensures);
       no_fewer = omega (arith, way.4, c.pair_behind-in_default-from_in.ensures.no_fewer, visits);
-      visits = omega (arith, way.3, c.pair_behind-in_default-from_in.ensures.visits);
+      visits = omega (arith, way.3, c.pair_behind-in_default-from_in.ensures.visits, next.width_is);
     }
 
 pub overflow_add-result : goal.overflow_add-result
@@ -177,16 +166,11 @@ pub returns-in_default-enter : goal.returns-in_default-enter
 returns-in_default-enter g c =
     let words = g.V.Words.WORDS in
     let pairs = c.args.tree.now.pairs in
-    let base = c.args.key - c.in-Child.rest in
     let view = c.enter-in-down.result in
     let next = down_child words pairs c.down.at.0 c.args.key c.down.at.1 c.down.invariant.0 c.in-Child.field-0 c.in-Child.place c.in-Child.rest c.in-Child.ensures c.index.result.now c.index.ensures view c.enter-in-down.ensures.view in
-    let down = next.down in
-    let above = down.above in
-    let less = next.width_is in
-    let some = down.shown.some in
+    let some = next.down.shown.some in
     record {
-      entry = sym (part-from words (256 ^ 8) pairs base (256 ^ width_of view) c.in-Child.rest c.args.key (view_pairs view) down.front down.back down.part (omega arith) down.inside
-          ∙ ap (λ found. option_or (raised base found) (slice_get down.back 0)) (sym c.from_in-in_default-enter.ensures ∙ c.in-Some-from_in.is));
+      entry = down_from words pairs view c.args.key c.in-Child.rest next.down (Some c.in-Some-from_in.found) (sym c.in-Some-from_in.is ∙ c.from_in-in_default-enter.ensures);
       no_fewer = omega (arith, c.down.invariant.4, c.enter-in-down.ensures.visits);
-      visits = omega (arith, c.down.invariant.3, c.enter-in-down.ensures.visits);
+      visits = omega (arith, c.down.invariant.3, c.enter-in-down.ensures.visits, next.width_is);
     }

@@ -1,13 +1,14 @@
-use Rattle.std.proofs.Common.{◌-◌, ◌*◌, ◌^◌, [], length, sym, refl, ap, ◌∙◌, arith}
+use Rattle.std.proofs.Common.{ℕ, ◌-◌, ◌*◌, ◌^◌, [], length, None, Some, sym, refl, ap, ◌∙◌, arith}
 use Rattle.std.specs.Option.{option_or}
 use Rattle.judy_model.specs.WordBytes.{number_of}
 use Rattle.judy_leaf.specs.KeyLists.{shift}
+use Rattle.judy_node.specs.Trees.{Pairs}
 use Rattle.judy_node.specs.Views.{view_pairs}
 use Rattle.judy_node.specs.declared.view.ViewOf.TheVariants.{Branch}
-use Rattle.judy_query.specs.Parts.{raised, width_of, passed}
+use Rattle.judy_query.specs.Parts.{width_of, passed}
 use Rattle.judy_query.specs.Turns.{last_pair}
 use Rattle.judy_query.proofs.Downs.{down_root, down_child, down_gap, child_inside, child_is, beside_is, branch_is, passed_few}
-use Rattle.judy_query.proofs.NearFacts.{part-up_to, last_pair-append, up_to_below}
+use Rattle.judy_query.proofs.NearFacts.{part-up_to, last_pair-append, up_to_below, down_up_to}
 use Rattle.judy_query.proofs.LaterFacts.{passed_rank, passed_small}
 use Rattle.judy_query.proofs.Splits.{first_of}
 use Rattle.judy_query.proofs.before.entry_at_or_before.Goals as goal
@@ -94,21 +95,15 @@ returns-in_default-up_to_in g c =
     let way = c.down.invariant in
     let view = c.enter-in-down.result in
     let next = down_child words pairs c.down.at.0 c.args.key c.down.at.1 way.0 c.in-Child.field-0 c.in-Child.place c.in-Child.rest c.in-Child.ensures c.index.result.now c.index.ensures view c.enter-in-down.ensures.view in
+    let front : ℕ → Pairs = λ place. shift base (first_of (256 ^ b.width) (number_of b.skip * 256) b.bytes b.children.items place) in
     let place = ap (passed (length b.children.items)) c.in-Child.is in
-    let down = next.down in
-    let above = down.above in
-    let less = next.width_is in
-    let some = down.shown.some in
+    let some = next.down.shown.some in
     let visits = c.enter-in-down.ensures.visits in
     record {
-      entry = c.greatest-in_default-up_to_in.ensures.entry ∙ c.earlier_turn-earlier.ensures.pair
-          ∙ (λ t. option_or (last_pair (shift base (first_of (256 ^ b.width) (number_of b.skip * 256) b.bytes b.children.items (place t)))) (sym way.1 t))
-          ∙ sym (last_pair-append way.0.front (shift base (first_of (256 ^ b.width) (number_of b.skip * 256) b.bytes b.children.items c.in-Child.place)))
-          ∙ sym (ap (λ ps. last_pair ps) next.front_is)
-          ∙ sym (part-up_to words (256 ^ 8) pairs (c.args.key - c.in-Child.rest) (256 ^ width_of view) c.in-Child.rest c.args.key (view_pairs view) down.front down.back down.part (omega arith) down.inside
-          ∙ ap (λ found. option_or (raised (c.args.key - c.in-Child.rest) found) (last_pair down.front)) (sym c.up_to_in-in_default-enter.ensures ∙ c.in_default-up_to_in.is));
+      entry = c.greatest-in_default-up_to_in.ensures.entry ∙ c.earlier_turn-earlier.ensures.pair ∙ (λ t. option_or (last_pair (front (place t))) (sym way.1 t)) ∙ sym (last_pair-append way.0.front (front c.in-Child.place)) ∙ sym (ap (λ ps. last_pair ps) next.front_is)
+          ∙ down_up_to words pairs view c.args.key c.in-Child.rest next.down None (sym c.in_default-up_to_in.is ∙ c.up_to_in-in_default-enter.ensures);
       no_fewer = omega (arith, way.4, c.greatest-in_default-up_to_in.ensures.no_fewer, visits);
-      visits = omega (arith, way.3, c.greatest-in_default-up_to_in.ensures.visits);
+      visits = omega (arith, way.3, c.greatest-in_default-up_to_in.ensures.visits, next.width_is);
     }
 
 pub overflow_add-result : goal.overflow_add-result
@@ -124,16 +119,11 @@ pub returns-in_default-enter : goal.returns-in_default-enter
 returns-in_default-enter g c =
     let words = g.V.Words.WORDS in
     let pairs = c.args.tree.now.pairs in
-    let base = c.args.key - c.in-Child.rest in
     let view = c.enter-in-down.result in
     let next = down_child words pairs c.down.at.0 c.args.key c.down.at.1 c.down.invariant.0 c.in-Child.field-0 c.in-Child.place c.in-Child.rest c.in-Child.ensures c.index.result.now c.index.ensures view c.enter-in-down.ensures.view in
-    let down = next.down in
-    let above = down.above in
-    let less = next.width_is in
-    let some = down.shown.some in
+    let some = next.down.shown.some in
     record {
-      entry = sym (part-up_to words (256 ^ 8) pairs base (256 ^ width_of view) c.in-Child.rest c.args.key (view_pairs view) down.front down.back down.part (omega arith) down.inside
-          ∙ ap (λ found. option_or (raised base found) (last_pair down.front)) (sym c.up_to_in-in_default-enter.ensures ∙ c.in-Some.is));
+      entry = down_up_to words pairs view c.args.key c.in-Child.rest next.down (Some c.in-Some.found) (sym c.in-Some.is ∙ c.up_to_in-in_default-enter.ensures);
       no_fewer = omega (arith, c.down.invariant.4, c.enter-in-down.ensures.visits);
-      visits = omega (arith, c.down.invariant.3, c.enter-in-down.ensures.visits);
+      visits = omega (arith, c.down.invariant.3, c.enter-in-down.ensures.visits, next.width_is);
     }

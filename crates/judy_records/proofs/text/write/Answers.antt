@@ -1,9 +1,19 @@
-use Rattle.std.proofs.Common.{ap, ◌∙◌, set}
-use Rattle.judy_records.proofs.TextLemmas.{words-written, rest-more}
+use Rattle.std.proofs.Common.{◌≡◌, ◌*◌, ◌/◌, [], length, drop, get_or, set, refl, ap, ◌∙◌, arith}
+use Rattle.judy_records.specs.Texts.{first_word}
+use Rattle.judy_records.proofs.TextLemmas.{words-written}
+use Rattle.judy_records.proofs.ChunkLemmas.{chunk-word, last-written}
 use Rattle.judy_records.proofs.text.write.Goals as goal
 
-pub loop-word-preserved : goal.loop-word-preserved
-loop-word-preserved c = record {
-  written = ap (λ word. set c.loop-word.text c.loop-word.word-index word) c.first_word.ensures ∙ words-written c.args.text.now c.loop-word.text c.args.bytes.now c.loop-word.rest.now c.loop-word.word-index c.loop-word-test.true c.loop-word.invariant.written c.loop-word.invariant.behind;
-  behind = c.after_first-rest.ensures ∙ rest-more c.args.bytes.now c.loop-word.rest.now c.loop-word.word-index c.loop-word.invariant.behind;
-}
+pub loop-i-preserved : goal.loop-i-preserved
+loop-i-preserved c =
+    let bytes = c.args.bytes.now in
+    let i = c.loop-i.i in
+    let word : c.from_be_bytes.result ≡ first_word (drop (8 * i) bytes) =
+    c.from_be_bytes.ensures ∙ chunk-word i (length bytes / 8) bytes (get_or c.as_chunks.result.0.now i []) (omega (arith, c.loop-i-test.true)) (omega arith) (ap (λ chunks. get_or chunks i []) c.as_chunks.ensures.front) in
+    ap (λ word. set c.loop-i.text i word) word
+    ∙ words-written c.args.text.now c.loop-i.text bytes (drop (8 * i) bytes) i (omega (arith, c.loop-i-test.true)) c.loop-i.invariant refl
+
+pub returns-then-not-is_empty : goal.returns-then-not-is_empty
+returns-then-not-is_empty c =
+    last-written c.args.bytes.now c.loop-i.i (length c.as_chunks.result.0.now) c.last_word.result (omega (arith, c.loop-i-test.false)) (omega (arith, c.loop-i-test.false)) (grind (arith, c.if-not-is_empty.ensures)) c.last_word.ensures
+    c.args.text.now c.loop-i.text c.requires c.loop-i.invariant

@@ -1,16 +1,5 @@
-use Rattle.std.proofs.Common.{take, length, ap, sym, ◌∙◌, arith}
-use Rattle.judy_bits.specs.BitWords.{members_of}
-use Rattle.judy_leaf.proofs.BitLists.{four_words, bit_keys_are, bit_set}
+use Rattle.std.proofs.Common.{◌∙◌}
 use Rattle.judy_leaf.proofs.bit_ref.BitRef.bits.Goals as goal
 
-pub of_words-requires : goal.of_words-requires
-of_words-requires g c =
-    let full = c.self.invariant.full in
-    ap (λ words. length (take 4 words)) c.words.ensures ∙ sym (ap length (four_words c.self.inside.block.now.words (omega arith)))
-
 pub returns-clause-value : goal.returns-clause-value
-returns-clause-value g c =
-    c.of_words.ensures ∙ ap (λ words. members_of (take 4 words)) c.words.ensures ∙ bit_keys_are g.V.Words.WORDS c.self.inside.block.now c.self.invariant c.args.self.now c.self.view_is
-
-pub returns-clause-is_set : goal.returns-clause-is_set
-returns-clause-is_set g c = bit_set g.V.Words.WORDS c.self.inside.block.now c.self.invariant c.args.self.now c.self.view_is
+returns-clause-value g c = c.of_words.ensures ∙ c.bit_words.ensures.keys

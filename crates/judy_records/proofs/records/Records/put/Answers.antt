@@ -17,11 +17,14 @@ pushed-fits more count spare stride capacity now long longer none has same is th
 
 -- ---- at the end
 
-pub push_record-requires : goal.push_record-requires
-push_record-requires c =
+pub push_record-requires-clause-room : goal.push_record-requires-clause-room
+push_record-requires-clause-room c =
     let has = room-has c.self.inside c.self.invariant 1 (subst (λ list. HasRoom list 1) (sym c.self.view_is) c.requires.room) in
     let one : (1 - c.self.inside.spare) * (c.self.inside.size + 1) ≡ 1 * (c.self.inside.size + 1) = (let e : 1 - c.self.inside.spare ≡ 1 = omega (arith, c.if-self-eq0.true) in ap (λ n. n * (c.self.inside.size + 1)) e) in
     omega (arith, has, one, c.self.inside.words.ok)
+
+pub push_record-requires-clause-fits : goal.push_record-requires-clause-fits
+push_record-requires-clause-fits c = c.requires.fits ∙ ap (λ list. list.size) (sym c.self.view_is)
 
 pub invariant_of-self : goal.invariant_of-self
 invariant_of-self c = record {
@@ -63,10 +66,13 @@ index-requires c =
     let inside = free-inside c.self.inside c.self.invariant c.args.value c.args.bytes.now (c.requires.fits ∙ ap (λ list. list.size) (sym c.self.view_is)) (omega (arith, c.if-self-eq0.false)) in
     omega (arith, inside, c.self.inside.words.ok)
 
-pub write_record-requires : goal.write_record-requires
-write_record-requires c =
+pub write_record-requires-clause-within : goal.write_record-requires-clause-within
+write_record-requires-clause-within c =
     let inside = free-inside c.self.inside c.self.invariant c.args.value c.args.bytes.now (c.requires.fits ∙ ap (λ list. list.size) (sym c.self.view_is)) (omega (arith, c.if-self-eq0.false)) in
     omega (arith, inside, c.self.inside.words.ok)
+
+pub write_record-requires-clause-fits : goal.write_record-requires-clause-fits
+write_record-requires-clause-fits c = c.requires.fits ∙ ap (λ list. list.size) (sym c.self.view_is)
 
 pub invariant_of-self-2 : goal.invariant_of-self-2
 invariant_of-self-2 c =

@@ -10,10 +10,13 @@ overflow_mul-start c =
     let inside = word-inside c.self.inside c.self.invariant c.args.place (subst (λ list. IsHeld (spot_at list c.args.place)) (sym c.self.view_is) c.requires.is_held) in
     omega (arith, inside, c.self.inside.words.ok, c.self.inside.words.small)
 
-pub write_record-requires : goal.write_record-requires
-write_record-requires c =
+pub write_record-requires-clause-within : goal.write_record-requires-clause-within
+write_record-requires-clause-within c =
     let inside = word-inside c.self.inside c.self.invariant c.args.place (subst (λ list. IsHeld (spot_at list c.args.place)) (sym c.self.view_is) c.requires.is_held) in
     omega (arith, inside, c.self.inside.words.ok)
+
+pub write_record-requires-clause-fits : goal.write_record-requires-clause-fits
+write_record-requires-clause-fits c = c.requires.fits ∙ ap (λ list. list.size) (sym c.self.view_is)
 
 pub invariant_of-self : goal.invariant_of-self
 invariant_of-self c =

@@ -1,0 +1,105 @@
+//! The two sides of a key on which a word is sought that is no key. The search (empties.rt) is one for both.
+
+ghost use Rattle.std.specs.Prelude.{◌≡◌, ◌+◌, ◌-◌, ◌*◌, ◌^◌, ◌<◌, ◌≤◌, Some, length, slice_get};
+ghost use Rattle.judy_model.specs.WordBytes.{number_of};
+ghost use Rattle.judy_leaf.specs.KeyLists.{shift};
+ghost use Rattle.judy_node.specs.Trees.{IsBranch, branch_pairs};
+ghost use Rattle.judy_node.specs.Views.{view_pairs};
+ghost use Rattle.judy_query.specs.Parts.{IsEnd, IsShown, width_of};
+ghost use Rattle.judy_query.specs.Rooms.{HasWidth, IsAbsent, IsRoom, IsRoomPast, low_of, high_of, end_of};
+
+use crate::absent::{first_absent, last_absent};
+use crate::rooms::{Room, has_next, last_word, room_from, room_up_to};
+use judy_leaf::Words;
+use judy_node::{BranchOf, ViewOf};
+
+/// To which side of a key a word is sought that is no key. Whoever asks names it, and each search for one side is compiled by itself.
+#[derive(Clone, Copy)]
+pub(crate) enum Side {
+    /// From the key up.
+    Up,
+    /// From the key down.
+    Down,
+}
+
+impl Side {
+    /// The word of a width of at most 7 bytes that is met first.
+    #[inline(always)]
+    pub(crate) fn end(self, width: u8) -> u64
+        requires { width ≤ 7 }
+        ensures { result ≡ end_of self (256 ^ width) }
+    {
+        match self {
+            Side::Up => 0,
+            Side::Down => last_word(width),
+        }
+    }
+
+    /// The nearest word from a key on, of a node's width, that is no key of the node, which has no children; none where all of these are
+    /// keys.
+    #[inline(always)]
+    pub(crate) fn absent<V: Words + Drop>(
+        self,
+        end: &ViewOf<'_, V>,
+        width: u8,
+        key: u64,
+    ) -> Option<u64>
+        requires end { IsEnd end.now }
+        requires shown { IsShown V.WORDS end.now }
+        requires width { width ≡ width_of end.now }
+        requires within { key < 256 ^ width }
+        ensures { IsAbsent self (view_pairs end.now) (low_of self key) (high_of self key (256 ^ width)) result }
+    {
+        match self {
+            Side::Up => first_absent(end, width, key),
+            Side::Down => last_absent(end, width, key),
+        }
+    }
+
+    /// The nearest room of a branch past the child of a byte, whose place is known. The branch's words begin at a base.
+    #[inline(always)]
+    pub(crate) fn room_past<V: Words + Drop>(
+        self,
+        branch: &BranchOf<V>,
+        place: usize,
+        byte: u8,
+        base: u64,
+    ) -> Room<'_, V>
+        requires branch { IsBranch V.WORDS branch.now.width branch.now.skip branch.now.bytes branch.now.children.items branch.now.population }
+        requires child { slice_get branch.now.bytes place ≡ Some byte }
+        requires fits { base + 256 ^ (length branch.now.skip + 1 + branch.now.width) ≤ 2 ^ 64 }
+        ensures { IsRoomPast self V.WORDS (shift base (branch_pairs branch.now.width branch.now.skip branch.now.bytes branch.now.children.items))
+            base (base + 256 ^ (length branch.now.skip + 1 + branch.now.width))
+            (base + (number_of branch.now.skip * 256 + byte) * 256 ^ branch.now.width) (256 ^ branch.now.width) result }
+    {
+        match self {
+            Side::Up => room_from(branch, place + 1, u64::from(byte) + 1, base),
+            Side::Down => room_up_to(branch, place, u64::from(byte), base),
+        }
+    }
+
+    /// The room of a branch that is met first of all its words. They have so many bytes, at most 7, and begin at a base.
+    #[inline(always)]
+    pub(crate) fn room_of<V: Words + Drop>(
+        self,
+        branch: &BranchOf<V>,
+        wide: u8,
+        base: u64,
+    ) -> Room<'_, V>
+        requires branch { IsBranch V.WORDS branch.now.width branch.now.skip branch.now.bytes branch.now.children.items branch.now.population }
+        requires wide { wide ≡ length branch.now.skip + 1 + branch.now.width }
+        requires narrow { wide ≤ 7 }
+        requires fits { base + 256 ^ (length branch.now.skip + 1 + branch.now.width) ≤ 2 ^ 64 }
+        ensures width { HasWidth branch.now.width result }
+        ensures room { IsRoom self V.WORDS (shift base (branch_pairs branch.now.width branch.now.skip branch.now.bytes branch.now.children.items))
+            base (base + 256 ^ (length branch.now.skip + 1 + branch.now.width)) result }
+    {
+        let number = branch.skip.number();
+        match self {
+            Side::Up if number > 0 => Room::At(base),
+            Side::Up => room_from(branch, 0, 0, base),
+            Side::Down if has_next(number, branch.skip.len()) => Room::At(base + last_word(wide)),
+            Side::Down => room_up_to(branch, branch.children.len(), 256, base),
+        }
+    }
+}

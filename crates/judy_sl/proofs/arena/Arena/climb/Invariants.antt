@@ -1,0 +1,10 @@
+use Rattle.std.proofs.Common.{◌-◌, length}
+use Rattle.judy_sl.specs.Arenas.{world_of}
+use Rattle.judy_sl.proofs.RunWays.{Climbing}
+use Rattle.judy_sl.proofs.arena.Arena.climb.Given as goal
+
+abbrev pub invariant-loop-piece : goal.invariant-loop-piece
+invariant-loop-piece l = Climbing l.itself (world_of l.self) l.fn.key.items l.piece l.value l.key.items l.run.entries l.run.depth
+
+abbrev pub decreases-loop-piece : goal.decreases-loop-piece
+decreases-loop-piece l = 1024 - length l.key.items

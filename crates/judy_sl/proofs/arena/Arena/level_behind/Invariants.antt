@@ -1,0 +1,14 @@
+use Rattle.std.proofs.Common.{ℕ, ◌-◌, length}
+use Rattle.std.specs.FinMap.{FinMap}
+use Rattle.judy_model.specs.Keys.{word_order}
+use Rattle.judy_sl.specs.Arenas.{world_of}
+use Rattle.judy_sl.specs.Runs.{LeadsToLevel}
+use Rattle.judy_sl.proofs.RunWays.{OnWayTo}
+use Rattle.judy_sl.proofs.arena.Arena.level_behind.Given as goal
+
+abbrev pub invariant-loop-rest : goal.invariant-loop-rest
+invariant-loop-rest l =
+    (target : FinMap word_order ℕ) → LeadsToLevel (world_of l.self) l.key l.depth target → OnWayTo (world_of l.self) target (length l.key - l.depth) l.level.map l.rest
+
+abbrev pub decreases-loop-rest : goal.decreases-loop-rest
+decreases-loop-rest l = length l.rest

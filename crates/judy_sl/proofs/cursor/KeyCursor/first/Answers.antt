@@ -1,0 +1,19 @@
+use Rattle.std.proofs.Common.{true}
+use Rattle.judy_sl.specs.Arenas.{world_of}
+use Rattle.judy_sl.specs.Scans.{upward}
+use Rattle.judy_sl.proofs.ScanMaps.{scanned}
+use Rattle.judy_sl.proofs.RunWays.{text_after}
+use Rattle.judy_sl.proofs.cursor.KeyCursor.first.Goals as goal
+
+pub invariant_of-self : goal.invariant_of-self
+invariant_of-self c = record {
+  is_arena = c.self.invariant.is_arena;
+  is_text = text_after (upward true) (world_of c.self.inside.arena.now) c.self.inside.key.items c.seek.new.key.items c.seek.result c.self.invariant.is_text c.seek.ensures.neighbour;
+  leads = c.seek.ensures.leads;
+}
+
+pub returns-clause-key : goal.returns-clause-key
+returns-clause-key c = rw (← c.self.view_is) (scanned (upward true) c.self.inside.arena.now c.self.inside.key.items c.self.invariant.is_text c.seek.new.key.items c.seek.result c.seek.ensures.neighbour).0
+
+pub returns-clause-value : goal.returns-clause-value
+returns-clause-value c = rw (← c.self.view_is) (scanned (upward true) c.self.inside.arena.now c.self.inside.key.items c.self.invariant.is_text c.seek.new.key.items c.seek.result c.seek.ensures.neighbour).1

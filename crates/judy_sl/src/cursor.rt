@@ -1,0 +1,84 @@
+//! A walk up through an array, which remembers the level in which its key stands.
+
+ghost use Rattle.std.specs.Prelude.{◌≡◌, unwrap_or};
+ghost use Rattle.judy_model.specs.Keys.{IsStringKey};
+ghost use Rattle.judy_model.specs.Neighbours as neighbours;
+ghost use Rattle.judy_sl.specs.Scans.{value_found};
+
+use crate::arena::Arena;
+use crate::keys::KeyBuf;
+use crate::runs::Run;
+use crate::strings::JudySl;
+use std::marker::Model;
+
+/// A walk up through the keys of an array: to its callers it is the array's map, and the bytes at which it stands. A step to
+/// the next key begins in the level in which the last one ended, and at the first level only where that has no further
+/// entry. It asks for no memory. (This project's own.)
+#[derive(Drop)]
+pub struct KeyCursor<'a> {
+    arena: &'a Arena,
+    key: KeyBuf,
+    run: Option<Run<'a>>,
+}
+
+impl<'a> Model for KeyCursor<'a> {
+    ghost use Rattle.judy_sl.specs.Cursors.{Standing, standing_code};
+
+    ghost Value = { Standing };
+
+    ghost coded = { standing_code };
+
+    ghost use Rattle.judy_sl.specs.Arenas.{map_of};
+    ghost use Rattle.judy_sl.specs.Cursors.{IsCursor};
+
+    ghost view = { λ a. record { map = map_of a.arena.now; key = a.key.items } };
+
+    ghost invariant = { λ a. IsCursor a.arena.now a.key.items a.run };
+}
+
+impl<'a> KeyCursor<'a> {
+    /// The bytes at which it stands: those with which it was made, and then the key that was found last.
+    pub fn key(&self) -> &[u8]
+        ensures { result.now ≡ self.now.key }
+    {
+        self.key.as_slice()
+    }
+
+    /// Goes to the least key from the bytes at which it stands on, these themselves where they are a key, and answers its value.
+    /// `None` where no key is left, and it stays. It is [`JudySl::first`].
+    pub fn first(&mut self) -> Option<u64>
+        ensures map { self.new.map ≡ self.old.map }
+        ensures key { self.new.key ≡ unwrap_or (neighbours.first self.old.map self.old.key) self.old.key }
+        ensures value { result ≡ value_found self.old.map (neighbours.first self.old.map self.old.key) }
+    {
+        self.arena.seek(true, &mut self.run, &mut self.key)
+    }
+
+    /// Goes to the least key above the bytes at which it stands, and answers its value. `None` where no key is above them, and
+    /// it stays. It is [`JudySl::next`].
+    pub fn next(&mut self) -> Option<u64>
+        ensures map { self.new.map ≡ self.old.map }
+        ensures key { self.new.key ≡ unwrap_or (neighbours.next self.old.map self.old.key) self.old.key }
+        ensures value { result ≡ value_found self.old.map (neighbours.next self.old.map self.old.key) }
+    {
+        self.arena.step(&mut self.run, &mut self.key)
+    }
+}
+
+impl JudySl {
+    /// A walk up through the keys, which stands at the bytes `from`, that may be a key of the array and needn't: its `first` is
+    /// the least key from them on, and its `next` the least above them. (This project's own.)
+    pub fn cursor(&self, from: &[u8]) -> KeyCursor<'_>
+        requires { IsStringKey from.now }
+        ensures map { result.map ≡ self.now.map }
+        ensures key { result.key ≡ from.now }
+    {
+        let mut key = KeyBuf::new();
+        let _ = key.try_extend_from_slice(from);
+        KeyCursor {
+            arena: &self.arena,
+            key,
+            run: None,
+        }
+    }
+}
