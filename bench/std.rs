@@ -1,6 +1,6 @@
 // Rust's BTreeSet, BTreeMap and HashMap behind calls of C, to be measured beside the arrays.
 use std::collections::{BTreeMap, BTreeSet, HashMap};
-use std::ops::Bound::{Excluded, Unbounded};
+use std::ops::Bound::{Excluded, Included, Unbounded};
 use std::slice::{from_raw_parts, from_raw_parts_mut};
 
 type Set = BTreeSet<u64>;
@@ -112,4 +112,22 @@ pub unsafe extern "C" fn btree_text_next(map: *const Ordered, key: *mut u8, leng
     from_raw_parts_mut(key, found.len()).copy_from_slice(found);
     *length = found.len();
     true
+}
+
+#[no_mangle]
+pub unsafe extern "C" fn btree_text_len(map: *const Ordered) -> u64 {
+    (*map).len() as u64
+}
+
+#[no_mangle]
+pub unsafe extern "C" fn btree_text_count(map: *const Ordered, from: *const u8, from_length: usize, to: *const u8, to_length: usize) -> u64 {
+    let ends = (Included(from_raw_parts(from, from_length)), Included(from_raw_parts(to, to_length)));
+    (*map).range::<[u8], _>(ends).count() as u64
+}
+
+// A byte of the n-th key, counted from 1, which is there.
+#[no_mangle]
+pub unsafe extern "C" fn btree_text_nth(map: *const Ordered, n: u64) -> u64 {
+    let found = (*map).keys().nth(n as usize - 1);
+    found.and_then(|key| key.first()).map_or(0, |byte| u64::from(*byte))
 }

@@ -86,13 +86,15 @@ class Memory(Checks):
             return Counted(ran.returncode, ran.stderr, *map(int, told.read().split()))
 
     def check_given_back(self, kind, name, end):
-        """An array with many keys that goes so: nothing of it is left, and a next one takes no more than the first."""
+        """An array with many keys that goes so: no more of it is left than of one that never had a key, and a next one takes no more than the first. The
+        program lets no array go at its end."""
+        bare = self.run([f"make a {kind}"])
         fill = [*puts(kind, range(MANY)), *end]
         once = self.run([f"make a {kind}", *fill])
         often = self.run([f"make a {kind}", *fill * ROUNDS])
         self.expect(f"{kind}, {name}, ends", (once.status, often.status) == (0, 0), (once, often))
         self.expect(f"{kind}, {name}, takes memory", once.most > self.empty.most + 8 * MANY, (once, self.empty))
-        self.expect(f"{kind}, {name}, all given back", (once.left, often.left) == (self.empty.left,) * 2, (once, often, self.empty))
+        self.expect(f"{kind}, {name}, all given back", (once.left, often.left) == (bare.left,) * 2, (once, often, bare))
         self.expect(f"{kind}, {name}, at once", often.most < once.most + once.most // 8, (once, often))
 
     def check_deletes(self, kind, count):
@@ -138,7 +140,7 @@ def main():
         for kind in KINDS:
             memory.check_given_back(kind, "free", ["free a"])
             memory.check_given_back(kind, "drop", ["drop a", f"make a {kind}"])
-            memory.check_given_back(kind, "deletes", deletes(kind, range(MANY)))
+            memory.check_given_back(kind, "deletes", [*deletes(kind, range(MANY)), "drop a", f"make a {kind}"])
             memory.check_deletes(kind, 32)
             memory.check_claims(kind)
         for kind in ("judysl", "judyhs"):

@@ -14,7 +14,7 @@ mod fill;
 use crate::bytes::Bytes;
 use crate::strings::Strings;
 use fill::{fill_behind, fill_strings};
-use judy_sl::{KeyBuf, is_key};
+use judy_sl::is_key;
 
 /// What a walk tells of a key: how many bytes it has, and its value.
 #[repr(C)]
@@ -25,7 +25,7 @@ pub struct KeyEntry {
 }
 
 /// The keys of a map from a string on, or from above it, with their values, by ascending key, as many as fit; answers how many these
-/// are. None where the map can't hold the string. Each key is one way down the map.
+/// are. None where the map can't hold the string. The first key is one way down the map, and each later one a step from the key before.
 #[unsafe(no_mangle)]
 pub extern "C" fn sellumaq_judysl_walk(
     handle: &mut Strings,
@@ -38,12 +38,11 @@ pub extern "C" fn sellumaq_judysl_walk(
     ensures refused { (IsStringKey from.now → ⊥) → IsFilled [] (page_of bytes.old entries.old) result (page_of bytes.new entries.new) }
     ensures same { handle.new ≡ handle.old }
 {
-    let mut key = KeyBuf::new();
-    if !is_key(from) || key.try_extend_from_slice(from).is_err() {
+    if !is_key(from) {
         return 0;
     }
     match handle.array() {
-        Some(array) => fill_strings(array, &mut key, itself, bytes, entries),
+        Some(array) => fill_strings(array, from, itself, bytes, entries),
         None => 0,
     }
 }

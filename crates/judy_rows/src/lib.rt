@@ -13,6 +13,8 @@ mod bytes;
 #[cfg(test)]
 mod check;
 #[cfg(test)]
+mod cursors;
+#[cfg(test)]
 mod dumps;
 #[cfg(test)]
 mod faults;

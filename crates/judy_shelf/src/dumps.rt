@@ -20,7 +20,7 @@ use crate::sorted::{SortedKeys, list_count, sorted_lists};
 use crate::version::Version;
 use crate::write::{array_head, heading, put, put_string_after, put_word};
 use judy_pipe::{BrokenPipe, Sink};
-use judy_sl::{JudySl, KeyBuf};
+use judy_sl::JudySl;
 use judy_word::{Judy1, JudyL};
 
 /// Writes the dump of a shelf: its arrays in the order of making, each with its keys in order and their
@@ -135,15 +135,14 @@ fn write_strings<W: Sink>(
     requires { (W.tally sink.old).failures < 2 ^ 64 - 1 }
     ensures { Wrote (text.contents (format_of version) (judysl strings.now)) (sunk (W.taken sink.old) (W.tally sink.old).failures) result (sunk (W.taken sink.new) (W.tally sink.new).failures) }
 {
-    strings.holds_strings();
     let mut last = LastKey::new();
-    let mut key = KeyBuf::new();
-    let mut next = strings.first(&mut key);
+    let mut cursor = strings.cursor(&[]);
+    let mut next = cursor.first();
     'keys: while let Some(value) = next {
-        put_string_after(sink, version, last.front(), key.as_slice())?;
+        put_string_after(sink, version, last.front(), cursor.key())?;
         put_word(sink, value)?;
-        last.keep(key.as_slice());
-        next = strings.next(&mut key);
+        last.keep(cursor.key());
+        next = cursor.next();
     }
     Ok(())
 }

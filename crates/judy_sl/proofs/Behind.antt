@@ -1,11 +1,11 @@
 -- The keys behind a level's seat: entry by entry, the piece's bytes before the keys behind its child.
-use Rattle.std.proofs.Common.{◌≡◌, ◌≢◌, ℕ, zero, suc, ◌%◌, ◌<◌, ◌≤◌, cond, T, ◌&&◌, List, [], ◌∷◌, ◌++◌, map, length, take, drop, Option, Some, None, is_some, Less, refl, sym, ap, ◌∙◌, subst, arith, ⊎_elim}
+use Rattle.std.proofs.Common.{◌≡◌, ◌≢◌, ℕ, zero, suc, ◌%◌, ◌<◌, ◌≤◌, cond, T, ◌&&◌, List, [], ◌∷◌, ◌++◌, length, take, drop, Option, Some, None, is_some, Less, refl, sym, ap, ◌∙◌, subst, arith, ⊎_elim}
 use Rattle.std.specs.Ordering.{is_lt, is_eq, eq_by_cmp, ordering_then}
 use Rattle.std.specs.List.{flat_map, AllByRecursion}
 use Rattle.std.specs.Cmp.{nat_cmp_total, tied_itself}
 use Rattle.std.specs.FinMap.{FinMap, nat_cmp-IsAntisymmetric, entries, entries_sorted, get, find, is_sorted, from_sorted, same_map, get-entries, get-from_sorted, entries-from_sorted}
 use Rattle.std.specs.FinMap.Entries.{below_all}
-use Rattle.std.proofs.lemmas.Bool.{cases_eq, cases_lt, eq-eqb, ne_eqb}
+use Rattle.std.proofs.lemmas.Bool.{cases_eq, cases_lt}
 use Rattle.std.proofs.lemmas.List.{append_assoc, length-drop, length-take-le, take_all, take-append-drop}
 use Rattle.std.proofs.lemmas.List.Elements.{All-append, All-take}
 use Rattle.std.proofs.lemmas.Option.{none-some}
@@ -25,26 +25,24 @@ use Rattle.judy_sl.proofs.PieceBytes.{bytes-piece}
 use Rattle.judy_sl.proofs.ScanLevels.{lookup_final, lookup_inner, lookup_absent, held_from_lookup, tail_only}
 use Rattle.judy_sl.proofs.ScanEnds.{TextBehind, text_behind, text_begins, begins, value_held}
 use Rattle.judy_sl.proofs.LevelLemmas.{piece-front, pieces-front}
+use Rattle.judy_sl.proofs.KeysTold.{led_pairs, final_keys, inner_keys}
 
 -- ---- bytes behind the same front
 
-order-front : (front one other : List ℕ) → byte_order (front ++ one) (front ++ other) ≡ byte_order one other
+-- Behind the same front bytes compare as without it.
+pub order-front : (front one other : List ℕ) → byte_order (front ++ one) (front ++ other) ≡ byte_order one other
 order-front [] one other = refl
 order-front (byte ∷ front) one other = ap (λ r. ordering_then r (byte_order (front ++ one) (front ++ other))) (tied_itself nat_cmp_total byte) ∙ order-front front one other
 
--- Pairs whose keys have the bytes before them.
-abbrev pub led_by : List ℕ → List (List ℕ × ℕ) → List (List ℕ × ℕ)
-led_by front pairs = map (λ pair. (front ++ pair.0, pair.1)) pairs
-
-find-led : (front key : List ℕ) (pairs : List (List ℕ × ℕ)) → find byte_order (front ++ key) (led_by front pairs) ≡ find byte_order key pairs
+find-led : (front key : List ℕ) (pairs : List (List ℕ × ℕ)) → find byte_order (front ++ key) (led_pairs front pairs) ≡ find byte_order key pairs
 find-led front key [] = refl
 find-led front key (pair ∷ rest) = (λ t. cond (is_eq (order-front front key pair.0 t)) (Some pair.1) (find-led front key rest t))
 
-below-led : (front key : List ℕ) (pairs : List (List ℕ × ℕ)) → below_all byte_order (front ++ key) (led_by front pairs) ≡ below_all byte_order key pairs
+below-led : (front key : List ℕ) (pairs : List (List ℕ × ℕ)) → below_all byte_order (front ++ key) (led_pairs front pairs) ≡ below_all byte_order key pairs
 below-led front key [] = refl
 below-led front key (pair ∷ rest) = (λ t. is_lt (order-front front key pair.0 t) && below-led front key rest t)
 
-sorted-led : (front : List ℕ) (pairs : List (List ℕ × ℕ)) → is_sorted byte_order (led_by front pairs) ≡ is_sorted byte_order pairs
+sorted-led : (front : List ℕ) (pairs : List (List ℕ × ℕ)) → is_sorted byte_order (led_pairs front pairs) ≡ is_sorted byte_order pairs
 sorted-led front [] = refl
 sorted-led front (pair ∷ rest) = (λ t. below-led front pair.0 rest t && sorted-led front rest t)
 
@@ -147,7 +145,7 @@ module _ {world : World} {behind : ℕ → List ℕ} (is : IsWorld world behind)
             drop_whole (suc count) (byte ∷ bytes) most = drop_whole count bytes (omega arith)
 
     -- Its bytes before those of a key behind its child are a key.
-    inner_key : (piece at : ℕ) → get words piece ≡ Some at → IsInner piece → (rest : List ℕ) (value : ℕ) → get (map_behind world (suc at)) rest ≡ Some value → Begun piece (piece_bytes piece ++ rest)
+    pub inner_key : (piece at : ℕ) → get words piece ≡ Some at → IsInner piece → (rest : List ℕ) (value : ℕ) → get (map_behind world (suc at)) rest ≡ Some value → Begun piece (piece_bytes piece ++ rest)
     inner_key piece at entry inner rest value held =
         let front = inner_front piece at entry inner in
         let there = table_some string_keys-all (λ key. lookup world (suc at) (pieces key)) rest value held in
@@ -164,27 +162,21 @@ module _ {world : World} {behind : ℕ → List ℕ} (is : IsWorld world behind)
 
     -- ---- the parts
 
-    final_part : (entry : ℕ × ℕ) → IsFinal entry.0 → entry_keys world entry ≡ (piece_bytes entry.0, entry.1) ∷ []
-    final_part entry final = ap (λ b. cond b ((piece_bytes entry.0, entry.1) ∷ []) (led_by (piece_bytes entry.0) (entries (map_behind world (suc entry.1))))) (eq-eqb (entry.0 % 256) 0 final)
-
-    inner_part : (entry : ℕ × ℕ) → IsInner entry.0 → entry_keys world entry ≡ led_by (piece_bytes entry.0) (entries (map_behind world (suc entry.1)))
-    inner_part entry inner = ap (λ b. cond b ((piece_bytes entry.0, entry.1) ∷ []) (led_by (piece_bytes entry.0) (entries (map_behind world (suc entry.1))))) (ne_eqb (entry.0 % 256) 0 inner)
-
     -- A part is in order, and its keys begin with its piece.
     abbrev pub IsPart : ℕ × ℕ → List (List ℕ × ℕ) → Type 0
     IsPart entry pairs = T (is_sorted byte_order pairs) × AllByRecursion (λ (pair : List ℕ × ℕ). Begun entry.0 pair.0) pairs
 
-    led_begun : (piece : ℕ) (pairs : List (List ℕ × ℕ)) → AllByRecursion (λ (pair : List ℕ × ℕ). Begun piece (piece_bytes piece ++ pair.0)) pairs → AllByRecursion (λ (pair : List ℕ × ℕ). Begun piece pair.0) (led_by (piece_bytes piece) pairs)
+    led_begun : (piece : ℕ) (pairs : List (List ℕ × ℕ)) → AllByRecursion (λ (pair : List ℕ × ℕ). Begun piece (piece_bytes piece ++ pair.0)) pairs → AllByRecursion (λ (pair : List ℕ × ℕ). Begun piece pair.0) (led_pairs (piece_bytes piece) pairs)
     led_begun piece [] each = tt
     led_begun piece (pair ∷ rest) each = (each.0, led_begun piece rest each.1)
 
     is_part : (entry : ℕ × ℕ) → get words entry.0 ≡ Some entry.1 → IsPart entry (entry_keys world entry)
     is_part entry there = ⊎_elim
-        (λ final. subst (IsPart entry) (sym (final_part entry final)) (tt, (final_key entry.0 entry.1 there final, tt)))
+        (λ final. subst (IsPart entry) (sym (final_keys world entry final)) (tt, (final_key entry.0 entry.1 there final, tt)))
         (λ inner.
         let child = map_behind world (suc entry.1) in
         let sorted = entries_sorted child in
-        subst (IsPart entry) (sym (inner_part entry inner)) (
+        subst (IsPart entry) (sym (inner_keys world entry inner)) (
           subst T (sym (sorted-led (piece_bytes entry.0) (entries child))) sorted,
           led_begun entry.0 (entries child) (each_found byte_order byte_order_total byte_order_same (λ pair. Begun entry.0 (piece_bytes entry.0 ++ pair.0)) (entries child) sorted (λ rest value found. inner_key entry.0 entry.1 there inner rest value (get-entries child rest ∙ found))),
         ))
@@ -208,13 +200,14 @@ module _ {world : World} {behind : ℕ → List ℕ} (is : IsWorld world behind)
         (others_miss byte_order (entry_keys world) Begun begun_apart byte_order_same key (piece_of key) (λ other tells. sym tells.1) (entries words) all_parts)
         ∙ ap (λ (found : Option ℕ). find byte_order key (part_of (entry_keys world) (piece_of key) found)) (sym (get-entries words (piece_of key)))
 
-    led_on : (key : List ℕ) (is_key : IsStringKey key) (found : Option ℕ) → get words (piece_of key) ≡ found → find byte_order key (part_of (entry_keys world) (piece_of key) found) ≡ lookup world seat (pieces key)
+    -- That is what is found at the seat under its pieces.
+    pub led_on : (key : List ℕ) (is_key : IsStringKey key) (found : Option ℕ) → get words (piece_of key) ≡ found → find byte_order key (part_of (entry_keys world) (piece_of key) found) ≡ lookup world seat (pieces key)
     led_on key is_key None none = let head = pieces-head key in sym (ap (lookup world seat) head.1 ∙ lookup_absent world seat words here (piece_of key) head.0 none)
     led_on key is_key (Some at) there = ⊎_elim
         (λ (short : length key < 8).
         let text = text_of_key key is_key in
         let all : piece_bytes (piece_of key) ≡ key = bytes-piece key text ∙ take_all 8 key (omega arith) in
-        ap (find byte_order key) (final_part (piece_of key, at) (piece-IsFinal key text short))
+        ap (find byte_order key) (final_keys world (piece_of key, at) (piece-IsFinal key text short))
         ∙ ap (λ bytes. cond (eq_by_cmp byte_order key bytes) (Some at) None) all
         ∙ ap (λ r. cond (is_eq r) (Some at) None) (tied_itself byte_order_total key)
         ∙ sym (ap (lookup world seat) (pieces_short key short) ∙ lookup_final world seat words here (piece_of key) at there))
@@ -223,8 +216,8 @@ module _ {world : World} {behind : ℕ → List ℕ} (is : IsWorld world behind)
         let child = map_behind world (suc at) in
         let rest = key-drop key is_key in
         let front : piece_bytes (piece_of key) ++ drop 8 key ≡ key = ap (λ bytes. bytes ++ drop 8 key) (bytes-piece key text) ∙ take-append-drop 8 key in
-        ap (find byte_order key) (inner_part (piece_of key, at) (piece-IsInner key text long))
-        ∙ ap (λ k. find byte_order k (led_by (piece_bytes (piece_of key)) (entries child))) (sym front)
+        ap (find byte_order key) (inner_keys world (piece_of key, at) (piece-IsInner key text long))
+        ∙ ap (λ k. find byte_order k (led_pairs (piece_bytes (piece_of key)) (entries child))) (sym front)
         ∙ find-led (piece_bytes (piece_of key)) (drop 8 key) (entries child)
         ∙ sym (get-entries child (drop 8 key))
         ∙ get-table string_keys-all (λ k. lookup world (suc at) (pieces k)) (drop 8 key) rest

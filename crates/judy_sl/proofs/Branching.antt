@@ -20,17 +20,6 @@ pub record IsCommon (tail key : List ℕ) (upper : List (ℕ × ArrayOf word_ord
   pub rest_text : IsText rest
   pub differ : held ≢ rest
 
-pub common-start : (tail key : List ℕ) (upper : List (ℕ × ArrayOf word_order)) → upper ≡ [] → IsText tail → IsText key → tail ≢ key → IsCommon tail key upper tail key
-common-start tail key upper nothing tail_text key_text differ = subst (λ u. IsCommon tail key u tail key) (sym nothing) (record {
-  singles = tt;
-  inner = tt;
-  held_parts = refl;
-  rest_parts = refl;
-  held_text = tail_text;
-  rest_text = key_text;
-  differ = differ;
-})
-
 -- Rests that differ, with the same first piece, are both longer than it.
 pub both-long : (held rest : List ℕ) → IsText held → IsText rest → held ≢ rest → piece_of held ≡ piece_of rest → (8 ≤ length held) × (8 ≤ length rest)
 both-long held rest held_text rest_text differ same = elim (cases_lt (length held) 8) [

@@ -54,7 +54,7 @@ module _ (before after : Arena) (same : IsSame before after) where
 taken-level : (child : Child) (map : FinMap word_order ℕ) → node_of child ≡ level map → IsTaken child
 taken-level (Free next) map e = absurd (cc)
 taken-level (Tail rest) map e = tt
-taken-level (Level words) map e = tt
+taken-level (Level keys words) map e = tt
 
 pub level-place : (arena : Arena) (place : Place) (map : FinMap word_order ℕ) → world_of arena (seat_of place) ≡ level map → IsPlace arena place
 level-place arena (Root piece) map e = tt

@@ -15,7 +15,7 @@ use Rattle.judy_sl.specs.declared.branches.Branch.{Branch}
 use Rattle.judy_sl.specs.Pieces.{pieces, pieces_in, piece_of, IsText, IsInner, SpellKey, ArePieces, AreInner}
 use Rattle.judy_sl.specs.World.{World, gone, tail, level}
 use Rattle.judy_sl.specs.Worlds.{FitsBehind, IsLed, AllLed}
-use Rattle.judy_sl.specs.Arenas.{world_of, node_of, IsArena}
+use Rattle.judy_sl.specs.Arenas.{world_of, node_of, child_at, IsArena}
 use Rattle.judy_sl.specs.Places.{with_child}
 use Rattle.judy_sl.specs.Ways.{LeadsTo, left_of}
 use Rattle.judy_sl.specs.Grown.{IsChange, IsPut, IsHung, HasTwig, IsSound, IsGraft, IsGrafted}
@@ -24,7 +24,7 @@ use Rattle.judy_sl.proofs.PieceLemmas.{piece-IsFinal, piece-IsInner, text-drop, 
 use Rattle.judy_sl.proofs.Ways.{look_in, tail-same, tail-other, same-eq_by_cmp, eq_by_cmp-same, pieces_short, pieces_long}
 use Rattle.judy_sl.proofs.Frames.{frame-below}
 use Rattle.judy_sl.proofs.Changes.{changes, longer}
-use Rattle.judy_sl.proofs.Seats.{set_node, cond-same, cond-other}
+use Rattle.judy_sl.proofs.Seats.{set_node, set_behind, cond-same, cond-other}
 use Rattle.judy_sl.proofs.OnWay.{pieces-head, pieces-some}
 use Rattle.judy_sl.proofs.Branching.{keys-more}
 use Rattle.judy_sl.proofs.Written.{behind-leads}
@@ -32,6 +32,8 @@ use Rattle.judy_sl.proofs.Led.{KeepsEntries, keeps-none, led-moves, keeps-set}
 use Rattle.judy_sl.proofs.Linked.{get-insert_here, get-insert_off, world-with_child, arena-with_child}
 use Rattle.judy_sl.proofs.Tailed.{world-put}
 use Rattle.judy_sl.proofs.Grafts.{Grafts, grafts-start, put-grafts, put-same, put-here, behind_put, IsSide, side-stays, IsBranch, fork-branch, up-grafts, up-branch}
+use Rattle.judy_sl.proofs.Growing.{grows-then}
+use Rattle.judy_sl.proofs.GraftedLevels.{LevelMade, made-was, grows-hung}
 
 -- ---- a twig that is hung up
 
@@ -123,7 +125,7 @@ decide xs ys = elim (eq_by_cmp byte_order xs ys) as (λ b. eq_by_cmp byte_order 
 
 module _ (before now : Arena) (grafts : Grafts before now) (key : List ℕ) (at : ℕ) (piece : ℕ) (new : List ℕ) (leads : LeadsTo (world_of before) key (suc at) (piece ∷ new)) (held : List ℕ) (some : held ≢ []) (value : ℕ) (is_tail : world_of before (suc at) ≡ tail held value) (words : ArrayOf word_order) (limit : words.limit ≡ 18446744073709551615) (branch : IsBranch (world_of now) grafts.is.behind leads.front words.map held (piece ∷ new) value) (inside : at < length now.children.items) where
   abbrev after : Arena
-  after = with_child now at (Level words)
+  after = with_child now at (Level 1 words)
 
   there : world_of before (suc at) ≢ gone
   there none = (let g : tail held value ≡ gone = sym is_tail ∙ none in cc)
@@ -135,10 +137,10 @@ module _ (before now : Arena) (grafts : Grafts before now) (key : List ℕ) (at 
   now-behind = (grafts.same (suc at) there).1 ∙ was-behind
 
   pub done-arena : IsArena after
-  done-arena = arena-with_child now at (Level words) inside grafts.is tt limit (subst (λ p. FitsBehind (world_of now) grafts.is.behind p words.map) (sym now-behind) branch.fits) branch.used
+  done-arena = arena-with_child now at (Level 1 words) inside grafts.is tt limit (subst (λ p. FitsBehind (world_of now) grafts.is.behind p words.map) (sym now-behind) branch.fits) branch.used
 
   after-is : world_of after ≡ set_node (world_of now) (suc at) (level words.map)
-  after-is = world-with_child now at (Level words) inside
+  after-is = world-with_child now at (Level 1 words) inside
 
   after-seat : world_of after (suc at) ≡ level words.map
   after-seat = ap (λ (w : World). w (suc at)) after-is ∙ cond-same (world_of now) (suc at) (level words.map) (suc at) refl
@@ -201,6 +203,7 @@ pub record IsGrafting (before now : Arena) (front held new : List ℕ) (value : 
   pub branch : IsBranch (world_of now) grafts.is.behind (front ++ keys_of upper) words.map held_now new_now value
   pub limit : words.limit ≡ 18446744073709551615
   pub led : (at : ℕ) → world_of now (suc at) ≢ gone → IsLedUp before now words.map at
+  pub made : (at : ℕ) → LevelMade before front held new (grafts.is.behind (suc at)) at (child_at now at)
 
 pub singles-front : (upper : List (ℕ × ArrayOf word_order)) (piece : ℕ) (words : ArrayOf word_order) → AreSingle (upper ++ (piece, words) ∷ []) → AreSingle upper × (words ≡ single piece)
 singles-front [] piece words are = (tt, are.0)
@@ -215,16 +218,16 @@ are-more piece [] inner are = absurd are
 are-more piece (next ∷ rest) inner are = (inner, are)
 
 -- A level is put: what it leads to is led to, and what was led to still is.
-led-up : (before now later : Arena) (words : ArrayOf word_order) (linked : FinMap word_order ℕ) (to : ℕ) → IsPut now later (Level words) to → (at : ℕ) → IsLedUp before now words.map at → IsLedUp before later linked at
+led-up : (before now later : Arena) (words : ArrayOf word_order) (linked : FinMap word_order ℕ) (to : ℕ) → IsPut now later (Level 1 words) to → (at : ℕ) → IsLedUp before now words.map at → IsLedUp before later linked at
 led-up before now later words linked to put_is at (inl was) = inl was
 led-up before now later words linked to put_is at (inr (inl led)) =
-    let world_is = world-put now later (Level words) to put_is in
+    let world_is = world-put now later (Level 1 words) to put_is in
     let keeps : KeepsEntries (world_of now (suc to)) (level words.map) = keeps-none (world_of now (suc to)) (level words.map) (λ m e. let g : gone ≡ level m = sym put_is.was_free ∙ e in cc) in
     inr (inl (subst (λ w. IsLed w at) (sym world_is) (led-moves (world_of now) (set_node (world_of now) (suc to) (level words.map)) (keeps-set (world_of now) (suc to) (level words.map) keeps) at led)))
 led-up before now later words linked to put_is at (inr (inr entry)) =
     inr (inl (record { seat = suc to; map = words.map; is_level = ap node_of put_is.here; piece = entry.0; inner = entry.1; entry = entry.2 }))
 
-pub grafting-up : (before now after : Arena) (front held new : List ℕ) (value : ℕ) (upper rest : List (ℕ × ArrayOf word_order)) (words above linked : ArrayOf word_order) (piece to : ℕ) → IsGrafting before now front held new value upper words → upper ≡ rest ++ (piece, above) ∷ [] → above ≡ single piece → IsPut now after (Level words) to → linked ≡ with_value above piece to → IsGrafting before after front held new value rest linked
+pub grafting-up : (before now after : Arena) (front held new : List ℕ) (value : ℕ) (upper rest : List (ℕ × ArrayOf word_order)) (words above linked : ArrayOf word_order) (piece to : ℕ) → IsGrafting before now front held new value upper words → upper ≡ rest ++ (piece, above) ∷ [] → above ≡ single piece → IsPut now after (Level 1 words) to → linked ≡ with_value above piece to → IsGrafting before after front held new value rest linked
 grafting-up before now after front held new value upper rest words above linked piece to is upper_is above_is put_is linked_is =
     let keys : keys_of upper ≡ keys_of rest ++ piece ∷ [] = ap keys_of upper_is ∙ keys-more rest piece above in
     let parts = inner-front (keys_of rest) piece (subst AreInner keys is.inner) in
@@ -246,6 +249,21 @@ grafting-up before now after front held new value upper rest words above linked 
       led = λ at there. elim (cases_eq at to) [
         | inl e ↦ inr (inr (piece, parts.1, here ∙ ap (λ n. Some n) (sym e)))
         | inr apart ↦ led-up before now after words linked.map to put_is at (is.led at (λ none. there (ap node_of (put_is.elsewhere at apart) ∙ none)))
+      ];
+      made = λ at. elim (cases_eq at to) [
+        | inl e ↦ subst (LevelMade before front held new (set_behind is.grafts.is.behind (suc to) (place ++ piece ∷ []) (suc at)) at) (sym (ap (child_at after) e ∙ put_is.here)) (inr (
+          refl,
+          record {
+            mid = keys_of upper;
+            held_more = is.held_now;
+            new_more = is.new_now;
+            place_is = cond-same is.grafts.is.behind (suc to) (place ++ piece ∷ []) (suc at) (ap (λ n. suc n) e) ∙ append_assoc front (keys_of rest) (piece ∷ []) ∙ ap (λ ks. front ++ ks) (sym keys);
+            held_is = is.held_parts;
+            new_is = is.new_parts;
+          },
+        ))
+        | inr apart ↦ subst (LevelMade before front held new (set_behind is.grafts.is.behind (suc to) (place ++ piece ∷ []) (suc at)) at) (sym (put_is.elsewhere at apart)) (
+            subst (λ p. LevelMade before front held new p at (child_at now at)) (sym (cond-other is.grafts.is.behind (suc to) (place ++ piece ∷ []) (suc at) (λ e. apart (let same : at ≡ to = cc in same)))) (is.made at))
       ];
     }
 
@@ -300,11 +318,14 @@ module _ (before : Arena) (is : IsArena before) (key : List ℕ) (is_key : IsStr
             | inr by ↦ inr (inr (a, by.0, new.get_off a built.differ ∙ by.1))
           ]
         ];
+        made = λ to. made-was before clash.leads.front clash.held (pieces (left_of key left)) (new.grafts.is.behind (suc to)) to (child_at two to) (
+            (grows-then before one two (grows-hung before one branch.fork level_one branch.old first) (grows-hung one two level_one level_two branch.new second)).was to
+            );
       }
 
 -- ---- the whole
 
-pub grafted : (before now : Arena) (key : List ℕ) (at left : ℕ) (branch : Branch) (graft : IsGraft before key at left branch) (upper : List (ℕ × ArrayOf word_order)) (words : ArrayOf word_order) → IsGrafting before now graft.clash.leads.front graft.clash.held (pieces (left_of key left)) graft.clash.value upper words → upper ≡ [] → at < length now.children.items → IsGrafted before (with_child now at (Level words)) key
+pub grafted : (before now : Arena) (key : List ℕ) (at left : ℕ) (branch : Branch) (graft : IsGraft before key at left branch) (upper : List (ℕ × ArrayOf word_order)) (words : ArrayOf word_order) → IsGrafting before now graft.clash.leads.front graft.clash.held (pieces (left_of key left)) graft.clash.value upper words → upper ≡ [] → at < length now.children.items → IsGrafted before (with_child now at (Level 1 words)) key
 grafted before now key at left branch graft upper words is nothing inside =
     let clash = graft.clash in
     let keys : keys_of upper ≡ [] = ap keys_of nothing in

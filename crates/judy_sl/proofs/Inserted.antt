@@ -56,7 +56,7 @@ lent_ok (Err e) p none F G x y same = absurd (none e p)
 value-in : (child : Child) (piece value : ℕ) → value_at child piece ≡ Some value → value_in child piece ≡ Some value
 value-in (Free next) piece value e = e
 value-in (Tail rest) piece value e = e
-value-in (Level words) piece value e = ap (λ (m : FinMap word_order ℕ). get m piece) (ins_present words.map piece value e) ∙ e
+value-in (Level keys words) piece value e = ap (λ (m : FinMap word_order ℕ). get m piece) (ins_present words.map piece value e) ∙ e
 
 pub place-in : (arena : Arena) (place : Place) (value : ℕ) → place_value arena place ≡ Some value → place_in_value arena place ≡ Some value
 place-in arena (Root piece) value e = ap (λ (m : FinMap word_order ℕ). get m piece) (ins_present arena.root.map piece value e) ∙ e

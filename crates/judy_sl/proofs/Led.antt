@@ -16,6 +16,12 @@ KeepsEntries node other = (map : FinMap word_order ℕ) → node ≡ level map �
 pub keeps-same : (node other : Node) → other ≡ node → KeepsEntries node other
 keeps-same node other same map e = (map, same ∙ e, λ piece at inner entry. entry)
 
+pub keeps-then : (one two three : Node) → KeepsEntries one two → KeepsEntries two three → KeepsEntries one three
+keeps-then one two three first second map is =
+    let to = first map is in
+    let on = second to.0 to.1 in
+    (on.0, on.1, λ piece at inner entry. on.2 piece at inner (to.2 piece at inner entry))
+
 pub keeps-none : (node other : Node) → ((map : FinMap word_order ℕ) → node ≡ level map → ⊥) → KeepsEntries node other
 keeps-none node other none map e = absurd (none map e)
 

@@ -106,17 +106,17 @@ node_with (level map) piece value = level (insert map piece value)
 node_of-with : (child : Child) (piece value : ℕ) → node_of (child_with child piece value) ≡ node_with (node_of child) piece value
 node_of-with (Free next) piece value = refl
 node_of-with (Tail rest) piece value = refl
-node_of-with (Level words) piece value = refl
+node_of-with (Level keys words) piece value = refl
 
 pub text-with : (child : Child) (piece value : ℕ) → HasText child → HasText (child_with child piece value)
 text-with (Free next) piece value has = has
 text-with (Tail rest) piece value has = has
-text-with (Level words) piece value has = has
+text-with (Level keys words) piece value has = has
 
 pub limit-with : (child : Child) (piece value : ℕ) → HasLimit child → HasLimit (child_with child piece value)
 limit-with (Free next) piece value has = has
 limit-with (Tail rest) piece value has = has
-limit-with (Level words) piece value has = has
+limit-with (Level keys words) piece value has = has
 
 -- What is there stands inside the list.
 pub inside_of : (arena : Arena) (at : ℕ) → world_of arena (suc at) ≢ gone → at < length arena.children.items

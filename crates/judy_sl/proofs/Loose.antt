@@ -12,7 +12,7 @@ use Rattle.judy_sl.specs.Ways.{LeadsTo}
 use Rattle.judy_sl.specs.Grown.{IsChange}
 use Rattle.judy_sl.specs.Shrunk.{OnlyEntry, IsLone, IsWide, IsUnled, IsLedOnce, IsLoose}
 use Rattle.judy_sl.proofs.Ways.{look_in}
-use Rattle.judy_sl.proofs.Seats.{set_node, cond-same, cond-other, IsUsed, keeps}
+use Rattle.judy_sl.proofs.Seats.{set_node, cond-same, cond-other, IsUsed}
 use Rattle.judy_sl.proofs.Entries.{changes_value, changes_behind}
 use Rattle.judy_sl.proofs.Written.{behind-leads, apart-leads}
 use Rattle.judy_sl.proofs.Led.{led-set}
@@ -149,9 +149,6 @@ module _ (world : World) (behind : ℕ → List ℕ) (is : IsWorld world behind)
 
   pub fits-here : FitsBehind world behind (behind here) changed
   fits-here = fits-left
-
-  pub left-world : (value : ℕ) → get map piece ≡ Some value → IsWide here map → IsWorld taken_out behind
-  left-world value there wide = keeps world behind is here (level changed) fits-left (used-left here value there wide)
 
   there-level : taken_out here ≡ level changed
   there-level = cond-same world here (level changed) here refl

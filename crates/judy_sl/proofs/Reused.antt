@@ -17,7 +17,7 @@ use Rattle.judy_sl.specs.Arenas.{world_of, node_of, child_at, link_of, links_of,
 use Rattle.judy_sl.specs.Children.{child_with}
 use Rattle.judy_sl.specs.Places.{with_child, place_with}
 use Rattle.judy_sl.specs.declared.branches.Twig.{Twig}
-use Rattle.judy_sl.specs.Grown.{IsPut, IsHung, free_or, next_place}
+use Rattle.judy_sl.specs.Grown.{IsPut, IsHung}
 use Rattle.judy_sl.specs.Shrunk.{child_without, place_without, vacated}
 
 -- ---- how many places are free
@@ -49,7 +49,7 @@ known-same before after links free spare known = record {
 
 -- ---- a child that is linked as the one before it
 
-links-set : (items : List Child) (at : ℕ) (child : Child) → link_of child ≡ link_of (get_or items at (Free 0)) → map link_of (set items at child) ≡ map link_of items
+pub links-set : (items : List Child) (at : ℕ) (child : Child) → link_of child ≡ link_of (get_or items at (Free 0)) → map link_of (set items at child) ≡ map link_of items
 links-set [] at child is = refl
 links-set (first ∷ rest) zero child is = ap (λ link. link ∷ map link_of rest) is
 links-set (first ∷ rest) (suc at) child is = ap (λ links. link_of first ∷ links) (links-set rest at child is)
@@ -57,12 +57,12 @@ links-set (first ∷ rest) (suc at) child is = ap (λ links. link_of first ∷ l
 link-with : (child : Child) (piece value : ℕ) → link_of (child_with child piece value) ≡ link_of child
 link-with (Free next) piece value = refl
 link-with (Tail rest) piece value = refl
-link-with (Level words) piece value = refl
+link-with (Level keys words) piece value = refl
 
 link-without : (child : Child) (piece : ℕ) → link_of (child_without child piece) ≡ link_of child
 link-without (Free next) piece = refl
 link-without (Tail rest) piece = refl
-link-without (Level words) piece = refl
+link-without (Level keys words) piece = refl
 
 pub links-with : (arena : Arena) (place : Place) (value : ℕ) → links_of (place_with arena place value) ≡ links_of arena
 links-with arena (Root piece) value = refl
@@ -109,13 +109,6 @@ without-places arena place = record {
 }
 
 -- ---- a new child
-
-pub free-place : (items : List Child) (at next : ℕ) → get_or (map link_of items) at None ≡ Some next → (at < length items) × (node_of (get_or items at (Free 0)) ≡ gone)
-free-place [] at next is = absurd (none-some next is)
-free-place (Free link ∷ rest) zero next is = (omega arith, refl)
-free-place (Tail held ∷ rest) zero next is = absurd (none-some next is)
-free-place (Level words ∷ rest) zero next is = absurd (none-some next is)
-free-place (first ∷ rest) (suc at) next is = (let found = free-place rest at next is in (let l = found.0 in omega (arith, l), found.1))
 
 module _ (items : List Child) (free : ℕ) (child : Child) (is_child : link_of child ≡ None) where
   pub taken-free : (next : ℕ) → get_or (map link_of items) free None ≡ Some next → IsPlaceTaken (map link_of items) free (map link_of (set items free child)) next
@@ -179,7 +172,7 @@ some-taken : (items : List Child) (at : ℕ) → node_of (get_or items at (Free 
 some-taken [] at some = refl
 some-taken (Free next ∷ rest) zero some = absurd (some refl)
 some-taken (Tail held ∷ rest) zero some = refl
-some-taken (Level words ∷ rest) zero some = refl
+some-taken (Level keys words ∷ rest) zero some = refl
 some-taken (first ∷ rest) (suc at) some = some-taken rest at some
 
 pub vacated-places : (arena : Arena) (at : ℕ) → at < length arena.children.items → node_of (child_at arena at) ≢ gone → FreesPlaces arena (vacated arena at)
@@ -201,14 +194,6 @@ vacated-places arena at inside some =
     }
 
 -- ---- steps one after the other
-
-pub same-places : (before after : Arena) → after.children.items ≡ before.children.items → after.free ≡ before.free → after.spare ≡ before.spare → TakesPlaces before after
-same-places before after items free spare =
-    let links : links_of after ≡ links_of before = ap (λ (children : List Child). map link_of children) items in
-    record {
-      reused = same-reused (links_of before) before.free (links_of after) after.free links free;
-      known = known-same before after links free spare;
-    }
 
 pub then-places : (before between after : Arena) → TakesPlaces before between → TakesPlaces between after → TakesPlaces before after
 then-places before between after one two = record {
@@ -236,7 +221,7 @@ stands-hung before after level linked (Some twig) is at some = stands-put before
 link-stands : (child : Child) → node_of child ≢ gone → link_of child ≡ None
 link-stands (Free next) some = absurd (some refl)
 link-stands (Tail rest) some = refl
-link-stands (Level words) some = refl
+link-stands (Level keys words) some = refl
 
 pub clash-stands : (arena other : Arena) (at : ℕ) (held : List ℕ) (value : ℕ) → other.children.items ≡ arena.children.items → world_of arena (suc at) ≡ tail held value → node_of (child_at other at) ≢ gone
 clash-stands arena other at held value items is none =
@@ -244,19 +229,13 @@ clash-stands arena other at held value items is none =
     cc
 
 -- A level comes in the place of what stands.
-pub replaced-places : (arena : Arena) (at : ℕ) (words : ArrayOf word_order) → node_of (child_at arena at) ≢ gone → TakesPlaces arena (with_child arena at (Level words))
+pub replaced-places : (arena : Arena) (at : ℕ) (words : ArrayOf word_order) → node_of (child_at arena at) ≢ gone → TakesPlaces arena (with_child arena at (Level 1 words))
 replaced-places arena at words some =
-    let links = links-set arena.children.items at (Level words) (sym (link-stands (child_at arena at) some)) in
+    let links = links-set arena.children.items at (Level 1 words) (sym (link-stands (child_at arena at) some)) in
     record {
-      reused = same-reused (links_of arena) arena.free (links_of (with_child arena at (Level words))) arena.free links refl;
-      known = known-same arena (with_child arena at (Level words)) links refl refl;
+      reused = same-reused (links_of arena) arena.free (links_of (with_child arena at (Level 1 words))) arena.free links refl;
+      known = known-same arena (with_child arena at (Level 1 words)) links refl refl;
     }
-
--- The next place stays where neither the list nor the first free place changes.
-pub next-same : (before after : Arena) → after.children.items ≡ before.children.items → after.free ≡ before.free → next_place after ≡ next_place before
-next-same before after items free =
-    ap (λ (children : List Child). free_or (get_or (map link_of children) after.free None) after.free (length children)) items
-    ∙ ap (λ f. free_or (get_or (links_of before) f None) f (length before.children.items)) free
 
 -- What holds where a call succeeds holds, since it did.
 pub on-success : {A E : Type 0} {P : Type 0} (r : Result A E) → IsTrue (is_ok r) → OnOk r P → P

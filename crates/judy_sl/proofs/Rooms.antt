@@ -38,13 +38,13 @@ module _ (arena : Arena) (is : IsArena arena) (key : List ℕ) (seat : ℕ) (res
   level-few : len map ≤ len (map_of arena)
   level-few = fewer map (map_of arena) (λ k. get_or (pieces k) (length leads.front) 0) told
 
-array-room : (words : ArrayOf word_order) (piece : ℕ) → words.limit ≡ 18446744073709551615 → len words.map ≤ 4294967295 → HasRoom (Level words) piece
+array-room : (words : ArrayOf word_order) (piece : ℕ) → words.limit ≡ 18446744073709551615 → len words.map ≤ 4294967295 → HasRoom (Level 0 words) piece
 array-room words piece limit few = not_full words piece (omega arith)
 
 child-room : (child : Child) (piece : ℕ) (map : FinMap word_order ℕ) → node_of child ≡ level map → HasLimit child → len map ≤ 4294967295 → HasRoom child piece
 child-room (Free next) piece map e limit few = tt
 child-room (Tail rest) piece map e limit few = tt
-child-room (Level words) piece map e limit few =
+child-room (Level keys words) piece map e limit few =
     let same : words.map ≡ map = cc in
     array-room words piece limit (subst (λ (m : FinMap word_order ℕ). len m ≤ 4294967295) (sym same) few)
 
@@ -56,19 +56,19 @@ room-gap arena is key (Below at piece) left gap few =
     child-room (child_at arena at) piece gap.map gap.is_level (is.limits at) (let most = level-few arena is key (suc at) _ gap.leads gap.map gap.is_level in omega arith)
 
 -- The first level has room for any piece.
-pub room-in_first : (arena : Arena) → IsArena arena → len (map_of arena) ≤ 4294967295 → (piece : ℕ) → HasRoom (Level arena.root) piece
+pub room-in_first : (arena : Arena) → IsArena arena → len (map_of arena) ≤ 4294967295 → (piece : ℕ) → HasRoom (Level 0 arena.root) piece
 room-in_first arena is few piece =
     array-room arena.root piece is.root_limit (let most = level-few arena is [] 0 (pieces []) (record { front = []; inner = tt; way = refl; parts = refl }) arena.root.map refl in omega arith)
 
 -- Where nothing has changed, there is as much room.
 pub room-same : (before after : Arena) → IsSame before after → (place : Place) → PlaceHasRoom before place → PlaceHasRoom after place
-room-same before after same (Root piece) room = subst (λ (words : ArrayOf word_order). HasRoom (Level words) piece) (sym same.root) room
+room-same before after same (Root piece) room = subst (λ (words : ArrayOf word_order). HasRoom (Level 0 words) piece) (sym same.root) room
 room-same before after same (Below at piece) room = subst (λ items. HasRoom (get_or items at (Free 0)) piece) (sym same.items) room
 
 child-there : (child : Child) (piece value : ℕ) → value_at child piece ≡ Some value → HasRoom child piece
 child-there (Free next) piece value e = tt
 child-there (Tail rest) piece value e = tt
-child-there (Level words) piece value e = is_full_present words piece value e
+child-there (Level keys words) piece value e = is_full_present words piece value e
 
 -- A level is never full for what it holds.
 pub room-there : (arena : Arena) (place : Place) (value : ℕ) → place_value arena place ≡ Some value → PlaceHasRoom arena place

@@ -17,7 +17,7 @@ use Rattle.judy_sl.specs.Arenas.{world_of, node_of, child_at, FreesPlaces, IsAre
 use Rattle.judy_sl.specs.Places.{IsInside}
 use Rattle.judy_sl.specs.Ways.{seat_of, piece_at, left_of}
 use Rattle.judy_sl.specs.Grown.{IsChange}
-use Rattle.judy_sl.specs.Shrunk.{without, child_without, place_without, vacated, EntryLone, NodeLone, IsLone, IsCutChild, IsCutWhere, IsLoose, IsCleared, IsShrunk}
+use Rattle.judy_sl.specs.Shrunk.{without, child_without, place_without, vacated, EntryLone, NodeLone, IsLone, IsCutChild, IsCutWhere, IsLoose, IsLeft, IsCleared, IsShrunk}
 use Rattle.judy_sl.proofs.PieceLemmas.{piece-IsFinal, piece-IsInner, text-drop, pieces_are}
 use Rattle.judy_sl.proofs.Ways.{lookup-walk, lookup-level, pieces_short, pieces_long}
 use Rattle.judy_sl.proofs.Seats.{set_node, NodeFits, IsUsed}
@@ -79,6 +79,7 @@ pub record IsClearing (before now : Arena) (at : ℕ) (rest : List ℕ) : Type 0
   pub loose : IsLoose (world_of now) at (pieces rest)
   pub same : (ps : List ℕ) → ArePieces ps → lookup (world_of now) 0 ps ≡ lookup (world_of before) 0 ps
   pub places : FreesPlaces before now
+  pub left : IsLeft before now
 
 module _ (before now after : Arena) (at : ℕ) (rest : List ℕ) (is : IsClearing before now at rest) (child : Child) (child_is : child ≡ child_at now at) (after_is : after ≡ vacated now at) where
   inside : at < length now.children.items
@@ -98,22 +99,35 @@ module _ (before now after : Arena) (at : ℕ) (rest : List ℕ) (is : IsClearin
       then-freeing before now after is.places
       (subst (FreesPlaces now) (sym after_is) (vacated-places now at inside (lone-some (world_of now) at (pieces rest) is.loose.lone)))
 
+  after-child : (k : ℕ) → node_of (child_at after k) ≢ gone → child_at after k ≡ child_at before k
+  after-child k there =
+      let moved = ap (λ (a : Arena). child_at a k) after_is in
+      elim (cases_eq k at) [
+        | inl e ↦ absurd (there (ap node_of (moved ∙ child_at-same now at (Free now.free) inside k e)))
+        | inr apart ↦
+            let stays = moved ∙ child_at-other now at (Free now.free) inside k apart in
+            stays ∙ is.left.children k (λ none. there (ap node_of stays ∙ none))
+      ]
+
+  after-left : IsLeft before after
+  after-left = record { root = ap (λ (a : Arena). a.root) after_is ∙ is.left.root; children = after-child }
+
   cleared : AllLed (freed (world_of now) at) → IsCleared before after
-  cleared led = record { is_arena = after-arena; led = subst AllLed (sym after-world) led; same = after-same }
+  cleared led = record { is_arena = after-arena; led = subst AllLed (sym after-world) led; same = after-same; left = after-left }
 
   node-is : world_of now (suc at) ≡ node_of child
   node-is = ap node_of (sym child_is)
 
-  no-level : (c : Child) → world_of now (suc at) ≡ node_of c → ((words : ArrayOf word_order) → c ≡ Level words → ⊥) → AllLed (freed (world_of now) at)
+  no-level : (c : Child) → world_of now (suc at) ≡ node_of c → ((keys : ℕ) (words : ArrayOf word_order) → c ≡ Level keys words → ⊥) → AllLed (freed (world_of now) at)
   no-level (Free next) e other = absurd (lone-some (world_of now) at (pieces rest) is.loose.lone e)
   no-level (Tail kept) e other = freed-tail (world_of now) at (pieces rest) is.loose (pieces kept.0) kept.1 e
-  no-level (Level words) e other = absurd (other words refl)
+  no-level (Level keys words) e other = absurd (other keys words refl)
 
   -- A tail was the end.
-  pub cleared-tail : ((words : ArrayOf word_order) → child ≡ Level words → ⊥) → IsCleared before after
+  pub cleared-tail : ((keys : ℕ) (words : ArrayOf word_order) → child ≡ Level keys words → ⊥) → IsCleared before after
   cleared-tail other = cleared (no-level child node-is other)
 
-  module _ (words : ArrayOf word_order) (level_is : child ≡ Level words) where
+  module _ (words : ArrayOf word_order) (keys : ℕ) (level_is : child ≡ Level keys words) where
     level-is : world_of now (suc at) ≡ level words.map
     level-is = node-is ∙ ap node_of level_is
 
@@ -139,6 +153,7 @@ module _ (before now after : Arena) (at : ℕ) (rest : List ℕ) (is : IsClearin
           loose = subst (λ w. IsLoose w next (pieces (drop 8 rest))) (sym after-world) (freed-on (world_of now) at (pieces rest) is.loose words.map level-is (piece_of rest) lone.0 next (pieces (drop 8 rest)) entry (piece-IsInner rest is.text long) (pieces_are (drop 8 rest) text) (subst (IsLone (world_of now) next) (sym h.1) on));
           same = after-same;
           places = after-places;
+          left = after-left;
         }
 
     pub clearing-some : 8 ≤ length rest → get words.map (piece_of rest) ≡ None → ⊥
@@ -151,17 +166,17 @@ module _ (before now after : Arena) (at : ℕ) (rest : List ℕ) (is : IsClearin
 limit-without : (child : Child) (piece : ℕ) → HasLimit child → HasLimit (child_without child piece)
 limit-without (Free next) piece has = has
 limit-without (Tail rest) piece has = has
-limit-without (Level words) piece has = has
+limit-without (Level keys words) piece has = has
 
 text-without : (child : Child) (piece : ℕ) → HasText child → HasText (child_without child piece)
 text-without (Free next) piece has = has
 text-without (Tail rest) piece has = has
-text-without (Level words) piece has = has
+text-without (Level keys words) piece has = has
 
 node-without : (child : Child) (piece : ℕ) (map : FinMap word_order ℕ) → node_of child ≡ level map → node_of (child_without child piece) ≡ level (remove map piece)
 node-without (Free next) piece map e = cc
 node-without (Tail rest) piece map e = cc
-node-without (Level words) piece map e = let same : words.map ≡ map = cc in ap (λ (m : FinMap word_order ℕ). level (remove m piece)) same
+node-without (Level keys words) piece map e = let same : words.map ≡ map = cc in ap (λ (m : FinMap word_order ℕ). level (remove m piece)) same
 
 module _ (arena : Arena) (map : FinMap word_order ℕ) where
   pub world-without : (place : Place) → world_of arena (seat_of place) ≡ level map → world_of (place_without arena place) ≡ set_node (world_of arena) (seat_of place) (level (remove map (piece_at place)))
@@ -238,12 +253,6 @@ module _ (arena : Arena) (is : IsArena arena) (all : AllLed (world_of arena)) (k
 
       rest-are : ArePieces cut_is.rest
       rest-are = subst ArePieces (sym child-is.3) (pieces_are (left_of key cut.left) child-is.2)
-
-      pub on-within : cut.left ≤ length key
-      on-within = child-is.4
-
-      pub on-text : IsText (left_of key cut.left)
-      on-text = child-is.2
 
       pub on-arena : IsArena after
       on-arena = out-arena at child-is.0

@@ -17,7 +17,7 @@ use Rattle.judy_sl.proofs.Tailed.{filled-tail}
 
 module _ (arena : Arena) (is : IsArena arena) (key : List ℕ) (is_key : IsStringKey key) (piece : ℕ) (piece_is : piece ≡ piece_of key) (none : get arena.root.map piece ≡ None) where
   -- Its way ends in the first level,
-  first-gap : IsGap (world_of arena) key (Root piece) (length key)
+  pub first-gap : IsGap (world_of arena) key (Root piece) (length key)
   first-gap = on-gap (world_of arena) key arena.root.map key None piece (Root piece) (on-start (world_of arena) key arena.root.map refl) refl piece_is none (text_of_key key is_key)
 
   -- so it is absent,

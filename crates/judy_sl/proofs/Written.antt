@@ -34,7 +34,7 @@ module _ (arena : Arena) (is : IsArena arena) (key : List ℕ) (place : Place) (
   value-child : (child : Child) (piece : ℕ) (rest : List ℕ) (value : ℕ) → HasValue (node_of child) piece rest value → value_at child piece ≡ Some value
   value-child (Free next) piece rest value has = absurd has
   value-child (Tail kept) piece rest value has = ap (λ v. Some v) has.2
-  value-child (Level words) piece rest value has = has.2
+  value-child (Level keys words) piece rest value has = has.2
 
   value-place : (p : Place) (rest : List ℕ) (value : ℕ) → HasValue (world_of arena (seat_of p)) (piece_at p) rest value → place_value arena p ≡ Some value
   value-place (Root piece) rest value has = has.2
@@ -59,7 +59,7 @@ module _ (arena : Arena) (is : IsArena arena) (key : List ℕ) (place : Place) (
   taken-child : (child : Child) (piece : ℕ) (rest : List ℕ) (value : ℕ) → HasValue (node_of child) piece rest value → IsTaken child
   taken-child (Free next) piece rest value has = absurd has
   taken-child (Tail kept) piece rest value has = tt
-  taken-child (Level words) piece rest value has = tt
+  taken-child (Level keys words) piece rest value has = tt
 
   taken-place : (p : Place) (rest : List ℕ) (value : ℕ) → HasValue (world_of arena (seat_of p)) (piece_at p) rest value → IsPlace arena p
   taken-place (Root piece) rest value has = tt

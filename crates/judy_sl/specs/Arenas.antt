@@ -20,7 +20,7 @@ child_at arena at = get_or arena.children.items at (Free 0)
 abbrev pub node_of : Child → Node
 node_of (Free next) = gone
 node_of (Tail rest) = tail (pieces rest.0) rest.1
-node_of (Level words) = level words.map
+node_of (Level keys words) = level words.map
 
 -- What each seat has: the first level, and then the children in turn.
 abbrev pub world_of : Arena → World
@@ -31,13 +31,13 @@ world_of arena (suc at) = node_of (child_at arena at)
 abbrev pub HasText : Child → Type 0
 HasText (Free next) = Unit {0}
 HasText (Tail rest) = IsText rest.0
-HasText (Level words) = Unit {0}
+HasText (Level keys words) = Unit {0}
 
 -- A level has the limit of a word, which it never comes to.
 abbrev pub HasLimit : Child → Type 0
 HasLimit (Free next) = Unit {0}
 HasLimit (Tail rest) = Unit {0}
-HasLimit (Level words) = words.limit ≡ 18446744073709551615
+HasLimit (Level keys words) = words.limit ≡ 18446744073709551615
 
 -- What always holds of them.
 pub record IsArena (arena : Arena) : Type 0 where
@@ -51,7 +51,7 @@ pub record IsArena (arena : Arena) : Type 0 where
 abbrev pub link_of : Child → Option ℕ
 link_of (Free next) = Some next
 link_of (Tail rest) = None
-link_of (Level words) = None
+link_of (Level keys words) = None
 
 -- The links of all places.
 abbrev pub links_of : Arena → Links

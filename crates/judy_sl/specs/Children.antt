@@ -13,13 +13,13 @@ use Rattle.judy_sl.specs.contracts.child.Child.{the_row}
 abbrev pub child_with : Child → ℕ → ℕ → Child
 child_with (Free next) piece value = Free next
 child_with (Tail rest) piece value = Tail ((rest.0, value))
-child_with (Level words) piece value = Level (with_value words piece value)
+child_with (Level keys words) piece value = Level keys (with_value words piece value)
 
 -- The value that is there.
 abbrev pub value_at : Child → ℕ → Option ℕ
 value_at (Free next) piece = None
 value_at (Tail rest) piece = Some rest.1
-value_at (Level words) piece = get words.map piece
+value_at (Level keys words) piece = get words.map piece
 
 -- The child ends with the value that is left behind the slot written at the piece, where there is a slot.
 abbrev pub LendsChild : MutBor Child → ℕ → Option (MutBor ℕ) → Fml
@@ -33,16 +33,16 @@ LendsChildOk child piece slot = LendsIfOk the_row u64 child slot (child_with chi
 abbrev pub value_in : Child → ℕ → Option ℕ
 value_in (Free next) piece = None
 value_in (Tail rest) piece = Some rest.1
-value_in (Level words) piece = get (ins words.map piece) piece
+value_in (Level keys words) piece = get (ins words.map piece) piece
 
 -- The place isn't free.
 abbrev pub IsTaken : Child → Type 0
 IsTaken (Free next) = ⊥
 IsTaken (Tail rest) = Unit {0}
-IsTaken (Level words) = Unit {0}
+IsTaken (Level keys words) = Unit {0}
 
 -- A level isn't full for the piece.
 abbrev pub HasRoom : Child → ℕ → Type 0
 HasRoom (Free next) piece = Unit {0}
 HasRoom (Tail rest) piece = Unit {0}
-HasRoom (Level words) piece = IsFalse (is_full words piece)
+HasRoom (Level keys words) piece = IsFalse (is_full words piece)

@@ -15,3 +15,7 @@ pub mod Words
 pub mod Behind
 pub mod Runs
 pub mod Cursors
+pub mod Counted
+pub mod Firsts
+pub mod Nth
+pub mod Stepped

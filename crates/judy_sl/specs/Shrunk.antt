@@ -12,7 +12,7 @@ use Rattle.judy_sl.specs.declared.shrink.Cut.{Cut}
 use Rattle.judy_sl.specs.Pieces.{pieces, IsInner, IsFinal, IsText, ArePieces}
 use Rattle.judy_sl.specs.World.{World, Node, gone, tail, level, lookup}
 use Rattle.judy_sl.specs.Worlds.{IsLed, AllLed}
-use Rattle.judy_sl.specs.Arenas.{world_of, child_at, IsArena}
+use Rattle.judy_sl.specs.Arenas.{world_of, node_of, child_at, IsArena}
 use Rattle.judy_sl.specs.Places.{with_child}
 use Rattle.judy_sl.specs.Ways.{LeadsTo, seat_of, piece_at, left_of}
 use Rattle.judy_sl.specs.Grown.{IsChange}
@@ -25,7 +25,7 @@ without words piece = with_map words (del words.map piece)
 abbrev pub child_without : Child → ℕ → Child
 child_without (Free next) piece = Free next
 child_without (Tail rest) piece = Tail rest
-child_without (Level words) piece = Level (without words piece)
+child_without (Level keys words) piece = Level keys (without words piece)
 
 -- An arena without the entry at a place.
 abbrev pub place_without : Arena → Place → Arena
@@ -106,11 +106,17 @@ pub record IsLoose (world : World) (at : ℕ) (ps : List ℕ) : Type 0 where
   pub once : IsLedOnce world
   pub lone : IsLone world at ps
 
+-- The first level stayed, and each child that is still there is the one that was.
+pub record IsLeft (before after : Arena) : Type 0 where
+  pub root : after.root ≡ before.root
+  pub children : (at : ℕ) → node_of (child_at after at) ≢ gone → child_at after at ≡ child_at before at
+
 -- What stood loose is gone, and what is found stayed.
 pub record IsCleared (before after : Arena) : Type 0 where
   pub is_arena : IsArena after
   pub led : AllLed (world_of after)
   pub same : (ps : List ℕ) → ArePieces ps → lookup (world_of after) 0 ps ≡ lookup (world_of before) 0 ps
+  pub left : IsLeft before after
 
 -- A key was taken out, where it was there, and nothing is left to which no entry leads.
 pub record IsShrunk (before after : Arena) (key : List ℕ) : Type 0 where

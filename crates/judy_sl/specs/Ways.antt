@@ -1,5 +1,5 @@
 -- How far the levels lead on the way of a key.
-use Rattle.std.specs.Prelude.{◌≡◌, ◌≢◌, ℕ, suc, ◌-◌, ◌≤◌, List, [], ◌∷◌, ◌++◌, length, drop, Option, None, Some}
+use Rattle.std.specs.Prelude.{Bool, true, false, ◌≡◌, ◌≢◌, ℕ, suc, ◌-◌, ◌≤◌, List, [], ◌∷◌, ◌++◌, length, drop, Option, None, Some}
 use Rattle.std.specs.FinMap.{FinMap, get}
 use Rattle.judy_model.specs.Keys.{word_order}
 use Rattle.judy_sl.specs.declared.arena.Arena.{Arena}
@@ -15,6 +15,11 @@ use Rattle.judy_sl.specs.Arenas.{world_of}
 abbrev pub seat_of : Place → ℕ
 seat_of (Root piece) = 0
 seat_of (Below at piece) = suc at
+
+-- Whether a place is below the first level.
+abbrev pub is_below : Place → Bool
+is_below (Root piece) = false
+is_below (Below at piece) = true
 
 -- The piece of a place.
 abbrev pub piece_at : Place → ℕ
@@ -81,6 +86,16 @@ abbrev pub IsWay : Arena → List ℕ → Way → Type 0
 IsWay arena key (At place) = IsFound (world_of arena) key place
 IsWay arena key (Gap place left) = IsGap (world_of arena) key place left
 IsWay arena key (Clash at left) = IsClash (world_of arena) key at left
+
+-- It ends in the first level, which has no entry for the key's first piece.
+abbrev pub ends_at_first : Place → Bool
+ends_at_first (Root piece) = true
+ends_at_first (Below at piece) = false
+
+abbrev pub ends_first : Way → Bool
+ends_first (At place) = false
+ends_first (Gap place left) = ends_at_first place
+ends_first (Clash at left) = false
 
 -- The way ends without the key's value.
 abbrev pub IsNew : Way → Type 0

@@ -11,7 +11,7 @@ ghost use Rattle.judy_sl.specs.Arenas.{child_at, map_of, IsArena};
 ghost use Rattle.judy_sl.specs.Places.{place_value, place_in_value, place_with, IsInside, IsPlace, PlaceHasRoom, LendsItem, LendsPlace, LendsPlaceOk};
 ghost use Rattle.judy_sl.specs.declared.error.SlError.TheVariants.{NoMemory};
 ghost use Rattle.judy_sl.specs.declared.arena.Way.TheVariants.{At};
-ghost use Rattle.judy_sl.specs.Ways.{place_in, IsWay};
+ghost use Rattle.judy_sl.specs.Ways.{is_below, place_in, ends_first, IsWay};
 
 use crate::child::{Child, put_in};
 use crate::error::SlError;
@@ -46,9 +46,20 @@ pub enum Way {
     Clash(usize, usize),
 }
 
+impl Place {
+    // Whether it is below the first level.
+    pub fn is_below(self) -> bool
+        ensures { result ≡ is_below self }
+    {
+        matches!(self, Place::Below(_, _))
+    }
+}
+
 impl Way {
     // Whether it ends in the first level, which has no entry for the key's first piece.
-    pub fn ends_first(self) -> bool {
+    pub fn ends_first(self) -> bool
+        ensures { result ≡ ends_first self }
+    {
         matches!(self, Way::Gap(Place::Root(_), _))
     }
 }
@@ -99,7 +110,7 @@ impl Arena {
             };
             rest = &rest[8..];
             match self.children.get(at as usize) {
-                Some(Child::Level(next)) => {
+                Some(Child::Level(_, next)) => {
                     level = next;
                     child = Some(at as usize);
                 }
@@ -137,7 +148,7 @@ impl Arena {
             let at = level.get(piece)?;
             rest = &rest[8..];
             match self.children.get(at as usize) {
-                Some(Child::Level(next)) => level = next,
+                Some(Child::Level(_, next)) => level = next,
                 Some(Child::Tail(tail)) => {
                     return if tail.bytes() == rest {
                         Some(tail.value())

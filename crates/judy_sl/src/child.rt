@@ -10,13 +10,15 @@ use judy_entry::Entry;
 use judy_word::{InsertError, WordMap};
 
 // A place of the list: free, with the place that was free before it; a tail, which is the rest of one key with the key's
-// value; or a level.
+// value; or a level, with the number of keys behind it. That comes first, since it takes no room there.
 #[derive(Drop)]
 pub enum Child {
     Free(usize),
     Tail(Entry),
-    Level(WordMap),
+    Level(u32, WordMap),
 }
+
+const _: () = prove!(size_of::<Child>() == 48);
 
 // Gives a piece of a level a value, whether it is there or not.
 pub fn put_in(level: &mut WordMap, piece: u64, value: u64) -> Result<(), SlError>
@@ -45,7 +47,7 @@ impl Child {
         ensures value { option_copied_mut result ≡ value_at self.old piece }
     {
         match self {
-            Child::Level(level) => level.slot(piece),
+            Child::Level(_, level) => level.slot(piece),
             Child::Tail(tail) => Some(tail.slot()),
             Child::Free(_) => None,
         }
@@ -60,7 +62,7 @@ impl Child {
         ensures refused { IfErr result (λ error. (value_at self.old piece ≡ None) × (error ≡ NoMemory)) }
     {
         match self {
-            Child::Level(level) => match level.ins(piece) {
+            Child::Level(_, level) => match level.ins(piece) {
                 Ok(slot) => Ok(slot),
                 Err(InsertError::Full) => unreachable!(),
                 Err(InsertError::NoMemory) => Err(SlError::NoMemory),
@@ -79,7 +81,7 @@ impl Child {
         ensures refused { IfErr result (λ error. error ≡ NoMemory) }
     {
         match self {
-            Child::Level(level) => put_in(level, piece, value),
+            Child::Level(_, level) => put_in(level, piece, value),
             Child::Tail(tail) => {
                 *tail.slot() = value;
                 Ok(())
@@ -93,7 +95,7 @@ impl Child {
         ensures { self.new ≡ child_without self.old piece }
     {
         match self {
-            Child::Level(level) => {
+            Child::Level(_, level) => {
                 level.del(piece);
             }
             Child::Tail(_) => {}

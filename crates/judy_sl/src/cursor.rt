@@ -1,6 +1,6 @@
 //! A walk up through an array, which remembers the level in which its key stands.
 
-ghost use Rattle.std.specs.Prelude.{◌≡◌, unwrap_or};
+ghost use Rattle.std.specs.Prelude.{◌≡◌, ◌≤◌, length, unwrap_or};
 ghost use Rattle.judy_model.specs.Keys.{IsStringKey};
 ghost use Rattle.judy_model.specs.Neighbours as neighbours;
 ghost use Rattle.judy_sl.specs.Scans.{value_found};
@@ -39,7 +39,8 @@ impl<'a> Model for KeyCursor<'a> {
 impl<'a> KeyCursor<'a> {
     /// The bytes at which it stands: those with which it was made, and then the key that was found last.
     pub fn key(&self) -> &[u8]
-        ensures { result.now ≡ self.now.key }
+        ensures key { result.now ≡ self.now.key }
+        ensures short { length result.now ≤ 1024 }
     {
         self.key.as_slice()
     }

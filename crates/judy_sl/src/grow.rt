@@ -8,9 +8,13 @@ ghost use Rattle.std.specs.FinMap as map;
 ghost use Rattle.judy_word.specs.Writes.{with_value};
 ghost use Rattle.judy_model.specs.Keys.{IsStringKey};
 ghost use Rattle.judy_sl.specs.declared.error.SlError.TheVariants.{NoMemory};
+ghost use Rattle.judy_sl.specs.Pieces.{piece_of};
 ghost use Rattle.judy_sl.specs.World.{gone};
 ghost use Rattle.judy_sl.specs.Arenas.{world_of, node_of, child_at, map_of, link_of, links_of, IsArena, TakesPlaces, KnowsFree, HasRoom};
-ghost use Rattle.judy_sl.specs.Ways.{IsGap, IsClash, IsWay, IsNew};
+ghost use Rattle.judy_sl.specs.Ways.{IsGap, IsClash, IsWay, IsNew, ends_at_first, ends_first};
+ghost use Rattle.judy_sl.specs.Worlds.{AllLed};
+ghost use Rattle.judy_sl.specs.Counted.{AreCounted, AreCountedBut, OneLess};
+ghost use Rattle.judy_sl.specs.Firsts.{beginning};
 ghost use Rattle.judy_sl.specs.Grown.{IsPut, IsTailPut, IfShown, IsHung, HasTwig, IsSound, IsGraft, IsGrafted, IsAdded, IsSame, next_place};
 
 use crate::arena::{Arena, Place, Way};
@@ -61,7 +65,7 @@ impl Arena {
         match self.children.get(self.free) {
             Some(Child::Free(next)) => Some(*next),
             Some(Child::Tail(_)) => None,
-            Some(Child::Level(_)) => None,
+            Some(Child::Level(_, _)) => None,
             None => None,
         }
     }
@@ -126,12 +130,16 @@ impl Arena {
     // again. Answers where the key stands, and `None` where it isn't to be tried or its piece leads somewhere: then it is to be looked up.
     pub fn try_add(&mut self, key: &[u8], tries: bool) -> Result<Option<Place>, SlError>
         requires is_arena { IsArena self.old }
+        requires counted { AreCounted self.old }
+        requires led { AllLed (world_of self.old) }
         requires few { map.len (map_of self.old) ≤ 4294967295 }
         requires known { KnowsFree self.old }
         ensures tried { IfShown result (IsTrue tries) }
+        ensures counted { AreCounted self.new }
         ensures key { IfShown result (IsStringKey key.now) }
         ensures absent { IfShown result (map.get (map_of self.old) key.now ≡ None) }
         ensures added { IfOk result (λ found. IfSome found (λ place. IsAdded self.old self.new key.now place)) }
+        ensures first { IfOk result (λ found. IfSome found (λ place. beginning (map_of self.old) (piece_of key.now) ≡ 0)) }
         ensures open { IfOk result (λ found. found ≡ None → self.new ≡ self.old) }
         ensures refused { IfErr result (λ error. IsSame self.old self.new × (error ≡ NoMemory)) }
         ensures places { TakesPlaces self.old self.new }
@@ -161,9 +169,13 @@ impl Arena {
         requires is_arena { IsArena self.old }
         requires is_key { IsStringKey key.now }
         requires gap { IsGap (world_of self.old) key.now place left }
+        requires counted { AreCounted self.old }
+        requires led { AllLed (world_of self.old) }
         requires few { map.len (map_of self.old) ≤ 4294967295 }
         requires known { KnowsFree self.old }
         ensures added { IfOk result (λ made. IsAdded self.old self.new key.now made) }
+        ensures counted { IfOk result (λ made. AreCountedBut OneLess self.new key.now) }
+        ensures first { IfOk result (λ made. IsTrue (ends_at_first place) → AreCounted self.new) }
         ensures refused { IfErr result (λ error. IsSame self.old self.new × (error ≡ NoMemory)) }
         ensures places { TakesPlaces self.old self.new }
     {
@@ -218,6 +230,7 @@ impl Arena {
         requires sound { IsSound branch }
         requires is_arena { IsArena self.old }
         ensures grafted { (key : List ℕ) (left : ℕ) → IsStringKey key → IsGraft self.old key at left branch → IsGrafted self.old self.new key }
+        ensures counted { (key : List ℕ) (left : ℕ) → IsStringKey key → IsGraft self.old key at left branch → AllLed (world_of self.old) → AreCounted self.old → AreCountedBut OneLess self.new key }
         ensures places { TakesPlaces self.old self.new }
     {
         let Branch {
@@ -230,11 +243,11 @@ impl Arena {
         self.hang(&mut level, old);
         self.hang(&mut level, new);
         while let Some((piece, above)) = upper.pop() {
-            let place = self.put(Child::Level(level));
+            let place = self.put(Child::Level(1, level));
             level = above;
             link(&mut level, piece, place);
         }
-        self.children[at] = Child::Level(level);
+        self.children[at] = Child::Level(1, level);
     }
 
     // Adds a key whose way comes to another's tail.
@@ -242,8 +255,11 @@ impl Arena {
         requires is_arena { IsArena self.old }
         requires is_key { IsStringKey key.now }
         requires clash { IsClash (world_of self.old) key.now at left }
+        requires counted { AreCounted self.old }
+        requires led { AllLed (world_of self.old) }
         requires known { KnowsFree self.old }
         ensures added { IfOk result (λ made. IsAdded self.old self.new key.now made) }
+        ensures counted { IfOk result (λ made. AreCountedBut OneLess self.new key.now) }
         ensures refused { IfErr result (λ error. IsSame self.old self.new × (error ≡ NoMemory)) }
         ensures places { TakesPlaces self.old self.new }
     {
@@ -251,7 +267,7 @@ impl Arena {
         let rest = &key[key.len() - left..];
         let built = match &self.children[at] {
             Child::Tail(tail) => branch_of(alloc, tail, rest),
-            Child::Level(_) => unreachable!(),
+            Child::Level(_, _) => unreachable!(),
             Child::Free(_) => unreachable!(),
         };
         let made = match built {
@@ -272,12 +288,16 @@ impl Arena {
     // Adds a key that isn't there, with the value 0.
     pub fn add(&mut self, key: &[u8], way: Way) -> Result<Place, SlError>
         requires is_arena { IsArena self.old }
+        requires counted { AreCounted self.old }
+        requires led { AllLed (world_of self.old) }
         requires is_key { IsStringKey key.now }
         requires way { IsWay self.old key.now way }
         requires new { IsNew way }
         requires few { map.len (map_of self.old) ≤ 4294967295 }
         requires known { KnowsFree self.old }
         ensures added { IfOk result (λ made. IsAdded self.old self.new key.now made) }
+        ensures counted { IfOk result (λ made. AreCountedBut OneLess self.new key.now) }
+        ensures first { IfOk result (λ made. IsTrue (ends_first way) → AreCounted self.new) }
         ensures refused { IfErr result (λ error. IsSame self.old self.new × (error ≡ NoMemory)) }
         ensures places { TakesPlaces self.old self.new }
     {

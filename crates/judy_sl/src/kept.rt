@@ -17,7 +17,7 @@ impl Child {
         ensures { HasWords (node_of self.now) }
     {
         match self {
-            Child::Level(level) => level.is_array(),
+            Child::Level(_, level) => level.is_array(),
             Child::Tail(tail) => is_word(tail.value()),
             Child::Free(_) => {}
         }

@@ -26,7 +26,7 @@ impl Arena {
             let place = level.get(first_piece(rest))?;
             rest = &rest[8..];
             match self.children.get(place as usize) {
-                Some(Child::Level(next)) => level = next,
+                Some(Child::Level(_, next)) => level = next,
                 Some(Child::Tail(_)) => return None,
                 Some(Child::Free(_)) => return None,
                 None => return None,

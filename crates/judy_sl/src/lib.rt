@@ -14,14 +14,17 @@
 mod arena;
 mod branches;
 mod child;
+mod counted;
 mod counts;
 mod cursor;
 mod error;
+mod firsts;
 mod grow;
 mod kept;
 mod keys;
 pub mod laws;
 mod level;
+mod nth;
 mod pieces;
 mod runs;
 mod scans;

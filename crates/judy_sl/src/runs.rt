@@ -37,7 +37,7 @@ impl Arena {
             };
             rest = &rest[8..];
             match self.children.get(at as usize) {
-                Some(Child::Level(next)) => level = next,
+                Some(Child::Level(_, next)) => level = next,
                 Some(Child::Tail(_)) => unreachable!(),
                 Some(Child::Free(_)) => unreachable!(),
                 None => unreachable!(),
@@ -80,7 +80,7 @@ impl Arena {
         while piece % 256 != 0 {
             push_piece(key, piece);
             match self.children.get(value as usize) {
-                Some(Child::Level(next)) => {
+                Some(Child::Level(_, next)) => {
                     run.entries = next.iter();
                     run.depth = key.len();
                     let first = run.entries.next()?;

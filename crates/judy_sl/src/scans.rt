@@ -190,7 +190,7 @@ impl Arena {
             }
             rest = &rest[8..];
             match self.children.get(entry.1 as usize) {
-                Some(Child::Level(next)) => level = next,
+                Some(Child::Level(_, next)) => level = next,
                 Some(Child::Tail(tail)) => {
                     let met = look.meets(rest, tail.bytes());
                     return if met {
@@ -233,7 +233,7 @@ impl Arena {
                 return turn;
             };
             match self.children.get(at as usize) {
-                Some(Child::Level(next)) => level = next,
+                Some(Child::Level(_, next)) => level = next,
                 Some(Child::Tail(tail)) => {
                     let met = look.meets(rest, tail.bytes());
                     return if met {
@@ -271,7 +271,7 @@ impl Arena {
         while piece % 256 != 0 {
             push_piece(key, piece);
             match self.children.get(value as usize) {
-                Some(Child::Level(next)) => {
+                Some(Child::Level(_, next)) => {
                     let entry = look.side.end(next)?;
                     piece = entry.0;
                     value = entry.1;

@@ -1,13 +1,15 @@
 //! How an arena loses a key: the entry at which its way leaves that of every other key is taken out, and what stands
 //! below it is given back. None of this asks for memory.
 
-ghost use Rattle.std.specs.Prelude.{◌≡◌, ◌<◌, Some, is_some, length};
+ghost use Rattle.std.specs.Prelude.{◌≡◌, ◌<◌, Some, None, is_some, length, IsSome, IfSome};
+ghost use Rattle.std.specs.FinMap.{get};
 ghost use Rattle.judy_model.specs.Keys.{IsStringKey};
-ghost use Rattle.judy_sl.specs.Pieces.{pieces, IsText};
+ghost use Rattle.judy_sl.specs.Pieces.{pieces, piece_of, IsText};
 ghost use Rattle.judy_sl.specs.World.{lookup};
 ghost use Rattle.judy_sl.specs.Worlds.{AllLed};
 ghost use Rattle.judy_sl.specs.Arenas.{world_of, child_at, IsArena, FreesPlaces, KnowsFree};
 ghost use Rattle.judy_sl.specs.Places.{IsInside};
+ghost use Rattle.judy_sl.specs.Counted.{AreCounted, AreCountedBut, OneMore};
 ghost use Rattle.judy_sl.specs.Shrunk.{place_without, vacated, IsCut, IsDeeper, IsLoose, IsCleared, IsShrunk};
 
 use crate::arena::{Arena, Place, place_in};
@@ -58,7 +60,7 @@ impl Arena {
             };
             cut = Some(deeper(cut, level, here));
             match self.children.get(at as usize) {
-                Some(Child::Level(next)) => {
+                Some(Child::Level(_, next)) => {
                     level = next;
                     child = Some(at as usize);
                 }
@@ -117,7 +119,7 @@ impl Arena {
         let mut at = at;
         let mut rest = key;
         loop {
-            let Child::Level(level) = self.vacate(at) else {
+            let Child::Level(_, level) = self.vacate(at) else {
                 return;
             };
             if rest.len() < 8 {
@@ -131,24 +133,29 @@ impl Arena {
         }
     }
 
-    // Takes a key out, and answers whether it was there. No level is left empty but the first, and each place that
-    // becomes free is used again.
-    pub fn del(&mut self, key: &[u8]) -> bool
+    // Takes a key out, and answers whether others begin with its first piece; `None` where it wasn't there. No level is
+    // left empty but the first, and each place that becomes free is used again.
+    pub fn del(&mut self, key: &[u8]) -> Option<bool>
         requires is_arena { IsArena self.old }
+        requires counted { AreCounted self.old }
         requires led { AllLed (world_of self.old) }
         requires known { KnowsFree self.old }
         requires is_key { IsStringKey key.now }
-        ensures answer { result ≡ is_some (lookup (world_of self.old) 0 (pieces key.now)) }
+        ensures answer { is_some result ≡ is_some (lookup (world_of self.old) 0 (pieces key.now)) }
         ensures shrunk { IsShrunk self.old self.new key.now }
+        ensures beside { IfSome result (λ beside. beside ≡ is_some (get self.new.root.map (piece_of key.now))) }
+        ensures counted { IsSome result → AreCountedBut OneMore self.new key.now }
+        ensures missed { result ≡ None → AreCounted self.new }
         ensures places { FreesPlaces self.old self.new }
     {
         let Some(cut) = self.find_cut(key) else {
-            return false;
+            return None;
         };
+        let beside = cut.place.is_below();
         self.take_out(cut.place);
         if let Some(at) = cut.below {
             self.clear(at, &key[key.len() - cut.left..]);
         }
-        true
+        Some(beside)
     }
 }

@@ -10,8 +10,10 @@ ghost use Rattle.judy_sl.specs.Lends.{LendsSlot, LendsIns, IsRefusal};
 
 use crate::arena::{Arena, Way};
 use crate::error::SlError;
+use crate::firsts;
 use crate::keys::is_key;
 use crate::pieces::ends_in_zero;
+use judy_sums::Sums;
 use std::alloc::Global;
 use std::marker::Model;
 
@@ -22,6 +24,8 @@ pub struct JudySl {
     limit: u64,
     count: u64,
     pub(crate) arena: Arena,
+    // How many keys begin with each first piece, less one.
+    pub(crate) firsts: Sums,
     // Whether the last insert put a key in whose first piece led nowhere. The next one is then tried as such a one, which finds its place and
     // puts it in by one way down the first level.
     adds: bool,
@@ -36,11 +40,13 @@ impl Model for JudySl {
 
     ghost coded = { array_code (coded_list coded_ℕ) };
 
-    ghost use Rattle.judy_sl.specs.Arenas.{array_of, IsStrings};
+    ghost use Rattle.judy_sl.specs.Arenas.{array_of, map_of, IsStrings};
+    ghost use Rattle.judy_sl.specs.Counted.{AreCounted};
+    ghost use Rattle.judy_sl.specs.Firsts.{AreFirsts};
 
     ghost view = { λ a. array_of a.limit a.arena };
 
-    ghost invariant = { λ a. IsStrings a.limit a.count a.arena };
+    ghost invariant = { λ a. IsStrings a.limit a.count a.arena × AreCounted a.arena × AreFirsts (map_of a.arena) a.firsts };
 }
 
 impl JudySl {
@@ -55,6 +61,7 @@ impl JudySl {
             limit,
             count: 0,
             arena: Arena::new(alloc),
+            firsts: Sums::new(alloc),
             adds: true,
         }
     }
@@ -93,7 +100,7 @@ impl JudySl {
                     if self.count == self.limit {
                         return Err(SlError::Full);
                     }
-                    match self.arena.add(key, way) {
+                    match firsts::add(&mut self.arena, &mut self.firsts, key, way) {
                         Ok(made) => {
                             self.count += 1;
                             self.adds = way.ends_first();
@@ -145,7 +152,7 @@ impl JudySl {
         if !is_key(key) {
             return false;
         }
-        let found = self.arena.del(key);
+        let found = firsts::del(&mut self.arena, &mut self.firsts, key);
         if found {
             self.count -= 1;
             self.give_back();
@@ -192,7 +199,9 @@ impl JudySl {
         ensures emptied { self.new ≡ array.empty_array self.old.limit }
     {
         let freed = self.count;
-        self.arena = Arena::new(*self.arena.children.allocator());
+        let alloc = *self.arena.children.allocator();
+        self.arena = Arena::new(alloc);
+        self.firsts = Sums::new(alloc);
         self.count = 0;
         freed
     }

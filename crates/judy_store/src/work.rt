@@ -9,6 +9,7 @@ use judy_options::Options;
 use judy_pipe::{BufferedSink, BufferedSource};
 use judy_shelf::{DumpFault, Shelf, load};
 use std::io::Read;
+use std::mem;
 
 // The most bytes of a script. (This project's own.)
 const MAX_SCRIPT_LEN: u64 = 1073741824;
@@ -18,6 +19,9 @@ const BUFFER_LEN: usize = 65536;
 
 /// Begins with an empty store, or the one that it loads; runs the script, and hands its answers on; then dumps the
 /// store where it is asked to. The first fault ends it, and nothing later is done.
+///
+/// Where all is done, the arrays are not let go, since the system takes the memory of a program that ends at once, and each block by itself takes
+/// longer.
 pub fn serve(rt: &HostRuntime, options: &Options) -> Result<(), End> {
     let mut shelf = match &options.load {
         Some(name) => loaded(rt, name.as_str())?,
@@ -27,10 +31,11 @@ pub fn serve(rt: &HostRuntime, options: &Options) -> Result<(), End> {
         Some(name) => answer(rt, files::open(rt, name.as_str())?, &mut shelf)?,
         None => answer(rt, rt.stdin(), &mut shelf)?,
     }
-    match &options.dump {
-        Some(name) => dumped(rt, name.as_str(), options.format, &shelf),
-        None => Ok(()),
+    if let Some(name) = &options.dump {
+        dumped(rt, name.as_str(), options.format, &shelf)?;
     }
+    mem::forget(shelf);
+    Ok(())
 }
 
 // The shelf that the dump of that name is of.

@@ -1,17 +1,16 @@
 -- The chunks of a list: what stands before and behind one, and what a change of one makes of the list.
-use Rattle.std.proofs.Common.{◌≡◌, ℕ, zero, suc, ◌+◌, ◌<◌, ◌≤◌, ◌^◌, ◌/◌, ◌⊎◌, inl, inr, cond, true, false, Bool, not, List, [], ◌∷◌, ◌++◌, length, take, drop, get_or, set, insert, remove, unwrap_or, Option, Some, None, IsSome, Less, Equal, Greater, refl, sym, ap, ◌∙◌, subst, arith, append-nil, append_assoc, add-zero, zero-add, suc-add, add-one, slice_get, option_map, is_some, T, ◌&&◌, true≢false}
+use Rattle.std.proofs.Common.{◌≡◌, ℕ, zero, suc, ◌+◌, ◌<◌, ◌≤◌, ◌^◌, ◌/◌, ◌⊎◌, inl, inr, cond, true, false, Bool, not, List, [], ◌∷◌, ◌++◌, length, take, drop, get_or, set, insert, remove, unwrap_or, Some, None, IsSome, Less, Equal, Greater, refl, sym, ap, ◌∙◌, subst, arith, append_assoc, add-zero, add-one, is_some, T, ◌&&◌}
 use Rattle.std.specs.Ordering.{is_eq, is_lt, eq_by_cmp}
 use Rattle.std.specs.Cmp.{ranked, nat_cmp_total}
 use Rattle.std.specs.FinMap.{find, put, is_sorted}
 use Rattle.std.specs.FinMap.Entries.{by_order, below_all, is_sorted-put, is_sorted-where_key, length-put, length_without}
 use Rattle.std.proofs.lemmas.Bool.{cases_lt}
-use Rattle.std.proofs.lemmas.List.{take-append-drop, set_split, take_more, take_all, drop_all, length-append, length-take-le, length-drop, take-append-le, set_at, set-get_or, get_or_read, nil_from_length}
-use Rattle.std.proofs.lemmas.List.Edits.{get_or-insert_below, length-insert}
+use Rattle.std.proofs.lemmas.List.{take-append-drop, set_split, drop_all, length-take-le, length-drop, get_or_read, nil_from_length}
 use Rattle.std.proofs.lemmas.List.Concat.{flat_map-append}
 use Rattle.std.proofs.lemmas.List.Sums.{sum_by-cons, sum_by-append}
 use Rattle.judy_model.specs.Keys.{word_order}
 use Rattle.judy_model.proofs.Pairs.{first_below, rest_sorted}
-use Rattle.judy_sums.specs.Pairs.{Pairs, sum_of, sum_below, part_below, number_in, without, standing_at, standing_of}
+use Rattle.judy_sums.specs.Pairs.{Pairs, sum_of, sum_below, part_below, number_in, without}
 use Rattle.judy_sums.specs.Chunks.{AllBelow, AllFrom, Ascends, AllFilled, AreChunks, BelongsTo, BeginsBy, BeginsAbove, joined}
 use Rattle.judy_sums.proofs.PairLemmas.{tail_ascends, below_more, from_less, before_pair, from_first, find_none, find_front, find_behind, put_front, put_behind, without_front, without_behind, sum_front, sum_behind}
 
@@ -26,10 +25,6 @@ joined_split (chunk ∷ rest) zero within = refl
 joined_split (chunk ∷ rest) (suc at) within =
     ap (λ pairs. chunk ++ pairs) (joined_split rest at (omega arith)) ∙ sym (append_assoc chunk (joined (take at rest)) (get_or rest at [] ++ joined (drop (suc at) rest)))
 
-pub joined_more : (chunks : List Pairs) (at : ℕ) → at < length chunks → joined (take (at + 1) chunks) ≡ joined (take at chunks) ++ get_or chunks at []
-joined_more chunks at within =
-    ap joined (take_more chunks at [] within) ∙ joined_append (take at chunks) (get_or chunks at [] ∷ []) ∙ ap (λ pairs. joined (take at chunks) ++ pairs) (append-nil (get_or chunks at []))
-
 pub joined_set : (chunks : List Pairs) (at : ℕ) (chunk : Pairs) → at < length chunks → joined (set chunks at chunk) ≡ joined (take at chunks) ++ (chunk ++ joined (drop (suc at) chunks))
 joined_set chunks at chunk within = ap joined (set_split chunks at chunk within) ∙ joined_append (take at chunks) (chunk ∷ drop (suc at) chunks)
 
@@ -38,24 +33,11 @@ sum_append = sum_by-append (λ (pair : ℕ × ℕ). pair.1)
 
 -- Steps of loops over the chunks.
 module _ (chunks : List Pairs) (at : ℕ) (within : at < length chunks) where
-  pub sum_step : sum_of (joined (take (at + 1) chunks)) ≡ sum_of (joined (take at chunks)) + sum_of (get_or chunks at [])
-  sum_step = ap sum_of (joined_more chunks at within) ∙ sum_append (joined (take at chunks)) (get_or chunks at [])
-
   pub sum_within : sum_of (joined (take at chunks)) + sum_of (get_or chunks at []) ≤ sum_of (joined chunks)
   sum_within =
       let whole = ap sum_of (joined_split chunks at within) in
       let outer = sum_append (joined (take at chunks)) (get_or chunks at [] ++ joined (drop (suc at) chunks)) in
       let inner = sum_append (get_or chunks at []) (joined (drop (suc at) chunks)) in
-      omega arith
-
-  pub length_step : length (joined (take (at + 1) chunks)) ≡ length (joined (take at chunks)) + length (get_or chunks at [])
-  length_step = ap length (joined_more chunks at within) ∙ length-append (joined (take at chunks)) (get_or chunks at [])
-
-  pub length_within : length (joined (take at chunks)) + length (get_or chunks at []) ≤ length (joined chunks)
-  length_within =
-      let whole = ap length (joined_split chunks at within) in
-      let outer = length-append (joined (take at chunks)) (get_or chunks at [] ++ joined (drop (suc at) chunks)) in
-      let inner = length-append (get_or chunks at []) (joined (drop (suc at) chunks)) in
       omega arith
 
 -- ---- where a word belongs
@@ -113,7 +95,7 @@ join_parts : (a b : Bool) → T a → T b → T (a && b)
 join_parts true b h k = k
 join_parts false b h k = absurd h
 
-rest_from : (word : ℕ) (pair : ℕ × ℕ) (rest : Pairs) → AllFrom (pair ∷ rest) word → AllFrom rest word
+pub rest_from : (word : ℕ) (pair : ℕ × ℕ) (rest : Pairs) → AllFrom (pair ∷ rest) word → AllFrom rest word
 rest_from word pair rest all = all.1
 
 below_front : (word : ℕ) (front back : Pairs) → T (below_all word_order word (front ++ back)) → T (below_all word_order word front)
@@ -250,50 +232,6 @@ length_there pairs word number ascend is = length-put word_order nat_cmp_total w
 pub length_new : (pairs : Pairs) (word number : ℕ) → Ascends pairs → find word_order word pairs ≡ None → length (put word_order word number pairs) ≡ length pairs + 1
 length_new pairs word number ascend absent = length-put word_order nat_cmp_total word number pairs ascend ∙ ap (λ found. cond (is_some found) (length pairs) (length pairs + 1)) absent
 
--- Where a word is found there is a chunk.
-pub some_chunk : (chunks : List Pairs) (word : ℕ) → IsSome (find word_order word (joined chunks)) → 1 ≤ length chunks
-some_chunk [] word is = absurd (true≢false (sym is))
-some_chunk (chunk ∷ rest) word is = omega arith
-
--- ---- the pair at a place
-
-slice_behind : (front back : Pairs) (left : ℕ) → slice_get (front ++ back) (length front + left) ≡ slice_get back left
-slice_behind [] back left = ap (slice_get back) (zero-add left)
-slice_behind (pair ∷ rest) back left = ap (slice_get (pair ∷ (rest ++ back))) (suc-add (length rest) left) ∙ slice_behind rest back left
-
-take_behind : (front back : Pairs) (left : ℕ) → take (length front + left) (front ++ back) ≡ front ++ take left back
-take_behind [] back left = ap (λ n. take n back) (zero-add left)
-take_behind (pair ∷ rest) back left = ap (λ n. take n (pair ∷ (rest ++ back))) (suc-add (length rest) left) ∙ ap (λ pairs. pair ∷ pairs) (take_behind rest back left)
-
-slice_within : (pairs back : Pairs) (left : ℕ) → left < length pairs → slice_get (pairs ++ back) left ≡ Some (get_or pairs left (0, 0))
-slice_within [] back left within = absurd (omega arith)
-slice_within (pair ∷ rest) back zero within = refl
-slice_within (pair ∷ rest) back (suc left) within = slice_within rest back left (omega arith)
-
-slice_nil : (left : ℕ) → slice_get {X = ℕ × ℕ} [] left ≡ None
-slice_nil left = refl
-
--- It stands in the chunk that is so far behind the first ones.
-pub standing_in : (chunks : List Pairs) (at left place before : ℕ) (item : Pairs) → at < length chunks → item ≡ get_or chunks at [] → left < length item → place ≡ length (joined (take at chunks)) + left → before ≡ sum_of (joined (take at chunks))
-    → standing_at (joined chunks) place ≡ Some (standing_of (get_or item left (0, 0)) (before + sum_of (take left item)))
-standing_in chunks at left place before item within is inside stands sums =
-    let front : Pairs = joined (take at chunks) in
-    let back : Pairs = joined (drop (suc at) chunks) in
-    let whole : joined chunks ≡ front ++ (item ++ back) = joined_split chunks at within ∙ ap (λ chunk. front ++ (chunk ++ back)) (sym is) in
-    ap (λ pairs. standing_at pairs place) whole
-    ∙ ap (standing_at (front ++ (item ++ back))) stands
-    ∙ ap (λ (found : Option (ℕ × ℕ)). option_map (λ pair. standing_of pair (sum_of (take (length front + left) (front ++ (item ++ back))))) found) (slice_behind front (item ++ back) left ∙ slice_within item back left inside)
-    ∙ ap (λ pairs. Some (standing_of (get_or item left (0, 0)) (sum_of pairs))) (take_behind front (item ++ back) left ∙ ap (λ pairs. front ++ pairs) (take-append-le left item back (omega arith)))
-    ∙ ap (λ n. Some (standing_of (get_or item left (0, 0)) n)) (sum_append front (take left item) ∙ ap (λ n. n + sum_of (take left item)) (sym sums))
-
--- Behind the last chunk none does.
-pub standing_past : (chunks : List Pairs) (at left place : ℕ) → length chunks ≤ at → place ≡ length (joined (take at chunks)) + left → standing_at (joined chunks) place ≡ None
-standing_past chunks at left place past stands =
-    let all = ap joined (take_all at chunks past) in
-    ap (standing_at (joined chunks)) (stands ∙ ap (λ pairs. length pairs + left) all)
-    ∙ ap (λ (found : Option (ℕ × ℕ)). option_map (λ pair. standing_of pair (sum_of (take (length (joined chunks) + left) (joined chunks)))) found)
-    (ap (λ pairs. slice_get pairs (length (joined chunks) + left)) (sym (append-nil (joined chunks))) ∙ slice_behind (joined chunks) [] left ∙ slice_nil left)
-
 -- ---- a chunk in two
 
 pub first_of_some : {X : Type 0} (xs : List X) → 1 ≤ length xs → (x : X) × (rest : List X) × (xs ≡ x ∷ rest)
@@ -312,14 +250,6 @@ module _ (chunks : List Pairs) (at half : ℕ) (within : at < length chunks) whe
 
   upper : Pairs
   upper = drop half (get_or chunks at [])
-
-  pub parted_is : set (insert chunks (at + 1) (drop half (get_or chunks at []))) at (take half (get_or chunks at [])) ≡ take at chunks ++ take half (get_or chunks at []) ∷ drop half (get_or chunks at []) ∷ drop (suc at) chunks
-  unfolding lower upper
-  parted_is =
-      ap (λ front. set (front ++ upper ∷ drop (at + 1) chunks) at lower) (take_more chunks at [] within)
-      ∙ ap (λ all. set all at lower) (append_assoc (take at chunks) (get_or chunks at [] ∷ []) (upper ∷ drop (at + 1) chunks))
-      ∙ set_at (take at chunks) (get_or chunks at []) (upper ∷ drop (at + 1) chunks) lower at (length-take-le at chunks (omega arith))
-      ∙ ap (λ n. take at chunks ++ lower ∷ upper ∷ drop n chunks) (add-one at)
 
   pub parted_joined : joined (take at chunks ++ take half (get_or chunks at []) ∷ drop half (get_or chunks at []) ∷ drop (suc at) chunks) ≡ joined chunks
   unfolding lower upper
@@ -340,17 +270,22 @@ module _ (chunks : List Pairs) (at half : ℕ) (within : at < length chunks) whe
         fits = subst (λ pairs. sum_of pairs < 2 ^ 64) (sym parted_joined) are.fits;
       }
 
--- As the code has it: the halves of the chunk that was read, where it was lent.
-pub parted_seen : (chunks : List Pairs) (at : ℕ) → at < length chunks → (read upper lent lower : Pairs) (more : List Pairs) → read ≡ get_or chunks at read → upper ≡ drop (length read / 2) read → more ≡ insert chunks (at + 1) upper → lent ≡ get_or more at lent → lower ≡ take (length lent / 2) lent
-    → set more at lower ≡ take at chunks ++ take (length (get_or chunks at []) / 2) (get_or chunks at []) ∷ drop (length (get_or chunks at []) / 2) (get_or chunks at []) ∷ drop (suc at) chunks
-parted_seen chunks at within read upper lent lower more is_read is_upper is_more is_lent is_lower =
+parted_cut : (chunks : List Pairs) (at : ℕ) (lower upper : Pairs) → at < length chunks → insert (set chunks at lower) (suc at) upper ≡ take at chunks ++ lower ∷ upper ∷ drop (suc at) chunks
+parted_cut [] at lower upper within = absurd (omega arith)
+parted_cut (chunk ∷ rest) zero lower upper within = refl
+parted_cut (chunk ∷ rest) (suc at) lower upper within = ap (λ all. chunk ∷ all) (parted_cut rest at lower upper (omega arith))
+
+-- As the code has it: the halves of the chunk that was lent.
+pub parted_seen : (chunks : List Pairs) (at : ℕ) → at < length chunks → (lent lower upper : Pairs) → lent ≡ get_or chunks at lent → lower ≡ take (length lent / 2) lent → upper ≡ drop (length lent / 2) lent
+    → insert (set chunks at lower) (at + 1) upper ≡ take at chunks ++ take (length (get_or chunks at []) / 2) (get_or chunks at []) ∷ drop (length (get_or chunks at []) / 2) (get_or chunks at []) ∷ drop (suc at) chunks
+parted_seen chunks at within lent lower upper is_lent is_lower is_upper =
     let chunk : Pairs = get_or chunks at [] in
-    let reads : read ≡ chunk = get_or_read chunks at read within is_read [] in
-    let longer = ap length is_more ∙ length-insert chunks (at + 1) upper (omega arith) in
-    let lends : lent ≡ chunk = get_or_read more at lent (omega arith) is_lent [] ∙ ap (λ all. get_or all at []) is_more ∙ get_or-insert_below chunks (at + 1) upper [] at (omega arith) (omega arith) in
-    let uppers : upper ≡ drop (length chunk / 2) chunk = is_upper ∙ ap (λ pairs. drop (length pairs / 2) pairs) reads in
+    let lends : lent ≡ chunk = get_or_read chunks at lent within is_lent [] in
+    let uppers : upper ≡ drop (length chunk / 2) chunk = is_upper ∙ ap (λ pairs. drop (length pairs / 2) pairs) lends in
     let lowers : lower ≡ take (length chunk / 2) chunk = is_lower ∙ ap (λ pairs. take (length pairs / 2) pairs) lends in
-    ap (λ all. set all at lower) (is_more ∙ ap (insert chunks (at + 1)) uppers) ∙ ap (set (insert chunks (at + 1) (drop (length chunk / 2) chunk)) at) lowers ∙ parted_is chunks at (length chunk / 2) within
+    ap (λ n. insert (set chunks at lower) n upper) (add-one at)
+    ∙ parted_cut chunks at lower upper within
+    ∙ (λ t. take at chunks ++ lowers t ∷ uppers t ∷ drop (suc at) chunks)
 
 -- ---- a chunk that is lent and changed
 
@@ -382,9 +317,6 @@ module _ (chunks seen : List Pairs) (word at : ℕ) (lent : Pairs) (are : AreChu
   pub lent_found : find word_order word lent ≡ find word_order word (joined chunks)
   lent_found = ap (find word_order word) is_chunk ∙ sym (find_chunk chunks word at are here)
 
-  pub lent_number : number_in lent word ≡ number_in (joined chunks) word
-  lent_number = ap (λ found. unwrap_or found 0) lent_found
-
   pub lent_sum : sum_of lent ≤ sum_of (joined chunks)
   lent_sum = let one = ap sum_of is_chunk in let most = sum_within chunks at here.within in omega arith
 
@@ -393,10 +325,6 @@ module _ (chunks seen : List Pairs) (word at : ℕ) (lent : Pairs) (are : AreChu
 
   pub lent_are : (new : Pairs) (number : ℕ) → new ≡ put word_order word number lent → length (put word_order word number (joined chunks)) < 2 ^ 64 → sum_of (put word_order word number (joined chunks)) < 2 ^ 64 → AreChunks (set chunks at new)
   lent_are new number e few fits = subst (λ chunk. AreChunks (set chunks at chunk)) (sym (e ∙ ap (put word_order word number) is_chunk)) (are_put chunks word at are here number few fits)
-
-  -- One that stays leaves the list.
-  pub lent_same : (new : Pairs) → new ≡ lent → set chunks at new ≡ chunks
-  lent_same new e = ap (set chunks at) (e ∙ is_chunk) ∙ set-get_or chunks at []
 
   pub lent_without : (new : Pairs) → new ≡ without word lent → joined (set chunks at new) ≡ without word (joined chunks)
   lent_without new e = ap (λ chunk. joined (set chunks at chunk)) (e ∙ ap (without word) is_chunk) ∙ without_is chunks word at are here

@@ -1,5 +1,7 @@
 pub mod PairLemmas
 pub mod ChunkLemmas
+pub mod SpotLemmas
 pub mod SumsLemmas
 pub mod LevelCounts
 pub mod Parts
+pub mod Raised

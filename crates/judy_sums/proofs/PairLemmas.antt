@@ -1,18 +1,18 @@
 -- Pairs in ascending order: what stands before and behind a word, and what a put or a removal there leaves.
-use Rattle.std.proofs.Common.{◌≡◌, ◌≢◌, ℕ, zero, suc, ◌<◌, ◌≤◌, Bool, true, false, cond, not, ◌&&◌, ◌⊎◌, inl, inr, T, [], ◌∷◌, ◌++◌, length, take, drop, get_or, set, insert, remove, nat_lt, Option, Some, None, Less, Equal, Greater, refl, sym, ap, ◌∙◌, subst, arith, ◌+◌, ◌-◌, zero-add, sub-one, add-one, unwrap_or, IsSome, true≢false}
+use Rattle.std.proofs.Common.{◌≡◌, ℕ, zero, suc, ◌<◌, ◌≤◌, Bool, true, false, cond, not, ◌&&◌, ◌⊎◌, inl, inr, T, [], ◌∷◌, ◌++◌, length, take, drop, get_or, set, insert, remove, nat_lt, Option, Some, None, Less, Equal, Greater, refl, sym, ap, ◌∙◌, subst, arith, ◌+◌, ◌-◌, zero-add, sub-one, add-one, unwrap_or, IsSome, true≢false}
 use Rattle.std.specs.Ordering.{nat_cmp, is_lt, is_eq, eq_by_cmp}
 use Rattle.std.specs.Cmp.{nat_cmp_is, ranked}
 use Rattle.std.specs.FinMap.{find, put}
 use Rattle.std.specs.FinMap.Entries.{below_all, by_order}
 use Rattle.std.proofs.lemmas.List.{take-append-drop, set_split, drop_more, take_more, drop_all, length-drop}
 use Rattle.std.proofs.lemmas.Bool.{lt-ltb, le-ltb, cases_lt}
-use Rattle.std.proofs.lemmas.List.Sums.{sum_by-cons, sum_by-set, sum_by-remove, get_or-le-sum_by}
+use Rattle.std.proofs.lemmas.List.Sums.{sum_by-take-drop, sum_by-cons}
 use Rattle.std.proofs.lemmas.Option.{none-some, same_Some}
 use Rattle.judy_model.specs.Keys.{word_order}
 use Rattle.judy_model.proofs.Pairs.{first_below, rest_sorted}
 use Rattle.judy_model.proofs.WordOrder.{lt_from_word, less_word}
 use Rattle.judy_sums.specs.Pairs.{Pairs, sum_of, part_below, sum_below, number_in, without}
-use Rattle.judy_sums.specs.Chunks.{AllBelow, AllFrom, Ascends, IsPlace, BeginsAt}
+use Rattle.judy_sums.specs.Chunks.{AllBelow, AllFrom, Ascends, IsPlace}
 
 -- ---- words before and behind one
 
@@ -213,16 +213,6 @@ module _ (pairs : Pairs) (word at : ℕ) (ascend : Ascends pairs) (place : IsPla
       ∙ ap (find word_order word) (drop_more pairs at pair within ∙ ap (λ first. first ∷ drop (at + 1) pairs) (sym is))
       ∙ ap (λ r. cond (is_eq r) (Some pair.1) (find word_order word (drop (at + 1) pairs))) (same_word word pair.0 (sym same))
 
-  pub absent_at : (pair : ℕ × ℕ) → at < length pairs → pair ≡ get_or pairs at pair → pair.0 ≢ word → find word_order word pairs ≡ None
-  absent_at pair within is differ =
-      let first : drop at pairs ≡ pair ∷ drop (at + 1) pairs = drop_more pairs at pair within ∙ ap (λ one. one ∷ drop (at + 1) pairs) (sym is) in
-      let least : word ≤ pair.0 = (subst (λ back. AllFrom back word) first place.behind).0 in
-      let above : suc word ≤ pair.0 = omega (arith, differ) in
-      found_behind ∙ ap (find word_order word) first ∙ find_none (pair ∷ drop (at + 1) pairs) word (from_first pair (drop (at + 1) pairs) (suc word) (subst Ascends first behind_ascend) above)
-
-  pub absent_past : length pairs ≤ at → find word_order word pairs ≡ None
-  absent_past past = found_behind ∙ ap (find word_order word) (drop_all at pairs past)
-
   -- A word that is found stands there.
   pub stands_there : (number : ℕ) → find word_order word pairs ≡ Some number → (rest : Pairs) × (drop at pairs ≡ (word, number) ∷ rest)
   stands_there number is = found_first (drop at pairs) word number place.behind behind_ascend (sym found_behind ∙ is)
@@ -318,62 +308,13 @@ module _ (pairs : Pairs) (word at : ℕ) (ascend : Ascends pairs) (place : IsPla
   pub there_without : without word pairs ≡ remove pairs at
   there_without = without_there pairs word at ascend place its_number there.0 there.1
 
--- ---- the numbers of pairs, one of which is written
-
-module _ (pairs : Pairs) (word at number : ℕ) (within : at < length pairs) (is : get_or pairs at (0, 0) ≡ (word, number)) where
-  pub number_within : number ≤ sum_of pairs
-  number_within = let most = get_or-le-sum_by (λ (pair : ℕ × ℕ). pair.1) pairs at (0, 0) within in let e = ap (λ (pair : ℕ × ℕ). pair.1) is in omega arith
-
-  pub sum_set : (other : ℕ) → sum_of (set pairs at (word, other)) + number ≡ sum_of pairs + other
-  sum_set other = ap (λ n. sum_of (set pairs at (word, other)) + n) (sym (ap (λ (pair : ℕ × ℕ). pair.1) is)) ∙ sum_by-set (λ (pair : ℕ × ℕ). pair.1) pairs at (word, other) (0, 0) within
-
-  pub sum_removed : sum_of (remove pairs at) + number ≡ sum_of pairs
-  sum_removed = ap (λ n. sum_of (remove pairs at) + n) (sym (ap (λ (pair : ℕ × ℕ). pair.1) is)) ∙ sum_by-remove (λ (pair : ℕ × ℕ). pair.1) pairs at (0, 0) within
-
-pub begins_set : (pairs : Pairs) (word at number other first : ℕ) → get_or pairs at (0, 0) ≡ (word, number) → BeginsAt pairs first → BeginsAt (set pairs at (word, other)) first
-begins_set [] word at number other first is begins = tt
-begins_set (pair ∷ rest) word zero number other first is begins = begins ∙ ap (λ (one : ℕ × ℕ). one.0) is
-begins_set (pair ∷ rest) word (suc at) number other first is begins = begins
-
-pub begins_take : (pairs : Pairs) (n first : ℕ) → BeginsAt pairs first → BeginsAt (take n pairs) first
-begins_take pairs zero first begins = tt
-begins_take [] (suc n) first begins = tt
-begins_take (pair ∷ rest) (suc n) first begins = begins
-
--- ---- as the code has them: pairs that are seen as a list, and lent as another
-
-module _ (pairs now seen : Pairs) (view : pairs ≡ now) (same : seen ≡ pairs) where
-  -- The number of a pair that was read is within the sum.
-  pub read_within : (at : ℕ) (pair : ℕ × ℕ) → at < length seen → pair ≡ get_or pairs at pair → pair.1 ≤ sum_of now
-  read_within at pair within is =
-      let inside : at < length pairs = subst (λ ps. at < length ps) same within in
-      let most = get_or-le-sum_by (λ (one : ℕ × ℕ). one.1) pairs at pair inside in
-      let number = ap (λ (one : ℕ × ℕ). one.1) is in
-      let sums = ap sum_of view in
-      omega arith
-
-  -- What is found of a word, by what stands at its place.
-  module _ (word at : ℕ) (ascend : Ascends now) (place : IsPlace seen word at) where
-    in_order : Ascends pairs
-    in_order = subst Ascends (sym view) ascend
-
-    its_place : IsPlace pairs word at
-    its_place = subst (λ ps. IsPlace ps word at) same place
-
-    pub found_seen : (pair : ℕ × ℕ) → at < length seen → pair ≡ get_or pairs at pair → pair.0 ≡ word → Some pair.1 ≡ find word_order word now
-    found_seen pair within is equal = sym (found_at pairs word at in_order its_place pair (subst (λ ps. at < length ps) same within) is equal) ∙ ap (find word_order word) view
-
-    pub absent_seen : (pair : ℕ × ℕ) → at < length seen → pair ≡ get_or pairs at pair → pair.0 ≢ word → None ≡ find word_order word now
-    absent_seen pair within is differ = sym (absent_at pairs word at in_order its_place pair (subst (λ ps. at < length ps) same within) is differ) ∙ ap (find word_order word) view
-
-    pub past_seen : length seen ≤ at → None ≡ find word_order word now
-    past_seen past = sym (absent_past pairs word at in_order its_place (subst (λ ps. length ps ≤ at) same past)) ∙ ap (find word_order word) view
-
-  -- A new word is put in at its place.
-  pub put_seen : (word at number : ℕ) → Ascends now → IsPlace seen word at → find word_order word now ≡ None → put word_order word number now ≡ insert pairs at (word, number)
-  put_seen word at number ascend place absent =
-      ap (put word_order word number) (sym view)
-      ∙ put_new pairs word at (subst Ascends (sym view) ascend) (subst (λ ps. IsPlace ps word at) same place) number (ap (find word_order word) view ∙ absent)
+-- What is below a word is what stands before its place.
+pub sum_placed : (pairs : Pairs) (word at : ℕ) → IsPlace pairs word at → sum_of (take at pairs) ≡ sum_below pairs word
+sum_placed pairs word at place =
+    let parts = sum_by-take-drop (part_below word) pairs at in
+    let before = sum_front (take at pairs) word place.before in
+    let behind = sum_behind (drop at pairs) word place.behind in
+    omega arith
 
 -- What is below a word is a part of a pair's number.
 pub part_within : (word : ℕ) (pair : ℕ × ℕ) → part_below word pair ≤ pair.1

@@ -1,16 +1,11 @@
 -- Pairs in chunks: one list of pairs after the other.
-use Rattle.std.specs.Prelude.{◌≡◌, ◌<◌, ◌≤◌, ◌^◌, ℕ, suc, List, [], ◌∷◌, length, take, drop, T}
+use Rattle.std.specs.Prelude.{◌≡◌, ◌<◌, ◌≤◌, ◌^◌, ℕ, suc, List, [], ◌∷◌, length, take, drop, get_or, T}
 use Rattle.std.specs.List.{flat_map}
 use Rattle.std.specs.FinMap.{is_sorted}
 use Rattle.judy_model.specs.Keys.{word_order}
 use Rattle.judy_sums.specs.Pairs.{Pairs, sum_of}
 
--- A chunk begins with the word; one without pairs with any.
-abbrev pub BeginsAt : Pairs → ℕ → Type 0
-BeginsAt [] word = Unit {0}
-BeginsAt (pair ∷ rest) word = word ≡ pair.0
-
--- It begins at the word or below it.
+-- A chunk begins at the word or below it; one without pairs does so by any.
 abbrev pub BeginsBy : Pairs → ℕ → Type 0
 BeginsBy [] word = Unit {0}
 BeginsBy (pair ∷ rest) word = pair.0 ≤ word
@@ -63,3 +58,22 @@ pub record BelongsTo (chunks : List Pairs) (word at : ℕ) : Type 0 where
   pub within : at < length chunks
   pub before : AllBelow (joined (take at chunks)) word
   pub behind : AllFrom (joined (drop (suc at) chunks)) (suc word)
+
+-- A word stands among pairs at a place.
+pub record StandsIn (pairs : Pairs) (word at : ℕ) : Type 0 where
+  pub within : at < length pairs
+  pub text : (get_or pairs at (0, 0)).0 ≡ word
+
+-- The pair at a place of a chunk.
+abbrev pub pair_at : List Pairs → ℕ → ℕ → ℕ × ℕ
+pair_at chunks chunk at = get_or (get_or chunks chunk []) at (0, 0)
+
+-- It stands in a chunk.
+pub record StandsAt (chunks : List Pairs) (word chunk at : ℕ) : Type 0 where
+  pub within : chunk < length chunks
+  pub stands : StandsIn (get_or chunks chunk []) word at
+
+-- The place that a word has, or would have: the chunk to which it belongs, and its place in there.
+pub record IsSpot (chunks : List Pairs) (word chunk at : ℕ) : Type 0 where
+  pub belongs : BelongsTo chunks word chunk
+  pub place : IsPlace (get_or chunks chunk []) word at

@@ -1,45 +1,36 @@
-//! A run of pairs of a word and its number, in the order of the words.
+//! A run of entries, in the order of their words.
 
-ghost use Rattle.std.specs.Prelude.{◌≡◌, ◌<◌, ◌≤◌, ◌+◌, ◌-◌, ◌/◌, ◌^◌, ◌∷◌, [], ℕ, length, take, drop, get_or, slice_set, IfOk, OnOk, OnErr, IsSome, None};
-ghost use Rattle.std.specs.List.{remove};
-ghost use Rattle.std.specs.FinMap.{find, put};
-ghost use Rattle.judy_model.specs.Keys.{word_order};
-ghost use Rattle.judy_sums.specs.Pairs.{sum_of, sum_below, standing_of, number_in, without};
-ghost use Rattle.judy_sums.specs.Chunks.{BeginsAt, IsPlace, Ascends};
+ghost use Rattle.std.specs.Prelude.{◌≡◌, ◌<◌, ◌≤◌, ◌+◌, ◌-◌, ◌/◌, ◌^◌, ◌∷◌, [], ℕ, length, take, drop, get_or, slice_set, IfOk, OnOk, OnErr, IsTrue, IsFalse};
+ghost use Rattle.std.specs.List.{insert, remove};
+ghost use Rattle.judy_sums.specs.Pairs.{sum_of, sum_below};
+ghost use Rattle.judy_sums.specs.Chunks.{BeginsBy, BeginsAbove, IsPlace, StandsIn, Ascends};
 
+use crate::entry::Entry;
 use std::alloc::{AllocError, Global};
 use std::marker::Model;
 
-/// A word of the list, its number, and the sum of the numbers at lesser words.
-#[derive(Clone, Copy, Debug, PartialEq, Eq)]
-pub struct Standing {
-    pub word: u64,
-    pub number: u64,
-    pub below: u64,
-}
-
-// The sum of the numbers of pairs.
-fn sum(pairs: &[(u64, u64)]) -> u64
-    requires { sum_of pairs.now < 2 ^ 64 }
-    ensures { result ≡ sum_of pairs.now }
+// The sum of the numbers of entries.
+fn sum(entries: &[Entry]) -> u64
+    requires { sum_of entries.now < 2 ^ 64 }
+    ensures { result ≡ sum_of entries.now }
 {
     let mut sum = 0;
-    for pair in pairs {
-        sum += pair.1;
+    for entry in entries {
+        sum += entry.number();
     }
     sum
 }
 
-// The place of a word among pairs, or that it would have.
-fn place(pairs: &[(u64, u64)], word: u64) -> usize
-    requires { Ascends pairs.now }
-    ensures { IsPlace pairs.now word result }
+// The place of a word among entries, or that it would have.
+fn place(entries: &[Entry], word: u64) -> usize
+    requires { Ascends entries.now }
+    ensures { IsPlace entries.now word result }
 {
     let mut low = 0;
-    let mut high = pairs.len();
+    let mut high = entries.len();
     'search: while low < high {
         let middle = low + (high - low) / 2;
-        if pairs[middle].0 < word {
+        if entries[middle].is_below(word) {
             low = middle + 1;
         } else {
             high = middle;
@@ -48,64 +39,51 @@ fn place(pairs: &[(u64, u64)], word: u64) -> usize
     low
 }
 
-// The place of a word that is among pairs.
-fn place_of(pairs: &[(u64, u64)], word: u64) -> usize
-    requires ascends { Ascends pairs.now }
-    requires there { IsSome (find word_order word pairs.now) }
-    ensures within { result < length pairs.now }
-    ensures there { get_or pairs.now result (0, 0) ≡ (word, number_in pairs.now word) }
-    ensures written { (number : ℕ) → put word_order word number pairs.now ≡ slice_set pairs.now result (word, number) }
-    ensures removed { without word pairs.now ≡ remove pairs.now result }
-{
-    place(pairs, word)
-}
-
-// The pairs, with the first word and the sum of the numbers beside, so that to pass a chunk over takes no look at its pairs.
+// The entries, with the sum of the numbers beside, so that to pass a chunk over takes no look at its entries.
 #[derive(Drop)]
 pub struct Chunk {
-    first: u64,
     total: u64,
-    pairs: Vec<(u64, u64)>,
+    entries: Vec<Entry>,
 }
 
 impl Model for Chunk {
     ghost use Rattle.std.specs.Prelude.{◌≡◌};
     ghost use Rattle.judy_sums.specs.Pairs.{Pairs, sum_of};
-    ghost use Rattle.judy_sums.specs.Chunks.{BeginsAt};
 
     ghost Value = { Pairs };
 
-    ghost view = { λ chunk. chunk.pairs.items };
+    ghost view = { λ chunk. chunk.entries.items };
 
-    ghost invariant = { λ chunk. (chunk.total ≡ sum_of chunk.pairs.items) × BeginsAt chunk.pairs.items chunk.first };
+    ghost invariant = { λ chunk. chunk.total ≡ sum_of chunk.entries.items };
 }
 
 impl Chunk {
-    // The chunk of one pair. The error is want of memory.
-    pub fn of(alloc: Global, word: u64, number: u64) -> Result<Chunk, AllocError>
-        ensures { IfOk result (λ chunk. chunk ≡ (word, number) ∷ []) }
+    // The chunk of one entry. The error is want of memory.
+    pub fn of(alloc: Global, entry: Entry) -> Result<Chunk, AllocError>
+        ensures { IfOk result (λ chunk. chunk ≡ entry ∷ []) }
     {
-        let mut pairs = Vec::new(alloc);
-        pairs.push((word, number))?;
-        Ok(Chunk {
-            first: word,
-            total: number,
-            pairs,
-        })
+        let total = entry.number();
+        let mut entries = Vec::new(alloc);
+        entries.push(entry)?;
+        Ok(Chunk { total, entries })
     }
 
-    // How many pairs there are.
+    // How many entries there are.
     pub fn len(&self) -> usize
         ensures { result ≡ length self.now }
     {
-        self.pairs.len()
+        self.entries.len()
     }
 
-    // The first word.
-    pub fn first(&self) -> u64
-        ensures { BeginsAt self.now result }
+    // Whether it doesn't begin above a word.
+    pub fn begins_by(&self, word: u64) -> bool
+        ensures by { IsTrue result → BeginsBy self.now word }
+        ensures above { IsFalse result → BeginsAbove self.now word }
     {
-        self.first
+        match self.entries.first() {
+            Some(first) => !first.is_above(word),
+            None => true,
+        }
     }
 
     // The sum of the numbers.
@@ -115,123 +93,95 @@ impl Chunk {
         self.total
     }
 
+    // The place of a word, or that it would have.
+    pub fn place_of(&self, word: u64) -> usize
+        requires { Ascends self.now }
+        ensures { IsPlace self.now word result }
+    {
+        place(&self.entries, word)
+    }
+
     // The sum of the numbers whose words are less than the given one.
     pub fn below(&self, word: u64) -> u64
-        requires { sum_of self.now < 2 ^ 64 }
+        requires ascends { Ascends self.now }
+        requires fits { sum_of self.now < 2 ^ 64 }
         ensures { result ≡ sum_below self.now word }
     {
-        let mut below = 0;
-        for pair in &self.pairs {
-            if pair.0 < word {
-                below += pair.1;
-            }
-        }
-        below
+        sum(&self.entries[..place(&self.entries, word)])
     }
 
-    // The number of a word.
-    pub fn get(&self, word: u64) -> Option<u64>
-        requires { Ascends self.now }
-        ensures { result ≡ find word_order word self.now }
+    // Whether a word stands at a place.
+    pub fn stands(&self, word: u64, at: usize) -> bool
+        ensures there { IsTrue result → StandsIn self.now word at }
+        ensures apart { IsFalse result → StandsIn self.now word at → ⊥ }
     {
-        let at = place(&self.pairs, word);
-        if at == self.pairs.len() {
-            return None;
+        match self.entries.get(at) {
+            Some(entry) => entry.is(word),
+            None => false,
         }
-        let (found, number) = self.pairs[at];
-        if found == word { Some(number) } else { None }
     }
 
-    // The pair at a place, with the sum of the numbers before it; so much is before the chunk.
-    pub fn standing(&self, place: usize, before: u64) -> Standing
-        requires within { place < length self.now }
-        requires fits { before + sum_of self.now < 2 ^ 64 }
-        ensures { result ≡ standing_of (get_or self.now place (0, 0)) (before + sum_of (take place self.now)) }
+    // The number at a place.
+    pub fn number(&self, at: usize) -> u64
+        requires { at < length self.now }
+        ensures { result ≡ (get_or self.now at (0, 0)).1 }
     {
-        let (word, number) = self.pairs[place];
-        Standing {
-            word,
-            number,
-            below: before + sum(&self.pairs[..place]),
-        }
+        self.entries[at].number()
     }
 
-    // Adds one to the number of a word that is there.
-    pub fn add_one(&mut self, word: u64)
-        requires ascends { Ascends self.old }
-        requires there { IsSome (find word_order word self.old) }
+    // Adds one to the number at a place.
+    pub fn raise(&mut self, at: usize)
+        requires within { at < length self.old }
         requires fits { sum_of self.old + 1 < 2 ^ 64 }
-        ensures { self.new ≡ put word_order word (number_in self.old word + 1) self.old }
+        ensures { let pair = get_or self.old at (0, 0) in self.new ≡ slice_set self.old at (pair.0, pair.1 + 1) }
     {
-        let at = place_of(&self.pairs, word);
-        let (_, number) = self.pairs[at];
-        self.pairs[at] = (word, number + 1);
+        self.entries[at].raise();
         self.total += 1;
     }
 
-    // Takes one from the number of a word that is there.
-    pub fn take_one(&mut self, word: u64)
-        requires ascends { Ascends self.old }
-        requires there { IsSome (find word_order word self.old) }
-        requires some { 1 ≤ number_in self.old word }
-        ensures { self.new ≡ put word_order word (number_in self.old word - 1) self.old }
+    // Takes one from the number at a place.
+    pub fn lower(&mut self, at: usize)
+        requires within { at < length self.old }
+        requires some { 1 ≤ (get_or self.old at (0, 0)).1 }
+        ensures { let pair = get_or self.old at (0, 0) in self.new ≡ slice_set self.old at (pair.0, pair.1 - 1) }
     {
-        let at = place_of(&self.pairs, word);
-        let (_, number) = self.pairs[at];
-        self.pairs[at] = (word, number - 1);
+        self.entries[at].lower();
         self.total -= 1;
     }
 
-    // Puts a new word in with its number. The error is want of memory.
-    pub fn insert(&mut self, word: u64, number: u64) -> Result<(), AllocError>
-        requires ascends { Ascends self.old }
-        requires new { find word_order word self.old ≡ None }
-        requires fits { sum_of self.old + number < 2 ^ 64 }
-        ensures inserted { OnOk result (self.new ≡ put word_order word number self.old) }
+    // Puts an entry in at a place. The error is want of memory.
+    pub fn insert(&mut self, at: usize, entry: Entry) -> Result<(), AllocError>
+        requires within { at ≤ length self.old }
+        requires fits { sum_of self.old + entry.1 < 2 ^ 64 }
+        ensures inserted { OnOk result (self.new ≡ insert self.old at entry) }
         ensures unchanged { OnErr result (self.new ≡ self.old) }
     {
-        let at = place(&self.pairs, word);
-        self.pairs.insert(at, (word, number))?;
+        let number = entry.number();
+        self.entries.insert(at, entry)?;
         self.total += number;
-        if at == 0 {
-            self.first = word;
-        }
         Ok(())
     }
 
-    // Takes a word that is there out.
-    pub fn remove(&mut self, word: u64)
-        requires ascends { Ascends self.old }
-        requires there { IsSome (find word_order word self.old) }
-        ensures { self.new ≡ without word self.old }
+    // Takes the entry at a place out.
+    pub fn remove(&mut self, at: usize)
+        requires { at < length self.old }
+        ensures { self.new ≡ remove self.old at }
     {
-        let at = place_of(&self.pairs, word);
-        let (_, number) = self.pairs.remove(at);
-        self.total -= number;
-        if let Some((first, _)) = self.pairs.first() {
-            self.first = *first;
-        }
+        let entry = self.entries.remove(at);
+        self.total -= entry.number();
     }
 
-    // A copy of the upper half. The error is want of memory.
-    pub fn upper_half(&self, alloc: Global) -> Result<Chunk, AllocError>
-        requires some { 1 ≤ length self.now }
-        requires fits { sum_of self.now < 2 ^ 64 }
-        ensures { IfOk result (λ upper. upper ≡ drop (length self.now / 2) self.now) }
+    // Cuts the upper half off. The error is want of memory, and the chunk stays whole then.
+    pub fn cut_half(&mut self) -> Result<Chunk, AllocError>
+        requires fits { sum_of self.old < 2 ^ 64 }
+        ensures upper { IfOk result (λ upper. upper ≡ drop (length self.old / 2) self.old) }
+        ensures lower { OnOk result (self.new ≡ take (length self.old / 2) self.old) }
+        ensures unchanged { OnErr result (self.new ≡ self.old) }
     {
-        let upper = &self.pairs[self.pairs.len() / 2..];
-        Ok(Chunk {
-            first: upper[0].0,
-            total: sum(upper),
-            pairs: Vec::from_slice(alloc, upper)?,
-        })
-    }
-
-    // Lets the upper half go.
-    pub fn keep_lower_half(&mut self)
-        ensures { self.new ≡ take (length self.old / 2) self.old }
-    {
-        self.pairs.truncate(self.pairs.len() / 2);
-        self.total = sum(&self.pairs);
+        let half = self.entries.len() / 2;
+        let entries = self.entries.split_off(half)?;
+        let total = sum(&entries);
+        self.total -= total;
+        Ok(Chunk { total, entries })
     }
 }

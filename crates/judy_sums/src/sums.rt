@@ -2,10 +2,10 @@
 
 ghost use Rattle.std.specs.Prelude.{◌≡◌, ◌<◌, ◌≤◌, ◌+◌, ◌-◌, ◌^◌, ◌==◌, OnOk, OnErr, IsSome, None};
 ghost use Rattle.std.specs.FinMap as map;
-ghost use Rattle.judy_sums.specs.Pairs.{sum_of, sum_below, standing_at, number_at};
+ghost use Rattle.judy_sums.specs.Pairs.{sum_of, sum_below, number_at, raised, lowered};
 
-use crate::chunk::{Chunk, Standing};
-use crate::chunks;
+use crate::chunk::Chunk;
+use crate::{chunks, steps};
 use std::alloc::{AllocError, Global};
 use std::marker::Model;
 
@@ -41,34 +41,6 @@ impl Sums {
         }
     }
 
-    /// How many words there are.
-    pub fn len(&self) -> usize
-        ensures { result ≡ map.len self.now }
-    {
-        chunks::len_of(&self.chunks)
-    }
-
-    /// Whether there is none.
-    pub fn is_empty(&self) -> bool
-        ensures { result ≡ (map.len self.now == 0) }
-    {
-        self.chunks.is_empty()
-    }
-
-    /// The number of a word, and `None` where the word isn't there.
-    pub fn get(&self, word: u64) -> Option<u64>
-        ensures { result ≡ map.get self.now word }
-    {
-        chunks::get(&self.chunks, word)
-    }
-
-    /// The sum of all numbers.
-    pub fn total(&self) -> u64
-        ensures { result ≡ sum_of (map.entries self.now) }
-    {
-        chunks::total_of(&self.chunks)
-    }
-
     /// The sum of the numbers whose words are less than the given one.
     pub fn below(&self, word: u64) -> u64
         ensures { result ≡ sum_below (map.entries self.now) word }
@@ -76,47 +48,24 @@ impl Sums {
         chunks::below(&self.chunks, word)
     }
 
-    /// The word at a place in ascending order, counted from 0, with its number and the sum of the numbers before it.
-    pub fn at(&self, place: usize) -> Option<Standing>
-        ensures { result ≡ standing_at (map.entries self.now) place }
-    {
-        chunks::standing(&self.chunks, place)
-    }
-
-    /// Adds one to the number of a word that is there. It asks for no memory.
-    pub fn add_one(&mut self, word: u64)
-        requires there { IsSome (map.get self.old word) }
-        requires fits { sum_of (map.entries self.old) + 1 < 2 ^ 64 }
-        ensures { self.new ≡ map.insert self.old word (number_at self.old word + 1) }
-    {
-        chunks::add_one(&mut self.chunks, word);
-    }
-
-    /// Takes one from the number of a word that is there, which is 1 or more. It asks for no memory.
-    pub fn take_one(&mut self, word: u64)
-        requires there { IsSome (map.get self.old word) }
-        requires some { 1 ≤ number_at self.old word }
-        ensures { self.new ≡ map.insert self.old word (number_at self.old word - 1) }
-    {
-        chunks::take_one(&mut self.chunks, word);
-    }
-
-    /// Puts a new word in with its number. The error is want of memory, and leaves the list as it was.
-    pub fn insert(&mut self, word: u64, number: u64) -> Result<(), AllocError>
-        requires new { map.get self.old word ≡ None }
+    /// Adds one to the number of a word, which comes in with the number 1 where it isn't there. Only then is memory asked for; the
+    /// error is want of it, and leaves the list as it was.
+    pub fn raise(&mut self, word: u64) -> Result<(), AllocError>
         requires few { map.len self.old + 1 < 2 ^ 64 }
-        requires fits { sum_of (map.entries self.old) + number < 2 ^ 64 }
-        ensures inserted { OnOk result (self.new ≡ map.insert self.old word number) }
+        requires fits { sum_of (map.entries self.old) + 1 < 2 ^ 64 }
+        ensures raised { OnOk result (self.new ≡ raised self.old word) }
         ensures unchanged { OnErr result (self.new ≡ self.old) }
     {
-        chunks::insert(&mut self.chunks, word, number)
+        steps::raise(&mut self.chunks, word)
     }
 
-    /// Takes a word that is there out. It asks for no memory.
-    pub fn remove(&mut self, word: u64)
-        requires { IsSome (map.get self.old word) }
-        ensures { self.new ≡ map.remove self.old word }
+    /// Takes one from the number of a word that is there, which is 1 or more; with its last one the word goes. It asks for no
+    /// memory.
+    pub fn lower(&mut self, word: u64)
+        requires there { IsSome (map.get self.old word) }
+        requires some { 1 ≤ number_at self.old word }
+        ensures { self.new ≡ lowered self.old word }
     {
-        chunks::remove(&mut self.chunks, word);
+        steps::lower(&mut self.chunks, word)
     }
 }

@@ -1,5 +1,5 @@
 // How a walk fills the caller's two buffers.
-ghost use Rattle.std.specs.Prelude.{◌≡◌, ◌≢◌, ◌≤◌, ◌+◌, ◌-◌, ◌++◌, IsTrue, IsFalse, All, nat_le, length, take, drop, unwrap_or};
+ghost use Rattle.std.specs.Prelude.{◌≡◌, ◌≤◌, ◌+◌, ◌-◌, ◌++◌, IsTrue, IsFalse, nat_le, length, take, drop, unwrap_or};
 ghost use Rattle.judy_model.specs.Keys.{IsStringKey};
 ghost use Rattle.judy_hs.specs.Listed.{entries_in};
 ghost use Rattle.judy_sl.specs.Scans.{value_found};
@@ -7,27 +7,28 @@ ghost use Rattle.judy_c.specs.KeyWalks.{IsFilled, page_of, pairs_from, beside};
 
 use super::KeyEntry;
 use judy_hs::HsEntry;
-use judy_sl::{JudySl, KeyBuf};
+use judy_sl::{JudySl, KeyCursor};
 
 // Writes the pairs of an array from a string on, or from above it, as many as fit, and answers how many these are.
 pub(crate) fn fill_strings(
     array: &JudySl,
-    key: &mut KeyBuf,
+    from: &[u8],
     itself: bool,
     bytes: &mut [u8],
     entries: &mut [KeyEntry],
 ) -> usize
-    requires { IsStringKey key.old.items }
-    ensures { IsFilled (pairs_from array.now.map key.old.items itself) (page_of bytes.old entries.old) result (page_of bytes.new entries.new) }
+    requires { IsStringKey from.now }
+    ensures { IsFilled (pairs_from array.now.map from.now itself) (page_of bytes.old entries.old) result (page_of bytes.new entries.new) }
 {
-    array.holds_strings();
+    let mut cursor = array.cursor(from);
     let mut used = 0;
     let mut count = 0;
     while count < entries.len() {
-        let Some(value) = step(array, key, itself & (count == 0)) else {
+        let Some(value) = step(&mut cursor, itself & (count == 0)) else {
             break;
         };
-        if !copy_key(key.as_slice(), bytes, used) {
+        let key = cursor.key();
+        if !copy_key(key, bytes, used) {
             break;
         }
         entries[count] = KeyEntry {
@@ -79,16 +80,16 @@ fn fill_list(list: &[HsEntry<'_>], bytes: &mut [u8], entries: &mut [KeyEntry]) -
     count
 }
 
-// The value of the least key from a string on, or above it; that key is then in the buffer.
-fn step(array: &JudySl, key: &mut KeyBuf, itself: bool) -> Option<u64>
-    requires { All (λ byte. byte ≢ 0) key.old.items }
-    ensures key { key.new.items ≡ unwrap_or (beside array.now.map key.old.items itself) key.old.items }
-    ensures value { result ≡ value_found array.now.map (beside array.now.map key.old.items itself) }
+// The value of the least key from where a cursor stands on, or above that; the cursor then stands at that key.
+fn step(cursor: &mut KeyCursor<'_>, itself: bool) -> Option<u64>
+    ensures map { cursor.new.map ≡ cursor.old.map }
+    ensures key { cursor.new.key ≡ unwrap_or (beside cursor.old.map cursor.old.key itself) cursor.old.key }
+    ensures value { result ≡ value_found cursor.old.map (beside cursor.old.map cursor.old.key itself) }
 {
     if itself {
-        array.first(key)
+        cursor.first()
     } else {
-        array.next(key)
+        cursor.next()
     }
 }
 

@@ -5,9 +5,9 @@ use Rattle.judy_sums.proofs.chunk.place.Given as goal
 abbrev pub invariant-search : goal.invariant-search
 invariant-search l = record {
   ordered : l.low ≤ l.high;
-  within : l.high ≤ length l.pairs;
-  before : 0 < l.low → (get_or l.pairs (l.low - 1) (0, 0)).0 < l.word;
-  behind : l.high < length l.pairs → l.word ≤ (get_or l.pairs l.high (0, 0)).0;
+  within : l.high ≤ length l.entries;
+  before : 0 < l.low → (get_or l.entries (l.low - 1) (0, 0)).0 < l.word;
+  behind : l.high < length l.entries → l.word ≤ (get_or l.entries l.high (0, 0)).0;
 }
 
 abbrev pub decreases-search : goal.decreases-search

@@ -3,5 +3,5 @@ use Rattle.std.proofs.Common.{◌≡◌, take}
 use Rattle.judy_sums.specs.Pairs.{sum_of}
 use Rattle.judy_sums.proofs.chunk.sum.Given as goal
 
-abbrev pub invariant-loop-pair : goal.invariant-loop-pair
-invariant-loop-pair l = l.sum ≡ sum_of (take l.pair-index l.pairs)
+abbrev pub invariant-loop-entry : goal.invariant-loop-entry
+invariant-loop-entry l = l.sum ≡ sum_of (take l.entry-index l.entries)

@@ -30,7 +30,7 @@ loop-rest-preserved c =
     let words = c.loop-rest.level.now.map in
     let nearest = subst (λ p. IsNearestEntry c.args.look.side false words p (piece_in c.beyond.result)) c.first_piece-piece.ensures c.beyond.ensures.nearest in
     let entry = sym (ap (λ p. get words p) c.first_piece-piece.ensures) ∙ sym c.get.ensures ∙ c.in-Some.is in
-    let child = child_from c.args.self.now _ c.deref.ensures.value c.in-Some.at _ (Level c.in-Some-Level.next) (c.in-Some-Level.ensures.lookup.4 (omega arith) (Free 0)) c.in-Some-Level.field-0-is in
+    let child = child_from c.args.self.now _ c.deref.ensures.value c.in-Some.at _ (Level c.in-Some-Level.field-0-0 c.in-Some-Level.next) (c.in-Some-Level.ensures.lookup.4 (omega arith) (Free 0)) c.in-Some-Level.field-0-is in
     rw (take_rest, c.nearer-turn.ensures) (on_moved c.args.look (world_of c.args.self.now) c.args.key.now words c.loop-rest.rest.now c.loop-rest.turn c.loop-rest.invariant c.loop-rest-test.true c.beyond.result c.in-Some.at c.in-Some-Level.next.map nearest c.beyond.ensures.value entry (ap node_of child))
 
 pub returns-then-met-clause-is_turn : goal.returns-then-met-clause-is_turn

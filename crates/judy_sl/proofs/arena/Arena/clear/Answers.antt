@@ -16,15 +16,15 @@ returns-in_default-clause-cleared c =
 
 pub returns-then-rest-lt8-clause-cleared : goal.returns-then-rest-lt8-clause-cleared
 returns-then-rest-lt8-clause-cleared c =
-    cleared-last c.args.self.now c.loop-level.self c.vacate.new.self c.loop-level.at c.loop-level.rest.now c.loop-level.invariant c.vacate.result c.vacate.ensures.child c.vacate.ensures.vacated c.in-Level.level c.in-Level.is c.if-rest-lt8.true
+    cleared-last c.args.self.now c.loop-level.self c.vacate.new.self c.loop-level.at c.loop-level.rest.now c.loop-level.invariant c.vacate.result c.vacate.ensures.child c.vacate.ensures.vacated c.in-Level.level c.in-Level.field-0 c.in-Level.is c.if-rest-lt8.true
 
 pub unreachable-requires : goal.unreachable-requires
 unreachable-requires c =
-    clearing-some c.args.self.now c.loop-level.self c.vacate.new.self c.loop-level.at c.loop-level.rest.now c.loop-level.invariant c.vacate.result c.vacate.ensures.child c.vacate.ensures.vacated c.in-Level.level c.in-Level.is c.if-rest-lt8.false (ap (λ p. get c.in-Level.level.map p) (sym c.first_piece.ensures) ∙ sym c.get.ensures ∙ c.in-None.is)
+    clearing-some c.args.self.now c.loop-level.self c.vacate.new.self c.loop-level.at c.loop-level.rest.now c.loop-level.invariant c.vacate.result c.vacate.ensures.child c.vacate.ensures.vacated c.in-Level.level c.in-Level.field-0 c.in-Level.is c.if-rest-lt8.false (ap (λ p. get c.in-Level.level.map p) (sym c.first_piece.ensures) ∙ sym c.get.ensures ∙ c.in-None.is)
 
 pub loop-level-preserved : goal.loop-level-preserved
 loop-level-preserved c =
-    rw take_rest (clearing-on c.args.self.now c.loop-level.self c.vacate.new.self c.loop-level.at c.loop-level.rest.now c.loop-level.invariant c.vacate.result c.vacate.ensures.child c.vacate.ensures.vacated c.in-Level.level c.in-Level.is c.if-rest-lt8.false c.in-Some.next (ap (λ p. get c.in-Level.level.map p) (sym c.first_piece.ensures) ∙ sym c.get.ensures ∙ c.in-Some.is))
+    rw take_rest (clearing-on c.args.self.now c.loop-level.self c.vacate.new.self c.loop-level.at c.loop-level.rest.now c.loop-level.invariant c.vacate.result c.vacate.ensures.child c.vacate.ensures.vacated c.in-Level.level c.in-Level.field-0 c.in-Level.is c.if-rest-lt8.false c.in-Some.next (ap (λ p. get c.in-Level.level.map p) (sym c.first_piece.ensures) ∙ sym c.get.ensures ∙ c.in-Some.is))
 
 pub returns-in_default-clause-places : goal.returns-in_default-clause-places
 returns-in_default-clause-places c =

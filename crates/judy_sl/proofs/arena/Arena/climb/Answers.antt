@@ -41,12 +41,12 @@ returns-clause-leads c = rw c.push_piece-2.ensures (climb_last c.requires.is_are
 
 pub returns-in_err-first-in-Some-Level-clause-neighbour : goal.returns-in_err-first-in-Some-Level-clause-neighbour
 returns-in_err-first-in-Some-Level-clause-neighbour c =
-    let child = child_from c.args.self.now _ c.deref.ensures.value c.loop-piece.value _ (Level c.in-Some-Level.next) (c.in-Some-Level.ensures.lookup.4 (omega arith) (Free 0)) c.in-Some-Level.field-0-is in
+    let child = child_from c.args.self.now _ c.deref.ensures.value c.loop-piece.value _ (Level c.in-Some-Level.field-0-0 c.in-Some-Level.next) (c.in-Some-Level.ensures.lookup.4 (omega arith) (Free 0)) c.in-Some-Level.field-0-is in
     absurd (follow_some c.requires.is_arena.is_world c.args.key.now.items c.loop-piece.invariant.map c.loop-piece.piece c.loop-piece.key.items c.loop-piece.invariant.on c.loop-piece.value c.loop-piece.invariant.entry c.loop-piece-test.true c.in-Some-Level.next.map (ap node_of child) (none_of_all c.in-Some-Level.next.map (sym c.iter-run.ensures ∙ c.in_err-first-in-Some-Level.ensures.steps.0)))
 
 pub loop-piece-preserved : goal.loop-piece-preserved
 loop-piece-preserved c =
-    let child = child_from c.args.self.now _ c.deref.ensures.value c.loop-piece.value _ (Level c.in-Some-Level.next) (c.in-Some-Level.ensures.lookup.4 (omega arith) (Free 0)) c.in-Some-Level.field-0-is in
+    let child = child_from c.args.self.now _ c.deref.ensures.value c.loop-piece.value _ (Level c.in-Some-Level.field-0-0 c.in-Some-Level.next) (c.in-Some-Level.ensures.lookup.4 (omega arith) (Free 0)) c.in-Some-Level.field-0-is in
     rw (c.len-run.ensures.value, c.push_piece.ensures) (climb_down c.requires.is_arena.is_world c.loop-piece.invariant c.in-Some-Level.next.map c.loop-piece-test.true (ap node_of child) c.in_ok-first-in-Some-Level.first c.next.new.self (sym c.iter-run.ensures ∙ c.in_ok-first-in-Some-Level.ensures.steps))
 
 pub returns-in_err-ok-in-Some-Tail-clause-neighbour : goal.returns-in_err-ok-in-Some-Tail-clause-neighbour

@@ -6,6 +6,7 @@ use Rattle.judy_sl.specs.Grown.{IsAdded}
 use Rattle.judy_sl.proofs.Reused.{written-places, written-room, then-places, on-success}
 use Rattle.judy_sl.proofs.Filled.{fills-last}
 use Rattle.judy_sl.proofs.Tailed.{filled-tail}
+use Rattle.judy_sl.proofs.Growing.{grows-last, grows-tail, gap-counted, gap-first}
 use Rattle.judy_sl.proofs.Rooms.{room-gap, room-same}
 use Rattle.judy_sl.proofs.arena.Arena.fill.Goals as goal
 
@@ -40,3 +41,21 @@ returns-in-Ok-enter-clause-places c =
     let reserved = c.make_room.new.self in
     then-places c.args.self.now reserved c.put.new.self c.make_room.ensures.places
     (then-places reserved c.enter-2.new.self c.put.new.self (subst (TakesPlaces reserved) (sym c.in-Ok-enter.ensures.entered) (written-places reserved c.args.place c.next_place-at.result)) c.put.ensures.places)
+
+pub returns-in-Ok-clause-counted : goal.returns-in-Ok-clause-counted
+returns-in-Ok-clause-counted c =
+    gap-counted c.args.self.now c.requires.is_arena c.requires.led c.requires.counted c.args.key.now c.requires.is_key c.args.place c.args.left c.requires.gap _ c.args.place (returns-in-Ok-clause-added c) (grows-last c.args.self.now c.args.key.now c.args.place c.args.left c.requires.gap _ c.in-Ok.ensures.entered)
+
+pub returns-in-Ok-clause-first : goal.returns-in-Ok-clause-first
+returns-in-Ok-clause-first c =
+    gap-first c.args.self.now c.requires.is_arena c.requires.led c.requires.counted c.args.key.now c.requires.is_key c.args.place c.args.left c.requires.gap _ c.args.place (returns-in-Ok-clause-added c) (grows-last c.args.self.now c.args.key.now c.args.place c.args.left c.requires.gap _ c.in-Ok.ensures.entered)
+
+pub returns-in-Ok-enter-clause-counted : goal.returns-in-Ok-enter-clause-counted
+returns-in-Ok-enter-clause-counted c =
+    gap-counted c.args.self.now c.requires.is_arena c.requires.led c.requires.counted c.args.key.now c.requires.is_key c.args.place c.args.left c.requires.gap c.put.new.self _ (returns-in-Ok-enter-clause-added c)
+    (grows-tail c.args.self.now c.args.key.now c.args.place c.args.left c.requires.gap c.make_room.new.self c.enter-2.new.self c.put.new.self c.next_place-at.result c.put.result _ c.make_room.ensures.same c.in-Ok-enter.ensures.entered c.put.ensures.put)
+
+pub returns-in-Ok-enter-clause-first : goal.returns-in-Ok-enter-clause-first
+returns-in-Ok-enter-clause-first c =
+    gap-first c.args.self.now c.requires.is_arena c.requires.led c.requires.counted c.args.key.now c.requires.is_key c.args.place c.args.left c.requires.gap c.put.new.self _ (returns-in-Ok-enter-clause-added c)
+    (grows-tail c.args.self.now c.args.key.now c.args.place c.args.left c.requires.gap c.make_room.new.self c.enter-2.new.self c.put.new.self c.next_place-at.result c.put.result _ c.make_room.ensures.same c.in-Ok-enter.ensures.entered c.put.ensures.put)

@@ -17,7 +17,7 @@ returns-in_err-at c =
 
 pub loop-rest-preserved : goal.loop-rest-preserved
 loop-rest-preserved c =
-    let child = child_from c.args.self.now _ c.deref.ensures.value c.in_ok-at.at _ (Level c.in-Some-Level.next) (c.in-Some-Level.ensures.lookup.4 (omega arith) (Free 0)) c.in-Some-Level.field-0-is in
+    let child = child_from c.args.self.now _ c.deref.ensures.value c.in_ok-at.at _ (Level c.in-Some-Level.field-0-0 c.in-Some-Level.next) (c.in-Some-Level.ensures.lookup.4 (omega arith) (Free 0)) c.in-Some-Level.field-0-is in
     let deeper = subst (λ (xs : List ℕ). IsDeeper c.loop-rest.cut c.loop-rest.level.now.map (record { place = c.place_in.result; below = Some c.in_ok-at.at; left = length xs }) c.deeper.result) (take_rest c.loop-rest.rest.now 8) c.deeper.ensures in
     rw take_rest (record {
       on = on-moved _ _ _ _ _ c.loop-rest.invariant.on c.in_ok-at.at c.in-Some-Level.next.map c.loop-rest-test.true (piece-IsInner c.loop-rest.rest.now (c.loop-rest.invariant.on.text c.requires.is_text) c.loop-rest-test.true) (sym (ap (λ p. get c.loop-rest.level.now.map p) c.first_piece-piece.ensures) ∙ sym c.get.ensures ∙ c.in_ok-at.was) (ap node_of child);

@@ -17,12 +17,12 @@ push_piece-requires c = follow_room c.requires.is_arena.is_world c.args.key.now.
 
 pub end-requires : goal.end-requires
 end-requires c =
-    let child = child_from c.args.self.now _ c.deref.ensures.value c.loop-piece.value _ (Level c.in-Some-Level.next) (c.in-Some-Level.ensures.lookup.4 (omega arith) (Free 0)) c.in-Some-Level.field-0-is in
+    let child = child_from c.args.self.now _ c.deref.ensures.value c.loop-piece.value _ (Level c.in-Some-Level.field-0-0 c.in-Some-Level.next) (c.in-Some-Level.ensures.lookup.4 (omega arith) (Free 0)) c.in-Some-Level.field-0-is in
     level_words c.requires.is_arena.is_world (suc c.loop-piece.value) c.in-Some-Level.next.map (ap node_of child)
 
 pub returns-in_err-entry-in-Some-Level : goal.returns-in_err-entry-in-Some-Level
 returns-in_err-entry-in-Some-Level c =
-    let child = child_from c.args.self.now _ c.deref.ensures.value c.loop-piece.value _ (Level c.in-Some-Level.next) (c.in-Some-Level.ensures.lookup.4 (omega arith) (Free 0)) c.in-Some-Level.field-0-is in
+    let child = child_from c.args.self.now _ c.deref.ensures.value c.loop-piece.value _ (Level c.in-Some-Level.field-0-0 c.in-Some-Level.next) (c.in-Some-Level.ensures.lookup.4 (omega arith) (Free 0)) c.in-Some-Level.field-0-is in
     absurd (follow_some c.requires.is_arena.is_world c.args.key.now.items c.loop-piece.invariant.map c.loop-piece.piece c.loop-piece.key.items c.loop-piece.invariant.on c.loop-piece.value c.loop-piece.invariant.entry c.loop-piece-test.true c.in-Some-Level.next.map (ap node_of child) (subst (λ (entry : Option (ℕ × ℕ)). IsFirstEntry c.args.look.side c.in-Some-Level.next.map (piece_in entry)) c.in_err-entry-in-Some-Level.was c.end.ensures.first))
 
 pub loop-piece-smaller : goal.loop-piece-smaller
@@ -34,7 +34,7 @@ loop-piece-smaller c =
 
 pub loop-piece-preserved : goal.loop-piece-preserved
 loop-piece-preserved c =
-    let child = child_from c.args.self.now _ c.deref.ensures.value c.loop-piece.value _ (Level c.in-Some-Level.next) (c.in-Some-Level.ensures.lookup.4 (omega arith) (Free 0)) c.in-Some-Level.field-0-is in
+    let child = child_from c.args.self.now _ c.deref.ensures.value c.loop-piece.value _ (Level c.in-Some-Level.field-0-0 c.in-Some-Level.next) (c.in-Some-Level.ensures.lookup.4 (omega arith) (Free 0)) c.in-Some-Level.field-0-is in
     rw c.push_piece.ensures (follow_down c.requires.is_arena.is_world c.args.key.now.items c.loop-piece.invariant.map c.loop-piece.piece c.loop-piece.key.items c.loop-piece.invariant.on c.loop-piece.value c.loop-piece.invariant.entry c.loop-piece-test.true c.in-Some-Level.next.map (ap node_of child) c.in_ok-entry-in-Some-Level.entry (subst (λ (entry : Option (ℕ × ℕ)). IsFirstEntry c.args.look.side c.in-Some-Level.next.map (piece_in entry)) c.in_ok-entry-in-Some-Level.was c.end.ensures.first) (subst (IsEntryOf c.in-Some-Level.next.map) c.in_ok-entry-in-Some-Level.was c.end.ensures.value))
 
 -- What holds where there is a result.

@@ -6,6 +6,7 @@ use Rattle.judy_sl.specs.Branches.{AreSingle}
 use Rattle.judy_sl.proofs.Grafted.{grafting-start, grafting-up, grafted, singles-front, single-contains, twig-stays, no-items}
 use Rattle.judy_sl.specs.declared.child.Child.TheVariants.{Level}
 use Rattle.judy_sl.specs.Places.{with_child}
+use Rattle.judy_sl.proofs.GraftedCounts.{grafted-counted}
 use Rattle.judy_sl.proofs.Reused.{stands-put, stands-hung, then-places, replaced-places}
 use Rattle.judy_sl.proofs.arena.Arena.graft.Goals as goal
 
@@ -68,5 +69,12 @@ returns c = record {
       let inside = c.loop-piece.invariant.inside in
       let sizes = c.loop-piece.self.children.ok.0 in
       grafted c.args.self.now c.loop-piece.self key c.args.at left c.args.branch graft c.loop-piece.upper.items c.loop-piece.level (c.loop-piece.invariant.grafting key left is_key graft) (no-items c.loop-piece.upper.items (sym c.loop-piece.upper.ok.0 ∙ c.in_default.ensures.cases.0)) (omega (arith, inside, sizes));
-  places = then-places c.args.self.now c.loop-piece.self (with_child c.loop-piece.self c.args.at (Level c.loop-piece.level)) c.loop-piece.invariant.places (replaced-places c.loop-piece.self c.args.at c.loop-piece.level c.loop-piece.invariant.stands);
+  counted = λ key left is_key graft led counted.
+      let inside = c.loop-piece.invariant.inside in
+      let sizes = c.loop-piece.self.children.ok.0 in
+      let grafting = c.loop-piece.invariant.grafting key left is_key graft in
+      let nothing = no-items c.loop-piece.upper.items (sym c.loop-piece.upper.ok.0 ∙ c.in_default.ensures.cases.0) in
+      grafted-counted c.args.self.now c.loop-piece.self key is_key c.args.at left c.args.branch graft c.loop-piece.upper.items c.loop-piece.level grafting nothing (omega (arith, inside, sizes))
+      (grafted c.args.self.now c.loop-piece.self key c.args.at left c.args.branch graft c.loop-piece.upper.items c.loop-piece.level grafting nothing (omega (arith, inside, sizes))) led counted;
+  places = then-places c.args.self.now c.loop-piece.self (with_child c.loop-piece.self c.args.at (Level 1 c.loop-piece.level)) c.loop-piece.invariant.places (replaced-places c.loop-piece.self c.args.at c.loop-piece.level c.loop-piece.invariant.stands);
 }

@@ -32,7 +32,7 @@ loop-rest-preserved c =
     let words = c.loop-rest.level.now.map in
     let held = subst (IsEntryOf words) c.in-Some.is c.from.ensures.value in
     let entry = ap (get words) (sym c.first_piece-piece.ensures ∙ sym c.if-apart.false) ∙ held in
-    let child = child_from c.args.self.now _ c.deref.ensures.value c.in-Some.entry.1 _ (Level c.in-Some-Level.next) (c.in-Some-Level.ensures.lookup.4 (omega arith) (Free 0)) c.in-Some-Level.field-0-is in
+    let child = child_from c.args.self.now _ c.deref.ensures.value c.in-Some.entry.1 _ (Level c.in-Some-Level.field-0-0 c.in-Some-Level.next) (c.in-Some-Level.ensures.lookup.4 (omega arith) (Free 0)) c.in-Some-Level.field-0-is in
     rw take_rest (scan_moved c.args.look (world_of c.args.self.now) c.args.key.now words c.loop-rest.rest.now c.loop-rest.invariant c.loop-rest-test.true c.in-Some.entry.1 c.in-Some-Level.next.map entry (ap node_of child))
 
 pub returns-then-met-clause-is_turn : goal.returns-then-met-clause-is_turn

@@ -21,7 +21,7 @@ returns-in_err-place-clause-there c = λ branch. absurd (alone_absent c.args.sel
 
 pub loop-rest-preserved : goal.loop-rest-preserved
 loop-rest-preserved c =
-    let child = child_from c.args.self.now _ c.deref.ensures.value c.in_ok-place.place _ (Level c.in-Some-Level.next) (c.in-Some-Level.ensures.lookup.4 (omega arith) (Free 0)) c.in-Some-Level.field-0-is in
+    let child = child_from c.args.self.now _ c.deref.ensures.value c.in_ok-place.place _ (Level c.in-Some-Level.field-0-0 c.in-Some-Level.next) (c.in-Some-Level.ensures.lookup.4 (omega arith) (Free 0)) c.in-Some-Level.field-0-is in
     rw take_rest (level_moved c.args.self.now c.args.at.now c.requires.is_key c.loop-rest.level.now.map c.loop-rest.rest.now c.loop-rest.invariant c.loop-rest-test.true c.in_ok-place.place c.in-Some-Level.next.map (sym (ap (λ p. get c.loop-rest.level.now.map p) c.first_piece.ensures) ∙ sym c.get.ensures ∙ c.in_ok-place.was) (ap node_of child))
 
 pub returns-in-Some-Tail-clause-there : goal.returns-in-Some-Tail-clause-there

@@ -32,7 +32,7 @@ slice_bounds-rest-start c =
 pub loop-rest-preserved : goal.loop-rest-preserved
 loop-rest-preserved c = λ target leads.
     let step = way_step (world_of c.args.self.now) target (length c.args.key.now - c.args.depth) c.loop-rest.level.now.map c.loop-rest.rest.now (c.loop-rest.invariant target leads) c.loop-rest-test.true in
-    let child = child_from c.args.self.now _ c.deref.ensures.value c.in-Some.at _ (Level c.in-Some-Level.next) (c.in-Some-Level.ensures.lookup.4 (omega arith) (Free 0)) c.in-Some-Level.field-0-is in
+    let child = child_from c.args.self.now _ c.deref.ensures.value c.in-Some.at _ (Level c.in-Some-Level.field-0-0 c.in-Some-Level.next) (c.in-Some-Level.ensures.lookup.4 (omega arith) (Free 0)) c.in-Some-Level.field-0-is in
     rw take_rest (way_moved step c.in-Some.at (sym (ap (λ p. get c.loop-rest.level.now.map p) c.first_piece.ensures) ∙ sym c.get.ensures ∙ c.in-Some.is) c.in-Some-Level.next.map (ap node_of child))
 
 pub unreachable-requires-in-Some-Tail : goal.unreachable-requires-in-Some-Tail

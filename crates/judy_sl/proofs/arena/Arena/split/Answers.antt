@@ -1,7 +1,8 @@
 use Rattle.judy_sl.proofs.PieceLemmas.{text_of_key}
 use Rattle.judy_sl.proofs.Grafted.{sound-built}
 use Rattle.judy_sl.proofs.Filled.{arena-same}
-use Rattle.judy_sl.proofs.Splits.{split-arena, split-gap, split-clash, split-added}
+use Rattle.judy_sl.proofs.Growing.{counted-same, led-same}
+use Rattle.judy_sl.proofs.Splits.{split-graft, split-arena, split-gap, split-clash, split-added}
 use Rattle.judy_sl.proofs.Reused.{clash-stands, then-places}
 use Rattle.judy_sl.proofs.arena.Arena.split.Goals as goal
 
@@ -32,3 +33,9 @@ graft-requires-clause-taken c = clash-stands c.args.self.now c.make_room.new.sel
 
 pub returns-clause-places : goal.returns-clause-places
 returns-clause-places c = then-places c.args.self.now c.make_room.new.self c.graft.new.self c.make_room.ensures.places c.graft.ensures.places
+
+pub returns-clause-counted : goal.returns-clause-counted
+returns-clause-counted c =
+    let same = c.make_room.ensures.same in
+    let graft = split-graft c.args.self.now _ c.graft.new.self same c.args.key.now c.args.at c.args.left c.requires.clash c.index.result.now c.index.ensures c.in-Tail.tail c.in-Tail.is c.in-Ok.made c.in-Ok.ensures.built in
+    c.graft.ensures.counted c.args.key.now c.args.left c.requires.is_key graft (led-same c.args.self.now c.make_room.new.self same c.requires.led) (counted-same c.args.self.now c.make_room.new.self same c.requires.counted)

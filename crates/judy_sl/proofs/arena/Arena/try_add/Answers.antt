@@ -1,11 +1,15 @@
-use Rattle.std.proofs.Common.{sym, ap, ◌∙◌, arith}
+use Rattle.std.proofs.Common.{refl, sym, ap, ◌∙◌, arith}
 use Rattle.std.proofs.lemmas.Bool.{false≢true}
 use Rattle.std.proofs.lemmas.List.{take_rest}
-use Rattle.std.specs.FinMap.{remove}
+use Rattle.std.specs.FinMap.{get, remove}
 use Rattle.judy_model.specs.Keys.{word_order}
 use Rattle.judy_model.specs.Arrays.{ArrayOf, with_map}
+use Rattle.judy_sl.specs.Pieces.{piece_of}
+use Rattle.judy_sl.proofs.FirstWays.{unrooted}
 use Rattle.judy_sl.proofs.Rooms.{room-in_first}
 use Rattle.judy_sl.proofs.Tried.{first-absent, first-added}
+use Rattle.judy_sl.proofs.Growing.{counted-same}
+use Rattle.judy_sl.proofs.TriedCounts.{put-present, tried-counted}
 use Rattle.judy_word.proofs.TrialLemmas.{put-absent, put-new, put-undone}
 use Rattle.judy_sl.proofs.arena.Arena.try_add.Goals as goal
 
@@ -35,6 +39,12 @@ returns-in-Ok-clause-added c =
     first-added c.args.self.now c.requires.is_arena c.args.key.now key c.first_piece-piece.result c.first_piece-piece.ensures (put-absent c.args.self.now.root.map c.first_piece-piece.result added)
     c.put_if_absent.new.self c.put_tail.new.self c.next_place-next.result c.in-Ok.at _ (omega arith) c.next_place-next.ensures words c.in-Ok.ensures.place (take_rest c.args.key.now 8) c.in-Ok.ensures.put
 
+pub returns-in-Ok-clause-first : goal.returns-in-Ok-clause-first
+returns-in-Ok-clause-first c =
+    let added = sym c.in-Ok-true.field-0-test ∙ c.in-Ok-true.ensures.answer in
+    let none = put-absent c.args.self.now.root.map c.first_piece-piece.result added in
+    unrooted c.args.self.now (piece_of c.args.key.now) (ap (get c.args.self.now.root.map) (sym c.first_piece-piece.ensures) ∙ none)
+
 pub returns-in-Err-clause-absent : goal.returns-in-Err-clause-absent
 returns-in-Err-clause-absent c =
     let key = c.is_key.ensures.0 c.if-not-is_key.false in
@@ -48,3 +58,20 @@ returns-in-Err-clause-refused c =
     ∙ ap (λ (made : ArrayOf word_order). with_map made (remove made.map c.first_piece-piece.result)) (c.in-Err.ensures.refused.0.root ∙ c.in-Ok-true.ensures.put)
     ∙ ap (with_map c.args.self.now.root) (put-undone c.args.self.now.root.map c.first_piece-piece.result c.next_place-next.result added) in
     (record { root = undone; items = c.in-Err.ensures.refused.0.items }, c.in-Err.ensures.refused.1)
+
+pub returns-in-Ok-false-clause-counted : goal.returns-in-Ok-false-clause-counted
+returns-in-Ok-false-clause-counted c =
+    let stayed = sym c.in-Ok-false.field-0-test ∙ c.in-Ok-false.ensures.answer in
+    let words = c.in-Ok-false.ensures.put ∙ ap (with_map c.args.self.now.root) (put-present c.args.self.now.root.map c.first_piece-piece.result c.next_place-next.result stayed) in
+    counted-same c.args.self.now (record c.args.self.now { root = c.put_if_absent.new.self }) (record { root = words; items = refl }) c.requires.counted
+
+pub returns-in-Ok-clause-counted : goal.returns-in-Ok-clause-counted
+returns-in-Ok-clause-counted c =
+    let key = c.is_key.ensures.0 c.if-not-is_key.false in
+    let added = sym c.in-Ok-true.field-0-test ∙ c.in-Ok-true.ensures.answer in
+    let words = c.in-Ok-true.ensures.put ∙ ap (with_map c.args.self.now.root) (put-new c.args.self.now.root.map c.first_piece-piece.result c.next_place-next.result added) in
+    tried-counted c.args.self.now c.requires.is_arena c.requires.led c.requires.counted c.args.key.now key c.first_piece-piece.result c.first_piece-piece.ensures (put-absent c.args.self.now.root.map c.first_piece-piece.result added)
+    c.put_if_absent.new.self c.put_tail.new.self c.next_place-next.result c.in-Ok.at _ _ words c.in-Ok.ensures.put (returns-in-Ok-clause-added c)
+
+pub returns-in-Err-clause-counted : goal.returns-in-Err-clause-counted
+returns-in-Err-clause-counted c = counted-same c.args.self.now _ (returns-in-Err-clause-refused c).0 c.requires.counted

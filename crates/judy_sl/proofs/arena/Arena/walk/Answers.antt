@@ -22,7 +22,7 @@ returns-in_default-clause-way c = λ text.
 
 pub loop-rest-preserved : goal.loop-rest-preserved
 loop-rest-preserved c =
-    let child = child_from c.args.self.now _ c.deref.ensures.value c.in-Some.at _ (Level c.in-Some-Level.next) (c.in-Some-Level.ensures.lookup.4 (omega arith) (Free 0)) c.in-Some-Level.field-0-is in
+    let child = child_from c.args.self.now _ c.deref.ensures.value c.in-Some.at _ (Level c.in-Some-Level.field-0-0 c.in-Some-Level.next) (c.in-Some-Level.ensures.lookup.4 (omega arith) (Free 0)) c.in-Some-Level.field-0-is in
     rw take_rest (record {
       on = on-moved _ _ _ _ _ c.loop-rest.invariant.on c.in-Some.at c.in-Some-Level.next.map c.loop-rest-test.true (subst IsInner c.first_piece-piece.ensures c.if-piece-eq0.false) (sym (ap (λ p. get c.loop-rest.level.now.map p) c.first_piece-piece.ensures) ∙ sym c.get.ensures ∙ c.in-Some.is) (ap node_of child);
       is_arena = c.requires.is_arena;

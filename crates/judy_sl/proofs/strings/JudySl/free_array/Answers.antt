@@ -1,13 +1,19 @@
-use Rattle.std.proofs.Common.{rules, ap, ℕ, ◌∙◌}
-use Rattle.std.specs.FinMap.{FinMap}
+use Rattle.std.proofs.Common.{ap, ℕ, ◌∙◌}
+use Rattle.std.specs.FinMap.{FinMap, len}
 use Rattle.judy_model.specs.Keys.{byte_order}
 use Rattle.judy_model.specs.Arrays.{ArrayOf, empty_array}
 use Rattle.judy_sl.proofs.Keeping.{strings-new}
 use Rattle.judy_sl.proofs.Maps.{empty-map}
+use Rattle.judy_sl.proofs.FirstWays.{firsts_new}
+use Rattle.judy_sl.proofs.CountedWrites.{counted_new}
 use Rattle.judy_sl.proofs.strings.JudySl.free_array.Goals as goal
 
 pub invariant_of-self : goal.invariant_of-self
-invariant_of-self c = strings-new c.self.inside.limit c.new.result c.new.ensures.items c.new.ensures.root c.new.ensures.none_free c.self.invariant.holds_some c.self.invariant.limit_fits
+invariant_of-self c = (
+  strings-new c.self.inside.limit c.new.result c.new.ensures.items c.new.ensures.root c.new.ensures.none_free c.self.invariant.0.holds_some c.self.invariant.0.limit_fits,
+  counted_new c.new.result c.new.ensures.items,
+  firsts_new c.new.result c.new.ensures.items c.new.ensures.root c.new-2.result c.new-2.ensures,
+)
 
 pub returns-clause-emptied : goal.returns-clause-emptied
 returns-clause-emptied c =
@@ -15,4 +21,4 @@ returns-clause-emptied c =
     ∙ ap (λ (strings : ArrayOf byte_order). empty_array strings.limit) c.self.view_is
 
 pub returns-clause-freed : goal.returns-clause-freed
-returns-clause-freed c = search rules
+returns-clause-freed c = c.self.invariant.0.counted ∙ ap (λ (strings : ArrayOf byte_order). len strings.map) c.self.view_is

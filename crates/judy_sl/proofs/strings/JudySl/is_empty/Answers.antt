@@ -8,6 +8,6 @@ use Rattle.judy_sl.proofs.strings.JudySl.is_empty.Goals as goal
 pub returns : goal.returns
 returns c =
     rw (← c.self.view_is) (
-      λ none. empty_of_len (map_of c.self.inside.arena) (sym c.self.invariant.counted ∙ eqb-true c.self.inside.count 0 none),
-      λ e. eq-eqb c.self.inside.count 0 (c.self.invariant.counted ∙ ap (λ (map : FinMap byte_order ℕ). len map) e ∙ len-empty byte_order ℕ),
+      λ none. empty_of_len (map_of c.self.inside.arena) (sym c.self.invariant.0.counted ∙ eqb-true c.self.inside.count 0 none),
+      λ e. eq-eqb c.self.inside.count 0 (c.self.invariant.0.counted ∙ ap (λ (map : FinMap byte_order ℕ). len map) e ∙ len-empty byte_order ℕ),
     )

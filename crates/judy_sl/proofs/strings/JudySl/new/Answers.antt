@@ -3,10 +3,16 @@ use Rattle.std.specs.FinMap.{FinMap}
 use Rattle.judy_model.specs.Keys.{byte_order}
 use Rattle.judy_sl.proofs.Keeping.{strings-new}
 use Rattle.judy_sl.proofs.Maps.{empty-map}
+use Rattle.judy_sl.proofs.FirstWays.{firsts_new}
+use Rattle.judy_sl.proofs.CountedWrites.{counted_new}
 use Rattle.judy_sl.proofs.strings.JudySl.new.Goals as goal
 
 pub invariant_of-result : goal.invariant_of-result
-invariant_of-result c = strings-new c.args.limit c.new.result c.new.ensures.items c.new.ensures.root c.new.ensures.none_free c.requires.some c.requires.most
+invariant_of-result c = (
+  strings-new c.args.limit c.new.result c.new.ensures.items c.new.ensures.root c.new.ensures.none_free c.requires.some c.requires.most,
+  counted_new c.new.result c.new.ensures.items,
+  firsts_new c.new.result c.new.ensures.items c.new.ensures.root c.new-2.result c.new-2.ensures,
+)
 
 pub returns : goal.returns
 returns c = ap (λ (map : FinMap byte_order ℕ). record { limit = c.args.limit; map = map }) (empty-map c.new.result c.new.ensures.items c.new.ensures.root)

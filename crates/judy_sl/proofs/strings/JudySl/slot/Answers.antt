@@ -8,6 +8,8 @@ use Rattle.judy_sl.specs.Lends.{with_value}
 use Rattle.judy_sl.proofs.Maps.{get-map_none, get-map_bad}
 use Rattle.judy_sl.proofs.PieceLemmas.{text_of_key}
 use Rattle.judy_sl.proofs.Exact.{ends-text}
+use Rattle.judy_sl.proofs.FirstWays.{firsts_slot}
+use Rattle.judy_sl.proofs.CountedWrites.{counted_written}
 use Rattle.judy_sl.proofs.Keeping.{gap-none, clash-none, strings-written, array-written, value-place}
 use Rattle.judy_sl.proofs.strings.JudySl.slot.Goals as goal
 
@@ -18,13 +20,16 @@ returns-then-ends_in_zero c =
 pub invariant_of-self-lent : goal.invariant_of-self-lent
 invariant_of-self-lent c _ =
     let key = c.in-At.ensures.there c.in-At.place refl in
-    (λ w. strings-written _ _ _ c.self.invariant c.args.key.now key c.in-At.place (c.in-At.ensures.way (text_of_key _ key)) w, c.self.invariant)
+    let found = c.in-At.ensures.way (text_of_key _ key) in (
+      λ w. (strings-written _ _ _ c.self.invariant.0 c.args.key.now key c.in-At.place found w, counted_written c.self.inside.arena c.self.invariant.0.is_arena c.args.key.now c.in-At.place found w c.self.invariant.1, firsts_slot _ _ _ c.self.invariant.0 c.args.key.now key c.in-At.place found c.self.inside.firsts c.self.invariant.2 w),
+      c.self.invariant,
+    )
 
 pub returns-in-At : goal.returns-in-At
 returns-in-At c =
     let key = c.in-At.ensures.there c.in-At.place refl in (
-      λ t. read_of (ghost_name_of c.slot.result) (λ w. (array-written _ _ _ c.self.invariant c.args.key.now key c.in-At.place (c.in-At.ensures.way (text_of_key _ key)) w ∙ ap (λ (s : ArrayOf byte_order). with_value s c.args.key.now w) c.self.view_is) t) (c.self.view_is t),
-      record { writes_back = tt; value = rw (← c.self.view_is) (c.slot.ensures.value ∙ value-place _ _ _ c.self.invariant c.args.key.now key c.in-At.place (c.in-At.ensures.way (text_of_key _ key))) },
+      λ t. read_of (ghost_name_of c.slot.result) (λ w. (array-written _ _ _ c.self.invariant.0 c.args.key.now key c.in-At.place (c.in-At.ensures.way (text_of_key _ key)) w ∙ ap (λ (s : ArrayOf byte_order). with_value s c.args.key.now w) c.self.view_is) t) (c.self.view_is t),
+      record { writes_back = tt; value = rw (← c.self.view_is) (c.slot.ensures.value ∙ value-place _ _ _ c.self.invariant.0 c.args.key.now key c.in-At.place (c.in-At.ensures.way (text_of_key _ key))) },
     )
 
 pub returns-in-Gap : goal.returns-in-Gap

@@ -1,0 +1,28 @@
+-- The keys behind the entries of a level whose words are less than one, entry by entry.
+use Rattle.std.proofs.Common.{◌≡◌, ℕ, ◌+◌, ◌<◌, ◌≤◌, cond, nat_lt, [], ◌∷◌, ap, ◌∙◌, refl, arith}
+use Rattle.std.proofs.lemmas.Bool.{lt-ltb, le-ltb}
+use Rattle.std.proofs.lemmas.List.Sums.{sum_by-cons}
+use Rattle.judy_sums.specs.Pairs.{Pairs}
+use Rattle.judy_sums.specs.Chunks.{AllFrom, Ascends}
+use Rattle.judy_sums.specs.Levels.{keys_below}
+use Rattle.judy_sums.proofs.PairLemmas.{from_first}
+
+module _ (behind : ℕ × ℕ → ℕ) (word : ℕ) where
+  below_one : (entry : ℕ × ℕ) (rest : Pairs) → keys_below behind (entry ∷ rest) word ≡ cond (nat_lt entry.0 word) (behind entry) 0 + keys_below behind rest word
+  below_one entry rest = sum_by-cons (λ (one : ℕ × ℕ). cond (nat_lt one.0 word) (behind one) 0) entry rest
+
+  -- An entry with a lesser word adds its keys.
+  pub below_less : (entry : ℕ × ℕ) (rest : Pairs) → entry.0 < word → keys_below behind (entry ∷ rest) word ≡ behind entry + keys_below behind rest word
+  below_less entry rest less = below_one entry rest ∙ ap (λ b. cond b (behind entry) 0 + keys_below behind rest word) (lt-ltb entry.0 word less)
+
+  below_none : (entries : Pairs) → AllFrom entries word → keys_below behind entries word ≡ 0
+  below_none [] from = refl
+  below_none (entry ∷ rest) from =
+      let sum = below_one entry rest in
+      let here = ap (λ b. cond b (behind entry) 0) (le-ltb entry.0 word from.0) in
+      let later = below_none rest from.1 in
+      omega arith
+
+  -- From an entry on whose word isn't less there are none.
+  pub below_past : (entry : ℕ × ℕ) (rest : Pairs) → Ascends (entry ∷ rest) → word ≤ entry.0 → keys_below behind (entry ∷ rest) word ≡ 0
+  below_past entry rest ascend most = below_none (entry ∷ rest) (from_first entry rest word ascend most)

@@ -1,0 +1,139 @@
+-- What a new tail and a new entry leave of the levels, and of what they tell.
+use Rattle.std.proofs.Common.{◌≡◌, ℕ, suc, List, [], ◌∷◌, ◌++◌, get_or, IsTrue, None, inl, inr, refl, sym, ap, subst, ◌∙◌}
+use Rattle.std.proofs.lemmas.Bool.{cases_eq, false≢true}
+use Rattle.std.proofs.lemmas.Option.{none-some}
+use Rattle.std.specs.FinMap.{FinMap, get}
+use Rattle.judy_model.specs.Keys.{word_order, IsStringKey}
+use Rattle.judy_sl.specs.declared.child.Child.{Child}
+use Rattle.judy_sl.specs.declared.child.Child.TheVariants.{Free, Tail, Level}
+use Rattle.judy_sl.specs.declared.arena.Arena.{Arena}
+use Rattle.judy_sl.specs.declared.arena.Place.{Place}
+use Rattle.judy_sl.specs.declared.arena.Place.TheVariants.{Root, Below}
+use Rattle.judy_sl.specs.Pieces.{pieces, piece_of}
+use Rattle.judy_sl.specs.World.{World, gone, level}
+use Rattle.judy_sl.specs.Worlds.{AllLed}
+use Rattle.judy_sl.specs.Arenas.{world_of, node_of, child_at, IsArena}
+use Rattle.judy_sl.specs.Children.{child_with}
+use Rattle.judy_sl.specs.Places.{place_with}
+use Rattle.judy_sl.specs.Ways.{seat_of, piece_at, ends_at_first, IsGap, left_of}
+use Rattle.judy_sl.specs.Counted.{keys_behind, LevelTells, Same, OneLess, AreCounted, AreCountedBut}
+use Rattle.judy_sl.specs.Grown.{IsPut, IsAdded, IsSame}
+use Rattle.judy_sl.proofs.OnWay.{pieces-head}
+use Rattle.judy_sl.proofs.Written.{behind-leads}
+use Rattle.judy_sl.proofs.Led.{KeepsEntries, keeps-same, keeps-then, keeps-none, keeps-insert, keeps-set}
+use Rattle.judy_sl.proofs.Linked.{node_with, child_at-same, child_at-other, world-with_place}
+use Rattle.judy_sl.proofs.Filled.{world-same, level-place, place-inside}
+use Rattle.judy_sl.proofs.Tailed.{world-put}
+use Rattle.judy_sl.proofs.Keeping.{gap-none}
+use Rattle.judy_sl.proofs.CountedAdded.{LevelWas, came-was, counted-but, counted-first}
+
+-- Each level stays one, with its number and its entries that lead on, and none is new.
+pub record GrowsOn (before after : Arena) : Type 0 where
+  pub keeps : (seat : ℕ) → KeepsEntries (world_of before seat) (world_of after seat)
+  pub was : (at : ℕ) → LevelWas before at (child_at after at)
+
+pub was-same : (before : Arena) (at : ℕ) (child : Child) → child_at before at ≡ child → LevelWas before at child
+was-same before at (Free next) e = tt
+was-same before at (Tail rest) e = tt
+was-same before at (Level told words) e = (words, e)
+
+pub was-then : (before middle : Arena) (at : ℕ) (child : Child) → LevelWas before at (child_at middle at) → LevelWas middle at child → LevelWas before at child
+was-then before middle at (Free next) first was = tt
+was-then before middle at (Tail rest) first was = tt
+was-then before middle at (Level told words) first was = subst (LevelWas before at) was.1 first
+
+-- One step after another.
+pub grows-then : (before middle after : Arena) → GrowsOn before middle → GrowsOn middle after → GrowsOn before after
+grows-then before middle after one two = record {
+  keeps = λ seat. keeps-then (world_of before seat) (world_of middle seat) (world_of after seat) (one.keeps seat) (two.keeps seat);
+  was = λ at. was-then before middle at (child_at after at) (one.was at) (two.was at);
+}
+
+-- Nothing has changed.
+pub grows-same : (before after : Arena) → IsSame before after → GrowsOn before after
+grows-same before after same = record {
+  keeps = λ seat. keeps-same (world_of before seat) (world_of after seat) (ap (λ (w : World). w seat) (world-same before after same));
+  was = λ at. was-same before at (child_at after at) (sym (ap (λ items. get_or items at (Free 0)) same.items));
+}
+
+-- A tail was put where nothing was.
+pub grows-put : (before after : Arena) (rest : List ℕ × ℕ) (at : ℕ) → IsPut before after (Tail rest) at → GrowsOn before after
+grows-put before after rest at put =
+    let node = node_of (Tail rest) in
+    let free : KeepsEntries (world_of before (suc at)) node = keeps-none (world_of before (suc at)) node (λ map e. let g : gone ≡ level map = sym put.was_free ∙ e in cc) in
+    record {
+      keeps = subst (λ (w : World). (seat : ℕ) → KeepsEntries (world_of before seat) (w seat)) (sym (world-put before after (Tail rest) at put)) (keeps-set (world_of before) (suc at) node free);
+      was = λ k. elim (cases_eq k at) [
+        | inl e ↦ subst (LevelWas before k) (sym (ap (child_at after) e ∙ put.here)) tt
+        | inr apart ↦ was-same before k (child_at after k) (sym (put.elsewhere k apart))
+      ];
+    }
+
+was-with : (arena : Arena) (at piece value : ℕ) (child : Child) → child_at arena at ≡ child → LevelWas arena at (child_with child piece value)
+was-with arena at piece value (Free next) e = tt
+was-with arena at piece value (Tail rest) e = tt
+was-with arena at piece value (Level told words) e = (words, e)
+
+-- A level has an entry more.
+module _ (arena : Arena) (place : Place) (value : ℕ) (map : FinMap word_order ℕ) (is_level : world_of arena (seat_of place) ≡ level map) where
+  was-place : (p : Place) → world_of arena (seat_of p) ≡ level map → (k : ℕ) → LevelWas arena k (child_at (place_with arena p value) k)
+  was-place (Root piece) there k = was-same arena k (child_at arena k) refl
+  was-place (Below at piece) there k =
+      let inside = place-inside arena (Below at piece) (level-place arena (Below at piece) map there) in
+      let child = child_with (child_at arena at) piece value in
+      elim (cases_eq k at) [
+        | inl e ↦ subst (LevelWas arena k) (sym (child_at-same arena at child inside k e)) (subst (λ n. LevelWas arena n child) (sym e) (was-with arena at piece value (child_at arena at) refl))
+        | inr apart ↦ was-same arena k (child_at (place_with arena (Below at piece) value) k) (sym (child_at-other arena at child inside k apart))
+      ]
+
+  pub grows-place : get map (piece_at place) ≡ None → GrowsOn arena (place_with arena place value)
+  grows-place absent =
+      let seat = seat_of place in
+      let node = node_with (world_of arena seat) (piece_at place) value in
+      let kept : KeepsEntries (world_of arena seat) node = subst (λ n. KeepsEntries n (node_with n (piece_at place) value)) (sym is_level) (keeps-insert map (piece_at place) value (λ at inner entry. none-some at (sym absent ∙ entry))) in
+      record {
+        keeps = subst (λ (w : World). (s : ℕ) → KeepsEntries (world_of arena s) (w s)) (sym (world-with_place arena place value (place-inside arena place (level-place arena place map is_level)))) (keeps-set (world_of arena) seat node kept);
+        was = was-place place is_level;
+      }
+
+-- What leads on, and what levels tell, where nothing has changed.
+pub led-same : (before after : Arena) → IsSame before after → AllLed (world_of before) → AllLed (world_of after)
+led-same before after same led = subst AllLed (sym (world-same before after same)) led
+
+pub counted-same : (before after : Arena) → IsSame before after → AreCounted before → AreCounted after
+counted-same before after same counted at =
+    subst (λ (w : World). LevelTells Same (child_at after at) (keys_behind w (suc at))) (sym (world-same before after same)) (
+    subst (λ items. LevelTells Same (get_or items at (Free 0)) (keys_behind (world_of before) (suc at))) (sym same.items) (counted at))
+
+-- ---- a key that is added where a level has no entry for it
+
+-- The steps: room, the entry, and the tail.
+module _ (before : Arena) (key : List ℕ) (place : Place) (left : ℕ) (gap : IsGap (world_of before) key place left) where
+  pub grows-last : (after : Arena) → after ≡ place_with before place 0 → GrowsOn before after
+  grows-last after is_after = subst (GrowsOn before) (sym is_after) (grows-place before place 0 gap.map gap.is_level gap.absent)
+
+  pub grows-tail : (reserved entered after : Arena) (at put_at : ℕ) (rest : List ℕ × ℕ) → IsSame before reserved → entered ≡ place_with reserved place at → IsPut entered after (Tail rest) put_at → GrowsOn before after
+  grows-tail reserved entered after at put_at rest same entered_is put =
+      let there : world_of reserved (seat_of place) ≡ level gap.map = ap (λ (w : World). w (seat_of place)) (world-same before reserved same) ∙ gap.is_level in
+      let second : GrowsOn reserved entered = subst (GrowsOn reserved) (sym entered_is) (grows-place reserved place at gap.map there gap.absent) in
+      grows-then before reserved after (grows-same before reserved same) (grows-then reserved entered after second (grows-put entered after rest put_at put))
+
+module _ (before : Arena) (is : IsArena before) (led : AllLed (world_of before)) (counted : AreCounted before) (key : List ℕ) (is_key : IsStringKey key) (place : Place) (left : ℕ) (gap : IsGap (world_of before) key place left) where
+  first-absent : (p : Place) → IsGap (world_of before) key p left → IsTrue (ends_at_first p) → (piece : ℕ) (rest : List ℕ) → pieces key ≡ piece ∷ rest → get before.root.map piece ≡ None
+  first-absent (Below at piece) at_gap first p rest parts = absurd (false≢true first)
+  first-absent (Root piece) at_gap first p rest parts =
+      let front : at_gap.leads.front ≡ [] = sym (behind-leads (world_of before) is.behind is.is_world key 0 (pieces (left_of key left)) at_gap.leads) ∙ is.is_world.first in
+      let h = pieces-head (left_of key left) in
+      let head : p ∷ rest ≡ piece_of (left_of key left) ∷ h.0 = sym parts ∙ at_gap.leads.parts ∙ ap (λ f. f ++ pieces (left_of key left)) front ∙ h.1 in
+      let same : p ≡ piece_of (left_of key left) = cc in
+      let root : before.root.map ≡ at_gap.map = (let e = at_gap.is_level in cc) in
+      ap (λ (m : FinMap word_order ℕ). get m p) root ∙ ap (get at_gap.map) (same ∙ sym at_gap.next) ∙ at_gap.absent
+
+  module _ (after : Arena) (made : Place) (added : IsAdded before after key made) (grows : GrowsOn before after) where
+    -- Each level on its way tells one key less than stand behind it,
+    pub gap-counted : AreCountedBut OneLess after key
+    gap-counted = counted-but before after is added.is_arena led counted key is_key 0 added.change (gap-none (world_of before) key place left gap) grows.keeps (λ at. came-was before after key at (child_at after at) (grows.was at))
+
+    -- and there is none where the way ended in the first level.
+    pub gap-first : IsTrue (ends_at_first place) → AreCounted after
+    gap-first first = counted-first before after is added.is_arena led counted key is_key 0 added.change (gap-none (world_of before) key place left gap) grows.keeps (first-absent place gap first) grows.was

@@ -1,0 +1,61 @@
+-- How many keys stand behind each seat, and what levels tell of that.
+use Rattle.std.specs.Prelude.{◌≡◌, ℕ, suc, Bool, true, false, List}
+use Rattle.std.specs.FinMap.{FinMap, len}
+use Rattle.judy_model.specs.Keys.{word_order}
+use Rattle.judy_sl.specs.declared.child.Child.{Child}
+use Rattle.judy_sl.specs.declared.child.Child.TheVariants.{Free, Tail, Level}
+use Rattle.judy_sl.specs.declared.arena.Arena.{Arena}
+use Rattle.judy_sl.specs.World.{World, level}
+use Rattle.judy_sl.specs.Behind.{map_behind}
+use Rattle.judy_sl.specs.Arenas.{world_of, child_at}
+use Rattle.judy_sl.specs.Ways.{LeadsTo}
+
+-- How many keys stand behind a seat.
+abbrev pub keys_behind : World → ℕ → ℕ
+keys_behind world seat = len (map_behind world seat)
+
+-- How many keys a child tells: a level has the number, and a tail is the end of one key.
+abbrev pub keys_of : Child → ℕ
+keys_of (Free next) = 0
+keys_of (Tail rest) = 1
+keys_of (Level keys words) = keys
+
+-- The number that a level tells is to another as a relation says; nothing is asked of what is no level.
+abbrev pub LevelTells : (ℕ → ℕ → Type 0) → Child → ℕ → Type 0
+LevelTells is_to (Free next) keys = Unit {0}
+LevelTells is_to (Tail rest) keys = Unit {0}
+LevelTells is_to (Level told words) keys = is_to told keys
+
+-- Just as many; one less; and one more.
+abbrev pub Same : ℕ → ℕ → Type 0
+Same told keys = told ≡ keys
+
+abbrev pub OneLess : ℕ → ℕ → Type 0
+OneLess told keys = suc told ≡ keys
+
+abbrev pub OneMore : ℕ → ℕ → Type 0
+OneMore told keys = told ≡ suc keys
+
+-- One less where a key came in that isn't counted yet, and one more where a key went that still is.
+abbrev pub OffBy : Bool → ℕ → ℕ → Type 0
+OffBy true told keys = OneLess told keys
+OffBy false told keys = OneMore told keys
+
+-- Each level tells how many keys stand behind it.
+abbrev pub AreCounted : Arena → Type 0
+AreCounted arena = (at : ℕ) → LevelTells Same (child_at arena at) (keys_behind (world_of arena) (suc at))
+
+-- A level stands at a seat, and so many keys behind it.
+pub record StandsWith (world : World) (words : FinMap word_order ℕ) (keys : ℕ) : Type 0 where
+  pub seat : ℕ
+  pub is_level : world seat ≡ level words
+  pub told : keys ≡ keys_behind world seat
+
+-- The way of a key comes to a seat.
+abbrev pub Passes : World → List ℕ → ℕ → Type 0
+Passes world key seat = (rest : List ℕ) × LeadsTo world key seat rest
+
+-- Each level does but those on the way of a key, whose numbers are to those of their keys as a relation says.
+pub record AreCountedBut (is_to : ℕ → ℕ → Type 0) (arena : Arena) (key : List ℕ) : Type 0 where
+  pub passed : (at : ℕ) → Passes (world_of arena) key (suc at) → LevelTells is_to (child_at arena at) (keys_behind (world_of arena) (suc at))
+  pub others : (at : ℕ) → (Passes (world_of arena) key (suc at) → ⊥) → LevelTells Same (child_at arena at) (keys_behind (world_of arena) (suc at))

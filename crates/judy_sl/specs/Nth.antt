@@ -1,0 +1,41 @@
+-- Where the key at a place stands, counted from 0: among the entries of the first level, and behind a seat.
+use Rattle.std.specs.Prelude.{◌≡◌, ℕ, suc, ◌+◌, ◌<◌, ◌≤◌, List, ◌++◌, length, slice_get, Option, Some, unwrap_or}
+use Rattle.std.specs.List.{flat_map}
+use Rattle.std.specs.FinMap.{FinMap, entries, get, len}
+use Rattle.judy_model.specs.Keys.{word_order}
+use Rattle.judy_model.specs.Counts.{nth}
+use Rattle.judy_sums.specs.Pairs.{sum_below}
+use Rattle.judy_sums.specs.Levels.{part_len}
+use Rattle.judy_sl.specs.declared.nth.Mark.{Mark}
+use Rattle.judy_sl.specs.declared.nth.Spot.{Spot}
+use Rattle.judy_sl.specs.World.{World}
+use Rattle.judy_sl.specs.Behind.{map_behind, entry_keys}
+
+-- What stands before the entry at a place of the first level: the entries before it, and what a list of sums holds below its word.
+abbrev pub before_entry : FinMap word_order ℕ → FinMap word_order ℕ → ℕ → ℕ
+before_entry words sums place = place + sum_below (entries sums) (unwrap_or (nth words place) 0)
+
+-- It is the last entry before which at most so much stands, and so much does.
+pub record IsChosen (words sums : FinMap word_order ℕ) (most : ℕ) (mark : Mark) : Type 0 where
+  pub within : mark.place < len words
+  pub before : mark.before ≡ before_entry words sums mark.place
+  pub low : mark.before ≤ most
+  pub high : suc mark.place < len words → most < before_entry words sums (suc mark.place)
+
+-- Behind this entry of a level stands the key at a place, and there it has this place.
+pub record IsSpotOf (world : World) (words : FinMap word_order ℕ) (place : ℕ) (spot : Spot) : Type 0 where
+  pub held : get words spot.piece ≡ Some spot.value
+  pub within : spot.place < part_len (entry_keys world) (spot.piece, spot.value)
+  pub same : slice_get (flat_map (entry_keys world) (entries words)) place ≡ slice_get (entry_keys world (spot.piece, spot.value)) spot.place
+
+-- Behind the bytes of a buffer there is room for each key behind a seat.
+abbrev pub KeysFit : World → ℕ → List ℕ → Type 0
+KeysFit world seat bytes = (rest : List ℕ) (value : ℕ) → get (map_behind world seat) rest ≡ Some value → length bytes + length rest ≤ 1024
+
+-- What is left of the key at a place behind a seat was put behind the bytes of a buffer, and its value answered.
+pub record IsNthBehind (world : World) (seat place : ℕ) (before after : List ℕ) (found : Option ℕ) : Type 0 where
+  pub rest : List ℕ
+  pub value : ℕ
+  pub stands : slice_get (entries (map_behind world seat)) place ≡ Some (rest, value)
+  pub bytes : after ≡ before ++ rest
+  pub answer : found ≡ Some value

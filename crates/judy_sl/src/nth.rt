@@ -1,0 +1,218 @@
+//! Which key stands at a place: the first piece is sought among the first level's by how many keys stand before it, and behind it
+//! each level's entries are counted up to the place, unless each has one key behind it.
+
+ghost use Rattle.std.specs.Prelude.{◌≡◌, ◌<◌, ◌≤◌, ◌+◌, ℕ, Some, suc, length, unwrap_or};
+ghost use Rattle.std.specs.List.{flat_map};
+ghost use Rattle.std.specs.FinMap as map;
+ghost use Rattle.judy_model.specs.Counts as counts;
+ghost use Rattle.judy_sl.specs.Arenas.{world_of, map_of, IsArena};
+ghost use Rattle.judy_sl.specs.Behind.{entry_keys};
+ghost use Rattle.judy_sl.specs.Counted.{keys_behind, AreCounted, StandsWith};
+ghost use Rattle.judy_sl.specs.Firsts.{AreFirsts};
+ghost use Rattle.judy_sl.specs.Nth.{before_entry, KeysFit, IsChosen, IsSpotOf, IsNthBehind};
+ghost use Rattle.judy_sl.specs.Scans.{value_found};
+
+use crate::arena::Arena;
+use crate::child::Child;
+use crate::keys::KeyBuf;
+use crate::pieces::push_piece;
+use crate::strings::JudySl;
+use judy_sums::Sums;
+use judy_word::WordMap;
+
+impl JudySl {
+    /// The value of the `n`-th key in ascending order, counted from 1; that key is then in the buffer, whatever was there
+    /// before. `None` for 0, and for an `n` above the number of keys (both this project's own), and the buffer stays. It
+    /// asks for no memory. It takes one way down the array: the entry of the first level is sought by halves and in proportion, and in
+    /// each level below the entries up to the key's own are read, unless one key stands behind each of that level's entries. (This
+    /// project's own; the manual has counts of words alone.)
+    ///
+    /// Of the keys `a`, `ab` and `c`, `by_count(2, &mut key)` puts `ab` into `key`.
+    pub fn by_count(&self, n: u64, key: &mut KeyBuf) -> Option<u64>
+        ensures key { key.new.items ≡ unwrap_or (counts.by_count self.now.map n) key.old.items }
+        ensures value { result ≡ value_found self.now.map (counts.by_count self.now.map n) }
+    {
+        if n == 0 || n > self.len() {
+            return None;
+        }
+        self.arena.nth(&self.firsts, n - 1, key)
+    }
+}
+
+// A place among the entries of the first level, and what stands before the entry there.
+#[derive(Clone, Copy)]
+struct Mark {
+    place: u64,
+    before: u64,
+}
+
+// An entry of a level, and a place among the keys behind it.
+#[derive(Clone, Copy)]
+struct Spot {
+    piece: u64,
+    value: u64,
+    place: u64,
+}
+
+// Where to look next between two places: in proportion to what stands before both, and each third time in the middle.
+fn between(low: Mark, high: Mark, most: u64, turn: u64) -> u64
+    requires { low.place + 1 < high.place }
+    ensures above { low.place < result }
+    ensures below { result < high.place }
+{
+    let span = high.place - low.place;
+    let rise = high.before.saturating_sub(low.before);
+    let missing = most.saturating_sub(low.before);
+    let step = if turn % 3 == 2 || rise == 0 {
+        span / 2
+    } else {
+        missing.saturating_mul(span) / rise
+    };
+    if step == 0 {
+        low.place + 1
+    } else if step < span {
+        low.place + step
+    } else {
+        high.place - 1
+    }
+}
+
+// What stands before the entry at a place of the first level: the entries before it, and what the list holds below its word.
+fn before_entry(level: &WordMap, firsts: &Sums, place: u64) -> u64
+    requires within { place < map.len level.now.map }
+    requires fits { before_entry level.now.map firsts.now place ≤ 4294967295 }
+    ensures { result ≡ before_entry level.now.map firsts.now place }
+{
+    let Some(piece) = level.array().by_count(place + 1) else {
+        unreachable!()
+    };
+    place + firsts.below(piece)
+}
+
+// The last entry of the first level before which at most so much stands.
+fn chosen(level: &WordMap, firsts: &Sums, most: u64) -> Mark
+    requires some { 1 ≤ map.len level.now.map }
+    requires first { before_entry level.now.map firsts.now 0 ≡ 0 }
+    requires fits { (place : ℕ) → place < map.len level.now.map → before_entry level.now.map firsts.now place ≤ 4294967295 }
+    ensures { IsChosen level.now.map firsts.now most result }
+{
+    let mut low = Mark {
+        place: 0,
+        before: 0,
+    };
+    let mut high = Mark {
+        place: level.len(),
+        before: level.len().saturating_add(firsts.below(u64::MAX)),
+    };
+    let mut turn: u64 = 0;
+    'search: while high.place - low.place > 1 {
+        let place = between(low, high, most, turn);
+        let before = before_entry(level, firsts, place);
+        if before <= most {
+            low = Mark { place, before };
+        } else {
+            high = Mark { place, before };
+        }
+        turn = turn.wrapping_add(1);
+    }
+    low
+}
+
+impl Arena {
+    // The entry of a level behind which the key at a place stands, by how many keys stand behind each entry.
+    fn read_spot(&self, level: &WordMap, place: u64) -> Spot
+        requires is_arena { IsArena self.now }
+        requires counted { AreCounted self.now }
+        requires within { place < length (flat_map (entry_keys (world_of self.now)) (map.entries level.now.map)) }
+        ensures { IsSpotOf (world_of self.now) level.now.map place result }
+    {
+        let mut left = place;
+        for (piece, value) in level.iter() {
+            let keys = self.keys_at(piece, value);
+            if left < keys {
+                return Spot {
+                    piece,
+                    value,
+                    place: left,
+                };
+            }
+            left -= keys;
+        }
+        unreachable!()
+    }
+
+    // The same, of a level that tells how many keys stand behind it: where they are as many as its entries, each entry has one, and
+    // the place is the entry's own.
+    fn spot_at(&self, level: &WordMap, keys: u32, place: u64) -> Spot
+        requires is_arena { IsArena self.now }
+        requires counted { AreCounted self.now }
+        requires told { StandsWith (world_of self.now) level.now.map keys }
+        requires within { place < length (flat_map (entry_keys (world_of self.now)) (map.entries level.now.map)) }
+        ensures { IsSpotOf (world_of self.now) level.now.map place result }
+    {
+        if u64::from(keys) != level.len() {
+            return self.read_spot(level, place);
+        }
+        let Some((piece, value)) = level.array().by_count_entry(place + 1) else {
+            unreachable!()
+        };
+        Spot {
+            piece,
+            value,
+            place: 0,
+        }
+    }
+
+    // Puts what is left of the key at a place behind a child, counted from 0, behind the bytes of the buffer, and answers its value.
+    fn nth_behind(&self, child: usize, place: u64, key: &mut KeyBuf) -> Option<u64>
+        requires is_arena { IsArena self.now }
+        requires counted { AreCounted self.now }
+        requires within { place < keys_behind (world_of self.now) (suc child) }
+        requires fits { KeysFit (world_of self.now) (suc child) key.old.items }
+        ensures { IsNthBehind (world_of self.now) (suc child) place key.old.items key.new.items result }
+    {
+        let mut at = child;
+        let mut left = place;
+        'down: loop {
+            match self.children.get(at) {
+                Some(Child::Level(keys, level)) => {
+                    let spot = self.spot_at(level, *keys, left);
+                    push_piece(key, spot.piece);
+                    if spot.piece % 256 == 0 {
+                        return Some(spot.value);
+                    }
+                    at = spot.value as usize;
+                    left = spot.place;
+                }
+                Some(Child::Tail(tail)) => {
+                    key.try_extend_from_slice(tail.bytes()).ok()?;
+                    return Some(tail.value());
+                }
+                Some(Child::Free(_)) => unreachable!(),
+                None => unreachable!(),
+            }
+        }
+    }
+
+    // Puts the key at a place, counted from 0, into the buffer, and answers its value.
+    fn nth(&self, firsts: &Sums, place: u64, key: &mut KeyBuf) -> Option<u64>
+        requires is_arena { IsArena self.now }
+        requires counted { AreCounted self.now }
+        requires firsts { AreFirsts (map_of self.now) firsts.now }
+        requires few { map.len (map_of self.now) ≤ 4294967295 }
+        requires within { place < map.len (map_of self.now) }
+        ensures key { counts.nth (map_of self.now) place ≡ Some key.new.items }
+        ensures value { result ≡ map.get (map_of self.now) key.new.items }
+    {
+        let mark = chosen(&self.root, firsts, place);
+        let Some((piece, value)) = self.root.array().by_count_entry(mark.place + 1) else {
+            unreachable!()
+        };
+        key.clear();
+        push_piece(key, piece);
+        if piece % 256 == 0 {
+            return Some(value);
+        }
+        self.nth_behind(value as usize, place - mark.before, key)
+    }
+}

@@ -1,8 +1,0 @@
-use Rattle.std.proofs.Common.{ap, sym, ◌∙◌}
-use Rattle.judy_sums.specs.Pairs.{sum_of}
-use Rattle.judy_sums.specs.Chunks.{joined}
-use Rattle.judy_sums.proofs.SumsLemmas.{entries_is}
-use Rattle.judy_sums.proofs.sums.Sums.total.Goals as goal
-
-pub returns : goal.returns
-returns c = c.total_of.ensures ∙ ap (sum_of) (ap joined c.deref.ensures.value ∙ sym (entries_is c.self.inside.chunks.items c.args.self.now c.self.invariant c.self.view_is))

@@ -1,0 +1,67 @@
+//! Words that come into a list.
+
+ghost use Rattle.std.specs.Prelude.{◌≡◌, ◌<◌, ◌+◌, ◌^◌, [], length, OnOk, OnErr, None};
+ghost use Rattle.std.specs.FinMap.{find, put};
+ghost use Rattle.judy_model.specs.Keys.{word_order};
+ghost use Rattle.judy_sums.specs.Pairs.{sum_of};
+ghost use Rattle.judy_sums.specs.Chunks.{AreChunks, IsSpot, joined};
+
+use crate::changes::{insert, part};
+use crate::chunk::Chunk;
+use crate::chunks::Spot;
+use crate::entry::Entry;
+use std::alloc::AllocError;
+
+// So many entries a chunk holds at least before it is parted.
+const LONG: usize = 64;
+
+// Parts a chunk into its two halves where it is long, so that a chunk has no more than an eighth as many entries as there
+// are chunks, or than so many. The list stays; where memory is refused the chunk stays long.
+fn part_long(chunks: &mut Vec<Chunk>, at: usize)
+    requires are { AreChunks chunks.old.items }
+    requires within { at < length chunks.old.items }
+    ensures are { AreChunks chunks.new.items }
+    ensures same { joined chunks.new.items ≡ joined chunks.old.items }
+{
+    let len = chunks[at].len();
+    if len < LONG || len < chunks.len() / 8 {
+        return;
+    }
+    match part(chunks, at) {
+        Ok(()) => {}
+        Err(_) => {}
+    }
+}
+
+// The first word of a list comes in with the number 1. The error is want of memory, and the list stays
+// then.
+pub fn begin(chunks: &mut Vec<Chunk>, word: u64) -> Result<(), AllocError>
+    requires { chunks.old.items ≡ [] }
+    ensures are { AreChunks chunks.new.items }
+    ensures inserted { OnOk result (joined chunks.new.items ≡ put word_order word 1 (joined chunks.old.items)) }
+    ensures unchanged { OnErr result (joined chunks.new.items ≡ joined chunks.old.items) }
+{
+    let alloc = *chunks.allocator();
+    let chunk = Chunk::of(alloc, Entry::new(word))?;
+    chunks.push(chunk)?;
+    Ok(())
+}
+
+// A new word comes in with the number 1. The error is want of memory, and the list stays then.
+pub fn bring_in(chunks: &mut Vec<Chunk>, word: u64, spot: Spot) -> Result<(), AllocError>
+    requires are { AreChunks chunks.old.items }
+    requires place { IsSpot chunks.old.items word spot.chunk spot.at }
+    requires new { find word_order word (joined chunks.old.items) ≡ None }
+    requires few { length (joined chunks.old.items) + 1 < 2 ^ 64 }
+    requires fits { sum_of (joined chunks.old.items) + 1 < 2 ^ 64 }
+    ensures are { AreChunks chunks.new.items }
+    ensures inserted { OnOk result (joined chunks.new.items ≡ put word_order word 1 (joined chunks.old.items)) }
+    ensures unchanged { OnErr result (joined chunks.new.items ≡ joined chunks.old.items) }
+{
+    match insert(chunks, spot, Entry::new(word)) {
+        Ok(()) => {}
+        Err(error) => return Err(error),
+    }
+    part_long(chunks, spot.chunk);
+    Ok(())
+}

@@ -1,0 +1,59 @@
+//! One more and one less at a word of a list.
+
+ghost use Rattle.std.specs.Prelude.{◌≡◌, ◌<◌, ◌≤◌, ◌+◌, ◌^◌, length, OnOk, OnErr, IsSome};
+ghost use Rattle.std.specs.FinMap.{find, put};
+ghost use Rattle.judy_model.specs.Keys.{word_order};
+ghost use Rattle.judy_sums.specs.Pairs.{sum_of, number_in, put_less};
+ghost use Rattle.judy_sums.specs.Chunks.{AreChunks, StandsAt, joined};
+
+use crate::changes;
+use crate::chunk::Chunk;
+use crate::chunks::{Spot, number, spot_of, stands};
+use crate::comings::{begin, bring_in};
+use std::alloc::AllocError;
+
+// Adds one to the number of a word.
+pub fn raise(chunks: &mut Vec<Chunk>, word: u64) -> Result<(), AllocError>
+    requires are { AreChunks chunks.old.items }
+    requires few { length (joined chunks.old.items) + 1 < 2 ^ 64 }
+    requires fits { sum_of (joined chunks.old.items) + 1 < 2 ^ 64 }
+    ensures are { AreChunks chunks.new.items }
+    ensures raised { let old = joined chunks.old.items in OnOk result (joined chunks.new.items ≡ put word_order word (number_in old word + 1) old) }
+    ensures unchanged { OnErr result (joined chunks.new.items ≡ joined chunks.old.items) }
+{
+    if chunks.is_empty() {
+        return begin(chunks, word);
+    }
+    let spot = spot_of(chunks, word);
+    if stands(chunks, word, spot) {
+        changes::raise(chunks, spot);
+        return Ok(());
+    }
+    bring_in(chunks, word, spot)
+}
+
+// The place of a word that is there.
+fn spot_there(chunks: &[Chunk], word: u64) -> Spot
+    requires are { AreChunks chunks.now }
+    requires there { IsSome (find word_order word (joined chunks.now)) }
+    requires some { 1 ≤ length chunks.now }
+    ensures { StandsAt chunks.now word result.chunk result.at }
+{
+    spot_of(chunks, word)
+}
+
+// Takes one from the number of a word that is there, which is 1 or more; with its last one the word goes.
+pub fn lower(chunks: &mut Vec<Chunk>, word: u64)
+    requires are { AreChunks chunks.old.items }
+    requires there { IsSome (find word_order word (joined chunks.old.items)) }
+    requires some { 1 ≤ number_in (joined chunks.old.items) word }
+    ensures are { AreChunks chunks.new.items }
+    ensures lowered { joined chunks.new.items ≡ put_less word (joined chunks.old.items) }
+{
+    let spot = spot_there(chunks, word);
+    if number(chunks, spot) == 1 {
+        changes::remove(chunks, spot);
+    } else {
+        changes::lower(chunks, spot);
+    }
+}
