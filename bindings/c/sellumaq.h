@@ -250,12 +250,14 @@ size_t sellumaq_judysl_walk(const sellumaq_judysl *map, const uint8_t *from, siz
 uint64_t sellumaq_judysl_len(const sellumaq_judysl *map);
 
 /* How many keys there are from one string to another, both included; 0 where the first is above the second, or where a map can't hold one of
- * the two. It takes three ways down the map, however many keys it counts; in each level but the first the entries up to the key's own are read. */
+ * the two. It takes two ways down the map, however many keys it counts; in each level but the first the entries on one side of the key's own
+ * are read, on the side that has fewer. */
 uint64_t sellumaq_judysl_count(const sellumaq_judysl *map, const uint8_t *from, size_t from_length, const uint8_t *to, size_t to_length);
 
 /* The n-th key, counted from 1, told as those of the scans are: SELLUMAQ_FOUND, and the key is in the first `*length` bytes of the buffer,
  * whatever was there before. Else nothing is written: SELLUMAQ_NONE for 0 and above the number of keys, SELLUMAQ_TOO_SMALL where it doesn't fit.
- * It takes one way down the map, and no walk. */
+ * It takes one way down the map; in each level but the first the entries up to the key's own are read, from the end that is nearer by the
+ * keys between. */
 uint32_t sellumaq_judysl_by_count(const sellumaq_judysl *map, uint64_t n, uint8_t *buffer, size_t capacity, size_t *length, uint64_t *value);
 
 /* Gives all memory back, and answers how many keys there were. The handle is the empty array then. */

@@ -42,6 +42,16 @@ const COPIES: [(usize, &[u64]); 5] = [
     (65_535, &[7, 7]),
 ];
 
+// Tags that a block is given one after another.
+const TAGS: [u32; 5] = [1, 0xFFFF, 0x1_0000, 0, u32::MAX];
+
+// Where 9 is written by a slot in the words 1 to 3, what stood there, and the words then.
+const SLOTS: [(usize, u64, [u64; 3]); 3] = [
+    (0, 1, [9, 2, 3]),
+    (1, 2, [1, 9, 3]),
+    (2, 3, [1, 2, 9]),
+];
+
 // The calls with a condition, which is tested first.
 fn new_block(rt: &impl Abort, alloc: Global, capacity: usize) -> Result<Block, AllocError> {
     assert!(rt; 1 <= capacity && capacity <= 65_535);
@@ -194,7 +204,7 @@ fn a_copy_has_the_words_and_the_tag(rt: HostRuntime) -> Result<(), AllocError> {
 #[test]
 fn the_tag_stands_by_itself(rt: HostRuntime) -> Result<(), AllocError> {
     let mut block = block_of(&rt, rt.alloc(), 65_535, &[5, 6])?;
-    for &tag in &[1, 0xFFFF, 0x1_0000, 0, u32::MAX] {
+    for &tag in &TAGS {
         block.set_tag(tag);
         expect(&rt, &block, &[5, 6], 65_535, tag, 0, tag as usize);
     }
@@ -207,14 +217,17 @@ fn the_tag_stands_by_itself(rt: HostRuntime) -> Result<(), AllocError> {
 
 fn put_by_slot(rt: &impl Abort, block: &mut Block, place: usize, before: u64) {
     assert!(rt; place < block.len());
-    let slot = block.slot(place);
+    write_over(rt, block.slot(place), before, place);
+}
+
+fn write_over(rt: &impl Abort, slot: &mut u64, before: u64, place: usize) {
     assert_eq!(rt; *slot, before, "at {place}");
     *slot = 9;
 }
 
 #[test]
 fn a_slot_is_one_word(rt: HostRuntime) -> Result<(), AllocError> {
-    for &(place, before, words) in &[(0, 1, [9, 2, 3]), (1, 2, [1, 9, 3]), (2, 3, [1, 2, 9])] {
+    for &(place, before, words) in &SLOTS {
         let mut block = block_of(&rt, rt.alloc(), 4, &[1, 2, 3])?;
         put_by_slot(&rt, &mut block, place, before);
         expect(&rt, &block, &words, 4, 0, place, 1);

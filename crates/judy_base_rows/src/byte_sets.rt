@@ -97,25 +97,56 @@ fn number(answer: Option<u8>) -> usize {
     }
 }
 
-// The same five of a set.
-fn bits_answers(set: &Bits256, byte: u8) -> [usize; 5] {
-    [
-        set.has(byte) as usize,
-        set.rank(byte),
-        set.place(byte).unwrap_or(NONE),
-        number(set.next_from(byte)),
-        number(set.prev_from(byte)),
-    ]
+// A set of bytes, as the tests fill it and ask it.
+trait Bytes {
+    // Adds a byte.
+    fn include(&mut self, byte: u8);
+
+    // The same five as of the plain list.
+    fn answers(&self, byte: u8) -> [usize; 5];
+
+    // The member at a place.
+    fn member_at(&self, place: usize) -> usize;
 }
 
-fn set_answers(set: &ByteSet, byte: u8) -> [usize; 5] {
-    [
-        set.place(byte).is_some() as usize,
-        set.rank(byte),
-        set.place(byte).unwrap_or(NONE),
-        number(set.next_from(byte)),
-        number(set.prev_from(byte)),
-    ]
+impl Bytes for Bits256 {
+    fn include(&mut self, byte: u8) {
+        self.add(byte);
+    }
+
+    fn answers(&self, byte: u8) -> [usize; 5] {
+        [
+            self.has(byte) as usize,
+            self.rank(byte),
+            self.place(byte).unwrap_or(NONE),
+            number(self.next_from(byte)),
+            number(self.prev_from(byte)),
+        ]
+    }
+
+    fn member_at(&self, place: usize) -> usize {
+        number(self.nth(place))
+    }
+}
+
+impl Bytes for ByteSet {
+    fn include(&mut self, byte: u8) {
+        self.add(byte);
+    }
+
+    fn answers(&self, byte: u8) -> [usize; 5] {
+        [
+            self.place(byte).is_some() as usize,
+            self.rank(byte),
+            self.place(byte).unwrap_or(NONE),
+            number(self.next_from(byte)),
+            number(self.prev_from(byte)),
+        ]
+    }
+
+    fn member_at(&self, place: usize) -> usize {
+        number(self.nth(place))
+    }
 }
 
 fn expect_answers(
@@ -136,26 +167,31 @@ fn expect_nth(rt: &impl Abort, answer: usize, plain: &[bool; 256], place: usize,
     assert_eq!(rt; answer, plain_nth(plain, place), "place {place} of {count}");
 }
 
-fn bits_of(plain: &[bool; 256]) -> Bits256 {
-    let mut set = Bits256::new();
+// Adds the bytes of a plain list.
+fn include_all<S: Bytes>(set: &mut S, plain: &[bool; 256]) {
     for byte in 0..=255u8 {
         if plain[byte as usize] {
-            set.add(byte);
+            set.include(byte);
         }
     }
-    set
 }
 
-fn expect_bits(rt: &impl Abort, set: &Bits256, plain: &[bool; 256], count: usize) {
+// Compares what a set answers of each byte.
+fn expect_bytes<S: Bytes>(rt: &impl Abort, set: &S, plain: &[bool; 256], count: usize) {
     for byte in 0..=255u8 {
-        expect_answers(rt, bits_answers(set, byte), plain, byte, count);
+        expect_answers(rt, set.answers(byte), plain, byte, count);
     }
 }
 
-fn expect_bits_places(rt: &impl Abort, set: &Bits256, plain: &[bool; 256], count: usize) {
+// Compares the members at all places, and that there is none behind them.
+fn expect_places<S: Bytes>(rt: &impl Abort, set: &S, plain: &[bool; 256], count: usize) {
     for place in 0..257 {
-        expect_nth(rt, number(set.nth(place)), plain, place, count);
+        expect_nth(rt, set.member_at(place), plain, place, count);
     }
+}
+
+fn expect_len(rt: &impl Abort, len: usize, wanted: usize, count: usize) {
+    assert_eq!(rt; len, wanted, "of {count}");
 }
 
 fn take(rt: &impl Abort, set: &mut Bits256, byte: u8, count: usize) {
@@ -173,12 +209,13 @@ fn take_all(rt: &impl Abort, set: &mut Bits256, plain: &[bool; 256], count: usiz
 
 fn expect_bits_of(rt: &impl Abort, count: usize) {
     let plain = spread(count);
-    let mut set = bits_of(&plain);
-    assert_eq!(rt; set.len(), count);
-    expect_bits(rt, &set, &plain, count);
-    expect_bits_places(rt, &set, &plain, count);
+    let mut set = Bits256::new();
+    include_all(&mut set, &plain);
+    expect_len(rt, set.len(), count, count);
+    expect_bytes(rt, &set, &plain, count);
+    expect_places(rt, &set, &plain, count);
     take_all(rt, &mut set, &plain, count);
-    assert_eq!(rt; set.len(), 0, "of {count}");
+    expect_len(rt, set.len(), 0, count);
 }
 
 #[test]
@@ -188,30 +225,8 @@ fn bits_as_a_plain_list(rt: HostRuntime) {
     }
 }
 
-fn set_of(plain: &[bool; 256]) -> ByteSet {
-    let mut set = ByteSet::new();
-    for byte in 0..=255u8 {
-        if plain[byte as usize] {
-            set.add(byte);
-        }
-    }
-    set
-}
-
-fn expect_set(rt: &impl Abort, set: &ByteSet, plain: &[bool; 256], count: usize) {
-    for byte in 0..=255u8 {
-        expect_answers(rt, set_answers(set, byte), plain, byte, count);
-    }
-}
-
-fn expect_set_places(rt: &impl Abort, set: &ByteSet, plain: &[bool; 256], count: usize) {
-    for place in 0..257 {
-        expect_nth(rt, number(set.nth(place)), plain, place, count);
-    }
-}
-
 fn expect_size(rt: &impl Abort, set: &ByteSet, count: usize, form: Form) {
-    assert_eq!(rt; set.len(), count);
+    expect_len(rt, set.len(), count, count);
     assert_eq!(rt; set.form(), form, "of {count}");
 }
 
@@ -219,10 +234,11 @@ fn expect_size(rt: &impl Abort, set: &ByteSet, count: usize, form: Form) {
 fn set_as_a_plain_list(rt: HostRuntime) {
     for &(count, form) in &FORMS {
         let plain = spread(count);
-        let set = set_of(&plain);
+        let mut set = ByteSet::new();
+        include_all(&mut set, &plain);
         expect_size(&rt, &set, count, form);
-        expect_set(&rt, &set, &plain, count);
-        expect_set_places(&rt, &set, &plain, count);
+        expect_bytes(&rt, &set, &plain, count);
+        expect_places(&rt, &set, &plain, count);
     }
 }
 

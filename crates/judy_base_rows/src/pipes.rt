@@ -32,6 +32,26 @@ fn read(rt: &impl Abort, source: &mut impl Source, size: usize, got: &mut ArrayV
     true
 }
 
+// Compares an answer with the one wanted.
+fn same_answer(rt: &impl Abort, found: bool, wanted: bool) {
+    assert_eq!(rt; found, wanted);
+}
+
+// The same of a number of bytes.
+fn same_size(rt: &impl Abort, found: usize, wanted: usize) {
+    assert_eq!(rt; found, wanted);
+}
+
+// The same of bytes.
+fn same_bytes(rt: &impl Abort, found: &[u8], wanted: &[u8]) {
+    assert_eq!(rt; found, wanted);
+}
+
+// The same of a number of failures.
+fn same_failures(rt: &impl Abort, found: u64, wanted: u64) {
+    assert_eq!(rt; found, wanted);
+}
+
 // The text's first bytes were moved, so many, and with no failure it came to its end.
 fn expect_moved(
     rt: &impl Abort,
@@ -42,10 +62,15 @@ fn expect_moved(
     failures: u64,
     case: &impl Debug,
 ) {
+    expect_first(rt, moved, count, case);
+    let ending = (failed, has_ended);
+    assert_eq!(rt; ending, (failures, failures == 0), "{case:?}");
+}
+
+// The text's first bytes were moved, so many.
+fn expect_first(rt: &impl Abort, moved: &[u8], count: usize, case: &impl Debug) {
     assert!(rt; count <= 6);
     assert_eq!(rt; moved, &TEXT[..count], "{case:?}");
-    assert_eq!(rt; failed, failures, "{case:?}");
-    assert_eq!(rt; has_ended, failures == 0, "{case:?}");
 }
 
 // Writes the text by pieces of at most `most` bytes, and says what the sink holds and counts then.
@@ -201,11 +226,11 @@ fn a_buffer_tries_again(rt: HostRuntime) {
         6,
         SinkTrouble::Interrupts { at: 2, times: 1000 },
     ));
-    assert!(rt; write(&rt, &mut sink, &TEXT));
-    assert!(rt; !flush(&rt, &mut sink));
-    assert!(rt; flush(&rt, &mut sink));
-    assert_eq!(rt; sink.failures(), 1);
-    assert_eq!(rt; sink.into_inner().bytes(), TEXT.as_slice());
+    same_answer(&rt, write(&rt, &mut sink, &TEXT), true);
+    same_answer(&rt, flush(&rt, &mut sink), false);
+    same_answer(&rt, flush(&rt, &mut sink), true);
+    same_failures(&rt, sink.failures(), 1);
+    same_bytes(&rt, sink.into_inner().bytes(), &TEXT);
 }
 
 fn read_by_sizes(rt: &impl Abort, source: &mut impl Source, got: &mut ArrayVec<u8, 6>) {
@@ -246,9 +271,9 @@ fn a_buffer_meets_trouble_before_it(rt: HostRuntime) {
 #[test]
 fn full_sink_fails(rt: HostRuntime) {
     let mut sink = MemSink::<4>::new(3, SinkTrouble::Never);
-    assert!(rt; !write(&rt, &mut sink, &TEXT));
-    assert_eq!(rt; sink.bytes(), b"abcd".as_slice());
-    assert_eq!(rt; sink.failures(), 1);
+    same_answer(&rt, write(&rt, &mut sink, &TEXT), false);
+    same_bytes(&rt, sink.bytes(), b"abcd");
+    same_failures(&rt, sink.failures(), 1);
 }
 
 // How many bytes a write of one piece took; another number where it stopped.
@@ -260,27 +285,27 @@ fn write_once(rt: &impl Abort, sink: &mut impl Sink, piece: &[u8]) -> usize {
 #[test]
 fn nothing_of_an_empty_piece_is_no_failure(rt: HostRuntime) {
     let mut sink = MemSink::<4>::new(3, SinkTrouble::TakesNothing { at: 0 });
-    assert_eq!(rt; write_once(&rt, &mut sink, b""), 0);
-    assert_eq!(rt; sink.failures(), 0);
-    assert_eq!(rt; write_once(&rt, &mut sink, b"a"), 0);
-    assert_eq!(rt; sink.failures(), 1);
+    same_size(&rt, write_once(&rt, &mut sink, b""), 0);
+    same_failures(&rt, sink.failures(), 0);
+    same_size(&rt, write_once(&rt, &mut sink, b"a"), 0);
+    same_failures(&rt, sink.failures(), 1);
 }
 
 #[test]
 fn interruptions_are_counted_anew_after_a_failure(rt: HostRuntime) {
     let mut sink = MemSink::<6>::new(6, SinkTrouble::Interrupts { at: 2, times: 1999 });
-    assert!(rt; !write(&rt, &mut sink, &TEXT));
-    assert_eq!(rt; sink.bytes(), b"ab".as_slice());
-    assert!(rt; write(&rt, &mut sink, b"cd"));
-    assert_eq!(rt; sink.bytes(), b"abcd".as_slice());
-    assert_eq!(rt; sink.failures(), 1);
+    same_answer(&rt, write(&rt, &mut sink, &TEXT), false);
+    same_bytes(&rt, sink.bytes(), b"ab");
+    same_answer(&rt, write(&rt, &mut sink, b"cd"), true);
+    same_bytes(&rt, sink.bytes(), b"abcd");
+    same_failures(&rt, sink.failures(), 1);
 }
 
 fn expect_end(rt: &impl Abort, source: &mut MemSource) {
     assert!(rt; source.failures() < u64::MAX);
     let mut room = [0; 4];
-    assert_eq!(rt; source.read(&mut room).unwrap_or(usize::MAX), 0);
-    assert!(rt; source.has_ended());
+    same_size(rt, source.read(&mut room).unwrap_or(usize::MAX), 0);
+    same_answer(rt, source.has_ended(), true);
 }
 
 #[test]

@@ -42,7 +42,8 @@ pub(crate) fn fewer_ones(count: usize) -> u64
 /// so that its own becomes the highest.
 pub(crate) fn ones_below_one(word: u64, place: u8) -> Option<u32>
     requires { place < 64 }
-    ensures { result ≡ (if bit_at word place == 1 then Some (count_ones (word % 2 ^ place)) else None) }
+    ensures { result
+        ≡ (if bit_at word place == 1 then Some (count_ones (word % 2 ^ place)) else None) }
 {
     let up_to = word << (63 - place);
     if up_to >> 63 == 0 {

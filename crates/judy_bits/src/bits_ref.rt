@@ -30,7 +30,11 @@ impl<'a> Model for BitsRef<'a> {
 // How many bits of the words before one of four are 1.
 fn ones_before(words: &[u64], word: usize) -> u32
     requires four { length words.now ≡ 4 }
-    ensures counted { result ≡ (if nat_lt 0 word then count_ones (slice_index words.now 0 % 2 ^ 64) else 0) + (if nat_lt 1 word then count_ones (slice_index words.now 1 % 2 ^ 64) else 0) + (if nat_lt 2 word then count_ones (slice_index words.now 2 % 2 ^ 64) else 0) }
+    ensures counted { result
+        ≡ (if nat_lt 0 word then count_ones
+        (slice_index words.now 0 % 2 ^ 64) else 0) + (if nat_lt 1 word then count_ones
+        (slice_index words.now 1 % 2 ^ 64) else 0) + (if nat_lt 2 word then count_ones
+        (slice_index words.now 2 % 2 ^ 64) else 0) }
     ensures within { result ≤ 192 }
 {
     count_where(word > 0, words[0])

@@ -3,10 +3,14 @@ pub mod WordHandles
 pub mod HeldMemory
 pub mod HeldFacts
 pub mod Recast
+pub mod HandleCasts
 pub mod StringHandles
 pub mod ScanFacts
 pub mod HandsOut
+pub mod NearestSlots
+pub mod KeySlots
 pub mod AnswersInsert
+pub mod KeyInserts
 pub mod SortedAnswers
 pub mod PairLemmas
 pub mod PageLemmas

@@ -11,9 +11,6 @@ pub fitting_none : (bytes count : ℕ) → fitting bytes count [] ≡ []
 fitting_none bytes zero = refl
 fitting_none bytes (suc count) = refl
 
-pub fitting_full : (bytes count : ℕ) (rest : Pairs) → count ≡ 0 → fitting bytes count rest ≡ []
-fitting_full bytes count rest is = ap (λ n. fitting bytes n rest) is
-
 pub fitting_long : (bytes count : ℕ) (pair : List ℕ × ℕ) (rest : Pairs) → nat_le (length pair.0) bytes ≡ false → fitting bytes count (pair ∷ rest) ≡ []
 fitting_long bytes zero pair rest long = refl
 fitting_long bytes (suc count) pair rest long = rw long refl

@@ -1,4 +1,5 @@
 pub mod Owned
+pub mod HandleLends
 pub mod HeldLends
 pub mod NullArrays
 pub mod AsHeld
@@ -10,6 +11,7 @@ pub mod StringMaps
 pub mod Answers
 pub mod KeyInserts
 pub mod KeyScans
+pub mod KeySlots
 pub mod StringSlots
 pub mod ByteMaps
 pub mod ByteSlots

@@ -38,7 +38,8 @@ pub(crate) enum Refusal {
 
 // Answers an insert by its number, and hands the slot out where there is one.
 pub(crate) fn answer_insert<'a>(made: Result<&'a mut u64, Refusal>, slot: &mut &'a mut u64) -> u32
-    ensures { (answered result slot.new ≡ Some made.entry) × IsHanded (Some made.entry) slot.old slot.new }
+    ensures { (answered result slot.new ≡ Some made.entry)
+        × IsHanded (Some made.entry) slot.old slot.new }
 {
     match made {
         Ok(word) => {

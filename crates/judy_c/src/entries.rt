@@ -7,6 +7,7 @@ ghost use Rattle.judy_model.specs.Neighbours as neighbours;
 ghost use Rattle.judy_c.specs.Maps.{map_of, value_beside};
 ghost use Rattle.judy_c.specs.Told.{IsTold};
 
+use crate::handles::Handle;
 use crate::map::Map;
 use crate::told::tell_entry;
 use judy_word::JudyL;
@@ -22,7 +23,9 @@ pub extern "C" fn sellumaq_judyl_first_entry(
     value: &mut u64,
 ) -> bool
     ensures key { IsTold (neighbours.first (map_of handle.old) from) result key.old key.new }
-    ensures value { IsTold (value_beside (map_of handle.old) (neighbours.first (map_of handle.old) from)) result value.old value.new }
+    ensures value { IsTold
+        (value_beside (map_of handle.old) (neighbours.first (map_of handle.old) from)) result
+        value.old value.new }
     ensures same { handle.new ≡ handle.old }
 {
     match handle.array() {
@@ -41,7 +44,9 @@ pub extern "C" fn sellumaq_judyl_next_entry(
     value: &mut u64,
 ) -> bool
     ensures key { IsTold (neighbours.next (map_of handle.old) from) result key.old key.new }
-    ensures value { IsTold (value_beside (map_of handle.old) (neighbours.next (map_of handle.old) from)) result value.old value.new }
+    ensures value { IsTold
+        (value_beside (map_of handle.old) (neighbours.next (map_of handle.old) from)) result
+        value.old value.new }
     ensures same { handle.new ≡ handle.old }
 {
     match handle.array() {
@@ -60,7 +65,9 @@ pub extern "C" fn sellumaq_judyl_last_entry(
     value: &mut u64,
 ) -> bool
     ensures key { IsTold (neighbours.last (map_of handle.old) from) result key.old key.new }
-    ensures value { IsTold (value_beside (map_of handle.old) (neighbours.last (map_of handle.old) from)) result value.old value.new }
+    ensures value { IsTold
+        (value_beside (map_of handle.old) (neighbours.last (map_of handle.old) from)) result
+        value.old value.new }
     ensures same { handle.new ≡ handle.old }
 {
     tell_entry(
@@ -80,7 +87,9 @@ pub extern "C" fn sellumaq_judyl_prev_entry(
     value: &mut u64,
 ) -> bool
     ensures key { IsTold (neighbours.prev (map_of handle.old) from) result key.old key.new }
-    ensures value { IsTold (value_beside (map_of handle.old) (neighbours.prev (map_of handle.old) from)) result value.old value.new }
+    ensures value { IsTold
+        (value_beside (map_of handle.old) (neighbours.prev (map_of handle.old) from)) result
+        value.old value.new }
     ensures same { handle.new ≡ handle.old }
 {
     tell_entry(

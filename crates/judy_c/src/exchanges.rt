@@ -7,6 +7,7 @@ ghost use Rattle.judy_c.specs.Maps.{map_of};
 ghost use Rattle.judy_c.specs.Puts.{IsStored};
 ghost use Rattle.judy_c.specs.Told.{IsTold};
 
+use crate::handles::Handle;
 use crate::map::Map;
 use crate::told::tell;
 use std::alloc::Global;

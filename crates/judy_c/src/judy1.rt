@@ -14,6 +14,7 @@ ghost use Rattle.judy_c.specs.Maps.{set_of};
 ghost use Rattle.judy_c.specs.Puts.{IsPut};
 ghost use Rattle.judy_c.specs.Told.{IsTold};
 
+use crate::handles::Handle;
 use crate::set::Set;
 use crate::told::tell;
 use judy_word::Judy1;

@@ -17,6 +17,7 @@ ghost use Rattle.std.specs.Borrow.{sem};
 
 use crate::answers::answer_insert;
 use crate::bytes::Bytes;
+use crate::handles::Handle;
 use crate::told::{hand_out, tell};
 use std::alloc::Global;
 
@@ -58,7 +59,8 @@ pub extern "C" fn sellumaq_judyhs_slot<'a>(
     slot: &mut &'a mut u64,
 ) -> bool
     ensures* writes_back { sem 𝓛 (LendsSlotOf handle.entry key.now (lent_where result slot.new)) }
-    ensures value { option_copied_mut (lent_where result slot.new) ≡ map.get (array_in handle.old).map key.now }
+    ensures value { option_copied_mut (lent_where result slot.new)
+        ≡ map.get (array_in handle.old).map key.now }
     ensures told { IsTold (lent_where result slot.new) result slot.old slot.new }
 {
     hand_out(handle.slot(key), slot)
@@ -68,7 +70,8 @@ pub extern "C" fn sellumaq_judyhs_slot<'a>(
 #[unsafe(no_mangle)]
 pub extern "C" fn sellumaq_judyhs_del(alloc: Global, handle: &mut Bytes, key: &[u8]) -> bool
     ensures answer { result ≡ map.contains_key (array_in handle.old).map key.now }
-    ensures deleted { array_in handle.new ≡ array.with_map (array_in handle.old) (array.del (array_in handle.old).map key.now) }
+    ensures deleted { array_in handle.new
+        ≡ array.with_map (array_in handle.old) (array.del (array_in handle.old).map key.now) }
 {
     match handle.array() {
         Some(array) => array.del(key),

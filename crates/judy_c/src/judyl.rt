@@ -17,6 +17,7 @@ ghost use Rattle.judy_c.specs.Told.{IsTold, lent_where};
 ghost use Rattle.std.specs.Borrow.{sem};
 ghost use Rattle.std.specs.Option.{option_copied_mut};
 
+use crate::handles::Handle;
 use crate::map::Map;
 use crate::told::{hand_out, tell};
 use judy_word::JudyL;
@@ -75,7 +76,8 @@ pub extern "C" fn sellumaq_judyl_slot<'a>(
     slot: &mut &'a mut u64,
 ) -> bool
     ensures* writes_back { sem 𝓛 (LendsSlotOf handle.entry key (lent_where result slot.new)) }
-    ensures value { option_copied_mut (lent_where result slot.new) ≡ map.get (map_of handle.old) key }
+    ensures value { option_copied_mut (lent_where result slot.new)
+        ≡ map.get (map_of handle.old) key }
     ensures told { IsTold (lent_where result slot.new) result slot.old slot.new }
 {
     hand_out(handle.slot(key), slot)

@@ -23,6 +23,7 @@ ghost use Rattle.judy_c.specs.Told.{IsTold, lent_where};
 ghost use Rattle.std.specs.Borrow.{sem};
 
 use crate::answers::answer_insert;
+use crate::handles::Handle;
 use crate::scans::Scan;
 use crate::strings::Strings;
 use crate::told::{hand_out, tell};
@@ -66,7 +67,8 @@ pub extern "C" fn sellumaq_judysl_slot<'a>(
     slot: &mut &'a mut u64,
 ) -> bool
     ensures* writes_back { sem 𝓛 (LendsSlotOf handle.entry key.now (lent_where result slot.new)) }
-    ensures value { option_copied_mut (lent_where result slot.new) ≡ map.get (array_in handle.old).map key.now }
+    ensures value { option_copied_mut (lent_where result slot.new)
+        ≡ map.get (array_in handle.old).map key.now }
     ensures told { IsTold (lent_where result slot.new) result slot.old slot.new }
 {
     hand_out(handle.slot(key), slot)
@@ -76,7 +78,8 @@ pub extern "C" fn sellumaq_judysl_slot<'a>(
 #[unsafe(no_mangle)]
 pub extern "C" fn sellumaq_judysl_del(alloc: Global, handle: &mut Strings, key: &[u8]) -> bool
     ensures answer { result ≡ map.contains_key (array_in handle.old).map key.now }
-    ensures deleted { array_in handle.new ≡ array.with_map (array_in handle.old) (array.del (array_in handle.old).map key.now) }
+    ensures deleted { array_in handle.new
+        ≡ array.with_map (array_in handle.old) (array.del (array_in handle.old).map key.now) }
 {
     match handle.array() {
         Some(array) => array.del(key),
@@ -92,7 +95,10 @@ pub extern "C" fn sellumaq_judysl_first(
     count: &mut usize,
     value: &mut u64,
 ) -> u32
-    ensures told { IsSaid (scan_says (array_in handle.old).map (neighbours.first (array_in handle.old).map) (record { buffer = buffer.old; count = count.old; value = value.old }) (record { buffer = buffer.new; count = count.new; value = value.new })) result }
+    ensures told { IsSaid
+        (scan_says (array_in handle.old).map (neighbours.first (array_in handle.old).map)
+        (record { buffer = buffer.old; count = count.old; value = value.old })
+        (record { buffer = buffer.new; count = count.new; value = value.new })) result }
     ensures same { handle.new ≡ handle.old }
 {
     Scan::First.tell(handle, buffer, count, value)
@@ -106,7 +112,10 @@ pub extern "C" fn sellumaq_judysl_next(
     count: &mut usize,
     value: &mut u64,
 ) -> u32
-    ensures told { IsSaid (scan_says (array_in handle.old).map (neighbours.next (array_in handle.old).map) (record { buffer = buffer.old; count = count.old; value = value.old }) (record { buffer = buffer.new; count = count.new; value = value.new })) result }
+    ensures told { IsSaid
+        (scan_says (array_in handle.old).map (neighbours.next (array_in handle.old).map)
+        (record { buffer = buffer.old; count = count.old; value = value.old })
+        (record { buffer = buffer.new; count = count.new; value = value.new })) result }
     ensures same { handle.new ≡ handle.old }
 {
     Scan::Next.tell(handle, buffer, count, value)
@@ -120,7 +129,10 @@ pub extern "C" fn sellumaq_judysl_last(
     count: &mut usize,
     value: &mut u64,
 ) -> u32
-    ensures told { IsSaid (scan_says (array_in handle.old).map (neighbours.last (array_in handle.old).map) (record { buffer = buffer.old; count = count.old; value = value.old }) (record { buffer = buffer.new; count = count.new; value = value.new })) result }
+    ensures told { IsSaid
+        (scan_says (array_in handle.old).map (neighbours.last (array_in handle.old).map)
+        (record { buffer = buffer.old; count = count.old; value = value.old })
+        (record { buffer = buffer.new; count = count.new; value = value.new })) result }
     ensures same { handle.new ≡ handle.old }
 {
     Scan::Last.tell(handle, buffer, count, value)
@@ -134,7 +146,10 @@ pub extern "C" fn sellumaq_judysl_prev(
     count: &mut usize,
     value: &mut u64,
 ) -> u32
-    ensures told { IsSaid (scan_says (array_in handle.old).map (neighbours.prev (array_in handle.old).map) (record { buffer = buffer.old; count = count.old; value = value.old }) (record { buffer = buffer.new; count = count.new; value = value.new })) result }
+    ensures told { IsSaid
+        (scan_says (array_in handle.old).map (neighbours.prev (array_in handle.old).map)
+        (record { buffer = buffer.old; count = count.old; value = value.old })
+        (record { buffer = buffer.new; count = count.new; value = value.new })) result }
     ensures same { handle.new ≡ handle.old }
 {
     Scan::Prev.tell(handle, buffer, count, value)

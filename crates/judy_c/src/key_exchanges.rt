@@ -27,7 +27,8 @@ pub extern "C" fn sellumaq_judysl_put(
     key: &[u8],
     value: u64,
 ) -> u32
-    ensures { IsPut IsStringKey (strings.array_in handle.old) key.now value result (strings.array_in handle.new) }
+    ensures { IsPut IsStringKey (strings.array_in handle.old) key.now value result
+        (strings.array_in handle.new) }
 {
     let mut was = 0;
     sellumaq_judysl_insert(alloc, handle, key, value, &mut was)
@@ -42,8 +43,10 @@ pub extern "C" fn sellumaq_judysl_insert(
     value: u64,
     was: &mut u64,
 ) -> u32
-    ensures stored { IsPut IsStringKey (strings.array_in handle.old) key.now value result (strings.array_in handle.new) }
-    ensures told { IsToldOld (map.get (strings.array_in handle.old).map key.now) result was.old was.new }
+    ensures stored { IsPut IsStringKey (strings.array_in handle.old) key.now value result
+        (strings.array_in handle.new) }
+    ensures told { IsToldOld
+        (map.get (strings.array_in handle.old).map key.now) result was.old was.new }
 {
     answer_store(handle.insert(alloc, key, value), was)
 }
@@ -56,8 +59,11 @@ pub extern "C" fn sellumaq_judysl_remove(
     key: &[u8],
     was: &mut u64,
 ) -> bool
-    ensures told { IsTold (map.get (strings.array_in handle.old).map key.now) result was.old was.new }
-    ensures deleted { strings.array_in handle.new ≡ array.with_map (strings.array_in handle.old) (array.del (strings.array_in handle.old).map key.now) }
+    ensures told { IsTold
+        (map.get (strings.array_in handle.old).map key.now) result was.old was.new }
+    ensures deleted { strings.array_in handle.new
+        ≡ array.with_map (strings.array_in handle.old)
+        (array.del (strings.array_in handle.old).map key.now) }
 {
     let found = sellumaq_judysl_get(alloc, handle, key, was);
     if found {
@@ -74,7 +80,8 @@ pub extern "C" fn sellumaq_judyhs_put(
     key: &[u8],
     value: u64,
 ) -> u32
-    ensures { IsPut IsShort (bytes.array_in handle.old) key.now value result (bytes.array_in handle.new) }
+    ensures { IsPut IsShort (bytes.array_in handle.old) key.now value result
+        (bytes.array_in handle.new) }
 {
     let mut was = 0;
     sellumaq_judyhs_insert(alloc, handle, key, value, &mut was)
@@ -89,8 +96,10 @@ pub extern "C" fn sellumaq_judyhs_insert(
     value: u64,
     was: &mut u64,
 ) -> u32
-    ensures stored { IsPut IsShort (bytes.array_in handle.old) key.now value result (bytes.array_in handle.new) }
-    ensures told { IsToldOld (map.get (bytes.array_in handle.old).map key.now) result was.old was.new }
+    ensures stored { IsPut IsShort (bytes.array_in handle.old) key.now value result
+        (bytes.array_in handle.new) }
+    ensures told { IsToldOld
+        (map.get (bytes.array_in handle.old).map key.now) result was.old was.new }
 {
     answer_store(handle.insert(alloc, key, value), was)
 }
@@ -104,7 +113,9 @@ pub extern "C" fn sellumaq_judyhs_remove(
     was: &mut u64,
 ) -> bool
     ensures told { IsTold (map.get (bytes.array_in handle.old).map key.now) result was.old was.new }
-    ensures deleted { bytes.array_in handle.new ≡ array.with_map (bytes.array_in handle.old) (array.del (bytes.array_in handle.old).map key.now) }
+    ensures deleted { bytes.array_in handle.new
+        ≡ array.with_map (bytes.array_in handle.old)
+        (array.del (bytes.array_in handle.old).map key.now) }
 {
     let found = sellumaq_judyhs_get(alloc, handle, key, was);
     if found {

@@ -12,6 +12,7 @@ ghost use Rattle.judy_c.specs.StringMaps as strings;
 mod fill;
 
 use crate::bytes::Bytes;
+use crate::handles::Handle;
 use crate::strings::Strings;
 use fill::{fill_behind, fill_strings};
 use judy_sl::is_key;
@@ -34,8 +35,11 @@ pub extern "C" fn sellumaq_judysl_walk(
     bytes: &mut [u8],
     entries: &mut [KeyEntry],
 ) -> usize
-    ensures filled { IsStringKey from.now → IsFilled (pairs_from (strings.array_in handle.old).map from.now itself) (page_of bytes.old entries.old) result (page_of bytes.new entries.new) }
-    ensures refused { (IsStringKey from.now → ⊥) → IsFilled [] (page_of bytes.old entries.old) result (page_of bytes.new entries.new) }
+    ensures filled { IsStringKey from.now
+        → IsFilled (pairs_from (strings.array_in handle.old).map from.now itself)
+        (page_of bytes.old entries.old) result (page_of bytes.new entries.new) }
+    ensures refused { (IsStringKey from.now → ⊥)
+        → IsFilled [] (page_of bytes.old entries.old) result (page_of bytes.new entries.new) }
     ensures same { handle.new ≡ handle.old }
 {
     if !is_key(from) {
@@ -58,8 +62,12 @@ pub extern "C" fn sellumaq_judyhs_walk(
     entries: &mut [KeyEntry],
     count: &mut usize,
 ) -> bool
-    ensures filled { IsTrue result → IsFilled (pairs_behind (hashed.array_in handle.old).map behind) (page_of bytes.old entries.old) count.new (page_of bytes.new entries.new) }
-    ensures refused { IsFalse result → (page_of bytes.new entries.new ≡ page_of bytes.old entries.old) × (count.new ≡ count.old) }
+    ensures filled { IsTrue result
+        → IsFilled (pairs_behind (hashed.array_in handle.old).map behind)
+        (page_of bytes.old entries.old) count.new (page_of bytes.new entries.new) }
+    ensures refused { IsFalse result
+        → (page_of bytes.new entries.new ≡ page_of bytes.old entries.old)
+        × (count.new ≡ count.old) }
     ensures same { handle.new ≡ handle.old }
 {
     let Some(array) = handle.array() else {

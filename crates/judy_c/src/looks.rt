@@ -5,6 +5,7 @@ ghost use Rattle.judy_c.specs.Looks.{found_in, found_of, there_in};
 ghost use Rattle.judy_c.specs.Maps.{map_of, set_of};
 ghost use Rattle.judy_c.specs.Walks.{IsFilled};
 
+use crate::handles::Handle;
 use crate::map::Map;
 use crate::set::Set;
 use judy_word::{Judy1, JudyL};

@@ -25,7 +25,9 @@ pub extern "C" fn sellumaq_judyl_first_slot<'a>(
 ) -> bool
     ensures* writes_back { sem 𝓛 (LendsSlotOf handle.entry key.new (lent_where result slot.new)) }
     ensures key { key.new ≡ unwrap_or (neighbours.first (map_of handle.old) from) key.old }
-    ensures value { option_copied_mut (lent_where result slot.new) ≡ option_and_then (map.get (map_of handle.old)) (neighbours.first (map_of handle.old) from) }
+    ensures value { option_copied_mut (lent_where result slot.new)
+        ≡ option_and_then (map.get (map_of handle.old))
+        (neighbours.first (map_of handle.old) from) }
     ensures told { IsTold (lent_where result slot.new) result slot.old slot.new }
 {
     hand_out(handle.first_slot(from, key), slot)
@@ -41,7 +43,8 @@ pub extern "C" fn sellumaq_judyl_next_slot<'a>(
 ) -> bool
     ensures* writes_back { sem 𝓛 (LendsSlotOf handle.entry key.new (lent_where result slot.new)) }
     ensures key { key.new ≡ unwrap_or (neighbours.next (map_of handle.old) from) key.old }
-    ensures value { option_copied_mut (lent_where result slot.new) ≡ option_and_then (map.get (map_of handle.old)) (neighbours.next (map_of handle.old) from) }
+    ensures value { option_copied_mut (lent_where result slot.new)
+        ≡ option_and_then (map.get (map_of handle.old)) (neighbours.next (map_of handle.old) from) }
     ensures told { IsTold (lent_where result slot.new) result slot.old slot.new }
 {
     hand_out(handle.next_slot(from, key), slot)
@@ -57,7 +60,8 @@ pub extern "C" fn sellumaq_judyl_last_slot<'a>(
 ) -> bool
     ensures* writes_back { sem 𝓛 (LendsSlotOf handle.entry key.new (lent_where result slot.new)) }
     ensures key { key.new ≡ unwrap_or (neighbours.last (map_of handle.old) from) key.old }
-    ensures value { option_copied_mut (lent_where result slot.new) ≡ option_and_then (map.get (map_of handle.old)) (neighbours.last (map_of handle.old) from) }
+    ensures value { option_copied_mut (lent_where result slot.new)
+        ≡ option_and_then (map.get (map_of handle.old)) (neighbours.last (map_of handle.old) from) }
     ensures told { IsTold (lent_where result slot.new) result slot.old slot.new }
 {
     hand_out(handle.last_slot(from, key), slot)
@@ -73,7 +77,8 @@ pub extern "C" fn sellumaq_judyl_prev_slot<'a>(
 ) -> bool
     ensures* writes_back { sem 𝓛 (LendsSlotOf handle.entry key.new (lent_where result slot.new)) }
     ensures key { key.new ≡ unwrap_or (neighbours.prev (map_of handle.old) from) key.old }
-    ensures value { option_copied_mut (lent_where result slot.new) ≡ option_and_then (map.get (map_of handle.old)) (neighbours.prev (map_of handle.old) from) }
+    ensures value { option_copied_mut (lent_where result slot.new)
+        ≡ option_and_then (map.get (map_of handle.old)) (neighbours.prev (map_of handle.old) from) }
     ensures told { IsTold (lent_where result slot.new) result slot.old slot.new }
 {
     hand_out(handle.prev_slot(from, key), slot)
@@ -89,7 +94,8 @@ pub extern "C" fn sellumaq_judyl_by_count_slot<'a>(
 ) -> bool
     ensures* writes_back { sem 𝓛 (LendsSlotOf handle.entry key.new (lent_where result slot.new)) }
     ensures key { key.new ≡ unwrap_or (counts.by_count (map_of handle.old) n) key.old }
-    ensures value { option_copied_mut (lent_where result slot.new) ≡ option_and_then (map.get (map_of handle.old)) (counts.by_count (map_of handle.old) n) }
+    ensures value { option_copied_mut (lent_where result slot.new)
+        ≡ option_and_then (map.get (map_of handle.old)) (counts.by_count (map_of handle.old) n) }
     ensures told { IsTold (lent_where result slot.new) result slot.old slot.new }
 {
     hand_out(handle.by_count_slot(n, key), slot)

@@ -8,6 +8,7 @@ ghost use Rattle.judy_c.specs.KeyScans.{neighbour, scan_says, entry_says};
 ghost use Rattle.judy_c.specs.StringMaps.{array_in};
 
 use crate::answers::{BAD_KEY, FOUND, NONE, TOO_SMALL};
+use crate::handles::Handle;
 use crate::strings::Strings;
 use judy_sl::{JudySl, KeyBuf, is_key};
 
@@ -29,7 +30,10 @@ impl Scan {
         count: &mut usize,
         value: &mut u64,
     ) -> u32
-        ensures told { IsSaid (scan_says (array_in handle.old).map (neighbour self (array_in handle.old).map) (record { buffer = buffer.old; count = count.old; value = value.old }) (record { buffer = buffer.new; count = count.new; value = value.new })) result }
+        ensures told { IsSaid
+            (scan_says (array_in handle.old).map (neighbour self (array_in handle.old).map)
+            (record { buffer = buffer.old; count = count.old; value = value.old })
+            (record { buffer = buffer.new; count = count.new; value = value.new })) result }
         ensures same { handle.new ≡ handle.old }
     {
         let mut key = KeyBuf::new();
@@ -48,8 +52,10 @@ impl Scan {
     // The value of the key that is looked for, which is then in the buffer.
     fn find(self, array: &JudySl, key: &mut KeyBuf) -> Option<u64>
         requires { All (λ byte. byte ≢ 0) key.old.items }
-        ensures key { key.new.items ≡ unwrap_or (neighbour self array.now.map key.old.items) key.old.items }
-        ensures value { result ≡ value_found array.now.map (neighbour self array.now.map key.old.items) }
+        ensures key { key.new.items
+            ≡ unwrap_or (neighbour self array.now.map key.old.items) key.old.items }
+        ensures value { result
+            ≡ value_found array.now.map (neighbour self array.now.map key.old.items) }
     {
         match self {
             Scan::First => array.first(key),
@@ -63,7 +69,8 @@ impl Scan {
 // Copies the string of so many bytes at the beginning of a buffer, where there is one that a scan may begin at.
 fn read_start(buffer: &[u8], count: usize, key: &mut KeyBuf) -> bool
     requires { key.old.items ≡ [] }
-    ensures is { IsTrue result ↔ ((count ≤ length buffer.now) × IsStringKey (take count buffer.now)) }
+    ensures is { IsTrue result
+        ↔ ((count ≤ length buffer.now) × IsStringKey (take count buffer.now)) }
     ensures read { IsTrue result → key.new.items ≡ take count buffer.now }
 {
     let Some(string) = buffer.get(..count) else {
@@ -80,7 +87,10 @@ pub(crate) fn tell_entry(
     count: &mut usize,
     value: &mut u64,
 ) -> u32
-    ensures { IsSaid (entry_says found key.now (record { buffer = buffer.old; count = count.old; value = value.old }) (record { buffer = buffer.new; count = count.new; value = value.new })) result }
+    ensures { IsSaid
+        (entry_says found key.now
+        (record { buffer = buffer.old; count = count.old; value = value.old })
+        (record { buffer = buffer.new; count = count.new; value = value.new })) result }
 {
     let Some(word) = found else {
         return NONE;

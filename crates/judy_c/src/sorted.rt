@@ -7,6 +7,7 @@ ghost use Rattle.judy_c.specs.Maps.{map_of, set_of};
 ghost use Rattle.judy_c.specs.Sorted.{IsRefused, IsReplaced, entries_of, keys_in, most_keys};
 
 use crate::answers::{BAD_KEY, FULL, NO_MEMORY};
+use crate::handles::Handle;
 use crate::loose::Loose;
 use crate::map::Map;
 use crate::set::Set;
@@ -38,7 +39,8 @@ pub extern "C" fn sellumaq_judy1_from_sorted(
     keys: &[u64],
     place: &mut usize,
 ) -> u32
-    ensures { IsReplaced keys.now (finmap.keys (set_of handle.new) ≡ keys.now) (handle.new ≡ handle.old) place.old result place.new }
+    ensures { IsReplaced keys.now (finmap.keys (set_of handle.new) ≡ keys.now)
+        (handle.new ≡ handle.old) place.old result place.new }
 {
     match set_of_sorted(alloc, keys) {
         Ok(array) => {
@@ -58,7 +60,9 @@ pub extern "C" fn sellumaq_judyl_from_sorted(
     pairs: &[Pair],
     place: &mut usize,
 ) -> u32
-    ensures { IsReplaced (keys_in pairs.now) (finmap.entries (map_of handle.new) ≡ entries_of pairs.now) (handle.new ≡ handle.old) place.old result place.new }
+    ensures { IsReplaced (keys_in pairs.now)
+        (finmap.entries (map_of handle.new) ≡ entries_of pairs.now)
+        (handle.new ≡ handle.old) place.old result place.new }
 {
     match map_of_sorted(alloc, pairs) {
         Ok(array) => {

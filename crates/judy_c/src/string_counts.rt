@@ -9,6 +9,7 @@ ghost use Rattle.judy_c.specs.KeyScans.{told_says};
 ghost use Rattle.judy_c.specs.StringMaps.{array_in};
 
 use crate::arrays::Array;
+use crate::handles::Handle;
 use crate::scans::tell_entry;
 use crate::strings::Strings;
 use judy_sl::{JudySl, KeyBuf, is_key};
@@ -23,7 +24,8 @@ pub extern "C" fn sellumaq_judysl_count(
     from: &[u8],
     to: &[u8],
 ) -> u64
-    ensures count { IsStringKey from.now → IsStringKey to.now → result ≡ counts.count (array_in handle.old).map from.now to.now }
+    ensures count { IsStringKey from.now → IsStringKey to.now
+        → result ≡ counts.count (array_in handle.old).map from.now to.now }
     ensures refused { (IsStringKey from.now × IsStringKey to.now → ⊥) → result ≡ 0 }
     ensures same { handle.new ≡ handle.old }
 {
@@ -44,7 +46,10 @@ pub extern "C" fn sellumaq_judysl_by_count(
     count: &mut usize,
     value: &mut u64,
 ) -> u32
-    ensures told { IsSaid (told_says (array_in handle.old).map (counts.by_count (array_in handle.old).map n) (record { buffer = buffer.old; count = count.old; value = value.old }) (record { buffer = buffer.new; count = count.new; value = value.new })) result }
+    ensures told { IsSaid
+        (told_says (array_in handle.old).map (counts.by_count (array_in handle.old).map n)
+        (record { buffer = buffer.old; count = count.old; value = value.old })
+        (record { buffer = buffer.new; count = count.new; value = value.new })) result }
     ensures same { handle.new ≡ handle.old }
 {
     let mut key = KeyBuf::new();
@@ -54,8 +59,10 @@ pub extern "C" fn sellumaq_judysl_by_count(
 
 // The value of the n-th key, which is then in the buffer; where there is none, the buffer stays.
 fn nth_entry(alloc: Global, handle: &mut Strings, n: u64, key: &mut KeyBuf) -> Option<u64>
-    ensures key { key.new.items ≡ unwrap_or (counts.by_count (array_in handle.old).map n) key.old.items }
-    ensures value { result ≡ value_found (array_in handle.old).map (counts.by_count (array_in handle.old).map n) }
+    ensures key { key.new.items
+        ≡ unwrap_or (counts.by_count (array_in handle.old).map n) key.old.items }
+    ensures value { result
+        ≡ value_found (array_in handle.old).map (counts.by_count (array_in handle.old).map n) }
     ensures same { handle.new ≡ handle.old }
 {
     match handle.array() {

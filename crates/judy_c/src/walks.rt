@@ -7,6 +7,7 @@ ghost use Rattle.std.specs.Prelude.{◌≡◌};
 ghost use Rattle.judy_c.specs.Maps.{map_of, set_of};
 ghost use Rattle.judy_c.specs.Walks.{IsFilled, keys_from, pairs_from};
 
+use crate::handles::Handle;
 use crate::map::Map;
 use crate::set::Set;
 use judy_word::{FromPair, Judy1, JudyL};

@@ -4,7 +4,7 @@ use Rattle.std.proofs.Math.Nat.{div-div-eq-div-mul, mul_comm}
 use Rattle.std.proofs.Math.Arith.{mod-mul}
 use Rattle.std.specs.List.{insert}
 use Rattle.std.proofs.lemmas.Nat.{pow-add, div-add-mod', mod_below, same_from_place}
-use Rattle.std.proofs.lemmas.List.{take-append-drop, take_all, take_at, drop_all, length-take-le}
+use Rattle.std.proofs.lemmas.List.{take-append-drop, take_all, drop_all, length-take-le}
 use Rattle.judy_model.specs.WordBytes.{number_of}
 use Rattle.judy_model.specs.Forms.{branch, loose_in}
 use Rattle.judy_model.specs.Shapes.{AllBelow}
@@ -16,13 +16,12 @@ use Rattle.judy_node.specs.Steps.{IsKeyOf}
 use Rattle.judy_node.specs.Built.{IsBuilt}
 use Rattle.judy_node.proofs.Maps.{children-length, shift-append}
 use Rattle.judy_node.proofs.Shaped.{tight-parts}
-use Rattle.judy_node.proofs.Counts.{there}
 use Rattle.judy_node.proofs.MadeFacts.{low_pairs_same}
 use Rattle.judy_node.proofs.Groups.{AllMiddle, length-low_pairs, low_pairs-shared, map-front, map-down, children-push, join-push, forms-push}
 use Rattle.judy_change.specs.Appended.{AllBegin, first_key, IsAppended, IsLonger}
 use Rattle.judy_change.proofs.ChildSets.{child-gap, children-with, loose-with}
 use Rattle.judy_change.proofs.BranchInserts.{grown_tight, cut, set_is, old_pairs, new_pairs, child_fewer}
-use Rattle.judy_change.proofs.KidInserts.{kid_within}
+use Rattle.judy_change.proofs.KidInserts.{IsKid, kid_there}
 
 -- ---- keys that begin alike
 
@@ -240,18 +239,14 @@ module _ (words width : ℕ) (skipped bytes : List ℕ) (kids : List Tree) (coun
 
 -- ---- the last child, found by the place of its byte
 
-module _ (words width : ℕ) (skipped bytes : List ℕ) (kids : List Tree) (count : ℕ) (is : IsBranch words width skipped bytes kids count) (byte at : ℕ) (kid : Tree) (here : slice_get bytes at ≡ Some byte)
-    (kid_is : kid ≡ get_or kids at kid) where
-  kid_there : slice_get kids at ≡ Some kid
-  kid_there = there kids at kid (kid_within words width skipped bytes kids count is byte 0 (unit_pos width) at kid here kid_is) kid_is
-
+module _ {words width : ℕ} {skipped bytes : List ℕ} {kids : List Tree} {count byte rest at : ℕ} {kid : Tree} (it : IsKid words width skipped bytes kids count byte rest at kid) where
   pub kid_fewer : length kid.pairs ≤ count
-  kid_fewer = child_fewer words width skipped bytes kids count is byte 0 (unit_pos width) at kid here kid_there
+  kid_fewer = child_fewer words width skipped bytes kids count it.is byte rest it.fits at kid it.here (kid_there it)
 
   module _ (pairs : Pairs) (head_is : first_key pairs / 256 ^ width % 256 ^ (length skipped + 1) ≡ number_of skipped * 256 + byte) (last : length kids ≤ at + 1) (n : ℕ) (new : Tree) (put : IsLonger width n pairs kid new)
       (child : IsChild words width new) where
     pub kid_level : IsBranch words width skipped bytes (set kids at new) (count + n)
-    kid_level = last_level words width skipped bytes kids count is byte pairs head_is n put.within put.alike at kid here kid_there last new put child
+    kid_level = last_level words width skipped bytes kids count it.is byte pairs head_is n put.within put.alike at kid it.here (kid_there it) last new put child
 
     pub kid_longer : n ≢ 0 → IsLonger (length skipped + 1 + width) n pairs (branch_tree width skipped bytes kids count) (branch_tree width skipped bytes (set kids at new) (count + n))
-    kid_longer some = last_longer words width skipped bytes kids count is byte pairs head_is n put.within put.alike at kid here kid_there last new put child some
+    kid_longer some = last_longer words width skipped bytes kids count it.is byte pairs head_is n put.within put.alike at kid it.here (kid_there it) last new put child some

@@ -11,6 +11,7 @@ use Rattle.judy_bits.specs.ByteSets as sets
 use Rattle.judy_bits.proofs.SetLemmas.{without_at}
 use Rattle.judy_leaf.specs.KeyLists.{shift}
 use Rattle.judy_node.specs.Trees.{Tree, IsMap, join, forms_in, IsChild, AreChildren, branch_pairs, IsBranch, branch_tree}
+use Rattle.judy_node.specs.Branches.{IsWholeBranch, tree_below}
 use Rattle.judy_node.specs.Steps.{IsKeyOf, IsStep}
 use Rattle.judy_node.specs.declared.child.BranchOf.{BranchOf}
 use Rattle.judy_node.specs.declared.step.Step.{Step}
@@ -19,7 +20,7 @@ use Rattle.judy_node.proofs.Maps.{join-map, children-length}
 use Rattle.judy_node.proofs.Counts.{there}
 use Rattle.judy_node.proofs.StepFacts.{children-IsByteSet}
 use Rattle.judy_node.proofs.Shaped.{branch-map, tight-parts, branch_needed}
-use Rattle.judy_change.specs.Removals.{value_in, without, Has33, IsGone, IsSettled, pairs_below, loose_below, tree_below, width_of, IsWhole, IsGoneBelow, IsSame}
+use Rattle.judy_change.specs.Removals.{value_in, without, Has33, IsGone, IsSettled, pairs_below, loose_below, width_of, IsGoneBelow, IsSame}
 use Rattle.judy_change.proofs.Without.{value-below, value-above, value-front, value-fits, length-without}
 use Rattle.judy_change.proofs.KidChanges.{children-set, children-drop, child-at, loose-at, loose-set, loose-drop, value-join, join-without, join-drop, none_before, part_before, part-map}
 use Rattle.judy_change.proofs.LeafFacts.{one_pair}
@@ -70,7 +71,7 @@ is_false true is = cc
 is_false false is = refl
 
 -- Where a step goes to no child, the key isn't there.
-pub step-absent : {V : _} (words key : ℕ) (old : BranchOf V) (step : Step) → IsWhole words old → IsStep (256 ^ old.width) (number_of old.skip * 256) old.bytes key step
+pub step-absent : {V : _} (words key : ℕ) (old : BranchOf V) (step : Step) → IsWholeBranch words old → IsStep (256 ^ old.width) (number_of old.skip * 256) old.bytes key step
     → ((byte place rest : ℕ) → step ≡ Child byte place rest → ⊥) → value_in (pairs_below old) key ≡ None
 step-absent words key old (Child byte place rest) whole is other = absurd (other byte place rest refl)
 step-absent words key old (Missing byte place rest) whole is other =
@@ -89,7 +90,7 @@ step-absent words key old Above whole is other =
 
 -- ---- a key of a child
 
-module _ {V : _} (words key byte place rest : ℕ) (old : BranchOf V) (kid : Tree) (whole : IsWhole words old) (at : IsKeyOf (256 ^ old.width) (number_of old.skip * 256) key byte rest)
+module _ {V : _} (words key byte place rest : ℕ) (old : BranchOf V) (kid : Tree) (whole : IsWholeBranch words old) (at : IsKeyOf (256 ^ old.width) (number_of old.skip * 256) key byte rest)
     (byte_there : slice_get old.bytes place ≡ Some byte) (kid_is : kid ≡ get_or old.children.items place kid) where
   pub inside : place < length old.children.items
   inside =
@@ -223,7 +224,7 @@ and_true : (one other : Bool) → (one && other) ≡ true → (one ≡ true) × 
 and_true true other is = (refl, is)
 and_true false other is = absurd (true≢false (sym is))
 
-gone_at : {V : _} (words key : ℕ) (old mid : BranchOf V) (value : ℕ) (shrunk settled : Bool) (new : Tree) → IsWhole words old → IsGoneBelow words key old mid value shrunk
+gone_at : {V : _} (words key : ℕ) (old mid : BranchOf V) (value : ℕ) (shrunk settled : Bool) (new : Tree) → IsWholeBranch words old → IsGoneBelow words key old mid value shrunk
     → IsSettled words (width_of old) (pairs_below mid) (loose_below mid) new settled → IsGone words (width_of old) key (tree_below old) new value (shrunk && settled)
 gone_at words key old mid value shrunk settled new whole below is =
     let map = branch-map words old.width old.skip old.bytes old.children.items old.population whole.parts in
@@ -250,7 +251,7 @@ gone_at words key old mid value shrunk settled new whole below is =
           (or_false shrunk settled kept);
     }
 
-pub branch_gone : {V : _} (words width key : ℕ) (old mid : BranchOf V) (value : ℕ) (shrunk settled both : Bool) (new : Tree) → IsWhole words old → width_of old ≡ width → IsGoneBelow words key old mid value shrunk
+pub branch_gone : {V : _} (words width key : ℕ) (old mid : BranchOf V) (value : ℕ) (shrunk settled both : Bool) (new : Tree) → IsWholeBranch words old → width_of old ≡ width → IsGoneBelow words key old mid value shrunk
     → IsSettled words width (pairs_below mid) (loose_below mid) new settled → both ≡ (shrunk && settled) → IsGone words width key (tree_below old) new value both
 branch_gone words width key old mid value shrunk settled both new whole wide below is flag =
     subst (λ w. IsGone words w key (tree_below old) new value both) wide
@@ -258,7 +259,7 @@ branch_gone words width key old mid value shrunk settled both new whole wide bel
     (gone_at words key old mid value shrunk settled new whole below (subst (λ w. IsSettled words w (pairs_below mid) (loose_below mid) new settled) (sym wide) is)))
 
 -- Two keys are left at least of three.
-pub two_left : {V : _} (words key : ℕ) (old mid : BranchOf V) (value : ℕ) (shrunk : Bool) → IsWhole words old → IsGoneBelow words key old mid value shrunk → mid.population + 1 ≡ old.population
+pub two_left : {V : _} (words key : ℕ) (old mid : BranchOf V) (value : ℕ) (shrunk : Bool) → IsWholeBranch words old → IsGoneBelow words key old mid value shrunk → mid.population + 1 ≡ old.population
 two_left words key old mid value shrunk whole below =
     let map = branch-map words old.width old.skip old.bytes old.children.items old.population whole.parts in
     let fewer = length-without words 0 (256 ^ width_of old) key value (pairs_below old) map below.found in
@@ -268,7 +269,7 @@ two_left words key old mid value shrunk whole below =
     omega arith
 
 -- A branch whose children are what they were.
-pub same_tree : {V : _} (words : ℕ) (old : BranchOf V) (place : ℕ) (left : Tree) → IsWhole words old → set old.children.items place left ≡ old.children.items
+pub same_tree : {V : _} (words : ℕ) (old : BranchOf V) (place : ℕ) (left : Tree) → IsWholeBranch words old → set old.children.items place left ≡ old.children.items
     → IsSame words old (record old { children = with_item old.children place left })
 same_tree words old place left whole same = record {
   branch = branch_is words old.width old.width old.skip old.skip old.bytes old.bytes old.children.items (set old.children.items place left) old.population old.population refl refl refl (sym same) refl whole;

@@ -1,5 +1,5 @@
 -- A key that is given another value: in a node without children, and below a branch.
-use Rattle.std.proofs.Common.{◌≡◌, ℕ, zero, suc, ◌+◌, ◌*◌, ◌^◌, ◌<◌, ◌≤◌, ◌||◌, Bool, true, false, cond, eqb, List, [], ◌∷◌, length, set, get_or, Some, None, slice_get, Option, Result, Ok, Err, refl, sym, ap, ◌∙◌, subst, ⊎_elim, arith}
+use Rattle.std.proofs.Common.{◌≡◌, ℕ, zero, suc, ◌+◌, ◌*◌, ◌^◌, ◌<◌, ◌≤◌, ◌||◌, Bool, true, false, cond, eqb, List, [], ◌∷◌, length, set, get_or, Some, None, Option, Result, Ok, Err, refl, sym, ap, ◌∙◌, subst, ⊎_elim, arith}
 use Rattle.std.proofs.lemmas.Bool.{cases_order, ne_eqb}
 use Rattle.judy_model.specs.WordBytes.{number_of}
 use Rattle.judy_model.specs.Forms.{branch}
@@ -22,7 +22,7 @@ use Rattle.judy_node.proofs.SlotFacts.{written-length, join-value, join-written,
 use Rattle.judy_change.specs.Inserted.{has_key, IsAdded, IsInserted}
 use Rattle.judy_change.specs.Exchanged.{IsExchanged}
 use Rattle.judy_change.specs.Removals.{IsChildless}
-use Rattle.judy_change.proofs.KidInserts.{kid_within}
+use Rattle.judy_change.proofs.KidInserts.{IsKid, kid_within}
 use Rattle.judy_change.proofs.PairPlaces.{length-with_pair}
 
 -- An insert of an absent key adds it.
@@ -95,25 +95,24 @@ childless_same words (Branch old) (Branch b) same is = is
 
 -- ---- branches
 
-module _ (words width : ℕ) (skipped bytes : List ℕ) (kids : List Tree) (count : ℕ) (is : IsBranch words width skipped bytes kids count) (byte rest : ℕ) (fits : rest < 256 ^ width) (at : ℕ) (kid : Tree)
-    (here : slice_get bytes at ≡ Some byte) (kid_is : kid ≡ get_or kids at kid) where
+module _ {words width : ℕ} {skipped bytes : List ℕ} {kids : List Tree} {count byte rest at : ℕ} {kid : Tree} (it : IsKid words width skipped bytes kids count byte rest at kid) where
   abbrev whole_key : ℕ
   whole_key = (number_of skipped * 256 + byte) * 256 ^ width + rest
 
   -- The value of the key is the child's.
   pub kid_value : value_of whole_key (branch_pairs width skipped bytes kids) ≡ value_of rest kid.pairs
   kid_value =
-      join-value words width 0 (number_of skipped * 256) at byte rest bytes kids kid is.parts.children here fits
-      ∙ ap (λ (k : Tree). value_of rest k.pairs) (sym kid_is)
+      join-value words width 0 (number_of skipped * 256) at byte rest bytes kids kid it.is.parts.children it.here it.fits
+      ∙ ap (λ (k : Tree). value_of rest k.pairs) (sym it.kid_is)
 
   module _ (one : words ≡ 1) (value : ℕ) (new : Tree) (same : new ≡ with_value kid rest value) where
     now_set : set kids at new ≡ set kids at (with_value (get_or kids at kid) rest value)
-    now_set = ap (set kids at) (same ∙ ap (λ (k : Tree). with_value k rest value) kid_is)
+    now_set = ap (set kids at) (same ∙ ap (λ (k : Tree). with_value k rest value) it.kid_is)
 
     now_pairs : branch_pairs width skipped bytes (set kids at new) ≡ (with_value (branch_tree width skipped bytes kids count) whole_key value).pairs
     now_pairs =
         ap (join (256 ^ width) (number_of skipped * 256) bytes) now_set
-        ∙ join-written words width 0 (number_of skipped * 256) at byte rest value bytes kids kid is.parts.children here fits
+        ∙ join-written words width 0 (number_of skipped * 256) at byte rest value bytes kids kid it.is.parts.children it.here it.fits
 
     now_forms : forms_in (set kids at new) ≡ forms_in kids
     now_forms = ap forms_in now_set ∙ forms-written at rest value kids kid
@@ -126,16 +125,16 @@ module _ (words width : ℕ) (skipped bytes : List ℕ) (kids : List Tree) (coun
     kid_over_branch =
         record {
           parts = record {
-            some_width = is.parts.some_width;
-            within = is.parts.within;
-            skipped_bytes = is.parts.skipped_bytes;
-            children = subst (AreChildren words width 0 bytes) (sym now_set) (children-written words width 0 at rest value bytes kids kid one is.parts.children);
-            counted = is.parts.counted ∙ sym (ap length now_pairs ∙ written-length whole_key value (branch_pairs width skipped bytes kids));
+            some_width = it.is.parts.some_width;
+            within = it.is.parts.within;
+            skipped_bytes = it.is.parts.skipped_bytes;
+            children = subst (AreChildren words width 0 bytes) (sym now_set) (children-written words width 0 at rest value bytes kids kid one it.is.parts.children);
+            counted = it.is.parts.counted ∙ sym (ap length now_pairs ∙ written-length whole_key value (branch_pairs width skipped bytes kids));
           };
-          holds = is.holds;
+          holds = it.is.holds;
         }
 
     pub kid_over_sums : (sums : Sums) → AreSums sums kids → AreSums sums (set kids at new)
     kid_over_sums sums =
-        sums-same sums kids at new kid (kid_within words width skipped bytes kids count is byte rest fits at kid here kid_is)
-        (ap (λ (k : Tree). length k.pairs) same ∙ written-length rest value kid.pairs ∙ ap (λ (k : Tree). length k.pairs) kid_is)
+        sums-same sums kids at new kid (kid_within it)
+        (ap (λ (k : Tree). length k.pairs) same ∙ written-length rest value kid.pairs ∙ ap (λ (k : Tree). length k.pairs) it.kid_is)

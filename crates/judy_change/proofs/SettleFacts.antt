@@ -10,6 +10,7 @@ use Rattle.judy_model.specs.Shapes.{AllBelow}
 use Rattle.judy_model.proofs.FormLemmas.{loose_in-append, branch_tight, tight-head, immediate_limit_small}
 use Rattle.judy_leaf.specs.KeyLists.{keys_of, low_pairs, shift}
 use Rattle.judy_node.specs.Trees.{Pairs, Tree, IsTight, IsMap, forms_in, IsChild, branch_pairs, IsBranch, branch_tree}
+use Rattle.judy_node.specs.Branches.{tree_below}
 use Rattle.judy_node.specs.Kinds.{tree_of, IsLevel, IsDeep, skip_more, behind}
 use Rattle.judy_node.specs.Built.{IsBuilt}
 use Rattle.judy_node.specs.declared.child.KindOf.{KindOf}
@@ -19,7 +20,7 @@ use Rattle.judy_node.proofs.Shaped.{branch-child, branch-map}
 use Rattle.judy_node.proofs.KindFacts.{level-child}
 use Rattle.judy_node.proofs.Leaves.{leaf_long, imm_length, imm_some}
 use Rattle.judy_node.proofs.MadeFacts.{low_pairs_same}
-use Rattle.judy_change.specs.Removals.{IsTightOf, IsSettled, IsNeeded, loose_under, width_of, tree_below}
+use Rattle.judy_change.specs.Removals.{IsTightOf, IsSettled, IsNeeded, loose_under, width_of}
 
 -- ---- few keys
 

@@ -5,7 +5,8 @@ use Rattle.judy_model.specs.Shapes.{immediate_limit}
 use Rattle.judy_model.specs.Ways.{alike}
 use Rattle.judy_leaf.specs.KeyLists.{keys_of}
 use Rattle.judy_leaf.specs.BitLeaves.{bit_list}
-use Rattle.judy_node.specs.Trees.{Pairs, Tree, IsTight, IsChild, IsBranch, branch_tree, branch_pairs, forms_in}
+use Rattle.judy_node.specs.Trees.{Pairs, Tree, IsTight, IsChild, branch_pairs, forms_in}
+use Rattle.judy_node.specs.Branches.{IsWholeBranch, tree_below}
 use Rattle.judy_node.specs.declared.child.BranchOf.{BranchOf}
 use Rattle.judy_node.specs.declared.child.KindOf.{KindOf}
 use Rattle.judy_node.specs.declared.child.KindOf.TheVariants.{Imm, Leaf, Bit, Branch}
@@ -82,10 +83,6 @@ pub record IsSettled (words width : ℕ) (pairs : Pairs) (loose : ℕ) (new : Tr
 abbrev pub pairs_below : {V : _} → BranchOf V → Pairs
 pairs_below branch = branch_pairs branch.width branch.skip branch.bytes branch.children.items
 
--- A branch as a tree.
-abbrev pub tree_below : {V : _} → BranchOf V → Tree
-tree_below branch = branch_tree branch.width branch.skip branch.bytes branch.children.items branch.population
-
 -- How many nodes below a branch are loose.
 abbrev pub loose_below : {V : _} → BranchOf V → ℕ
 loose_below branch = loose_in (forms_in branch.children.items)
@@ -94,22 +91,18 @@ loose_below branch = loose_in (forms_in branch.children.items)
 abbrev pub width_of : {V : _} → BranchOf V → ℕ
 width_of branch = length branch.skip + 1 + branch.width
 
--- What every branch keeps.
-abbrev pub IsWhole : {V : _} → ℕ → BranchOf V → Type 0
-IsWhole words branch = IsBranch words branch.width branch.skip branch.bytes branch.children.items branch.population
-
 -- A branch below which a key is gone. It may be loose itself.
 pub record IsGoneBelow {V : _} (words key : ℕ) (old new : BranchOf V) (value : ℕ) (shrunk : Bool) : Type 0 where
   pub found : value_in (pairs_below old) key ≡ Some value
   pub gone : pairs_below new ≡ without key (pairs_below old)
-  pub branch : IsWhole words new
+  pub branch : IsWholeBranch words new
   pub width : width_of new ≡ width_of old
   pub tight : loose_below old ≡ 0 → shrunk ≡ true → loose_below new ≡ 0
   pub short : loose_below old ≡ 0 → shrunk ≡ false → Has33 (width_of old) (pairs_below old) key
 
 -- A branch that is the same tree as before.
 pub record IsSame {V : _} (words : ℕ) (old new : BranchOf V) : Type 0 where
-  pub branch : IsWhole words new
+  pub branch : IsWholeBranch words new
   pub tree : tree_below new ≡ tree_below old
 
 -- What becomes of a branch.

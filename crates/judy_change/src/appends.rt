@@ -3,7 +3,8 @@
 ghost use Rattle.std.specs.Prelude.{◌≡◌, ◌+◌, ◌*◌, ◌/◌, ◌%◌, ◌^◌, ◌<◌, ◌≤◌, false, length, take, Some, slice_get};
 ghost use Rattle.judy_model.specs.WordBytes.{number_of};
 ghost use Rattle.judy_bits.specs.ByteSets as set;
-ghost use Rattle.judy_node.specs.Trees.{IsMap, IsChild, IsBranch, branch_tree};
+ghost use Rattle.judy_node.specs.Trees.{IsMap, IsChild};
+ghost use Rattle.judy_node.specs.Branches.{IsWholeBranch, tree_below};
 ghost use Rattle.judy_node.specs.Populations.{AreSums};
 ghost use Rattle.judy_node.specs.Kinds.{tree_of, IsLevel};
 ghost use Rattle.judy_node.specs.Roots.{root_tree, IsRoot};
@@ -101,7 +102,8 @@ fn append_to_kind<V: Words + Drop>(
     requires room { length (tree_of V.WORDS kind.old).pairs + length pairs.now < 2 ^ 64 }
     ensures level { IsLevel V.WORDS kind.new }
     ensures child { IsChild V.WORDS width (tree_of V.WORDS kind.new) }
-    ensures longer { IsLonger width result pairs.now (tree_of V.WORDS kind.old) (tree_of V.WORDS kind.new) }
+    ensures longer { IsLonger width result pairs.now (tree_of V.WORDS kind.old)
+        (tree_of V.WORDS kind.new) }
 {
     match kind {
         KindOf::Branch(branch) => match branch.step(key) {
@@ -127,21 +129,23 @@ fn append_to_child<V: Words + Drop>(
     pairs: &[(u64, u64)],
 ) -> usize
     requires one { V.WORDS ≤ 1 }
-    requires level { IsBranch V.WORDS branch.old.width branch.old.skip branch.old.bytes branch.old.children.items branch.old.population }
+    requires level { IsWholeBranch V.WORDS branch.old }
     requires sums { AreSums branch.old.sums branch.old.children.items }
     requires here { slice_get branch.old.bytes place ≡ Some byte }
     requires some { 0 < length pairs.now }
-    requires head { first_key pairs.now / 256 ^ branch.old.width % 256 ^ (length branch.old.skip + 1) ≡ number_of branch.old.skip * 256 + byte }
+    requires head { first_key
+        pairs.now / 256 ^ branch.old.width % 256 ^ (length branch.old.skip + 1)
+        ≡ number_of branch.old.skip * 256 + byte }
     requires key { rest ≡ first_key pairs.now % 256 ^ branch.old.width }
     requires map { IsMap V.WORDS 0 (256 ^ 8) pairs.now }
     requires room { branch.old.population + length pairs.now < 2 ^ 64 }
-    ensures level { IsBranch V.WORDS branch.new.width branch.new.skip branch.new.bytes branch.new.children.items branch.new.population }
+    ensures level { IsWholeBranch V.WORDS branch.new }
     ensures sums { AreSums branch.new.sums branch.new.children.items }
     ensures skip { branch.new.skip ≡ branch.old.skip }
     ensures width { branch.new.width ≡ branch.old.width }
     ensures longer { IsLonger (length branch.old.skip + 1 + branch.old.width) result pairs.now
-        (branch_tree branch.old.width branch.old.skip branch.old.bytes branch.old.children.items branch.old.population)
-        (branch_tree branch.new.width branch.new.skip branch.new.bytes branch.new.children.items branch.new.population) }
+        (tree_below branch.old)
+        (tree_below branch.new) }
 {
     if place + 1 < branch.children.len() {
         return 0;
@@ -170,21 +174,23 @@ fn append_child<V: Words + Drop>(
     pairs: &[(u64, u64)],
 ) -> usize
     requires one { V.WORDS ≤ 1 }
-    requires level { IsBranch V.WORDS branch.old.width branch.old.skip branch.old.bytes branch.old.children.items branch.old.population }
+    requires level { IsWholeBranch V.WORDS branch.old }
     requires sums { AreSums branch.old.sums branch.old.children.items }
     requires absent { set.has branch.old.bytes byte ≡ false }
     requires place { place ≡ set.rank branch.old.bytes byte }
     requires some { 0 < length pairs.now }
-    requires head { first_key pairs.now / 256 ^ branch.old.width % 256 ^ (length branch.old.skip + 1) ≡ number_of branch.old.skip * 256 + byte }
+    requires head { first_key
+        pairs.now / 256 ^ branch.old.width % 256 ^ (length branch.old.skip + 1)
+        ≡ number_of branch.old.skip * 256 + byte }
     requires map { IsMap V.WORDS 0 (256 ^ 8) pairs.now }
     requires room { branch.old.population + length pairs.now < 2 ^ 64 }
-    ensures level { IsBranch V.WORDS branch.new.width branch.new.skip branch.new.bytes branch.new.children.items branch.new.population }
+    ensures level { IsWholeBranch V.WORDS branch.new }
     ensures sums { AreSums branch.new.sums branch.new.children.items }
     ensures skip { branch.new.skip ≡ branch.old.skip }
     ensures width { branch.new.width ≡ branch.old.width }
     ensures longer { IsLonger (length branch.old.skip + 1 + branch.old.width) result pairs.now
-        (branch_tree branch.old.width branch.old.skip branch.old.bytes branch.old.children.items branch.old.population)
-        (branch_tree branch.new.width branch.new.skip branch.new.bytes branch.new.children.items branch.new.population) }
+        (tree_below branch.old)
+        (tree_below branch.new) }
 {
     let end = group_end(pairs, branch.width);
     if end == 0 || place < branch.children.len() || make_room(&mut branch.children).is_err() {
@@ -204,7 +210,8 @@ fn group_end(pairs: &[(u64, u64)], below: u8) -> usize
     requires some { 0 < length pairs.now }
     requires below { below ≤ 7 }
     ensures within { result ≤ length pairs.now }
-    ensures alike { AllBegin (256 ^ below) (first_key pairs.now / 256 ^ below) (take result pairs.now) }
+    ensures alike { AllBegin (256 ^ below) (first_key pairs.now / 256 ^ below)
+        (take result pairs.now) }
 {
     let width = usize::from(below);
     let front = without_tail(pairs[0].0, width);

@@ -39,7 +39,8 @@ pub(crate) fn into_bitmap<V: Words + Drop>(
     requires no_value { V.WORDS ≡ 0 → value ≡ 0 }
     ensures level { IsBit V.WORDS head.now block.new }
     ensures child { IsChild V.WORDS width (bit_tree V.WORDS head.now block.new) }
-    ensures inserted { IsInserted key value (bit_tree V.WORDS head.now block.old) (bit_tree V.WORDS head.now block.new) result }
+    ensures inserted { IsInserted key value (bit_tree V.WORDS head.now block.old)
+        (bit_tree V.WORDS head.now block.new) result }
 {
     let byte = low_part(key, 1) as u8;
     match BitRef::<V>::new(block).search(byte) {

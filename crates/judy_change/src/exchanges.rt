@@ -2,7 +2,8 @@
 
 ghost use Rattle.std.specs.Prelude.{◌≡◌, ◌-◌, ◌+◌, ◌*◌, ◌^◌, ◌<◌, ◌≤◌, true, false, [], length, Some, None, Ok, slice_get};
 ghost use Rattle.judy_model.specs.WordBytes.{number_of};
-ghost use Rattle.judy_node.specs.Trees.{IsChild, IsBranch, branch_tree};
+ghost use Rattle.judy_node.specs.Trees.{IsChild};
+ghost use Rattle.judy_node.specs.Branches.{IsWholeBranch, tree_below};
 ghost use Rattle.judy_node.specs.Populations.{AreSums};
 ghost use Rattle.judy_node.specs.Kinds.{tree_of, IsLevel};
 ghost use Rattle.judy_node.specs.Roots.{root_tree, one_tree, IsRoot};
@@ -49,7 +50,8 @@ fn in_root<V: Words + Drop>(
 ) -> (RootOf<V>, Result<Option<u64>, AllocError>)
     requires words { V.WORDS ≡ 1 }
     requires root { IsRoot V.WORDS root }
-    requires room { has_key key (root_tree root) ≡ false → length (root_tree root).pairs < 2 ^ 64 - 1 }
+    requires room { has_key key (root_tree root) ≡ false
+        → length (root_tree root).pairs < 2 ^ 64 - 1 }
     ensures root { IsRoot V.WORDS result.0 }
     ensures exchanged { IsExchanged key value (root_tree root) (root_tree result.0) result.1 }
     ensures first { (root_tree root).pairs ≡ [] → result.1 ≡ Ok None }
@@ -118,10 +120,12 @@ fn in_kind<V: Words + Drop>(
     requires level { IsLevel V.WORDS kind.old }
     requires child { IsChild V.WORDS width (tree_of V.WORDS kind.old) }
     requires fits { key < 256 ^ width }
-    requires room { has_key key (tree_of V.WORDS kind.old) ≡ false → length (tree_of V.WORDS kind.old).pairs < 2 ^ 64 - 1 }
+    requires room { has_key key (tree_of V.WORDS kind.old) ≡ false
+        → length (tree_of V.WORDS kind.old).pairs < 2 ^ 64 - 1 }
     ensures level { IsLevel V.WORDS kind.new }
     ensures child { IsChild V.WORDS width (tree_of V.WORDS kind.new) }
-    ensures exchanged { IsExchanged key value (tree_of V.WORDS kind.old) (tree_of V.WORDS kind.new) result }
+    ensures exchanged { IsExchanged key value (tree_of V.WORDS kind.old)
+        (tree_of V.WORDS kind.new) result }
 {
     match kind {
         KindOf::Branch(branch) => match branch.step(key) {
@@ -154,10 +158,12 @@ fn in_childless<V: Words + Drop>(
     requires child { IsChild V.WORDS width (tree_of V.WORDS kind.old) }
     requires childless { IsChildless kind.old }
     requires fits { key < 256 ^ width }
-    requires room { has_key key (tree_of V.WORDS kind.old) ≡ false → length (tree_of V.WORDS kind.old).pairs < 2 ^ 64 - 1 }
+    requires room { has_key key (tree_of V.WORDS kind.old) ≡ false
+        → length (tree_of V.WORDS kind.old).pairs < 2 ^ 64 - 1 }
     ensures level { IsLevel V.WORDS kind.new }
     ensures child { IsChild V.WORDS width (tree_of V.WORDS kind.new) }
-    ensures exchanged { IsExchanged key value (tree_of V.WORDS kind.old) (tree_of V.WORDS kind.new) result }
+    ensures exchanged { IsExchanged key value (tree_of V.WORDS kind.old)
+        (tree_of V.WORDS kind.new) result }
 {
     match into_childless(alloc, kind, width, key, value) {
         Ok(true) => Ok(None),
@@ -207,18 +213,21 @@ fn in_child<V: Words + Drop>(
     value: u64,
 ) -> Result<Option<u64>, AllocError>
     requires words { V.WORDS ≡ 1 }
-    requires level { IsBranch V.WORDS branch.old.width branch.old.skip branch.old.bytes branch.old.children.items branch.old.population }
+    requires level { IsWholeBranch V.WORDS branch.old }
     requires sums { AreSums branch.old.sums branch.old.children.items }
     requires here { slice_get branch.old.bytes place ≡ Some byte }
     requires fits { rest < 256 ^ branch.old.width }
-    requires room { has_key ((number_of branch.old.skip * 256 + byte) * 256 ^ branch.old.width + rest) (branch_tree branch.old.width branch.old.skip branch.old.bytes branch.old.children.items branch.old.population) ≡ false → branch.old.population < 2 ^ 64 - 1 }
-    ensures level { IsBranch V.WORDS branch.new.width branch.new.skip branch.new.bytes branch.new.children.items branch.new.population }
+    requires room { has_key
+        ((number_of branch.old.skip * 256 + byte) * 256 ^ branch.old.width + rest)
+        (tree_below branch.old) ≡ false → branch.old.population < 2 ^ 64 - 1 }
+    ensures level { IsWholeBranch V.WORDS branch.new }
     ensures sums { AreSums branch.new.sums branch.new.children.items }
     ensures skip { branch.new.skip ≡ branch.old.skip }
     ensures width { branch.new.width ≡ branch.old.width }
-    ensures exchanged { IsExchanged ((number_of branch.old.skip * 256 + byte) * 256 ^ branch.old.width + rest) value
-        (branch_tree branch.old.width branch.old.skip branch.old.bytes branch.old.children.items branch.old.population)
-        (branch_tree branch.new.width branch.new.skip branch.new.bytes branch.new.children.items branch.new.population) result }
+    ensures exchanged { IsExchanged
+        ((number_of branch.old.skip * 256 + byte) * 256 ^ branch.old.width + rest) value
+        (tree_below branch.old)
+        (tree_below branch.new) result }
 {
     match exchange_in(
         alloc,

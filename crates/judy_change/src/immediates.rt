@@ -45,7 +45,8 @@ pub(crate) fn into_immediate<V: Words + Drop>(
     requires no_value { V.WORDS ≡ 0 → value ≡ 0 }
     ensures level { IsLevel V.WORDS result.0 }
     ensures child { IsChild V.WORDS width (tree_of V.WORDS result.0) }
-    ensures inserted { IsInserted key value (imm_tree V.WORDS head word) (tree_of V.WORDS result.0) result.1 }
+    ensures inserted { IsInserted key value (imm_tree V.WORDS head word)
+        (tree_of V.WORDS result.0) result.1 }
 {
     let mut imm = imm_of::<V>(width, head.number(), word);
     if imm.find(key).is_some() {
@@ -77,7 +78,8 @@ fn past_immediate<V: Words + Drop>(
     requires fits { key < 256 ^ width }
     requires no_value { V.WORDS ≡ 0 → value ≡ 0 }
     ensures level { IfOk result (λ kind. IsLevel V.WORDS kind) }
-    ensures built { IfOk result (λ kind. IsBuilt V.WORDS width (with_pair key value full.now.pairs) (tree_of V.WORDS kind)) }
+    ensures built { IfOk result
+        (λ kind. IsBuilt V.WORDS width (with_pair key value full.now.pairs) (tree_of V.WORDS kind)) }
 {
     let mut pairs = [(0, 0); 9];
     let count = full.len();

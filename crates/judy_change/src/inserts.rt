@@ -54,7 +54,9 @@ pub fn insert_with<V: Words + Drop>(
 /// value that is left in the slot, and nothing else changes, its form neither.
 pub fn slot<V: Words + Drop>(node: &mut NodeOf<V>, key: u64) -> Option<&mut u64>
     requires words { V.WORDS ≡ 1 }
-    ensures* changes { sem 𝓛 (LendsIf (the_row V.row V.Words) word node.entry result (with_value node.entry.now key) node.entry.now) }
+    ensures* changes { sem 𝓛
+        (LendsIf (the_row V.row V.Words) word node.entry result
+        (with_value node.entry.now key) node.entry.now) }
     ensures value { option_copied_mut result ≡ value_of key node.old.pairs }
 {
     node.slot(key)
@@ -70,7 +72,8 @@ fn into_root<V: Words + Drop>(
     requires one { V.WORDS ≤ 1 }
     requires root { IsRoot V.WORDS root }
     requires no_value { V.WORDS ≡ 0 → value ≡ 0 }
-    requires room { has_key key (root_tree root) ≡ false → length (root_tree root).pairs < 2 ^ 64 - 1 }
+    requires room { has_key key (root_tree root) ≡ false
+        → length (root_tree root).pairs < 2 ^ 64 - 1 }
     ensures root { IsRoot V.WORDS result.0 }
     ensures inserted { IsInserted key value (root_tree root) (root_tree result.0) result.1 }
     ensures first { (root_tree root).pairs ≡ [] → result.1 ≡ Ok true }

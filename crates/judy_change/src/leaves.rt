@@ -42,7 +42,8 @@ pub(crate) fn into_leaf<V: Words + Drop>(
     requires no_value { V.WORDS ≡ 0 → value ≡ 0 }
     ensures level { IsLeaf V.WORDS count.new block.new }
     ensures child { IsChild V.WORDS width (leaf_tree V.WORDS count.new block.new) }
-    ensures inserted { IsInserted key value (leaf_tree V.WORDS count.old block.old) (leaf_tree V.WORDS count.new block.new) result }
+    ensures inserted { IsInserted key value (leaf_tree V.WORDS count.old block.old)
+        (leaf_tree V.WORDS count.new block.new) result }
 {
     match LeafRef::<V>::new(*count, width, block).search(key) {
         Ok(_) => Ok(false),
@@ -70,7 +71,8 @@ pub(crate) fn into_full_leaf<V: Words + Drop>(
     requires no_value { V.WORDS ≡ 0 → value ≡ 0 }
     ensures level { IsLevel V.WORDS result.0 }
     ensures child { IsChild V.WORDS width (tree_of V.WORDS result.0) }
-    ensures inserted { IsInserted key value (leaf_tree V.WORDS count block) (tree_of V.WORDS result.0) result.1 }
+    ensures inserted { IsInserted key value (leaf_tree V.WORDS count block)
+        (tree_of V.WORDS result.0) result.1 }
 {
     match LeafRef::<V>::new(count, width, &block).search(key) {
         Ok(_) => (KindOf::Leaf(count, block), Ok(false)),
@@ -101,7 +103,9 @@ fn past_leaf<V: Words + Drop>(
     requires fits { key < 256 ^ width }
     requires no_value { V.WORDS ≡ 0 → value ≡ 0 }
     ensures level { IfOk result (λ kind. IsLevel V.WORDS kind) }
-    ensures built { IfOk result (λ kind. IsBuilt V.WORDS width (with_pair key value full.entry.pairs) (tree_of V.WORDS kind)) }
+    ensures built { IfOk result
+        (λ kind. IsBuilt V.WORDS width (with_pair key value full.entry.pairs)
+        (tree_of V.WORDS kind)) }
 {
     let mut pairs = [(0, 0); 33];
     full.fill(0, &mut pairs[..32]);

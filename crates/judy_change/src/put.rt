@@ -5,7 +5,8 @@ ghost use Rattle.std.specs.List.{insert};
 ghost use Rattle.judy_model.specs.WordBytes.{number_of};
 ghost use Rattle.judy_model.specs.Forms.{loose_in};
 ghost use Rattle.judy_bits.specs.ByteSets as set;
-ghost use Rattle.judy_node.specs.Trees.{IsTight, IsChild, IsBranch, branch_tree, forms_in};
+ghost use Rattle.judy_node.specs.Trees.{IsTight, IsChild, forms_in};
+ghost use Rattle.judy_node.specs.Branches.{IsWholeBranch, tree_below};
 ghost use Rattle.judy_node.specs.Populations.{AreSums};
 ghost use Rattle.judy_change.specs.Inserted.{IsAdded, IsInserted};
 
@@ -36,7 +37,8 @@ pub(crate) fn add_child<V: Words + Drop>(
     requires within { place ≤ length branch.old.children.items }
     requires room { vec_len branch.old.children < vec_capacity branch.old.children }
     ensures bytes { branch.new.bytes ≡ set.with_byte branch.old.bytes byte }
-    ensures children { branch.new.children.items ≡ insert branch.old.children.items (set.rank branch.old.bytes byte) child }
+    ensures children { branch.new.children.items
+        ≡ insert branch.old.children.items (set.rank branch.old.bytes byte) child }
     ensures skip { branch.new.skip ≡ branch.old.skip }
     ensures width { branch.new.width ≡ branch.old.width }
     ensures population { branch.new.population ≡ branch.old.population }
@@ -60,23 +62,25 @@ pub(crate) fn put_key<V: Words + Drop>(
     value: u64,
 )
     requires one { V.WORDS ≤ 1 }
-    requires level { IsBranch V.WORDS branch.old.width branch.old.skip branch.old.bytes branch.old.children.items branch.old.population }
+    requires level { IsWholeBranch V.WORDS branch.old }
     requires spare { vec_len branch.old.children < vec_capacity branch.old.children }
     requires absent { set.has branch.old.bytes byte ≡ false }
     requires place { place ≡ set.rank branch.old.bytes byte }
     requires fits { rest < 256 ^ branch.old.width }
     requires no_value { V.WORDS ≡ 0 → value ≡ 0 }
     requires room { branch.old.population < 2 ^ 64 - 1 }
-    ensures level { IsBranch V.WORDS branch.new.width branch.new.skip branch.new.bytes branch.new.children.items branch.new.population }
+    ensures level { IsWholeBranch V.WORDS branch.new }
     ensures skip { branch.new.skip ≡ branch.old.skip }
     ensures width { branch.new.width ≡ branch.old.width }
     ensures population { branch.new.population ≡ branch.old.population + 1 }
     ensures sums { branch.new.sums ≡ branch.old.sums }
     ensures wider { length branch.new.bytes ≡ length branch.old.bytes + 1 }
-    ensures loose { loose_in (forms_in branch.new.children.items) ≡ loose_in (forms_in branch.old.children.items) }
-    ensures added { IsAdded ((number_of branch.old.skip * 256 + byte) * 256 ^ branch.old.width + rest) value
-        (branch_tree branch.old.width branch.old.skip branch.old.bytes branch.old.children.items branch.old.population)
-        (branch_tree branch.new.width branch.new.skip branch.new.bytes branch.new.children.items branch.new.population) }
+    ensures loose { loose_in (forms_in branch.new.children.items)
+        ≡ loose_in (forms_in branch.old.children.items) }
+    ensures added { IsAdded
+        ((number_of branch.old.skip * 256 + byte) * 256 ^ branch.old.width + rest) value
+        (tree_below branch.old)
+        (tree_below branch.new) }
 {
     let child = one_key(branch.width, rest, value);
     add_child(branch, place, byte, child);
@@ -94,20 +98,21 @@ pub(crate) fn put_child<V: Words + Drop>(
     value: u64,
 ) -> Result<bool, AllocError>
     requires one { V.WORDS ≤ 1 }
-    requires level { IsBranch V.WORDS branch.old.width branch.old.skip branch.old.bytes branch.old.children.items branch.old.population }
+    requires level { IsWholeBranch V.WORDS branch.old }
     requires sums { AreSums branch.old.sums branch.old.children.items }
     requires absent { set.has branch.old.bytes byte ≡ false }
     requires place { place ≡ set.rank branch.old.bytes byte }
     requires fits { rest < 256 ^ branch.old.width }
     requires no_value { V.WORDS ≡ 0 → value ≡ 0 }
     requires room { branch.old.population < 2 ^ 64 - 1 }
-    ensures level { IsBranch V.WORDS branch.new.width branch.new.skip branch.new.bytes branch.new.children.items branch.new.population }
+    ensures level { IsWholeBranch V.WORDS branch.new }
     ensures sums { AreSums branch.new.sums branch.new.children.items }
     ensures skip { branch.new.skip ≡ branch.old.skip }
     ensures width { branch.new.width ≡ branch.old.width }
-    ensures inserted { IsInserted ((number_of branch.old.skip * 256 + byte) * 256 ^ branch.old.width + rest) value
-        (branch_tree branch.old.width branch.old.skip branch.old.bytes branch.old.children.items branch.old.population)
-        (branch_tree branch.new.width branch.new.skip branch.new.bytes branch.new.children.items branch.new.population) result }
+    ensures inserted { IsInserted
+        ((number_of branch.old.skip * 256 + byte) * 256 ^ branch.old.width + rest) value
+        (tree_below branch.old)
+        (tree_below branch.new) result }
 {
     if make_room(&mut branch.children).is_err() {
         return Err(AllocError);

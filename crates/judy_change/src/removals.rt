@@ -4,10 +4,11 @@ ghost use Rattle.std.specs.Prelude.{◌≡◌, ◌≢◌, ◌+◌, ◌<◌, ◌�
 ghost use Rattle.std.specs.List.{remove};
 ghost use Rattle.judy_bits.specs.ByteSets as set;
 ghost use Rattle.judy_node.specs.Trees.{IsChild};
+ghost use Rattle.judy_node.specs.Branches.{IsWholeBranch};
 ghost use Rattle.judy_node.specs.Populations.{AreSums};
 ghost use Rattle.judy_node.specs.Kinds.{tree_of, IsLevel};
 ghost use Rattle.judy_node.specs.Roots.{root_tree, one_tree, IsRoot};
-ghost use Rattle.judy_change.specs.Removals.{IsRemoved, IsTaken, IsTakenBelow, IsWhole, IsChildless, IsShrinking, width_of, tree_below};
+ghost use Rattle.judy_change.specs.Removals.{IsRemoved, IsTaken, IsTakenBelow, IsChildless, IsShrinking, width_of};
 
 use crate::remove_leaf::{
     remove_from_bitmap, remove_from_leaf, remove_immediate, shrink_bitmap, shrink_leaf,
@@ -126,7 +127,8 @@ fn remove_kind<V: Words + Drop>(alloc: Global, width: u8, kind: &mut KindOf<V>, 
     requires child { IsChild V.WORDS width (tree_of V.WORDS kind.old) }
     requires three { width ≡ 8 → 3 ≤ length (tree_of V.WORDS kind.old).pairs }
     ensures level { IsLevel V.WORDS kind.new }
-    ensures taken { IsTaken V.WORDS width key (tree_of V.WORDS kind.old) (tree_of V.WORDS kind.new) result }
+    ensures taken { IsTaken V.WORDS width key (tree_of V.WORDS kind.old)
+        (tree_of V.WORDS kind.new) result }
 {
     match kind {
         KindOf::Branch(branch) => match remove_below(alloc, branch, key) {
@@ -154,7 +156,8 @@ fn remove_childless<V: Words + Drop>(
     requires child { IsChild V.WORDS width (tree_of V.WORDS kind.old) }
     requires three { width ≡ 8 → 3 ≤ length (tree_of V.WORDS kind.old).pairs }
     ensures level { IsLevel V.WORDS kind.new }
-    ensures taken { IsTaken V.WORDS width key (tree_of V.WORDS kind.old) (tree_of V.WORDS kind.new) result }
+    ensures taken { IsTaken V.WORDS width key (tree_of V.WORDS kind.old)
+        (tree_of V.WORDS kind.new) result }
 {
     match kind {
         KindOf::Leaf(count, block) => {
@@ -183,7 +186,8 @@ fn replaced<V: Words + Drop>(alloc: Global, width: u8, kind: &mut KindOf<V>, key
     requires child { IsChild V.WORDS width (tree_of V.WORDS kind.old) }
     requires three { width ≡ 8 → 3 ≤ length (tree_of V.WORDS kind.old).pairs }
     ensures level { IsLevel V.WORDS kind.new }
-    ensures taken { IsTaken V.WORDS width key (tree_of V.WORDS kind.old) (tree_of V.WORDS kind.new) result }
+    ensures taken { IsTaken V.WORDS width key (tree_of V.WORDS kind.old)
+        (tree_of V.WORDS kind.new) result }
 {
     let old = mem::replace(kind, KindOf::Imm(Head::new(0), 0));
     let (child, taken) = replacement(alloc, width, old, key);
@@ -217,7 +221,7 @@ fn replacement<V: Words + Drop>(
 #[cycle(remove)]
 fn remove_below<V: Words + Drop>(alloc: Global, branch: &mut BranchOf<V>, key: u64) -> Taken
     requires one { V.WORDS ≤ 1 }
-    requires branch { IsWhole V.WORDS branch.old }
+    requires branch { IsWholeBranch V.WORDS branch.old }
     requires sums { AreSums branch.old.sums branch.old.children.items }
     ensures taken { IsTakenBelow V.WORDS key branch.old branch.new result }
     ensures sums { AreSums branch.new.sums branch.new.children.items }

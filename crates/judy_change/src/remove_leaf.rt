@@ -33,7 +33,8 @@ pub(crate) fn remove_from_leaf<V: Words + Drop>(
     requires child { IsChild V.WORDS width (leaf_tree V.WORDS count.old block.old) }
     requires many { immediate_limit V.WORDS width + 1 < count.old }
     ensures level { IsLeaf V.WORDS count.new block.new }
-    ensures taken { IsTaken V.WORDS width key (leaf_tree V.WORDS count.old block.old) (leaf_tree V.WORDS count.new block.new) result }
+    ensures taken { IsTaken V.WORDS width key (leaf_tree V.WORDS count.old block.old)
+        (leaf_tree V.WORDS count.new block.new) result }
 {
     match LeafRef::<V>::new(*count, width, block).find(key) {
         Some(at) => {
@@ -90,7 +91,8 @@ pub(crate) fn shrink_leaf<V: Words + Drop>(
 
 // The place of a key in a bitmap leaf behind the number that its skipped bytes spell.
 fn find_bit<V: Words + Drop>(skipped: u64, bits: BitRef<'_, V>, key: u64) -> Option<usize>
-    ensures { MatchOption result (key / 256 ≡ skipped → set.place (keys_of bits.entry.pairs) (key % 256) ≡ None)
+    ensures { MatchOption result
+        (key / 256 ≡ skipped → set.place (keys_of bits.entry.pairs) (key % 256) ≡ None)
         (λ at. (key / 256 ≡ skipped) × (set.place (keys_of bits.entry.pairs) (key % 256) ≡ Some at)) }
 {
     if without_low(key, 1) != skipped {
@@ -110,7 +112,8 @@ pub(crate) fn remove_from_bitmap<V: Words + Drop>(
     requires child { IsChild V.WORDS width (bit_tree V.WORDS head.now block.old) }
     requires many { 33 < length (bit_list V.WORDS block.old).pairs }
     ensures level { IsBit V.WORDS head.now block.new }
-    ensures taken { IsTaken V.WORDS width key (bit_tree V.WORDS head.now block.old) (bit_tree V.WORDS head.now block.new) result }
+    ensures taken { IsTaken V.WORDS width key (bit_tree V.WORDS head.now block.old)
+        (bit_tree V.WORDS head.now block.new) result }
 {
     match find_bit(head.number(), BitRef::<V>::new(block), key) {
         Some(at) => {

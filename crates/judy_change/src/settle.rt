@@ -2,9 +2,10 @@
 
 ghost use Rattle.std.specs.Prelude.{◌≡◌, ℕ, ◌+◌, ◌^◌, ◌<◌, ◌≤◌, length, IfOk};
 ghost use Rattle.judy_node.specs.Trees.{IsMap, IsTight, IsChild};
+ghost use Rattle.judy_node.specs.Branches.{IsWholeBranch};
 ghost use Rattle.judy_node.specs.Populations.{AreSums};
 ghost use Rattle.judy_node.specs.Kinds.{tree_of, IsLevel, IsDeep, behind};
-ghost use Rattle.judy_change.specs.Removals.{IsTightOf, IsSettled, IsWhole, IsParent, IsNeeded, pairs_below, loose_below, loose_under, width_of};
+ghost use Rattle.judy_change.specs.Removals.{IsTightOf, IsSettled, IsParent, IsNeeded, pairs_below, loose_below, loose_under, width_of};
 
 use judy_leaf::Words;
 use judy_node::{
@@ -92,7 +93,7 @@ fn behind_bytes<V: Words + Drop>(kind: KindOf<V>, bytes: &[u8]) -> KindOf<V>
 // The only child of a branch of more than 32 keys in its place: it skips the branch's bytes, then its own byte there, and then
 // what it skipped before.
 fn merged<V: Words + Drop>(branch: &mut BranchOf<V>) -> ChildOf<V>
-    requires branch { IsWhole V.WORDS branch.old }
+    requires branch { IsWholeBranch V.WORDS branch.old }
     requires many { 32 < branch.old.population }
     requires one { length branch.old.bytes ≡ 1 }
     ensures child { IsChild V.WORDS (width_of branch.old) result }
@@ -118,7 +119,8 @@ pub(crate) fn settle<V: Words + Drop>(alloc: Global, width: u8, kind: &mut KindO
     requires child { IsChild V.WORDS width (tree_of V.WORDS kind.old) }
     requires two { width ≡ 8 → 2 ≤ length (tree_of V.WORDS kind.old).pairs }
     ensures level { IsLevel V.WORDS kind.new }
-    ensures settled { IsSettled V.WORDS width (tree_of V.WORDS kind.old).pairs (loose_under kind.old) (tree_of V.WORDS kind.new) result }
+    ensures settled { IsSettled V.WORDS width (tree_of V.WORDS kind.old).pairs
+        (loose_under kind.old) (tree_of V.WORDS kind.new) result }
 {
     if is_needed(kind) {
         return true;
@@ -151,12 +153,13 @@ fn smaller<V: Words + Drop>(
     mut branch: Box<BranchOf<V>>,
 ) -> (ChildOf<V>, bool)
     requires one { V.WORDS ≤ 1 }
-    requires branch { IsWhole V.WORDS branch.value }
+    requires branch { IsWholeBranch V.WORDS branch.value }
     requires sums { AreSums branch.value.sums branch.value.children.items }
     requires width { width_of branch.value ≡ width }
     requires two { width ≡ 8 → 2 ≤ branch.value.population }
     requires loose { 32 < branch.value.population → length branch.value.children.items ≡ 1 }
-    ensures { IsSettled V.WORDS width (pairs_below branch.value) (loose_below branch.value) result.0 result.1 }
+    ensures { IsSettled V.WORDS width (pairs_below branch.value)
+        (loose_below branch.value) result.0 result.1 }
 {
     if branch.population <= 32 {
         return lessen(alloc, width, ChildOf::close(KindOf::Branch(branch)));

@@ -58,7 +58,8 @@ fn shortened<V: Words + Drop>(kind: KindOf<V>, skipped: Skipped, left: u8) -> Ki
     requires left { left < skipped.count }
     ensures level { IsLevel V.WORDS result }
     ensures child { IsChild V.WORDS (left + skipped.tail) (tree_of V.WORDS result) }
-    ensures shorter { IsShorter skipped.number left skipped.tail (tree_of V.WORDS kind) (tree_of V.WORDS result) }
+    ensures shorter { IsShorter skipped.number left skipped.tail (tree_of V.WORDS kind)
+        (tree_of V.WORDS result) }
 {
     let rest = low_part(skipped.number, usize::from(left));
     match kind {
@@ -86,7 +87,10 @@ fn above<V: Words + Drop>(
     requires child { IsChild V.WORDS (skipped.count + skipped.tail) (tree_of V.WORDS kind) }
     requires skips { IsSkipping skipped.number skipped.count skipped.tail kind }
     requires left { left < skipped.count }
-    ensures above { IfOk result (λ b. IsAbove V.WORDS skipped.number skipped.count skipped.tail left (tree_of V.WORDS kind) b.value.width b.value.skip b.value.bytes b.value.children.items b.value.population) }
+    ensures above { IfOk result
+        (λ b. IsAbove V.WORDS skipped.number skipped.count skipped.tail left
+        (tree_of V.WORDS kind) b.value.width b.value.skip b.value.bytes b.value.children.items
+        b.value.population) }
     ensures room { IfOk result (λ b. vec_len b.value.children < vec_capacity b.value.children) }
     ensures sums { IfOk result (λ b. (kids : List Tree) → AreSums b.value.sums kids) }
     ensures kept { IfErr result (λ same. same ≡ kind) }
@@ -136,7 +140,8 @@ pub(crate) fn split<V: Words + Drop>(
     requires room { length (tree_of V.WORDS kind).pairs < 2 ^ 64 - 1 }
     ensures level { IsLevel V.WORDS result.0 }
     ensures child { IsChild V.WORDS (skipped.count + skipped.tail) (tree_of V.WORDS result.0) }
-    ensures inserted { IsInserted key value (tree_of V.WORDS kind) (tree_of V.WORDS result.0) result.1 }
+    ensures inserted { IsInserted key value (tree_of V.WORDS kind)
+        (tree_of V.WORDS result.0) result.1 }
 {
     let other = without_low(key, usize::from(skipped.tail));
     let left = left_of_apart(skipped.number, other, skipped.count);

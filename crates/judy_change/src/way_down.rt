@@ -2,10 +2,11 @@
 
 ghost use Rattle.std.specs.Prelude.{◌≡◌, ◌≢◌, ◌+◌, ◌-◌, ◌*◌, ◌/◌, ◌^◌, ◌<◌, ◌≤◌, false, length, Some, slice_get};
 ghost use Rattle.judy_model.specs.WordBytes.{number_of};
-ghost use Rattle.judy_node.specs.Trees.{IsChild, IsBranch, branch_tree};
+ghost use Rattle.judy_node.specs.Trees.{IsChild};
+ghost use Rattle.judy_node.specs.Branches.{IsWholeBranch, tree_below};
 ghost use Rattle.judy_node.specs.Populations.{AreSums};
 ghost use Rattle.judy_node.specs.Kinds.{tree_of, bit_tree, IsLevel, IsBit};
-ghost use Rattle.judy_change.specs.Removals.{IsWhole, IsChildless, width_of, tree_below};
+ghost use Rattle.judy_change.specs.Removals.{IsChildless, width_of};
 ghost use Rattle.judy_change.specs.Inserted.{has_key, IsInserted, IsPast};
 
 use crate::bitmaps::into_bitmap;
@@ -54,10 +55,12 @@ fn into_kind<V: Words + Drop>(
     requires child { IsChild V.WORDS width (tree_of V.WORDS kind.old) }
     requires fits { key < 256 ^ width }
     requires no_value { V.WORDS ≡ 0 → value ≡ 0 }
-    requires room { has_key key (tree_of V.WORDS kind.old) ≡ false → length (tree_of V.WORDS kind.old).pairs < 2 ^ 64 - 1 }
+    requires room { has_key key (tree_of V.WORDS kind.old) ≡ false
+        → length (tree_of V.WORDS kind.old).pairs < 2 ^ 64 - 1 }
     ensures level { IsLevel V.WORDS kind.new }
     ensures child { IsChild V.WORDS width (tree_of V.WORDS kind.new) }
-    ensures inserted { IsInserted key value (tree_of V.WORDS kind.old) (tree_of V.WORDS kind.new) result }
+    ensures inserted { IsInserted key value (tree_of V.WORDS kind.old)
+        (tree_of V.WORDS kind.new) result }
 {
     match kind {
         KindOf::Branch(branch) => match branch.step(key) {
@@ -83,10 +86,12 @@ pub(crate) fn into_childless<V: Words + Drop>(
     requires childless { IsChildless kind.old }
     requires fits { key < 256 ^ width }
     requires no_value { V.WORDS ≡ 0 → value ≡ 0 }
-    requires room { has_key key (tree_of V.WORDS kind.old) ≡ false → length (tree_of V.WORDS kind.old).pairs < 2 ^ 64 - 1 }
+    requires room { has_key key (tree_of V.WORDS kind.old) ≡ false
+        → length (tree_of V.WORDS kind.old).pairs < 2 ^ 64 - 1 }
     ensures level { IsLevel V.WORDS kind.new }
     ensures child { IsChild V.WORDS width (tree_of V.WORDS kind.new) }
-    ensures inserted { IsInserted key value (tree_of V.WORDS kind.old) (tree_of V.WORDS kind.new) result }
+    ensures inserted { IsInserted key value (tree_of V.WORDS kind.old)
+        (tree_of V.WORDS kind.new) result }
 {
     match kind {
         KindOf::Leaf(count, block) => {
@@ -121,10 +126,12 @@ pub(crate) fn replaced<V: Words + Drop>(
     requires past { IsPast key kind.old }
     requires fits { key < 256 ^ width }
     requires no_value { V.WORDS ≡ 0 → value ≡ 0 }
-    requires room { has_key key (tree_of V.WORDS kind.old) ≡ false → length (tree_of V.WORDS kind.old).pairs < 2 ^ 64 - 1 }
+    requires room { has_key key (tree_of V.WORDS kind.old) ≡ false
+        → length (tree_of V.WORDS kind.old).pairs < 2 ^ 64 - 1 }
     ensures level { IsLevel V.WORDS kind.new }
     ensures child { IsChild V.WORDS width (tree_of V.WORDS kind.new) }
-    ensures inserted { IsInserted key value (tree_of V.WORDS kind.old) (tree_of V.WORDS kind.new) result }
+    ensures inserted { IsInserted key value (tree_of V.WORDS kind.old)
+        (tree_of V.WORDS kind.new) result }
 {
     let old = mem::replace(kind, KindOf::Imm(Head::new(0), 0));
     let (new, answer) = replacement(alloc, old, width, key, value);
@@ -146,10 +153,12 @@ fn replacement<V: Words + Drop>(
     requires past { IsPast key kind }
     requires fits { key < 256 ^ width }
     requires no_value { V.WORDS ≡ 0 → value ≡ 0 }
-    requires room { has_key key (tree_of V.WORDS kind) ≡ false → length (tree_of V.WORDS kind).pairs < 2 ^ 64 - 1 }
+    requires room { has_key key (tree_of V.WORDS kind) ≡ false
+        → length (tree_of V.WORDS kind).pairs < 2 ^ 64 - 1 }
     ensures level { IsLevel V.WORDS result.0 }
     ensures child { IsChild V.WORDS width (tree_of V.WORDS result.0) }
-    ensures inserted { IsInserted key value (tree_of V.WORDS kind) (tree_of V.WORDS result.0) result.1 }
+    ensures inserted { IsInserted key value (tree_of V.WORDS kind)
+        (tree_of V.WORDS result.0) result.1 }
 {
     match kind {
         KindOf::Imm(head, word) => into_immediate(alloc, head, word, width, key, value),
@@ -174,10 +183,12 @@ fn past_bit<V: Words + Drop>(
     requires fits { key < 256 ^ width }
     requires apart { key / 256 ≢ head }
     requires no_value { V.WORDS ≡ 0 → value ≡ 0 }
-    requires room { has_key key (bit_tree V.WORDS head block) ≡ false → length (bit_tree V.WORDS head block).pairs < 2 ^ 64 - 1 }
+    requires room { has_key key (bit_tree V.WORDS head block) ≡ false
+        → length (bit_tree V.WORDS head block).pairs < 2 ^ 64 - 1 }
     ensures level { IsLevel V.WORDS result.0 }
     ensures child { IsChild V.WORDS width (tree_of V.WORDS result.0) }
-    ensures inserted { IsInserted key value (bit_tree V.WORDS head block) (tree_of V.WORDS result.0) result.1 }
+    ensures inserted { IsInserted key value (bit_tree V.WORDS head block)
+        (tree_of V.WORDS result.0) result.1 }
 {
     let skipped = Skipped {
         number: head.number(),
@@ -195,15 +206,17 @@ fn past_branch<V: Words + Drop>(
     value: u64,
 ) -> (KindOf<V>, Result<bool, AllocError>)
     requires one { V.WORDS ≤ 1 }
-    requires level { IsWhole V.WORDS branch.value }
+    requires level { IsWholeBranch V.WORDS branch.value }
     requires sums { AreSums branch.value.sums branch.value.children.items }
     requires fits { key < 256 ^ width_of branch.value }
     requires apart { key / 256 ^ (1 + branch.value.width) ≢ number_of branch.value.skip }
     requires no_value { V.WORDS ≡ 0 → value ≡ 0 }
-    requires room { has_key key (tree_below branch.value) ≡ false → branch.value.population < 2 ^ 64 - 1 }
+    requires room { has_key key (tree_below branch.value) ≡ false
+        → branch.value.population < 2 ^ 64 - 1 }
     ensures level { IsLevel V.WORDS result.0 }
     ensures child { IsChild V.WORDS (width_of branch.value) (tree_of V.WORDS result.0) }
-    ensures inserted { IsInserted key value (tree_below branch.value) (tree_of V.WORDS result.0) result.1 }
+    ensures inserted { IsInserted key value (tree_below branch.value)
+        (tree_of V.WORDS result.0) result.1 }
 {
     let skipped = Skipped {
         number: branch.skip.number(),
@@ -224,19 +237,22 @@ fn into_child<V: Words + Drop>(
     value: u64,
 ) -> Result<bool, AllocError>
     requires one { V.WORDS ≤ 1 }
-    requires level { IsBranch V.WORDS branch.old.width branch.old.skip branch.old.bytes branch.old.children.items branch.old.population }
+    requires level { IsWholeBranch V.WORDS branch.old }
     requires sums { AreSums branch.old.sums branch.old.children.items }
     requires here { slice_get branch.old.bytes place ≡ Some byte }
     requires fits { rest < 256 ^ branch.old.width }
     requires no_value { V.WORDS ≡ 0 → value ≡ 0 }
-    requires room { has_key ((number_of branch.old.skip * 256 + byte) * 256 ^ branch.old.width + rest) (branch_tree branch.old.width branch.old.skip branch.old.bytes branch.old.children.items branch.old.population) ≡ false → branch.old.population < 2 ^ 64 - 1 }
-    ensures level { IsBranch V.WORDS branch.new.width branch.new.skip branch.new.bytes branch.new.children.items branch.new.population }
+    requires room { has_key
+        ((number_of branch.old.skip * 256 + byte) * 256 ^ branch.old.width + rest)
+        (tree_below branch.old) ≡ false → branch.old.population < 2 ^ 64 - 1 }
+    ensures level { IsWholeBranch V.WORDS branch.new }
     ensures sums { AreSums branch.new.sums branch.new.children.items }
     ensures skip { branch.new.skip ≡ branch.old.skip }
     ensures width { branch.new.width ≡ branch.old.width }
-    ensures inserted { IsInserted ((number_of branch.old.skip * 256 + byte) * 256 ^ branch.old.width + rest) value
-        (branch_tree branch.old.width branch.old.skip branch.old.bytes branch.old.children.items branch.old.population)
-        (branch_tree branch.new.width branch.new.skip branch.new.bytes branch.new.children.items branch.new.population) result }
+    ensures inserted { IsInserted
+        ((number_of branch.old.skip * 256 + byte) * 256 ^ branch.old.width + rest) value
+        (tree_below branch.old)
+        (tree_below branch.new) result }
 {
     match insert_in(
         alloc,

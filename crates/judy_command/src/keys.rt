@@ -58,7 +58,8 @@ pub(crate) fn string_key<'k>(token: &[u8], key: &'k mut KeyBuf) -> Result<&'k [u
 
 // Puts bytes that stand for themselves into the buffer.
 fn read_signs(signs: &[u8], key: &mut KeyBuf) -> Result<(), Refusal>
-    ensures { read_into result key.new.items ≡ key_or_refusal (if list_all is_shown signs.now then Some signs.now else None) }
+    ensures { read_into result key.new.items
+        ≡ key_or_refusal (if list_all is_shown signs.now then Some signs.now else None) }
 {
     if !are_shown(signs) {
         return Err(Refusal::BadKey);

@@ -20,7 +20,9 @@ use judy_word::JudyL;
 
 /// What a command of one key or word does to the array.
 pub(crate) fn words_on_key(words: &mut JudyL, command: KeyCommand, token: &[u8]) -> Reply<'static>
-    ensures { Follows (judyl (array_of words.old)) (model.words_on_key (key_command_of command) (array_of words.old) token.now) (reply_of result) (judyl (array_of words.new)) }
+    ensures { Follows (judyl (array_of words.old))
+        (model.words_on_key (key_command_of command) (array_of words.old) token.now)
+        (reply_of result) (judyl (array_of words.new)) }
 {
     match command {
         KeyCommand::First => Ok(entry_or_nothing(words.first_entry(word(token)?))),
@@ -43,7 +45,9 @@ pub(crate) fn words_on_pair(
     first: &[u8],
     second: &[u8],
 ) -> Reply<'static>
-    ensures { Follows (judyl (array_of words.old)) (model.words_on_pair (pair_command_of command) (array_of words.old) first.now second.now) (reply_of result) (judyl (array_of words.new)) }
+    ensures { Follows (judyl (array_of words.old))
+        (model.words_on_pair (pair_command_of command) (array_of words.old) first.now second.now)
+        (reply_of result) (judyl (array_of words.new)) }
 {
     match command {
         PairCommand::Count => Ok(Answer::Number(words.count(word(first)?, word(second)?))),
@@ -53,7 +57,8 @@ pub(crate) fn words_on_pair(
 
 // The key that was found and its value, or `none`.
 fn entry_or_nothing(found: Option<(u64, u64)>) -> Answer<'static>
-    ensures { (map : FinMap word_order ℕ) → IfSome found (λ pair. get map pair.0 ≡ Some pair.1) → answer_of result ≡ model.entry_or_nothing entry map (option_map (λ pair. pair.0) found) }
+    ensures { (map : FinMap word_order ℕ) → IfSome found (λ pair. get map pair.0 ≡ Some pair.1)
+        → answer_of result ≡ model.entry_or_nothing entry map (option_map (λ pair. pair.0) found) }
 {
     match found {
         Some((key, value)) => Answer::Entry(key, value),

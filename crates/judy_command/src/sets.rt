@@ -15,7 +15,9 @@ use judy_word::Judy1;
 
 /// What a command of one key or word does to the set.
 pub(crate) fn set_on_key(set: &mut Judy1, command: KeyCommand, token: &[u8]) -> Reply<'static>
-    ensures { Follows (judy1 (array_of set.old)) (model.set_on_key (key_command_of command) (array_of set.old) token.now) (reply_of result) (judy1 (array_of set.new)) }
+    ensures { Follows (judy1 (array_of set.old))
+        (model.set_on_key (key_command_of command) (array_of set.old) token.now) (reply_of result)
+        (judy1 (array_of set.new)) }
 {
     match command {
         KeyCommand::Set => Ok(Answer::Flag(set.set(word(token)?)?)),
@@ -41,7 +43,9 @@ pub(crate) fn set_on_pair(
     first: &[u8],
     second: &[u8],
 ) -> Reply<'static>
-    ensures { Follows (judy1 (array_of set.now)) (model.set_on_pair (pair_command_of command) (array_of set.now) first.now second.now) (reply_of result) (judy1 (array_of set.now)) }
+    ensures { Follows (judy1 (array_of set.now))
+        (model.set_on_pair (pair_command_of command) (array_of set.now) first.now second.now)
+        (reply_of result) (judy1 (array_of set.now)) }
 {
     match command {
         PairCommand::Count => Ok(Answer::Number(set.count(word(first)?, word(second)?))),

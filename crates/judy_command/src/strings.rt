@@ -22,7 +22,9 @@ pub(crate) fn strings_on_key<'k>(
     token: &[u8],
     key: &'k mut KeyBuf,
 ) -> Reply<'k>
-    ensures { Follows (judysl strings.old) (model.strings_on_key (key_command_of command) strings.old token.now) (reply_of result) (judysl strings.new) }
+    ensures { Follows (judysl strings.old)
+        (model.strings_on_key (key_command_of command) strings.old token.now) (reply_of result)
+        (judysl strings.new) }
 {
     match command {
         KeyCommand::First => {
@@ -57,7 +59,9 @@ pub(crate) fn strings_on_pair(
     second: &[u8],
     key: &mut KeyBuf,
 ) -> Reply<'static>
-    ensures { Follows (judysl strings.old) (model.strings_on_pair (pair_command_of command) strings.old first.now second.now) (reply_of result) (judysl strings.new) }
+    ensures { Follows (judysl strings.old)
+        (model.strings_on_pair (pair_command_of command) strings.old first.now second.now)
+        (reply_of result) (judysl strings.new) }
 {
     match command {
         PairCommand::Count => count(strings, first, second, key),
@@ -67,7 +71,9 @@ pub(crate) fn strings_on_pair(
 
 // How many keys there are from one to another. The second key has a buffer of its own.
 fn count(strings: &JudySl, first: &[u8], second: &[u8], key: &mut KeyBuf) -> Reply<'static>
-    ensures { Follows (judysl strings.now) (model.strings_on_pair words.count strings.now first.now second.now) (reply_of result) (judysl strings.now) }
+    ensures { Follows (judysl strings.now)
+        (model.strings_on_pair words.count strings.now first.now second.now) (reply_of result)
+        (judysl strings.now) }
 {
     let mut last = KeyBuf::new();
     let from = string_key(first, key)?;

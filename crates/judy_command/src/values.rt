@@ -47,16 +47,20 @@ pub(crate) trait ValueMap<K> {
     /// and then the array is as it was.
     fn insert(&mut self, key: K, value: u64) -> Result<u64, Refusal>
         requires { IsKey (key_of key) }
-        ensures was { IfOk result (λ was. was ≡ unwrap_or (finite.get (array_of self.old).map (key_of key)) 0) }
-        ensures put { OnOk result (array_of self.new ≡ with_value (array_of self.old) (key_of key) value) }
+        ensures was { IfOk result
+            (λ was. was ≡ unwrap_or (finite.get (array_of self.old).map (key_of key)) 0) }
+        ensures put { OnOk result
+            (array_of self.new ≡ with_value (array_of self.old) (key_of key) value) }
         ensures accepted { OnOk result (IsFalse (array.is_full (array_of self.old) (key_of key))) }
         ensures refused { IfErr result (IsInsertRefusal (array_of self.old) (key_of key)) }
         ensures unchanged { OnErr result (array_of self.new ≡ array_of self.old) };
 
     /// The slot of the key, where it is there.
     fn slot(&mut self, key: K) -> Option<&mut u64>
-        ensures* writes_back { sem 𝓛 (LendsIf Self.row u64 self.entry result (written self.entry.now key) self.entry.now) }
-        ensures value { option_copied_mut result ≡ finite.get (array_of self.old).map (key_of key) };
+        ensures* writes_back { sem 𝓛
+            (LendsIf Self.row u64 self.entry result (written self.entry.now key) self.entry.now) }
+        ensures value { option_copied_mut result
+            ≡ finite.get (array_of self.old).map (key_of key) };
 
     /// The value of the key.
     fn get(&self, key: K) -> Option<u64>
@@ -65,7 +69,8 @@ pub(crate) trait ValueMap<K> {
     /// Takes the key out, and answers whether it was there.
     fn del(&mut self, key: K) -> bool
         ensures answer { result ≡ finite.contains_key (array_of self.old).map (key_of key) }
-        ensures deleted { array_of self.new ≡ array.with_map (array_of self.old) (array.del (array_of self.old).map (key_of key)) };
+        ensures deleted { array_of self.new
+            ≡ array.with_map (array_of self.old) (array.del (array_of self.old).map (key_of key)) };
 
     // Laws: the order is one, and a write changes the value of its key and nothing else.
     ghost is_total: { IsTotalOrder order };
@@ -211,7 +216,9 @@ pub(crate) fn map_on_key<K: Drop, M: ValueMap<K>>(
     command: KeyCommand,
     key: Result<K, Refusal>,
 ) -> Reply<'static>
-    ensures { Follows (M.kind_of (M.array_of map.old)) (model.map_on_key M.kind_of (key_command_of command) (M.array_of map.old) (said M.key_of key)) (reply_of result) (M.kind_of (M.array_of map.new)) }
+    ensures { Follows (M.kind_of (M.array_of map.old))
+        (model.map_on_key M.kind_of (key_command_of command) (M.array_of map.old)
+        (said M.key_of key)) (reply_of result) (M.kind_of (M.array_of map.new)) }
 {
     match command {
         KeyCommand::Get => Ok(number_or_nothing(map.get(key?))),
@@ -228,7 +235,9 @@ pub(crate) fn map_on_pair<K: Drop, M: ValueMap<K>>(
     value: &[u8],
 ) -> Reply<'static>
     requires { IfOk key (λ key. M.IsKey (M.key_of key)) }
-    ensures { Follows (M.kind_of (M.array_of map.old)) (model.map_on_pair M.kind_of (pair_command_of command) (M.array_of map.old) (said M.key_of key) value.now) (reply_of result) (M.kind_of (M.array_of map.new)) }
+    ensures { Follows (M.kind_of (M.array_of map.old))
+        (model.map_on_pair M.kind_of (pair_command_of command) (M.array_of map.old)
+        (said M.key_of key) value.now) (reply_of result) (M.kind_of (M.array_of map.new)) }
 {
     match command {
         PairCommand::Ins => insert(map, key?, word(value)?),
@@ -240,14 +249,19 @@ pub(crate) fn map_on_pair<K: Drop, M: ValueMap<K>>(
 // Gives the key, which is new or not, the value, and answers the one that it had.
 fn insert<K, M: ValueMap<K>>(map: &mut M, key: K, value: u64) -> Reply<'static>
     requires { M.IsKey (M.key_of key) }
-    ensures { Follows (M.kind_of (M.array_of map.old)) (model.inserted M.kind_of (M.array_of map.old) (M.key_of key) value) (reply_of result) (M.kind_of (M.array_of map.new)) }
+    ensures { Follows (M.kind_of (M.array_of map.old))
+        (model.inserted M.kind_of (M.array_of map.old) (M.key_of key) value) (reply_of result)
+        (M.kind_of (M.array_of map.new)) }
 {
     Ok(Answer::Was(map.insert(key, value)?))
 }
 
 // Writes the value through the slot of the key, where it is there.
 fn overwrite<K, M: ValueMap<K>>(map: &mut M, key: K, value: u64) -> Answer<'static>
-    ensures { Follows (M.kind_of (M.array_of map.old)) (Ok (model.overwritten M.kind_of (M.array_of map.old) (M.key_of key) value (finite.get (M.array_of map.old).map (M.key_of key)))) (Ok (answer_of result)) (M.kind_of (M.array_of map.new)) }
+    ensures { Follows (M.kind_of (M.array_of map.old))
+        (Ok (model.overwritten M.kind_of (M.array_of map.old) (M.key_of key) value
+        (finite.get (M.array_of map.old).map (M.key_of key)))) (Ok (answer_of result))
+        (M.kind_of (M.array_of map.new)) }
 {
     match map.slot(key) {
         Some(slot) => Answer::Was(replace(slot, value)),

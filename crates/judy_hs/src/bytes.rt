@@ -77,7 +77,8 @@ impl<H: ByteHash + Drop> JudyHs<H> {
     /// array isn't full. Each leaves the array as it was.
     pub fn ins(&mut self, key: &[u8]) -> Result<&mut u64, HsError>
         ensures* writes_back { sem 𝓛 (LendsIns H.row H.ByteHash self.entry key.now result) }
-        ensures value { IfOk result (λ slot. Some slot.now ≡ map.get (array.ins self.old.map key.now) key.now) }
+        ensures value { IfOk result
+            (λ slot. Some slot.now ≡ map.get (array.ins self.old.map key.now) key.now) }
         ensures fits { OnOk result (length key.now ≤ H.LONGEST) }
         ensures accepted { OnOk result (IsFalse (array.is_full self.old key.now)) }
         ensures refused { IfErr result (IsRefusal H.LONGEST self.old key.now) }
@@ -231,7 +232,8 @@ impl<H: ByteHash + Drop> JudyHs<H> {
     pub fn group(&self, n: usize) -> Option<&JudyL>
         ensures there { IsSome result ↔ HasLength self.now.map n }
         ensures short { n ≤ 8 → IfSome result (λ group. IsShortGroup self.now.map n group.now.map) }
-        ensures long { 8 < n → IfSome result (λ group. IsLongGroup H.hash_of self.now.map n group.now.map) }
+        ensures long { 8 < n
+            → IfSome result (λ group. IsLongGroup H.hash_of self.now.map n group.now.map) }
     {
         match self.group_map(n) {
             Some(words) => Some(words.array()),
@@ -243,7 +245,8 @@ impl<H: ByteHash + Drop> JudyHs<H> {
     fn group_map(&self, n: usize) -> Option<&WordMap>
         ensures there { IsSome result ↔ HasLength self.now.map n }
         ensures short { n ≤ 8 → IfSome result (λ group. IsShortGroup self.now.map n group.now.map) }
-        ensures long { 8 < n → IfSome result (λ group. IsLongGroup H.hash_of self.now.map n group.now.map) }
+        ensures long { 8 < n
+            → IfSome result (λ group. IsLongGroup H.hash_of self.now.map n group.now.map) }
     {
         self.groups.group(n as u64)
     }
@@ -252,7 +255,8 @@ impl<H: ByteHash + Drop> JudyHs<H> {
     /// dump. The list has copies of the keys, and so takes about as much memory as they do. `AllocError` where there is
     /// none for it. (This project's own.)
     pub fn sorted(&self) -> Result<Vec<HsEntry<'_>>, AllocError>
-        ensures { IfOk result (λ list. entries_in list.items ≡ entries_by length_order self.now.map) }
+        ensures { IfOk result
+            (λ list. entries_in list.items ≡ entries_by length_order self.now.map) }
     {
         let mut list = Vec::with_capacity(self.groups.allocator(), self.count as usize)?;
         self.groups.list(&mut list)?;

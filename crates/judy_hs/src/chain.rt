@@ -75,7 +75,8 @@ impl Chain {
 
     // Takes the first key with its value out, where there is one.
     pub fn take_first(&mut self) -> Option<(Vec<u8>, u64)>
-        ensures { MatchOption result ((self.old ≡ []) × (self.new ≡ [])) (λ first. self.old ≡ (first.0.items, first.1) ∷ self.new) }
+        ensures { MatchOption result ((self.old ≡ []) × (self.new ≡ []))
+            (λ first. self.old ≡ (first.0.items, first.1) ∷ self.new) }
     {
         self.entries.pop_first()
     }

@@ -61,7 +61,8 @@ impl GroupPlace {
     // Where a key stands, by the place of the chain of its hash.
     pub fn find(&self, chain: Option<u64>, part: u64, key: &[u8]) -> Option<Inside>
         requires { chain ≡ chain_in (group_of self.now) part }
-        ensures { MatchOption result (in_group (group_of self.now) part key.now ≡ None) (IsInside (group_of self.now) part key.now) }
+        ensures { MatchOption result (in_group (group_of self.now) part key.now ≡ None)
+            (IsInside (group_of self.now) part key.now) }
     {
         match self {
             GroupPlace::Short(words) => match words.get(part) {
@@ -104,11 +105,13 @@ impl GroupPlace {
         key: &[u8],
     ) -> Result<Inside, AllocError>
         requires chain { chain ≡ chain_in (group_of self.old) part }
-        requires room { IfSome (words_of (group_of self.old)) (λ words. map_len words.map < words.limit) }
+        requires room { IfSome (words_of (group_of self.old))
+            (λ words. map_len words.map < words.limit) }
         requires of_length { IsOfLength (group_of self.old) key.now }
         requires takes { CanTakeKey (group_of self.old) part }
         ensures place { IfOk result (IsNewInside (group_of self.old) part) }
-        ensures added { IfOk result (λ inside. group_of self.new ≡ group_with_key (group_of self.old) part key.now inside) }
+        ensures added { IfOk result
+            (λ inside. group_of self.new ≡ group_with_key (group_of self.old) part key.now inside) }
         ensures unchanged { OnErr result (group_of self.new ≡ group_of self.old) }
     {
         match self {
@@ -127,11 +130,13 @@ impl GroupPlace {
 
     // Puts a key in with the value 0 where it and each key with its hash are absent, by one way down, and answers where it stands.
     pub fn try_add(&mut self, alloc: Global, part: u64, key: &[u8]) -> Trial<Inside>
-        requires room { IfSome (words_of (group_of self.old)) (λ words. map_len words.map < words.limit) }
+        requires room { IfSome (words_of (group_of self.old))
+            (λ words. map_len words.map < words.limit) }
         requires of_length { IsOfLength (group_of self.old) key.now }
         ensures absent { UnlessOpen result (in_group (group_of self.old) part key.now ≡ None) }
         ensures place { IfAdded result (IsNewInside (group_of self.old) part) }
-        ensures added { IfAdded result (λ inside. group_of self.new ≡ group_with_key (group_of self.old) part key.now inside) }
+        ensures added { IfAdded result
+            (λ inside. group_of self.new ≡ group_with_key (group_of self.old) part key.now inside) }
         ensures some { IfAdded result (λ _. group_of self.old ≢ none) }
         ensures unchanged { UnlessAdded result (self.new ≡ self.old) }
     {
@@ -154,7 +159,8 @@ impl GroupPlace {
     // Takes a key out that stands there, and says whether no key is left.
     pub fn remove(&mut self, part: u64, inside: Inside, key: &[u8]) -> bool
         requires { IsInside (group_of self.old) part key.now inside }
-        ensures removed { group_of self.new ≡ group_without (group_of self.old) part inside key.now }
+        ensures removed { group_of self.new
+            ≡ group_without (group_of self.old) part inside key.now }
         ensures answer { IsTrue result ↔ IsEmptyGroup (group_of self.new) }
     {
         match self {
@@ -190,7 +196,9 @@ impl GroupPlace {
         list: &mut Vec<HsEntry<'a>>,
     ) -> Result<(), AllocError>
         requires { CanList key_length (group_of self.now) }
-        ensures { OnOk result (entries_in list.new.items ≡ entries_in list.old.items ++ group_list key_length (group_of self.now)) }
+        ensures { OnOk result
+            (entries_in list.new.items
+            ≡ entries_in list.old.items ++ group_list key_length (group_of self.now)) }
     {
         match self {
             GroupPlace::Short(words) => list_words(words, key_length, list),
@@ -218,7 +226,8 @@ fn list_words(
     list: &mut Vec<HsEntry<'_>>,
 ) -> Result<(), AllocError>
     requires { key_length ≤ 8 }
-    ensures { OnOk result (entries_in list.new.items ≡ entries_in list.old.items ++ short_list key_length words.now) }
+    ensures { OnOk result
+        (entries_in list.new.items ≡ entries_in list.old.items ++ short_list key_length words.now) }
 {
     'words: for (word, value) in words {
         list.push(HsEntry {

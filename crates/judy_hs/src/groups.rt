@@ -137,7 +137,8 @@ impl Groups {
     pub fn find(&self, way: Way, part: u64, key: &[u8]) -> Option<Spot>
         requires group { way.group ≡ get self.now.lengths.map (length key.now) }
         requires chain { way.chain ≡ chain_led self.now way.group part }
-        ensures { MatchOption result (in_keyed self.now part key.now ≡ None) (λ spot. IsSpot self.now part key.now spot.group spot.inside) }
+        ensures { MatchOption result (in_keyed self.now part key.now ≡ None)
+            (λ spot. IsSpot self.now part key.now spot.group spot.inside) }
     {
         let place = way.group?;
         let group = place as usize;
@@ -155,7 +156,8 @@ impl Groups {
         requires within { spot.group < length self.old.groups }
         requires usable { IsUsable (group_at self.old spot.group) spot.inside key.now }
         ensures* writes_back { sem 𝓛 (LendsSpot self.entry spot.group spot.inside key.now result) }
-        ensures value { option_copied_mut result ≡ value_inside (group_at self.old spot.group) spot.inside key.now }
+        ensures value { option_copied_mut result
+            ≡ value_inside (group_at self.old spot.group) spot.inside key.now }
     {
         let group = &mut self.groups[spot.group];
         group.slot(spot.inside, key)
@@ -165,9 +167,13 @@ impl Groups {
     pub fn slot_of(&mut self, spot: Spot, key: &[u8]) -> Result<&mut u64, HsError>
         requires within { spot.group < length self.old.groups }
         requires usable { IsUsable (group_at self.old spot.group) spot.inside key.now }
-        requires present { IsSome (value_inside (group_at self.old spot.group) spot.inside key.now) }
-        ensures* writes_back { sem 𝓛 (LendsSpotOk self.entry spot.group spot.inside key.now result) }
-        ensures value { IfOk result (λ slot. Some slot.now ≡ value_inside (group_at self.old spot.group) spot.inside key.now) }
+        requires present { IsSome
+            (value_inside (group_at self.old spot.group) spot.inside key.now) }
+        ensures* writes_back { sem 𝓛
+            (LendsSpotOk self.entry spot.group spot.inside key.now result) }
+        ensures value { IfOk result
+            (λ slot. Some slot.now
+            ≡ value_inside (group_at self.old spot.group) spot.inside key.now) }
         ensures present { IsOk result }
     {
         match self.slot(spot, key) {
@@ -179,12 +185,18 @@ impl Groups {
     // Puts a key in with the value 0, by one way down its group, where `tries` says so and its length has a group, and
     // answers where it stands.
     pub fn try_add(&mut self, alloc: Global, tries: bool, part: u64, key: &[u8]) -> Trial<Spot>
-        requires group { IfSome (words_at self.old (get self.old.lengths.map (length key.now))) (λ words. map_len words.map < words.limit) }
-        requires of_length { IfSome (get self.old.lengths.map (length key.now)) (λ place. IsOfLength (group_at self.old place) key.now) }
+        requires group { IfSome (words_at self.old (get self.old.lengths.map (length key.now)))
+            (λ words. map_len words.map < words.limit) }
+        requires of_length { IfSome (get self.old.lengths.map (length key.now))
+            (λ place. IsOfLength (group_at self.old place) key.now) }
         ensures tried { UnlessOpen result (IsTrue tries) }
         ensures absent { UnlessOpen result (in_keyed self.old part key.now ≡ None) }
-        ensures place { IfAdded result (λ spot. IsNewSpot self.old part key.now (get self.old.lengths.map (length key.now)) spot.group spot.inside) }
-        ensures added { IfAdded result (λ spot. self.new ≡ added_keyed self.old part key.now (get self.old.lengths.map (length key.now)) spot.group spot.inside) }
+        ensures place { IfAdded result
+            (λ spot. IsNewSpot self.old part key.now
+            (get self.old.lengths.map (length key.now)) spot.group spot.inside) }
+        ensures added { IfAdded result
+            (λ spot. self.new ≡ added_keyed self.old part key.now
+            (get self.old.lengths.map (length key.now)) spot.group spot.inside) }
         ensures unchanged { UnlessAdded result (self.new ≡ self.old) }
     {
         if !tries {
@@ -215,11 +227,18 @@ impl Groups {
         requires way { way.group ≡ get self.old.lengths.map (length key.now) }
         requires chain { way.chain ≡ chain_led self.old way.group part }
         requires lengths { map_len self.old.lengths.map < self.old.lengths.limit }
-        requires group { IfSome (words_at self.old (get self.old.lengths.map (length key.now))) (λ words. map_len words.map < words.limit) }
-        requires of_length { IfSome (get self.old.lengths.map (length key.now)) (λ place. IsOfLength (group_at self.old place) key.now) }
-        requires takes { IfSome (get self.old.lengths.map (length key.now)) (λ place. CanTakeKey (group_at self.old place) part) }
-        ensures place { IfOk result (λ spot. IsNewSpot self.old part key.now (get self.old.lengths.map (length key.now)) spot.group spot.inside) }
-        ensures added { IfOk result (λ spot. self.new ≡ added_keyed self.old part key.now (get self.old.lengths.map (length key.now)) spot.group spot.inside) }
+        requires group { IfSome (words_at self.old (get self.old.lengths.map (length key.now)))
+            (λ words. map_len words.map < words.limit) }
+        requires of_length { IfSome (get self.old.lengths.map (length key.now))
+            (λ place. IsOfLength (group_at self.old place) key.now) }
+        requires takes { IfSome (get self.old.lengths.map (length key.now))
+            (λ place. CanTakeKey (group_at self.old place) part) }
+        ensures place { IfOk result
+            (λ spot. IsNewSpot self.old part key.now
+            (get self.old.lengths.map (length key.now)) spot.group spot.inside) }
+        ensures added { IfOk result
+            (λ spot. self.new ≡ added_keyed self.old part key.now
+            (get self.old.lengths.map (length key.now)) spot.group spot.inside) }
         ensures unchanged { OnErr result (self.new ≡ self.old) }
     {
         match way.group {
@@ -239,7 +258,8 @@ impl Groups {
         requires absent { get self.old.lengths.map (length key.now) ≡ None }
         ensures place { IfOk result (λ spot. IsFreeGroup self.old.groups spot.group) }
         ensures inside { IfOk result (λ spot. spot.inside ≡ one_inside part key.now) }
-        ensures added { IfOk result (λ spot. self.new ≡ with_group self.old part key.now spot.group) }
+        ensures added { IfOk result
+            (λ spot. self.new ≡ with_group self.old part key.now spot.group) }
         ensures unchanged { OnErr result (self.new ≡ self.old) }
     {
         let (made, inside) = group_of_one(alloc, part, key)?;
@@ -258,9 +278,11 @@ impl Groups {
     pub fn remove(&mut self, part: u64, key: &[u8], spot: Spot)
         requires within { spot.group < length self.old.groups }
         requires is_inside { IsInside (group_at self.old spot.group) part key.now spot.inside }
-        ensures kept { (IsEmptyGroup (group_without (group_at self.old spot.group) part spot.inside key.now) → ⊥)
+        ensures kept { (IsEmptyGroup
+            (group_without (group_at self.old spot.group) part spot.inside key.now) → ⊥)
             → self.new ≡ keyed_without self.old spot.group part spot.inside key.now }
-        ensures emptied { IsEmptyGroup (group_without (group_at self.old spot.group) part spot.inside key.now)
+        ensures emptied { IsEmptyGroup
+            (group_without (group_at self.old spot.group) part spot.inside key.now)
             → self.new ≡ without_group self.old (length key.now) spot.group }
     {
         let emptied = self.groups[spot.group].remove(part, spot.inside, key);
@@ -291,8 +313,10 @@ impl Groups {
 
     // Adds all keys with their values to a list, by their lengths, and those of one length by their bytes.
     pub fn list<'a>(&'a self, list: &mut Vec<HsEntry<'a>>) -> Result<(), AllocError>
-        requires { (key_length place : ℕ) → get self.now.lengths.map key_length ≡ Some place → CanList key_length (group_at self.now place) }
-        ensures { OnOk result (entries_in list.new.items ≡ entries_in list.old.items ++ keyed_list self.now) }
+        requires { (key_length place : ℕ) → get self.now.lengths.map key_length ≡ Some place
+            → CanList key_length (group_at self.now place) }
+        ensures { OnOk result
+            (entries_in list.new.items ≡ entries_in list.old.items ++ keyed_list self.now) }
     {
         'lengths: for (key_length, place) in &self.lengths {
             self.list_group(key_length as usize, place as usize, list)?;
@@ -308,7 +332,9 @@ impl Groups {
         list: &mut Vec<HsEntry<'a>>,
     ) -> Result<(), AllocError>
         requires { CanList key_length (group_at self.now place) }
-        ensures { OnOk result (entries_in list.new.items ≡ entries_in list.old.items ++ group_list key_length (group_at self.now place)) }
+        ensures { OnOk result
+            (entries_in list.new.items
+            ≡ entries_in list.old.items ++ group_list key_length (group_at self.now place)) }
     {
         match self.groups.get(place) {
             Some(group) => group.list(key_length, list),
@@ -342,11 +368,15 @@ fn first_link(groups: &[GroupPlace], free: usize) -> Option<usize>
 // or the end of the list, where room is reserved.
 fn free_place(groups: &mut Vec<GroupPlace>, free: usize) -> Result<(usize, usize), AllocError>
     requires { NoneLost (links_of groups.old.items) free }
-    ensures next { IfOk result (λ found. IsNextPlace (links_of groups.old.items) free found.0 found.1) }
+    ensures next { IfOk result
+        (λ found. IsNextPlace (links_of groups.old.items) free found.0 found.1) }
     ensures found { IfOk result (λ found. IsFreeGroup (groups_of groups.old.items) found.0) }
-    ensures room { IfOk result (λ found. found.0 ≡ length groups.new.items → vec_len groups.new < vec_capacity groups.new) }
+    ensures room { IfOk result
+        (λ found. found.0 ≡ length groups.new.items
+        → vec_len groups.new < vec_capacity groups.new) }
     ensures same { groups.new.items ≡ groups.old.items }
-    ensures unasked { IsSome (get_or (links_of groups.old.items) free None) → (groups.new ≡ groups.old) × IsOk result }
+    ensures unasked { IsSome (get_or (links_of groups.old.items) free None)
+        → (groups.new ≡ groups.old) × IsOk result }
 {
     match first_link(groups, free) {
         Some(next) => Ok((free, next)),

@@ -68,7 +68,9 @@ fn is_own(
 ) -> bool
     requires held { IsHeld (spot_at records.now place) }
     requires spelled { IsSpelled key_length (spot_at records.now place) }
-    requires there { IsSome (value_in (pairs_of key_length (others_at chains.now place) (spot_at records.now place)) key.now) }
+    requires there { IsSome
+        (value_in (pairs_of key_length (others_at chains.now place) (spot_at records.now place))
+        key.now) }
     ensures { IsTrue result ↔ bytes_in key_length (text_of (spot_at records.now place)) ≡ key.now }
 {
     if chains.is_empty() {
@@ -138,7 +140,9 @@ impl LongGroup {
     // The place of a key, where that of its hash is known and the key stands there.
     pub fn find(&self, chain: Option<u64>, key: &[u8]) -> Option<usize>
         requires { IsLed self.now chain }
-        ensures { MatchOption result (in_chain self.now chain key.now ≡ None) (λ place. (hash : ℕ) → chain ≡ get self.now.hashes.map hash → IsLongPlace self.now hash key.now place) }
+        ensures { MatchOption result (in_chain self.now chain key.now ≡ None)
+            (λ place. (hash : ℕ) → chain ≡ get self.now.hashes.map hash
+            → IsLongPlace self.now hash key.now place) }
     {
         let place = chain?;
         let _records = &self.records;
@@ -176,7 +180,8 @@ impl LongGroup {
         requires chain { chain ≡ get self.old.hashes.map hash }
         requires room { map_len self.old.hashes.map < self.old.hashes.limit }
         requires of_length { length key.now ≡ self.old.key_length }
-        requires used { IfSome (get self.old.hashes.map hash) (λ place. chain_at self.old place ≢ []) }
+        requires used { IfSome (get self.old.hashes.map hash)
+            (λ place. chain_at self.old place ≢ []) }
         ensures added { IfOk result (λ place. IsAdded self.old self.new hash key.now place) }
         ensures unchanged { OnErr result (self.new ≡ self.old) }
     {
@@ -261,7 +266,8 @@ impl LongGroup {
     // Adds its keys with their values to a list, by their bytes.
     pub fn list<'a>(&'a self, list: &mut Vec<HsEntry<'a>>) -> Result<(), AllocError>
         requires { AreApart (chained self.now) }
-        ensures { OnOk result (entries_in list.new.items ≡ entries_in list.old.items ++ long_list self.now) }
+        ensures { OnOk result
+            (entries_in list.new.items ≡ entries_in list.old.items ++ long_list self.now) }
     {
         let start = list.len();
         self.list_unsorted(list)?;
@@ -271,7 +277,8 @@ impl LongGroup {
 
     // Adds them in the order of their places. Where keys were put in by their bytes, most of them come so, and the sort goes through memory in order.
     fn list_unsorted<'a>(&'a self, list: &mut Vec<HsEntry<'a>>) -> Result<(), AllocError>
-        ensures { OnOk result (AreListed self.now (entries_in list.old.items) (entries_in list.new.items)) }
+        ensures { OnOk result
+            (AreListed self.now (entries_in list.old.items) (entries_in list.new.items)) }
     {
         let places = self.places(*list.allocator())?;
         self.list_places(&places, list)
@@ -280,7 +287,8 @@ impl LongGroup {
     // The places to which hashes lead, in ascending order.
     fn places(&self, alloc: Global) -> Result<Vec<u64>, AllocError>
         ensures places { IfOk result (λ places. IsPermutation (places_of self.now) places.items) }
-        ensures used { IfOk result (λ places. All (λ place. chain_at self.now place ≢ []) places.items) }
+        ensures used { IfOk result
+            (λ places. All (λ place. chain_at self.now place ≢ []) places.items) }
     {
         let mut places = Vec::with_capacity(alloc, self.hashes.len() as usize)?;
         'hashes: for (_, place) in &self.hashes {
@@ -297,7 +305,9 @@ impl LongGroup {
         list: &mut Vec<HsEntry<'a>>,
     ) -> Result<(), AllocError>
         requires { All (λ place. chain_at self.now place ≢ []) places.now }
-        ensures { OnOk result (entries_in list.new.items ≡ entries_in list.old.items ++ flat_map (chain_at self.now) places.now) }
+        ensures { OnOk result
+            (entries_in list.new.items
+            ≡ entries_in list.old.items ++ flat_map (chain_at self.now) places.now) }
     {
         for place in places {
             self.list_place(*place as usize, list)?;
@@ -308,7 +318,8 @@ impl LongGroup {
     // Adds the keys at a place with their values to a list.
     fn list_place<'a>(&'a self, place: usize, list: &mut Vec<HsEntry<'a>>) -> Result<(), AllocError>
         requires { chain_at self.now place ≢ [] }
-        ensures { OnOk result (entries_in list.new.items ≡ entries_in list.old.items ++ chain_at self.now place) }
+        ensures { OnOk result
+            (entries_in list.new.items ≡ entries_in list.old.items ++ chain_at self.now place) }
     {
         let key = self
             .records

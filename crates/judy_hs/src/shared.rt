@@ -17,7 +17,8 @@ pub fn join(
     place: usize,
     key: &[u8],
 ) -> Result<(), AllocError>
-    ensures put { OnOk result (others_at chains.new place ≡ with_pair (others_at chains.old place) key.now 0) }
+    ensures put { OnOk result
+        (others_at chains.new place ≡ with_pair (others_at chains.old place) key.now 0) }
     ensures refused { OnErr result (others_at chains.new place ≡ others_at chains.old place) }
     ensures same { (at : ℕ) → at ≢ place → others_at chains.new at ≡ others_at chains.old at }
 {
@@ -61,7 +62,10 @@ pub fn leave(chains: &mut BTreeMap<usize, Chain>, place: usize, key: &[u8])
 
 // Takes the first of the others of a place out, with its value, where there is one.
 pub fn take_first(chains: &mut BTreeMap<usize, Chain>, place: usize) -> Option<(Vec<u8>, u64)>
-    ensures first { MatchOption result ((others_at chains.old place ≡ []) × (others_at chains.new place ≡ [])) (λ first. others_at chains.old place ≡ (first.0.items, first.1) ∷ others_at chains.new place) }
+    ensures first { MatchOption result
+        ((others_at chains.old place ≡ []) × (others_at chains.new place ≡ []))
+        (λ first. others_at chains.old place
+        ≡ (first.0.items, first.1) ∷ others_at chains.new place) }
     ensures same { (at : ℕ) → at ≢ place → others_at chains.new at ≡ others_at chains.old at }
 {
     let Some(chain) = chains.get_mut(&place) else {

@@ -89,7 +89,8 @@ pub(crate) fn put_all<V: Words + Drop>(block: &mut Block, pairs: &[(u64, u64)])
     requires no_values { V.WORDS ≡ 0 → AllByRecursion (λ pair. pair.1 ≡ 0) pairs.now }
     requires room { 4 + V.WORDS * length pairs.now ≤ block.old.capacity }
     ensures parts { IsBitParts V.WORDS block.new }
-    ensures list { bit_list V.WORDS block.new ≡ record (bit_list V.WORDS block.old) { pairs = low_pairs 256 pairs.now } }
+    ensures list { bit_list V.WORDS block.new
+        ≡ record (bit_list V.WORDS block.old) { pairs = low_pairs 256 pairs.now } }
 {
     set_bits(block, pairs);
     block.set_tag(block.tag() + pairs.len() as u32);

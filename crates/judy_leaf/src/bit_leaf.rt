@@ -92,7 +92,8 @@ impl<V: Words + Drop> BitLeafOf<V> {
     pub fn insert(&mut self, alloc: Global, key: u64) -> Result<(), AllocError>
         requires absent { IsFalse (set.has (keys_of self.old.pairs) key) }
         requires below { key < 256 }
-        ensures added { OnOk result (self.new ≡ record self.old { pairs = with_pair key 0 self.old.pairs }) }
+        ensures added { OnOk result
+            (self.new ≡ record self.old { pairs = with_pair key 0 self.old.pairs }) }
         ensures unchanged { OnErr result (self.new ≡ self.old) }
     {
         self.insert_pair(alloc, key, 0)
@@ -103,7 +104,8 @@ impl<V: Words + Drop> BitLeafOf<V> {
         requires absent { IsFalse (set.has (keys_of self.old.pairs) key) }
         requires below { key < 256 }
         requires no_value { V.WORDS ≡ 0 → value ≡ 0 }
-        ensures added { OnOk result (self.new ≡ record self.old { pairs = with_pair key value self.old.pairs }) }
+        ensures added { OnOk result
+            (self.new ≡ record self.old { pairs = with_pair key value self.old.pairs }) }
         ensures unchanged { OnErr result (self.new ≡ self.old) }
     {
         let at = self.reading().rank(key);
@@ -131,7 +133,8 @@ impl<V: Words + Drop> BitLeafOf<V> {
         requires width { IsWidth width }
         requires list { IsKeyList (record { width = 1; pairs = low_pairs 256 pairs.now }) }
         requires no_values { V.WORDS ≡ 0 → AllByRecursion (λ pair. pair.1 ≡ 0) pairs.now }
-        ensures { IfOk result (λ leaf. leaf ≡ record { width = width; pairs = low_pairs 256 pairs.now }) }
+        ensures { IfOk result
+            (λ leaf. leaf ≡ record { width = width; pairs = low_pairs 256 pairs.now }) }
     {
         let mut block = Block::new(alloc, capacity_for::<V>(pairs.len()))?;
         block.open_gap(0, 4);
@@ -147,7 +150,8 @@ impl<V: Words + Drop> BitLeafOf<V> {
     pub fn slot_at(&mut self, at: usize) -> &mut u64
         requires map { V.WORDS ≡ 1 }
         requires inside { at < length self.old.pairs }
-        ensures* changes { sem 𝓛 (Lends (the_row V.row V.Words) word self.entry result (with_value_at at self.entry.now)) }
+        ensures* changes { sem 𝓛
+            (Lends (the_row V.row V.Words) word self.entry result (with_value_at at self.entry.now)) }
         ensures value { result.now ≡ slice_index (values_of self.old.pairs) at }
     {
         self.block.slot(4 + at)

@@ -151,8 +151,10 @@ impl<'a, V: Words + Drop> BitRef<'a, V> {
     /// The first key from a byte on, where there is one.
     pub fn next_key(&self, byte: u64) -> u64
         requires { set.rank (keys_of self.now.pairs) byte < length self.now.pairs }
-        ensures key { slice_get (keys_of self.now.pairs) (set.rank (keys_of self.now.pairs) byte) ≡ Some result }
-        ensures past { set.rank (keys_of self.now.pairs) (result + 1) ≡ set.rank (keys_of self.now.pairs) byte + 1 }
+        ensures key { slice_get (keys_of self.now.pairs) (set.rank (keys_of self.now.pairs) byte)
+            ≡ Some result }
+        ensures past { set.rank (keys_of self.now.pairs) (result + 1)
+            ≡ set.rank (keys_of self.now.pairs) byte + 1 }
         ensures below { result < 256 }
     {
         self.told();

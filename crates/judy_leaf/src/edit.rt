@@ -14,7 +14,9 @@ fn push_words<const W: usize>(block: &mut Block, word: usize)
     requires width { IsWidth W }
     requires inside { word < length block.old.words }
     requires tight { AllByRecursion (IsTight W) (drop word block.old.words) }
-    ensures { IsEdit W (word + 1) (pushed zero (slice_index (places W (slice_index block.old.words word)) (8 / W - 1))) block.old block.new }
+    ensures { IsEdit W (word + 1)
+        (pushed zero (slice_index (places W (slice_index block.old.words word)) (8 / W - 1)))
+        block.old block.new }
 {
     let end = block.len();
     for at in (word + 1..end).rev() {

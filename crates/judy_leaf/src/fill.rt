@@ -26,7 +26,8 @@ impl<V: Words + Drop> ImmOf<V> {
     pub fn fill_from<E: FromPair>(&self, at: usize, base: u64, out: &mut [E])
         requires inside { at + length out.old ≤ length self.now.pairs }
         requires fits { base + 256 ^ self.now.width ≤ 2 ^ 64 }
-        ensures { out.new ≡ made_of E.made (shift base (take (length out.old) (drop at self.now.pairs))) }
+        ensures { out.new
+            ≡ made_of E.made (shift base (take (length out.old) (drop at self.now.pairs))) }
     {
         let count = self.len();
         prove!(at + out.len() <= count);
@@ -51,7 +52,8 @@ impl<'a, V: Words + Drop> LeafRef<'a, V> {
     pub fn fill_from<E: FromPair>(&self, at: usize, base: u64, out: &mut [E])
         requires inside { at + length out.old ≤ length self.now.pairs }
         requires fits { base + 256 ^ self.now.width ≤ 2 ^ 64 }
-        ensures { out.new ≡ made_of E.made (shift base (take (length out.old) (drop at self.now.pairs))) }
+        ensures { out.new
+            ≡ made_of E.made (shift base (take (length out.old) (drop at self.now.pairs))) }
     {
         match self.width() {
             1 => self.fill_of::<1, E>(at, base, out),
@@ -70,7 +72,8 @@ impl<'a, V: Words + Drop> LeafRef<'a, V> {
         requires width { self.now.width ≡ W }
         requires inside { at + length out.old ≤ length self.now.pairs }
         requires fits { base + 256 ^ W ≤ 2 ^ 64 }
-        ensures { out.new ≡ made_of E.made (shift base (take (length out.old) (drop at self.now.pairs))) }
+        ensures { out.new
+            ≡ made_of E.made (shift base (take (length out.old) (drop at self.now.pairs))) }
     {
         let count = self.len();
         prove!(at + out.len() <= count);
@@ -97,7 +100,8 @@ impl<'a, V: Words + Drop> BitRef<'a, V> {
     pub fn fill_from<E: FromPair>(&self, at: usize, base: u64, out: &mut [E])
         requires inside { at + length out.old ≤ length self.now.pairs }
         requires fits { base + 256 ≤ 2 ^ 64 }
-        ensures { out.new ≡ made_of E.made (shift base (take (length out.old) (drop at self.now.pairs))) }
+        ensures { out.new
+            ≡ made_of E.made (shift base (take (length out.old) (drop at self.now.pairs))) }
     {
         let count = self.len();
         prove!(at + out.len() <= count);

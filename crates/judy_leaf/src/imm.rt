@@ -188,7 +188,8 @@ impl<V: Words + Drop> ImmOf<V> {
     /// The nearest number at or above another that is no key, among those that a key of this width could be; none where all these
     /// are keys.
     pub fn absent_at_or_after(&self, number: u64) -> Option<u64>
-        ensures { IsFirst word_order (is_absent (256 ^ self.now.width) (keys_of self.now.pairs)) number result }
+        ensures { IsFirst word_order
+            (is_absent (256 ^ self.now.width) (keys_of self.now.pairs)) number result }
     {
         one_word::absent_from(self.width, usize::from(self.count), self.keys, number)
     }
@@ -196,7 +197,8 @@ impl<V: Words + Drop> ImmOf<V> {
     /// The nearest number at or below another that is no key, among those that a key of this width could be; none where all these
     /// are keys.
     pub fn absent_at_or_before(&self, number: u64) -> Option<u64>
-        ensures { IsLast word_order (is_absent (256 ^ self.now.width) (keys_of self.now.pairs)) number result }
+        ensures { IsLast word_order
+            (is_absent (256 ^ self.now.width) (keys_of self.now.pairs)) number result }
     {
         one_word::absent_up_to(self.width, usize::from(self.count), self.keys, number)
     }
@@ -229,7 +231,8 @@ impl<V: Words + Drop> ImmOf<V> {
     /// Where keys have no value, each value is 0.
     pub fn from_sorted(width: u8, pairs: &[(u64, u64)]) -> ImmOf<V>
         requires words { V.WORDS ≤ 1 }
-        requires list { IsKeyList (record { width = width; pairs = low_pairs (256 ^ width) pairs.now }) }
+        requires list { IsKeyList
+            (record { width = width; pairs = low_pairs (256 ^ width) pairs.now }) }
         requires few { length pairs.now ≤ imm_room V.WORDS width }
         requires no_values { V.WORDS ≡ 0 → AllByRecursion (λ pair. pair.1 ≡ 0) pairs.now }
         ensures { result ≡ record { width = width; pairs = low_pairs (256 ^ width) pairs.now } }
@@ -244,7 +247,8 @@ impl<V: Words + Drop> ImmOf<V> {
     // The same, one key after another.
     fn few_of_sorted(width: u8, pairs: &[(u64, u64)]) -> ImmOf<V>
         requires words { V.WORDS ≤ 1 }
-        requires list { IsKeyList (record { width = width; pairs = low_pairs (256 ^ width) pairs.now }) }
+        requires list { IsKeyList
+            (record { width = width; pairs = low_pairs (256 ^ width) pairs.now }) }
         requires few { length pairs.now ≤ imm_room V.WORDS width }
         requires no_values { V.WORDS ≡ 0 → AllByRecursion (λ pair. pair.1 ≡ 0) pairs.now }
         ensures { result ≡ record { width = width; pairs = low_pairs (256 ^ width) pairs.now } }
@@ -307,7 +311,8 @@ impl<V: Words + Drop> ImmOf<V> {
     pub fn slot_at(&mut self, at: usize) -> &mut u64
         requires map { V.WORDS ≡ 1 }
         requires inside { at < length self.old.pairs }
-        ensures* changes { sem 𝓛 (Lends (the_row V.row V.Words) word self.entry result (with_value_at at self.entry.now)) }
+        ensures* changes { sem 𝓛
+            (Lends (the_row V.row V.Words) word self.entry result (with_value_at at self.entry.now)) }
         ensures value { result.now ≡ slice_index (values_of self.old.pairs) at }
     {
         &mut self.value

@@ -30,11 +30,17 @@ pub fn put_in_leaf<V: Words + Drop>(
     requires width { block.old.tag ≡ width }
     requires room { count.old < 32 }
     requires place { at ≡ set.rank (keys_of (leaf_list V.WORDS count.old block.old).pairs) key }
-    requires absent { IsFalse (set.has (keys_of (leaf_list V.WORDS count.old block.old).pairs) key) }
+    requires absent { IsFalse
+        (set.has (keys_of (leaf_list V.WORDS count.old block.old).pairs) key) }
     requires below { key < 256 ^ width }
     requires no_value { V.WORDS ≡ 0 → value ≡ 0 }
     ensures parts { IsLeafParts V.WORDS count.new block.new }
-    ensures added { OnOk result (leaf_list V.WORDS count.new block.new ≡ record (leaf_list V.WORDS count.old block.old) { pairs = with_pair key value (leaf_list V.WORDS count.old block.old).pairs }) }
+    ensures added { OnOk result
+        (leaf_list V.WORDS count.new block.new
+        ≡ record (leaf_list V.WORDS count.old block.old) {
+          pairs = with_pair key value
+              (leaf_list V.WORDS count.old block.old).pairs;
+        }) }
     ensures same_count { OnErr result (count.new ≡ count.old) }
     ensures same_block { OnErr result (block.new ≡ block.old) }
 {
@@ -74,7 +80,12 @@ pub fn put_in_bit_leaf<V: Words + Drop>(
     requires absent { IsFalse (set.has (keys_of (bit_list V.WORDS block.old).pairs) byte) }
     requires no_value { V.WORDS ≡ 0 → value ≡ 0 }
     ensures parts { IsBitParts V.WORDS block.new }
-    ensures added { OnOk result (bit_list V.WORDS block.new ≡ record (bit_list V.WORDS block.old) { pairs = with_pair byte value (bit_list V.WORDS block.old).pairs }) }
+    ensures added { OnOk result
+        (bit_list V.WORDS block.new
+        ≡ record (bit_list V.WORDS block.old) {
+          pairs = with_pair byte value
+              (bit_list V.WORDS block.old).pairs;
+        }) }
     ensures unchanged { OnErr result (block.new ≡ block.old) }
 {
     let count = (block.tag() % 65_536) as usize + 1;
@@ -89,7 +100,11 @@ pub fn take_from_leaf<V: Words + Drop>(count: &mut u8, block: &mut Block, width:
     requires width { block.old.tag ≡ width }
     requires inside { at < length (leaf_list V.WORDS count.old block.old).pairs }
     ensures parts { IsLeafParts V.WORDS count.new block.new }
-    ensures taken { leaf_list V.WORDS count.new block.new ≡ record (leaf_list V.WORDS count.old block.old) { pairs = remove (leaf_list V.WORDS count.old block.old).pairs at } }
+    ensures taken { leaf_list V.WORDS count.new block.new
+        ≡ record (leaf_list V.WORDS count.old block.old) {
+          pairs = remove
+              (leaf_list V.WORDS count.old block.old).pairs at;
+        } }
 {
     pairs::take::<V>(block, usize::from(width), usize::from(*count), at);
     *count -= 1;
@@ -100,7 +115,11 @@ pub fn take_from_bit_leaf<V: Words + Drop>(block: &mut Block, at: usize, byte: u
     requires parts { IsBitParts V.WORDS block.old }
     requires there { slice_get (keys_of (bit_list V.WORDS block.old).pairs) at ≡ Some byte }
     ensures parts { IsBitParts V.WORDS block.new }
-    ensures taken { bit_list V.WORDS block.new ≡ record (bit_list V.WORDS block.old) { pairs = remove (bit_list V.WORDS block.old).pairs at } }
+    ensures taken { bit_list V.WORDS block.new
+        ≡ record (bit_list V.WORDS block.old) {
+          pairs = remove
+              (bit_list V.WORDS block.old).pairs at;
+        } }
 {
     bit_edit::take::<V>(block, at, byte);
 }

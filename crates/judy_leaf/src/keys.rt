@@ -95,7 +95,8 @@ pub(crate) fn next(
     requires start { start ≤ 32 }
     requires keys { AreKeysFrom width count start block.now }
     requires ascending { IsStrictlySortedBy word_order (keys_from width count start block.now) }
-    ensures { MatchOption result (set.rank (keys_from width count start block.now) number ≡ count) (λ found. IsNextAt (keys_from width count start block.now) number found) }
+    ensures { MatchOption result (set.rank (keys_from width count start block.now) number ≡ count)
+        (λ found. IsNextAt (keys_from width count start block.now) number found) }
 {
     match width {
         1 => next_in::<1>(count, words_from::<1>(block, start, count), number),
@@ -120,7 +121,9 @@ pub(crate) fn previous(
     requires start { start ≤ 32 }
     requires keys { AreKeysFrom width count start block.now }
     requires ascending { IsStrictlySortedBy word_order (keys_from width count start block.now) }
-    ensures { MatchOption result (set.count_up_to (keys_from width count start block.now) number ≡ 0) (λ found. IsPreviousAt (keys_from width count start block.now) number found) }
+    ensures { MatchOption result
+        (set.count_up_to (keys_from width count start block.now) number ≡ 0)
+        (λ found. IsPreviousAt (keys_from width count start block.now) number found) }
 {
     match width {
         1 => previous_in::<1>(count, words_from::<1>(block, start, count), number),
@@ -145,7 +148,8 @@ pub(crate) fn absent_from(
     requires start { start ≤ 32 }
     requires keys { AreKeysFrom width count start block.now }
     requires ascending { IsStrictlySortedBy word_order (keys_from width count start block.now) }
-    ensures { IsFirst word_order (is_absent (256 ^ width) (keys_from width count start block.now)) number result }
+    ensures { IsFirst word_order
+        (is_absent (256 ^ width) (keys_from width count start block.now)) number result }
 {
     match width {
         1 => absent_from_in::<1>(count, words_from::<1>(block, start, count), number),
@@ -170,7 +174,8 @@ pub(crate) fn absent_up_to(
     requires start { start ≤ 32 }
     requires keys { AreKeysFrom width count start block.now }
     requires ascending { IsStrictlySortedBy word_order (keys_from width count start block.now) }
-    ensures { IsLast word_order (is_absent (256 ^ width) (keys_from width count start block.now)) number result }
+    ensures { IsLast word_order
+        (is_absent (256 ^ width) (keys_from width count start block.now)) number result }
 {
     match width {
         1 => absent_up_to_in::<1>(count, words_from::<1>(block, start, count), number),
@@ -243,7 +248,8 @@ fn insert_word<const W: usize>(block: &mut Block, start: usize, count: usize, at
     requires room { start + words_for W (count + 1) ≤ block.old.capacity }
     requires place { at ≤ count }
     requires below { key < 256 ^ W }
-    ensures { IsKeyChange W start count (count + 1) (λ keys. insert keys at key) block.old block.new }
+    ensures { IsKeyChange W start count (count + 1)
+        (λ keys. insert keys at key) block.old block.new }
 {
     block.open_gap(start + at, 1);
     block.put(start + at, key);
@@ -258,7 +264,8 @@ fn insert_in<const W: usize>(block: &mut Block, start: usize, count: usize, at: 
     requires room { start + words_for W (count + 1) ≤ block.old.capacity }
     requires place { at ≤ count }
     requires below { key < 256 ^ W }
-    ensures { IsKeyChange W start count (count + 1) (λ keys. insert keys at key) block.old block.new }
+    ensures { IsKeyChange W start count (count + 1)
+        (λ keys. insert keys at key) block.old block.new }
 {
     if 8 / W == 1 {
         insert_word::<W>(block, start, count, at, key);
@@ -283,7 +290,8 @@ pub(crate) fn insert(
     requires room { start + words_for width (count + 1) ≤ block.old.capacity }
     requires place { at ≤ count }
     requires below { key < 256 ^ width }
-    ensures { IsKeyChange width start count (count + 1) (λ keys. insert keys at key) block.old block.new }
+    ensures { IsKeyChange width start count (count + 1)
+        (λ keys. insert keys at key) block.old block.new }
 {
     match width {
         1 => insert_in::<1>(block, start, count, at, key),
@@ -304,7 +312,8 @@ fn append_in<const W: usize>(block: &mut Block, start: usize, pairs: &[(u64, u64
     requires few { length pairs.now ≤ 32 }
     requires behind { length block.old.words ≡ start }
     requires room { start + words_for W (length pairs.now) ≤ block.old.capacity }
-    ensures { IsKeyChange W start 0 (length pairs.now) (λ _. keys_of (low_pairs (256 ^ W) pairs.now)) block.old block.new }
+    ensures { IsKeyChange W start 0 (length pairs.now)
+        (λ _. keys_of (low_pairs (256 ^ W) pairs.now)) block.old block.new }
 {
     if 8 / W == 1 {
         append_words::<W>(block, start, pairs);
@@ -321,7 +330,8 @@ fn append_words<const W: usize>(block: &mut Block, start: usize, pairs: &[(u64, 
     requires few { length pairs.now ≤ 32 }
     requires behind { length block.old.words ≡ start }
     requires room { start + words_for W (length pairs.now) ≤ block.old.capacity }
-    ensures { IsKeyChange W start 0 (length pairs.now) (λ _. keys_of (low_pairs (256 ^ W) pairs.now)) block.old block.new }
+    ensures { IsKeyChange W start 0 (length pairs.now)
+        (λ _. keys_of (low_pairs (256 ^ W) pairs.now)) block.old block.new }
 {
     block.open_gap(start, pairs.len());
     for at in 0..pairs.len() {
@@ -336,7 +346,8 @@ fn append_packed<const W: usize>(block: &mut Block, start: usize, pairs: &[(u64,
     requires few { length pairs.now ≤ 32 }
     requires behind { length block.old.words ≡ start }
     requires room { start + words_for W (length pairs.now) ≤ block.old.capacity }
-    ensures { IsKeyChange W start 0 (length pairs.now) (λ _. keys_of (low_pairs (256 ^ W) pairs.now)) block.old block.new }
+    ensures { IsKeyChange W start 0 (length pairs.now)
+        (λ _. keys_of (low_pairs (256 ^ W) pairs.now)) block.old block.new }
 {
     for at in 0..pairs.len() {
         insert_in::<W>(block, start, at, at, low_part(pairs[at].0, W));
@@ -350,7 +361,8 @@ pub(crate) fn append(width: usize, block: &mut Block, start: usize, pairs: &[(u6
     requires few { length pairs.now ≤ 32 }
     requires behind { length block.old.words ≡ start }
     requires room { start + words_for width (length pairs.now) ≤ block.old.capacity }
-    ensures { IsKeyChange width start 0 (length pairs.now) (λ _. keys_of (low_pairs (256 ^ width) pairs.now)) block.old block.new }
+    ensures { IsKeyChange width start 0 (length pairs.now)
+        (λ _. keys_of (low_pairs (256 ^ width) pairs.now)) block.old block.new }
 {
     match width {
         1 => append_in::<1>(block, start, pairs),
@@ -410,7 +422,8 @@ pub(crate) fn remove(width: usize, block: &mut Block, start: usize, count: usize
     requires start { start ≤ 32 }
     requires keys { AreKeysFrom width count start block.old }
     requires inside { at < count }
-    ensures { IsKeyChange width start count (count - 1) (λ keys. remove keys at) block.old block.new }
+    ensures { IsKeyChange width start count (count - 1)
+        (λ keys. remove keys at) block.old block.new }
 {
     match width {
         1 => remove_in::<1>(block, start, count, at),

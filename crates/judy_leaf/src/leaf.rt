@@ -82,7 +82,8 @@ impl<V: Words + Drop> LeafOf<V> {
         requires absent { IsFalse (set.has (keys_of self.old.pairs) key) }
         requires room { length self.old.pairs < 32 }
         requires below { key < 256 ^ self.old.width }
-        ensures added { OnOk result (self.new ≡ record self.old { pairs = with_pair key 0 self.old.pairs }) }
+        ensures added { OnOk result
+            (self.new ≡ record self.old { pairs = with_pair key 0 self.old.pairs }) }
         ensures unchanged { OnErr result (self.new ≡ self.old) }
     {
         self.insert_pair(alloc, key, 0)
@@ -94,7 +95,8 @@ impl<V: Words + Drop> LeafOf<V> {
         requires room { length self.old.pairs < 32 }
         requires below { key < 256 ^ self.old.width }
         requires no_value { V.WORDS ≡ 0 → value ≡ 0 }
-        ensures added { OnOk result (self.new ≡ record self.old { pairs = with_pair key value self.old.pairs }) }
+        ensures added { OnOk result
+            (self.new ≡ record self.old { pairs = with_pair key value self.old.pairs }) }
         ensures unchanged { OnErr result (self.new ≡ self.old) }
     {
         let at = self.reading().rank(key);
@@ -129,10 +131,12 @@ impl<V: Words + Drop> LeafOf<V> {
         pairs: &[(u64, u64)],
     ) -> Result<LeafOf<V>, AllocError>
         requires words { V.WORDS ≤ 1 }
-        requires list { IsKeyList (record { width = width; pairs = low_pairs (256 ^ width) pairs.now }) }
+        requires list { IsKeyList
+            (record { width = width; pairs = low_pairs (256 ^ width) pairs.now }) }
         requires few { length pairs.now ≤ 32 }
         requires no_values { V.WORDS ≡ 0 → AllByRecursion (λ pair. pair.1 ≡ 0) pairs.now }
-        ensures { IfOk result (λ leaf. leaf ≡ record { width = width; pairs = low_pairs (256 ^ width) pairs.now }) }
+        ensures { IfOk result
+            (λ leaf. leaf ≡ record { width = width; pairs = low_pairs (256 ^ width) pairs.now }) }
     {
         let needed = LeafOf::<V>::words_needed(width, pairs);
         LeafOf::filled(alloc, width, pairs, needed / 4 * 4 + 4)
@@ -145,10 +149,12 @@ impl<V: Words + Drop> LeafOf<V> {
         pairs: &[(u64, u64)],
     ) -> Result<LeafOf<V>, AllocError>
         requires words { V.WORDS ≤ 1 }
-        requires list { IsKeyList (record { width = width; pairs = low_pairs (256 ^ width) pairs.now }) }
+        requires list { IsKeyList
+            (record { width = width; pairs = low_pairs (256 ^ width) pairs.now }) }
         requires few { length pairs.now ≤ 32 }
         requires no_values { V.WORDS ≡ 0 → AllByRecursion (λ pair. pair.1 ≡ 0) pairs.now }
-        ensures { IfOk result (λ leaf. leaf ≡ record { width = width; pairs = low_pairs (256 ^ width) pairs.now }) }
+        ensures { IfOk result
+            (λ leaf. leaf ≡ record { width = width; pairs = low_pairs (256 ^ width) pairs.now }) }
     {
         let needed = LeafOf::<V>::words_needed(width, pairs);
         LeafOf::filled(alloc, width, pairs, (needed.max(1) + 1) / 2 * 2)
@@ -173,13 +179,15 @@ impl<V: Words + Drop> LeafOf<V> {
         capacity: usize,
     ) -> Result<LeafOf<V>, AllocError>
         requires words { V.WORDS ≤ 1 }
-        requires list { IsKeyList (record { width = width; pairs = low_pairs (256 ^ width) pairs.now }) }
+        requires list { IsKeyList
+            (record { width = width; pairs = low_pairs (256 ^ width) pairs.now }) }
         requires few { length pairs.now ≤ 32 }
         requires no_values { V.WORDS ≡ 0 → AllByRecursion (λ pair. pair.1 ≡ 0) pairs.now }
         requires some { 1 ≤ capacity }
         requires within { capacity ≤ 65535 }
         requires room { V.WORDS * length pairs.now + words_for width (length pairs.now) ≤ capacity }
-        ensures { IfOk result (λ leaf. leaf ≡ record { width = width; pairs = low_pairs (256 ^ width) pairs.now }) }
+        ensures { IfOk result
+            (λ leaf. leaf ≡ record { width = width; pairs = low_pairs (256 ^ width) pairs.now }) }
     {
         let mut block = Block::new(alloc, capacity)?;
         block.set_tag(u32::from(width));
@@ -195,7 +203,8 @@ impl<V: Words + Drop> LeafOf<V> {
     pub fn slot_at(&mut self, at: usize) -> &mut u64
         requires map { V.WORDS ≡ 1 }
         requires inside { at < length self.old.pairs }
-        ensures* changes { sem 𝓛 (Lends (the_row V.row V.Words) word self.entry result (with_value_at at self.entry.now)) }
+        ensures* changes { sem 𝓛
+            (Lends (the_row V.row V.Words) word self.entry result (with_value_at at self.entry.now)) }
         ensures value { result.now ≡ slice_index (values_of self.old.pairs) at }
     {
         self.block.slot(at)

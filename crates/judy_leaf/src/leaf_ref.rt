@@ -195,7 +195,8 @@ impl<'a, V: Words + Drop> LeafRef<'a, V> {
     /// The nearest number at or above another that is no key, among those that a key of this width could be; none where all these
     /// are keys.
     pub fn absent_at_or_after(&self, number: u64) -> Option<u64>
-        ensures { IsFirst word_order (is_absent (256 ^ self.now.width) (keys_of self.now.pairs)) number result }
+        ensures { IsFirst word_order
+            (is_absent (256 ^ self.now.width) (keys_of self.now.pairs)) number result }
     {
         let count = usize::from(self.count);
         let width = usize::from(self.width);
@@ -205,7 +206,8 @@ impl<'a, V: Words + Drop> LeafRef<'a, V> {
     /// The nearest number at or below another that is no key, among those that a key of this width could be; none where all these
     /// are keys.
     pub fn absent_at_or_before(&self, number: u64) -> Option<u64>
-        ensures { IsLast word_order (is_absent (256 ^ self.now.width) (keys_of self.now.pairs)) number result }
+        ensures { IsLast word_order
+            (is_absent (256 ^ self.now.width) (keys_of self.now.pairs)) number result }
     {
         let count = usize::from(self.count);
         let width = usize::from(self.width);

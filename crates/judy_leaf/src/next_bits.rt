@@ -30,8 +30,11 @@ pub(crate) fn left_from(words: &[u64], byte: u64) -> (usize, u64)
 #[inline(always)]
 pub(crate) fn take_next(words: &[u64], word: &mut usize, left: &mut u64) -> u64
     requires four { length words.now ≡ 4 }
-    requires some { (byte : ℕ) × AreLeft words.now word.old left.old byte × (next : ℕ) × (set.next_from (members_of words.now) byte ≡ Some next) }
-    ensures next { (byte : ℕ) → AreLeft words.now word.old left.old byte → (set.next_from (members_of words.now) byte ≡ Some result) × AreLeft words.now word.new left.new (result + 1) }
+    requires some { (byte : ℕ) × AreLeft words.now word.old left.old byte × (next : ℕ)
+        × (set.next_from (members_of words.now) byte ≡ Some next) }
+    ensures next { (byte : ℕ) → AreLeft words.now word.old left.old byte
+        → (set.next_from (members_of words.now) byte ≡ Some result)
+        × AreLeft words.now word.new left.new (result + 1) }
     ensures below { result < 256 }
 {
     while *left == 0 {

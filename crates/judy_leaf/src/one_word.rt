@@ -94,7 +94,8 @@ fn find_among(width: u8, count: usize, word: u64, key: u64) -> Option<usize>
 pub(crate) fn next(width: u8, count: usize, word: u64, number: u64) -> Option<(usize, u64)>
     requires packed { IsPacked width count (word ∷ []) }
     requires ascending { IsStrictlySortedBy word_order (keys_in width count (word ∷ [])) }
-    ensures { MatchOption result (set.rank (keys_in width count (word ∷ [])) number ≡ count) (λ found. IsNextAt (keys_in width count (word ∷ [])) number found) }
+    ensures { MatchOption result (set.rank (keys_in width count (word ∷ [])) number ≡ count)
+        (λ found. IsNextAt (keys_in width count (word ∷ [])) number found) }
 {
     if count == 1 {
         if word < number { None } else { Some((0, word)) }
@@ -107,7 +108,8 @@ pub(crate) fn next(width: u8, count: usize, word: u64, number: u64) -> Option<(u
 fn next_among(width: u8, count: usize, word: u64, number: u64) -> Option<(usize, u64)>
     requires packed { IsPacked width count (word ∷ []) }
     requires ascending { IsStrictlySortedBy word_order (keys_in width count (word ∷ [])) }
-    ensures { MatchOption result (set.rank (keys_in width count (word ∷ [])) number ≡ count) (λ found. IsNextAt (keys_in width count (word ∷ [])) number found) }
+    ensures { MatchOption result (set.rank (keys_in width count (word ∷ [])) number ≡ count)
+        (λ found. IsNextAt (keys_in width count (word ∷ [])) number found) }
 {
     match width {
         1 => next_in::<1>(count, &[word], number),
@@ -125,7 +127,8 @@ fn next_among(width: u8, count: usize, word: u64, number: u64) -> Option<(usize,
 pub(crate) fn previous(width: u8, count: usize, word: u64, number: u64) -> Option<(usize, u64)>
     requires packed { IsPacked width count (word ∷ []) }
     requires ascending { IsStrictlySortedBy word_order (keys_in width count (word ∷ [])) }
-    ensures { MatchOption result (set.count_up_to (keys_in width count (word ∷ [])) number ≡ 0) (λ found. IsPreviousAt (keys_in width count (word ∷ [])) number found) }
+    ensures { MatchOption result (set.count_up_to (keys_in width count (word ∷ [])) number ≡ 0)
+        (λ found. IsPreviousAt (keys_in width count (word ∷ [])) number found) }
 {
     match width {
         1 => previous_in::<1>(count, &[word], number),
@@ -143,7 +146,8 @@ pub(crate) fn previous(width: u8, count: usize, word: u64, number: u64) -> Optio
 pub(crate) fn absent_from(width: u8, count: usize, word: u64, number: u64) -> Option<u64>
     requires packed { IsPacked width count (word ∷ []) }
     requires ascending { IsStrictlySortedBy word_order (keys_in width count (word ∷ [])) }
-    ensures { IsFirst word_order (is_absent (256 ^ width) (keys_in width count (word ∷ []))) number result }
+    ensures { IsFirst word_order
+        (is_absent (256 ^ width) (keys_in width count (word ∷ []))) number result }
 {
     match width {
         1 => absent_from_in::<1>(count, &[word], number),
@@ -161,7 +165,8 @@ pub(crate) fn absent_from(width: u8, count: usize, word: u64, number: u64) -> Op
 pub(crate) fn absent_up_to(width: u8, count: usize, word: u64, number: u64) -> Option<u64>
     requires packed { IsPacked width count (word ∷ []) }
     requires ascending { IsStrictlySortedBy word_order (keys_in width count (word ∷ [])) }
-    ensures { IsLast word_order (is_absent (256 ^ width) (keys_in width count (word ∷ []))) number result }
+    ensures { IsLast word_order
+        (is_absent (256 ^ width) (keys_in width count (word ∷ []))) number result }
 {
     match width {
         1 => absent_up_to_in::<1>(count, &[word], number),

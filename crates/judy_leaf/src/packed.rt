@@ -127,7 +127,8 @@ pub(crate) fn next_in<const W: usize>(
     requires packed { IsPacked W count words.now }
     requires ascending { IsStrictlySortedBy word_order (keys_in W count words.now) }
     requires few { length words.now ≤ 32 }
-    ensures { MatchOption result (set.rank (keys_in W count words.now) number ≡ count) (λ found. IsNextAt (keys_in W count words.now) number found) }
+    ensures { MatchOption result (set.rank (keys_in W count words.now) number ≡ count)
+        (λ found. IsNextAt (keys_in W count words.now) number found) }
 {
     let at = rank_in::<W>(count, words, number);
     if at < count {
@@ -160,7 +161,8 @@ pub(crate) fn previous_in<const W: usize>(
     requires packed { IsPacked W count words.now }
     requires ascending { IsStrictlySortedBy word_order (keys_in W count words.now) }
     requires few { length words.now ≤ 32 }
-    ensures { MatchOption result (set.count_up_to (keys_in W count words.now) number ≡ 0) (λ found. IsPreviousAt (keys_in W count words.now) number found) }
+    ensures { MatchOption result (set.count_up_to (keys_in W count words.now) number ≡ 0)
+        (λ found. IsPreviousAt (keys_in W count words.now) number found) }
 {
     let past = up_to_in::<W>(count, words, number);
     if past == 0 {

@@ -80,13 +80,16 @@ pub(crate) fn put_all<V: Words + Drop>(block: &mut Block, width: usize, pairs: &
     requires one { V.WORDS ≤ 1 }
     requires tag { block.old.tag ≡ width }
     requires empty { block.old.words ≡ [] }
-    requires list { IsKeyList (record { width = width; pairs = low_pairs (256 ^ width) pairs.now }) }
+    requires list { IsKeyList
+        (record { width = width; pairs = low_pairs (256 ^ width) pairs.now }) }
     requires few { length pairs.now ≤ 32 }
     requires no_values { V.WORDS ≡ 0 → AllByRecursion (λ pair. pair.1 ≡ 0) pairs.now }
-    requires room { V.WORDS * length pairs.now + words_for width (length pairs.now) ≤ block.old.capacity }
+    requires room { V.WORDS * length pairs.now + words_for width (length pairs.now)
+        ≤ block.old.capacity }
     ensures tag { block.new.tag ≡ width }
     ensures keys { AreKeysFrom width (length pairs.now) (V.WORDS * length pairs.now) block.new }
-    ensures pairs { (leaf_list V.WORDS (length pairs.now) block.new).pairs ≡ low_pairs (256 ^ width) pairs.now }
+    ensures pairs { (leaf_list V.WORDS (length pairs.now) block.new).pairs
+        ≡ low_pairs (256 ^ width) pairs.now }
 {
     if V::WORDS == 1 {
         values::append(block, pairs);

@@ -14,7 +14,8 @@ pub(crate) fn insert(block: &mut Block, count: usize, at: usize, value: u64)
     requires place { at ≤ count }
     requires keys { AreKeysFrom block.old.tag count count block.old }
     requires room { length block.old.words + 1 ≤ block.old.capacity }
-    ensures { IsValueChange count count (count + 1) (λ values. insert values at value) block.old block.new }
+    ensures { IsValueChange count count (count + 1)
+        (λ values. insert values at value) block.old block.new }
 {
     block.open_gap(at, 1);
     block.put(at, value);
@@ -25,7 +26,8 @@ pub(crate) fn remove(block: &mut Block, count: usize, at: usize)
     requires few { count ≤ 32 }
     requires inside { at < count }
     requires keys { AreKeysFrom block.old.tag (count - 1) count block.old }
-    ensures { IsValueChange (count - 1) count (count - 1) (λ values. remove values at) block.old block.new }
+    ensures { IsValueChange (count - 1) count (count - 1)
+        (λ values. remove values at) block.old block.new }
 {
     block.close_gap(at, 1);
 }

@@ -28,7 +28,9 @@ fn value_of(word: u64) -> u64
 impl Array {
     /// Puts a key in, and answers whether it was absent.
     pub fn put(&mut self, word: u64) -> Result<bool, InsertError>
-        ensures put { OnOk result (array_of (seen self.new) ≡ array.with_map (array_of (seen self.old)) (with_key self.old word)) }
+        ensures put { OnOk result
+            (array_of (seen self.new)
+            ≡ array.with_map (array_of (seen self.old)) (with_key self.old word)) }
         ensures unchanged { OnErr result (self.new ≡ self.old) }
     {
         match self {
@@ -39,7 +41,8 @@ impl Array {
 
     /// Takes a key out, and answers whether it was there.
     pub fn take(&mut self, word: u64) -> bool
-        ensures { array_of (seen self.new) ≡ array.with_map (array_of (seen self.old)) (array.del (seen self.old).map word) }
+        ensures { array_of (seen self.new)
+            ≡ array.with_map (array_of (seen self.old)) (array.del (seen self.old).map word) }
     {
         match self {
             Array::Set(set) => set.unset(word),

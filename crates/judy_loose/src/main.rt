@@ -98,7 +98,9 @@ fn tidy_twice(rt: &impl Print, array: &mut Array) -> io::Result<()> {
 
 // Puts a key in, or leaves the array as it was.
 fn put(rt: &impl Print, array: &mut Array, word: u64) -> io::Result<()>
-    ensures { (array.new ≡ array.old) ⊎ (array_of (seen array.new) ≡ arrays.with_map (array_of (seen array.old)) (with_key array.old word)) }
+    ensures { (array.new ≡ array.old)
+        ⊎ (array_of (seen array.new)
+        ≡ arrays.with_map (array_of (seen array.old)) (with_key array.old word)) }
 {
     let answer = match array.put(word) {
         Ok(true) => "1",
@@ -111,7 +113,8 @@ fn put(rt: &impl Print, array: &mut Array, word: u64) -> io::Result<()>
 
 // Takes a key out, whatever memory there is.
 fn take(rt: &impl Print, array: &mut Array, word: u64) -> io::Result<()>
-    ensures { array_of (seen array.new) ≡ arrays.with_map (array_of (seen array.old)) (arrays.del (seen array.old).map word) }
+    ensures { array_of (seen array.new)
+        ≡ arrays.with_map (array_of (seen array.old)) (arrays.del (seen array.old).map word) }
 {
     let answer = u8::from(array.take(word));
     println!(rt; "unset {word}: {answer}")

@@ -38,10 +38,14 @@ pub fn dump_faults()
     ensures kind { fault_of (overwritten dump_of_one 10 (5 ∷ [])) ≡ Some bad_kind }
     ensures no_kind { fault_of (overwritten dump_of_one 10 (0 ∷ [])) ≡ Some bad_kind }
     ensures no_limit { fault_of (overwritten dump_of_one 11 (small 0)) ≡ Some bad_limit }
-    ensures great_limit { fault_of (overwritten dump_of_one 11 (0 ∷ 0 ∷ 0 ∷ 1 ∷ 0 ∷ 0 ∷ 0 ∷ 0 ∷ [])) ≡ Some bad_limit }
-    ensures count { fault_of (overwritten dump_of_one 19 (0 ∷ 0 ∷ 0 ∷ 1 ∷ 0 ∷ 0 ∷ 0 ∷ 0 ∷ [])) ≡ Some bad_count }
-    ensures falling { fault_of (take 19 dump_of_one ++ small 2 ++ small 2 ++ small 1) ≡ Some bad_order }
-    ensures twice { fault_of (take 19 dump_of_one ++ small 2 ++ small 1 ++ small 1) ≡ Some bad_order }
+    ensures great_limit { fault_of (overwritten dump_of_one 11 (0 ∷ 0 ∷ 0 ∷ 1 ∷ 0 ∷ 0 ∷ 0 ∷ 0 ∷ []))
+        ≡ Some bad_limit }
+    ensures count { fault_of (overwritten dump_of_one 19 (0 ∷ 0 ∷ 0 ∷ 1 ∷ 0 ∷ 0 ∷ 0 ∷ 0 ∷ []))
+        ≡ Some bad_count }
+    ensures falling { fault_of (take 19 dump_of_one ++ small 2 ++ small 2 ++ small 1)
+        ≡ Some bad_order }
+    ensures twice { fault_of (take 19 dump_of_one ++ small 2 ++ small 1 ++ small 1)
+        ≡ Some bad_order }
 {}
 
 /// Faults of the arrays with string keys, and of a name that stands twice.
@@ -69,13 +73,16 @@ pub fn second_format()
 
 /// The faults of keys in the second format, in the order of their checks.
 pub fn prefix_faults()
-    ensures first_key { fault_of (overwritten second_dump_of_prefixes 27 (0 ∷ 1 ∷ [])) ≡ Some bad_prefix }
-    ensures slack { fault_of (two_entries ++ 0 ∷ 0 ∷ 0 ∷ 3 ∷ codes "abc" ++ small 3) ≡ Some bad_prefix }
+    ensures first_key { fault_of (overwritten second_dump_of_prefixes 27 (0 ∷ 1 ∷ []))
+        ≡ Some bad_prefix }
+    ensures slack { fault_of (two_entries ++ 0 ∷ 0 ∷ 0 ∷ 3 ∷ codes "abc" ++ small 3)
+        ≡ Some bad_prefix }
     ensures long_front { fault_of (two_entries ++ 0 ∷ 3 ∷ 0 ∷ 0 ∷ []) ≡ Some bad_prefix }
     ensures same_key { fault_of (two_entries ++ 0 ∷ 2 ∷ 0 ∷ 0 ∷ []) ≡ Some bad_order }
     ensures lesser_key { fault_of (two_entries ++ 0 ∷ 1 ∷ 0 ∷ 1 ∷ codes "a") ≡ Some bad_order }
     ensures zero_byte { fault_of (two_entries ++ 0 ∷ 2 ∷ 0 ∷ 1 ∷ 0 ∷ []) ≡ Some bad_key }
-    ensures zero_byte_first { fault_of (two_entries ++ 0 ∷ 0 ∷ 0 ∷ 3 ∷ codes "ab" ++ 0 ∷ []) ≡ Some bad_key }
+    ensures zero_byte_first { fault_of (two_entries ++ 0 ∷ 0 ∷ 0 ∷ 3 ∷ codes "ab" ++ 0 ∷ [])
+        ≡ Some bad_key }
     ensures long_key { fault_of (two_entries ++ 0 ∷ 2 ∷ 3 ∷ 255 ∷ []) ≡ Some bad_key }
     ensures longest_key { fault_of (two_entries ++ 0 ∷ 2 ∷ 3 ∷ 254 ∷ []) ≡ Some truncated }
 {}

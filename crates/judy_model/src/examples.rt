@@ -25,8 +25,10 @@ ghost use Rattle.judy_model.specs.Examples.{line, one_array, two_arrays, string_
 pub fn scripts_are_cut_at_each_line_feed()
     ensures nothing { lines_of [] ≡ [] }
     ensures blank { lines_of (10 ∷ []) ≡ record { bytes = []; ended = true } ∷ [] }
-    ensures one { lines_of (codes "get a" ++ 10 ∷ []) ≡ record { bytes = codes "get a"; ended = true } ∷ [] }
-    ensures unended { lines_of (codes "get a") ≡ record { bytes = codes "get a"; ended = false } ∷ [] }
+    ensures one { lines_of (codes "get a" ++ 10 ∷ [])
+        ≡ record { bytes = codes "get a"; ended = true } ∷ [] }
+    ensures unended { lines_of (codes "get a")
+        ≡ record { bytes = codes "get a"; ended = false } ∷ [] }
     ensures two { lines_of (codes "a" ++ 13 ∷ 10 ∷ codes "b")
         ≡ record { bytes = codes "a" ++ 13 ∷ []; ended = true } ∷ record { bytes = codes "b"; ended = false } ∷ [] }
 {}
@@ -34,8 +36,10 @@ pub fn scripts_are_cut_at_each_line_feed()
 /// A CR is no part of the text where an LF follows it, and an ordinary byte where none does.
 pub fn a_carriage_return_is_dropped_before_a_line_feed()
     ensures ended { text_of (record { bytes = codes "ab" ++ 13 ∷ []; ended = true }) ≡ codes "ab" }
-    ensures unended { text_of (record { bytes = codes "ab" ++ 13 ∷ []; ended = false }) ≡ codes "ab" ++ 13 ∷ [] }
-    ensures within { text_of (record { bytes = 97 ∷ 13 ∷ 98 ∷ []; ended = true }) ≡ 97 ∷ 13 ∷ 98 ∷ [] }
+    ensures unended { text_of (record { bytes = codes "ab" ++ 13 ∷ []; ended = false })
+        ≡ codes "ab" ++ 13 ∷ [] }
+    ensures within { text_of (record { bytes = 97 ∷ 13 ∷ 98 ∷ []; ended = true })
+        ≡ 97 ∷ 13 ∷ 98 ∷ [] }
     ensures alone { text_of (record { bytes = 13 ∷ []; ended = true }) ≡ [] }
 {}
 
@@ -105,15 +109,22 @@ pub fn refusals_come_in_their_order()
     ensures name { step [] (line (codes "ins z! 5 x")) ≡ (Err bad_name, []) }
     ensures array { step [] (line (codes "ins z 5 x")) ≡ (Err no_such_array, []) }
     ensures kind { step [] (line (codes "make b judy2 x")) ≡ (Err wrong_kind, []) }
-    ensures word { step (one_array 1) (line (codes "make b judyl x")) ≡ (Err bad_word, one_array 1) }
+    ensures word { step (one_array 1) (line (codes "make b judyl x"))
+        ≡ (Err bad_word, one_array 1) }
     ensures key { step (one_array 1) (line (codes "ins a x 5")) ≡ (Err bad_word, one_array 1) }
     ensures value { step (one_array 1) (line (codes "ins a 5 x")) ≡ (Err bad_word, one_array 1) }
-    ensures string_key { step string_arrays (line (codes "ins t #00 x")) ≡ (Err bad_key, string_arrays) }
-    ensures bytes_value { step string_arrays (line (codes "ins h #00 x")) ≡ (Err bad_word, string_arrays) }
-    ensures string_value { step string_arrays (line (codes "ins t =a x")) ≡ (Err bad_word, string_arrays) }
-    ensures limit { step (one_array 1) (line (codes "make a judyl 0")) ≡ (Err bad_limit, one_array 1) }
-    ensures greater { step (one_array 1) (line (codes "make b judyl 4294967296")) ≡ (Err bad_limit, one_array 1) }
-    ensures taken { step (one_array 1) (line (codes "make a judyl 4294967295")) ≡ (Err exists, one_array 1) }
+    ensures string_key { step string_arrays (line (codes "ins t #00 x"))
+        ≡ (Err bad_key, string_arrays) }
+    ensures bytes_value { step string_arrays (line (codes "ins h #00 x"))
+        ≡ (Err bad_word, string_arrays) }
+    ensures string_value { step string_arrays (line (codes "ins t =a x"))
+        ≡ (Err bad_word, string_arrays) }
+    ensures limit { step (one_array 1) (line (codes "make a judyl 0"))
+        ≡ (Err bad_limit, one_array 1) }
+    ensures greater { step (one_array 1) (line (codes "make b judyl 4294967296"))
+        ≡ (Err bad_limit, one_array 1) }
+    ensures taken { step (one_array 1) (line (codes "make a judyl 4294967295"))
+        ≡ (Err exists, one_array 1) }
 {}
 
 /// A command that an array's kind doesn't have is refused before its words are read.
@@ -125,16 +136,25 @@ pub fn each_kind_has_its_commands()
     ensures unset { step two_arrays (line (codes "unset a x")) ≡ (Err wrong_kind, two_arrays) }
     ensures test { step two_arrays (line (codes "test a x")) ≡ (Err wrong_kind, two_arrays) }
     ensures count { step two_arrays (line (codes "count s x 1")) ≡ (Err bad_word, two_arrays) }
-    ensures string_first { step string_arrays (line (codes "first t x")) ≡ (Err bad_key, string_arrays) }
-    ensures string_empty { step string_arrays (line (codes "fe t x")) ≡ (Err wrong_kind, string_arrays) }
-    ensures string_count { step string_arrays (line (codes "count t x y")) ≡ (Err bad_key, string_arrays) }
-    ensures string_place { step string_arrays (line (codes "bycount t =a")) ≡ (Err bad_word, string_arrays) }
-    ensures bytes_count { step string_arrays (line (codes "count h x y")) ≡ (Err wrong_kind, string_arrays) }
-    ensures bytes_place { step string_arrays (line (codes "bycount h x")) ≡ (Err wrong_kind, string_arrays) }
-    ensures bytes_first { step string_arrays (line (codes "first h x")) ≡ (Err wrong_kind, string_arrays) }
+    ensures string_first { step string_arrays (line (codes "first t x"))
+        ≡ (Err bad_key, string_arrays) }
+    ensures string_empty { step string_arrays (line (codes "fe t x"))
+        ≡ (Err wrong_kind, string_arrays) }
+    ensures string_count { step string_arrays (line (codes "count t x y"))
+        ≡ (Err bad_key, string_arrays) }
+    ensures string_place { step string_arrays (line (codes "bycount t =a"))
+        ≡ (Err bad_word, string_arrays) }
+    ensures bytes_count { step string_arrays (line (codes "count h x y"))
+        ≡ (Err wrong_kind, string_arrays) }
+    ensures bytes_place { step string_arrays (line (codes "bycount h x"))
+        ≡ (Err wrong_kind, string_arrays) }
+    ensures bytes_first { step string_arrays (line (codes "first h x"))
+        ≡ (Err wrong_kind, string_arrays) }
     ensures missing { step two_arrays (line (codes "fe b x")) ≡ (Err no_such_array, two_arrays) }
-    ensures string_kind { step [] (line (codes "make b judysl 3")) ≡ (Ok done, (codes "b", judysl (empty_array 3)) ∷ []) }
-    ensures bytes_kind { step [] (line (codes "make b judyhs 3")) ≡ (Ok done, (codes "b", judyhs (empty_array 3)) ∷ []) }
+    ensures string_kind { step [] (line (codes "make b judysl 3"))
+        ≡ (Ok done, (codes "b", judysl (empty_array 3)) ∷ []) }
+    ensures bytes_kind { step [] (line (codes "make b judyhs 3"))
+        ≡ (Ok done, (codes "b", judyhs (empty_array 3)) ∷ []) }
     ensures no_kind { step [] (line (codes "make b judyh")) ≡ (Err wrong_kind, []) }
 {}
 
@@ -142,8 +162,10 @@ pub fn each_kind_has_its_commands()
 pub fn arrays_are_listed_and_dropped()
     ensures list { step two_arrays (line (codes "list")) ≡ (Ok (listed two_arrays), two_arrays) }
     ensures list_one { step two_arrays (line (codes "list a")) ≡ (Err argument_count, two_arrays) }
-    ensures drop { (step two_arrays (line (codes "drop a"))).1 ≡ (codes "s", judy1 (empty_array 2)) ∷ [] }
-    ensures drop_missing { step two_arrays (line (codes "drop b")) ≡ (Err no_such_array, two_arrays) }
+    ensures drop { (step two_arrays (line (codes "drop a"))).1
+        ≡ (codes "s", judy1 (empty_array 2)) ∷ [] }
+    ensures drop_missing { step two_arrays (line (codes "drop b"))
+        ≡ (Err no_such_array, two_arrays) }
 {}
 
 /// Blank lines and comments have no answer; a line that is too long is refused before all else.
@@ -152,7 +174,8 @@ pub fn some_lines_are_silent()
     ensures comment { step [] (line (codes " ;make a judyl")) ≡ (Ok silent, []) }
     ensures made { step [] (line (codes "make a judyl 1")) ≡ (Ok done, one_array 1) }
     ensures greatest { step [] (line (codes "make a judyl")) ≡ (Ok done, one_array 4294967295) }
-    ensures comment_fits { is_too_long (record { bytes = replicate 4096 59; ended = true }) ≡ false }
+    ensures comment_fits { is_too_long (record { bytes = replicate 4096 59; ended = true })
+        ≡ false }
     ensures long_comment { is_too_long (record { bytes = replicate 4097 59; ended = true }) ≡ true }
 {}
 
@@ -167,7 +190,8 @@ pub fn answers_are_lines()
     ensures string_entry { output_of (Ok (string_entry (codes "ab") 9)) ≡ codes "=ab 9" ++ 10 ∷ [] }
     ensures freed { output_of (Ok (freed 2)) ≡ codes "freed 2" ++ 10 ∷ [] }
     ensures list { output_of (Ok (listed [])) ≡ codes "names" ++ 10 ∷ [] }
-    ensures number { output_of (Ok (number (2 ^ 64 - 1))) ≡ codes "18446744073709551615" ++ 10 ∷ [] }
+    ensures number { output_of (Ok (number (2 ^ 64 - 1)))
+        ≡ codes "18446744073709551615" ++ 10 ∷ [] }
     ensures nothing { output_of (Ok nothing) ≡ codes "none" ++ 10 ∷ [] }
 {}
 
@@ -195,6 +219,7 @@ pub fn kinds_have_their_limits()
     ensures still_bitmap { shape_of 0 (runs (2 ^ 56) 1 127) ≡ shape 127 0 0 0 1 0 }
     ensures full { shape_of 0 (runs (2 ^ 56) 1 128) ≡ shape 128 0 0 0 0 1 }
     ensures immediates { shape_of 0 (runs 256 8 5) ≡ shape 5 0 0 1 0 0 }
-    ensures one_leaf { shape_of 0 (range_with_len 0 9 ++ drop 8 (runs 256 8 5)) ≡ shape 4 1 0 1 0 0 }
+    ensures one_leaf { shape_of 0 (range_with_len 0 9 ++ drop 8 (runs 256 8 5))
+        ≡ shape 4 1 0 1 0 0 }
     ensures with_values { shape_of 1 (runs 256 8 5) ≡ shape 0 5 0 1 0 0 }
 {}

@@ -4,7 +4,8 @@ ghost use Rattle.std.specs.Prelude.{◌≡◌, ◌+◌, ◌*◌, ◌^◌, ◌<�
 ghost use Rattle.judy_model.specs.WordBytes.{number_of};
 ghost use Rattle.judy_bits.specs.ByteSets as set;
 ghost use Rattle.judy_bits.specs.ByteSets.{has};
-ghost use Rattle.judy_node.specs.Trees.{Tree, IsBranch};
+ghost use Rattle.judy_node.specs.Trees.{Tree};
+ghost use Rattle.judy_node.specs.Branches.{IsWholeBranch};
 ghost use Rattle.judy_node.specs.Steps.{IsStep};
 ghost use Rattle.judy_node.specs.Populations.{population, keys_before, AreSums, HoldsNth};
 
@@ -21,8 +22,9 @@ impl<V: Words + Drop> BranchOf<V> {
     // On each way down, a level at a time: by a call the step would be written to memory and read back from there.
     #[inline(always)]
     pub fn step(&self, key: u64) -> Step
-        requires { IsBranch V.WORDS self.now.width self.now.skip self.now.bytes self.now.children.items self.now.population }
-        ensures { IsStep (256 ^ self.now.width) (number_of self.now.skip * 256) self.now.bytes key result }
+        requires { IsWholeBranch V.WORDS self.now }
+        ensures { IsStep (256 ^ self.now.width)
+            (number_of self.now.skip * 256) self.now.bytes key result }
     {
         let width = usize::from(self.width);
         let front = self.skip.number() * 256;
@@ -44,7 +46,7 @@ impl<V: Words + Drop> BranchOf<V> {
     /// The place of the child of a byte; none where no child has it. Where all 256 children stand, a byte is its place.
     #[inline(always)]
     pub fn place(&self, byte: u8) -> Option<usize>
-        requires { IsBranch V.WORDS self.now.width self.now.skip self.now.bytes self.now.children.items self.now.population }
+        requires { IsWholeBranch V.WORDS self.now }
         ensures { result ≡ set.place self.now.bytes byte }
     {
         if self.children.len() == 256 {
@@ -56,7 +58,7 @@ impl<V: Words + Drop> BranchOf<V> {
 
     /// The byte of the child at a place. Where all 256 children stand, a place is its byte.
     pub fn byte_at(&self, place: usize) -> u8
-        requires branch { IsBranch V.WORDS self.now.width self.now.skip self.now.bytes self.now.children.items self.now.population }
+        requires branch { IsWholeBranch V.WORDS self.now }
         requires place { place < length self.now.children.items }
         ensures { slice_get self.now.bytes place ≡ Some result }
     {
@@ -71,7 +73,7 @@ impl<V: Words + Drop> BranchOf<V> {
 
     /// How many keys there are below.
     pub fn keys(&self) -> u64
-        requires { IsBranch V.WORDS self.now.width self.now.skip self.now.bytes self.now.children.items self.now.population }
+        requires { IsWholeBranch V.WORDS self.now }
         ensures { result ≡ population self.now.children.items }
     {
         self.population
@@ -79,7 +81,7 @@ impl<V: Words + Drop> BranchOf<V> {
 
     /// The sums of the children as they are: none where there aren't 256, or where there is no memory for them.
     pub fn sums_of_children(&self, alloc: Global) -> Sums
-        requires { IsBranch V.WORDS self.now.width self.now.skip self.now.bytes self.now.children.items self.now.population }
+        requires { IsWholeBranch V.WORDS self.now }
         ensures { AreSums result self.now.children.items }
     {
         let _ = self.keys();
@@ -89,7 +91,7 @@ impl<V: Words + Drop> BranchOf<V> {
     /// How many keys there are below the first children, so many, and at most all. It adds from the nearer end, by sums of sixteen
     /// children where there are any.
     pub fn keys_before(&self, place: usize) -> u64
-        requires branch { IsBranch V.WORDS self.now.width self.now.skip self.now.bytes self.now.children.items self.now.population }
+        requires branch { IsWholeBranch V.WORDS self.now }
         requires sums { AreSums self.now.sums self.now.children.items }
         requires place { place ≤ length self.now.children.items }
         ensures { result ≡ keys_before place self.now.children.items }
@@ -104,7 +106,7 @@ impl<V: Words + Drop> BranchOf<V> {
     /// The place of the child that has the n-th of the keys below, counted from 0 and below their number, and which of its own keys it
     /// is. It is looked for from the end that fewer keys part it from.
     pub fn holding(&self, n: u64) -> (usize, u64)
-        requires branch { IsBranch V.WORDS self.now.width self.now.skip self.now.bytes self.now.children.items self.now.population }
+        requires branch { IsWholeBranch V.WORDS self.now }
         requires sums { AreSums self.now.sums self.now.children.items }
         requires within { n < self.now.population }
         ensures { (kid : Tree) × HoldsNth self.now.children.items n result.0 result.1 kid }

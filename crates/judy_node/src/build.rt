@@ -168,10 +168,15 @@ fn add_group<'a, V: Words + Drop>(
     requires one { V.WORDS ≤ 1 }
     requires width { (1 ≤ below) × (below ≤ 7) }
     requires some { 0 < length rest.now }
-    requires two { sharing (256 ^ below) 256 (middle (256 ^ below) 256 (slice_index_or pairs.now 0 (0, 0)).0) pairs.now < length pairs.now }
-    requires made { (next : ℕ) × AreMade V.WORDS below pairs.now rest.now bytes.old children.old.items next }
+    requires two { sharing (256 ^ below) 256
+        (middle (256 ^ below) 256 (slice_index_or pairs.now 0 (0, 0)).0) pairs.now
+        < length pairs.now }
+    requires made { (next : ℕ)
+        × AreMade V.WORDS below pairs.now rest.now bytes.old children.old.items next }
     ensures fewer { IfOk result (λ left. length left.now < length rest.now) }
-    ensures made { IfOk result (λ left. (next : ℕ) × AreMade V.WORDS below pairs.now left.now bytes.new children.new.items next) }
+    ensures made { IfOk result
+        (λ left. (next : ℕ) × AreMade V.WORDS below pairs.now left.now bytes.new children.new.items
+        next) }
 {
     let byte = byte_above(rest[0].0, below);
     let end = group_end(rest, below, byte);
@@ -271,10 +276,13 @@ fn split<V: Words + Drop>(
     requires one { V.WORDS ≤ 1 }
     requires width { (1 ≤ below) × (below ≤ 7) }
     requires more { 32 < length pairs.now }
-    requires two { sharing (256 ^ below) 256 (middle (256 ^ below) 256 (slice_index_or pairs.now 0 (0, 0)).0) pairs.now < length pairs.now }
+    requires two { sharing (256 ^ below) 256
+        (middle (256 ^ below) 256 (slice_index_or pairs.now 0 (0, 0)).0) pairs.now
+        < length pairs.now }
     requires map { IsMap V.WORDS 0 (256 ^ (below + 1)) (low_pairs (256 ^ (below + 1)) pairs.now) }
     ensures level { IfOk result (λ kind. IsLevel V.WORDS kind × IsDeep kind) }
-    ensures built { IfOk result (λ kind. IsBuilt V.WORDS (below + 1) pairs.now (tree_of V.WORDS kind)) }
+    ensures built { IfOk result
+        (λ kind. IsBuilt V.WORDS (below + 1) pairs.now (tree_of V.WORDS kind)) }
 {
     let Ok(mut children) = Vec::with_capacity(alloc, bytes_above(pairs, below)) else {
         return Err(AllocError);

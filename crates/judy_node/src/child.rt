@@ -163,7 +163,8 @@ impl<V: Words + Drop> PlaceOf<V> {
 
     /// Lends the node by its kind, to be changed where it stands.
     pub fn kind_mut(&mut self) -> &mut KindOf<V>
-        ensures* changes { sem 𝓛 (Lends (the_row V.row V.Words) (kind V.row V.Words) self.entry result placed) }
+        ensures* changes { sem 𝓛
+            (Lends (the_row V.row V.Words) (kind V.row V.Words) self.entry result placed) }
         ensures value { placed result.now ≡ self.old }
     {
         self.kind.get_mut()

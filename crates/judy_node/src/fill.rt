@@ -2,7 +2,8 @@
 
 ghost use Rattle.std.specs.Prelude.{◌≡◌, ◌+◌, ◌^◌, ◌≤◌, length};
 ghost use Rattle.judy_leaf.specs.KeyLists.{shift};
-ghost use Rattle.judy_node.specs.Trees.{IsChild, IsBranch, branch_pairs};
+ghost use Rattle.judy_node.specs.Trees.{IsChild, branch_pairs};
+ghost use Rattle.judy_node.specs.Branches.{IsWholeBranch};
 
 use crate::child::{BranchOf, ChildOf, KindOf, imm_of};
 use judy_bits::moved_up;
@@ -39,10 +40,12 @@ fn fill_branch<V: Words + Drop>(
     base: u64,
     out: &mut [(u64, u64)],
 )
-    requires level { IsBranch V.WORDS branch.now.width branch.now.skip branch.now.bytes branch.now.children.items branch.now.population }
+    requires level { IsWholeBranch V.WORDS branch.now }
     requires room { length out.old ≡ branch.now.population }
     requires fits { base + 256 ^ (length branch.now.skip + 1 + branch.now.width) ≤ 2 ^ 64 }
-    ensures { out.new ≡ shift base (branch_pairs branch.now.width branch.now.skip branch.now.bytes branch.now.children.items) }
+    ensures { out.new
+        ≡ shift base (branch_pairs branch.now.width branch.now.skip branch.now.bytes
+        branch.now.children.items) }
 {
     let front = branch.skip.number() * 256;
     let width = branch.width;

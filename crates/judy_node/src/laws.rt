@@ -11,7 +11,8 @@ use judy_leaf::Words;
 
 /// What every branch keeps makes it what a child of its width keeps: the form of the rule where it is tight.
 pub fn a_branch_is_a_child()
-    ensures { (words width : ℕ) (skipped bytes : List ℕ) (kids : List Tree) (count : ℕ) → IsBranch words width skipped bytes kids count
+    ensures { (words width : ℕ) (skipped bytes : List ℕ) (kids : List Tree) (count : ℕ)
+        → IsBranch words width skipped bytes kids count
         → IsChild words (length skipped + 1 + width) (branch_tree width skipped bytes kids count) }
 {}
 

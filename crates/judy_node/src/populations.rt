@@ -74,7 +74,8 @@ fn holding_from_first<V: Words + Drop>(children: &[ChildOf<V>], n: u64) -> (usiz
 fn holding_from_last<V: Words + Drop>(children: &[ChildOf<V>], rest: u64) -> (usize, u64)
     requires some { 1 ≤ rest }
     requires within { rest ≤ population children.now }
-    ensures { (kid : Tree) × HoldsNth children.now (population children.now - rest) result.0 result.1 kid }
+    ensures { (kid : Tree)
+        × HoldsNth children.now (population children.now - rest) result.0 result.1 kid }
 {
     let mut left = rest;
     let mut place = children.len();

@@ -73,8 +73,11 @@ impl<V: Words + Drop> ChildOf<V> {
 // Counts a branch and the nodes below it.
 #[cycle(shape)]
 fn count_branch<V: Words + Drop>(branch: &BranchOf<V>, shape: &mut Shape)
-    requires { nodes_in (shape_as shape.old) + (1 + length (forms_in branch.now.children.items)) < 2 ^ 128 }
-    ensures { shape_as shape.new ≡ plus (shape_as shape.old) (with_branch (length branch.now.bytes) (shape_in (forms_in branch.now.children.items))) }
+    requires { nodes_in (shape_as shape.old) + (1 + length (forms_in branch.now.children.items))
+        < 2 ^ 128 }
+    ensures { shape_as shape.new
+        ≡ plus (shape_as shape.old)
+        (with_branch (length branch.now.bytes) (shape_in (forms_in branch.now.children.items))) }
 {
     shape.add_branch(&branch.bytes);
     for child in &branch.children {

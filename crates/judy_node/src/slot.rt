@@ -77,7 +77,9 @@ impl<V: Words + Drop> KindOf<V> {
     fn slot_at<L: Level>(&mut self, at: usize, rest: u64) -> Option<&mut u64>
         requires words { V.WORDS ≡ 1 }
         requires seat { HasSeat V.WORDS L.DEPTH self.old at }
-        ensures* changes { sem 𝓛 (LendsIf (the_row V.row V.Words) word self.entry result (kind_written self.entry.now at rest) self.entry.now) }
+        ensures* changes { sem 𝓛
+            (LendsIf (the_row V.row V.Words) word self.entry result
+            (kind_written self.entry.now at rest) self.entry.now) }
         ensures value { option_copied_mut result ≡ value_at self.old at rest }
     {
         match self {
@@ -93,7 +95,9 @@ impl<V: Words + Drop> KindOf<V> {
     fn slot_in_leaf(&mut self, at: usize, _rest: u64) -> Option<&mut u64>
         requires words { V.WORDS ≡ 1 }
         requires seat { HasSeat V.WORDS 0 self.old at }
-        ensures* changes { sem 𝓛 (LendsIf (the_row V.row V.Words) word self.entry result (kind_written self.entry.now at _rest) self.entry.now) }
+        ensures* changes { sem 𝓛
+            (LendsIf (the_row V.row V.Words) word self.entry result
+            (kind_written self.entry.now at _rest) self.entry.now) }
         ensures value { option_copied_mut result ≡ value_at self.old at _rest }
     {
         match self {
@@ -115,7 +119,9 @@ impl<V: Words + Drop> BranchOf<V> {
     #[inline(always)]
     fn child_at(&mut self, at: usize) -> &mut ChildOf<V>
         requires { at < length self.old.children.items }
-        ensures* changes { sem 𝓛 (Lends (the_row V.row V.Words) (child V.row V.Words) self.entry result (with_child self.entry.now at)) }
+        ensures* changes { sem 𝓛
+            (Lends (the_row V.row V.Words) (child V.row V.Words) self.entry result
+            (with_child self.entry.now at)) }
         ensures value { result.now ≡ child_at self.old at }
     {
         &mut self.children[at]
@@ -128,7 +134,9 @@ impl<V: Words + Drop> BranchOf<V> {
         requires inside { at < length self.old.children.items }
         requires child { IsChild V.WORDS self.old.width (child_at self.old at) }
         requires depth { self.old.width ≤ L.DEPTH }
-        ensures* changes { sem 𝓛 (LendsIf (the_row V.row V.Words) word self.entry result (branch_written self.entry.now at rest) self.entry.now) }
+        ensures* changes { sem 𝓛
+            (LendsIf (the_row V.row V.Words) word self.entry result
+            (branch_written self.entry.now at rest) self.entry.now) }
         ensures value { option_copied_mut result ≡ value_of rest (child_at self.old at).pairs }
     {
         L::slot(self, at, rest)
@@ -141,7 +149,9 @@ impl<V: Words + Drop> BranchOf<V> {
         requires inside { at < length self.old.children.items }
         requires child { IsChild V.WORDS self.old.width (child_at self.old at) }
         requires depth { self.old.width ≤ L.DEPTH + 1 }
-        ensures* changes { sem 𝓛 (LendsIf (the_row V.row V.Words) word self.entry result (branch_written self.entry.now at rest) self.entry.now) }
+        ensures* changes { sem 𝓛
+            (LendsIf (the_row V.row V.Words) word self.entry result
+            (branch_written self.entry.now at rest) self.entry.now) }
         ensures value { option_copied_mut result ≡ value_of rest (child_at self.old at).pairs }
     {
         let width = self.width;
@@ -155,7 +165,9 @@ impl<V: Words + Drop> BranchOf<V> {
         requires inside { at < length self.old.children.items }
         requires child { IsChild V.WORDS self.old.width (child_at self.old at) }
         requires depth { self.old.width ≤ 1 }
-        ensures* changes { sem 𝓛 (LendsIf (the_row V.row V.Words) word self.entry result (branch_written self.entry.now at rest) self.entry.now) }
+        ensures* changes { sem 𝓛
+            (LendsIf (the_row V.row V.Words) word self.entry result
+            (branch_written self.entry.now at rest) self.entry.now) }
         ensures value { option_copied_mut result ≡ value_of rest (child_at self.old at).pairs }
     {
         let width = self.width;
@@ -173,7 +185,9 @@ impl<V: Words + Drop> ChildOf<V> {
         requires words { V.WORDS ≡ 1 }
         requires child { IsChild V.WORDS width self.old }
         requires depth { width ≤ L.DEPTH + 1 }
-        ensures* changes { sem 𝓛 (LendsIf (the_row V.row V.Words) word self.entry result (with_value self.entry.now key) self.entry.now) }
+        ensures* changes { sem 𝓛
+            (LendsIf (the_row V.row V.Words) word self.entry result
+            (with_value self.entry.now key) self.entry.now) }
         ensures value { option_copied_mut result ≡ value_of key self.old.pairs }
     {
         let kind = self.place.kind_mut();
@@ -187,7 +201,9 @@ impl<V: Words + Drop> ChildOf<V> {
         requires words { V.WORDS ≡ 1 }
         requires child { IsChild V.WORDS width self.old }
         requires depth { width ≤ 1 }
-        ensures* changes { sem 𝓛 (LendsIf (the_row V.row V.Words) word self.entry result (with_value self.entry.now key) self.entry.now) }
+        ensures* changes { sem 𝓛
+            (LendsIf (the_row V.row V.Words) word self.entry result
+            (with_value self.entry.now key) self.entry.now) }
         ensures value { option_copied_mut result ≡ value_of key self.old.pairs }
     {
         let kind = self.place.kind_mut();
@@ -210,7 +226,9 @@ pub trait Level {
         requires inside { at < length branch.old.children.items }
         requires child { IsChild V.WORDS branch.old.width (child_at branch.old at) }
         requires depth { branch.old.width ≤ DEPTH }
-        ensures* changes { sem 𝓛 (LendsIf (the_row V.row V.Words) word branch.entry result (branch_written branch.entry.now at rest) branch.entry.now) }
+        ensures* changes { sem 𝓛
+            (LendsIf (the_row V.row V.Words) word branch.entry result
+            (branch_written branch.entry.now at rest) branch.entry.now) }
         ensures value { option_copied_mut result ≡ value_of rest (child_at branch.old at).pairs };
 }
 
@@ -264,7 +282,9 @@ impl<V: Words + Drop> RootOf<V> {
         requires words { V.WORDS ≡ 1 }
         requires root { IsRoot V.WORDS self.old }
         requires holds { IsFalse (root_misses self.old key) }
-        ensures* changes { sem 𝓛 (LendsIf (the_row V.row V.Words) word self.entry result (root_written self.entry.now key) self.entry.now) }
+        ensures* changes { sem 𝓛
+            (LendsIf (the_row V.row V.Words) word self.entry result
+            (root_written self.entry.now key) self.entry.now) }
         ensures value { option_copied_mut result ≡ value_of key (root_tree self.old).pairs }
     {
         match self {
@@ -284,7 +304,9 @@ impl<V: Words + Drop> NodeOf<V> {
     #[inline(always)]
     pub fn slot(&mut self, key: u64) -> Option<&mut u64>
         requires words { V.WORDS ≡ 1 }
-        ensures* changes { sem 𝓛 (LendsIf (the_row V.row V.Words) word self.entry result (with_value self.entry.now key) self.entry.now) }
+        ensures* changes { sem 𝓛
+            (LendsIf (the_row V.row V.Words) word self.entry result
+            (with_value self.entry.now key) self.entry.now) }
         ensures value { option_copied_mut result ≡ value_of key self.old.pairs }
     {
         if self.kind.misses(key) {

@@ -43,8 +43,10 @@ impl Sums {
 
     /// Counts one key more below the child at a place.
     pub fn add(&mut self, place: usize)
-        requires { (kids : List Tree) × AreSums self.old kids × (place < length kids) × (population kids < 2 ^ 64 - 1) }
-        ensures { (kids : List Tree) (kid : Tree) → AreSums self.old kids → place < length kids → length kid.pairs ≡ length (get_or kids place kid).pairs + 1
+        requires { (kids : List Tree) × AreSums self.old kids × (place < length kids)
+            × (population kids < 2 ^ 64 - 1) }
+        ensures { (kids : List Tree) (kid : Tree) → AreSums self.old kids → place < length kids
+            → length kid.pairs ≡ length (get_or kids place kid).pairs + 1
             → AreSums self.new (set kids place kid) }
     {
         if let Some(groups) = &mut self.groups {
@@ -54,8 +56,10 @@ impl Sums {
 
     /// Counts one key less below the child at a place.
     pub fn take(&mut self, place: usize)
-        requires { (kids : List Tree) × (kid : Tree) × AreSums self.old kids × (place < length kids) × (0 < length (get_or kids place kid).pairs) }
-        ensures { (kids : List Tree) (kid : Tree) → AreSums self.old kids → place < length kids → length kid.pairs + 1 ≡ length (get_or kids place kid).pairs
+        requires { (kids : List Tree) × (kid : Tree) × AreSums self.old kids × (place < length kids)
+            × (0 < length (get_or kids place kid).pairs) }
+        ensures { (kids : List Tree) (kid : Tree) → AreSums self.old kids → place < length kids
+            → length kid.pairs + 1 ≡ length (get_or kids place kid).pairs
             → AreSums self.new (set kids place kid) }
     {
         if let Some(groups) = &mut self.groups {

@@ -50,10 +50,18 @@ judystore(1) tells more.";
 /// At Ok the words are taken, and these are the files and the format that they name. Else the error is `Help` where they ask for
 /// help, `BadWords` where something is wrong with them, each with clap's text, or `NoMemory`.
 pub fn options(alloc: Global, words: &[String]) -> Result<Options, Refusal>
-    ensures load { IfOk result (λ options. option_map string_bytes options.load ≡ value_of (codes "load") (map string_bytes words.now)) }
-    ensures dump { IfOk result (λ options. option_map string_bytes options.dump ≡ value_of (codes "dump") (map string_bytes words.now)) }
-    ensures format { IfOk result (λ options. options.format ≡ format_given (value_of (codes "format") (map string_bytes words.now))) }
-    ensures script { IfOk result (λ options. option_map string_bytes options.script ≡ value_of (codes "script") (map string_bytes words.now)) }
+    ensures load { IfOk result
+        (λ options. option_map string_bytes options.load
+        ≡ value_of (codes "load") (map string_bytes words.now)) }
+    ensures dump { IfOk result
+        (λ options. option_map string_bytes options.dump
+        ≡ value_of (codes "dump") (map string_bytes words.now)) }
+    ensures format { IfOk result
+        (λ options. options.format
+        ≡ format_given (value_of (codes "format") (map string_bytes words.now))) }
+    ensures script { IfOk result
+        (λ options. option_map string_bytes options.script
+        ≡ value_of (codes "script") (map string_bytes words.now)) }
     ensures taken { OnOk result (refusals (map string_bytes words.now) ≡ []) }
     ensures refused { IfErr result (IsRefused (refusals (map string_bytes words.now))) }
 {
@@ -71,7 +79,9 @@ pub fn options(alloc: Global, words: &[String]) -> Result<Options, Refusal>
 
 // What the words give each argument.
 fn matched<'a>(alloc: Global, words: &'a [String]) -> Result<ArgMatches<'a>, Error>
-    ensures given { IfOk result (λ matches. (id : List ℕ) → first_value (found_of matches) id ≡ value_of id (map string_bytes words.now)) }
+    ensures given { IfOk result
+        (λ matches. (id : List ℕ)
+        → first_value (found_of matches) id ≡ value_of id (map string_bytes words.now)) }
     ensures kinds { FailsBy (refusals (map string_bytes words.now)) result }
 {
     let command = make_command(alloc)?;
@@ -166,7 +176,8 @@ fn format_of_text(text: &str) -> u64
 
 // The value of an argument, in memory of its own.
 fn value(alloc: Global, matches: &ArgMatches<'_>, id: &str) -> Result<Option<String>, Refusal>
-    ensures given { IfOk result (λ value. option_map string_bytes value ≡ first_value (found_of matches.now) id.now) }
+    ensures given { IfOk result
+        (λ value. option_map string_bytes value ≡ first_value (found_of matches.now) id.now) }
     ensures refused { IfErr result (λ refusal. refusal ≡ NoMemory) }
 {
     match matches.get_str(id) {

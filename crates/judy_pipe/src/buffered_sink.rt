@@ -29,7 +29,8 @@ impl<W: Sink + Drop, const N: usize> BufferedSink<W, N> {
         requires { 0 < N }
         ensures taken { ⟦<BufferedSink<W, N> as Sink>⟧.taken result ≡ grown (W.taken inner) [] }
         ensures kept { ⟦<BufferedSink<W, N> as Sink>⟧.kept result ≡ [] }
-        ensures failures { (⟦<BufferedSink<W, N> as Sink>⟧.tally result).failures ≡ (W.tally inner).failures }
+        ensures failures { (⟦<BufferedSink<W, N> as Sink>⟧.tally result).failures
+            ≡ (W.tally inner).failures }
     {
         BufferedSink {
             inner,
@@ -48,7 +49,8 @@ impl<W: Sink + Drop, const N: usize> BufferedSink<W, N> {
     // Hands on what is kept.
     fn send(&mut self) -> Result<(), BrokenPipe>
         requires { (W.tally self.old.inner).failures < 2 ^ 64 - 1 }
-        ensures taken { grown (W.taken self.new.inner) (drop self.new.sent self.new.held.items) ≡ grown (W.taken self.old.inner) (drop self.old.sent self.old.held.items) }
+        ensures taken { grown (W.taken self.new.inner) (drop self.new.sent self.new.held.items)
+            ≡ grown (W.taken self.old.inner) (drop self.old.sent self.old.held.items) }
         ensures sent { OnOk result (self.new.held.items ≡ []) }
         ensures failures { let before = (W.tally self.old.inner).failures in
             (W.tally self.new.inner).failures ≡ (if is_ok result then before else before + 1) }

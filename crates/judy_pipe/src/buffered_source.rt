@@ -32,8 +32,10 @@ impl<R: Source + Drop, const N: usize> BufferedSource<R, N> {
         ensures given { ⟦<BufferedSource<R, N> as Source>⟧.given result ≡ R.given inner }
         ensures ended { ⟦<BufferedSource<R, N> as Source>⟧.ended result ≡ R.ended inner }
         ensures content { ⟦<BufferedSource<R, N> as Source>⟧.content result ≡ R.content inner }
-        ensures unfailing { ⟦<BufferedSource<R, N> as Source>⟧.is_unfailing result ≡ R.is_unfailing inner }
-        ensures failures { (⟦<BufferedSource<R, N> as Source>⟧.tally result).failures ≡ (R.tally inner).failures }
+        ensures unfailing { ⟦<BufferedSource<R, N> as Source>⟧.is_unfailing result
+            ≡ R.is_unfailing inner }
+        ensures failures { (⟦<BufferedSource<R, N> as Source>⟧.tally result).failures
+            ≡ (R.tally inner).failures }
     {
         BufferedSource {
             inner,
@@ -58,11 +60,16 @@ impl<R: Source + Drop, const N: usize> BufferedSource<R, N> {
         requires within { most ≤ N }
         requires none_kept { self.old.next ≡ self.old.end }
         requires failures { (R.tally self.old.inner).failures < 2 ^ 64 - 1 }
-        ensures given { without (R.given self.new.inner) (self.new.end - self.new.next) ≡ R.given self.old.inner }
-        ensures ended { R.ended self.new.inner ≡ (if is_ok result then told (R.ended self.old.inner) (self.new.next == self.new.end && nat_lt 0 most) else told (R.ended self.old.inner) false) }
+        ensures given { without (R.given self.new.inner) (self.new.end - self.new.next)
+            ≡ R.given self.old.inner }
+        ensures ended { R.ended self.new.inner
+            ≡ (if is_ok result then told (R.ended self.old.inner)
+            (self.new.next == self.new.end && nat_lt 0 most) else told
+            (R.ended self.old.inner) false) }
         ensures content { R.content self.new.inner ≡ R.content self.old.inner }
         ensures unfailing { R.is_unfailing self.new.inner ≡ R.is_unfailing self.old.inner }
-        ensures goes_on { R.ended self.old.inner ≡ Some true → IsOk result × (self.new.next ≡ self.new.end) }
+        ensures goes_on { R.ended self.old.inner ≡ Some true
+            → IsOk result × (self.new.next ≡ self.new.end) }
         ensures failures { let before = (R.tally self.old.inner).failures in
             (R.tally self.new.inner).failures ≡ (if is_ok result then before else before + 1) }
     {
@@ -76,7 +83,9 @@ impl<R: Source + Drop, const N: usize> BufferedSource<R, N> {
     fn give(&mut self, room: &mut [u8]) -> usize
         ensures count { result ≡ min (length room.old) (self.old.end - self.old.next) }
         ensures len { length room.new ≡ length room.old }
-        ensures given { without (R.given self.new.inner) (self.new.end - self.new.next) ≡ grown (without (R.given self.old.inner) (self.old.end - self.old.next)) (take result room.new) }
+        ensures given { without (R.given self.new.inner) (self.new.end - self.new.next)
+            ≡ grown (without (R.given self.old.inner) (self.old.end - self.old.next))
+            (take result room.new) }
         ensures inner { self.new.inner ≡ self.old.inner }
     {
         let count = room.len().min(self.end - self.next);

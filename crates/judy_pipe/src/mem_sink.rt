@@ -101,7 +101,8 @@ impl<const N: usize> MemSink<N> {
     fn take_from(&mut self, piece: &[u8]) -> Result<usize, Stop>
         ensures answer { result ≡ sink_answer self.old (length piece.now) }
         ensures taken { self.new.held.items ≡ self.old.held.items ++ moved result piece.now }
-        ensures trouble { self.new.trouble ≡ sink_trouble_after self.old.trouble (length self.old.held.items) }
+        ensures trouble { self.new.trouble
+            ≡ sink_trouble_after self.old.trouble (length self.old.held.items) }
         ensures most { self.new.most ≡ self.old.most }
         ensures tally { self.new.tally ≡ self.old.tally }
     {
@@ -132,13 +133,15 @@ impl<const N: usize> Sink for MemSink<N> {
     fn write(&mut self, piece: &[u8]) -> Result<usize, Stop>
         requires { (sink_tally self.old).failures < 2 ^ 64 - 1 }
         ensures count { IfOk result (λ n. n ≤ length piece.now) }
-        ensures taken { Some (taken_bytes self.new) ≡ grown (Some (taken_bytes self.old)) (moved result piece.now) }
+        ensures taken { Some (taken_bytes self.new)
+            ≡ grown (Some (taken_bytes self.old)) (moved result piece.now) }
         ensures tally { sink_tally self.new ≡ after_write (sink_tally self.old) piece.now result }
 
         // Beyond the trait: the answer is exactly this, and only a full sink fails with no place for it.
         ensures answer { result ≡ sink_answer self.old (length piece.now) }
         ensures most { sink_most self.new ≡ sink_most self.old }
-        ensures trouble { sink_trouble self.new ≡ sink_trouble_after (sink_trouble self.old) (length (taken_bytes self.old)) }
+        ensures trouble { sink_trouble self.new
+            ≡ sink_trouble_after (sink_trouble self.old) (length (taken_bytes self.old)) }
         ensures never { sink_trouble self.old ≡ Never → length (taken_bytes self.old) < N →
             (sink_tally self.new).failures ≡ (sink_tally self.old).failures }
     {

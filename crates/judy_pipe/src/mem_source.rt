@@ -105,8 +105,10 @@ impl<'a> MemSource<'a> {
     // A read, but for the counting.
     fn give(&mut self, room: &mut [u8]) -> Result<usize, Stop>
         ensures answer { result ≡ source_answer self.old (length room.old) }
-        ensures moved { take self.new.given self.old.bytes.now ≡ take self.old.given self.old.bytes.now ++ moved result room.new }
-        ensures rest { drop (result_unwrap_or result 0) room.new ≡ drop (result_unwrap_or result 0) room.old }
+        ensures moved { take self.new.given self.old.bytes.now
+            ≡ take self.old.given self.old.bytes.now ++ moved result room.new }
+        ensures rest { drop (result_unwrap_or result 0) room.new
+            ≡ drop (result_unwrap_or result 0) room.old }
         ensures goes_on { self.old.ended ≡ true → result ≡ Ok 0 }
         ensures ended { self.new.ended ≡ gave_end result (length room.old) }
         ensures trouble { self.new.trouble ≡ source_trouble_after self.old.trouble self.old.given }
@@ -148,8 +150,10 @@ impl<'a> Source for MemSource<'a> {
     fn read(&mut self, room: &mut [u8]) -> Result<usize, Stop>
         requires { (source_tally self.old).failures < 2 ^ 64 - 1 }
         ensures count { IfOk result (λ n. n ≤ length room.old) }
-        ensures given { source_given self.new ≡ grown (source_given self.old) (moved result room.new) }
-        ensures ended { source_ended self.new ≡ told (source_ended self.old) (gave_end result (length room.old)) }
+        ensures given { source_given self.new
+            ≡ grown (source_given self.old) (moved result room.new) }
+        ensures ended { source_ended self.new
+            ≡ told (source_ended self.old) (gave_end result (length room.old)) }
         ensures content { source_content self.new ≡ source_content self.old }
         ensures unfailing { source_is_unfailing self.new ≡ source_is_unfailing self.old }
         ensures goes_on { source_ended self.old ≡ Some true → result ≡ Ok 0 }
@@ -157,9 +161,11 @@ impl<'a> Source for MemSource<'a> {
 
         // Beyond the trait: the answer is exactly this, and the rest of `room` stays.
         ensures answer { result ≡ source_answer self.old (length room.old) }
-        ensures rest { drop (result_unwrap_or result 0) room.new ≡ drop (result_unwrap_or result 0) room.old }
+        ensures rest { drop (result_unwrap_or result 0) room.new
+            ≡ drop (result_unwrap_or result 0) room.old }
         ensures most { source_most self.new ≡ source_most self.old }
-        ensures trouble { source_trouble self.new ≡ source_trouble_after (source_trouble self.old) (given_count self.old) }
+        ensures trouble { source_trouble self.new
+            ≡ source_trouble_after (source_trouble self.old) (given_count self.old) }
         ensures never { source_trouble self.old ≡ Never → IsOk result }
     {
         let answer = self.give(room);

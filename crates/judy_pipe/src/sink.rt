@@ -70,7 +70,8 @@ pub(crate) fn write_on<W: Sink>(
     requires within { count.old ≤ length bytes.now }
     requires failures { (W.tally sink.old).failures < 2 ^ 64 - 1 }
     ensures within { (count.old ≤ count.new) × (count.new ≤ length bytes.now) }
-    ensures taken { W.taken sink.new ≡ grown (W.taken sink.old) (take (count.new - count.old) (drop count.old bytes.now)) }
+    ensures taken { W.taken sink.new
+        ≡ grown (W.taken sink.old) (take (count.new - count.old) (drop count.old bytes.now)) }
     ensures ok { OnOk result (count.new ≡ length bytes.now) }
     ensures failures { let before = (W.tally sink.old).failures in
         (W.tally sink.new).failures ≡ (if is_ok result then before else before + 1) }

@@ -63,7 +63,8 @@ pub fn read_some<R: Source>(source: &mut R, room: &mut [u8]) -> Result<usize, Br
     requires { (R.tally source.old).failures < 2 ^ 64 - 1 }
     ensures count { IfOk result (λ n. n ≤ length room.old) }
     ensures given { R.given source.new ≡ grown (R.given source.old) (moved result room.new) }
-    ensures ended { R.ended source.new ≡ told (R.ended source.old) (gave_end result (length room.old)) }
+    ensures ended { R.ended source.new
+        ≡ told (R.ended source.old) (gave_end result (length room.old)) }
     ensures content { R.content source.new ≡ R.content source.old }
     ensures unfailing { R.is_unfailing source.new ≡ R.is_unfailing source.old }
     ensures goes_on { R.ended source.old ≡ Some true → result ≡ Ok 0 }

@@ -207,7 +207,7 @@ pub record IsStepped {V : _} (words : ℕ) (tree : Pairs) (view : ViewOf V) (key
   pub back_is : down.back ≡ back
   pub width_is : width_of view ≡ width
 
-module _ {V : _} (words : ℕ) (tree : Pairs) (b : _) (key left : ℕ) (down : IsDown {V = V} words tree (Branch b) key left) where
+module _ {V : _} {words : ℕ} {tree : Pairs} {b : _} {key left : ℕ} (down : IsDown {V = V} words tree (Branch b) key left) where
   pub branch_is : IsBranch words b.now.width b.now.skip b.now.bytes b.now.children.items b.now.population
   branch_is = down.shown.place.1
 
@@ -229,7 +229,7 @@ module _ {V : _} (words : ℕ) (tree : Pairs) (b : _) (key left : ℕ) (down : I
         let within = slice_get_within b.now.bytes place byte steps.1 in
         omega arith
 
-    module _ (kid : Tree) (is : kid ≡ get_or b.now.children.items place kid) where
+    module _ {kid : Tree} (is : kid ≡ get_or b.now.children.items place kid) where
       there : slice_get b.now.children.items place ≡ Some kid
       there = slice_get-get_or b.now.children.items place kid child_inside ∙ ap Some (sym is)
 
@@ -252,11 +252,11 @@ module _ {V : _} (words : ℕ) (tree : Pairs) (b : _) (key left : ℕ) (down : I
           (child_part words b.now.width b.now.skip b.now.bytes b.now.children.items b.now.population branch_is left byte rest place kid of steps.1 there)
 
       -- A step to a child.
-      pub down_child : (next : ViewOf V) → IsView words b.now.width kid next
+      pub down_child : {next : ViewOf V} → IsView words b.now.width kid next
           → IsStepped words tree next key rest b.now.width
           (down.front ++ shift (key - left) (first_of (256 ^ b.now.width) (number_of b.now.skip * 256) b.now.bytes b.now.children.items place))
           (shift (key - left) (rest_of (256 ^ b.now.width) (number_of b.now.skip * 256) b.now.bytes b.now.children.items (suc place)) ++ down.back)
-      down_child next view =
+      down_child {next} view =
           let child = child_is in
           let some = child.some in
           let of = steps.0 in
@@ -309,7 +309,7 @@ module _ {V : _} (words : ℕ) (tree : Pairs) (b : _) (key left : ℕ) (down : I
       let inside = child_inside byte place rest steps in
       let default : Tree = record { width = 0; pairs = []; form = [] } in
       let kid = get_or b.now.children.items place default in
-      let part = down_part byte place rest steps kid (read_again b.now.children.items place default kid inside) in
+      let part = down_part byte place rest steps (read_again b.now.children.items place default kid inside) in
       let few = map-length words 0 (key - rest) (down.front ++ shift (key - left) (first_of (256 ^ b.now.width) (number_of b.now.skip * 256) b.now.bytes b.now.children.items place)) (omega arith) part.before in
       let long = front_long place in
       omega arith
@@ -412,7 +412,7 @@ start_room words width skipped bytes kids count place start is inside from =
 module _ {V : _} (words : ℕ) (tree : Pairs) (b : _) (base : ℕ) (down : IsDown {V = V} words tree (Branch b) base 0) (place start : ℕ) (inside : place < length b.now.children.items)
     (from : IsStart (256 ^ b.now.width) (number_of b.now.skip * 256) b.now.bytes place start) where
   pub steps_there : IsStep (256 ^ b.now.width) (number_of b.now.skip * 256) b.now.bytes start (Child from.0 place 0) × (start < 256 ^ (length b.now.skip + 1 + b.now.width))
-  steps_there = start_steps words b.now.width b.now.skip b.now.bytes b.now.children.items b.now.population place start (branch_is words tree b base 0 down) inside from
+  steps_there = start_steps words b.now.width b.now.skip b.now.bytes b.now.children.items b.now.population place start (branch_is down) inside from
 
   -- The way of the child's first key.
   abbrev pub down_start : IsDown {V = V} words tree (Branch b) (base + start) start
@@ -423,14 +423,14 @@ module _ {V : _} (words : ℕ) (tree : Pairs) (b : _) (base : ℕ) (down : IsDow
 
   module _ (kid : Tree) (is : kid ≡ get_or b.now.children.items place kid) where
     pub start_child : IsChild words b.now.width kid
-    start_child = child_is words tree b (base + start) start down_start from.0 place 0 steps_there.0 kid is
+    start_child = child_is down_start from.0 place 0 steps_there.0 is
 
     -- The node that was entered there, and how many pairs are in front of it.
     pub start_down : (next : ViewOf V) → IsView words b.now.width kid next
         → (entered : IsDown words tree next (base + start) 0) × (length entered.front ≡ length down.front + population (take place b.now.children.items)) × (width_of next ≡ b.now.width)
     start_down next view =
-        let stepped = down_child words tree b (base + start) start down_start from.0 place 0 steps_there.0 kid is next view in
-        (stepped.down, ap length stepped.front_is ∙ front_long words tree b (base + start) start down_start place, stepped.width_is)
+        let stepped = down_child down_start from.0 place 0 steps_there.0 is view in
+        (stepped.down, ap length stepped.front_is ∙ front_long down_start place, stepped.width_is)
 
 -- Beside a child those that aren't above the key are those before it.
 pub beside_reached : (all : ℕ) (step : Step) → IsBeside step → reached all step ≡ passed all step

@@ -154,7 +154,7 @@ module _ {V : _} (words : ℕ) (tree : Pairs) (b : _) (key left : ℕ) (down : I
   module _ (byte place rest : ℕ) (steps : IsStep (256 ^ b.now.width) (number_of b.now.skip * 256) b.now.bytes left (Child byte place rest)) where
     module _ (kid : Tree) (is : kid ≡ get_or b.now.children.items place kid) where
       there : slice_get b.now.children.items place ≡ Some kid
-      there = slice_get-get_or b.now.children.items place kid (child_inside words tree b key left down byte place rest steps) ∙ ap Some (sym is)
+      there = slice_get-get_or b.now.children.items place kid (child_inside down byte place rest steps) ∙ ap Some (sym is)
 
       pub child_window : IsWindow tree (key - rest) (256 ^ b.now.width) kid.pairs
       child_window =

@@ -7,7 +7,7 @@ use Rattle.judy_model.specs.WordBytes.{number_of}
 use Rattle.judy_bits.specs.ByteSets.{rank}
 use Rattle.judy_bits.proofs.FewLemmas.{rank-le}
 use Rattle.judy_leaf.specs.KeyLists.{shift, keys_of}
-use Rattle.judy_node.specs.Trees.{Pairs, Tree, join, IsBranch}
+use Rattle.judy_node.specs.Trees.{Pairs, Tree, join, IsChild, IsBranch}
 use Rattle.judy_node.specs.Views.{IsView, view_pairs}
 use Rattle.judy_node.specs.declared.view.ViewOf.{ViewOf}
 use Rattle.judy_node.proofs.Maps.{children-length, length-shift, length-keys_of, shift-append, shift-shift}
@@ -112,39 +112,52 @@ rest_none words width skipped bytes kids count is place base others past =
     let long = children-length words width 0 bytes kids is.parts.children in
     ap (λ bs. shift base (join (256 ^ width) (number_of skipped * 256) bs (drop place kids)) ++ others) (sym (drop_all place bytes (omega arith)))
 
-module _ {V : _} (words width : ℕ) (skipped bytes : List ℕ) (kids : List Tree) (count : ℕ) (is : IsBranch words width skipped bytes kids count) where
-  module _ (place start : ℕ) (inside : place < length kids) (from : IsStart (256 ^ width) (number_of skipped * 256) bytes place start) (kid : Tree) (same : kid ≡ get_or kids place kid)
-      (next : ViewOf V) (view : IsView words width kid next) where
-    pub entered_width : width_of next ≡ width
-    entered_width =
-        let some = (kid_is words width skipped bytes kids count is 0 place kid inside same).some in
-        view_width words width kid next (λ (none : length kid.pairs ≡ 0). let never : ⊥ = omega arith in absurd never) view
+-- The child of a branch at a place, which was entered: where its keys begin, its pairs, and what is shown of it.
+pub record IsEntered {V : _} (words width : ℕ) (skipped bytes : List ℕ) (kids : List Tree) (count place start : ℕ) (kid : Tree) (next : ViewOf V) : Type 0 where
+  pub is : IsBranch words width skipped bytes kids count
+  pub inside : place < length kids
+  pub from : IsStart (256 ^ width) (number_of skipped * 256) bytes place start
+  pub same : kid ≡ get_or kids place kid
+  pub view : IsView words width kid next
 
-    pub entered_shown : IsShown words next
-    entered_shown =
-        let child = kid_is words width skipped bytes kids count is 0 place kid inside same in
-        is_shown words width kid next child.low_width child.high_width entered_width view
+pub entered_of : {V : _} {words width : ℕ} {skipped bytes : List ℕ} {kids : List Tree} {count place start byte : ℕ} {kid : Tree} {next : ViewOf V} → IsBranch words width skipped bytes kids count → place < length kids
+    → slice_get bytes place ≡ Some byte → start ≡ (number_of skipped * 256 + byte) * 256 ^ width → kid ≡ get_or kids place kid → IsView words width kid next
+    → IsEntered words width skipped bytes kids count place start kid next
+entered_of {V} {words} {width} {skipped} {bytes} {kids} {count} {place} {start} {byte} is inside there begins same view = record { is = is; inside = inside; from = (byte, there, begins); same = same; view = view }
 
-    pub entered_some : 0 < length (view_pairs next)
-    entered_some = subst (λ ps. 0 < length ps) view.pairs (kid_is words width skipped bytes kids count is 0 place kid inside same).some
+module _ {V : _} {words width : ℕ} {skipped bytes : List ℕ} {kids : List Tree} {count place start : ℕ} {kid : Tree} {next : ViewOf V} (it : IsEntered words width skipped bytes kids count place start kid next) where
+  child : IsChild words width kid
+  child = kid_is words width skipped bytes kids count it.is 0 place kid it.inside it.same
 
-    pub entered_fits : (base : ℕ) → base + 256 ^ (length skipped + 1 + width) ≤ 256 ^ 8 → base + start + 256 ^ width_of next ≤ 256 ^ 8
-    entered_fits base fits =
-        let room = start_room words width skipped bytes kids count place start is inside from in
-        subst (λ w. base + start + 256 ^ w ≤ 256 ^ 8) (sym entered_width) (omega arith)
+  pub entered_width : width_of next ≡ width
+  entered_width =
+      let some = child.some in
+      view_width words width kid next (λ (none : length kid.pairs ≡ 0). let never : ⊥ = omega arith in absurd never) it.view
 
-    -- From the child on stand its pairs, then those of the children behind it.
-    pub entered_pairs : (base : ℕ) (others : Pairs) → shift base (rest_of (256 ^ width) (number_of skipped * 256) bytes kids place) ++ others
-        ≡ shift (base + start) (view_pairs next) ++ (shift base (rest_of (256 ^ width) (number_of skipped * 256) bytes kids (suc place)) ++ others)
-    entered_pairs base others =
-        let unit = 256 ^ width in
-        let block = number_of skipped * 256 in
-        let first = shift ((block + from.0) * unit) kid.pairs in
-        let rest = rest_of unit block bytes kids (suc place) in
-        ap (λ ps. shift base ps ++ others) (rest_more unit block bytes kids from.0 place kid from.1 (slice_get-get_or kids place kid inside ∙ ap Some (sym same)))
-        ∙ ap (λ ps. ps ++ others) (shift-append base first rest)
-        ∙ append_assoc (shift base first) (shift base rest) others
-        ∙ ap (λ ps. ps ++ (shift base rest ++ others)) (shift-shift base ((block + from.0) * unit) (base + start) kid.pairs (ap (λ n. base + n) from.2) ∙ ap (shift (base + start)) view.pairs)
+  pub entered_shown : IsShown words next
+  entered_shown = is_shown words width kid next child.low_width child.high_width entered_width it.view
+
+  pub entered_some : 0 < length (view_pairs next)
+  entered_some = subst (λ ps. 0 < length ps) it.view.pairs child.some
+
+  pub entered_fits : (base : ℕ) → base + 256 ^ (length skipped + 1 + width) ≤ 256 ^ 8 → base + start + 256 ^ width_of next ≤ 256 ^ 8
+  entered_fits base fits =
+      let room = start_room words width skipped bytes kids count place start it.is it.inside it.from in
+      subst (λ w. base + start + 256 ^ w ≤ 256 ^ 8) (sym entered_width) (omega arith)
+
+  -- From the child on stand its pairs, then those of the children behind it.
+  pub entered_pairs : (base : ℕ) (others : Pairs) → shift base (rest_of (256 ^ width) (number_of skipped * 256) bytes kids place) ++ others
+      ≡ shift (base + start) (view_pairs next) ++ (shift base (rest_of (256 ^ width) (number_of skipped * 256) bytes kids (suc place)) ++ others)
+  entered_pairs base others =
+      let unit = 256 ^ width in
+      let block = number_of skipped * 256 in
+      let from = it.from in
+      let first = shift ((block + from.0) * unit) kid.pairs in
+      let rest = rest_of unit block bytes kids (suc place) in
+      ap (λ ps. shift base ps ++ others) (rest_more unit block bytes kids from.0 place kid from.1 (slice_get-get_or kids place kid it.inside ∙ ap Some (sym it.same)))
+      ∙ ap (λ ps. ps ++ others) (shift-append base first rest)
+      ∙ append_assoc (shift base first) (shift base rest) others
+      ∙ ap (λ ps. ps ++ (shift base rest ++ others)) (shift-shift base ((block + from.0) * unit) (base + start) kid.pairs (ap (λ n. base + n) from.2) ∙ ap (shift (base + start)) it.view.pairs)
 
 -- A walk has come to a node, from where its keys begin, and keeps turns: these are all the pairs that are left to it.
 pub record IsWalked {V : _} (words : ℕ) (view : ViewOf V) (base : ℕ) (kept : List (Option (Turn V))) (all : Pairs) : Type 0 where
@@ -164,15 +177,14 @@ pub walked_child : {V : _} (words : ℕ) (b : _) (base : ℕ) (turns : List (Opt
 walked_child words b base turns all walked start from kid same next view kept are pairs one =
     let is = walked.shown.place.1 in
     let inside = first_inside words b.now.width b.now.skip b.now.bytes b.now.children.items b.now.population is in
-    let wide = entered_width words b.now.width b.now.skip b.now.bytes b.now.children.items b.now.population is 0 start inside from kid same next view in
+    let entered = entered_of is inside from.1 from.2 same view in
+    let wide = entered_width entered in
     let room = walked.room in
     record {
-      shown = entered_shown words b.now.width b.now.skip b.now.bytes b.now.children.items b.now.population is 0 start inside from kid same next view;
-      fits = entered_fits words b.now.width b.now.skip b.now.bytes b.now.children.items b.now.population is 0 start inside from kid same next view base walked.fits;
-      some = entered_some words b.now.width b.now.skip b.now.bytes b.now.children.items b.now.population is 0 start inside from kid same next view;
+      shown = entered_shown entered;
+      fits = entered_fits entered base walked.fits;
+      some = entered_some entered;
       turns = are;
       room = omega arith;
-      pairs = ap (λ ps. shift (base + start) (view_pairs next) ++ ps) pairs
-          ∙ sym (entered_pairs words b.now.width b.now.skip b.now.bytes b.now.children.items b.now.population is 0 start inside from kid same next view base (waiting turns))
-          ∙ walked.pairs;
+      pairs = ap (λ ps. shift (base + start) (view_pairs next) ++ ps) pairs ∙ sym (entered_pairs entered base (waiting turns)) ∙ walked.pairs;
     }

@@ -3,7 +3,8 @@
 ghost use Rattle.std.specs.Prelude.{◌≡◌, ◌+◌, ◌*◌, ◌^◌, ◌<◌, ◌≤◌, length, slice_get, Some, ℕ};
 ghost use Rattle.judy_model.specs.WordBytes.{number_of};
 ghost use Rattle.judy_bits.specs.ByteSets as set;
-ghost use Rattle.judy_node.specs.Trees.{Tree, IsBranch};
+ghost use Rattle.judy_node.specs.Trees.{Tree};
+ghost use Rattle.judy_node.specs.Branches.{IsWholeBranch};
 ghost use Rattle.judy_node.specs.Populations.{AreSums, HoldsNth};
 ghost use Rattle.judy_query.specs.Parts.{passed, reached, byte_passed, byte_behind, IsStart};
 
@@ -62,26 +63,28 @@ pub(crate) fn byte_behind(step: Step) -> u64
 
 /// Where the keys of the child at a place begin.
 pub(crate) fn start_of<V: Words + Drop>(branch: &BranchOf<V>, place: usize) -> u64
-    requires branch { IsBranch V.WORDS branch.now.width branch.now.skip branch.now.bytes branch.now.children.items branch.now.population }
+    requires branch { IsWholeBranch V.WORDS branch.now }
     requires place { place < length branch.now.children.items }
-    ensures { IsStart (256 ^ branch.now.width) (number_of branch.now.skip * 256) branch.now.bytes place result }
+    ensures { IsStart (256 ^ branch.now.width)
+        (number_of branch.now.skip * 256) branch.now.bytes place result }
 {
     start_at(branch, branch.byte_at(place))
 }
 
 /// The same for the first child from a byte on, whose place is known: its own byte is the next one in the set, and none are counted.
 pub(crate) fn start_from<V: Words + Drop>(branch: &BranchOf<V>, place: usize, from: u64) -> u64
-    requires branch { IsBranch V.WORDS branch.now.width branch.now.skip branch.now.bytes branch.now.children.items branch.now.population }
+    requires branch { IsWholeBranch V.WORDS branch.now }
     requires place { place < length branch.now.children.items }
     requires from { place ≡ set.rank branch.now.bytes from }
-    ensures { IsStart (256 ^ branch.now.width) (number_of branch.now.skip * 256) branch.now.bytes place result }
+    ensures { IsStart (256 ^ branch.now.width)
+        (number_of branch.now.skip * 256) branch.now.bytes place result }
 {
     start_at(branch, byte_from(branch, place, from))
 }
 
 /// The byte of the first child from a byte on, whose place is known. Where all 256 children stand, that place is the byte.
 pub(crate) fn byte_from<V: Words + Drop>(branch: &BranchOf<V>, place: usize, from: u64) -> u8
-    requires branch { IsBranch V.WORDS branch.now.width branch.now.skip branch.now.bytes branch.now.children.items branch.now.population }
+    requires branch { IsWholeBranch V.WORDS branch.now }
     requires place { place < length branch.now.children.items }
     requires from { place ≡ set.rank branch.now.bytes from }
     ensures { slice_get branch.now.bytes place ≡ Some result }
@@ -97,18 +100,19 @@ pub(crate) fn byte_from<V: Words + Drop>(branch: &BranchOf<V>, place: usize, fro
 
 /// Where the keys of the last child below a byte begin, whose place is known: its own byte is the one before in the set.
 pub(crate) fn start_below<V: Words + Drop>(branch: &BranchOf<V>, place: usize, below: u64) -> u64
-    requires branch { IsBranch V.WORDS branch.now.width branch.now.skip branch.now.bytes branch.now.children.items branch.now.population }
+    requires branch { IsWholeBranch V.WORDS branch.now }
     requires place { place < length branch.now.children.items }
     requires below { place + 1 ≡ set.rank branch.now.bytes below }
     requires small { below ≤ 256 }
-    ensures { IsStart (256 ^ branch.now.width) (number_of branch.now.skip * 256) branch.now.bytes place result }
+    ensures { IsStart (256 ^ branch.now.width)
+        (number_of branch.now.skip * 256) branch.now.bytes place result }
 {
     start_at(branch, byte_below(branch, place, below))
 }
 
 // The byte of the last child below a byte, whose place is known. Where all 256 children stand, that place is the byte.
 fn byte_below<V: Words + Drop>(branch: &BranchOf<V>, place: usize, below: u64) -> u8
-    requires branch { IsBranch V.WORDS branch.now.width branch.now.skip branch.now.bytes branch.now.children.items branch.now.population }
+    requires branch { IsWholeBranch V.WORDS branch.now }
     requires place { place < length branch.now.children.items }
     requires below { place + 1 ≡ set.rank branch.now.bytes below }
     requires small { below ≤ 256 }
@@ -126,8 +130,9 @@ fn byte_below<V: Words + Drop>(branch: &BranchOf<V>, place: usize, below: u64) -
 
 /// Where the keys of the child of a byte begin.
 pub(crate) fn start_at<V: Words + Drop>(branch: &BranchOf<V>, byte: u8) -> u64
-    requires branch { IsBranch V.WORDS branch.now.width branch.now.skip branch.now.bytes branch.now.children.items branch.now.population }
-    requires byte { (place : ℕ) × (place < length branch.now.children.items) × (slice_get branch.now.bytes place ≡ Some byte) }
+    requires branch { IsWholeBranch V.WORDS branch.now }
+    requires byte { (place : ℕ) × (place < length branch.now.children.items)
+        × (slice_get branch.now.bytes place ≡ Some byte) }
     ensures { result ≡ (number_of branch.now.skip * 256 + byte) * 256 ^ branch.now.width }
 {
     moved_up(
@@ -141,7 +146,7 @@ pub(crate) fn start_at<V: Words + Drop>(branch: &BranchOf<V>, byte: u8) -> u64
 // Inside a way down to first keys nothing is left of it.
 #[inline(always)]
 pub(crate) fn holding<V: Words + Drop>(branch: &BranchOf<V>, n: u64) -> (usize, u64)
-    requires branch { IsBranch V.WORDS branch.now.width branch.now.skip branch.now.bytes branch.now.children.items branch.now.population }
+    requires branch { IsWholeBranch V.WORDS branch.now }
     requires sums { AreSums branch.now.sums branch.now.children.items }
     requires within { n < branch.now.population }
     ensures { (kid : Tree) × HoldsNth branch.now.children.items n result.0 result.1 kid }

@@ -74,7 +74,8 @@ fn seek<'a, V: Words + Drop, M: Sparing>(
     meter: &mut M,
 ) -> Room<'a, V>
     requires { M.visits meter.old ≤ 2 ^ 64 - 17 }
-    ensures room { IsRoom side V.WORDS tree.now.pairs (low_of side key) (high_of side key (2 ^ 64)) result }
+    ensures room { IsRoom side V.WORDS tree.now.pairs (low_of side key)
+        (high_of side key (2 ^ 64)) result }
     ensures no_fewer { M.visits meter.old ≤ M.visits meter.new }
     ensures visits { M.visits meter.new ≤ M.visits meter.old + most_visits_down }
 {

@@ -21,7 +21,8 @@ pub(crate) fn fill_in<V: Words + Drop, E: FromPair>(
     requires shown { IsShown V.WORDS view.now }
     requires fits { base + 256 ^ width_of view.now ≤ 256 ^ 8 }
     requires inside { at + length out.old ≤ length (view_pairs view.now) }
-    ensures { out.new ≡ made_of E.made (shift base (take (length out.old) (drop at (view_pairs view.now)))) }
+    ensures { out.new
+        ≡ made_of E.made (shift base (take (length out.old) (drop at (view_pairs view.now)))) }
 {
     match view {
         ViewOf::Null => {}
@@ -54,7 +55,8 @@ pub(crate) fn give_whole<V: Words + Drop, E: FromPair>(
 ) -> Option<usize>
     requires shown { IsShown V.WORDS view.now }
     requires fits { base + 256 ^ width_of view.now ≤ 256 ^ 8 }
-    ensures given { MatchOption result (out.new ≡ out.old) (λ count. AreGiven E.made (shift base (view_pairs view.now)) [] out.old out.new count) }
+    ensures given { MatchOption result (out.new ≡ out.old)
+        (λ count. AreGiven E.made (shift base (view_pairs view.now)) [] out.old out.new count) }
 {
     match view {
         ViewOf::Imm(list) => {

@@ -55,7 +55,8 @@ fn go_down<'a, V: Words + Drop>(
     requires none { ends.old.items ≡ [] }
     requires few { length keys.now ≤ 16 }
     requires below { meter.old ≤ 2 ^ 64 - 145 }
-    ensures values { map value_at ends.new.items ≡ map (λ key. value_of tree.now.pairs key) keys.now }
+    ensures values { map value_at ends.new.items
+        ≡ map (λ key. value_of tree.now.pairs key) keys.now }
     ensures ends { All (IsEndIfAny V.WORDS) ends.new.items }
     ensures no_fewer { meter.old ≤ meter.new }
     ensures visits { meter.new ≤ meter.old + length keys.now * most_visits_down }

@@ -5,7 +5,8 @@ ghost use Rattle.std.specs.Prelude.{◌≡◌, ◌+◌, ◌-◌, ◌*◌, ◌^�
 ghost use Rattle.judy_model.specs.WordBytes.{number_of};
 ghost use Rattle.judy_bits.specs.ByteSets as set;
 ghost use Rattle.judy_leaf.specs.KeyLists.{shift};
-ghost use Rattle.judy_node.specs.Trees.{IsChild, IsBranch, branch_pairs};
+ghost use Rattle.judy_node.specs.Trees.{IsChild, branch_pairs};
+ghost use Rattle.judy_node.specs.Branches.{IsWholeBranch};
 ghost use Rattle.judy_query.specs.Rooms.{HasWidth, IsRoomFrom, IsRoomUpTo, nearer};
 
 use judy_bits::{moved_up, without_low};
@@ -54,8 +55,9 @@ pub fn last_word(width: u8) -> u64
 
 /// The least word of the block of a byte, or the one behind the block of byte 255, where the branch's words begin at a base.
 fn start_of<V: Words + Drop>(branch: &BranchOf<V>, byte: u64, base: u64) -> u64
-    requires branch { IsBranch V.WORDS branch.now.width branch.now.skip branch.now.bytes branch.now.children.items branch.now.population }
-    requires within { base + (number_of branch.now.skip * 256 + byte) * 256 ^ branch.now.width < 2 ^ 64 }
+    requires branch { IsWholeBranch V.WORDS branch.now }
+    requires within { base + (number_of branch.now.skip * 256 + byte) * 256 ^ branch.now.width
+        < 2 ^ 64 }
     ensures { result ≡ base + (number_of branch.now.skip * 256 + byte) * 256 ^ branch.now.width }
 {
     base + moved_up(branch.skip.number() * 256 + byte, usize::from(branch.width))
@@ -77,12 +79,14 @@ pub fn room_from<V: Words + Drop>(
     first: u64,
     base: u64,
 ) -> Room<'_, V>
-    requires branch { IsBranch V.WORDS branch.now.width branch.now.skip branch.now.bytes branch.now.children.items branch.now.population }
+    requires branch { IsWholeBranch V.WORDS branch.now }
     requires first { first ≤ 256 }
     requires place { place ≡ set.rank branch.now.bytes first }
     requires fits { base + 256 ^ (length branch.now.skip + 1 + branch.now.width) ≤ 2 ^ 64 }
     ensures width { HasWidth branch.now.width result }
-    ensures room { IsRoomFrom V.WORDS (shift base (branch_pairs branch.now.width branch.now.skip branch.now.bytes branch.now.children.items))
+    ensures room { IsRoomFrom V.WORDS
+        (shift base (branch_pairs branch.now.width branch.now.skip branch.now.bytes
+        branch.now.children.items))
         (base + (number_of branch.now.skip * 256 + first) * 256 ^ branch.now.width) (base + 256 ^ (length branch.now.skip + 1 + branch.now.width)) result }
 {
     let mut byte = first;
@@ -114,12 +118,14 @@ pub fn room_up_to<V: Words + Drop>(
     end: u64,
     base: u64,
 ) -> Room<'_, V>
-    requires branch { IsBranch V.WORDS branch.now.width branch.now.skip branch.now.bytes branch.now.children.items branch.now.population }
+    requires branch { IsWholeBranch V.WORDS branch.now }
     requires end { end ≤ 256 }
     requires place { place ≡ set.rank branch.now.bytes end }
     requires fits { base + 256 ^ (length branch.now.skip + 1 + branch.now.width) ≤ 2 ^ 64 }
     ensures width { HasWidth branch.now.width result }
-    ensures room { IsRoomUpTo V.WORDS (shift base (branch_pairs branch.now.width branch.now.skip branch.now.bytes branch.now.children.items))
+    ensures room { IsRoomUpTo V.WORDS
+        (shift base (branch_pairs branch.now.width branch.now.skip branch.now.bytes
+        branch.now.children.items))
         base (base + (number_of branch.now.skip * 256 + end) * 256 ^ branch.now.width) result }
 {
     let mut byte = end;

@@ -3,7 +3,8 @@
 ghost use Rattle.std.specs.Prelude.{◌≡◌, ◌+◌, ◌-◌, ◌*◌, ◌^◌, ◌<◌, ◌≤◌, Some, length, slice_get};
 ghost use Rattle.judy_model.specs.WordBytes.{number_of};
 ghost use Rattle.judy_leaf.specs.KeyLists.{shift};
-ghost use Rattle.judy_node.specs.Trees.{IsBranch, branch_pairs};
+ghost use Rattle.judy_node.specs.Trees.{branch_pairs};
+ghost use Rattle.judy_node.specs.Branches.{IsWholeBranch};
 ghost use Rattle.judy_node.specs.Views.{view_pairs};
 ghost use Rattle.judy_query.specs.Parts.{IsEnd, IsShown, width_of};
 ghost use Rattle.judy_query.specs.Rooms.{HasWidth, IsAbsent, IsRoom, IsRoomPast, low_of, high_of, end_of};
@@ -48,7 +49,8 @@ impl Side {
         requires shown { IsShown V.WORDS end.now }
         requires width { width ≡ width_of end.now }
         requires within { key < 256 ^ width }
-        ensures { IsAbsent self (view_pairs end.now) (low_of self key) (high_of self key (256 ^ width)) result }
+        ensures { IsAbsent self (view_pairs end.now) (low_of self key)
+            (high_of self key (256 ^ width)) result }
     {
         match self {
             Side::Up => first_absent(end, width, key),
@@ -65,10 +67,12 @@ impl Side {
         byte: u8,
         base: u64,
     ) -> Room<'_, V>
-        requires branch { IsBranch V.WORDS branch.now.width branch.now.skip branch.now.bytes branch.now.children.items branch.now.population }
+        requires branch { IsWholeBranch V.WORDS branch.now }
         requires child { slice_get branch.now.bytes place ≡ Some byte }
         requires fits { base + 256 ^ (length branch.now.skip + 1 + branch.now.width) ≤ 2 ^ 64 }
-        ensures { IsRoomPast self V.WORDS (shift base (branch_pairs branch.now.width branch.now.skip branch.now.bytes branch.now.children.items))
+        ensures { IsRoomPast self V.WORDS
+            (shift base (branch_pairs branch.now.width branch.now.skip branch.now.bytes
+            branch.now.children.items))
             base (base + 256 ^ (length branch.now.skip + 1 + branch.now.width))
             (base + (number_of branch.now.skip * 256 + byte) * 256 ^ branch.now.width) (256 ^ branch.now.width) result }
     {
@@ -86,12 +90,14 @@ impl Side {
         wide: u8,
         base: u64,
     ) -> Room<'_, V>
-        requires branch { IsBranch V.WORDS branch.now.width branch.now.skip branch.now.bytes branch.now.children.items branch.now.population }
+        requires branch { IsWholeBranch V.WORDS branch.now }
         requires wide { wide ≡ length branch.now.skip + 1 + branch.now.width }
         requires narrow { wide ≤ 7 }
         requires fits { base + 256 ^ (length branch.now.skip + 1 + branch.now.width) ≤ 2 ^ 64 }
         ensures width { HasWidth branch.now.width result }
-        ensures room { IsRoom self V.WORDS (shift base (branch_pairs branch.now.width branch.now.skip branch.now.bytes branch.now.children.items))
+        ensures room { IsRoom self V.WORDS
+            (shift base (branch_pairs branch.now.width branch.now.skip branch.now.bytes
+            branch.now.children.items))
             base (base + 256 ^ (length branch.now.skip + 1 + branch.now.width)) result }
     {
         let number = branch.skip.number();

@@ -5,7 +5,8 @@ ghost use Rattle.std.specs.Option.{option_or};
 ghost use Rattle.judy_model.specs.WordBytes.{number_of};
 ghost use Rattle.judy_bits.specs.ByteSets as set;
 ghost use Rattle.judy_leaf.specs.KeyLists.{shift};
-ghost use Rattle.judy_node.specs.Trees.{join, IsBranch};
+ghost use Rattle.judy_node.specs.Trees.{join};
+ghost use Rattle.judy_node.specs.Branches.{IsWholeBranch};
 ghost use Rattle.judy_query.specs.Parts.{passed, reached, byte_passed, byte_behind, IsStart};
 ghost use Rattle.judy_query.specs.Turns.{turn_pairs, IsTurn, IsLater, IsEarlier, last_pair, later_pair, earlier_pair};
 ghost use Rattle.judy_query.specs.Visits.{most_visits_below};
@@ -35,13 +36,20 @@ pub(crate) fn later_turn<'a, V: Words + Drop>(
     base: u64,
     before: Option<Turn<'a, V>>,
 ) -> Option<Turn<'a, V>>
-    requires branch { IsBranch V.WORDS branch.now.width branch.now.skip branch.now.bytes branch.now.children.items branch.now.population }
-    requires inside { passed (length branch.now.children.items) step ≤ length branch.now.children.items }
-    requires step { reached (length branch.now.children.items) step ≡ set.rank branch.now.bytes (byte_behind step) }
+    requires branch { IsWholeBranch V.WORDS branch.now }
+    requires inside { passed (length branch.now.children.items) step
+        ≤ length branch.now.children.items }
+    requires step { reached (length branch.now.children.items) step
+        ≡ set.rank branch.now.bytes (byte_behind step) }
     requires fits { base + 256 ^ (length branch.now.skip + 1 + branch.now.width) ≤ 256 ^ 8 }
     requires before { IsLater V.WORDS before }
     ensures turn { IsLater V.WORDS result }
-    ensures pair { later_pair result ≡ option_or (slice_get (shift base (join (256 ^ branch.now.width) (number_of branch.now.skip * 256) (drop (reached (length branch.now.children.items) step) branch.now.bytes) (drop (reached (length branch.now.children.items) step) branch.now.children.items))) 0) (later_pair before.entry) }
+    ensures pair { later_pair result
+        ≡ option_or (slice_get
+        (shift base (join (256 ^ branch.now.width) (number_of branch.now.skip * 256)
+        (drop (reached (length branch.now.children.items) step) branch.now.bytes)
+        (drop (reached (length branch.now.children.items) step) branch.now.children.items)))
+        0) (later_pair before.entry) }
 {
     let place = reached(branch, step);
     if place < branch.children.len() {
@@ -64,14 +72,21 @@ pub(crate) fn earlier_turn<'a, V: Words + Drop>(
     base: u64,
     before: Option<Turn<'a, V>>,
 ) -> Option<Turn<'a, V>>
-    requires branch { IsBranch V.WORDS branch.now.width branch.now.skip branch.now.bytes branch.now.children.items branch.now.population }
-    requires inside { passed (length branch.now.children.items) step ≤ length branch.now.children.items }
-    requires step { passed (length branch.now.children.items) step ≡ set.rank branch.now.bytes (byte_passed step) }
+    requires branch { IsWholeBranch V.WORDS branch.now }
+    requires inside { passed (length branch.now.children.items) step
+        ≤ length branch.now.children.items }
+    requires step { passed (length branch.now.children.items) step
+        ≡ set.rank branch.now.bytes (byte_passed step) }
     requires small { byte_passed step ≤ 256 }
     requires fits { base + 256 ^ (length branch.now.skip + 1 + branch.now.width) ≤ 256 ^ 8 }
     requires before { IsEarlier V.WORDS before }
     ensures turn { IsEarlier V.WORDS result }
-    ensures pair { earlier_pair result ≡ option_or (last_pair (shift base (join (256 ^ branch.now.width) (number_of branch.now.skip * 256) (take (passed (length branch.now.children.items) step) branch.now.bytes) (take (passed (length branch.now.children.items) step) branch.now.children.items)))) (earlier_pair before.entry) }
+    ensures pair { earlier_pair result
+        ≡ option_or (last_pair
+        (shift base (join (256 ^ branch.now.width) (number_of branch.now.skip * 256)
+        (take (passed (length branch.now.children.items) step) branch.now.bytes)
+        (take (passed (length branch.now.children.items) step) branch.now.children.items))))
+        (earlier_pair before.entry) }
 {
     let place = passed(branch, step);
     if place > 0 {
@@ -115,13 +130,20 @@ pub(crate) fn pair_behind<V: Words + Drop>(
     before: Option<Turn<'_, V>>,
     meter: &mut Meter,
 ) -> Option<(u64, u64)>
-    requires branch { IsBranch V.WORDS branch.now.width branch.now.skip branch.now.bytes branch.now.children.items branch.now.population }
-    requires inside { passed (length branch.now.children.items) step ≤ length branch.now.children.items }
-    requires step { reached (length branch.now.children.items) step ≡ set.rank branch.now.bytes (byte_behind step) }
+    requires branch { IsWholeBranch V.WORDS branch.now }
+    requires inside { passed (length branch.now.children.items) step
+        ≤ length branch.now.children.items }
+    requires step { reached (length branch.now.children.items) step
+        ≡ set.rank branch.now.bytes (byte_behind step) }
     requires fits { base + 256 ^ (length branch.now.skip + 1 + branch.now.width) ≤ 256 ^ 8 }
     requires before { IsLater V.WORDS before }
     requires room { meter.old ≤ 2 ^ 64 - 9 }
-    ensures entry { result ≡ option_or (slice_get (shift base (join (256 ^ branch.now.width) (number_of branch.now.skip * 256) (drop (reached (length branch.now.children.items) step) branch.now.bytes) (drop (reached (length branch.now.children.items) step) branch.now.children.items))) 0) (later_pair before.entry) }
+    ensures entry { result
+        ≡ option_or (slice_get
+        (shift base (join (256 ^ branch.now.width) (number_of branch.now.skip * 256)
+        (drop (reached (length branch.now.children.items) step) branch.now.bytes)
+        (drop (reached (length branch.now.children.items) step) branch.now.children.items)))
+        0) (later_pair before.entry) }
     ensures no_fewer { meter.old ≤ meter.new }
     ensures visits { meter.new ≤ meter.old + most_visits_below }
 {
@@ -183,7 +205,9 @@ impl<'a, V: Words + Drop> Turn<'a, V> {
     #[inline(always)]
     fn entry_at(&self, start: u64, place: u64, meter: &mut Meter) -> (u64, u64)
         requires turn { IsTurn V.WORDS self.now }
-        requires start { IsStart (256 ^ self.now.branch.now.width) (number_of self.now.branch.now.skip * 256) self.now.branch.now.bytes self.now.place start }
+        requires start { IsStart (256 ^ self.now.branch.now.width)
+            (number_of self.now.branch.now.skip * 256) self.now.branch.now.bytes self.now.place
+            start }
         requires inside { place < length (turn_pairs self.now) }
         requires room { meter.old ≤ 2 ^ 64 - 9 }
         ensures entry { slice_get (turn_pairs self.now) place ≡ Some result }

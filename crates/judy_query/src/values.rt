@@ -61,7 +61,11 @@ fn end_of_way<'a, V: Words + Drop>(
     requires shown { IsShown V.WORDS (Branch top) }
     requires inside { key < 256 ^ (length top.now.skip + 1 + top.now.width) }
     requires below { meter.old ≤ 2 ^ 64 - 16 }
-    ensures value { MatchOption result (value_of (branch_pairs top.now.width top.now.skip top.now.bytes top.now.children.items) key ≡ None) (λ end. value_of (branch_pairs top.now.width top.now.skip top.now.bytes top.now.children.items) key ≡ value_of (view_pairs end.0) end.1) }
+    ensures value { MatchOption result
+        (value_of (branch_pairs top.now.width top.now.skip top.now.bytes top.now.children.items) key
+        ≡ None) (λ end. value_of
+        (branch_pairs top.now.width top.now.skip top.now.bytes top.now.children.items) key
+        ≡ value_of (view_pairs end.0) end.1) }
     ensures end { MatchOption result Unit (λ end. IsEnd end.0 × IsShown V.WORDS end.0) }
     ensures no_fewer { meter.old ≤ meter.new }
     ensures visits { meter.new + 1 ≤ meter.old + length top.now.skip + 1 + top.now.width }

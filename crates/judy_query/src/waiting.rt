@@ -4,7 +4,8 @@ ghost use Rattle.std.specs.Prelude.{◌≡◌, ◌+◌, ◌*◌, ◌^◌, ◌<�
 ghost use Rattle.judy_model.specs.WordBytes.{number_of};
 ghost use Rattle.judy_bits.specs.ByteSets as set;
 ghost use Rattle.judy_leaf.specs.KeyLists.{shift};
-ghost use Rattle.judy_node.specs.Trees.{join, IsBranch};
+ghost use Rattle.judy_node.specs.Trees.{join};
+ghost use Rattle.judy_node.specs.Branches.{IsWholeBranch};
 ghost use Rattle.judy_query.specs.Turns.{IsTurn, IsFirst};
 ghost use Rattle.judy_query.specs.Walks.{rest_of_turn, waiting, AreTurns};
 
@@ -25,13 +26,16 @@ pub(crate) fn keep<'a, V: Words + Drop>(
     base: u64,
     turns: &mut Turns<'a, V>,
 )
-    requires branch { IsBranch V.WORDS branch.now.width branch.now.skip branch.now.bytes branch.now.children.items branch.now.population }
+    requires branch { IsWholeBranch V.WORDS branch.now }
     requires from { place ≡ set.rank branch.now.bytes from }
     requires fits { base + 256 ^ (length branch.now.skip + 1 + branch.now.width) ≤ 256 ^ 8 }
     requires turns { AreTurns V.WORDS 0 turns.old.items }
     requires room { length turns.old.items + 1 + branch.now.width ≤ 8 }
     ensures turns { AreTurns V.WORDS 0 turns.new.items }
-    ensures pairs { waiting turns.new.items ≡ shift base (join (256 ^ branch.now.width) (number_of branch.now.skip * 256) (drop place branch.now.bytes) (drop place branch.now.children.items)) ++ waiting turns.old.items }
+    ensures pairs { waiting turns.new.items
+        ≡ shift base (join (256 ^ branch.now.width) (number_of branch.now.skip * 256)
+        (drop place branch.now.bytes) (drop place branch.now.children.items)) ++ waiting
+        turns.old.items }
     ensures one { length turns.new.items ≤ length turns.old.items + 1 }
 {
     if place < branch.children.len() {
@@ -48,8 +52,12 @@ pub(crate) fn keep<'a, V: Words + Drop>(
 pub(crate) fn take<'a, V: Words + Drop>(turns: &mut Turns<'a, V>) -> Option<Turn<'a, V>>
     requires turns { AreTurns V.WORDS 0 turns.old.items }
     ensures turns { AreTurns V.WORDS 0 turns.new.items }
-    ensures pairs { MatchOption result ((waiting turns.old.items ≡ []) × (waiting turns.new.items ≡ [])) (λ turn. waiting turns.old.items ≡ rest_of_turn turn ++ waiting turns.new.items) }
-    ensures turn { MatchOption result (0 ≤ 0) (λ turn. IsTurn V.WORDS turn × (length turns.new.items + 1 + turn.branch.now.width ≤ 8) × IsFirst turn) }
+    ensures pairs { MatchOption result
+        ((waiting turns.old.items ≡ []) × (waiting turns.new.items ≡ []))
+        (λ turn. waiting turns.old.items ≡ rest_of_turn turn ++ waiting turns.new.items) }
+    ensures turn { MatchOption result (0 ≤ 0)
+        (λ turn. IsTurn V.WORDS turn × (length turns.new.items + 1 + turn.branch.now.width ≤ 8)
+        × IsFirst turn) }
 {
     turns.pop()?
 }

@@ -145,7 +145,8 @@ fn first_from<'a, V: Words + Drop>(
     requires room { length turns.old.items + 1 + turn.branch.now.width ≤ 8 }
     requires below { meter.old ≤ 2 ^ 64 - 17 }
     ensures turns { AreTurns V.WORDS 0 turns.new.items }
-    ensures pairs { result ++ waiting turns.new.items ≡ rest_of_turn turn.entry ++ waiting turns.old.items }
+    ensures pairs { result ++ waiting turns.new.items
+        ≡ rest_of_turn turn.entry ++ waiting turns.old.items }
     ensures some { 0 < length result }
     ensures no_fewer { meter.old ≤ meter.new }
     ensures visits { meter.new ≤ meter.old + most_visits_below }
@@ -177,7 +178,8 @@ fn give_from<'a, V: Words + Drop, E: FromPair>(
     requires place { 0 < length out.old }
     requires below { meter.old + most_visits_below * length out.old ≤ 2 ^ 64 - 17 }
     ensures turns { AreTurns V.WORDS 0 turns.new.items }
-    ensures given { AreGiven E.made (rest_of_turn turn.entry ++ waiting turns.old.items) (result.0 ++ waiting turns.new.items) out.old out.new result.1 }
+    ensures given { AreGiven E.made (rest_of_turn turn.entry ++ waiting turns.old.items)
+        (result.0 ++ waiting turns.new.items) out.old out.new result.1 }
     ensures some { 0 < result.1 }
     ensures most { result.1 < length out.old → length result.0 ≡ 0 }
     ensures no_fewer { meter.old ≤ meter.new }
@@ -222,7 +224,8 @@ fn first_of<'a, V: Words + Drop>(
     requires room { length turns.old.items + width_of top ≤ 8 }
     requires below { meter.old ≤ 2 ^ 64 - 16 }
     ensures turns { AreTurns V.WORDS 0 turns.new.items }
-    ensures pairs { result ++ waiting turns.new.items ≡ shift start (view_pairs top.entry) ++ waiting turns.old.items }
+    ensures pairs { result ++ waiting turns.new.items
+        ≡ shift start (view_pairs top.entry) ++ waiting turns.old.items }
     ensures some { 0 < length result }
     ensures no_fewer { meter.old ≤ meter.new }
     ensures visits { meter.new + 1 ≤ meter.old + width_of top.entry }

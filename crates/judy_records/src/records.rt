@@ -12,6 +12,9 @@ use std::alloc::{AllocError, Global};
 use std::cmp::Ordering;
 use std::marker::Model;
 
+// A list with fewer words than this grows by a half.
+const SHORT: usize = 1024;
+
 /// Records of one length, each a value and a text of so many words. To contracts it is a `RecordList`.
 #[derive(Drop)]
 pub struct Records {
@@ -113,13 +116,14 @@ impl Records {
     /// words. The error is want of memory.
     pub fn bytes(&self, alloc: Global, place: usize, count: usize) -> Result<Vec<u8>, AllocError>
         requires { IsHeld (spot_at self.now place) }
-        ensures { IfOk result (λ bytes. bytes.items ≡ bytes_in count (text_of (spot_at self.now place))) }
+        ensures { IfOk result
+            (λ bytes. bytes.items ≡ bytes_in count (text_of (spot_at self.now place))) }
     {
         words::bytes_in(alloc, self.text(place), count)
     }
 
     /// Makes room for so many more records. Those for which places are free need none, so nothing is asked for where they suffice. For
-    /// the others the list grows by an eighth at least. The error is want of memory, and leaves the list as it was.
+    /// the others the list grows by an eighth at least, and by a half where it is short. The error is want of memory, and leaves the list as it was.
     pub fn reserve(&mut self, more: usize) -> Result<(), AllocError>
         ensures same { self.new ≡ with_capacity self.old self.new.capacity }
         ensures room { OnOk result (HasRoom self.new more) }
@@ -132,7 +136,7 @@ impl Records {
             return Ok(());
         }
         self.words
-            .reserve_exact(lacking.saturating_add(self.words.len() / 8))
+            .reserve_exact(lacking.saturating_add(part_more(self.words.len())))
     }
 
     /// The place that the next record takes: the first free one, or the end of the list.
@@ -205,4 +209,12 @@ impl Records {
         self.free = place;
         self.spare += 1;
     }
+}
+
+// By how many words beside those that it lacks a list of so many grows: by a half of them where it is short, so that it isn't moved at every few records,
+// and by an eighth where it is long, where a half would be much memory.
+fn part_more(words: usize) -> usize
+    ensures { result ≤ words }
+{
+    if words < SHORT { words / 2 } else { words / 8 }
 }

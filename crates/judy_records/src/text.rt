@@ -27,7 +27,9 @@ pub fn write(text: &mut [u64], bytes: &[u8])
 pub fn write_record(words: &mut Vec<u64>, start: usize, size: usize, value: u64, bytes: &[u8])
     requires within { start + (size + 1) ≤ vec_len words.old }
     requires fits { words_for (length bytes.now) ≡ size }
-    ensures words { words.new.items ≡ take start words.old.items ++ ((value ∷ words_in size bytes.now) ++ drop (size + 1) (drop start words.old.items)) }
+    ensures words { words.new.items
+        ≡ take start words.old.items ++ ((value ∷ words_in size bytes.now) ++ drop (size + 1)
+        (drop start words.old.items)) }
     ensures capacity { vec_capacity words.new ≡ vec_capacity words.old }
 {
     words[start] = value;

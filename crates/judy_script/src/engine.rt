@@ -58,7 +58,8 @@ pub(crate) fn feed<W: Sink>(
         Fed first fed before buffers.old.line (W.taken sink.old) (store_of shelf.old) →
         Fed first (fed ++ piece.now) before buffers.new.line (W.taken sink.new) (store_of shelf.new)) }
     // Should the answers not get out, the last line that ended is the one whose answer was being written.
-    ensures last { IfOk result (λ ended. IsTrue ended → (first : Store) (fed : List ℕ) (before : Option (List ℕ)) →
+    ensures last { IfOk result
+        (λ ended. IsTrue ended → (first : Store) (fed : List ℕ) (before : Option (List ℕ)) →
         Fed first fed before buffers.old.line (W.taken sink.old) (store_of shelf.old) →
         RanInWholeLines first (fed ++ piece.now) before (W.taken sink.new) (store_of shelf.new)) }
     ensures err { OnErr result ((first : Store) (fed : List ℕ) (before : Option (List ℕ)) →
@@ -190,8 +191,12 @@ fn put_out<W: Sink>(
     sink: &mut W,
 ) -> Result<(), RunFault>
     requires { (W.tally sink.old).failures < 2 ^ 64 - 1 }
-    ensures ok { OnOk result (W.taken sink.new ≡ grown (W.taken sink.old) (output_of (line_reply_of (store_of shelf.now) reply.entry))) }
-    ensures err { OnErr result (GrewByFront (W.taken sink.old) (output_of (line_reply_of (store_of shelf.now) reply.entry)) (W.taken sink.new)) }
+    ensures ok { OnOk result
+        (W.taken sink.new ≡ grown (W.taken sink.old)
+        (output_of (line_reply_of (store_of shelf.now) reply.entry))) }
+    ensures err { OnErr result
+        (GrewByFront (W.taken sink.old) (output_of (line_reply_of (store_of shelf.now) reply.entry))
+        (W.taken sink.new)) }
     ensures fault { IfErr result (λ fault. fault ≡ Write) }
     ensures failures { let before = (W.tally sink.old).failures in
         (W.tally sink.new).failures ≡ (if is_ok result then before else before + 1) }

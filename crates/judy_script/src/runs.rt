@@ -40,16 +40,23 @@ pub fn run<R: Source, W: Sink>(
 ) -> Result<(), RunFault>
     requires source { (R.tally source.old).failures < 2 ^ 64 - 1 }
     requires sink { (W.tally sink.old).failures < 2 ^ 64 - 1 }
-    ensures run { OnOk result (Since (R.given source.old) (R.given source.new) (λ script. Since (W.taken sink.old) (W.taken sink.new) (λ output.
+    ensures run { OnOk result
+        (Since (R.given source.old) (R.given source.new)
+        (λ script. Since (W.taken sink.old) (W.taken sink.new) (λ output.
         RanToEnd (store_of shelf.old) max_bytes script (R.ended source.new ≡ told (R.ended source.old) true) output (store_of shelf.new)))) }
-    ensures left { IfErr result (λ fault. Since (R.given source.old) (R.given source.new) (λ bytes. Since (W.taken sink.old) (W.taken sink.new) (λ output.
+    ensures left { IfErr result
+        (λ fault. Since (R.given source.old) (R.given source.new)
+        (λ bytes. Since (W.taken sink.old) (W.taken sink.new) (λ output.
         LeftBy (store_of shelf.old) max_bytes bytes (R.ended source.new ≡ told (R.ended source.old) true) output (store_of shelf.new) (fault_of fault)))) }
     // No byte is taken behind the one that is too many.
-    ensures one_more { result ≡ Err TooLong → Since (R.given source.old) (R.given source.new) (λ bytes. length bytes ≡ max_bytes + 1) }
+    ensures one_more { result ≡ Err TooLong
+        → Since (R.given source.old) (R.given source.new) (λ bytes. length bytes ≡ max_bytes + 1) }
     // A read may fail, so answers that were kept back until then couldn't be handed on without a fault more.
     ensures handed_on { result ≡ Err Read → W.kept sink.old ≡ [] → W.kept sink.new ≡ [] }
-    ensures read_failures { (R.tally source.new).failures ≡ (R.tally source.old).failures + read_failures result }
-    ensures write_failures { (W.tally sink.new).failures ≡ (W.tally sink.old).failures + write_failures result }
+    ensures read_failures { (R.tally source.new).failures
+        ≡ (R.tally source.old).failures + read_failures result }
+    ensures write_failures { (W.tally sink.new).failures
+        ≡ (W.tally sink.old).failures + write_failures result }
     ensures content { R.content source.new ≡ R.content source.old }
     ensures unfailing { R.is_unfailing source.new ≡ R.is_unfailing source.old }
 {
@@ -91,8 +98,12 @@ pub fn run<R: Source, W: Sink>(
 /// `u64::MAX` times before; a fault adds one failure, and Ok none.
 pub fn run_bytes<W: Sink>(script: &[u8], shelf: &mut Shelf, sink: &mut W) -> Result<(), RunFault>
     requires { (W.tally sink.old).failures < 2 ^ 64 - 1 }
-    ensures run { OnOk result (Since (W.taken sink.old) (W.taken sink.new) (λ output. Run (store_of shelf.old) script.now output (store_of shelf.new))) }
-    ensures write { OnErr result (Since (W.taken sink.old) (W.taken sink.new) (λ output. CutOff (store_of shelf.old) script.now output (store_of shelf.new))) }
+    ensures run { OnOk result
+        (Since (W.taken sink.old) (W.taken sink.new)
+        (λ output. Run (store_of shelf.old) script.now output (store_of shelf.new))) }
+    ensures write { OnErr result
+        (Since (W.taken sink.old) (W.taken sink.new)
+        (λ output. CutOff (store_of shelf.old) script.now output (store_of shelf.new))) }
     ensures fault { IfErr result (λ fault. fault ≡ Write) }
     ensures failures { let before = (W.tally sink.old).failures in
         (W.tally sink.new).failures ≡ (if is_ok result then before else before + 1) }

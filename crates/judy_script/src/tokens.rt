@@ -28,7 +28,8 @@ pub(crate) fn split<'a>(text: &'a [u8], tokens: &mut Tokens<'a>)
 
 // The first token of a text, and what stands after it; none where the text has no token.
 fn first_token(text: &[u8]) -> Option<(&[u8], &[u8])>
-    ensures { MatchOption result (tokens_of text.now ≡ []) (λ found. tokens_of text.now ≡ found.0.now ∷ tokens_of found.1.now) }
+    ensures { MatchOption result (tokens_of text.now ≡ [])
+        (λ found. tokens_of text.now ≡ found.0.now ∷ tokens_of found.1.now) }
 {
     let text = &text[front_len(text, true)..];
     if text.is_empty() {

@@ -31,7 +31,8 @@ use judy_word::{Judy1, JudyL};
 /// stands, whose keys have to be sorted: it asks for that before the first byte, and the sink has then taken none.
 pub fn dump<W: Sink>(shelf: &Shelf, sink: &mut W) -> Result<(), DumpFault>
     requires { (W.tally sink.old).failures < 2 ^ 64 - 1 }
-    ensures { Dumped jdy1 shelf.now (sunk (W.taken sink.old) (W.tally sink.old).failures) result (sunk (W.taken sink.new) (W.tally sink.new).failures) }
+    ensures { Dumped jdy1 shelf.now (sunk (W.taken sink.old) (W.tally sink.old).failures) result
+        (sunk (W.taken sink.new) (W.tally sink.new).failures) }
 {
     dump_as(Version::First, shelf, sink)
 }
@@ -42,7 +43,8 @@ pub fn dump<W: Sink>(shelf: &Shelf, sink: &mut W) -> Result<(), DumpFault>
 /// It asks for memory only where a judyhs array stands. [`load`](crate::load) takes both formats.
 pub fn dump2<W: Sink>(shelf: &Shelf, sink: &mut W) -> Result<(), DumpFault>
     requires { (W.tally sink.old).failures < 2 ^ 64 - 1 }
-    ensures { Dumped jdy2 shelf.now (sunk (W.taken sink.old) (W.tally sink.old).failures) result (sunk (W.taken sink.new) (W.tally sink.new).failures) }
+    ensures { Dumped jdy2 shelf.now (sunk (W.taken sink.old) (W.tally sink.old).failures) result
+        (sunk (W.taken sink.new) (W.tally sink.new).failures) }
 {
     dump_as(Version::Second, shelf, sink)
 }
@@ -50,7 +52,9 @@ pub fn dump2<W: Sink>(shelf: &Shelf, sink: &mut W) -> Result<(), DumpFault>
 // Writes the dump of a shelf in a format.
 fn dump_as<W: Sink>(version: Version, shelf: &Shelf, sink: &mut W) -> Result<(), DumpFault>
     requires { (W.tally sink.old).failures < 2 ^ 64 - 1 }
-    ensures { Dumped (format_of version) shelf.now (sunk (W.taken sink.old) (W.tally sink.old).failures) result (sunk (W.taken sink.new) (W.tally sink.new).failures) }
+    ensures { Dumped (format_of version) shelf.now
+        (sunk (W.taken sink.old) (W.tally sink.old).failures) result
+        (sunk (W.taken sink.new) (W.tally sink.new).failures) }
 {
     let Ok(lists) = sorted_lists(shelf) else {
         return Err(DumpFault::NoMemory);
@@ -67,7 +71,9 @@ fn write_shelf<W: Sink>(
 ) -> Result<(), BrokenPipe>
     requires below { (W.tally sink.old).failures < 2 ^ 64 - 1 }
     requires sorted { lists_in lists.now ≡ sorted_lists shelf.now }
-    ensures { Wrote (dump_of (format_of version) (store_of shelf.now)) (sunk (W.taken sink.old) (W.tally sink.old).failures) result (sunk (W.taken sink.new) (W.tally sink.new).failures) }
+    ensures { Wrote (dump_of (format_of version) (store_of shelf.now))
+        (sunk (W.taken sink.old) (W.tally sink.old).failures) result
+        (sunk (W.taken sink.new) (W.tally sink.new).failures) }
 {
     put(sink, &heading(version, shelf))?;
     let mut place = 0;
@@ -89,8 +95,11 @@ fn write_array<W: Sink>(
     sink: &mut W,
 ) -> Result<(), BrokenPipe>
     requires below { (W.tally sink.old).failures < 2 ^ 64 - 1 }
-    requires sorted { (list : List (List ℕ × ℕ)) → sorted_in array.now ≡ list ∷ [] → option_map pairs_in (option_copied keys) ≡ Some list }
-    ensures { Wrote (array_text (format_of version) (name.now, value_of array.now)) (sunk (W.taken sink.old) (W.tally sink.old).failures) result (sunk (W.taken sink.new) (W.tally sink.new).failures) }
+    requires sorted { (list : List (List ℕ × ℕ)) → sorted_in array.now ≡ list ∷ []
+        → option_map pairs_in (option_copied keys) ≡ Some list }
+    ensures { Wrote (array_text (format_of version) (name.now, value_of array.now))
+        (sunk (W.taken sink.old) (W.tally sink.old).failures) result
+        (sunk (W.taken sink.new) (W.tally sink.new).failures) }
 {
     put(sink, &array_head(name, array))?;
     match array {
@@ -107,7 +116,9 @@ fn write_array<W: Sink>(
 // Writes the keys of a set.
 fn write_set<W: Sink>(set: &Judy1, sink: &mut W) -> Result<(), BrokenPipe>
     requires { (W.tally sink.old).failures < 2 ^ 64 - 1 }
-    ensures { Wrote (text.contents jdy1 (judy1 (array_of set.now))) (sunk (W.taken sink.old) (W.tally sink.old).failures) result (sunk (W.taken sink.new) (W.tally sink.new).failures) }
+    ensures { Wrote (text.contents jdy1 (judy1 (array_of set.now)))
+        (sunk (W.taken sink.old) (W.tally sink.old).failures) result
+        (sunk (W.taken sink.new) (W.tally sink.new).failures) }
 {
     'keys: for key in set {
         put_word(sink, key)?;
@@ -118,7 +129,9 @@ fn write_set<W: Sink>(set: &Judy1, sink: &mut W) -> Result<(), BrokenPipe>
 // Writes the keys of a map, and the value of each behind it.
 fn write_words<W: Sink>(words: &JudyL, sink: &mut W) -> Result<(), BrokenPipe>
     requires { (W.tally sink.old).failures < 2 ^ 64 - 1 }
-    ensures { Wrote (text.contents jdy1 (judyl (array_of words.now))) (sunk (W.taken sink.old) (W.tally sink.old).failures) result (sunk (W.taken sink.new) (W.tally sink.new).failures) }
+    ensures { Wrote (text.contents jdy1 (judyl (array_of words.now)))
+        (sunk (W.taken sink.old) (W.tally sink.old).failures) result
+        (sunk (W.taken sink.new) (W.tally sink.new).failures) }
 {
     'entries: for (key, value) in words {
         put_entry(sink, key, value)?;
@@ -133,7 +146,9 @@ fn write_strings<W: Sink>(
     sink: &mut W,
 ) -> Result<(), BrokenPipe>
     requires { (W.tally sink.old).failures < 2 ^ 64 - 1 }
-    ensures { Wrote (text.contents (format_of version) (judysl strings.now)) (sunk (W.taken sink.old) (W.tally sink.old).failures) result (sunk (W.taken sink.new) (W.tally sink.new).failures) }
+    ensures { Wrote (text.contents (format_of version) (judysl strings.now))
+        (sunk (W.taken sink.old) (W.tally sink.old).failures) result
+        (sunk (W.taken sink.new) (W.tally sink.new).failures) }
 {
     let mut last = LastKey::new();
     let mut cursor = strings.cursor(&[]);
@@ -150,7 +165,9 @@ fn write_strings<W: Sink>(
 // Writes a key and its value.
 fn put_entry<W: Sink>(sink: &mut W, key: u64, value: u64) -> Result<(), BrokenPipe>
     requires { (W.tally sink.old).failures < 2 ^ 64 - 1 }
-    ensures { Wrote (text.word key ++ text.word value) (sunk (W.taken sink.old) (W.tally sink.old).failures) result (sunk (W.taken sink.new) (W.tally sink.new).failures) }
+    ensures { Wrote (text.word key ++ text.word value)
+        (sunk (W.taken sink.old) (W.tally sink.old).failures) result
+        (sunk (W.taken sink.new) (W.tally sink.new).failures) }
 {
     put_word(sink, key)?;
     put_word(sink, value)

@@ -11,7 +11,9 @@ use judy_pipe::{Source, read_some};
 pub(crate) fn read_bytes<R: Source>(source: &mut R, room: &mut [u8]) -> Result<(), LoadFault>
     requires { (R.tally source.old).failures < 2 ^ 64 - 1 }
     ensures len { length room.new ≡ length room.old }
-    ensures read { Reads (λ _. room.new) (fields.bytes (length room.old)) (drawn (R.given source.old) (R.ended source.old) (R.tally source.old).failures) result (drawn (R.given source.new) (R.ended source.new) (R.tally source.new).failures) }
+    ensures read { Reads (λ _. room.new) (fields.bytes (length room.old))
+        (drawn (R.given source.old) (R.ended source.old) (R.tally source.old).failures) result
+        (drawn (R.given source.new) (R.ended source.new) (R.tally source.new).failures) }
 {
     let mut filled = 0;
     while filled < room.len() {
@@ -27,7 +29,9 @@ pub(crate) fn read_bytes<R: Source>(source: &mut R, room: &mut [u8]) -> Result<(
 // Reads a number of one byte.
 pub(crate) fn read_u8<R: Source>(source: &mut R) -> Result<u8, LoadFault>
     requires { (R.tally source.old).failures < 2 ^ 64 - 1 }
-    ensures { Reads (λ number. number) (fields.number 1) (drawn (R.given source.old) (R.ended source.old) (R.tally source.old).failures) result (drawn (R.given source.new) (R.ended source.new) (R.tally source.new).failures) }
+    ensures { Reads (λ number. number) (fields.number 1)
+        (drawn (R.given source.old) (R.ended source.old) (R.tally source.old).failures) result
+        (drawn (R.given source.new) (R.ended source.new) (R.tally source.new).failures) }
 {
     let mut bytes = [0; 1];
     read_bytes(source, &mut bytes)?;
@@ -37,7 +41,9 @@ pub(crate) fn read_u8<R: Source>(source: &mut R) -> Result<u8, LoadFault>
 // Reads a number of two bytes, the highest first.
 pub(crate) fn read_u16<R: Source>(source: &mut R) -> Result<u16, LoadFault>
     requires { (R.tally source.old).failures < 2 ^ 64 - 1 }
-    ensures { Reads (λ number. number) (fields.number 2) (drawn (R.given source.old) (R.ended source.old) (R.tally source.old).failures) result (drawn (R.given source.new) (R.ended source.new) (R.tally source.new).failures) }
+    ensures { Reads (λ number. number) (fields.number 2)
+        (drawn (R.given source.old) (R.ended source.old) (R.tally source.old).failures) result
+        (drawn (R.given source.new) (R.ended source.new) (R.tally source.new).failures) }
 {
     let mut bytes = [0; 2];
     read_bytes(source, &mut bytes)?;
@@ -47,7 +53,9 @@ pub(crate) fn read_u16<R: Source>(source: &mut R) -> Result<u16, LoadFault>
 // Reads a number of four bytes, the highest first.
 pub(crate) fn read_u32<R: Source>(source: &mut R) -> Result<u32, LoadFault>
     requires { (R.tally source.old).failures < 2 ^ 64 - 1 }
-    ensures { Reads (λ number. number) (fields.number 4) (drawn (R.given source.old) (R.ended source.old) (R.tally source.old).failures) result (drawn (R.given source.new) (R.ended source.new) (R.tally source.new).failures) }
+    ensures { Reads (λ number. number) (fields.number 4)
+        (drawn (R.given source.old) (R.ended source.old) (R.tally source.old).failures) result
+        (drawn (R.given source.new) (R.ended source.new) (R.tally source.new).failures) }
 {
     let mut bytes = [0; 4];
     read_bytes(source, &mut bytes)?;
@@ -57,7 +65,9 @@ pub(crate) fn read_u32<R: Source>(source: &mut R) -> Result<u32, LoadFault>
 // Reads a number of eight bytes, the highest first.
 pub(crate) fn read_u64<R: Source>(source: &mut R) -> Result<u64, LoadFault>
     requires { (R.tally source.old).failures < 2 ^ 64 - 1 }
-    ensures { Reads (λ number. number) (fields.number 8) (drawn (R.given source.old) (R.ended source.old) (R.tally source.old).failures) result (drawn (R.given source.new) (R.ended source.new) (R.tally source.new).failures) }
+    ensures { Reads (λ number. number) (fields.number 8)
+        (drawn (R.given source.old) (R.ended source.old) (R.tally source.old).failures) result
+        (drawn (R.given source.new) (R.ended source.new) (R.tally source.new).failures) }
 {
     let mut bytes = [0; 8];
     read_bytes(source, &mut bytes)?;
@@ -67,7 +77,8 @@ pub(crate) fn read_u64<R: Source>(source: &mut R) -> Result<u64, LoadFault>
 // Asks for one more byte, where none may come.
 pub(crate) fn read_end<R: Source>(source: &mut R) -> Result<(), LoadFault>
     requires { (R.tally source.old).failures < 2 ^ 64 - 1 }
-    ensures { Ends (drawn (R.given source.old) (R.ended source.old) (R.tally source.old).failures) result (drawn (R.given source.new) (R.ended source.new) (R.tally source.new).failures) }
+    ensures { Ends (drawn (R.given source.old) (R.ended source.old) (R.tally source.old).failures)
+        result (drawn (R.given source.new) (R.ended source.new) (R.tally source.new).failures) }
 {
     let mut room = [0; 1];
     if read_one(source, &mut room)? {
@@ -80,7 +91,9 @@ pub(crate) fn read_end<R: Source>(source: &mut R) -> Result<(), LoadFault>
 fn read_one<R: Source>(source: &mut R, room: &mut [u8]) -> Result<bool, LoadFault>
     requires below { (R.tally source.old).failures < 2 ^ 64 - 1 }
     requires one { length room.old ≡ 1 }
-    ensures { ReadsOne (drawn (R.given source.old) (R.ended source.old) (R.tally source.old).failures) result (drawn (R.given source.new) (R.ended source.new) (R.tally source.new).failures) }
+    ensures { ReadsOne
+        (drawn (R.given source.old) (R.ended source.old) (R.tally source.old).failures) result
+        (drawn (R.given source.new) (R.ended source.new) (R.tally source.new).failures) }
 {
     match read_some(source, room) {
         Ok(0) => Ok(false),

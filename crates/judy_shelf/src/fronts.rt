@@ -36,7 +36,9 @@ pub(crate) fn read_string_behind_front<R: Source>(
     requires short { length before.now ≤ 1024 }
     ensures room { length room.new ≡ 1024 }
     ensures most { IfOk result (λ len. len ≤ 1024) }
-    ensures read { Reads (λ len. take len room.new) (grammar.string_behind_front before.now) (drawn (R.given source.old) (R.ended source.old) (R.tally source.old).failures) result (drawn (R.given source.new) (R.ended source.new) (R.tally source.new).failures) }
+    ensures read { Reads (λ len. take len room.new) (grammar.string_behind_front before.now)
+        (drawn (R.given source.old) (R.ended source.old) (R.tally source.old).failures) result
+        (drawn (R.given source.new) (R.ended source.new) (R.tally source.new).failures) }
 {
     let shared = read_shared_len(source, before)? as usize;
     let rest = read_rest_len(source, shared)? as usize;
@@ -50,7 +52,10 @@ pub(crate) fn read_string_behind_front<R: Source>(
 fn read_shared_len<R: Source>(source: &mut R, before: &[u8]) -> Result<u16, LoadFault>
     requires { (R.tally source.old).failures < 2 ^ 64 - 1 }
     ensures most { IfOk result (λ shared. shared ≤ length before.now) }
-    ensures read { Reads (λ shared. shared) (field (number 2) (((λ shared. nat_le shared (length before.now)), bad_prefix) ∷ [])) (drawn (R.given source.old) (R.ended source.old) (R.tally source.old).failures) result (drawn (R.given source.new) (R.ended source.new) (R.tally source.new).failures) }
+    ensures read { Reads (λ shared. shared)
+        (field (number 2) (((λ shared. nat_le shared (length before.now)), bad_prefix) ∷ []))
+        (drawn (R.given source.old) (R.ended source.old) (R.tally source.old).failures) result
+        (drawn (R.given source.new) (R.ended source.new) (R.tally source.new).failures) }
 {
     let shared = read_u16(source)?;
     if shared as usize > before.len() {
@@ -64,7 +69,10 @@ fn read_rest_len<R: Source>(source: &mut R, shared: usize) -> Result<u16, LoadFa
     requires below { (R.tally source.old).failures < 2 ^ 64 - 1 }
     requires short { shared ≤ 1024 }
     ensures most { IfOk result (λ rest. shared + rest ≤ 1024) }
-    ensures read { Reads (λ rest. rest) (field (number 2) (((λ rest. nat_le (shared + rest) 1024), bad_key) ∷ [])) (drawn (R.given source.old) (R.ended source.old) (R.tally source.old).failures) result (drawn (R.given source.new) (R.ended source.new) (R.tally source.new).failures) }
+    ensures read { Reads (λ rest. rest)
+        (field (number 2) (((λ rest. nat_le (shared + rest) 1024), bad_key) ∷ []))
+        (drawn (R.given source.old) (R.ended source.old) (R.tally source.old).failures) result
+        (drawn (R.given source.new) (R.ended source.new) (R.tally source.new).failures) }
 {
     let rest = read_u16(source)?;
     if shared + rest as usize > 1024 {
@@ -83,7 +91,11 @@ fn read_suffix<R: Source>(
     requires below { (R.tally source.old).failures < 2 ^ 64 - 1 }
     requires within { shared ≤ length before.now }
     ensures len { length suffix.new ≡ length suffix.old }
-    ensures read { Reads (λ _. suffix.new) (field (bytes (length suffix.old)) ((is_without_zero, bad_key) ∷ (is_longest_shared before.now shared, bad_prefix) ∷ [])) (drawn (R.given source.old) (R.ended source.old) (R.tally source.old).failures) result (drawn (R.given source.new) (R.ended source.new) (R.tally source.new).failures) }
+    ensures read { Reads (λ _. suffix.new)
+        (field (bytes (length suffix.old))
+        ((is_without_zero, bad_key) ∷ (is_longest_shared before.now shared, bad_prefix) ∷ []))
+        (drawn (R.given source.old) (R.ended source.old) (R.tally source.old).failures) result
+        (drawn (R.given source.new) (R.ended source.new) (R.tally source.new).failures) }
 {
     read_bytes(source, suffix)?;
     if !is_without_zero(suffix) {

@@ -26,7 +26,9 @@ const MAX_NAME_LEN: usize = 32;
 // Reads the first bytes of a dump, which name its format.
 pub(crate) fn read_magic<R: Source>(source: &mut R) -> Result<Version, LoadFault>
     requires { (R.tally source.old).failures < 2 ^ 64 - 1 }
-    ensures { Reads format_of grammar.begins (drawn (R.given source.old) (R.ended source.old) (R.tally source.old).failures) result (drawn (R.given source.new) (R.ended source.new) (R.tally source.new).failures) }
+    ensures { Reads format_of grammar.begins
+        (drawn (R.given source.old) (R.ended source.old) (R.tally source.old).failures) result
+        (drawn (R.given source.new) (R.ended source.new) (R.tally source.new).failures) }
 {
     let mut bytes = [0; 4];
     read_bytes(source, &mut bytes)?;
@@ -35,7 +37,8 @@ pub(crate) fn read_magic<R: Source>(source: &mut R) -> Result<Version, LoadFault
 
 // The format that four bytes name, if they name one.
 fn named_version(named: [u8; 4]) -> Option<Version>
-    ensures { MatchOption result (IsFalse (is_magic named)) (λ version. named ≡ magic (format_of version)) }
+    ensures { MatchOption result (IsFalse (is_magic named))
+        (λ version. named ≡ magic (format_of version)) }
 {
     if named == *b"JDY1" {
         Some(Version::First)
@@ -50,7 +53,9 @@ fn named_version(named: [u8; 4]) -> Option<Version>
 pub(crate) fn read_array_count<R: Source>(source: &mut R) -> Result<u32, LoadFault>
     requires { (R.tally source.old).failures < 2 ^ 64 - 1 }
     ensures few { IfOk result (λ count. count ≤ 64) }
-    ensures read { Reads (λ count. count) grammar.array_count (drawn (R.given source.old) (R.ended source.old) (R.tally source.old).failures) result (drawn (R.given source.new) (R.ended source.new) (R.tally source.new).failures) }
+    ensures read { Reads (λ count. count) grammar.array_count
+        (drawn (R.given source.old) (R.ended source.old) (R.tally source.old).failures) result
+        (drawn (R.given source.new) (R.ended source.new) (R.tally source.new).failures) }
 {
     let count = read_u32(source)?;
     if count > 64 {
@@ -64,7 +69,9 @@ fn read_name_len<R: Source>(source: &mut R) -> Result<u8, LoadFault>
     requires { (R.tally source.old).failures < 2 ^ 64 - 1 }
     ensures some { IfOk result (λ len. 1 ≤ len) }
     ensures most { IfOk result (λ len. len ≤ 32) }
-    ensures read { Reads (λ len. len) (field (number 1) ((is_name_length, bad_name) ∷ [])) (drawn (R.given source.old) (R.ended source.old) (R.tally source.old).failures) result (drawn (R.given source.new) (R.ended source.new) (R.tally source.new).failures) }
+    ensures read { Reads (λ len. len) (field (number 1) ((is_name_length, bad_name) ∷ []))
+        (drawn (R.given source.old) (R.ended source.old) (R.tally source.old).failures) result
+        (drawn (R.given source.new) (R.ended source.new) (R.tally source.new).failures) }
 {
     let len = read_u8(source)?;
     if len == 0 || len > 32 {
@@ -77,7 +84,9 @@ fn read_name_len<R: Source>(source: &mut R) -> Result<u8, LoadFault>
 pub(crate) fn read_name<R: Source>(source: &mut R, shelf: &Shelf) -> Result<Name, LoadFault>
     requires { (R.tally source.old).failures < 2 ^ 64 - 1 }
     ensures new { IfOk result (λ name. array_named shelf.now name ≡ None) }
-    ensures read { Reads (λ name. name) (grammar.name (store_of shelf.now)) (drawn (R.given source.old) (R.ended source.old) (R.tally source.old).failures) result (drawn (R.given source.new) (R.ended source.new) (R.tally source.new).failures) }
+    ensures read { Reads (λ name. name) (grammar.name (store_of shelf.now))
+        (drawn (R.given source.old) (R.ended source.old) (R.tally source.old).failures) result
+        (drawn (R.given source.new) (R.ended source.new) (R.tally source.new).failures) }
 {
     let len = read_name_len(source)? as usize;
     let mut buffer = [0; MAX_NAME_LEN];
@@ -94,7 +103,10 @@ fn read_name_text<R: Source>(
     requires some { 1 ≤ length text.old }
     requires most { length text.old ≤ 32 }
     ensures new { IfOk result (λ name. array_named shelf.now name ≡ None) }
-    ensures read { Reads (λ name. name) (field (bytes (length text.old)) (name_checks (store_of shelf.now))) (drawn (R.given source.old) (R.ended source.old) (R.tally source.old).failures) result (drawn (R.given source.new) (R.ended source.new) (R.tally source.new).failures) }
+    ensures read { Reads (λ name. name)
+        (field (bytes (length text.old)) (name_checks (store_of shelf.now)))
+        (drawn (R.given source.old) (R.ended source.old) (R.tally source.old).failures) result
+        (drawn (R.given source.new) (R.ended source.new) (R.tally source.new).failures) }
 {
     read_bytes(source, text)?;
     let name = Name::new(text).ok_or(LoadFault::BadName)?;
@@ -107,7 +119,9 @@ fn read_name_text<R: Source>(
 // Reads the kind of an array.
 pub(crate) fn read_kind<R: Source>(source: &mut R) -> Result<Kind, LoadFault>
     requires { (R.tally source.old).failures < 2 ^ 64 - 1 }
-    ensures { Reads kind_number grammar.kind (drawn (R.given source.old) (R.ended source.old) (R.tally source.old).failures) result (drawn (R.given source.new) (R.ended source.new) (R.tally source.new).failures) }
+    ensures { Reads kind_number grammar.kind
+        (drawn (R.given source.old) (R.ended source.old) (R.tally source.old).failures) result
+        (drawn (R.given source.new) (R.ended source.new) (R.tally source.new).failures) }
 {
     let number = read_u8(source)?;
     kind_of_number(number).ok_or(LoadFault::BadKind)
@@ -135,7 +149,9 @@ pub(crate) fn read_limit<R: Source>(source: &mut R) -> Result<u64, LoadFault>
     requires { (R.tally source.old).failures < 2 ^ 64 - 1 }
     ensures some { IfOk result (λ limit. 1 ≤ limit) }
     ensures most { IfOk result (λ limit. limit ≤ 4294967295) }
-    ensures read { Reads (λ limit. limit) grammar.limit (drawn (R.given source.old) (R.ended source.old) (R.tally source.old).failures) result (drawn (R.given source.new) (R.ended source.new) (R.tally source.new).failures) }
+    ensures read { Reads (λ limit. limit) grammar.limit
+        (drawn (R.given source.old) (R.ended source.old) (R.tally source.old).failures) result
+        (drawn (R.given source.new) (R.ended source.new) (R.tally source.new).failures) }
 {
     let limit = read_u64(source)?;
     if limit == 0 || limit > MAX_LIMIT {
@@ -147,7 +163,9 @@ pub(crate) fn read_limit<R: Source>(source: &mut R) -> Result<u64, LoadFault>
 // Reads how many keys follow.
 pub(crate) fn read_key_count<R: Source>(source: &mut R, limit: u64) -> Result<u64, LoadFault>
     requires { (R.tally source.old).failures < 2 ^ 64 - 1 }
-    ensures { Reads (λ count. count) (grammar.key_count limit) (drawn (R.given source.old) (R.ended source.old) (R.tally source.old).failures) result (drawn (R.given source.new) (R.ended source.new) (R.tally source.new).failures) }
+    ensures { Reads (λ count. count) (grammar.key_count limit)
+        (drawn (R.given source.old) (R.ended source.old) (R.tally source.old).failures) result
+        (drawn (R.given source.new) (R.ended source.new) (R.tally source.new).failures) }
 {
     let count = read_u64(source)?;
     if count > limit {
@@ -163,7 +181,10 @@ pub(crate) fn read_word_after<R: Source>(
 ) -> Result<u64, LoadFault>
     requires { (R.tally source.old).failures < 2 ^ 64 - 1 }
     ensures above { IfOk result (λ word. IsTrue (is_above word_order before word)) }
-    ensures read { Reads (λ word. word) (field grammar.word ((is_above word_order before, bad_order) ∷ [])) (drawn (R.given source.old) (R.ended source.old) (R.tally source.old).failures) result (drawn (R.given source.new) (R.ended source.new) (R.tally source.new).failures) }
+    ensures read { Reads (λ word. word)
+        (field grammar.word ((is_above word_order before, bad_order) ∷ []))
+        (drawn (R.given source.old) (R.ended source.old) (R.tally source.old).failures) result
+        (drawn (R.given source.new) (R.ended source.new) (R.tally source.new).failures) }
 {
     let word = read_u64(source)?;
     match before {

@@ -82,7 +82,10 @@ impl LastKey {
 fn read_key_len<R: Source>(source: &mut R) -> Result<u16, LoadFault>
     requires { (R.tally source.old).failures < 2 ^ 64 - 1 }
     ensures most { IfOk result (λ len. len ≤ 1024) }
-    ensures read { Reads (λ len. len) (field (number 2) (((λ length. nat_le length 1024), bad_key) ∷ [])) (drawn (R.given source.old) (R.ended source.old) (R.tally source.old).failures) result (drawn (R.given source.new) (R.ended source.new) (R.tally source.new).failures) }
+    ensures read { Reads (λ len. len)
+        (field (number 2) (((λ length. nat_le length 1024), bad_key) ∷ []))
+        (drawn (R.given source.old) (R.ended source.old) (R.tally source.old).failures) result
+        (drawn (R.given source.new) (R.ended source.new) (R.tally source.new).failures) }
 {
     let len = read_u16(source)?;
     if len > 1024 {
@@ -97,7 +100,9 @@ fn read_key<R: Source>(source: &mut R, room: &mut [u8]) -> Result<usize, LoadFau
     requires fits { length room.old ≡ 1024 }
     ensures room { length room.new ≡ 1024 }
     ensures most { IfOk result (λ len. len ≤ 1024) }
-    ensures read { Reads (λ len. take len room.new) grammar.string (drawn (R.given source.old) (R.ended source.old) (R.tally source.old).failures) result (drawn (R.given source.new) (R.ended source.new) (R.tally source.new).failures) }
+    ensures read { Reads (λ len. take len room.new) grammar.string
+        (drawn (R.given source.old) (R.ended source.old) (R.tally source.old).failures) result
+        (drawn (R.given source.new) (R.ended source.new) (R.tally source.new).failures) }
 {
     let len = read_key_len(source)? as usize;
     read_bytes(source, &mut room[..len])?;
@@ -115,8 +120,13 @@ pub(crate) fn read_string_after<R: Source>(
     requires fits { length room.old ≡ 1024 }
     ensures room { length room.new ≡ 1024 }
     ensures most { IfOk result (λ len. len ≤ 1024) }
-    ensures above { IfOk result (λ len. IsTrue (is_above byte_order (last_key last.now) (take len room.new))) }
-    ensures read { Reads (λ len. take len room.new) (field (grammar.string_key (format_of version) (last_key last.now)) ((is_above byte_order (last_key last.now), bad_order) ∷ [])) (drawn (R.given source.old) (R.ended source.old) (R.tally source.old).failures) result (drawn (R.given source.new) (R.ended source.new) (R.tally source.new).failures) }
+    ensures above { IfOk result
+        (λ len. IsTrue (is_above byte_order (last_key last.now) (take len room.new))) }
+    ensures read { Reads (λ len. take len room.new)
+        (field (grammar.string_key (format_of version) (last_key last.now))
+        ((is_above byte_order (last_key last.now), bad_order) ∷ []))
+        (drawn (R.given source.old) (R.ended source.old) (R.tally source.old).failures) result
+        (drawn (R.given source.new) (R.ended source.new) (R.tally source.new).failures) }
 {
     let len = read_string(source, version, last, room)?;
     if !last.is_before(&room[..len]) {
@@ -136,7 +146,10 @@ fn read_string<R: Source>(
     requires fits { length room.old ≡ 1024 }
     ensures room { length room.new ≡ 1024 }
     ensures most { IfOk result (λ len. len ≤ 1024) }
-    ensures read { Reads (λ len. take len room.new) (grammar.string_key (format_of version) (last_key last.now)) (drawn (R.given source.old) (R.ended source.old) (R.tally source.old).failures) result (drawn (R.given source.new) (R.ended source.new) (R.tally source.new).failures) }
+    ensures read { Reads (λ len. take len room.new)
+        (grammar.string_key (format_of version) (last_key last.now))
+        (drawn (R.given source.old) (R.ended source.old) (R.tally source.old).failures) result
+        (drawn (R.given source.new) (R.ended source.new) (R.tally source.new).failures) }
 {
     match version {
         Version::First => read_whole_string(source, room),
@@ -150,7 +163,9 @@ fn read_whole_string<R: Source>(source: &mut R, room: &mut [u8]) -> Result<usize
     requires fits { length room.old ≡ 1024 }
     ensures room { length room.new ≡ 1024 }
     ensures most { IfOk result (λ len. len ≤ 1024) }
-    ensures read { Reads (λ len. take len room.new) grammar.string_without_zero (drawn (R.given source.old) (R.ended source.old) (R.tally source.old).failures) result (drawn (R.given source.new) (R.ended source.new) (R.tally source.new).failures) }
+    ensures read { Reads (λ len. take len room.new) grammar.string_without_zero
+        (drawn (R.given source.old) (R.ended source.old) (R.tally source.old).failures) result
+        (drawn (R.given source.new) (R.ended source.new) (R.tally source.new).failures) }
 {
     let len = read_key(source, room)?;
     if !is_without_zero(&room[..len]) {
@@ -169,8 +184,12 @@ pub(crate) fn read_bytes_after<R: Source>(
     requires fits { length room.old ≡ 1024 }
     ensures room { length room.new ≡ 1024 }
     ensures most { IfOk result (λ len. len ≤ 1024) }
-    ensures above { IfOk result (λ len. IsTrue (is_above length_order (last_key last.now) (take len room.new))) }
-    ensures read { Reads (λ len. take len room.new) (field grammar.string ((is_above length_order (last_key last.now), bad_order) ∷ [])) (drawn (R.given source.old) (R.ended source.old) (R.tally source.old).failures) result (drawn (R.given source.new) (R.ended source.new) (R.tally source.new).failures) }
+    ensures above { IfOk result
+        (λ len. IsTrue (is_above length_order (last_key last.now) (take len room.new))) }
+    ensures read { Reads (λ len. take len room.new)
+        (field grammar.string ((is_above length_order (last_key last.now), bad_order) ∷ []))
+        (drawn (R.given source.old) (R.ended source.old) (R.tally source.old).failures) result
+        (drawn (R.given source.new) (R.ended source.new) (R.tally source.new).failures) }
 {
     let len = read_key(source, room)?;
     if !last.is_before_by_length(&room[..len]) {

@@ -45,7 +45,9 @@ use std::alloc::Global;
 /// read before they are put in.
 pub fn load<R: Source>(alloc: Global, source: &mut R) -> Result<Shelf, LoadFault>
     requires { (R.tally source.old).failures < 2 ^ 64 - 1 }
-    ensures { Loaded (drawn (R.given source.old) (R.ended source.old) (R.tally source.old).failures) result (drawn (R.given source.new) (R.ended source.new) (R.tally source.new).failures) }
+    ensures { Loaded
+        (drawn (R.given source.old) (R.ended source.old) (R.tally source.old).failures) result
+        (drawn (R.given source.new) (R.ended source.new) (R.tally source.new).failures) }
 {
     let version = read_magic(source)?;
     let shelf = read_store(alloc, source, version)?;
@@ -60,7 +62,9 @@ fn read_store<R: Source>(
     version: Version,
 ) -> Result<Shelf, LoadFault>
     requires { (R.tally source.old).failures < 2 ^ 64 - 1 }
-    ensures { ReadsWanting (InCounted (format_of version)) store_of (counted (format_of version)) (drawn (R.given source.old) (R.ended source.old) (R.tally source.old).failures) result (drawn (R.given source.new) (R.ended source.new) (R.tally source.new).failures) }
+    ensures { ReadsWanting (InCounted (format_of version)) store_of (counted (format_of version))
+        (drawn (R.given source.old) (R.ended source.old) (R.tally source.old).failures) result
+        (drawn (R.given source.new) (R.ended source.new) (R.tally source.new).failures) }
 {
     let count = read_array_count(source)?;
     read_arrays(alloc, source, version, count)
@@ -76,7 +80,14 @@ fn read_set<R: Source>(
     requires below { (R.tally source.old).failures < 2 ^ 64 - 1 }
     requires some { 1 ≤ limit }
     requires most { limit ≤ 4294967295 }
-    ensures { ReadsWanting (AtSome (λ listed. grammar.filled judy1 limit (grammar.entries word_order (λ before. grammar.word) grammar.no_value None listed)) count) (λ set. judy1 (array_of set)) (grammar.filled judy1 limit (grammar.entries word_order (λ before. grammar.word) grammar.no_value None count)) (drawn (R.given source.old) (R.ended source.old) (R.tally source.old).failures) result (drawn (R.given source.new) (R.ended source.new) (R.tally source.new).failures) }
+    ensures { ReadsWanting
+        (AtSome (λ listed. grammar.filled judy1 limit
+        (grammar.entries word_order (λ before. grammar.word) grammar.no_value None listed))
+        count) (λ set. judy1 (array_of set))
+        (grammar.filled judy1 limit
+        (grammar.entries word_order (λ before. grammar.word) grammar.no_value None count))
+        (drawn (R.given source.old) (R.ended source.old) (R.tally source.old).failures) result
+        (drawn (R.given source.new) (R.ended source.new) (R.tally source.new).failures) }
 {
     let mut set = FillingSet::new(alloc, limit);
     let mut before = None;
@@ -103,7 +114,14 @@ fn read_words<R: Source>(
     requires below { (R.tally source.old).failures < 2 ^ 64 - 1 }
     requires some { 1 ≤ limit }
     requires most { limit ≤ 4294967295 }
-    ensures { ReadsWanting (AtSome (λ listed. grammar.filled judyl limit (grammar.entries word_order (λ before. grammar.word) grammar.word None listed)) count) (λ words. judyl (array_of words)) (grammar.filled judyl limit (grammar.entries word_order (λ before. grammar.word) grammar.word None count)) (drawn (R.given source.old) (R.ended source.old) (R.tally source.old).failures) result (drawn (R.given source.new) (R.ended source.new) (R.tally source.new).failures) }
+    ensures { ReadsWanting
+        (AtSome (λ listed. grammar.filled judyl limit
+        (grammar.entries word_order (λ before. grammar.word) grammar.word None listed))
+        count) (λ words. judyl (array_of words))
+        (grammar.filled judyl limit
+        (grammar.entries word_order (λ before. grammar.word) grammar.word None count))
+        (drawn (R.given source.old) (R.ended source.old) (R.tally source.old).failures) result
+        (drawn (R.given source.new) (R.ended source.new) (R.tally source.new).failures) }
 {
     let mut words = FillingMap::new(alloc, limit);
     let mut before = None;
@@ -132,7 +150,15 @@ fn read_strings<R: Source>(
     requires below { (R.tally source.old).failures < 2 ^ 64 - 1 }
     requires some { 1 ≤ limit }
     requires most { limit ≤ 4294967295 }
-    ensures { ReadsWanting (AtSome (λ listed. grammar.filled judysl limit (grammar.entries byte_order (grammar.string_key (format_of version)) grammar.word None listed)) count) judysl (grammar.filled judysl limit (grammar.entries byte_order (grammar.string_key (format_of version)) grammar.word None count)) (drawn (R.given source.old) (R.ended source.old) (R.tally source.old).failures) result (drawn (R.given source.new) (R.ended source.new) (R.tally source.new).failures) }
+    ensures { ReadsWanting
+        (AtSome (λ listed. grammar.filled judysl limit
+        (grammar.entries byte_order
+        (grammar.string_key (format_of version)) grammar.word None listed)) count) judysl
+        (grammar.filled judysl limit
+        (grammar.entries byte_order
+        (grammar.string_key (format_of version)) grammar.word None count))
+        (drawn (R.given source.old) (R.ended source.old) (R.tally source.old).failures) result
+        (drawn (R.given source.new) (R.ended source.new) (R.tally source.new).failures) }
 {
     let mut strings = JudySl::new(alloc, limit);
     let mut last = LastKey::new();
@@ -160,7 +186,13 @@ fn read_byte_strings<R: Source>(
     requires below { (R.tally source.old).failures < 2 ^ 64 - 1 }
     requires some { 1 ≤ limit }
     requires most { limit ≤ 4294967295 }
-    ensures { ReadsWanting (AtSome (λ listed. grammar.filled judyhs limit (grammar.entries length_order (λ before. grammar.string) grammar.word None listed)) count) judyhs (grammar.filled judyhs limit (grammar.entries length_order (λ before. grammar.string) grammar.word None count)) (drawn (R.given source.old) (R.ended source.old) (R.tally source.old).failures) result (drawn (R.given source.new) (R.ended source.new) (R.tally source.new).failures) }
+    ensures { ReadsWanting
+        (AtSome (λ listed. grammar.filled judyhs limit
+        (grammar.entries length_order (λ before. grammar.string) grammar.word None listed))
+        count) judyhs (grammar.filled judyhs limit
+        (grammar.entries length_order (λ before. grammar.string) grammar.word None count))
+        (drawn (R.given source.old) (R.ended source.old) (R.tally source.old).failures) result
+        (drawn (R.given source.new) (R.ended source.new) (R.tally source.new).failures) }
 {
     let mut strings = JudyHs::new(alloc, limit, Fnv1a);
     let mut last = LastKey::new();
@@ -181,7 +213,9 @@ fn read_byte_strings<R: Source>(
 // Reads what stands behind an array's name.
 fn read_body<R: Source>(alloc: Global, source: &mut R, version: Version) -> Result<Array, LoadFault>
     requires { (R.tally source.old).failures < 2 ^ 64 - 1 }
-    ensures { ReadsWanting (InBody (format_of version)) value_of (grammar.body (format_of version)) (drawn (R.given source.old) (R.ended source.old) (R.tally source.old).failures) result (drawn (R.given source.new) (R.ended source.new) (R.tally source.new).failures) }
+    ensures { ReadsWanting (InBody (format_of version)) value_of (grammar.body (format_of version))
+        (drawn (R.given source.old) (R.ended source.old) (R.tally source.old).failures) result
+        (drawn (R.given source.new) (R.ended source.new) (R.tally source.new).failures) }
 {
     let kind = read_kind(source)?;
     let limit = read_limit(source)?;
@@ -201,7 +235,11 @@ fn read_contents<R: Source>(
     requires below { (R.tally source.old).failures < 2 ^ 64 - 1 }
     requires some { 1 ≤ limit }
     requires most { limit ≤ 4294967295 }
-    ensures { ReadsWanting (AtSome (grammar.contents (format_of version) (kind_number kind) limit) count) value_of (grammar.contents (format_of version) (kind_number kind) limit count) (drawn (R.given source.old) (R.ended source.old) (R.tally source.old).failures) result (drawn (R.given source.new) (R.ended source.new) (R.tally source.new).failures) }
+    ensures { ReadsWanting
+        (AtSome (grammar.contents (format_of version) (kind_number kind) limit) count) value_of
+        (grammar.contents (format_of version) (kind_number kind) limit count)
+        (drawn (R.given source.old) (R.ended source.old) (R.tally source.old).failures) result
+        (drawn (R.given source.new) (R.ended source.new) (R.tally source.new).failures) }
 {
     match kind {
         Kind::Judy1 => Ok(Array::Judy1(read_set(alloc, source, limit, count)?)),
@@ -220,7 +258,10 @@ fn read_array<R: Source>(
 ) -> Result<(Name, Array), LoadFault>
     requires { (R.tally source.old).failures < 2 ^ 64 - 1 }
     ensures new { IfOk result (λ made. array_named shelf.now made.0 ≡ None) }
-    ensures read { ReadsWanting (InArray (format_of version) (store_of shelf.now)) (λ made. (made.0, value_of made.1)) (grammar.array (format_of version) (store_of shelf.now)) (drawn (R.given source.old) (R.ended source.old) (R.tally source.old).failures) result (drawn (R.given source.new) (R.ended source.new) (R.tally source.new).failures) }
+    ensures read { ReadsWanting (InArray (format_of version) (store_of shelf.now))
+        (λ made. (made.0, value_of made.1)) (grammar.array (format_of version) (store_of shelf.now))
+        (drawn (R.given source.old) (R.ended source.old) (R.tally source.old).failures) result
+        (drawn (R.given source.new) (R.ended source.new) (R.tally source.new).failures) }
 {
     let name = read_name(source, shelf)?;
     let array = read_body(alloc, source, version)?;
@@ -236,7 +277,10 @@ fn read_arrays<R: Source>(
 ) -> Result<Shelf, LoadFault>
     requires below { (R.tally source.old).failures < 2 ^ 64 - 1 }
     requires few { count ≤ 64 }
-    ensures { ReadsWanting (InArrays (format_of version) count) store_of (grammar.arrays (format_of version) [] count) (drawn (R.given source.old) (R.ended source.old) (R.tally source.old).failures) result (drawn (R.given source.new) (R.ended source.new) (R.tally source.new).failures) }
+    ensures { ReadsWanting (InArrays (format_of version) count) store_of
+        (grammar.arrays (format_of version) [] count)
+        (drawn (R.given source.old) (R.ended source.old) (R.tally source.old).failures) result
+        (drawn (R.given source.new) (R.ended source.new) (R.tally source.new).failures) }
 {
     let mut shelf = Shelf::new(alloc);
     'arrays: for _ in 0..count {

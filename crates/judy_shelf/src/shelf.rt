@@ -70,7 +70,8 @@ impl Shelf {
     /// an array has the name; `TooMany` where 64 arrays stand; `NoMemory`. The shelf is then as it was, and
     /// the name is dropped.
     pub fn make(&mut self, name: Name, kind: Kind, limit: u64) -> Result<(), MakeError>
-        ensures made { OnOk result (self.new ≡ with_new_array self.old name (new_array kind limit)) }
+        ensures made { OnOk result
+            (self.new ≡ with_new_array self.old name (new_array kind limit)) }
         ensures accepted { OnOk result (make_refusal self.old name limit ≡ None) }
         ensures refused { IfErr result (IsMakeRefusal (make_refusal self.old name limit)) }
         ensures unchanged { OnErr result (self.new ≡ self.old) }

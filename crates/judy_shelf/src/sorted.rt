@@ -26,7 +26,10 @@ impl<'a> SortedKeys<'a> {
     // Writes the keys, each behind its length, and the value of each behind it.
     pub(crate) fn write<W: Sink>(&self, sink: &mut W) -> Result<(), BrokenPipe>
         requires { (W.tally sink.old).failures < 2 ^ 64 - 1 }
-        ensures { Wrote (flat_map (λ entry. text.string entry.0 ++ text.word entry.1) (pairs_in self.now)) (sunk (W.taken sink.old) (W.tally sink.old).failures) result (sunk (W.taken sink.new) (W.tally sink.new).failures) }
+        ensures { Wrote
+            (flat_map (λ entry. text.string entry.0 ++ text.word entry.1) (pairs_in self.now))
+            (sunk (W.taken sink.old) (W.tally sink.old).failures) result
+            (sunk (W.taken sink.new) (W.tally sink.new).failures) }
     {
         let entries = self.entries.as_slice();
         'entries: for entry in entries {
@@ -52,7 +55,8 @@ pub(crate) fn sorted_lists<'a>(shelf: &'a Shelf) -> Result<Vec<SortedKeys<'a>>, 
 
 // Adds the sorted keys of an array, where it is a judyhs array. No memory is wanted for any other.
 fn add_list<'a>(lists: &mut Vec<SortedKeys<'a>>, array: &'a Array) -> Result<(), AllocError>
-    ensures sorted { OnOk result (lists_in lists.new.items ≡ lists_in lists.old.items ++ sorted_in array.now) }
+    ensures sorted { OnOk result
+        (lists_in lists.new.items ≡ lists_in lists.old.items ++ sorted_in array.now) }
     ensures wanted { OnErr result (kind_of array.now ≡ kind.JudyHs) }
 {
     match array {

@@ -26,7 +26,8 @@ const MAX_HEAD_LEN: usize = 50;
 // Writes bytes.
 pub(crate) fn put<W: Sink>(sink: &mut W, bytes: &[u8]) -> Result<(), BrokenPipe>
     requires { (W.tally sink.old).failures < 2 ^ 64 - 1 }
-    ensures { Wrote bytes.now (sunk (W.taken sink.old) (W.tally sink.old).failures) result (sunk (W.taken sink.new) (W.tally sink.new).failures) }
+    ensures { Wrote bytes.now (sunk (W.taken sink.old) (W.tally sink.old).failures) result
+        (sunk (W.taken sink.new) (W.tally sink.new).failures) }
 {
     write_all(sink, bytes)
 }
@@ -34,7 +35,8 @@ pub(crate) fn put<W: Sink>(sink: &mut W, bytes: &[u8]) -> Result<(), BrokenPipe>
 // Writes a word, the highest byte first.
 pub(crate) fn put_word<W: Sink>(sink: &mut W, word: u64) -> Result<(), BrokenPipe>
     requires { (W.tally sink.old).failures < 2 ^ 64 - 1 }
-    ensures { Wrote (text.word word) (sunk (W.taken sink.old) (W.tally sink.old).failures) result (sunk (W.taken sink.new) (W.tally sink.new).failures) }
+    ensures { Wrote (text.word word) (sunk (W.taken sink.old) (W.tally sink.old).failures) result
+        (sunk (W.taken sink.new) (W.tally sink.new).failures) }
 {
     put(sink, &word_bytes(word))
 }
@@ -46,7 +48,9 @@ pub(crate) fn put_string_entry<W: Sink>(
     value: u64,
 ) -> Result<(), BrokenPipe>
     requires { (W.tally sink.old).failures < 2 ^ 64 - 1 }
-    ensures { Wrote (text.string key.now ++ text.word value) (sunk (W.taken sink.old) (W.tally sink.old).failures) result (sunk (W.taken sink.new) (W.tally sink.new).failures) }
+    ensures { Wrote (text.string key.now ++ text.word value)
+        (sunk (W.taken sink.old) (W.tally sink.old).failures) result
+        (sunk (W.taken sink.new) (W.tally sink.new).failures) }
 {
     put_string(sink, key)?;
     put_word(sink, value)
@@ -55,7 +59,9 @@ pub(crate) fn put_string_entry<W: Sink>(
 // Writes a byte string behind its length.
 fn put_string<W: Sink>(sink: &mut W, key: &[u8]) -> Result<(), BrokenPipe>
     requires { (W.tally sink.old).failures < 2 ^ 64 - 1 }
-    ensures { Wrote (text.string key.now) (sunk (W.taken sink.old) (W.tally sink.old).failures) result (sunk (W.taken sink.new) (W.tally sink.new).failures) }
+    ensures { Wrote (text.string key.now)
+        (sunk (W.taken sink.old) (W.tally sink.old).failures) result
+        (sunk (W.taken sink.new) (W.tally sink.new).failures) }
 {
     put(sink, &len_bytes(key.len()))?;
     put(sink, key)
@@ -69,7 +75,9 @@ pub(crate) fn put_string_after<W: Sink>(
     key: &[u8],
 ) -> Result<(), BrokenPipe>
     requires { (W.tally sink.old).failures < 2 ^ 64 - 1 }
-    ensures { Wrote (text.string_key (format_of version) before.now key.now) (sunk (W.taken sink.old) (W.tally sink.old).failures) result (sunk (W.taken sink.new) (W.tally sink.new).failures) }
+    ensures { Wrote (text.string_key (format_of version) before.now key.now)
+        (sunk (W.taken sink.old) (W.tally sink.old).failures) result
+        (sunk (W.taken sink.new) (W.tally sink.new).failures) }
 {
     match version {
         Version::First => put_string(sink, key),
@@ -84,7 +92,9 @@ fn put_string_behind_front<W: Sink>(
     key: &[u8],
 ) -> Result<(), BrokenPipe>
     requires { (W.tally sink.old).failures < 2 ^ 64 - 1 }
-    ensures { Wrote (text.string_key jdy2 before.now key.now) (sunk (W.taken sink.old) (W.tally sink.old).failures) result (sunk (W.taken sink.new) (W.tally sink.new).failures) }
+    ensures { Wrote (text.string_key jdy2 before.now key.now)
+        (sunk (W.taken sink.old) (W.tally sink.old).failures) result
+        (sunk (W.taken sink.new) (W.tally sink.new).failures) }
 {
     let shared = shared_len(before, key);
     put(sink, &len_bytes(shared))?;
@@ -131,7 +141,10 @@ fn magic(version: Version) -> &'static [u8; 4]
 // What stands before an array's keys: its name behind the name's length, its kind, its limit, and how many
 // keys it has.
 pub(crate) fn array_head(name: &Name, array: &Array) -> ArrayVec<u8, MAX_HEAD_LEN>
-    ensures { result.items ≡ text.name_text name.now ++ low_bytes 1 (text.kind_number (value_of array.now)) ++ text.word (limit_of (value_of array.now)) ++ text.word (len_of (value_of array.now)) }
+    ensures { result.items
+        ≡ text.name_text name.now ++ low_bytes 1
+        (text.kind_number (value_of array.now)) ++ text.word
+        (limit_of (value_of array.now)) ++ text.word (len_of (value_of array.now)) }
 {
     let mut head = ArrayVec::new();
     head.push(name.bytes().len() as u8);

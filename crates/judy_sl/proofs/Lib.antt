@@ -50,11 +50,13 @@ pub mod GraftedLevels
 pub mod GraftedCounts
 pub mod KeysTold
 pub mod EntryCounts
+pub mod PageCounts
 pub mod LevelRanks
 pub mod FirstSums
 pub mod RankCounts
 pub mod Nths
 pub mod NthReads
+pub mod PageReads
 pub mod NthWays
 pub mod NthFirsts
 pub mod LoneKeys

@@ -1,14 +1,15 @@
--- The entry of a level behind which the key at a place stands, as it is found entry by entry.
-use Rattle.std.proofs.Common.{◌≡◌, ℕ, zero, suc, ◌+◌, ◌-◌, ◌<◌, ◌≤◌, List, [], ◌∷◌, ◌++◌, length, slice_get, Some, refl, sym, ap, ◌∙◌, subst, arith}
+-- The entry of a level behind which the key at a place stands, as it is found among its entries.
+use Rattle.std.proofs.Common.{◌≡◌, ℕ, zero, suc, ◌-◌, ◌<◌, ◌≤◌, List, [], ◌∷◌, ◌++◌, length, slice_get, Some, refl, ap, ◌∙◌, subst, arith}
 use Rattle.std.specs.List.{flat_map, AllByRecursion}
 use Rattle.std.specs.Cmp.{nat_cmp_total}
 use Rattle.std.specs.FinMap.{FinMap, nat_cmp-IsAntisymmetric, entries, entries_sorted, get, get-entries}
-use Rattle.std.proofs.lemmas.List.{length-append}
+use Rattle.std.proofs.lemmas.List.Concat.{flat_map-append}
 use Rattle.judy_model.specs.Keys.{word_order}
 use Rattle.judy_sums.proofs.Parts.{each_found}
+use Rattle.judy_sl.specs.declared.nth.Spot.{Spot}
 use Rattle.judy_sl.specs.World.{World}
 use Rattle.judy_sl.specs.Behind.{entry_keys}
-use Rattle.judy_sl.specs.Nth.{IsSpotOf}
+use Rattle.judy_sl.specs.Nth.{IsSpotIn, IsSpotOf}
 
 -- What a list has at a place within its front, and behind it.
 pub slice_get-front : {X : Type 0} (front back : List X) (place : ℕ) → place < length front → slice_get (front ++ back) place ≡ slice_get front place
@@ -28,32 +29,23 @@ AreOf words pairs = AllByRecursion (λ (entry : ℕ × ℕ). get words entry.0 �
 pub all_of : (words : FinMap word_order ℕ) → AreOf words (entries words)
 all_of words = each_found word_order nat_cmp_total nat_cmp-IsAntisymmetric (λ (entry : ℕ × ℕ). get words entry.0 ≡ Some entry.1) (entries words) (entries_sorted words) (λ piece value found. get-entries words piece ∙ found)
 
--- Of the keys behind a level the one at a place has another place among those behind the entries that are left.
-pub record Reading (world : World) (words : FinMap word_order ℕ) (place : ℕ) (rest : List (ℕ × ℕ)) (left : ℕ) : Type 0 where
-  pub are : AreOf words rest
-  pub within : left < length (flat_map (entry_keys world) rest)
-  pub same : slice_get (flat_map (entry_keys world) (entries words)) place ≡ slice_get (flat_map (entry_keys world) rest) left
+-- An entry that stands among them is.
+one_of : (words : FinMap word_order ℕ) (front : List (ℕ × ℕ)) (entry : ℕ × ℕ) (back : List (ℕ × ℕ)) → AreOf words (front ++ entry ∷ back) → get words entry.0 ≡ Some entry.1
+one_of words [] entry back are = are.0
+one_of words (first ∷ front) entry back are = one_of words front entry back are.1
 
-module _ (world : World) (words : FinMap word_order ℕ) (place : ℕ) where
-  pub reading_start : (rest : List (ℕ × ℕ)) → rest ≡ entries words → place < length (flat_map (entry_keys world) (entries words)) → Reading world words place rest place
-  reading_start rest is within = subst (λ pairs. Reading world words place pairs place) (sym is) (record { are = all_of words; within = within; same = refl })
-
-  module _ (left piece value keys : ℕ) (rest : List (ℕ × ℕ)) (on : Reading world words place ((piece, value) ∷ rest) left) (is : keys ≡ length (entry_keys world (piece, value))) where
-    -- It stands behind this entry,
-    pub reading_here : left < keys → IsSpotOf world words place (record { piece = piece; value = value; place = left })
-    reading_here less = record {
-      held = on.are.0;
-      within = omega arith;
-      same = on.same ∙ slice_get-front (entry_keys world (piece, value)) (flat_map (entry_keys world) rest) left (omega arith);
+-- What is found among a level's entries is found in the level.
+pub spot_of : (world : World) (words : FinMap word_order ℕ) (place : ℕ) (spot : Spot) → IsSpotIn world (entries words) place spot → IsSpotOf world words place spot
+spot_of world words place spot is =
+    let entry : ℕ × ℕ = (spot.piece, spot.value) in
+    let keys = entry_keys world in
+    let within = is.within in
+    record {
+      held = one_of words is.front entry is.back (subst (AreOf words) is.split (all_of words));
+      within = within;
+      same = ap (λ pairs. slice_get (flat_map keys pairs) place) is.split
+          ∙ ap (λ all. slice_get all place) (flat_map-append keys is.front (entry ∷ is.back))
+          ∙ slice_get-back (flat_map keys is.front) (flat_map keys (entry ∷ is.back)) place (let passed = is.passed in omega arith)
+          ∙ ap (slice_get (flat_map keys (entry ∷ is.back))) (let passed = is.passed in let e : place - length (flat_map keys is.front) ≡ spot.place = omega arith in e)
+          ∙ slice_get-front (keys entry) (flat_map keys is.back) spot.place within;
     }
-
-    -- or behind a later one.
-    pub reading_on : (later : ℕ) → keys + later ≡ left → Reading world words place rest later
-    reading_on later less =
-        let within = on.within in
-        let long = length-append (entry_keys world (piece, value)) (flat_map (entry_keys world) rest) in
-        record {
-          are = on.are.1;
-          within = omega arith;
-          same = on.same ∙ slice_get-back (entry_keys world (piece, value)) (flat_map (entry_keys world) rest) left (omega arith) ∙ ap (slice_get (flat_map (entry_keys world) rest)) (let e : left - length (entry_keys world (piece, value)) ≡ later = omega arith in e);
-        }

@@ -1,5 +1,5 @@
 -- Where the key at a place stands, counted from 0: among the entries of the first level, and behind a seat.
-use Rattle.std.specs.Prelude.{◌≡◌, ℕ, suc, ◌+◌, ◌<◌, ◌≤◌, List, ◌++◌, length, slice_get, Option, Some, unwrap_or}
+use Rattle.std.specs.Prelude.{◌≡◌, ℕ, suc, ◌+◌, ◌<◌, ◌≤◌, List, ◌∷◌, ◌++◌, length, slice_get, Option, Some, unwrap_or, Result, MatchResult}
 use Rattle.std.specs.List.{flat_map}
 use Rattle.std.specs.FinMap.{FinMap, entries, get, len}
 use Rattle.judy_model.specs.Keys.{word_order}
@@ -10,6 +10,7 @@ use Rattle.judy_sl.specs.declared.nth.Mark.{Mark}
 use Rattle.judy_sl.specs.declared.nth.Spot.{Spot}
 use Rattle.judy_sl.specs.World.{World}
 use Rattle.judy_sl.specs.Behind.{map_behind, entry_keys}
+use Rattle.judy_sl.specs.Counted.{keys_behind_all}
 
 -- What stands before the entry at a place of the first level: the entries before it, and what a list of sums holds below its word.
 abbrev pub before_entry : FinMap word_order ℕ → FinMap word_order ℕ → ℕ → ℕ
@@ -21,6 +22,18 @@ pub record IsChosen (words sums : FinMap word_order ℕ) (most : ℕ) (mark : Ma
   pub before : mark.before ≡ before_entry words sums mark.place
   pub low : mark.before ≤ most
   pub high : suc mark.place < len words → most < before_entry words sums (suc mark.place)
+
+-- Behind this one of some entries stands the key at a place, and there it has this place.
+pub record IsSpotIn (world : World) (page : List (ℕ × ℕ)) (place : ℕ) (spot : Spot) : Type 0 where
+  pub front : List (ℕ × ℕ)
+  pub back : List (ℕ × ℕ)
+  pub split : page ≡ front ++ (spot.piece, spot.value) ∷ back
+  pub within : spot.place < part_len (entry_keys world) (spot.piece, spot.value)
+  pub passed : place ≡ keys_behind_all world front + spot.place
+
+-- Some entries were read for the key at a place: it stands behind one of them, or so much of the place is left behind them all.
+abbrev pub AreReadFor : World → List (ℕ × ℕ) → ℕ → Result Spot ℕ → Type 0
+AreReadFor world page place result = MatchResult result (IsSpotIn world page place) (λ left. place ≡ keys_behind_all world page + left)
 
 -- Behind this entry of a level stands the key at a place, and there it has this place.
 pub record IsSpotOf (world : World) (words : FinMap word_order ℕ) (place : ℕ) (spot : Spot) : Type 0 where

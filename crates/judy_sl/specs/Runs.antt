@@ -1,47 +1,83 @@
--- The entries of a level that are still to come, and what a walk up through the keys finds by them.
-use Rattle.std.specs.Prelude.{◌≡◌, ◌≢◌, ℕ, ◌*◌, ◌≤◌, Bool, false, List, [], ◌∷◌, ◌++◌, length, Option, None, Some}
+-- The entries of a level that are still to come, the levels above it, and what a walk up through the keys finds by them.
+use Rattle.std.specs.Prelude.{◌≡◌, ℕ, suc, ◌*◌, ◌≤◌, Bool, false, IsFalse, List, [], ◌∷◌, ◌++◌, length, Option, None, Some}
+use Rattle.std.specs.Borrow.{Bor}
 use Rattle.std.specs.FinMap.{FinMap, get}
+use Rattle.judy_model.specs.Arrays.{ArrayOf}
 use Rattle.judy_model.specs.Keys.{word_order}
 use Rattle.judy_sl.specs.declared.scans.Side.TheVariants.{Above}
 use Rattle.judy_sl.specs.declared.scans.Turn.{Turn}
 use Rattle.judy_sl.specs.declared.runs.Run.{Run}
-use Rattle.judy_sl.specs.Pieces.{pieces}
-use Rattle.judy_sl.specs.World.{World, level, walk}
-use Rattle.judy_sl.specs.Scans.{upward, IsNearestEntry, IsNone, IsTurnAt, IsNeighbour}
+use Rattle.judy_sl.specs.Pieces.{IsInner, AreInner, ArePieces, pieces}
+use Rattle.judy_sl.specs.World.{World, level, lookup, walk}
+use Rattle.judy_sl.specs.Scans.{upward, meets, IsNearestEntry, IsNone, IsTurnAt, IsNeighbour}
 
 -- The entries of a level beyond a piece, by ascending piece.
 abbrev pub AreBeyond : FinMap word_order ℕ → ℕ → List (ℕ × ℕ) → Type 0
 AreBeyond map piece [] = IsNearestEntry Above false map piece None
 AreBeyond map piece (entry ∷ others) = IsNearestEntry Above false map piece (Some entry.0) × (get map entry.0 ≡ Some entry.1) × AreBeyond map entry.0 others
 
+-- The levels above one, the first level first.
+abbrev pub Levels : Type 0
+Levels = List (Option (Bor (ArrayOf word_order)))
+
+-- A seat has a level, in which an inner piece leads to a place.
+pub record Passes (world : World) (seat piece at : ℕ) (map : FinMap word_order ℕ) : Type 0 where
+  pub is_level : world seat ≡ level map
+  pub inner : IsInner piece
+  pub entry : get map piece ≡ Some at
+
+-- There is such a level.
+abbrev pub PassesLevel : World → ℕ → ℕ → ℕ → Option (Bor (ArrayOf word_order)) → Type 0
+PassesLevel world seat piece at None = ⊥
+PassesLevel world seat piece at (Some passed) = Passes world seat piece at passed.now.map
+
+-- These levels, one a piece, lead from a seat along pieces to another seat.
+abbrev pub LeadAlong : World → ℕ → List ℕ → Levels → ℕ → Type 0
+LeadAlong world seat [] [] end = seat ≡ end
+LeadAlong world seat [] (passed ∷ above) end = ⊥
+LeadAlong world seat (piece ∷ front) [] end = ⊥
+LeadAlong world seat (piece ∷ front) (passed ∷ above) end = (at : ℕ) × PassesLevel world seat piece at passed × LeadAlong world (suc at) front above end
+
+-- A key stands in the level of a run, which is below these others: the run has the entries beyond the key's own piece there, and
+-- no key behind that piece is above it.
+pub record Stands (world : World) (key : List ℕ) (above : Levels) (run : Run) : Type 0 where
+  pub front : List ℕ
+  pub piece : ℕ
+  pub rest : List ℕ
+  pub parts : pieces key ≡ front ++ piece ∷ rest
+  pub seat : ℕ
+  pub along : LeadAlong world 0 front above seat
+  pub is_level : world seat ≡ level run.level.now.map
+  pub beyond : AreBeyond run.level.now.map piece run.entries
+  pub none : (ps : List ℕ) (value : ℕ) → ArePieces (piece ∷ ps) → lookup world seat (piece ∷ ps) ≡ Some value → IsFalse (meets (upward false) world rest ps)
+
 -- The turn at an entry of a level behind so many bytes.
 abbrev pub turn_to : ℕ × ℕ → ℕ → Turn
 turn_to entry depth = record { piece = entry.0; value = entry.1; depth = depth }
 
--- At the first of the entries is the turn above a key, and the others are those beyond it.
-abbrev pub LeadsUp : Bool → World → List ℕ → List (ℕ × ℕ) → ℕ → Type 0
-LeadsUp itself world key [] depth = Unit {0}
-LeadsUp itself world key (entry ∷ others) depth = (at : IsTurnAt (upward itself) world key (turn_to entry depth)) × AreBeyond at.map entry.0 others
+-- At an entry of the level of a run is the turn above a key, and the run has those beyond it.
+pub record EntryLeads (itself : Bool) (world : World) (key : List ℕ) (entry : ℕ × ℕ) (above : Levels) (run : Run) : Type 0 where
+  pub at : IsTurnAt (upward itself) world key (turn_to entry (8 * length above))
+  pub along : LeadAlong world 0 at.front above at.seat
+  pub is_level : world at.seat ≡ level run.level.now.map
+  pub beyond : AreBeyond run.level.now.map entry.0 run.entries
 
--- The same of an entry and those that a run has beyond it.
-abbrev pub EntryLeads : Bool → World → List ℕ → ℕ × ℕ → Run → Type 0
-EntryLeads itself world key entry run = LeadsUp itself world key (entry ∷ run.entries) run.depth
+-- At the entry that is next is the turn above a key; or no key is above it, and it stands in the level of the run.
+abbrev pub IsNextEntry : World → List ℕ → Levels → Run → Option (ℕ × ℕ) → Type 0
+IsNextEntry world key above run None = IsNone (upward false) world 0 (pieces key) × Stands world key above run
+IsNextEntry world key above run (Some entry) = EntryLeads false world key entry above run
 
--- There are such entries, or no key is met above.
-abbrev pub IsRunTo : Bool → World → List ℕ → Option Run → Type 0
-IsRunTo itself world key None = IsNone (upward itself) world 0 (pieces key)
-IsRunTo itself world key (Some run) = (run.entries ≢ []) × LeadsUp itself world key run.entries run.depth
-
--- A run that there is leads up from the key.
-abbrev pub RunLeads : World → List ℕ → Option Run → Type 0
-RunLeads world key None = Unit {0}
-RunLeads world key (Some run) = LeadsUp false world key run.entries run.depth
+-- A key stands in the level of a run that there is.
+abbrev pub RunLeads : World → List ℕ → Levels → Option Run → Type 0
+RunLeads world key above None = Unit {0}
+RunLeads world key above (Some run) = Stands world key above run
 
 -- Levels lead along the pieces in so many bytes of a key to a level with this map.
 pub record LeadsToLevel (world : World) (key : List ℕ) (depth : ℕ) (map : FinMap word_order ℕ) : Type 0 where
   pub front : List ℕ
   pub seat : ℕ
   pub way : walk world 0 front ≡ Some seat
+  pub inner : AreInner front
   pub is_level : world seat ≡ level map
   pub long : depth ≡ 8 * length front
   pub within : depth ≤ length key
@@ -51,9 +87,9 @@ pub record LeadsToLevel (world : World) (key : List ℕ) (depth : ℕ) (map : Fi
 abbrev pub HasLevel : World → List ℕ → ℕ → Type 0
 HasLevel world key depth = (map : FinMap word_order ℕ) × LeadsToLevel world key depth map
 
--- It has this map.
-abbrev pub IsLevelBehind : World → List ℕ → ℕ → FinMap word_order ℕ → Type 0
-IsLevelBehind world key depth found = (map : FinMap word_order ℕ) → LeadsToLevel world key depth map → found ≡ map
+-- It has this map, and these are the levels above it.
+abbrev pub IsLevelBehind : World → List ℕ → ℕ → Levels → FinMap word_order ℕ → Type 0
+IsLevelBehind world key depth above found = (map : FinMap word_order ℕ) (leads : LeadsToLevel world key depth map) → (found ≡ map) × LeadAlong world 0 leads.front above leads.seat
 
 -- A walk leaves the least key above the bytes, and answers its value; or there is none, and they stay.
 abbrev pub IsAbove : Bool → World → List ℕ → List ℕ → Option ℕ → Type 0

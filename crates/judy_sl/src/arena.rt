@@ -190,7 +190,8 @@ impl Arena {
         requires room { PlaceHasRoom self.old place }
         ensures* writes_back { sem 𝓛 (LendsPlaceOk self.entry place result) }
         ensures value { IfOk result (λ slot. Some slot.now ≡ place_in_value self.old place) }
-        ensures refused { IfErr result (λ error. (place_value self.old place ≡ None) × (error ≡ NoMemory)) }
+        ensures refused { IfErr result
+            (λ error. (place_value self.old place ≡ None) × (error ≡ NoMemory)) }
     {
         match place {
             Place::Root(piece) => match self.root.ins(piece) {

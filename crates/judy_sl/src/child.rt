@@ -59,7 +59,8 @@ impl Child {
         requires room { HasRoom self.old piece }
         ensures* writes_back { sem 𝓛 (LendsChildOk self.entry piece result) }
         ensures value { IfOk result (λ slot. Some slot.now ≡ value_in self.old piece) }
-        ensures refused { IfErr result (λ error. (value_at self.old piece ≡ None) × (error ≡ NoMemory)) }
+        ensures refused { IfErr result
+            (λ error. (value_at self.old piece ≡ None) × (error ≡ NoMemory)) }
     {
         match self {
             Child::Level(_, level) => match level.ins(piece) {

@@ -123,7 +123,8 @@ impl Arena {
         requires few { map.len (map_of self.old) ≤ 4294967295 }
         ensures answer { is_some result ≡ is_some (lookup (world_of self.old) 0 (pieces key.now)) }
         ensures shrunk { IsShrunk self.old self.new key.now }
-        ensures beside { IfSome result (λ beside. beside ≡ is_some (map.get self.new.root.map (piece_of key.now))) }
+        ensures beside { IfSome result
+            (λ beside. beside ≡ is_some (map.get self.new.root.map (piece_of key.now))) }
         ensures counted { AreCounted self.new }
         ensures places { FreesPlaces self.old self.new }
     {

@@ -1,14 +1,14 @@
 //! How many keys stand where, by what the levels tell of the keys behind them.
 
-ghost use Rattle.std.specs.Prelude.{◌≡◌, ◌<◌, ◌≤◌, ◌^◌, suc, length};
+ghost use Rattle.std.specs.Prelude.{◌≡◌, ◌<◌, ◌≤◌, ◌^◌, suc, length, take, drop};
 ghost use Rattle.std.specs.FinMap as map;
 ghost use Rattle.judy_model.specs.Counts as counts;
-ghost use Rattle.judy_model.specs.Keys.{IsStringKey};
+ghost use Rattle.judy_model.specs.Keys.{byte_order, IsStringKey};
 ghost use Rattle.judy_sums.specs.Levels.{keys_below, part_len};
 ghost use Rattle.judy_sl.specs.Pieces.{IsText};
 ghost use Rattle.judy_sl.specs.Arenas.{world_of, map_of, IsArena};
 ghost use Rattle.judy_sl.specs.Behind.{map_behind, entry_keys};
-ghost use Rattle.judy_sl.specs.Counted.{keys_of, keys_behind, AreCounted, StandsWith};
+ghost use Rattle.judy_sl.specs.Counted.{keys_of, keys_behind, keys_behind_all, comes, ranked, AreCounted, StandsWith};
 ghost use Rattle.judy_sl.specs.Firsts.{AreFirsts};
 
 use crate::arena::Arena;
@@ -16,13 +16,14 @@ use crate::child::Child;
 use crate::pieces::first_piece;
 use crate::strings::JudySl;
 use judy_sums::Sums;
-use judy_word::WordMap;
+use judy_word::{Entries, WordMap};
 
 impl JudySl {
     /// How many keys there are from `from` to `to`, both included; 0 where `from` is above `to` (this project's own).
     /// Each of the two is a string that may be a key, and needn't be one of the array's. It asks for no memory. It takes
-    /// three ways down the array; in each level below the first it reads the entries up to the key's own, unless one key stands
-    /// behind each of that level's entries. (This project's own; the manual has counts of words alone.)
+    /// two ways down the array; in each level below the first it reads the entries on one side of the key's own, on the side that
+    /// has fewer, unless one key stands behind each of that level's entries. (This project's own; the manual has counts of words
+    /// alone.)
     ///
     /// Of the keys `a`, `ab` and `c`, `count(b"a", b"b")` is 2.
     pub fn count(&self, from: &[u8], to: &[u8]) -> u64
@@ -30,10 +31,8 @@ impl JudySl {
         requires to { IsStringKey to.now }
         ensures { result ≡ counts.count self.now.map from.now to.now }
     {
-        let held = self.get(to).is_some();
-        let below = self.arena.rank(&self.firsts, from);
-        let less = self.arena.rank(&self.firsts, to);
-        let up_to = if held { less + 1 } else { less };
+        let up_to = self.arena.rank(&self.firsts, true, to);
+        let below = self.arena.rank(&self.firsts, false, from);
         up_to.saturating_sub(below)
     }
 }
@@ -48,6 +47,20 @@ impl Child {
             Child::Tail(_) => 1,
             Child::Free(_) => 0,
         }
+    }
+}
+
+// How many entries of a level are read at a time: what stands behind them is looked up at once then, not each after the step to it.
+pub const PAGE: usize = 32;
+
+// Whether the rest of a key is less than another, or, where that itself counts, not above it.
+fn comes(itself: bool, rest: &[u8], other: &[u8]) -> bool
+    ensures { result ≡ comes itself (byte_order rest.now other.now) }
+{
+    if itself {
+        rest.cmp(other).is_le()
+    } else {
+        rest.cmp(other).is_lt()
     }
 }
 
@@ -78,46 +91,70 @@ impl Arena {
         }
     }
 
-    // How many keys stand behind the entries of a level whose pieces are less than a piece, as it is read entry by entry.
-    fn read_before(&self, level: &WordMap, piece: u64) -> u64
+    // How many keys stand behind some entries of a level.
+    fn page_keys(&self, page: &[(u64, u64)]) -> u64
         requires is_arena { IsArena self.now }
         requires counted { AreCounted self.now }
-        requires fits { keys_below (part_len (entry_keys (world_of self.now))) (map.entries level.now.map) piece < 2 ^ 64 }
-        ensures { result ≡ keys_below (part_len (entry_keys (world_of self.now))) (map.entries level.now.map) piece }
+        requires fits { keys_behind_all (world_of self.now) page.now < 2 ^ 64 }
+        ensures { result ≡ keys_behind_all (world_of self.now) page.now }
     {
-        let mut before = 0;
-        for (other, value) in level.iter() {
-            if other >= piece {
-                return before;
-            }
-            before += self.keys_at(other, value);
+        let mut keys = 0;
+        for &(piece, value) in page {
+            keys += self.keys_at(piece, value);
         }
-        before
+        keys
     }
 
-    // The same, of a level that tells how many keys stand behind it: where they are as many as its entries, each entry has one, and
-    // none is read.
+    // How many keys stand behind the first so many of the entries that are to come, as these are read page by page.
+    pub fn read_keys(&self, mut entries: Entries<'_>, count: u64) -> u64
+        requires is_arena { IsArena self.now }
+        requires counted { AreCounted self.now }
+        requires there { count ≤ length entries }
+        requires fits { keys_behind_all (world_of self.now) (take count entries) < 2 ^ 64 }
+        ensures { result ≡ keys_behind_all (world_of self.now) (take count entries.entry) }
+    {
+        let mut page = [(0, 0); PAGE];
+        let mut left = count as usize;
+        let mut keys = 0;
+        'pages: while left > 0 {
+            entries.fill(&mut page);
+            let read = left.min(PAGE);
+            keys += self.page_keys(&page[..read]);
+            left -= read;
+        }
+        keys
+    }
+
+    // How many keys stand behind the entries of a level whose pieces are less than a piece. The level tells how many stand behind it:
+    // where they are as many as its entries, each entry has one, and none is read. Else the entries are read from the level's nearer
+    // end, and what stands from the piece on is taken from all.
     fn keys_before(&self, level: &WordMap, keys: u32, piece: u64) -> u64
         requires is_arena { IsArena self.now }
         requires counted { AreCounted self.now }
         requires told { StandsWith (world_of self.now) level.now.map keys }
-        requires fits { keys_below (part_len (entry_keys (world_of self.now))) (map.entries level.now.map) piece < 2 ^ 64 }
-        ensures { result ≡ keys_below (part_len (entry_keys (world_of self.now))) (map.entries level.now.map) piece }
+        ensures { result
+            ≡ keys_below (part_len (entry_keys (world_of self.now)))
+            (map.entries level.now.map) piece }
     {
-        if u64::from(keys) == level.len() {
-            lesser_in(level, piece)
+        let all = u64::from(keys);
+        let entries = level.len();
+        let lesser = lesser_in(level, piece);
+        if all == entries {
+            lesser
+        } else if lesser <= entries / 2 {
+            self.read_keys(level.iter(), lesser)
         } else {
-            self.read_before(level, piece)
+            all - self.read_keys(level.array().iter_from(piece), entries - lesser)
         }
     }
 
-    // How many keys behind a child are less than the rest of a key.
-    fn rank_behind(&self, child: usize, key: &[u8]) -> u64
+    // How many keys behind a child are less than the rest of a key, or, where that itself counts, not above it.
+    fn rank_behind(&self, itself: bool, child: usize, key: &[u8]) -> u64
         requires is_arena { IsArena self.now }
         requires counted { AreCounted self.now }
         requires is_text { IsText key.now }
         requires few { keys_behind (world_of self.now) (suc child) ≤ 4294967295 }
-        ensures { result ≡ counts.rank (map_behind (world_of self.now) (suc child)) key.now }
+        ensures { result ≡ ranked itself (map_behind (world_of self.now) (suc child)) key.now }
     {
         let mut at = child;
         let mut rest = key;
@@ -127,21 +164,17 @@ impl Arena {
                 Some(Child::Level(keys, level)) => {
                     let piece = first_piece(rest);
                     lesser += self.keys_before(level, *keys, piece);
-                    if rest.len() < 8 {
-                        return lesser;
-                    }
                     let Some(next) = level.get(piece) else {
                         return lesser;
                     };
+                    if rest.len() < 8 {
+                        return lesser + u64::from(itself);
+                    }
                     at = next as usize;
                     rest = &rest[8..];
                 }
                 Some(Child::Tail(tail)) => {
-                    return if tail.bytes().cmp(rest).is_lt() {
-                        lesser + 1
-                    } else {
-                        lesser
-                    };
+                    return lesser + u64::from(comes(itself, tail.bytes(), rest));
                 }
                 Some(Child::Free(_)) => return lesser,
                 None => return lesser,
@@ -149,23 +182,24 @@ impl Arena {
         }
     }
 
-    // How many keys are less than a key: those whose first pieces are less, by the list of these, and those behind its own first piece.
-    fn rank(&self, firsts: &Sums, key: &[u8]) -> u64
+    // How many keys are less than a key, or, where that itself counts, not above it: those whose first pieces are less, by the list of
+    // these, and those behind its own first piece.
+    fn rank(&self, firsts: &Sums, itself: bool, key: &[u8]) -> u64
         requires is_arena { IsArena self.now }
         requires counted { AreCounted self.now }
         requires firsts { AreFirsts (map_of self.now) firsts.now }
         requires is_key { IsStringKey key.now }
         requires few { map.len (map_of self.now) ≤ 4294967295 }
-        ensures { result ≡ counts.rank (map_of self.now) key.now }
+        ensures { result ≡ ranked itself (map_of self.now) key.now }
     {
         let piece = first_piece(key);
         let lesser = lesser_in(&self.root, piece) + firsts.below(piece);
-        if key.len() < 8 {
+        let Some(at) = self.root.get(piece) else {
             return lesser;
+        };
+        if key.len() < 8 {
+            return lesser + u64::from(itself);
         }
-        match self.root.get(piece) {
-            Some(at) => lesser + self.rank_behind(at as usize, &key[8..]),
-            None => lesser,
-        }
+        lesser + self.rank_behind(itself, at as usize, &key[8..])
     }
 }

@@ -1,4 +1,4 @@
-//! A walk up through an array, which remembers the level in which its key stands.
+//! A walk up through an array, which remembers the level in which its key stands, and those above it.
 
 ghost use Rattle.std.specs.Prelude.{◌≡◌, ◌≤◌, length, unwrap_or};
 ghost use Rattle.judy_model.specs.Keys.{IsStringKey};
@@ -7,17 +7,18 @@ ghost use Rattle.judy_sl.specs.Scans.{value_found};
 
 use crate::arena::Arena;
 use crate::keys::KeyBuf;
-use crate::runs::Run;
+use crate::runs::{Levels, Run};
 use crate::strings::JudySl;
 use std::marker::Model;
 
 /// A walk up through the keys of an array: to its callers it is the array's map, and the bytes at which it stands. A step to
-/// the next key begins in the level in which the last one ended, and at the first level only where that has no further
-/// entry. It asks for no memory. (This project's own.)
+/// the next key begins in the level in which the last one ended, and goes up to the lowest level that has a further entry.
+/// Only `first`, and a step before which no key was found, begin at the first level. It asks for no memory. (This project's own.)
 #[derive(Drop)]
 pub struct KeyCursor<'a> {
     arena: &'a Arena,
     key: KeyBuf,
+    above: Levels<'a>,
     run: Option<Run<'a>>,
 }
 
@@ -33,7 +34,7 @@ impl<'a> Model for KeyCursor<'a> {
 
     ghost view = { λ a. record { map = map_of a.arena.now; key = a.key.items } };
 
-    ghost invariant = { λ a. IsCursor a.arena.now a.key.items a.run };
+    ghost invariant = { λ a. IsCursor a.arena.now a.key.items a.above.items a.run };
 }
 
 impl<'a> KeyCursor<'a> {
@@ -49,20 +50,26 @@ impl<'a> KeyCursor<'a> {
     /// `None` where no key is left, and it stays. It is [`JudySl::first`].
     pub fn first(&mut self) -> Option<u64>
         ensures map { self.new.map ≡ self.old.map }
-        ensures key { self.new.key ≡ unwrap_or (neighbours.first self.old.map self.old.key) self.old.key }
-        ensures value { result ≡ value_found self.old.map (neighbours.first self.old.map self.old.key) }
+        ensures key { self.new.key
+            ≡ unwrap_or (neighbours.first self.old.map self.old.key) self.old.key }
+        ensures value { result
+            ≡ value_found self.old.map (neighbours.first self.old.map self.old.key) }
     {
-        self.arena.seek(true, &mut self.run, &mut self.key)
+        self.arena
+            .seek(true, &mut self.above, &mut self.run, &mut self.key)
     }
 
     /// Goes to the least key above the bytes at which it stands, and answers its value. `None` where no key is above them, and
     /// it stays. It is [`JudySl::next`].
     pub fn next(&mut self) -> Option<u64>
         ensures map { self.new.map ≡ self.old.map }
-        ensures key { self.new.key ≡ unwrap_or (neighbours.next self.old.map self.old.key) self.old.key }
-        ensures value { result ≡ value_found self.old.map (neighbours.next self.old.map self.old.key) }
+        ensures key { self.new.key
+            ≡ unwrap_or (neighbours.next self.old.map self.old.key) self.old.key }
+        ensures value { result
+            ≡ value_found self.old.map (neighbours.next self.old.map self.old.key) }
     {
-        self.arena.step(&mut self.run, &mut self.key)
+        self.arena
+            .step(&mut self.above, &mut self.run, &mut self.key)
     }
 }
 
@@ -79,6 +86,7 @@ impl JudySl {
         KeyCursor {
             arena: &self.arena,
             key,
+            above: Levels::new(),
             run: None,
         }
     }

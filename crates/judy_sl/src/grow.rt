@@ -138,8 +138,10 @@ impl Arena {
         ensures counted { AreCounted self.new }
         ensures key { IfShown result (IsStringKey key.now) }
         ensures absent { IfShown result (map.get (map_of self.old) key.now ≡ None) }
-        ensures added { IfOk result (λ found. IfSome found (λ place. IsAdded self.old self.new key.now place)) }
-        ensures first { IfOk result (λ found. IfSome found (λ place. beginning (map_of self.old) (piece_of key.now) ≡ 0)) }
+        ensures added { IfOk result
+            (λ found. IfSome found (λ place. IsAdded self.old self.new key.now place)) }
+        ensures first { IfOk result
+            (λ found. IfSome found (λ place. beginning (map_of self.old) (piece_of key.now) ≡ 0)) }
         ensures open { IfOk result (λ found. found ≡ None → self.new ≡ self.old) }
         ensures refused { IfErr result (λ error. IsSame self.old self.new × (error ≡ NoMemory)) }
         ensures places { TakesPlaces self.old self.new }
@@ -229,8 +231,11 @@ impl Arena {
         requires taken { node_of (child_at self.old at) ≢ gone }
         requires sound { IsSound branch }
         requires is_arena { IsArena self.old }
-        ensures grafted { (key : List ℕ) (left : ℕ) → IsStringKey key → IsGraft self.old key at left branch → IsGrafted self.old self.new key }
-        ensures counted { (key : List ℕ) (left : ℕ) → IsStringKey key → IsGraft self.old key at left branch → AllLed (world_of self.old) → AreCounted self.old → AreCountedBut OneLess self.new key }
+        ensures grafted { (key : List ℕ) (left : ℕ) → IsStringKey key
+            → IsGraft self.old key at left branch → IsGrafted self.old self.new key }
+        ensures counted { (key : List ℕ) (left : ℕ) → IsStringKey key
+            → IsGraft self.old key at left branch → AllLed (world_of self.old) → AreCounted self.old
+            → AreCountedBut OneLess self.new key }
         ensures places { TakesPlaces self.old self.new }
     {
         let Branch {

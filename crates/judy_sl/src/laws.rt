@@ -18,7 +18,8 @@ pub fn pieces_spell_their_key()
 
 /// Keys compare as their pieces do, the first that differ deciding, as numbers.
 pub fn keys_compare_as_their_pieces()
-    ensures { (one other : List ℕ) → IsStringKey one → IsStringKey other → byte_order one other ≡ byte_order (pieces one) (pieces other) }
+    ensures { (one other : List ℕ) → IsStringKey one → IsStringKey other
+        → byte_order one other ≡ byte_order (pieces one) (pieces other) }
 {}
 
 /// The keys behind a level stand entry by entry: the bytes of a piece before what is left of each key behind it.

@@ -1,31 +1,30 @@
 //! Which key stands at a place: the first piece is sought among the first level's by how many keys stand before it, and behind it
-//! each level's entries are counted up to the place, unless each has one key behind it.
+//! each level's entries are read from the nearer end up to the place, unless each has one key behind it.
 
-ghost use Rattle.std.specs.Prelude.{◌≡◌, ◌<◌, ◌≤◌, ◌+◌, ℕ, Some, suc, length, unwrap_or};
-ghost use Rattle.std.specs.List.{flat_map};
+ghost use Rattle.std.specs.Prelude.{◌≡◌, ◌<◌, ◌≤◌, ◌+◌, ◌^◌, ℕ, Some, suc, drop, unwrap_or};
 ghost use Rattle.std.specs.FinMap as map;
 ghost use Rattle.judy_model.specs.Counts as counts;
 ghost use Rattle.judy_sl.specs.Arenas.{world_of, map_of, IsArena};
-ghost use Rattle.judy_sl.specs.Behind.{entry_keys};
-ghost use Rattle.judy_sl.specs.Counted.{keys_behind, AreCounted, StandsWith};
+ghost use Rattle.judy_sl.specs.Counted.{keys_behind, keys_behind_all, AreCounted, StandsWith};
 ghost use Rattle.judy_sl.specs.Firsts.{AreFirsts};
-ghost use Rattle.judy_sl.specs.Nth.{before_entry, KeysFit, IsChosen, IsSpotOf, IsNthBehind};
+ghost use Rattle.judy_sl.specs.Nth.{before_entry, KeysFit, IsChosen, AreReadFor, IsSpotIn, IsSpotOf, IsNthBehind};
 ghost use Rattle.judy_sl.specs.Scans.{value_found};
 
 use crate::arena::Arena;
 use crate::child::Child;
+use crate::counts::PAGE;
 use crate::keys::KeyBuf;
 use crate::pieces::push_piece;
 use crate::strings::JudySl;
 use judy_sums::Sums;
-use judy_word::WordMap;
+use judy_word::{Entries, WordMap};
 
 impl JudySl {
     /// The value of the `n`-th key in ascending order, counted from 1; that key is then in the buffer, whatever was there
     /// before. `None` for 0, and for an `n` above the number of keys (both this project's own), and the buffer stays. It
     /// asks for no memory. It takes one way down the array: the entry of the first level is sought by halves and in proportion, and in
-    /// each level below the entries up to the key's own are read, unless one key stands behind each of that level's entries. (This
-    /// project's own; the manual has counts of words alone.)
+    /// each level below the entries up to the key's own are read, from the end that is nearer by the keys between, unless one key stands
+    /// behind each of that level's entries. (This project's own; the manual has counts of words alone.)
     ///
     /// Of the keys `a`, `ab` and `c`, `by_count(2, &mut key)` puts `ab` into `key`.
     pub fn by_count(&self, n: u64, key: &mut KeyBuf) -> Option<u64>
@@ -93,7 +92,8 @@ fn before_entry(level: &WordMap, firsts: &Sums, place: u64) -> u64
 fn chosen(level: &WordMap, firsts: &Sums, most: u64) -> Mark
     requires some { 1 ≤ map.len level.now.map }
     requires first { before_entry level.now.map firsts.now 0 ≡ 0 }
-    requires fits { (place : ℕ) → place < map.len level.now.map → before_entry level.now.map firsts.now place ≤ 4294967295 }
+    requires fits { (place : ℕ) → place < map.len level.now.map
+        → before_entry level.now.map firsts.now place ≤ 4294967295 }
     ensures { IsChosen level.now.map firsts.now most result }
 {
     let mut low = Mark {
@@ -118,48 +118,106 @@ fn chosen(level: &WordMap, firsts: &Sums, most: u64) -> Mark
     low
 }
 
+// The entries of a level from a place on.
+fn entries_at(level: &WordMap, place: u64) -> Entries<'_>
+    requires within { place < map.len level.now.map }
+    requires fits { place + 1 < 2 ^ 64 }
+    ensures { result ≡ drop place (map.entries level.now.map) }
+{
+    let Some(piece) = level.array().by_count(place + 1) else {
+        unreachable!()
+    };
+    level.array().iter_from(piece)
+}
+
 impl Arena {
-    // The entry of a level behind which the key at a place stands, by how many keys stand behind each entry.
-    fn read_spot(&self, level: &WordMap, place: u64) -> Spot
+    // The entry of some entries behind which the key at a place stands, by how many keys stand behind each entry; where none does,
+    // how much of the place is left behind them.
+    fn page_spot(&self, page: &[(u64, u64)], place: u64) -> Result<Spot, u64>
         requires is_arena { IsArena self.now }
         requires counted { AreCounted self.now }
-        requires within { place < length (flat_map (entry_keys (world_of self.now)) (map.entries level.now.map)) }
-        ensures { IsSpotOf (world_of self.now) level.now.map place result }
+        ensures { AreReadFor (world_of self.now) page.now place result }
     {
         let mut left = place;
-        for (piece, value) in level.iter() {
+        for &(piece, value) in page {
             let keys = self.keys_at(piece, value);
             if left < keys {
-                return Spot {
+                return Ok(Spot {
                     piece,
                     value,
                     place: left,
-                };
+                });
             }
             left -= keys;
         }
-        unreachable!()
+        Err(left)
     }
 
-    // The same, of a level that tells how many keys stand behind it: where they are as many as its entries, each entry has one, and
-    // the place is the entry's own.
+    // The same of entries that are to come, as they are read page by page.
+    fn read_spot(&self, mut entries: Entries<'_>, place: u64) -> Spot
+        requires is_arena { IsArena self.now }
+        requires counted { AreCounted self.now }
+        requires within { place < keys_behind_all (world_of self.now) entries }
+        ensures { IsSpotIn (world_of self.now) entries.entry place result }
+    {
+        let mut page = [(0, 0); PAGE];
+        let mut left = place;
+        'pages: loop {
+            let told = entries.fill(&mut page);
+            match self.page_spot(&page[..told], left) {
+                Ok(spot) => return spot,
+                Err(behind) => left = behind,
+            }
+        }
+    }
+
+    // The same of a level with so many keys behind it, from its end back: what stands behind a page is taken from what stands before
+    // the page's end.
+    fn read_back(&self, level: &WordMap, keys: u64, place: u64) -> Spot
+        requires is_arena { IsArena self.now }
+        requires counted { AreCounted self.now }
+        requires all { keys ≡ keys_behind_all (world_of self.now) (map.entries level.now.map) }
+        requires within { place < keys }
+        ensures { IsSpotIn (world_of self.now) (map.entries level.now.map) place result }
+    {
+        let mut end = level.len();
+        let mut before = keys;
+        'pages: loop {
+            let start = end.saturating_sub(PAGE as u64);
+            before -= self.read_keys(entries_at(level, start), end - start);
+            if before <= place {
+                return self.read_spot(entries_at(level, start), place - before);
+            }
+            end = start;
+        }
+    }
+
+    // The entry of a level behind which the key at a place stands. The level tells how many keys stand behind it: where they are as many
+    // as its entries, each entry has one, and the place is the entry's own. Else the entries are read, from the end where the place is in
+    // the upper half of the keys, unless they are one page.
     fn spot_at(&self, level: &WordMap, keys: u32, place: u64) -> Spot
         requires is_arena { IsArena self.now }
         requires counted { AreCounted self.now }
         requires told { StandsWith (world_of self.now) level.now.map keys }
-        requires within { place < length (flat_map (entry_keys (world_of self.now)) (map.entries level.now.map)) }
+        requires within { place < keys_behind_all (world_of self.now) (map.entries level.now.map) }
         ensures { IsSpotOf (world_of self.now) level.now.map place result }
     {
-        if u64::from(keys) != level.len() {
-            return self.read_spot(level, place);
+        let entries = level.len();
+        let keys = u64::from(keys);
+        if keys == entries {
+            let Some((piece, value)) = level.array().by_count_entry(place + 1) else {
+                unreachable!()
+            };
+            return Spot {
+                piece,
+                value,
+                place: 0,
+            };
         }
-        let Some((piece, value)) = level.array().by_count_entry(place + 1) else {
-            unreachable!()
-        };
-        Spot {
-            piece,
-            value,
-            place: 0,
+        if entries <= PAGE as u64 || place < keys / 2 {
+            self.read_spot(level.iter(), place)
+        } else {
+            self.read_back(level, keys, place)
         }
     }
 
@@ -169,7 +227,8 @@ impl Arena {
         requires counted { AreCounted self.now }
         requires within { place < keys_behind (world_of self.now) (suc child) }
         requires fits { KeysFit (world_of self.now) (suc child) key.old.items }
-        ensures { IsNthBehind (world_of self.now) (suc child) place key.old.items key.new.items result }
+        ensures { IsNthBehind (world_of self.now)
+            (suc child) place key.old.items key.new.items result }
     {
         let mut at = child;
         let mut left = place;

@@ -1,33 +1,49 @@
-//! The entries of a level that are still to come, by which a walk goes from key to key without a way down from the
-//! first level for each.
+//! The entries of a level that are still to come, and the levels above it, by which a walk goes from key to key without
+//! a way down from the first level for each.
 
-ghost use Rattle.std.specs.Prelude.{◌≢◌, false, All};
+ghost use Rattle.std.specs.Prelude.{◌≢◌, IsTrue, false, All};
+ghost use Rattle.std.specs.FinMap.{contains_key};
 ghost use Rattle.judy_sl.specs.Pieces.{IsText};
 ghost use Rattle.judy_sl.specs.Arenas.{world_of, IsArena};
-ghost use Rattle.judy_sl.specs.Runs.{LeadsUp, EntryLeads, IsRunTo, RunLeads, HasLevel, IsLevelBehind, IsAbove};
+ghost use Rattle.judy_sl.specs.Runs.{AreBeyond, EntryLeads, RunLeads, IsNextEntry, Stands, HasLevel, IsLevelBehind, IsAbove};
 
 use crate::arena::Arena;
 use crate::child::Child;
 use crate::keys::KeyBuf;
 use crate::pieces::{first_piece, push_piece};
 use crate::scans::Look;
+use arrayvec::ArrayVec;
 use judy_word::{Entries, WordMap};
 use std::iter::Iterator;
 
-// The entries of a level that are still to come, by ascending piece; the level stands behind so many bytes of a key.
+// The levels above one, the first level first: one for each piece that leads there. No place among them is empty.
+pub type Levels<'a> = ArrayVec<Option<&'a WordMap>, 128>;
+
+// A level, and its entries that are still to come, by ascending piece.
 #[derive(Drop)]
 pub struct Run<'a> {
+    pub level: &'a WordMap,
     pub entries: Entries<'a>,
-    pub depth: usize,
+}
+
+// The entries of a level beyond the one of a piece.
+fn entries_beyond(level: &WordMap, piece: u64) -> Entries<'_>
+    requires { IsTrue (contains_key level.now.map piece) }
+    ensures { AreBeyond level.now.map piece result }
+{
+    let mut entries = level.array().iter_from(piece);
+    entries.next();
+    entries
 }
 
 impl Arena {
-    // The level behind so many bytes of a key.
-    fn level_behind(&self, key: &[u8], depth: usize) -> &WordMap
+    // The level behind so many bytes of a key; the levels above it are kept.
+    fn level_behind<'a>(&'a self, key: &[u8], depth: usize, above: &mut Levels<'a>) -> &'a WordMap
         requires is_arena { IsArena self.now }
         requires leads { HasLevel (world_of self.now) key.now depth }
-        ensures { IsLevelBehind (world_of self.now) key.now depth result.now.map }
+        ensures { IsLevelBehind (world_of self.now) key.now depth above.new.items result.now.map }
     {
+        above.clear();
         let mut level = &self.root;
         let mut rest = key;
         let left = key.len() - depth;
@@ -37,7 +53,10 @@ impl Arena {
             };
             rest = &rest[8..];
             match self.children.get(at as usize) {
-                Some(Child::Level(_, next)) => level = next,
+                Some(Child::Level(_, next)) => {
+                    above.push(Some(level));
+                    level = next;
+                }
                 Some(Child::Tail(_)) => unreachable!(),
                 Some(Child::Free(_)) => unreachable!(),
                 None => unreachable!(),
@@ -46,43 +65,32 @@ impl Arena {
         level
     }
 
-    // The entries of the level in which the least key above bytes has its turn, from that turn on.
-    fn run(&self, itself: bool, key: &[u8]) -> Option<Run<'_>>
-        requires is_arena { IsArena self.now }
-        requires without_zero { All (λ byte. byte ≢ 0) key.now }
-        ensures { IsRunTo itself (world_of self.now) key.now result }
-    {
-        let turn = self.turn(Look::upward(itself), key)?;
-        let level = self.level_behind(key, turn.depth).array();
-        Some(Run {
-            entries: level.iter_from(turn.piece),
-            depth: turn.depth,
-        })
-    }
-
     // Puts the first of the keys behind an entry into the buffer, and answers its value. Beyond the entry its level has those
     // of the run, which is then that of the last level on the way.
     fn climb<'a>(
         &'a self,
         itself: bool,
         entry: (u64, u64),
+        above: &mut Levels<'a>,
         run: &mut Run<'a>,
         key: &mut KeyBuf,
     ) -> Option<u64>
         requires is_arena { IsArena self.now }
         requires is_text { IsText key.old.items }
-        requires leads { EntryLeads itself (world_of self.now) key.old.items entry run.old }
+        requires leads { EntryLeads itself
+            (world_of self.now) key.old.items entry above.old.items run.old }
         ensures neighbour { IsAbove itself (world_of self.now) key.old.items key.new.items result }
-        ensures leads { LeadsUp false (world_of self.now) key.new.items run.new.entries run.new.depth }
+        ensures stands { Stands (world_of self.now) key.new.items above.new.items run.new }
     {
-        key.truncate(run.depth);
+        key.truncate(8 * above.len());
         let (mut piece, mut value) = entry;
         while piece % 256 != 0 {
             push_piece(key, piece);
             match self.children.get(value as usize) {
                 Some(Child::Level(_, next)) => {
+                    above.push(Some(run.level));
+                    run.level = next;
                     run.entries = next.iter();
-                    run.depth = key.len();
                     let first = run.entries.next()?;
                     piece = first.0;
                     value = first.1;
@@ -99,40 +107,70 @@ impl Arena {
         Some(value)
     }
 
+    // The next entry of the run, or where it has none, of the lowest level above that has one beyond the key's own; the run
+    // is then of that level.
+    fn next_entry<'a>(
+        &'a self,
+        above: &mut Levels<'a>,
+        run: &mut Run<'a>,
+        key: &[u8],
+    ) -> Option<(u64, u64)>
+        requires is_text { IsText key.now }
+        requires stands { Stands (world_of self.now) key.now above.old.items run.old }
+        ensures { IsNextEntry (world_of self.now) key.now above.new.items run.new result }
+    {
+        'levels: loop {
+            if let Some(entry) = run.entries.next() {
+                return Some(entry);
+            }
+            run.level = above.pop()??;
+            run.entries = entries_beyond(run.level, first_piece(&key[8 * above.len()..]));
+        }
+    }
+
     // Puts the least key above the bytes in the buffer into it, by a way from the first level, and answers its value; where
     // there is none, all stays.
     pub fn seek<'a>(
         &'a self,
         itself: bool,
+        above: &mut Levels<'a>,
         run: &mut Option<Run<'a>>,
         key: &mut KeyBuf,
     ) -> Option<u64>
         requires is_arena { IsArena self.now }
         requires is_text { IsText key.old.items }
-        requires leads { RunLeads (world_of self.now) key.old.items run.old }
+        requires leads { RunLeads (world_of self.now) key.old.items above.old.items run.old }
         ensures neighbour { IsAbove itself (world_of self.now) key.old.items key.new.items result }
-        ensures leads { RunLeads (world_of self.now) key.new.items run.new }
+        ensures leads { RunLeads (world_of self.now) key.new.items above.new.items run.new }
     {
-        let mut made = self.run(itself, key.as_slice())?;
-        let entry = made.entries.next()?;
-        let value = self.climb(itself, entry, &mut made, key);
+        let turn = self.turn(Look::upward(itself), key.as_slice())?;
+        let level = self.level_behind(key.as_slice(), turn.depth, above);
+        let mut made = Run {
+            level,
+            entries: entries_beyond(level, turn.piece),
+        };
+        let value = self.climb(itself, (turn.piece, turn.value), above, &mut made, key);
         *run = Some(made);
         value
     }
 
-    // The same for the key itself left out, by the next entry of the run where there is one.
-    pub fn step<'a>(&'a self, run: &mut Option<Run<'a>>, key: &mut KeyBuf) -> Option<u64>
+    // The same for the key itself left out, by the next entry of the run, or of a level above it.
+    pub fn step<'a>(
+        &'a self,
+        above: &mut Levels<'a>,
+        run: &mut Option<Run<'a>>,
+        key: &mut KeyBuf,
+    ) -> Option<u64>
         requires is_arena { IsArena self.now }
         requires is_text { IsText key.old.items }
-        requires leads { RunLeads (world_of self.now) key.old.items run.old }
+        requires leads { RunLeads (world_of self.now) key.old.items above.old.items run.old }
         ensures neighbour { IsAbove false (world_of self.now) key.old.items key.new.items result }
-        ensures leads { RunLeads (world_of self.now) key.new.items run.new }
+        ensures leads { RunLeads (world_of self.now) key.new.items above.new.items run.new }
     {
         if let Some(on) = run {
-            if let Some(entry) = on.entries.next() {
-                return self.climb(false, entry, on, key);
-            }
+            let entry = self.next_entry(above, on, key.as_slice())?;
+            return self.climb(false, entry, above, on, key);
         }
-        self.seek(false, run, key)
+        self.seek(false, above, run, key)
     }
 }

@@ -116,7 +116,8 @@ impl Look {
 
     // The entry of a key's last level that is met first.
     fn last_entry(self, level: &WordMap, piece: u64) -> Option<(u64, u64)>
-        ensures nearest { IsNearestEntry self.side self.itself level.now.map piece (piece_in result) }
+        ensures nearest { IsNearestEntry self.side self.itself level.now.map piece
+            (piece_in result) }
         ensures value { IsEntryOf level.now.map result }
     {
         if self.itself {
@@ -144,8 +145,12 @@ impl Arena {
     pub fn neighbour(&self, look: Look, key: &mut KeyBuf) -> Option<u64>
         requires is_arena { IsArena self.now }
         requires without_zero { All (λ byte. byte ≢ 0) key.old.items }
-        ensures key { key.new.items ≡ unwrap_or (neighbour_along look.side look.itself (map_of self.now) key.old.items) key.old.items }
-        ensures value { result ≡ value_found (map_of self.now) (neighbour_along look.side look.itself (map_of self.now) key.old.items) }
+        ensures key { key.new.items
+            ≡ unwrap_or (neighbour_along look.side look.itself (map_of self.now) key.old.items)
+            key.old.items }
+        ensures value { result
+            ≡ value_found (map_of self.now)
+            (neighbour_along look.side look.itself (map_of self.now) key.old.items) }
     {
         let turn = self.turn(look, key.as_slice())?;
         self.follow(look, turn, key)
@@ -295,8 +300,10 @@ impl JudySl {
     /// holds needn't be a key of the array. It asks for no memory. (Manual: JSLF, JudySLFirst.)
     pub fn first(&self, key: &mut KeyBuf) -> Option<u64>
         requires { All (λ byte. byte ≢ 0) key.old.items }
-        ensures key { key.new.items ≡ unwrap_or (neighbours.first self.now.map key.old.items) key.old.items }
-        ensures value { result ≡ value_found self.now.map (neighbours.first self.now.map key.old.items) }
+        ensures key { key.new.items
+            ≡ unwrap_or (neighbours.first self.now.map key.old.items) key.old.items }
+        ensures value { result
+            ≡ value_found self.now.map (neighbours.first self.now.map key.old.items) }
     {
         self.arena.neighbour(Look::inclusive(Side::Above), key)
     }
@@ -306,8 +313,10 @@ impl JudySl {
     /// array. It asks for no memory. (Manual: JSLN, JudySLNext.)
     pub fn next(&self, key: &mut KeyBuf) -> Option<u64>
         requires { All (λ byte. byte ≢ 0) key.old.items }
-        ensures key { key.new.items ≡ unwrap_or (neighbours.next self.now.map key.old.items) key.old.items }
-        ensures value { result ≡ value_found self.now.map (neighbours.next self.now.map key.old.items) }
+        ensures key { key.new.items
+            ≡ unwrap_or (neighbours.next self.now.map key.old.items) key.old.items }
+        ensures value { result
+            ≡ value_found self.now.map (neighbours.next self.now.map key.old.items) }
     {
         self.arena.neighbour(Look::exclusive(Side::Above), key)
     }
@@ -317,8 +326,10 @@ impl JudySl {
     /// what it holds needn't be a key of the array. It asks for no memory. (Manual: JSLL, JudySLLast.)
     pub fn last(&self, key: &mut KeyBuf) -> Option<u64>
         requires { All (λ byte. byte ≢ 0) key.old.items }
-        ensures key { key.new.items ≡ unwrap_or (neighbours.last self.now.map key.old.items) key.old.items }
-        ensures value { result ≡ value_found self.now.map (neighbours.last self.now.map key.old.items) }
+        ensures key { key.new.items
+            ≡ unwrap_or (neighbours.last self.now.map key.old.items) key.old.items }
+        ensures value { result
+            ≡ value_found self.now.map (neighbours.last self.now.map key.old.items) }
     {
         self.arena.neighbour(Look::inclusive(Side::Below), key)
     }
@@ -328,8 +339,10 @@ impl JudySl {
     /// array. It asks for no memory. (Manual: JSLP, JudySLPrev.)
     pub fn prev(&self, key: &mut KeyBuf) -> Option<u64>
         requires { All (λ byte. byte ≢ 0) key.old.items }
-        ensures key { key.new.items ≡ unwrap_or (neighbours.prev self.now.map key.old.items) key.old.items }
-        ensures value { result ≡ value_found self.now.map (neighbours.prev self.now.map key.old.items) }
+        ensures key { key.new.items
+            ≡ unwrap_or (neighbours.prev self.now.map key.old.items) key.old.items }
+        ensures value { result
+            ≡ value_found self.now.map (neighbours.prev self.now.map key.old.items) }
     {
         self.arena.neighbour(Look::exclusive(Side::Below), key)
     }

@@ -143,7 +143,8 @@ impl Arena {
         requires is_key { IsStringKey key.now }
         ensures answer { is_some result ≡ is_some (lookup (world_of self.old) 0 (pieces key.now)) }
         ensures shrunk { IsShrunk self.old self.new key.now }
-        ensures beside { IfSome result (λ beside. beside ≡ is_some (get self.new.root.map (piece_of key.now))) }
+        ensures beside { IfSome result
+            (λ beside. beside ≡ is_some (get self.new.root.map (piece_of key.now))) }
         ensures counted { IsSome result → AreCountedBut OneMore self.new key.now }
         ensures missed { result ≡ None → AreCounted self.new }
         ensures places { FreesPlaces self.old self.new }

@@ -74,8 +74,10 @@ impl JudySl {
     /// Each leaves the array as it was.
     pub fn ins(&mut self, key: &[u8]) -> Result<&mut u64, SlError>
         ensures* writes_back { sem 𝓛 (LendsIns self.entry key.now result) }
-        ensures value { IfOk result (λ slot. Some slot.now ≡ map.get (array.ins self.old.map key.now) key.now) }
-        ensures accepted { OnOk result (IsStringKey key.now × IsFalse (array.is_full self.old key.now)) }
+        ensures value { IfOk result
+            (λ slot. Some slot.now ≡ map.get (array.ins self.old.map key.now) key.now) }
+        ensures accepted { OnOk result
+            (IsStringKey key.now × IsFalse (array.is_full self.old key.now)) }
         ensures refused { IfErr result (IsRefusal self.old key.now) }
     {
         let tries = self.adds & (self.count != self.limit);

@@ -65,7 +65,8 @@ pub fn status(end: &End) -> u8
 pub fn write_line<W: Sink>(end: &End, sink: &mut W) -> Result<(), RunFault>
     requires { (W.tally sink.old).failures < 2 ^ 64 - 1 }
     ensures ok { OnOk result (W.taken sink.new ≡ grown (W.taken sink.old) (line_of end.now)) }
-    ensures err { OnErr result (GrewByFront (W.taken sink.old) (line_of end.now) (W.taken sink.new)) }
+    ensures err { OnErr result
+        (GrewByFront (W.taken sink.old) (line_of end.now) (W.taken sink.new)) }
     ensures fault { IfErr result (λ fault. fault ≡ Write) }
     ensures failures { let before = (W.tally sink.old).failures in
         (W.tally sink.new).failures ≡ (if is_ok result then before else before + 1) }
@@ -98,8 +99,10 @@ fn write_three<W: Sink>(
     tail: &[u8],
 ) -> Result<(), BrokenPipe>
     requires { (W.tally sink.old).failures < 2 ^ 64 - 1 }
-    ensures ok { OnOk result (W.taken sink.new ≡ grown (W.taken sink.old) (head.now ++ subject.now ++ tail.now)) }
-    ensures err { OnErr result (GrewByFront (W.taken sink.old) (head.now ++ subject.now ++ tail.now) (W.taken sink.new)) }
+    ensures ok { OnOk result
+        (W.taken sink.new ≡ grown (W.taken sink.old) (head.now ++ subject.now ++ tail.now)) }
+    ensures err { OnErr result
+        (GrewByFront (W.taken sink.old) (head.now ++ subject.now ++ tail.now) (W.taken sink.new)) }
     ensures failures { let before = (W.tally sink.old).failures in
         (W.tally sink.new).failures ≡ (if is_ok result then before else before + 1) }
 {

@@ -36,8 +36,10 @@ pub fn run_store<R: Source, W: Sink>(
         (λ fault. Since (R.given source.old) (R.given source.new) (λ bytes. Since (W.taken sink.old) (W.taken sink.new) (λ output.
         LeftBy (store_of shelf.old) max_bytes bytes (R.ended source.new ≡ told (R.ended source.old) true) output (store_of shelf.new) (fault_of fault))))
         result }
-    ensures handed_on { HandsOn (W.tally sink.old).failures result (W.kept sink.new) (W.tally sink.new).failures }
-    ensures read_failures { (R.tally source.new).failures ≡ (R.tally source.old).failures + read_failures result }
+    ensures handed_on { HandsOn (W.tally sink.old).failures result (W.kept sink.new)
+        (W.tally sink.new).failures }
+    ensures read_failures { (R.tally source.new).failures
+        ≡ (R.tally source.old).failures + read_failures result }
 {
     match run(source, shelf, sink, max_bytes) {
         Ok(()) => sink.flush().map_err(|_| RunFault::Write),
@@ -55,7 +57,9 @@ pub fn run_store<R: Source, W: Sink>(
 /// of `dump` and `dump2`; it is `Write` too where the dump was given and its last bytes couldn't be handed on.
 pub fn dump_store<W: Sink>(format: u64, shelf: &Shelf, sink: &mut W) -> Result<(), DumpFault>
     requires { (W.tally sink.old).failures < 2 ^ 64 - 1 }
-    ensures dumped { Dumped (version_of format) shelf.now (sunk (W.taken sink.old) (W.tally sink.old).failures) result (sunk (W.taken sink.new) (W.tally sink.new).failures) }
+    ensures dumped { Dumped (version_of format) shelf.now
+        (sunk (W.taken sink.old) (W.tally sink.old).failures) result
+        (sunk (W.taken sink.new) (W.tally sink.new).failures) }
     ensures handed_on { OnOk result (W.kept sink.new ≡ []) }
 {
     dump_format(format, shelf, sink)?;
@@ -68,7 +72,9 @@ pub fn dump_store<W: Sink>(format: u64, shelf: &Shelf, sink: &mut W) -> Result<(
 // Writes the dump of a shelf in the format of a number.
 fn dump_format<W: Sink>(format: u64, shelf: &Shelf, sink: &mut W) -> Result<(), DumpFault>
     requires { (W.tally sink.old).failures < 2 ^ 64 - 1 }
-    ensures { Dumped (version_of format) shelf.now (sunk (W.taken sink.old) (W.tally sink.old).failures) result (sunk (W.taken sink.new) (W.tally sink.new).failures) }
+    ensures { Dumped (version_of format) shelf.now
+        (sunk (W.taken sink.old) (W.tally sink.old).failures) result
+        (sunk (W.taken sink.new) (W.tally sink.new).failures) }
 {
     if format == 2 {
         dump2(shelf, sink)

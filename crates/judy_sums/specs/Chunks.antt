@@ -15,6 +15,16 @@ abbrev pub BeginsAbove : Pairs → ℕ → Type 0
 BeginsAbove [] word = Unit {0}
 BeginsAbove (pair ∷ rest) word = word < pair.0
 
+-- A word is the first of the pairs; without pairs any is.
+abbrev pub IsFirst : Pairs → ℕ → Type 0
+IsFirst [] word = Unit {0}
+IsFirst (pair ∷ rest) word = word ≡ pair.0
+
+-- What a chunk tells without a look at its pairs: their sum, and their first word.
+pub record TellsOf (pairs : Pairs) (total first : ℕ) : Type 0 where
+  pub sums : total ≡ sum_of pairs
+  pub begins : IsFirst pairs first
+
 -- Each word of the pairs is less than the given one.
 abbrev pub AllBelow : Pairs → ℕ → Type 0
 AllBelow [] word = Unit {0}

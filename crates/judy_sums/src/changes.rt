@@ -18,7 +18,8 @@ pub fn raise(chunks: &mut Vec<Chunk>, spot: Spot)
     requires place { spot.at < length (get_or chunks.old.items spot.chunk []) }
     requires fits { sum_of (joined chunks.old.items) + 1 < 2 ^ 64 }
     ensures are { AreChunks chunks.new.items }
-    ensures changed { let pair = pair_at chunks.old.items spot.chunk spot.at in joined chunks.new.items ≡ put word_order pair.0 (pair.1 + 1) (joined chunks.old.items) }
+    ensures changed { let pair = pair_at chunks.old.items spot.chunk spot.at in
+        joined chunks.new.items ≡ put word_order pair.0 (pair.1 + 1) (joined chunks.old.items) }
 {
     chunks[spot.chunk].raise(spot.at);
 }
@@ -30,7 +31,8 @@ pub fn lower(chunks: &mut Vec<Chunk>, spot: Spot)
     requires place { spot.at < length (get_or chunks.old.items spot.chunk []) }
     requires some { 1 ≤ (pair_at chunks.old.items spot.chunk spot.at).1 }
     ensures are { AreChunks chunks.new.items }
-    ensures changed { let pair = pair_at chunks.old.items spot.chunk spot.at in joined chunks.new.items ≡ put word_order pair.0 (pair.1 - 1) (joined chunks.old.items) }
+    ensures changed { let pair = pair_at chunks.old.items spot.chunk spot.at in
+        joined chunks.new.items ≡ put word_order pair.0 (pair.1 - 1) (joined chunks.old.items) }
 {
     chunks[spot.chunk].lower(spot.at);
 }
@@ -44,7 +46,8 @@ pub fn insert(chunks: &mut Vec<Chunk>, spot: Spot, entry: Entry) -> Result<(), A
     requires fits { sum_of (joined chunks.old.items) + entry.1 < 2 ^ 64 }
     ensures are { AreChunks chunks.new.items }
     ensures many { length chunks.new.items ≡ length chunks.old.items }
-    ensures inserted { OnOk result (joined chunks.new.items ≡ put word_order entry.0 entry.1 (joined chunks.old.items)) }
+    ensures inserted { OnOk result
+        (joined chunks.new.items ≡ put word_order entry.0 entry.1 (joined chunks.old.items)) }
     ensures unchanged { OnErr result (joined chunks.new.items ≡ joined chunks.old.items) }
 {
     match chunks[spot.chunk].insert(spot.at, entry) {
@@ -75,7 +78,8 @@ pub fn remove(chunks: &mut Vec<Chunk>, spot: Spot)
     requires chunk { spot.chunk < length chunks.old.items }
     requires place { spot.at < length (get_or chunks.old.items spot.chunk []) }
     ensures are { AreChunks chunks.new.items }
-    ensures removed { joined chunks.new.items ≡ without (pair_at chunks.old.items spot.chunk spot.at).0 (joined chunks.old.items) }
+    ensures removed { joined chunks.new.items
+        ≡ without (pair_at chunks.old.items spot.chunk spot.at).0 (joined chunks.old.items) }
 {
     let chunk = &mut chunks[spot.chunk];
     chunk.remove(spot.at);

@@ -3,7 +3,7 @@
 ghost use Rattle.std.specs.Prelude.{◌≡◌, ◌<◌, ◌≤◌, ◌+◌, ◌-◌, ◌/◌, ◌^◌, ◌∷◌, [], ℕ, length, take, drop, get_or, slice_set, IfOk, OnOk, OnErr, IsTrue, IsFalse};
 ghost use Rattle.std.specs.List.{insert, remove};
 ghost use Rattle.judy_sums.specs.Pairs.{sum_of, sum_below};
-ghost use Rattle.judy_sums.specs.Chunks.{BeginsBy, BeginsAbove, IsPlace, StandsIn, Ascends};
+ghost use Rattle.judy_sums.specs.Chunks.{BeginsBy, BeginsAbove, IsFirst, IsPlace, StandsIn, Ascends};
 
 use crate::entry::Entry;
 use std::alloc::{AllocError, Global};
@@ -19,6 +19,16 @@ fn sum(entries: &[Entry]) -> u64
         sum += entry.number();
     }
     sum
+}
+
+// The first word of entries, or any where there are none.
+fn first_word(entries: &[Entry]) -> u64
+    ensures { IsFirst entries.now result }
+{
+    match entries.first() {
+        Some(entry) => entry.word(),
+        None => 0,
+    }
 }
 
 // The place of a word among entries, or that it would have.
@@ -39,22 +49,24 @@ fn place(entries: &[Entry], word: u64) -> usize
     low
 }
 
-// The entries, with the sum of the numbers beside, so that to pass a chunk over takes no look at its entries.
+// The entries, with the sum of the numbers and the first word beside, so that a search over chunks and a sum of them take no
+// look at entries.
 #[derive(Drop)]
 pub struct Chunk {
     total: u64,
+    first: u64,
     entries: Vec<Entry>,
 }
 
 impl Model for Chunk {
-    ghost use Rattle.std.specs.Prelude.{◌≡◌};
-    ghost use Rattle.judy_sums.specs.Pairs.{Pairs, sum_of};
+    ghost use Rattle.judy_sums.specs.Pairs.{Pairs};
+    ghost use Rattle.judy_sums.specs.Chunks.{TellsOf};
 
     ghost Value = { Pairs };
 
     ghost view = { λ chunk. chunk.entries.items };
 
-    ghost invariant = { λ chunk. chunk.total ≡ sum_of chunk.entries.items };
+    ghost invariant = { λ chunk. TellsOf chunk.entries.items chunk.total chunk.first };
 }
 
 impl Chunk {
@@ -63,9 +75,14 @@ impl Chunk {
         ensures { IfOk result (λ chunk. chunk ≡ entry ∷ []) }
     {
         let total = entry.number();
+        let first = entry.word();
         let mut entries = Vec::new(alloc);
         entries.push(entry)?;
-        Ok(Chunk { total, entries })
+        Ok(Chunk {
+            total,
+            first,
+            entries,
+        })
     }
 
     // How many entries there are.
@@ -80,10 +97,7 @@ impl Chunk {
         ensures by { IsTrue result → BeginsBy self.now word }
         ensures above { IsFalse result → BeginsAbove self.now word }
     {
-        match self.entries.first() {
-            Some(first) => !first.is_above(word),
-            None => true,
-        }
+        self.first <= word
     }
 
     // The sum of the numbers.
@@ -133,7 +147,8 @@ impl Chunk {
     pub fn raise(&mut self, at: usize)
         requires within { at < length self.old }
         requires fits { sum_of self.old + 1 < 2 ^ 64 }
-        ensures { let pair = get_or self.old at (0, 0) in self.new ≡ slice_set self.old at (pair.0, pair.1 + 1) }
+        ensures { let pair = get_or self.old at (0, 0) in
+            self.new ≡ slice_set self.old at (pair.0, pair.1 + 1) }
     {
         self.entries[at].raise();
         self.total += 1;
@@ -143,7 +158,8 @@ impl Chunk {
     pub fn lower(&mut self, at: usize)
         requires within { at < length self.old }
         requires some { 1 ≤ (get_or self.old at (0, 0)).1 }
-        ensures { let pair = get_or self.old at (0, 0) in self.new ≡ slice_set self.old at (pair.0, pair.1 - 1) }
+        ensures { let pair = get_or self.old at (0, 0) in
+            self.new ≡ slice_set self.old at (pair.0, pair.1 - 1) }
     {
         self.entries[at].lower();
         self.total -= 1;
@@ -157,8 +173,12 @@ impl Chunk {
         ensures unchanged { OnErr result (self.new ≡ self.old) }
     {
         let number = entry.number();
+        let word = entry.word();
         self.entries.insert(at, entry)?;
         self.total += number;
+        if at == 0 {
+            self.first = word;
+        }
         Ok(())
     }
 
@@ -169,6 +189,9 @@ impl Chunk {
     {
         let entry = self.entries.remove(at);
         self.total -= entry.number();
+        if at == 0 {
+            self.first = first_word(&self.entries);
+        }
     }
 
     // Cuts the upper half off. The error is want of memory, and the chunk stays whole then.
@@ -182,6 +205,11 @@ impl Chunk {
         let entries = self.entries.split_off(half)?;
         let total = sum(&entries);
         self.total -= total;
-        Ok(Chunk { total, entries })
+        let first = first_word(&entries);
+        Ok(Chunk {
+            total,
+            first,
+            entries,
+        })
     }
 }

@@ -38,7 +38,8 @@ fn part_long(chunks: &mut Vec<Chunk>, at: usize)
 pub fn begin(chunks: &mut Vec<Chunk>, word: u64) -> Result<(), AllocError>
     requires { chunks.old.items ≡ [] }
     ensures are { AreChunks chunks.new.items }
-    ensures inserted { OnOk result (joined chunks.new.items ≡ put word_order word 1 (joined chunks.old.items)) }
+    ensures inserted { OnOk result
+        (joined chunks.new.items ≡ put word_order word 1 (joined chunks.old.items)) }
     ensures unchanged { OnErr result (joined chunks.new.items ≡ joined chunks.old.items) }
 {
     let alloc = *chunks.allocator();
@@ -55,7 +56,8 @@ pub fn bring_in(chunks: &mut Vec<Chunk>, word: u64, spot: Spot) -> Result<(), Al
     requires few { length (joined chunks.old.items) + 1 < 2 ^ 64 }
     requires fits { sum_of (joined chunks.old.items) + 1 < 2 ^ 64 }
     ensures are { AreChunks chunks.new.items }
-    ensures inserted { OnOk result (joined chunks.new.items ≡ put word_order word 1 (joined chunks.old.items)) }
+    ensures inserted { OnOk result
+        (joined chunks.new.items ≡ put word_order word 1 (joined chunks.old.items)) }
     ensures unchanged { OnErr result (joined chunks.new.items ≡ joined chunks.old.items) }
 {
     match insert(chunks, spot, Entry::new(word)) {

@@ -27,6 +27,13 @@ impl Entry {
         Entry { word, number: 1 }
     }
 
+    // Its word.
+    pub fn word(&self) -> u64
+        ensures { result ≡ self.now.0 }
+    {
+        self.word
+    }
+
     // Its number.
     pub fn number(&self) -> u64
         ensures { result ≡ self.now.1 }
@@ -39,13 +46,6 @@ impl Entry {
         ensures { result ≡ nat_lt self.now.0 word }
     {
         self.word < word
-    }
-
-    // Whether it is greater.
-    pub fn is_above(&self, word: u64) -> bool
-        ensures { result ≡ nat_lt word self.now.0 }
-    {
-        word < self.word
     }
 
     // Whether it is that one.

@@ -18,7 +18,8 @@ pub fn raise(chunks: &mut Vec<Chunk>, word: u64) -> Result<(), AllocError>
     requires few { length (joined chunks.old.items) + 1 < 2 ^ 64 }
     requires fits { sum_of (joined chunks.old.items) + 1 < 2 ^ 64 }
     ensures are { AreChunks chunks.new.items }
-    ensures raised { let old = joined chunks.old.items in OnOk result (joined chunks.new.items ≡ put word_order word (number_in old word + 1) old) }
+    ensures raised { let old = joined chunks.old.items in
+        OnOk result (joined chunks.new.items ≡ put word_order word (number_in old word + 1) old) }
     ensures unchanged { OnErr result (joined chunks.new.items ≡ joined chunks.old.items) }
 {
     if chunks.is_empty() {

@@ -2,66 +2,23 @@
 
 ghost use Rattle.std.specs.Prelude.{◌≤◌, ◌<◌};
 
+use crate::any_leaf::{check_near, check_pair, take};
 use crate::leaves::{End, value_of};
-use crate::plain::{
-    beside, check_nearest, check_word, note, same, same_len, same_number, write_first,
-};
+use crate::plain::{note, same, same_len, same_number, write_first};
 use judy_leaf::{BitLeafOf, BitRef, Width, Words};
 use std::alloc::{AllocError, Global};
 use std::process::Abort;
 use std::test::Fail;
 
 // Compares what a bitmap leaf answers with the plain list.
-fn check_bits<V: Words + Drop>(rt: &impl Abort, leaf: BitRef<'_, V>, plain: &[(u64, u64)]) {
-    same_len(rt, leaf.len(), plain);
-    for (at, &(key, value)) in plain.iter().enumerate() {
-        check_pair(rt, &leaf, at, key, value);
-        check_places(rt, &leaf, plain, key);
+fn check_bits<V: Words + Drop>(rt: &impl Abort, leaf: &BitLeafOf<V>, plain: &[(u64, u64)]) {
+    same_len(rt, leaf.reading().len(), plain);
+    for (at, &pair) in plain.iter().enumerate() {
+        check_pair(rt, leaf, plain, at, pair);
         if at % 16 == 0 {
-            check_near(rt, &leaf, plain, key.wrapping_add(1));
+            check_near(rt, leaf, plain, pair.0.wrapping_add(1));
         }
     }
-}
-
-// Compares the pair at a place.
-fn check_pair<V: Words + Drop>(
-    rt: &impl Abort,
-    leaf: &BitRef<'_, V>,
-    at: usize,
-    key: u64,
-    value: u64,
-) {
-    assert!(rt; at < leaf.len());
-    same(rt, leaf.key_at(at), key, key);
-    same(rt, leaf.value_at(at), value, key);
-}
-
-// Compares the ranks and places of a key and of the words beside it.
-fn check_places<V: Words + Drop>(
-    rt: &impl Abort,
-    leaf: &BitRef<'_, V>,
-    plain: &[(u64, u64)],
-    key: u64,
-) {
-    for word in beside(key) {
-        check_word(rt, word, plain, leaf.rank(word), leaf.find(word));
-    }
-}
-
-// Compares what is nearest to a word.
-fn check_near<V: Words + Drop>(
-    rt: &impl Abort,
-    leaf: &BitRef<'_, V>,
-    plain: &[(u64, u64)],
-    word: u64,
-) {
-    check_nearest(
-        rt,
-        word,
-        plain,
-        leaf.at_or_after(word),
-        leaf.at_or_before(word),
-    );
 }
 
 // Puts an absent key in, with its value: at once or through the slot.
@@ -109,7 +66,7 @@ fn filled<V: Words + Drop>(
         put(rt, alloc, &mut leaf, key, step % 2 == 0)?;
         note(rt, plain, key, value_of::<V>(key))?;
         if step % 32 == 31 {
-            check_bits(rt, leaf.reading(), plain);
+            check_bits(rt, &leaf, plain);
         }
     }
     check_full(rt, leaf.reading());
@@ -118,7 +75,7 @@ fn filled<V: Words + Drop>(
 
 // Compares what a leaf of all 256 keys answers of its width and of bytes that are no keys.
 fn check_full<V: Words + Drop>(rt: &impl Abort, leaf: BitRef<'_, V>) {
-    assert!(rt; leaf.width() == 3);
+    same(rt, u64::from(leaf.width()), 3, 0);
     same_number(rt, leaf.absent_at_or_after(0), None, 0);
     same_number(rt, leaf.absent_at_or_before(u64::MAX), None, u64::MAX);
 }
@@ -134,21 +91,9 @@ fn check_emptying<V: Words + Drop>(
     for step in 0..256 {
         take(rt, &mut leaf, plain, end.place(plain.len()));
         if step % 32 == 31 {
-            check_bits(rt, leaf.reading(), plain);
+            check_bits(rt, &leaf, plain);
         }
     }
-}
-
-// Takes out the key at a place.
-fn take<V: Words + Drop>(
-    rt: &impl Abort,
-    leaf: &mut BitLeafOf<V>,
-    plain: &mut Vec<(u64, u64)>,
-    at: usize,
-) {
-    assert!(rt; at < plain.len() && at < leaf.reading().len());
-    plain.remove(at);
-    leaf.remove(at);
 }
 
 // Bitmap leaves in ascending, descending and mixed order, emptied from each end and from the middle.
@@ -203,10 +148,9 @@ fn gaps_at_word_borders(rt: HostRuntime) -> Result<(), Fail> {
         (0x12c0, 15),
     ];
     let leaf = BitLeafOf::<Width<1>>::from_sorted(rt.alloc(), 2, &pairs)?;
-    let leaf = leaf.reading();
     check_bits(
         &rt,
-        leaf,
+        &leaf,
         &[
             (63, 10),
             (64, 11),

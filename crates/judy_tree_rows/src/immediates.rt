@@ -2,10 +2,9 @@
 
 ghost use Rattle.std.specs.Prelude.{◌≤◌, ◌<◌, ◌^◌};
 
-use crate::leaves::{End, Order, check_leaf, top_of, value_of};
-use crate::plain::{
-    beside, check_absent, check_nearest, check_word, note, same, same_answer, same_len, write_first,
-};
+use crate::any_leaf::{check_near, check_pair, check_place, take};
+use crate::leaves::{Order, check_leaf, top_of, value_of};
+use crate::plain::{beside, check_absent, note, same_answer, same_len, write_first};
 use judy_leaf::{ImmOf, Words};
 use std::alloc::{AllocError, Global};
 use std::process::Abort;
@@ -25,19 +24,12 @@ pub(crate) fn room_of<V: Words + Drop>(width: u8) -> usize
 fn check_imm<V: Words + Drop>(rt: &impl Abort, imm: &ImmOf<V>, plain: &[(u64, u64)], room: usize) {
     same_len(rt, imm.len(), plain);
     same_answer(rt, imm.is_full(), plain.len() == room);
-    for (at, &(key, value)) in plain.iter().enumerate() {
-        check_pair(rt, imm, at, key, value);
-        check_imm_beside(rt, imm, plain, key);
+    for (at, &pair) in plain.iter().enumerate() {
+        check_pair(rt, imm, plain, at, pair);
+        check_imm_beside(rt, imm, plain, pair.0);
     }
     check_imm_at(rt, imm, plain, 0);
     check_imm_at(rt, imm, plain, u64::MAX);
-}
-
-// Compares the pair at a place.
-fn check_pair<V: Words + Drop>(rt: &impl Abort, imm: &ImmOf<V>, at: usize, key: u64, value: u64) {
-    assert!(rt; at < imm.len());
-    same(rt, imm.key_at(at), key, key);
-    same(rt, imm.value_at(at), value, key);
 }
 
 // Compares what an immediate answers of a key and of the words beside it.
@@ -48,25 +40,28 @@ fn check_imm_beside<V: Words + Drop>(
     key: u64,
 ) {
     for word in beside(key) {
-        check_imm_at(rt, imm, plain, word);
+        check_imm_nearest(rt, imm, plain, word);
     }
 }
 
 // Compares what an immediate answers of a word.
 fn check_imm_at<V: Words + Drop>(rt: &impl Abort, imm: &ImmOf<V>, plain: &[(u64, u64)], word: u64) {
-    check_word(rt, word, plain, imm.rank(word), imm.find(word));
-    check_nearest(
-        rt,
-        word,
-        plain,
-        imm.at_or_after(word),
-        imm.at_or_before(word),
-    );
-    let top = top_of(imm.width());
+    check_place(rt, imm, plain, word);
+    check_imm_nearest(rt, imm, plain, word);
+}
+
+// Compares what an immediate answers of what is nearest to a word.
+fn check_imm_nearest<V: Words + Drop>(
+    rt: &impl Abort,
+    imm: &ImmOf<V>,
+    plain: &[(u64, u64)],
+    word: u64,
+) {
+    check_near(rt, imm, plain, word);
     check_absent(
         rt,
         word,
-        top,
+        top_of(imm.width()),
         plain,
         imm.absent_at_or_after(word),
         imm.absent_at_or_before(word),
@@ -137,7 +132,8 @@ pub(crate) fn check_immediate<V: Words + Drop>(
     let mut imm = through_leaf(rt, alloc, &imm, &plain)?;
     check_imm(rt, &imm, &plain, room);
     for _ in 0..room {
-        take(rt, &mut imm, &mut plain, order.end);
+        let at = order.end.place(plain.len());
+        take(rt, &mut imm, &mut plain, at);
         check_imm(rt, &imm, &plain, room);
     }
     Ok(())
@@ -159,19 +155,6 @@ fn through_leaf<V: Words + Drop>(
 ) -> Result<ImmOf<V>, AllocError> {
     assert!(rt; imm.is_full());
     let leaf = imm.to_leaf(alloc)?;
-    check_leaf(rt, leaf.reading(), plain);
+    check_leaf(rt, &leaf, plain);
     Ok(leaf.reading().to_immediate())
-}
-
-// Takes out a key.
-fn take<V: Words + Drop>(
-    rt: &impl Abort,
-    imm: &mut ImmOf<V>,
-    plain: &mut Vec<(u64, u64)>,
-    end: End,
-) {
-    let at = end.place(plain.len());
-    assert!(rt; at < plain.len() && at < imm.len());
-    plain.remove(at);
-    imm.remove(at);
 }

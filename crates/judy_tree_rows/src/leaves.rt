@@ -4,11 +4,10 @@ ghost use Rattle.std.specs.Prelude.{◌≡◌, ◌<◌, ◌≤◌, ◌^◌, leng
 ghost use Rattle.std.specs.List.{AllByRecursion};
 ghost use Rattle.judy_leaf.specs.KeyLists.{low_pairs, IsKeyList};
 
+use crate::any_leaf::{check_near, check_pair, check_place, take};
 use crate::immediates::check_immediate;
-use crate::plain::{
-    beside, check_absent, check_nearest, check_word, note, same, same_answer, same_len, write_first,
-};
-use judy_leaf::{LeafOf, LeafRef, Width, Words};
+use crate::plain::{beside, check_absent, note, same_answer, same_len, write_first};
+use judy_leaf::{LeafOf, Width, Words};
 use std::alloc::{AllocError, Global};
 use std::process::Abort;
 use std::test::Fail;
@@ -110,87 +109,41 @@ fn write<V: Words + Drop>(rt: &impl Abort, leaf: &mut LeafOf<V>, key: u64, value
 }
 
 // Compares what a leaf answers with the plain list.
-pub(crate) fn check_leaf<V: Words + Drop>(
-    rt: &impl Abort,
-    leaf: LeafRef<'_, V>,
-    plain: &[(u64, u64)],
-) {
-    same_len(rt, leaf.len(), plain);
-    same_answer(rt, leaf.is_full(), plain.len() == 32);
-    for (at, &(key, value)) in plain.iter().enumerate() {
-        check_pair(rt, &leaf, at, key, value);
-        check_places(rt, &leaf, plain, key);
+pub(crate) fn check_leaf<V: Words + Drop>(rt: &impl Abort, leaf: &LeafOf<V>, plain: &[(u64, u64)]) {
+    same_len(rt, leaf.reading().len(), plain);
+    same_answer(rt, leaf.reading().is_full(), plain.len() == 32);
+    for (at, &pair) in plain.iter().enumerate() {
+        check_pair(rt, leaf, plain, at, pair);
     }
-    check_place(rt, &leaf, plain, 0);
-    check_place(rt, &leaf, plain, u64::MAX);
-}
-
-// Compares the pair at a place.
-fn check_pair<V: Words + Drop>(
-    rt: &impl Abort,
-    leaf: &LeafRef<'_, V>,
-    at: usize,
-    key: u64,
-    value: u64,
-) {
-    assert!(rt; at < leaf.len());
-    same(rt, leaf.key_at(at), key, key);
-    same(rt, leaf.value_at(at), value, key);
-}
-
-// Compares the ranks and places of a key and of the words beside it.
-fn check_places<V: Words + Drop>(
-    rt: &impl Abort,
-    leaf: &LeafRef<'_, V>,
-    plain: &[(u64, u64)],
-    key: u64,
-) {
-    for word in beside(key) {
-        check_place(rt, leaf, plain, word);
-    }
-}
-
-// Compares the rank and the place of a word.
-fn check_place<V: Words + Drop>(
-    rt: &impl Abort,
-    leaf: &LeafRef<'_, V>,
-    plain: &[(u64, u64)],
-    word: u64,
-) {
-    check_word(rt, word, plain, leaf.rank(word), leaf.find(word));
+    check_place(rt, leaf, plain, 0);
+    check_place(rt, leaf, plain, u64::MAX);
 }
 
 // Compares what a leaf answers of what is nearest.
-fn check_neighbours<V: Words + Drop>(rt: &impl Abort, leaf: LeafRef<'_, V>, plain: &[(u64, u64)]) {
+fn check_neighbours<V: Words + Drop>(rt: &impl Abort, leaf: &LeafOf<V>, plain: &[(u64, u64)]) {
     for &(key, _) in plain {
         for word in beside(key) {
-            check_leaf_at(rt, &leaf, plain, word);
+            check_leaf_at(rt, leaf, plain, word);
         }
     }
     for word in [0, u64::MAX] {
-        check_leaf_at(rt, &leaf, plain, word);
+        check_leaf_at(rt, leaf, plain, word);
     }
 }
 
 // The same of one word.
 fn check_leaf_at<V: Words + Drop>(
     rt: &impl Abort,
-    leaf: &LeafRef<'_, V>,
+    leaf: &LeafOf<V>,
     plain: &[(u64, u64)],
     word: u64,
 ) {
-    check_nearest(
-        rt,
-        word,
-        plain,
-        leaf.at_or_after(word),
-        leaf.at_or_before(word),
-    );
-    let top = top_of(leaf.width());
+    check_near(rt, leaf, plain, word);
+    let leaf = leaf.reading();
     check_absent(
         rt,
         word,
-        top,
+        top_of(leaf.width()),
         plain,
         leaf.absent_at_or_after(word),
         leaf.absent_at_or_before(word),
@@ -212,16 +165,16 @@ fn filled<V: Words + Drop>(
     requires top { top < 256 ^ width }
 {
     let mut leaf = LeafOf::<V>::from_sorted(alloc, width, &[])?;
-    check_leaf(rt, leaf.reading(), plain);
+    check_leaf(rt, &leaf, plain);
     for step in 0..32u64 {
         let key = order.key(step, top);
         assert!(rt; leaf.reading().width() == width);
         put(rt, alloc, &mut leaf, key, step % 2 == 0)?;
         note(rt, plain, key, value_of::<V>(key))?;
-        check_leaf(rt, leaf.reading(), plain);
+        check_leaf(rt, &leaf, plain);
     }
     assert!(rt; leaf.reading().is_full());
-    check_neighbours(rt, leaf.reading(), plain);
+    check_neighbours(rt, &leaf, plain);
     Ok(leaf)
 }
 
@@ -236,23 +189,11 @@ fn check_emptying<V: Words + Drop>(
     let mut leaf = LeafOf::<V>::of_parts(count, block);
     for _ in 0..32 {
         take(rt, &mut leaf, plain, end.place(plain.len()));
-        check_leaf(rt, leaf.reading(), plain);
+        check_leaf(rt, &leaf, plain);
         if plain.len() % 8 == 0 {
-            check_neighbours(rt, leaf.reading(), plain);
+            check_neighbours(rt, &leaf, plain);
         }
     }
-}
-
-// Takes out the key at a place.
-fn take<V: Words + Drop>(
-    rt: &impl Abort,
-    leaf: &mut LeafOf<V>,
-    plain: &mut Vec<(u64, u64)>,
-    at: usize,
-) {
-    assert!(rt; at < plain.len() && at < leaf.reading().len());
-    plain.remove(at);
-    leaf.remove(at);
 }
 
 // Leaves and immediates of a width in ascending, descending and mixed order, emptied from each end and from the middle.
@@ -313,13 +254,14 @@ fn check_sorted<V: Words + Drop>(
     pairs: &[(u64, u64)],
 ) -> Result<(), AllocError>
     requires words { V.WORDS ≤ 1 }
-    requires list { IsKeyList (record { width = width; pairs = low_pairs (256 ^ width) pairs.now }) }
+    requires list { IsKeyList
+        (record { width = width; pairs = low_pairs (256 ^ width) pairs.now }) }
     requires few { length pairs.now ≤ 32 }
     requires no_values { V.WORDS ≡ 0 → AllByRecursion (λ pair. pair.1 ≡ 0) pairs.now }
 {
     let leaf = LeafOf::<V>::from_sorted(alloc, width, pairs)?;
     assert_eq!(rt; leaf.reading().width(), width);
-    check_leaf(rt, leaf.reading(), pairs);
+    check_leaf(rt, &leaf, pairs);
     Ok(())
 }
 

@@ -5,6 +5,8 @@
 #![tactic(auto)]
 
 #[cfg(test)]
+mod any_leaf;
+#[cfg(test)]
 mod array_shapes;
 #[cfg(test)]
 mod bit_leaves;

@@ -18,9 +18,35 @@ fn check_rows(
     let wanted: Vec<Option<u64>> = rows.iter().map(|row| row.1).collect(alloc)?;
     let mut values: Vec<Option<u64>> = rows.iter().map(|_| Some(1)).collect(alloc)?;
     pairs.get_many(&keys, &mut values);
-    assert_eq!(rt; values, wanted);
+    same_values(rt, &values, &wanted);
     Ok(())
 }
+
+// Compares the values that are found with those wanted.
+fn same_values(rt: &impl Abort, found: &[Option<u64>], wanted: &[Option<u64>]) {
+    assert_eq!(rt; found, wanted);
+}
+
+// One key more than a group has.
+const MORE_THAN_A_GROUP: [Row; 17] = [
+    (6, Some(0)),
+    (3, None),
+    (5, Some(50)),
+    (u64::MAX, Some(9)),
+    (1 << 40, Some(7)),
+    (7, None),
+    (0, None),
+    (5, Some(50)),
+    (5, Some(50)),
+    (6, Some(0)),
+    (1 << 41, None),
+    (1 << 63, None),
+    (4, None),
+    (u64::MAX, Some(9)),
+    (18446744073709551614, None),
+    (6, Some(0)),
+    (1 << 40, Some(7)),
+];
 
 #[test]
 fn values_of_many_keys(rt: HostRuntime) -> Result<(), AllocError> {
@@ -35,31 +61,7 @@ fn values_of_many_keys(rt: HostRuntime) -> Result<(), AllocError> {
     check_rows(&rt, rt.alloc(), &pairs, &[(4, None)])?;
     // A value that is 0, beside a key that is absent.
     check_rows(&rt, rt.alloc(), &pairs, &[(6, Some(0)), (7, None)])?;
-    // One key more than a group has.
-    check_rows(
-        &rt,
-        rt.alloc(),
-        &pairs,
-        &[
-            (6, Some(0)),
-            (3, None),
-            (5, Some(50)),
-            (u64::MAX, Some(9)),
-            (1 << 40, Some(7)),
-            (7, None),
-            (0, None),
-            (5, Some(50)),
-            (5, Some(50)),
-            (6, Some(0)),
-            (1 << 41, None),
-            (1 << 63, None),
-            (4, None),
-            (u64::MAX, Some(9)),
-            (18446744073709551614, None),
-            (6, Some(0)),
-            (1 << 40, Some(7)),
-        ],
-    )?;
+    check_rows(&rt, rt.alloc(), &pairs, &MORE_THAN_A_GROUP)?;
     Ok(())
 }
 
@@ -74,9 +76,35 @@ fn check_set(
     let wanted: Vec<bool> = rows.iter().map(|row| row.1).collect(alloc)?;
     let mut there: Vec<bool> = rows.iter().map(|row| !row.1).collect(alloc)?;
     words.test_many(&keys, &mut there);
-    assert_eq!(rt; there, wanted);
+    same_answers(rt, &there, &wanted);
     Ok(())
 }
+
+// Compares the answers that are found with those wanted.
+fn same_answers(rt: &impl Abort, found: &[bool], wanted: &[bool]) {
+    assert_eq!(rt; found, wanted);
+}
+
+// The same of a set.
+const THERE_OR_NOT: [(u64, bool); 17] = [
+    (6, true),
+    (3, false),
+    (5, true),
+    (u64::MAX, true),
+    (1 << 40, true),
+    (7, false),
+    (0, true),
+    (5, true),
+    (5, true),
+    (1, false),
+    (1 << 41, false),
+    (1 << 63, false),
+    (4, false),
+    (u64::MAX, true),
+    (18446744073709551614, false),
+    (6, true),
+    (1 << 40, true),
+];
 
 #[test]
 fn whether_many_keys_are_there(rt: HostRuntime) -> Result<(), AllocError> {
@@ -85,30 +113,6 @@ fn whether_many_keys_are_there(rt: HostRuntime) -> Result<(), AllocError> {
     check_set(&rt, rt.alloc(), &words, &[])?;
     check_set(&rt, rt.alloc(), &words, &[(5, true)])?;
     check_set(&rt, rt.alloc(), &words, &[(4, false), (0, true)])?;
-    // One key more than a group has.
-    check_set(
-        &rt,
-        rt.alloc(),
-        &words,
-        &[
-            (6, true),
-            (3, false),
-            (5, true),
-            (u64::MAX, true),
-            (1 << 40, true),
-            (7, false),
-            (0, true),
-            (5, true),
-            (5, true),
-            (1, false),
-            (1 << 41, false),
-            (1 << 63, false),
-            (4, false),
-            (u64::MAX, true),
-            (18446744073709551614, false),
-            (6, true),
-            (1 << 40, true),
-        ],
-    )?;
+    check_set(&rt, rt.alloc(), &words, &THERE_OR_NOT)?;
     Ok(())
 }

@@ -83,6 +83,11 @@ fn add(total: &mut Counts, counts: Counts) {
     }
 }
 
+// There were nodes of each kind.
+fn all_kinds(rt: &impl Abort, total: &Counts) {
+    assert!(rt; total.iter().all(|count| *count > 0));
+}
+
 // Compares the tree of keys drawn with the rule, and asks it.
 fn check_drawn<V: Words + Drop>(
     rt: &impl Abort,
@@ -127,7 +132,7 @@ fn check_all_queries<V: Words + Drop>(rt: &impl Abort, alloc: Global) -> Result<
         let tree = tree_of::<V>(rt, alloc, &pairs)?;
         check_queries(rt, &tree, &pairs);
     }
-    assert!(rt; total.iter().all(|count| *count > 0));
+    all_kinds(rt, &total);
     Ok(())
 }
 
@@ -174,7 +179,7 @@ fn check_widths<V: Words + Drop>(rt: &impl Abort, alloc: Global) -> Result<(), A
     for width in 1..=8u8 {
         check_width::<V>(rt, alloc, &mut numbers, &mut total, top_of(width))?;
     }
-    assert!(rt; total.iter().all(|count| *count > 0));
+    all_kinds(rt, &total);
     Ok(())
 }
 

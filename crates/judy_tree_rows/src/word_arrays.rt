@@ -17,7 +17,9 @@ use std::test::Fail;
 
 // Inserts a key and writes its value.
 fn put(array_l: &mut JudyL, key: u64, value: u64) -> Result<(), InsertError>
-    ensures ok { OnOk result (array_of array_l.new ≡ array.with_map (array_of array_l.old) (array.write array_l.old.map key value)) }
+    ensures ok { OnOk result
+        (array_of array_l.new
+        ≡ array.with_map (array_of array_l.old) (array.write array_l.old.map key value)) }
     ensures err { OnErr result (array_l.new ≡ array_l.old) }
 {
     *array_l.ins(key)? = value;
@@ -75,7 +77,8 @@ fn shape_of_copy(pairs: &JudyL) -> Result<Shape, AllocError>
 
 // Takes a key out, and answers whether that made the array loose: only where 33 keys stood together.
 fn loosened(array_l: &mut JudyL, key: u64) -> bool
-    ensures deleted { array_of array_l.new ≡ array.with_map (array_of array_l.old) (array.del array_l.old.map key) }
+    ensures deleted { array_of array_l.new
+        ≡ array.with_map (array_of array_l.old) (array.del array_l.old.map key) }
     ensures loosened { IsTrue result → Has33 8 (map.entries array_l.old.map) key }
 {
     let loose = array_l.is_loose();

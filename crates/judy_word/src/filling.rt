@@ -101,7 +101,8 @@ impl<V: Words + Drop> Filling<V> {
     pub fn put(&mut self, key: u64, value: u64) -> Result<(), InsertError>
         requires one { V.WORDS ≤ 1 }
         requires no_value { V.WORDS ≡ 0 → value ≡ 0 }
-        ensures { OnOk result (self.new ≡ array.with_map self.old (with_new self.old.map key value)) }
+        ensures { OnOk result
+            (self.new ≡ array.with_map self.old (with_new self.old.map key value)) }
     {
         if !self.has_room() {
             return Err(InsertError::NoMemory);
@@ -130,7 +131,8 @@ impl<V: Words + Drop> Filling<V> {
     // Keeps a key with its value, where it is above those that are kept and there is room for it. Whether it did.
     fn keep(&mut self, key: u64, value: u64) -> bool
         requires no_value { V.WORDS ≡ 0 → value ≡ 0 }
-        ensures kept { IsTrue result → self.new ≡ array.with_map self.old (with_new self.old.map key value) }
+        ensures kept { IsTrue result
+            → self.new ≡ array.with_map self.old (with_new self.old.map key value) }
         ensures same { IsFalse result → self.new ≡ self.old }
     {
         push_above::<V>(&mut self.kept, key, value)

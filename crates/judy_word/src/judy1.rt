@@ -71,7 +71,8 @@ impl Judy1 {
     /// own). `NoMemory` only where it is absent and the set isn't full, and never where it is empty. Either leaves the set as it was.
     pub fn set(&mut self, i: u64) -> Result<bool, InsertError>
         ensures answer { IfOk result (λ added. added ≡ not (map.contains_key self.old.map i)) }
-        ensures set { OnOk result (array_of self.new ≡ array.with_map (array_of self.old) (array.ins self.old.map i)) }
+        ensures set { OnOk result
+            (array_of self.new ≡ array.with_map (array_of self.old) (array.ins self.old.map i)) }
         ensures accepted { OnOk result (IsFalse (array.is_full (array_of self.old) i)) }
         ensures refused { IfErr result (IsRefusal (array_of self.old) i) }
         ensures unchanged { OnErr result (self.new ≡ self.old) }
@@ -86,10 +87,12 @@ impl Judy1 {
     /// one stays. (Manual: J1U, Judy1Unset.)
     pub fn unset(&mut self, i: u64) -> bool
         ensures answer { result ≡ map.contains_key self.old.map i }
-        ensures unset { array_of self.new ≡ array.with_map (array_of self.old) (array.del self.old.map i) }
+        ensures unset { array_of self.new
+            ≡ array.with_map (array_of self.old) (array.del self.old.map i) }
         ensures absent { result ≡ false → self.new ≡ self.old }
         ensures loose { self.old.loose ≡ true → self.new.loose ≡ true }
-        ensures loosened { self.old.loose ≡ false → self.new.loose ≡ true → Has33 8 (map.entries self.old.map) i }
+        ensures loosened { self.old.loose ≡ false → self.new.loose ≡ true
+            → Has33 8 (map.entries self.old.map) i }
     {
         self.tree.told();
         self.tree.remove(i)
@@ -276,7 +279,8 @@ impl Judy1 {
     /// How many nodes of each kind there are, counted in the tree of `root`: where the set isn't loose, as many as the rule gives its keys.
     pub fn shape(&self) -> Shape
         ensures nodes { shape_as result ≡ shape_in self.now.form }
-        ensures rule { self.now.loose ≡ false → shape_as result ≡ shape_of 0 (map.keys self.now.map) }
+        ensures rule { self.now.loose ≡ false
+            → shape_as result ≡ shape_of 0 (map.keys self.now.map) }
     {
         self.tree.shape()
     }

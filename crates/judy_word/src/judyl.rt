@@ -1,5 +1,5 @@
 // The array that maps words to words.
-ghost use Rattle.std.specs.Prelude.{◌≡◌, ◌≤◌, ◌↔◌, Some, None, not, true, false, IfOk, IsOk, IfSome, OnOk, OnErr, IfErr, IsTrue, IsFalse, length, map as mapped, unwrap_or, option_and_then};
+ghost use Rattle.std.specs.Prelude.{◌≡◌, ◌≤◌, ◌↔◌, Some, None, not, true, false, IfOk, IsOk, IfSome, OnOk, OnErr, IfErr, IsTrue, IsFalse, length, map as mapped};
 ghost use Rattle.std.specs.Borrow.{sem};
 ghost use Rattle.std.specs.FinMap as map;
 ghost use Rattle.std.specs.Option.{option_copied_mut, option_map};
@@ -17,6 +17,8 @@ ghost use Rattle.judy_word.specs.Held.{with_new};
 ghost use Rattle.judy_word.specs.WordArrays.{array_of, no_keys, seen_as, with_value};
 ghost use Rattle.judy_word.specs.Refusals.{IsRefusal};
 ghost use Rattle.judy_word.specs.Slots.{LendsSlot, LendsSlotOf, LendsIns};
+
+mod nearest_slots;
 
 use crate::error::InsertError;
 use crate::tree_array::TreeArray;
@@ -91,8 +93,11 @@ impl JudyL {
     /// `Full` and `NoMemory` as `ins`. Either leaves the array as it was.
     pub fn insert(&mut self, i: u64, value: u64) -> Result<Option<u64>, InsertError>
         ensures answer { IfOk result (λ was. was ≡ map.get self.old.map i) }
-        ensures put { OnOk result (array_of self.new ≡ array.with_map (array_of self.old) (array.write self.old.map i value)) }
-        ensures present { IfOk result (λ was. IfSome was (λ _. self.new ≡ with_value self.old i value)) }
+        ensures put { OnOk result
+            (array_of self.new ≡ array.with_map (array_of self.old)
+            (array.write self.old.map i value)) }
+        ensures present { IfOk result
+            (λ was. IfSome was (λ _. self.new ≡ with_value self.old i value)) }
         ensures accepted { OnOk result (IsFalse (array.is_full (array_of self.old) i)) }
         ensures refused { IfErr result (IsRefusal (array_of self.old) i) }
         ensures unchanged { OnErr result (self.new ≡ self.old) }
@@ -109,11 +114,14 @@ impl JudyL {
     /// `Full` and `NoMemory` as `ins`. Either leaves the array as it was.
     pub fn put(&mut self, i: u64, value: u64) -> Result<bool, InsertError>
         ensures answer { IfOk result (λ added. added ≡ not (map.contains_key self.old.map i)) }
-        ensures put { OnOk result (array_of self.new ≡ array.with_map (array_of self.old) (array.write self.old.map i value)) }
+        ensures put { OnOk result
+            (array_of self.new ≡ array.with_map (array_of self.old)
+            (array.write self.old.map i value)) }
         ensures accepted { OnOk result (IsFalse (array.is_full (array_of self.old) i)) }
         ensures refused { IfErr result (IsRefusal (array_of self.old) i) }
         ensures unchanged { OnErr result (self.new ≡ self.old) }
-        ensures present { IfOk result (λ added. added ≡ false → self.new ≡ with_value self.old i value) }
+        ensures present { IfOk result
+            (λ added. added ≡ false → self.new ≡ with_value self.old i value) }
         ensures loose { self.new.loose ≡ self.old.loose }
         ensures empty { self.old.map ≡ map.empty → IsOk result }
     {
@@ -127,7 +135,8 @@ impl JudyL {
     /// `Full` and `NoMemory` as `ins`. Either leaves the array as it was.
     pub fn put_if_absent(&mut self, i: u64, value: u64) -> Result<bool, InsertError>
         ensures answer { IfOk result (λ added. added ≡ not (map.contains_key self.old.map i)) }
-        ensures put { OnOk result (array_of self.new ≡ array.with_map (array_of self.old) (with_new self.old.map i value)) }
+        ensures put { OnOk result
+            (array_of self.new ≡ array.with_map (array_of self.old) (with_new self.old.map i value)) }
         ensures accepted { OnOk result (IsFalse (array.is_full (array_of self.old) i)) }
         ensures refused { IfErr result (IsRefusal (array_of self.old) i) }
         ensures unchanged { OnErr result (self.new ≡ self.old) }
@@ -179,10 +188,12 @@ impl JudyL {
     /// removal that tells the old value.)
     pub fn remove(&mut self, i: u64) -> Option<u64>
         ensures answer { result ≡ map.get self.old.map i }
-        ensures removed { array_of self.new ≡ array.with_map (array_of self.old) (array.del self.old.map i) }
+        ensures removed { array_of self.new
+            ≡ array.with_map (array_of self.old) (array.del self.old.map i) }
         ensures absent { result ≡ None → self.new ≡ self.old }
         ensures loose { self.old.loose ≡ true → self.new.loose ≡ true }
-        ensures loosened { self.old.loose ≡ false → self.new.loose ≡ true → Has33 8 (map.entries self.old.map) i }
+        ensures loosened { self.old.loose ≡ false → self.new.loose ≡ true
+            → Has33 8 (map.entries self.old.map) i }
     {
         self.tree.told();
         self.tree.take(i)
@@ -192,10 +203,12 @@ impl JudyL {
     /// node is refused, the larger one stays. (Manual: JLD, JudyLDel.)
     pub fn del(&mut self, i: u64) -> bool
         ensures answer { result ≡ map.contains_key self.old.map i }
-        ensures deleted { array_of self.new ≡ array.with_map (array_of self.old) (array.del self.old.map i) }
+        ensures deleted { array_of self.new
+            ≡ array.with_map (array_of self.old) (array.del self.old.map i) }
         ensures absent { result ≡ false → self.new ≡ self.old }
         ensures loose { self.old.loose ≡ true → self.new.loose ≡ true }
-        ensures loosened { self.old.loose ≡ false → self.new.loose ≡ true → Has33 8 (map.entries self.old.map) i }
+        ensures loosened { self.old.loose ≡ false → self.new.loose ≡ true
+            → Has33 8 (map.entries self.old.map) i }
     {
         self.remove(i).is_some()
     }
@@ -371,61 +384,6 @@ impl JudyL {
         self.tree.by_count_entry(n)
     }
 
-    /// The slot of the least key from `i` on; `key` becomes that key. `None` where no key is left, and then `key` stays. What the caller leaves in
-    /// the slot is then that key's value. (Manual: JLF, JudyLFirst, which gives both.)
-    pub fn first_slot(&mut self, i: u64, key: &mut u64) -> Option<&mut u64>
-        ensures* writes_back { sem 𝓛 (LendsSlot self.entry key.new result) }
-        ensures key { key.new ≡ unwrap_or (neighbours.first self.old.map i) key.old }
-        ensures value { option_copied_mut result ≡ option_and_then (map.get self.old.map) (neighbours.first self.old.map i) }
-    {
-        self.tree.told();
-        self.tree.first_slot(i, key)
-    }
-
-    /// The slot of the least key above `i`; `key` becomes that key. `None` where no key is above it, and then `key` stays. What the caller leaves in
-    /// the slot is then that key's value. (Manual: JLN, JudyLNext, which gives both.)
-    pub fn next_slot(&mut self, i: u64, key: &mut u64) -> Option<&mut u64>
-        ensures* writes_back { sem 𝓛 (LendsSlot self.entry key.new result) }
-        ensures key { key.new ≡ unwrap_or (neighbours.next self.old.map i) key.old }
-        ensures value { option_copied_mut result ≡ option_and_then (map.get self.old.map) (neighbours.next self.old.map i) }
-    {
-        self.tree.told();
-        self.tree.next_slot(i, key)
-    }
-
-    /// The slot of the greatest key up to `i`; `key` becomes that key. `None` where each key is above it, and then `key` stays. What the caller leaves in
-    /// the slot is then that key's value. (Manual: JLL, JudyLLast, which gives both.)
-    pub fn last_slot(&mut self, i: u64, key: &mut u64) -> Option<&mut u64>
-        ensures* writes_back { sem 𝓛 (LendsSlot self.entry key.new result) }
-        ensures key { key.new ≡ unwrap_or (neighbours.last self.old.map i) key.old }
-        ensures value { option_copied_mut result ≡ option_and_then (map.get self.old.map) (neighbours.last self.old.map i) }
-    {
-        self.tree.told();
-        self.tree.last_slot(i, key)
-    }
-
-    /// The slot of the greatest key below `i`; `key` becomes that key. `None` where no key is below it, and then `key` stays. What the caller leaves in
-    /// the slot is then that key's value. (Manual: JLP, JudyLPrev, which gives both.)
-    pub fn prev_slot(&mut self, i: u64, key: &mut u64) -> Option<&mut u64>
-        ensures* writes_back { sem 𝓛 (LendsSlot self.entry key.new result) }
-        ensures key { key.new ≡ unwrap_or (neighbours.prev self.old.map i) key.old }
-        ensures value { option_copied_mut result ≡ option_and_then (map.get self.old.map) (neighbours.prev self.old.map i) }
-    {
-        self.tree.told();
-        self.tree.prev_slot(i, key)
-    }
-
-    /// The slot of the `n`-th key in ascending order, counted from 1; `key` becomes that key. `None` for 0 and above the number of keys, and then `key` stays. What the caller leaves in
-    /// the slot is then that key's value. (Manual: JLBC, JudyLByCount, which gives both.)
-    pub fn by_count_slot(&mut self, n: u64, key: &mut u64) -> Option<&mut u64>
-        ensures* writes_back { sem 𝓛 (LendsSlot self.entry key.new result) }
-        ensures key { key.new ≡ unwrap_or (counts.by_count self.old.map n) key.old }
-        ensures value { option_copied_mut result ≡ option_and_then (map.get self.old.map) (counts.by_count self.old.map n) }
-    {
-        self.tree.told();
-        self.tree.by_count_slot(n, key)
-    }
-
     // The array that is made of it.
     pub(crate) fn of(tree: TreeArray<Width<1>>) -> JudyL
         ensures { result ≡ seen_as tree }
@@ -462,7 +420,8 @@ impl JudyL {
     /// How many nodes of each kind there are, counted in the tree of `root`: where the array isn't loose, as many as the rule gives its keys.
     pub fn shape(&self) -> Shape
         ensures nodes { shape_as result ≡ shape_in self.now.form }
-        ensures rule { self.now.loose ≡ false → shape_as result ≡ shape_of 1 (map.keys self.now.map) }
+        ensures rule { self.now.loose ≡ false
+            → shape_as result ≡ shape_of 1 (map.keys self.now.map) }
     {
         self.tree.shape()
     }

@@ -121,7 +121,8 @@ impl<V: Words + Drop> TreeArray<V> {
     /// How many nodes of each kind there are: where it isn't loose, as many as the rule gives its keys.
     pub fn shape(&self) -> Shape
         ensures nodes { shape_as result ≡ shape_in self.now.tree.form }
-        ensures rule { self.now.loose ≡ false → shape_as result ≡ shape_of V.WORDS (map.keys (map_in self.now)) }
+        ensures rule { self.now.loose ≡ false
+            → shape_as result ≡ shape_of V.WORDS (map.keys (map_in self.now)) }
     {
         self.told();
         self.root.shape(UNMETERED)

@@ -64,7 +64,8 @@ impl WordMap {
     /// Gives a key a value, and answers whether it was absent.
     pub fn put(&mut self, i: u64, value: u64) -> Result<bool, InsertError>
         ensures answer { IfOk result (λ added. added ≡ not (map.contains_key self.old.map i)) }
-        ensures put { OnOk result (self.new ≡ array.with_map self.old (array.write self.old.map i value)) }
+        ensures put { OnOk result
+            (self.new ≡ array.with_map self.old (array.write self.old.map i value)) }
         ensures accepted { OnOk result (IsFalse (array.is_full self.old i)) }
         ensures refused { IfErr result (IsRefusal self.old i) }
         ensures unchanged { OnErr result (self.new ≡ self.old) }
@@ -76,7 +77,8 @@ impl WordMap {
     /// Puts a key in with a value where it is absent, and answers whether it was.
     pub fn put_if_absent(&mut self, i: u64, value: u64) -> Result<bool, InsertError>
         ensures answer { IfOk result (λ added. added ≡ not (map.contains_key self.old.map i)) }
-        ensures put { OnOk result (self.new ≡ array.with_map self.old (with_new self.old.map i value)) }
+        ensures put { OnOk result
+            (self.new ≡ array.with_map self.old (with_new self.old.map i value)) }
         ensures accepted { OnOk result (IsFalse (array.is_full self.old i)) }
         ensures refused { IfErr result (IsRefusal self.old i) }
         ensures unchanged { OnErr result (self.new ≡ self.old) }

@@ -9,6 +9,7 @@ ghost use Rattle.judy_c.specs.ByteSlots.{LendsSlotOf, LendsInsOf};
 
 use super::Bytes;
 use crate::answers::Refusal;
+use crate::handles::Handle;
 use judy_hs::{ByteHash, Eights, HsError};
 use std::alloc::Global;
 

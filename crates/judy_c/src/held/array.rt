@@ -27,7 +27,8 @@ impl<T: Array> Held<T> {
     // What a question answers of the array, or of the one without keys. Nothing changes.
     pub(crate) fn ask<R, F: FnOnce(&T) -> R>(&mut self, alloc: Global, question: F) -> R
         requires { F.IsAlwaysCallable question }
-        ensures answer { FnOnceReturnsAt F.FnOnce question (unwrap_or self.old.array T.without_keys) result }
+        ensures answer { FnOnceReturnsAt F.FnOnce question
+            (unwrap_or self.old.array T.without_keys) result }
         ensures same { self.new ≡ self.old }
     {
         match self.array() {

@@ -18,7 +18,8 @@ pub(crate) fn fill_strings(
     entries: &mut [KeyEntry],
 ) -> usize
     requires { IsStringKey from.now }
-    ensures { IsFilled (pairs_from array.now.map from.now itself) (page_of bytes.old entries.old) result (page_of bytes.new entries.new) }
+    ensures { IsFilled (pairs_from array.now.map from.now itself)
+        (page_of bytes.old entries.old) result (page_of bytes.new entries.new) }
 {
     let mut cursor = array.cursor(from);
     let mut used = 0;
@@ -48,7 +49,8 @@ pub(crate) fn fill_behind(
     bytes: &mut [u8],
     entries: &mut [KeyEntry],
 ) -> usize
-    ensures { IsFilled (drop behind (entries_in list.now)) (page_of bytes.old entries.old) result (page_of bytes.new entries.new) }
+    ensures { IsFilled (drop behind (entries_in list.now)) (page_of bytes.old entries.old) result
+        (page_of bytes.new entries.new) }
 {
     match list.get(behind..) {
         Some(rest) => fill_list(rest, bytes, entries),
@@ -58,7 +60,8 @@ pub(crate) fn fill_behind(
 
 // Writes the pairs of a list, as many as fit, and answers how many these are.
 fn fill_list(list: &[HsEntry<'_>], bytes: &mut [u8], entries: &mut [KeyEntry]) -> usize
-    ensures { IsFilled (entries_in list.now) (page_of bytes.old entries.old) result (page_of bytes.new entries.new) }
+    ensures { IsFilled (entries_in list.now) (page_of bytes.old entries.old) result
+        (page_of bytes.new entries.new) }
 {
     let mut used = 0;
     let mut count = 0;
@@ -83,8 +86,10 @@ fn fill_list(list: &[HsEntry<'_>], bytes: &mut [u8], entries: &mut [KeyEntry]) -
 // The value of the least key from where a cursor stands on, or above that; the cursor then stands at that key.
 fn step(cursor: &mut KeyCursor<'_>, itself: bool) -> Option<u64>
     ensures map { cursor.new.map ≡ cursor.old.map }
-    ensures key { cursor.new.key ≡ unwrap_or (beside cursor.old.map cursor.old.key itself) cursor.old.key }
-    ensures value { result ≡ value_found cursor.old.map (beside cursor.old.map cursor.old.key itself) }
+    ensures key { cursor.new.key
+        ≡ unwrap_or (beside cursor.old.map cursor.old.key itself) cursor.old.key }
+    ensures value { result
+        ≡ value_found cursor.old.map (beside cursor.old.map cursor.old.key itself) }
 {
     if itself {
         cursor.first()
@@ -97,8 +102,10 @@ fn step(cursor: &mut KeyCursor<'_>, itself: bool) -> Option<u64>
 fn copy_key(key: &[u8], bytes: &mut [u8], place: usize) -> bool
     requires { place ≤ length bytes.old }
     ensures fits { result ≡ nat_le (length key.now) (length bytes.old - place) }
-    ensures copied { IsTrue result → take (place + length key.now) bytes.new ≡ take place bytes.old ++ key.now }
-    ensures behind { IsTrue result → drop (place + length key.now) bytes.new ≡ drop (place + length key.now) bytes.old }
+    ensures copied { IsTrue result
+        → take (place + length key.now) bytes.new ≡ take place bytes.old ++ key.now }
+    ensures behind { IsTrue result
+        → drop (place + length key.now) bytes.new ≡ drop (place + length key.now) bytes.old }
     ensures stays { IsFalse result → bytes.new ≡ bytes.old }
     ensures len { length bytes.new ≡ length bytes.old }
 {

@@ -10,6 +10,7 @@ ghost use Rattle.judy_c.specs.Puts.{IsMade};
 ghost use Rattle.judy_c.specs.SlotLends.{LendsSlotOf};
 
 use super::Map;
+use crate::handles::Handle;
 use std::alloc::Global;
 
 impl Map {
@@ -42,7 +43,9 @@ impl Map {
     pub(crate) fn first_slot(&mut self, from: u64, key: &mut u64) -> Option<&mut u64>
         ensures* writes_back { sem 𝓛 (LendsSlotOf self.entry key.new result) }
         ensures key { key.new ≡ unwrap_or (neighbours.first (map_of self.old) from) key.old }
-        ensures value { option_copied_mut result ≡ option_and_then (map.get (map_of self.old)) (neighbours.first (map_of self.old) from) }
+        ensures value { option_copied_mut result
+            ≡ option_and_then (map.get (map_of self.old))
+            (neighbours.first (map_of self.old) from) }
     {
         match self.array() {
             Some(array) => array.first_slot(from, key),
@@ -54,7 +57,8 @@ impl Map {
     pub(crate) fn next_slot(&mut self, from: u64, key: &mut u64) -> Option<&mut u64>
         ensures* writes_back { sem 𝓛 (LendsSlotOf self.entry key.new result) }
         ensures key { key.new ≡ unwrap_or (neighbours.next (map_of self.old) from) key.old }
-        ensures value { option_copied_mut result ≡ option_and_then (map.get (map_of self.old)) (neighbours.next (map_of self.old) from) }
+        ensures value { option_copied_mut result
+            ≡ option_and_then (map.get (map_of self.old)) (neighbours.next (map_of self.old) from) }
     {
         match self.array() {
             Some(array) => array.next_slot(from, key),
@@ -66,7 +70,8 @@ impl Map {
     pub(crate) fn last_slot(&mut self, from: u64, key: &mut u64) -> Option<&mut u64>
         ensures* writes_back { sem 𝓛 (LendsSlotOf self.entry key.new result) }
         ensures key { key.new ≡ unwrap_or (neighbours.last (map_of self.old) from) key.old }
-        ensures value { option_copied_mut result ≡ option_and_then (map.get (map_of self.old)) (neighbours.last (map_of self.old) from) }
+        ensures value { option_copied_mut result
+            ≡ option_and_then (map.get (map_of self.old)) (neighbours.last (map_of self.old) from) }
     {
         match self.array() {
             Some(array) => array.last_slot(from, key),
@@ -78,7 +83,8 @@ impl Map {
     pub(crate) fn prev_slot(&mut self, from: u64, key: &mut u64) -> Option<&mut u64>
         ensures* writes_back { sem 𝓛 (LendsSlotOf self.entry key.new result) }
         ensures key { key.new ≡ unwrap_or (neighbours.prev (map_of self.old) from) key.old }
-        ensures value { option_copied_mut result ≡ option_and_then (map.get (map_of self.old)) (neighbours.prev (map_of self.old) from) }
+        ensures value { option_copied_mut result
+            ≡ option_and_then (map.get (map_of self.old)) (neighbours.prev (map_of self.old) from) }
     {
         match self.array() {
             Some(array) => array.prev_slot(from, key),
@@ -90,7 +96,8 @@ impl Map {
     pub(crate) fn by_count_slot(&mut self, n: u64, key: &mut u64) -> Option<&mut u64>
         ensures* writes_back { sem 𝓛 (LendsSlotOf self.entry key.new result) }
         ensures key { key.new ≡ unwrap_or (counts.by_count (map_of self.old) n) key.old }
-        ensures value { option_copied_mut result ≡ option_and_then (map.get (map_of self.old)) (counts.by_count (map_of self.old) n) }
+        ensures value { option_copied_mut result
+            ≡ option_and_then (map.get (map_of self.old)) (counts.by_count (map_of self.old) n) }
     {
         match self.array() {
             Some(array) => array.by_count_slot(n, key),

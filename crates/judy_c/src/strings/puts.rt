@@ -16,7 +16,8 @@ impl Strings {
         key: &[u8],
         value: u64,
     ) -> Result<Option<u64>, Refusal>
-        ensures { IsStored IsStringKey (array_in self.old) key.now value result (array_in self.new) }
+        ensures { IsStored IsStringKey (array_in self.old) key.now value result
+            (array_in self.new) }
     {
         let count = sellumaq_judysl_len(alloc, self);
         match self.ins(alloc, key) {

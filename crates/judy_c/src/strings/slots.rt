@@ -10,6 +10,7 @@ ghost use Rattle.judy_c.specs.StringSlots.{LendsSlotOf, LendsInsOf};
 
 use super::Strings;
 use crate::answers::Refusal;
+use crate::handles::Handle;
 use judy_sl::{SlError, is_key};
 use std::alloc::Global;
 

@@ -10,7 +10,8 @@ ghost use Rattle.judy_model.specs.Examples.{one_array, two_arrays, two_lines};
 /// With memory for both arrays, and without memory for the first.
 pub fn two_lines_are_run()
     ensures ample { Run [] two_lines (codes "ok" ++ 10 ∷ codes "ok" ++ 10 ∷ []) two_arrays }
-    ensures short { Run [] two_lines (codes "error no-memory" ++ 10 ∷ codes "ok" ++ 10 ∷ []) ((codes "s", judy1 (empty_array 2)) ∷ []) }
+    ensures short { Run [] two_lines (codes "error no-memory" ++ 10 ∷ codes "ok" ++ 10 ∷ [])
+        ((codes "s", judy1 (empty_array 2)) ∷ []) }
 {}
 
 /// Without the line that there was no memory for, one line remains.

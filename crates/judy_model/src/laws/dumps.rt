@@ -12,26 +12,34 @@ ghost use Rattle.judy_model.specs.DumpPlaces.{EndsAtEntry};
 
 /// Every store whose limits are those of scripts has a dump in each format that gives it again.
 pub fn dump_is_in_the_grammar()
-    ensures { (version : Version) (store : Store) → IsStore store → IsRegular store → IsDump version (dump_of version store) store }
+    ensures { (version : Version) (store : Store) → IsStore store → IsRegular store
+        → IsDump version (dump_of version store) store }
 {}
 
 /// Bytes that give a store are its dump, byte by byte; and what they give is a store, with the limits of scripts.
 pub fn grammar_gives_the_text()
-    ensures text { (version : Version) (dump : List ℕ) (store : Store) → IsByteString dump → IsDump version dump store → dump ≡ dump_of version store }
-    ensures store { (version : Version) (dump : List ℕ) (store : Store) → IsByteString dump → IsDump version dump store → IsStore store }
-    ensures regular { (version : Version) (dump : List ℕ) (store : Store) → IsByteString dump → IsDump version dump store → IsRegular store }
+    ensures text { (version : Version) (dump : List ℕ) (store : Store) → IsByteString dump
+        → IsDump version dump store → dump ≡ dump_of version store }
+    ensures store { (version : Version) (dump : List ℕ) (store : Store) → IsByteString dump
+        → IsDump version dump store → IsStore store }
+    ensures regular { (version : Version) (dump : List ℕ) (store : Store) → IsByteString dump
+        → IsDump version dump store → IsRegular store }
 {}
 
 /// Bytes give one store at most, in one format, and one exactly where they have no fault.
 pub fn one_store_per_dump()
-    ensures one { (one_version other_version : Version) (dump : List ℕ) (store other : Store) → IsDump one_version dump store → IsDump other_version dump other →
+    ensures one { (one_version other_version : Version) (dump : List ℕ) (store other : Store)
+        → IsDump one_version dump store → IsDump other_version dump other →
         (one_version ≡ other_version) × (store ≡ other) }
-    ensures exists { (dump : List ℕ) → ((version : Version) × (store : Store) × IsDump version dump store) ↔ (fault_of dump ≡ None) }
+    ensures exists { (dump : List ℕ)
+        → ((version : Version) × (store : Store) × IsDump version dump store)
+        ↔ (fault_of dump ≡ None) }
 {}
 
 /// Two stores with one dump are equal, and dumped in one format.
 pub fn one_dump_per_store()
-    ensures { (one_version other_version : Version) (store other : Store) → IsStore store → IsRegular store → IsStore other → IsRegular other →
+    ensures { (one_version other_version : Version) (store other : Store) → IsStore store
+        → IsRegular store → IsStore other → IsRegular other →
         dump_of one_version store ≡ dump_of other_version other → (one_version ≡ other_version) × (store ≡ other) }
 {}
 
@@ -39,12 +47,15 @@ pub fn one_dump_per_store()
 pub fn the_shared_front_is_the_longest()
     ensures within_left { (left right : List ℕ) → shared_length left right ≤ length left }
     ensures within_right { (left right : List ℕ) → shared_length left right ≤ length right }
-    ensures shared { (left right : List ℕ) → take (shared_length left right) left ≡ take (shared_length left right) right }
-    ensures longest { (front left right : List ℕ) → length front ≤ shared_length (front ++ left) (front ++ right) }
+    ensures shared { (left right : List ℕ)
+        → take (shared_length left right) left ≡ take (shared_length left right) right }
+    ensures longest { (front left right : List ℕ)
+        → length front ≤ shared_length (front ++ left) (front ++ right) }
 {}
 
 /// Bytes that end behind a key count or behind an entry have no fault, or are cut off there and have no other. So one
 /// who loads a dump and wants memory at such a place has passed no fault over.
 pub fn no_fault_before_an_entry()
-    ensures { (dump : List ℕ) → EndsAtEntry dump → (fault_of dump ≡ None) ⊎ (fault_of dump ≡ Some truncated) }
+    ensures { (dump : List ℕ) → EndsAtEntry dump
+        → (fault_of dump ≡ None) ⊎ (fault_of dump ≡ Some truncated) }
 {}

@@ -9,21 +9,25 @@ ghost use Rattle.judy_model.specs.Nearest.{IsFirst, IsNext, IsLast, IsPrev, is_e
 
 /// `first_empty` answers the least empty word at or above the given number, and none where there is none.
 pub fn first_empty_is_nearest()
-    ensures { (map : FinMap word_order ℕ) (from : ℕ) → IsFirst word_order (is_empty_word map) from (first_empty map from) }
+    ensures { (map : FinMap word_order ℕ) (from : ℕ)
+        → IsFirst word_order (is_empty_word map) from (first_empty map from) }
 {}
 
 /// `next_empty` answers the least empty word above the given number, and none where there is none.
 pub fn next_empty_is_nearest()
-    ensures { (map : FinMap word_order ℕ) (from : ℕ) → IsNext word_order (is_empty_word map) from (next_empty map from) }
+    ensures { (map : FinMap word_order ℕ) (from : ℕ)
+        → IsNext word_order (is_empty_word map) from (next_empty map from) }
 {}
 
 /// `last_empty` answers the greatest empty word at or below the given number, and none where there is
 /// none.
 pub fn last_empty_is_nearest()
-    ensures { (map : FinMap word_order ℕ) (from : ℕ) → IsLast word_order (is_empty_word map) from (last_empty map from) }
+    ensures { (map : FinMap word_order ℕ) (from : ℕ)
+        → IsLast word_order (is_empty_word map) from (last_empty map from) }
 {}
 
 /// `prev_empty` answers the greatest empty word below the given number, and none where there is none.
 pub fn prev_empty_is_nearest()
-    ensures { (map : FinMap word_order ℕ) (from : ℕ) → IsPrev word_order (is_empty_word map) from (prev_empty map from) }
+    ensures { (map : FinMap word_order ℕ) (from : ℕ)
+        → IsPrev word_order (is_empty_word map) from (prev_empty map from) }
 {}

@@ -13,16 +13,20 @@ ghost use Rattle.judy_model.specs.Steps.{step, grows, Step};
 /// What a command does grows exactly where it leaves more arrays and keys than there were; and then it leaves
 /// one more.
 pub fn to_grow_is_to_hold_more()
-    ensures more { (store : Store) (command : Command) (arguments : List (List ℕ)) (outcome : Outcome Store) →
+    ensures more { (store : Store) (command : Command) (arguments : List (List ℕ))
+        (outcome : Outcome Store) →
         carried_out store command arguments ≡ Ok outcome → IsTrue outcome.grows ↔ (size_of store < size_of outcome.after) }
-    ensures one_more { (store : Store) (command : Command) (arguments : List (List ℕ)) (outcome : Outcome Store) →
+    ensures one_more { (store : Store) (command : Command) (arguments : List (List ℕ))
+        (outcome : Outcome Store) →
         carried_out store command arguments ≡ Ok outcome → IsTrue outcome.grows → size_of outcome.after ≡ size_of store + 1 }
 {}
 
 /// So a line grows exactly where it adds a key or an array.
 pub fn a_line_that_grows_adds_one()
-    ensures more { (store : Store) (line : Line) → IsTrue (grows store line) ↔ (size_of store < size_of (step store line).1) }
-    ensures one_more { (store : Store) (line : Line) → IsTrue (grows store line) → size_of (step store line).1 ≡ size_of store + 1 }
+    ensures more { (store : Store) (line : Line) → IsTrue (grows store line)
+        ↔ (size_of store < size_of (step store line).1) }
+    ensures one_more { (store : Store) (line : Line) → IsTrue (grows store line)
+        → size_of (step store line).1 ≡ size_of store + 1 }
 {}
 
 /// And only a line that adds one, memory allowing, may be answered that there is no memory.

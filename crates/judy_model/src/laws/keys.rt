@@ -10,9 +10,11 @@ ghost use Rattle.judy_model.specs.KeyTokens.{key_of, bytes_key_of, string_key_of
 /// bytes.
 pub fn a_byte_string_is_a_key_where_keys_may_be_as_long()
     ensures as_long { (key : List ℕ) → IsByteString key → IsBytesKeyTo (length key) key }
-    ensures longer { (longest more : ℕ) (key : List ℕ) → longest ≤ more → IsBytesKeyTo longest key → IsBytesKeyTo more key }
+    ensures longer { (longest more : ℕ) (key : List ℕ) → longest ≤ more → IsBytesKeyTo longest key
+        → IsBytesKeyTo more key }
     ensures judyhs { (key : List ℕ) → IsBytesKey key ↔ IsBytesKeyTo 1024 key }
-    ensures shorter { (longest : ℕ) (key : List ℕ) → longest < length key → IsBytesKeyTo longest key → ⊥ }
+    ensures shorter { (longest : ℕ) (key : List ℕ) → longest < length key → IsBytesKeyTo longest key
+        → ⊥ }
 {}
 
 /// A key token says a byte string, and one that is a key of the kind, where the kind has such a key.
@@ -24,14 +26,18 @@ pub fn a_key_token_says_a_key()
 
 /// No token says two keys, and no two keys are printed alike.
 pub fn a_key_token_says_one_key()
-    ensures said { (token key other : List ℕ) → key_of token ≡ Some key → key_of token ≡ Some other → key ≡ other }
-    ensures printed { (key other : List ℕ) → IsByteString key → IsByteString other → printed_key key ≡ printed_key other → key ≡ other }
+    ensures said { (token key other : List ℕ) → key_of token ≡ Some key → key_of token ≡ Some other
+        → key ≡ other }
+    ensures printed { (key other : List ℕ) → IsByteString key → IsByteString other
+        → printed_key key ≡ printed_key other → key ≡ other }
 {}
 
 /// A key, as it is printed, is one token of a line, and that token says the key.
 pub fn a_printed_key_is_read_back()
     ensures token { (key : List ℕ) → tokens_of (printed_key key) ≡ printed_key key ∷ [] }
     ensures string { (key : List ℕ) → IsByteString key → key_of (printed_key key) ≡ Some key }
-    ensures bytes_key { (key : List ℕ) → IsBytesKey key → bytes_key_of (printed_key key) ≡ Some key }
-    ensures string_key { (key : List ℕ) → IsStringKey key → string_key_of (printed_key key) ≡ Some key }
+    ensures bytes_key { (key : List ℕ) → IsBytesKey key
+        → bytes_key_of (printed_key key) ≡ Some key }
+    ensures string_key { (key : List ℕ) → IsStringKey key
+        → string_key_of (printed_key key) ≡ Some key }
 {}

@@ -8,5 +8,6 @@ ghost use Rattle.judy_model.specs.LineLists.{script_of, are_lines};
 pub fn lines_give_the_script_back()
     ensures joined { (script : List ℕ) → script_of (lines_of script) ≡ script }
     ensures are_lines { (script : List ℕ) → IsTrue (are_lines (lines_of script)) }
-    ensures no_others { (lines : List Line) → IsTrue (are_lines lines) → lines_of (script_of lines) ≡ lines }
+    ensures no_others { (lines : List Line) → IsTrue (are_lines lines)
+        → lines_of (script_of lines) ≡ lines }
 {}

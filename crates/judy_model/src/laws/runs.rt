@@ -13,8 +13,10 @@ ghost use Rattle.judy_model.specs.CutRuns.{Begins, RanInto};
 
 /// A script without lines puts out nothing and leaves the store; a script of one line puts out its reply.
 pub fn a_run_goes_line_by_line()
-    ensures none { (before after : Store) (output : List ℕ) → Run before [] output after ↔ ((output ≡ []) × (after ≡ before)) }
-    ensures one { (before after : Store) (script output : List ℕ) (line : Line) → lines_of script ≡ line ∷ [] →
+    ensures none { (before after : Store) (output : List ℕ) → Run before [] output after
+        ↔ ((output ≡ []) × (after ≡ before)) }
+    ensures one { (before after : Store) (script output : List ℕ) (line : Line)
+        → lines_of script ≡ line ∷ [] →
         Run before script output after ↔ ((reply : Reply) × Step before line reply after × (output ≡ output_of reply)) }
 {}
 
@@ -29,15 +31,19 @@ pub fn runs_follow_one_another()
 /// Where no line is answered that there is no memory, a run is the fold of `step` over the lines, and so a
 /// script has one output and leaves one store; and there is such a run.
 pub fn with_ample_memory_there_is_one_run()
-    ensures there_is { (before : Store) (script : List ℕ) → Run before script (ample_output before script) (store_after before script) }
-    ensures one { (before after : Store) (script output : List ℕ) (run : Run before script output after) →
+    ensures there_is { (before : Store) (script : List ℕ)
+        → Run before script (ample_output before script) (store_after before script) }
+    ensures one { (before after : Store) (script output : List ℕ)
+        (run : Run before script output after) →
         All (λ reply. reply ≢ Err no_memory) run.0 → (output ≡ ample_output before script) × (after ≡ store_after before script) }
 {}
 
 /// A run is cut off where whole lines were run and answered and the next line was run and answered in part;
 /// what was put out begins the output of a run that goes on.
 pub fn a_cut_off_run_ends_in_an_answer()
-    ensures ends { (before after : Store) (script output : List ℕ) → CutOff before script output after ↔ RanInto before script output after }
-    ensures goes_on { (before after : Store) (script output : List ℕ) → CutOff before script output after →
+    ensures ends { (before after : Store) (script output : List ℕ)
+        → CutOff before script output after ↔ RanInto before script output after }
+    ensures goes_on { (before after : Store) (script output : List ℕ)
+        → CutOff before script output after →
         (whole : List ℕ) × (last : Store) × Run before script whole last × Begins output whole }
 {}

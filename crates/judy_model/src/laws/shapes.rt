@@ -8,7 +8,8 @@ ghost use Rattle.judy_model.specs.Shapes.{Group, form_of, bytes_of, forms_of, ke
 
 /// The tree of a list of keys has exactly these keys.
 pub fn a_form_has_its_keys()
-    ensures { (words width : ℕ) (keys : List ℕ) → 1 ≤ width → keys_in width (form_of words width keys) ≡ keys }
+    ensures { (words width : ℕ) (keys : List ℕ) → 1 ≤ width
+        → keys_in width (form_of words width keys) ≡ keys }
 {}
 
 /// No node of it is loose.
@@ -20,9 +21,11 @@ pub fn the_rule_leaves_nothing_loose()
 /// shared ones; where they differ before, a branch skips them, has a child for each byte that comes next, and the child
 /// has the form of what is left of its keys.
 pub fn shared_bytes_are_skipped()
-    ensures last_byte { (words : ℕ) (shared keys : List ℕ) → IsByteString shared → 32 < length keys → AllBelow 256 keys
+    ensures last_byte { (words : ℕ) (shared keys : List ℕ) → IsByteString shared → 32 < length keys
+        → AllBelow 256 keys
         → form_of words (length shared + 1) (raise (number_of shared * 256) keys) ≡ bitmap_leaf shared keys ∷ [] }
-    ensures before { (words width total : ℕ) (shared : List ℕ) (groups : List Group) (keys : List ℕ) → total ≡ length shared + 1 + width → 1 ≤ width → IsByteString shared
+    ensures before { (words width total : ℕ) (shared : List ℕ) (groups : List Group) (keys : List ℕ)
+        → total ≡ length shared + 1 + width → 1 ≤ width → IsByteString shared
         → AreGroups (256 ^ width) 0 groups → 1 < length groups → keys ≡ keys_of_groups (256 ^ width) (number_of shared * 256) groups → 32 < length keys
         → form_of words total keys ≡ branch shared (bytes_of groups) (length keys) ∷ forms_of (form_of words width) groups }
 {}

@@ -22,17 +22,20 @@ pub fn only_a_line_that_grows_wants_memory()
     ensures defined { (store : Store) (line : Line) → outcome_of store line ≢ Err no_memory }
     ensures others { (before after : Store) (line : Line) (reply : Reply) →
         IsFalse (grows before line) → Step before line reply after → (reply, after) ≡ step before line }
-    ensures unchanged { (before after : Store) (line : Line) → Step before line (Err no_memory) after → after ≡ before }
+    ensures unchanged { (before after : Store) (line : Line)
+        → Step before line (Err no_memory) after → after ≡ before }
 {}
 
 /// A command that only reads leaves the store as it was and doesn't grow, whatever its arguments.
 pub fn reading_leaves_the_store()
-    ensures { (store : Store) (command : Command) (arguments : List (List ℕ)) (outcome : Outcome Store) →
+    ensures { (store : Store) (command : Command) (arguments : List (List ℕ))
+        (outcome : Outcome Store) →
         IsTrue (only_reads command) → carried_out store command arguments ≡ Ok outcome → (outcome.after ≡ store) × IsFalse outcome.grows }
 {}
 
 /// A command that grows makes an array, or puts a key into one.
 pub fn only_adding_grows()
-    ensures { (store : Store) (command : Command) (arguments : List (List ℕ)) (outcome : Outcome Store) →
+    ensures { (store : Store) (command : Command) (arguments : List (List ℕ))
+        (outcome : Outcome Store) →
         carried_out store command arguments ≡ Ok outcome → IsTrue outcome.grows → (command ≡ make) ⊎ (command ≡ on_key set) ⊎ (command ≡ on_pair ins) }
 {}

@@ -8,10 +8,13 @@ ghost use Rattle.judy_model.specs.StringOrder.{DiffersBelow, IsProperPrefix, end
 /// A byte string is before another exactly where it has the smaller byte at the first place where they
 /// differ, or is a proper prefix of it. The order is total: two that neither is before the other are equal.
 pub fn byte_strings_compare_at_their_first_difference()
-    ensures before { (left right : List ℕ) → (byte_order left right ≡ Less) ↔ (DiffersBelow left right ⊎ IsProperPrefix left right) }
-    ensures after { (left right : List ℕ) → (byte_order left right ≡ Greater) ↔ (byte_order right left ≡ Less) }
+    ensures before { (left right : List ℕ) → (byte_order left right ≡ Less)
+        ↔ (DiffersBelow left right ⊎ IsProperPrefix left right) }
+    ensures after { (left right : List ℕ) → (byte_order left right ≡ Greater)
+        ↔ (byte_order right left ≡ Less) }
     ensures same { (left right : List ℕ) → (byte_order left right ≡ Equal) ↔ (left ≡ right) }
-    ensures transitive { (left middle right : List ℕ) → byte_order left middle ≡ Less → byte_order middle right ≡ Less → byte_order left right ≡ Less }
+    ensures transitive { (left middle right : List ℕ) → byte_order left middle ≡ Less
+        → byte_order middle right ≡ Less → byte_order left right ≡ Less }
 {}
 
 /// For the keys of a judysl array it is the order of the manual's strings, each ended by a zero byte: there

@@ -30,8 +30,11 @@ impl<V: Words + Drop> TreeArray<V> {
     /// isn't full, and never where it is empty. Either leaves the array as it was, its nodes too.
     pub fn set(&mut self, key: u64) -> Result<bool, InsertError>
         requires one { V.WORDS ≤ 1 }
-        ensures answer { IfOk result (λ added. added ≡ not (map.contains_key (map_in self.old) key)) }
-        ensures set { OnOk result (array_in self.new ≡ array.with_map (array_in self.old) (array.ins (map_in self.old) key)) }
+        ensures answer { IfOk result
+            (λ added. added ≡ not (map.contains_key (map_in self.old) key)) }
+        ensures set { OnOk result
+            (array_in self.new ≡ array.with_map (array_in self.old)
+            (array.ins (map_in self.old) key)) }
         ensures accepted { OnOk result (IsFalse (array.is_full (array_in self.old) key)) }
         ensures refused { IfErr result (IsRefusal (array_in self.old) key) }
         ensures unchanged { OnErr result (self.new ≡ self.old) }
@@ -46,8 +49,11 @@ impl<V: Words + Drop> TreeArray<V> {
     pub fn set_with(&mut self, key: u64, value: u64) -> Result<bool, InsertError>
         requires one { V.WORDS ≤ 1 }
         requires no_value { V.WORDS ≡ 0 → value ≡ 0 }
-        ensures answer { IfOk result (λ added. added ≡ not (map.contains_key (map_in self.old) key)) }
-        ensures set { OnOk result (array_in self.new ≡ array.with_map (array_in self.old) (with_new (map_in self.old) key value)) }
+        ensures answer { IfOk result
+            (λ added. added ≡ not (map.contains_key (map_in self.old) key)) }
+        ensures set { OnOk result
+            (array_in self.new ≡ array.with_map (array_in self.old)
+            (with_new (map_in self.old) key value)) }
         ensures accepted { OnOk result (IsFalse (array.is_full (array_in self.old) key)) }
         ensures refused { IfErr result (IsRefusal (array_in self.old) key) }
         ensures unchanged { OnErr result (self.new ≡ self.old) }
@@ -69,12 +75,16 @@ impl<V: Words + Drop> TreeArray<V> {
     /// array is as it was; never where the key is there: then its value alone changes, and the nodes stay.
     pub fn put(&mut self, key: u64, value: u64) -> Result<bool, InsertError>
         requires words { V.WORDS ≡ 1 }
-        ensures answer { IfOk result (λ added. added ≡ not (map.contains_key (map_in self.old) key)) }
-        ensures put { OnOk result (array_in self.new ≡ array.with_map (array_in self.old) (array.write (map_in self.old) key value)) }
+        ensures answer { IfOk result
+            (λ added. added ≡ not (map.contains_key (map_in self.old) key)) }
+        ensures put { OnOk result
+            (array_in self.new ≡ array.with_map (array_in self.old)
+            (array.write (map_in self.old) key value)) }
         ensures accepted { OnOk result (IsFalse (array.is_full (array_in self.old) key)) }
         ensures refused { IfErr result (IsRefusal (array_in self.old) key) }
         ensures unchanged { OnErr result (self.new ≡ self.old) }
-        ensures present { IfOk result (λ added. added ≡ false → self.new ≡ with_value self.old key value) }
+        ensures present { IfOk result
+            (λ added. added ≡ false → self.new ≡ with_value self.old key value) }
         ensures loose { self.new.loose ≡ self.old.loose }
         ensures first { map_in self.old ≡ map.empty → IsOk result }
     {
@@ -86,10 +96,12 @@ impl<V: Words + Drop> TreeArray<V> {
     pub fn remove(&mut self, key: u64) -> bool
         requires one { V.WORDS ≤ 1 }
         ensures answer { result ≡ map.contains_key (map_in self.old) key }
-        ensures removed { array_in self.new ≡ array.with_map (array_in self.old) (array.del (map_in self.old) key) }
+        ensures removed { array_in self.new
+            ≡ array.with_map (array_in self.old) (array.del (map_in self.old) key) }
         ensures absent { result ≡ false → self.new ≡ self.old }
         ensures loose { self.old.loose ≡ true → self.new.loose ≡ true }
-        ensures loosened { self.old.loose ≡ false → self.new.loose ≡ true → Has33 8 self.old.tree.pairs key }
+        ensures loosened { self.old.loose ≡ false → self.new.loose ≡ true
+            → Has33 8 self.old.tree.pairs key }
     {
         self.take(key).is_some()
     }

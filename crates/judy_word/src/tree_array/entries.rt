@@ -51,7 +51,8 @@ impl<'a, V: Words + Drop> TreeEntries<'a, V> {
     pub fn fill<E: FromPair>(&mut self, out: &mut [E]) -> usize
         requires places { length out.old < 2 ^ 60 }
         ensures count { result ≡ min (length out.old) (length self.old) }
-        ensures out { out.new ≡ take result (mapped (λ entry. E.made entry.0 entry.1) self.old) ++ drop result out.old }
+        ensures out { out.new
+            ≡ take result (mapped (λ entry. E.made entry.0 entry.1) self.old) ++ drop result out.old }
         ensures left { self.new ≡ drop result self.old }
     {
         self.walk.fill(out, &mut Meter::new(UNMETERED))
@@ -63,7 +64,8 @@ impl<V: Words + Drop> TreeArray<V> {
     // Compiled into the caller, as the search is: the answer doesn't go through memory then.
     #[inline(always)]
     pub fn first_entry(&self, from: u64) -> Option<(u64, u64)>
-        ensures key { option_map (λ entry. entry.0) result ≡ neighbours.first (map_in self.now) from }
+        ensures key { option_map (λ entry. entry.0) result
+            ≡ neighbours.first (map_in self.now) from }
         ensures value { IfSome result (λ entry. map.get (map_in self.now) entry.0 ≡ Some entry.1) }
     {
         self.root.told();
@@ -74,7 +76,8 @@ impl<V: Words + Drop> TreeArray<V> {
     // As `first_entry`.
     #[inline(always)]
     pub fn next_entry(&self, from: u64) -> Option<(u64, u64)>
-        ensures key { option_map (λ entry. entry.0) result ≡ neighbours.next (map_in self.now) from }
+        ensures key { option_map (λ entry. entry.0) result
+            ≡ neighbours.next (map_in self.now) from }
         ensures value { IfSome result (λ entry. map.get (map_in self.now) entry.0 ≡ Some entry.1) }
     {
         self.told();
@@ -87,7 +90,8 @@ impl<V: Words + Drop> TreeArray<V> {
 
     /// The greatest key that isn't above it, with its value, or `None`.
     pub fn last_entry(&self, from: u64) -> Option<(u64, u64)>
-        ensures key { option_map (λ entry. entry.0) result ≡ neighbours.last (map_in self.now) from }
+        ensures key { option_map (λ entry. entry.0) result
+            ≡ neighbours.last (map_in self.now) from }
         ensures value { IfSome result (λ entry. map.get (map_in self.now) entry.0 ≡ Some entry.1) }
     {
         self.root.told();
@@ -96,7 +100,8 @@ impl<V: Words + Drop> TreeArray<V> {
 
     /// The greatest key below it, with its value, or `None`.
     pub fn prev_entry(&self, from: u64) -> Option<(u64, u64)>
-        ensures key { option_map (λ entry. entry.0) result ≡ neighbours.prev (map_in self.now) from }
+        ensures key { option_map (λ entry. entry.0) result
+            ≡ neighbours.prev (map_in self.now) from }
         ensures value { IfSome result (λ entry. map.get (map_in self.now) entry.0 ≡ Some entry.1) }
     {
         if from == 0 {
@@ -131,7 +136,8 @@ impl<V: Words + Drop> TreeArray<V> {
 
     /// The same from the first key that isn't below a word.
     pub fn iter_from(&self, from: u64) -> TreeEntries<'_, V>
-        ensures { result ≡ drop (counts.rank (map_in self.now) from) (map.entries (map_in self.now)) }
+        ensures { result
+            ≡ drop (counts.rank (map_in self.now) from) (map.entries (map_in self.now)) }
     {
         self.root.told();
         TreeEntries {

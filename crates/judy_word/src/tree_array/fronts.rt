@@ -18,7 +18,9 @@ pub(crate) fn set_all<V: Words + Drop>(
 ) -> Result<(), InsertError>
     requires one { V.WORDS ≤ 1 }
     requires map { IsMap V.WORDS 0 (256 ^ 8) pairs.now }
-    ensures set { OnOk result (array_in array.new ≡ arrays.with_map (array_in array.old) (with_all (map_in array.old) pairs.now)) }
+    ensures set { OnOk result
+        (array_in array.new ≡ arrays.with_map (array_in array.old)
+        (with_all (map_in array.old) pairs.now)) }
     ensures loose { array.new.loose ≡ array.old.loose }
 {
     let mut done = 0;
@@ -38,7 +40,10 @@ impl<V: Words + Drop> TreeArray<V> {
         requires map { IsMap V.WORDS 0 (256 ^ 8) pairs.now }
         ensures some { IfOk result (λ count. 1 ≤ count) }
         ensures within { IfOk result (λ count. count ≤ length pairs.now) }
-        ensures set { IfOk result (λ count. array_in self.new ≡ arrays.with_map (array_in self.old) (with_all (map_in self.old) (take count pairs.now))) }
+        ensures set { IfOk result
+            (λ count. array_in self.new
+            ≡ arrays.with_map (array_in self.old)
+            (with_all (map_in self.old) (take count pairs.now))) }
         ensures loose { self.new.loose ≡ self.old.loose }
     {
         let count = self.append(pairs);
@@ -57,7 +62,9 @@ impl<V: Words + Drop> TreeArray<V> {
         requires some { 0 < length pairs.now }
         requires map { IsMap V.WORDS 0 (256 ^ 8) pairs.now }
         ensures within { result ≤ length pairs.now }
-        ensures set { array_in self.new ≡ arrays.with_map (array_in self.old) (with_all (map_in self.old) (take result pairs.now)) }
+        ensures set { array_in self.new
+            ≡ arrays.with_map (array_in self.old)
+            (with_all (map_in self.old) (take result pairs.now)) }
         ensures loose { self.new.loose ≡ self.old.loose }
     {
         self.root.told();

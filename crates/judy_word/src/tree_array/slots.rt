@@ -19,7 +19,9 @@ impl<V: Words + Drop> TreeArray<V> {
     /// the value that is left in the slot, and nothing else changes, its nodes neither.
     pub fn slot(&mut self, key: u64) -> Option<&mut u64>
         requires words { V.WORDS ≡ 1 }
-        ensures* changes { sem 𝓛 (LendsIf (the_row V.row V.Words) word self.entry result (with_value self.entry.now key) self.entry.now) }
+        ensures* changes { sem 𝓛
+            (LendsIf (the_row V.row V.Words) word self.entry result
+            (with_value self.entry.now key) self.entry.now) }
         ensures value { option_copied_mut result ≡ map.get (map_in self.old) key }
     {
         self.root.told();
@@ -30,7 +32,8 @@ impl<V: Words + Drop> TreeArray<V> {
     pub(crate) fn slot_of(&mut self, key: u64) -> &mut u64
         requires words { V.WORDS ≡ 1 }
         requires present { IsTrue (map.contains_key (map_in self.old) key) }
-        ensures* changes { sem 𝓛 (Lends (the_row V.row V.Words) word self.entry result (with_value self.entry.now key)) }
+        ensures* changes { sem 𝓛
+            (Lends (the_row V.row V.Words) word self.entry result (with_value self.entry.now key)) }
         ensures value { Some result.now ≡ map.get (map_in self.old) key }
     {
         match self.slot(key) {
@@ -43,9 +46,13 @@ impl<V: Words + Drop> TreeArray<V> {
     /// the word that tells it stays. The array becomes the one with the value that is left in the slot, and nothing else changes.
     pub fn first_slot(&mut self, from: u64, key: &mut u64) -> Option<&mut u64>
         requires words { V.WORDS ≡ 1 }
-        ensures* changes { sem 𝓛 (LendsIf (the_row V.row V.Words) word self.entry result (with_value self.entry.now key.new) self.entry.now) }
+        ensures* changes { sem 𝓛
+            (LendsIf (the_row V.row V.Words) word self.entry result
+            (with_value self.entry.now key.new) self.entry.now) }
         ensures key { key.new ≡ unwrap_or (neighbours.first (map_in self.old) from) key.old }
-        ensures value { option_copied_mut result ≡ option_and_then (map.get (map_in self.old)) (neighbours.first (map_in self.old) from) }
+        ensures value { option_copied_mut result
+            ≡ option_and_then (map.get (map_in self.old))
+            (neighbours.first (map_in self.old) from) }
     {
         let found = self.first_entry(from);
         self.slot_beside(found, key)
@@ -55,9 +62,12 @@ impl<V: Words + Drop> TreeArray<V> {
     /// the word that tells it stays. The array becomes the one with the value that is left in the slot, and nothing else changes.
     pub fn next_slot(&mut self, from: u64, key: &mut u64) -> Option<&mut u64>
         requires words { V.WORDS ≡ 1 }
-        ensures* changes { sem 𝓛 (LendsIf (the_row V.row V.Words) word self.entry result (with_value self.entry.now key.new) self.entry.now) }
+        ensures* changes { sem 𝓛
+            (LendsIf (the_row V.row V.Words) word self.entry result
+            (with_value self.entry.now key.new) self.entry.now) }
         ensures key { key.new ≡ unwrap_or (neighbours.next (map_in self.old) from) key.old }
-        ensures value { option_copied_mut result ≡ option_and_then (map.get (map_in self.old)) (neighbours.next (map_in self.old) from) }
+        ensures value { option_copied_mut result
+            ≡ option_and_then (map.get (map_in self.old)) (neighbours.next (map_in self.old) from) }
     {
         let found = self.next_entry(from);
         self.slot_beside(found, key)
@@ -67,9 +77,12 @@ impl<V: Words + Drop> TreeArray<V> {
     /// the word that tells it stays. The array becomes the one with the value that is left in the slot, and nothing else changes.
     pub fn last_slot(&mut self, from: u64, key: &mut u64) -> Option<&mut u64>
         requires words { V.WORDS ≡ 1 }
-        ensures* changes { sem 𝓛 (LendsIf (the_row V.row V.Words) word self.entry result (with_value self.entry.now key.new) self.entry.now) }
+        ensures* changes { sem 𝓛
+            (LendsIf (the_row V.row V.Words) word self.entry result
+            (with_value self.entry.now key.new) self.entry.now) }
         ensures key { key.new ≡ unwrap_or (neighbours.last (map_in self.old) from) key.old }
-        ensures value { option_copied_mut result ≡ option_and_then (map.get (map_in self.old)) (neighbours.last (map_in self.old) from) }
+        ensures value { option_copied_mut result
+            ≡ option_and_then (map.get (map_in self.old)) (neighbours.last (map_in self.old) from) }
     {
         let found = self.last_entry(from);
         self.slot_beside(found, key)
@@ -79,9 +92,12 @@ impl<V: Words + Drop> TreeArray<V> {
     /// the word that tells it stays. The array becomes the one with the value that is left in the slot, and nothing else changes.
     pub fn prev_slot(&mut self, from: u64, key: &mut u64) -> Option<&mut u64>
         requires words { V.WORDS ≡ 1 }
-        ensures* changes { sem 𝓛 (LendsIf (the_row V.row V.Words) word self.entry result (with_value self.entry.now key.new) self.entry.now) }
+        ensures* changes { sem 𝓛
+            (LendsIf (the_row V.row V.Words) word self.entry result
+            (with_value self.entry.now key.new) self.entry.now) }
         ensures key { key.new ≡ unwrap_or (neighbours.prev (map_in self.old) from) key.old }
-        ensures value { option_copied_mut result ≡ option_and_then (map.get (map_in self.old)) (neighbours.prev (map_in self.old) from) }
+        ensures value { option_copied_mut result
+            ≡ option_and_then (map.get (map_in self.old)) (neighbours.prev (map_in self.old) from) }
     {
         let found = self.prev_entry(from);
         self.slot_beside(found, key)
@@ -91,9 +107,12 @@ impl<V: Words + Drop> TreeArray<V> {
     /// the word that tells it stays. The array becomes the one with the value that is left in the slot, and nothing else changes.
     pub fn by_count_slot(&mut self, n: u64, key: &mut u64) -> Option<&mut u64>
         requires words { V.WORDS ≡ 1 }
-        ensures* changes { sem 𝓛 (LendsIf (the_row V.row V.Words) word self.entry result (with_value self.entry.now key.new) self.entry.now) }
+        ensures* changes { sem 𝓛
+            (LendsIf (the_row V.row V.Words) word self.entry result
+            (with_value self.entry.now key.new) self.entry.now) }
         ensures key { key.new ≡ unwrap_or (counts.by_count (map_in self.old) n) key.old }
-        ensures value { option_copied_mut result ≡ option_and_then (map.get (map_in self.old)) (counts.by_count (map_in self.old) n) }
+        ensures value { option_copied_mut result
+            ≡ option_and_then (map.get (map_in self.old)) (counts.by_count (map_in self.old) n) }
     {
         let found = self.by_count_entry(n);
         self.slot_beside(found, key)
@@ -104,7 +123,9 @@ impl<V: Words + Drop> TreeArray<V> {
     fn slot_beside(&mut self, found: Option<(u64, u64)>, key: &mut u64) -> Option<&mut u64>
         requires words { V.WORDS ≡ 1 }
         requires there { IfSome found (λ entry. map.get (map_in self.old) entry.0 ≡ Some entry.1) }
-        ensures* changes { sem 𝓛 (LendsIf (the_row V.row V.Words) word self.entry result (with_value self.entry.now key.new) self.entry.now) }
+        ensures* changes { sem 𝓛
+            (LendsIf (the_row V.row V.Words) word self.entry result
+            (with_value self.entry.now key.new) self.entry.now) }
         ensures key { key.new ≡ unwrap_or (option_map (λ entry. entry.0) found) key.old }
         ensures value { option_copied_mut result ≡ option_map (λ entry. entry.1) found }
     {

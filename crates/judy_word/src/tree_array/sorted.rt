@@ -21,7 +21,8 @@ impl<V: Words + Drop> TreeArray<V> {
         requires one { V.WORDS ≤ 1 }
         requires some { 1 ≤ limit }
         requires sorted { IsSorted limit (keys_of pairs.now) }
-        requires no_values { V.WORDS ≡ 0 → AllByRecursion (λ value. value ≡ 0) (values_of pairs.now) }
+        requires no_values { V.WORDS ≡ 0
+            → AllByRecursion (λ value. value ≡ 0) (values_of pairs.now) }
         ensures pairs { IfOk result (λ array. array.tree.pairs ≡ pairs.now) }
         ensures limit { IfOk result (λ array. array.limit ≡ limit) }
         ensures tight { IfOk result (λ array. array.loose ≡ false) }

@@ -19,8 +19,11 @@ impl<V: Words + Drop> TreeArray<V> {
     pub fn insert(&mut self, key: u64, value: u64) -> Result<Option<u64>, InsertError>
         requires words { V.WORDS ≡ 1 }
         ensures answer { IfOk result (λ was. was ≡ map.get (map_in self.old) key) }
-        ensures put { OnOk result (array_in self.new ≡ array.with_map (array_in self.old) (array.write (map_in self.old) key value)) }
-        ensures present { IfOk result (λ was. IfSome was (λ _. self.new ≡ with_value self.old key value)) }
+        ensures put { OnOk result
+            (array_in self.new ≡ array.with_map (array_in self.old)
+            (array.write (map_in self.old) key value)) }
+        ensures present { IfOk result
+            (λ was. IfSome was (λ _. self.new ≡ with_value self.old key value)) }
         ensures accepted { OnOk result (IsFalse (array.is_full (array_in self.old) key)) }
         ensures refused { IfErr result (IsRefusal (array_in self.old) key) }
         ensures unchanged { OnErr result (self.new ≡ self.old) }
@@ -42,10 +45,12 @@ impl<V: Words + Drop> TreeArray<V> {
     pub fn take(&mut self, key: u64) -> Option<u64>
         requires one { V.WORDS ≤ 1 }
         ensures answer { result ≡ map.get (map_in self.old) key }
-        ensures removed { array_in self.new ≡ array.with_map (array_in self.old) (array.del (map_in self.old) key) }
+        ensures removed { array_in self.new
+            ≡ array.with_map (array_in self.old) (array.del (map_in self.old) key) }
         ensures absent { result ≡ None → self.new ≡ self.old }
         ensures loose { self.old.loose ≡ true → self.new.loose ≡ true }
-        ensures loosened { self.old.loose ≡ false → self.new.loose ≡ true → Has33 8 self.old.tree.pairs key }
+        ensures loosened { self.old.loose ≡ false → self.new.loose ≡ true
+            → Has33 8 self.old.tree.pairs key }
     {
         self.root.told();
         let removed = remove(self.alloc, &mut self.root, key);

@@ -1,5 +1,4 @@
-use Rattle.std.proofs.Common.{◌≡◌, Some, slice_get, ◌+◌, ◌*◌, ◌/◌, ◌%◌, ◌^◌, ◌<◌, ◌≤◌, length, sym, ap, ◌∙◌, subst, arith}
-use Rattle.std.proofs.lemmas.Option.{slice_get_within}
+use Rattle.std.proofs.Common.{◌≡◌, Some, slice_get, ◌+◌, ◌*◌, ◌/◌, ◌%◌, ◌^◌, ◌<◌, length, refl, sym, ap, ◌∙◌, subst, arith}
 use Rattle.judy_model.specs.WordBytes.{number_of}
 use Rattle.judy_model.proofs.ByteLemmas.{unit_pos}
 use Rattle.judy_node.specs.Trees.{IsChild, IsBranch}
@@ -7,37 +6,34 @@ use Rattle.judy_node.specs.Populations.{AreSums}
 use Rattle.judy_node.specs.Kinds.{tree_of, IsLevel}
 use Rattle.judy_node.specs.Steps.{IsStep}
 use Rattle.judy_node.specs.declared.step.Step.TheVariants.{Child, Missing}
-use Rattle.judy_node.proofs.Maps.{children-length}
-use Rattle.judy_node.proofs.Shaped.{branch-child}
-use Rattle.judy_change.specs.Appended.{first_key, IsLonger}
-use Rattle.judy_change.specs.Removals.{width_of, tree_below}
+use Rattle.judy_change.specs.Appended.{first_key}
+use Rattle.judy_change.specs.Removals.{width_of}
 use Rattle.judy_change.proofs.BelowFacts.{branch_wide}
-use Rattle.judy_change.proofs.KidInserts.{kid_child}
+use Rattle.judy_change.proofs.InsertFacts.{still_child}
+use Rattle.judy_change.proofs.KidInserts.{place_within, kid_of, kid_child}
 use Rattle.judy_change.proofs.AppendFacts.{key_parts, kid_fewer, kid_level, kid_longer}
 use Rattle.judy_change.proofs.appends.+append.Goals as goal
 
 pub append_to_child-index_mut-requires : goal.append_to_child-index_mut-requires
 append_to_child-index_mut-requires g t c =
     let b = c.args.branch.now in
-    let within = slice_get_within b.bytes c.args.place c.args.byte c.requires.here in
-    let long = children-length g.V.Words.WORDS b.width 0 b.bytes b.children.items c.requires.level.parts.children in
+    let within = place_within c.requires.level c.requires.here in
     let held = b.children.ok.0 in
     omega arith
 
 pub append_to_child-overflow_add-place : goal.append_to_child-overflow_add-place
 append_to_child-overflow_add-place g t c =
     let b = c.args.branch.now in
-    let within = slice_get_within b.bytes c.args.place c.args.byte c.requires.here in
-    let long = children-length g.V.Words.WORDS b.width 0 b.bytes b.children.items c.requires.level.parts.children in
+    let within = place_within c.requires.level c.requires.here in
     let held = b.children.ok.0 in
     omega arith
 
 pub append_to_child-append_in-count-requires : goal.append_to_child-append_in-count-requires
 append_to_child-append_in-count-requires g t c κs within =
-    let words = g.V.Words.WORDS in
     let b = c.args.branch.now in
+    let kid = kid_of c.requires.level (unit_pos b.width) c.requires.here c.index_mut.ensures.value in
     let falls = c.decreases in
-    let fewer = kid_fewer words b.width b.skip b.bytes b.children.items b.population c.requires.level c.args.byte c.args.place c.index_mut.result.now c.requires.here c.index_mut.ensures.value in
+    let fewer = kid_fewer kid in
     let room = c.requires.room in (
       omega arith,
       (
@@ -47,7 +43,7 @@ append_to_child-append_in-count-requires g t c κs within =
           (
             c.requires.one,
             (
-              kid_child words b.width b.skip b.bytes b.children.items b.population c.requires.level c.args.byte 0 (unit_pos b.width) c.args.place c.index_mut.result.now c.requires.here c.index_mut.ensures.value,
+              kid_child kid,
               (c.requires.some, (c.requires.key, (c.requires.map, omega arith))),
             ),
           ),
@@ -58,26 +54,27 @@ append_to_child-append_in-count-requires g t c κs within =
 pub append_to_child-sums_of_children-requires : goal.append_to_child-sums_of_children-requires
 append_to_child-sums_of_children-requires g t c =
     let b = c.args.branch.now in
+    let kid = kid_of c.requires.level (unit_pos b.width) c.requires.here c.index_mut.ensures.value in
     let told = c.len.ensures in
     let beyond = c.if-place-len.false in
-    kid_level g.V.Words.WORDS b.width b.skip b.bytes b.children.items b.population c.requires.level c.args.byte c.args.place c.index_mut.result.now c.requires.here c.index_mut.ensures.value c.args.pairs.now c.requires.head (omega arith)
+    kid_level kid c.args.pairs.now c.requires.head (omega arith)
     c.append_in-count.result c.append_in-count.new.child c.append_in-count.ensures.longer c.append_in-count.ensures.child
 
-pub append_to_child-returns-clause-level : goal.append_to_child-returns-clause-level
-append_to_child-returns-clause-level g t c =
+pub append_to_child-returns : goal.append_to_child-returns
+append_to_child-returns g t c =
     let b = c.args.branch.now in
+    let kid = kid_of c.requires.level (unit_pos b.width) c.requires.here c.index_mut.ensures.value in
     let told = c.len.ensures in
     let beyond = c.if-place-len.false in
-    kid_level g.V.Words.WORDS b.width b.skip b.bytes b.children.items b.population c.requires.level c.args.byte c.args.place c.index_mut.result.now c.requires.here c.index_mut.ensures.value c.args.pairs.now c.requires.head (omega arith)
-    c.append_in-count.result c.append_in-count.new.child c.append_in-count.ensures.longer c.append_in-count.ensures.child
-
-pub append_to_child-returns-clause-longer : goal.append_to_child-returns-clause-longer
-append_to_child-returns-clause-longer g t c =
-    let b = c.args.branch.now in
-    let told = c.len.ensures in
-    let beyond = c.if-place-len.false in
-    kid_longer g.V.Words.WORDS b.width b.skip b.bytes b.children.items b.population c.requires.level c.args.byte c.args.place c.index_mut.result.now c.requires.here c.index_mut.ensures.value c.args.pairs.now c.requires.head (omega arith)
-    c.append_in-count.result c.append_in-count.new.child c.append_in-count.ensures.longer c.append_in-count.ensures.child c.if-count-eq0.false
+    record {
+      level = kid_level kid c.args.pairs.now c.requires.head (omega arith)
+          c.append_in-count.result c.append_in-count.new.child c.append_in-count.ensures.longer c.append_in-count.ensures.child;
+      sums = c.sums_of_children.ensures;
+      skip = refl;
+      width = refl;
+      longer = kid_longer kid c.args.pairs.now c.requires.head (omega arith)
+          c.append_in-count.result c.append_in-count.new.child c.append_in-count.ensures.longer c.append_in-count.ensures.child c.if-count-eq0.false;
+    }
 
 pub append_to_kind-append_to_child-requires : goal.append_to_kind-append_to_child-requires
 append_to_kind-append_to_child-requires g t c κs within =
@@ -136,16 +133,10 @@ append_to_kind-append_child-requires-clause-head g t c =
 
 pub append_to_kind-returns-in-Child-clause-child : goal.append_to_kind-returns-in-Child-clause-child
 append_to_kind-returns-in-Child-clause-child g t c =
-    let words = g.V.Words.WORDS in
-    let n = c.append_to_child.new.branch in
-    let child = subst (λ kind. IsChild words c.args.width (tree_of words kind)) c.in-Branch.is c.requires.child in
-    let same : width_of n ≡ width_of c.in-Branch.branch.value = (λ t. length (c.append_to_child.ensures.skip t) + 1 + c.append_to_child.ensures.width t) ∙ ap width_of c.deref_mut.ensures.value in
-    subst (λ w. IsChild words w (tree_below n)) (same ∙ branch_wide words c.args.width c.in-Branch.branch.value child) (branch-child words n.width n.skip n.bytes n.children.items n.population c.append_to_child.ensures.level)
+    still_child g.V.Words.WORDS c.args.width c.args.kind.now c.in-Branch.branch c.deref_mut.result.now c.append_to_child.new.branch c.in-Branch.is c.requires.child c.deref_mut.ensures.value
+    c.append_to_child.ensures.skip c.append_to_child.ensures.width c.append_to_child.ensures.level
 
 pub append_to_kind-returns-in-Missing-clause-child : goal.append_to_kind-returns-in-Missing-clause-child
 append_to_kind-returns-in-Missing-clause-child g t c =
-    let words = g.V.Words.WORDS in
-    let n = c.append_child.new.branch in
-    let child = subst (λ kind. IsChild words c.args.width (tree_of words kind)) c.in-Branch.is c.requires.child in
-    let same : width_of n ≡ width_of c.in-Branch.branch.value = (λ t. length (c.append_child.ensures.skip t) + 1 + c.append_child.ensures.width t) ∙ ap width_of c.deref_mut-in-Missing.ensures.value in
-    subst (λ w. IsChild words w (tree_below n)) (same ∙ branch_wide words c.args.width c.in-Branch.branch.value child) (branch-child words n.width n.skip n.bytes n.children.items n.population c.append_child.ensures.level)
+    still_child g.V.Words.WORDS c.args.width c.args.kind.now c.in-Branch.branch c.deref_mut-in-Missing.result.now c.append_child.new.branch c.in-Branch.is c.requires.child c.deref_mut-in-Missing.ensures.value
+    c.append_child.ensures.skip c.append_child.ensures.width c.append_child.ensures.level

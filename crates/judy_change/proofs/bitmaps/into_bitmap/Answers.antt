@@ -3,7 +3,7 @@ use Rattle.judy_model.specs.Forms.{loose_in}
 use Rattle.judy_bits.specs.ByteSets.{has, place}
 use Rattle.judy_leaf.specs.KeyLists.{KeyList, keys_of}
 use Rattle.judy_leaf.specs.BitLeaves.{bit_list}
-use Rattle.judy_node.specs.Kinds.{bit_tree}
+use Rattle.judy_node.specs.Kinds.{bit_tree, IsBit}
 use Rattle.judy_node.specs.declared.child.KindOf.TheVariants.{Bit}
 use Rattle.judy_change.specs.LeafTrees.{one_bitmap}
 use Rattle.judy_change.proofs.PairPlaces.{length-with_pair}
@@ -31,8 +31,8 @@ returns-in-Err-put_in_bit_leaf-clause-inserted g c =
     let absent : has (keys_of list.pairs) byte ≡ false = ap (λ (l : KeyList). has (keys_of l.pairs) byte) (sym c.new.ensures) ∙ c.in-Err.ensures.0 in
     (has-bitmap c.args.head.now byte c.args.key is list ∙ absent, ap (bit_tree words c.args.head.now) c.in-Err-put_in_bit_leaf.ensures.unchanged)
 
-pub returns-in-Ok-put_in_bit_leaf-clause-child : goal.returns-in-Ok-put_in_bit_leaf-clause-child
-returns-in-Ok-put_in_bit_leaf-clause-child g c =
+pub returns-in-Ok-put_in_bit_leaf : goal.returns-in-Ok-put_in_bit_leaf
+returns-in-Ok-put_in_bit_leaf g c =
     let words = g.V.Words.WORDS in
     let list = bit_list words c.args.block.now in
     let made = c.in-Ok-put_in_bit_leaf.ensures in
@@ -43,23 +43,16 @@ returns-in-Ok-put_in_bit_leaf-clause-child g c =
     let absent : has (keys_of list.pairs) byte ≡ false = ap (λ (l : KeyList). has (keys_of l.pairs) byte) (sym c.new.ensures) ∙ c.in-Err.ensures.0 in
     let one = length-with_pair byte c.args.value list.pairs in
     let long = ap (λ l. length l.pairs) made.added in
-    child-with {V = ℕ} words c.args.width c.args.key c.args.value (bit_tree words c.args.head.now c.args.block.now) (Bit c.args.head.now c.put_in_bit_leaf.new.block) c.requires.child
-    (record { parts = made.parts; some = omega arith; skips = subst (λ w. c.args.head.now < 256 ^ (w - 1)) (sym (ap (λ l. l.width) made.added)) c.requires.level.skips })
-    (ap (λ l. l.width) made.added) (ap (λ l. (one_bitmap c.args.head.now l).pairs) made.added ∙ pairs-bitmap c.args.head.now byte c.args.key is list c.args.value)
-    (has-bitmap c.args.head.now byte c.args.key is list ∙ absent) c.requires.fits c.requires.no_value
-
-pub returns-in-Ok-put_in_bit_leaf-clause-inserted : goal.returns-in-Ok-put_in_bit_leaf-clause-inserted
-returns-in-Ok-put_in_bit_leaf-clause-inserted g c =
-    let words = g.V.Words.WORDS in
-    let list = bit_list words c.args.block.now in
-    let made = c.in-Ok-put_in_bit_leaf.ensures in
-    let byte = c.low_part-byte.result in
-    let along = c.requires.along in
-    let low = c.low_part-byte.ensures in
-    let is : c.args.key ≡ c.args.head.now * 256 + byte = omega arith in
-    let absent : has (keys_of list.pairs) byte ≡ false = ap (λ (l : KeyList). has (keys_of l.pairs) byte) (sym c.new.ensures) ∙ c.in-Err.ensures.0 in
+    let level : IsBit words c.args.head.now c.put_in_bit_leaf.new.block = record { parts = made.parts; some = omega arith; skips = subst (λ w. c.args.head.now < 256 ^ (w - 1)) (sym (ap (λ l. l.width) made.added)) c.requires.level.skips } in
+    let held = has-bitmap c.args.head.now byte c.args.key is list ∙ absent in
+    let pairs = ap (λ l. (one_bitmap c.args.head.now l).pairs) made.added ∙ pairs-bitmap c.args.head.now byte c.args.key is list c.args.value in
     record {
-      absent = has-bitmap c.args.head.now byte c.args.key is list ∙ absent;
-      pairs = ap (λ l. (one_bitmap c.args.head.now l).pairs) made.added ∙ pairs-bitmap c.args.head.now byte c.args.key is list c.args.value;
-      tight = λ tight. ap (λ l. loose_in (one_bitmap c.args.head.now l).form) made.added ∙ tight-bitmap c.args.head.now byte c.args.key is list c.args.value tight;
+      level = level;
+      child = child-with {V = ℕ} words c.args.width c.args.key c.args.value (bit_tree words c.args.head.now c.args.block.now) (Bit c.args.head.now c.put_in_bit_leaf.new.block) c.requires.child
+          level (ap (λ l. l.width) made.added) pairs held c.requires.fits c.requires.no_value;
+      inserted = record {
+        absent = held;
+        pairs = pairs;
+        tight = λ tight. ap (λ l. loose_in (one_bitmap c.args.head.now l).form) made.added ∙ tight-bitmap c.args.head.now byte c.args.key is list c.args.value tight;
+      };
     }

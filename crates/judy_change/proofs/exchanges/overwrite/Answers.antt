@@ -71,32 +71,18 @@ slot-requires-in-Bit g c =
     let narrow = child-narrow words c.args.width (tree_of words c.args.kind.now) c.requires.child in
     subst (λ k. HasSeat words c.args.width k (4 + c.in-Some-find.at)) c.in-Bit.is (kind-seat words c.args.width c.args.kind.now c.args.key (4 + c.in-Some-find.at) 0 c.requires.words c.requires.level spot (omega arith))
 
-pub returns-in-Some-find-clause-level : goal.returns-in-Some-find-clause-level
-returns-in-Some-find-clause-level g c =
+pub returns-in-Some-find : goal.returns-in-Some-find
+returns-in-Some-find g c =
     let words = g.V.Words.WORDS in
     let front = bit_front words c.in-Bit.head c.args.key c.in-Bit.block (subst (λ k. has_key c.args.key (tree_of words k) ≡ true) c.in-Bit.is c.requires.there) in
     let number = c.number.ensures.value in
     let low = c.args.key - c.number.result * 256 in
     let spot = bit_spot words c.args.kind.now c.in-Bit.head c.in-Bit.block c.args.key low c.in-Some-find.at c.in-Bit.is (omega arith) (sym c.in-Some-find.is ∙ c.find-in-Bit.ensures ∙ ap (λ l. place (keys_of l.pairs) low) c.new-in-Bit.ensures) in
-    subst (λ k. IsLevel words (kind_written k (4 + c.in-Some-find.at) 0 c.replace-in-Bit.new.dest)) c.in-Bit.is (kind-level words c.args.kind.now c.args.key (4 + c.in-Some-find.at) 0 c.replace-in-Bit.new.dest c.requires.words c.requires.level spot)
-
-pub returns-in-Some-find-clause-was : goal.returns-in-Some-find-clause-was
-returns-in-Some-find-clause-was g c =
-    let words = g.V.Words.WORDS in
-    let front = bit_front words c.in-Bit.head c.args.key c.in-Bit.block (subst (λ k. has_key c.args.key (tree_of words k) ≡ true) c.in-Bit.is c.requires.there) in
-    let number = c.number.ensures.value in
-    let low = c.args.key - c.number.result * 256 in
-    let spot = bit_spot words c.args.kind.now c.in-Bit.head c.in-Bit.block c.args.key low c.in-Some-find.at c.in-Bit.is (omega arith) (sym c.in-Some-find.is ∙ c.find-in-Bit.ensures ∙ ap (λ l. place (keys_of l.pairs) low) c.new-in-Bit.ensures) in
-    sym (kind-value words c.args.kind.now c.args.key (4 + c.in-Some-find.at) 0 c.requires.words c.requires.level spot)
-    ∙ ap (λ k. value_at k (4 + c.in-Some-find.at) 0) c.in-Bit.is ∙ ap Some (sym (c.replace-in-Bit.ensures.value ∙ c.slot-in-Bit.ensures.word))
-
-pub returns-in-Some-find-clause-written : goal.returns-in-Some-find-clause-written
-returns-in-Some-find-clause-written g c =
-    let words = g.V.Words.WORDS in
-    let front = bit_front words c.in-Bit.head c.args.key c.in-Bit.block (subst (λ k. has_key c.args.key (tree_of words k) ≡ true) c.in-Bit.is c.requires.there) in
-    let number = c.number.ensures.value in
-    let low = c.args.key - c.number.result * 256 in
-    let spot = bit_spot words c.args.kind.now c.in-Bit.head c.in-Bit.block c.args.key low c.in-Some-find.at c.in-Bit.is (omega arith) (sym c.in-Some-find.is ∙ c.find-in-Bit.ensures ∙ ap (λ l. place (keys_of l.pairs) low) c.new-in-Bit.ensures) in
-    sym (ap (λ k. tree_of words (kind_written k (4 + c.in-Some-find.at) 0 c.replace-in-Bit.new.dest)) c.in-Bit.is)
-    ∙ kind-tree words c.args.kind.now c.args.key (4 + c.in-Some-find.at) 0 c.replace-in-Bit.new.dest c.requires.words c.requires.level spot
-    ∙ ap (λ v. with_value (tree_of words c.args.kind.now) c.args.key v) c.replace-in-Bit.ensures.after
+    record {
+      level = subst (λ k. IsLevel words (kind_written k (4 + c.in-Some-find.at) 0 c.replace-in-Bit.new.dest)) c.in-Bit.is (kind-level words c.args.kind.now c.args.key (4 + c.in-Some-find.at) 0 c.replace-in-Bit.new.dest c.requires.words c.requires.level spot);
+      was = sym (kind-value words c.args.kind.now c.args.key (4 + c.in-Some-find.at) 0 c.requires.words c.requires.level spot)
+          ∙ ap (λ k. value_at k (4 + c.in-Some-find.at) 0) c.in-Bit.is ∙ ap Some (sym (c.replace-in-Bit.ensures.value ∙ c.slot-in-Bit.ensures.word));
+      written = sym (ap (λ k. tree_of words (kind_written k (4 + c.in-Some-find.at) 0 c.replace-in-Bit.new.dest)) c.in-Bit.is)
+          ∙ kind-tree words c.args.kind.now c.args.key (4 + c.in-Some-find.at) 0 c.replace-in-Bit.new.dest c.requires.words c.requires.level spot
+          ∙ ap (λ v. with_value (tree_of words c.args.kind.now) c.args.key v) c.replace-in-Bit.ensures.after;
+    }

@@ -3,8 +3,9 @@ use Rattle.std.specs.List.{remove}
 use Rattle.std.proofs.lemmas.Option.{slice_get_within}
 use Rattle.std.proofs.lemmas.List.{length-set}
 use Rattle.judy_node.specs.Trees.{Tree, IsChild}
+use Rattle.judy_node.specs.Branches.{IsWholeBranch, tree_below}
 use Rattle.judy_node.specs.Kinds.{tree_of, IsLevel}
-use Rattle.judy_change.specs.Removals.{IsGone, IsWhole, tree_below, width_of}
+use Rattle.judy_change.specs.Removals.{IsGone, width_of}
 use Rattle.judy_node.proofs.Maps.{children-length}
 use Rattle.judy_change.proofs.BelowFacts.{step-absent, inside, kid_child, below_fewer, below_same, below_absent, below_only, below_some, below_some-only, below_gone, below_dropped, branch_gone, branch_wide, two_left, same_tree}
 use Rattle.judy_node.proofs.Shaped.{branch-child}
@@ -78,7 +79,7 @@ remove_kind-settle-settled-requires-clause-two g t c =
     let words = g.V.Words.WORDS in
     let level = (subst (IsLevel words) c.in-Branch.is c.requires.level).0 in
     let three = subst (λ kind. c.args.width ≡ 8 → 3 ≤ length (tree_of words kind).pairs) c.in-Branch.is c.requires.three wide in
-    let left = two_left words c.args.key c.deref_mut.result.now c.remove_below.new.branch c.in-Gone.value c.in-Gone.shrunk (subst (IsWhole words) (sym c.deref_mut.ensures.value) level) c.in-Gone.ensures.taken in
+    let left = two_left words c.args.key c.deref_mut.result.now c.remove_below.new.branch c.in-Gone.value c.in-Gone.shrunk (subst (IsWholeBranch words) (sym c.deref_mut.ensures.value) level) c.in-Gone.ensures.taken in
     let same = ap (λ b. b.population) c.deref_mut.ensures.value in
     let were = level.parts.counted in
     let are = c.in-Gone.ensures.taken.branch.parts.counted in
@@ -93,7 +94,7 @@ remove_kind-returns-in-Gone-clause-taken g t c =
     subst (λ kind. IsGone words c.args.width c.args.key (tree_of words kind) new c.in-Gone.value c.both.result) (sym c.in-Branch.is)
     (subst (λ b. IsGone words c.args.width c.args.key (tree_below b) new c.in-Gone.value c.both.result) c.deref_mut.ensures.value
     (branch_gone words c.args.width c.args.key c.deref_mut.result.now c.remove_below.new.branch c.in-Gone.value c.in-Gone.shrunk c.settle-settled.result c.both.result new
-    (subst (IsWhole words) (sym c.deref_mut.ensures.value) level) (ap width_of c.deref_mut.ensures.value ∙ branch_wide words c.args.width c.in-Branch.branch.value child)
+    (subst (IsWholeBranch words) (sym c.deref_mut.ensures.value) level) (ap width_of c.deref_mut.ensures.value ∙ branch_wide words c.args.width c.in-Branch.branch.value child)
     c.in-Gone.ensures.taken c.settle-settled.ensures.settled c.both.ensures))
 
 pub remove_below-take-requires : goal.remove_below-take-requires

@@ -6,33 +6,25 @@ use Rattle.judy_change.proofs.removals.remove_of_two.Goals as goal
 pub fill-requires : goal.fill-requires
 fill-requires g c = (omega arith, (c.requires.child, (sym c.requires.two, omega arith)))
 
-pub returns-then-first-key-clause-root : goal.returns-then-first-key-clause-root
-returns-then-first-key-clause-root g c =
+pub returns-then-first-key : goal.returns-then-first-key
+returns-then-first-key g c =
     let out = c.fill.new.out in
     let is = c.fill.ensures ∙ shift-zero 0 c.args.child.pairs refl in
     let two = sym is ∙ two_pairs out (ap length is ∙ c.requires.two) in
-    second_root g.V.Words.WORDS c.args.key c.args.child (get_or out 0 (0, 0)) (get_or out 1 (0, 0)) two c.requires.child.map
+    record {
+      root = second_root g.V.Words.WORDS c.args.key c.args.child (get_or out 0 (0, 0)) (get_or out 1 (0, 0)) two c.requires.child.map;
+      removed = first_gone g.V.Words.WORDS c.args.key c.args.child (get_or out 0 (0, 0)) (get_or out 1 (0, 0)) two c.requires.child.map c.gone.result c.if-first-key.true c.gone.ensures;
+    }
 
-pub returns-then-first-key-clause-removed : goal.returns-then-first-key-clause-removed
-returns-then-first-key-clause-removed g c =
+pub returns-then-second-key : goal.returns-then-second-key
+returns-then-second-key g c =
     let out = c.fill.new.out in
     let is = c.fill.ensures ∙ shift-zero 0 c.args.child.pairs refl in
     let two = sym is ∙ two_pairs out (ap length is ∙ c.requires.two) in
-    first_gone g.V.Words.WORDS c.args.key c.args.child (get_or out 0 (0, 0)) (get_or out 1 (0, 0)) two c.requires.child.map c.gone.result c.if-first-key.true c.gone.ensures
-
-pub returns-then-second-key-clause-root : goal.returns-then-second-key-clause-root
-returns-then-second-key-clause-root g c =
-    let out = c.fill.new.out in
-    let is = c.fill.ensures ∙ shift-zero 0 c.args.child.pairs refl in
-    let two = sym is ∙ two_pairs out (ap length is ∙ c.requires.two) in
-    first_root g.V.Words.WORDS c.args.key c.args.child (get_or out 0 (0, 0)) (get_or out 1 (0, 0)) two c.requires.child.map
-
-pub returns-then-second-key-clause-removed : goal.returns-then-second-key-clause-removed
-returns-then-second-key-clause-removed g c =
-    let out = c.fill.new.out in
-    let is = c.fill.ensures ∙ shift-zero 0 c.args.child.pairs refl in
-    let two = sym is ∙ two_pairs out (ap length is ∙ c.requires.two) in
-    second_gone g.V.Words.WORDS c.args.key c.args.child (get_or out 0 (0, 0)) (get_or out 1 (0, 0)) two c.requires.child.map c.gone-then-second-key.result c.if-first-key.false c.if-second-key.true c.gone-then-second-key.ensures
+    record {
+      root = first_root g.V.Words.WORDS c.args.key c.args.child (get_or out 0 (0, 0)) (get_or out 1 (0, 0)) two c.requires.child.map;
+      removed = second_gone g.V.Words.WORDS c.args.key c.args.child (get_or out 0 (0, 0)) (get_or out 1 (0, 0)) two c.requires.child.map c.gone-then-second-key.result c.if-first-key.false c.if-second-key.true c.gone-then-second-key.ensures;
+    }
 
 pub returns-clause-root : goal.returns-clause-root
 returns-clause-root g c =

@@ -1,8 +1,9 @@
 use Rattle.std.proofs.Common.{◌≡◌, ◌<◌, ◌≤◌, true≢false, length, sym, ap, ◌∙◌, subst, arith}
 use Rattle.judy_node.specs.Trees.{Tree, IsChild}
+use Rattle.judy_node.specs.Branches.{IsWholeBranch, tree_below}
 use Rattle.judy_node.proofs.Maps.{children-length}
 use Rattle.judy_node.proofs.Shaped.{branch-child}
-use Rattle.judy_change.specs.Removals.{IsSettled, IsWhole, tree_below, pairs_below, loose_below, width_of}
+use Rattle.judy_change.specs.Removals.{IsSettled, pairs_below, loose_below, width_of}
 use Rattle.judy_change.proofs.settle.smaller.Goals as goal
 
 pub lessen-requires : goal.lessen-requires
@@ -31,7 +32,7 @@ merged-requires g c =
     let long = children-length g.V.Words.WORDS branch.width 0 branch.bytes branch.children.items c.requires.branch.parts.children in
     let many : 32 < branch.population = subst (λ b. 32 < b.population) c.deref.ensures c.if-deref-le32.false in
     let same = c.deref_mut.ensures.value in
-    (omega arith, (subst (IsWhole g.V.Words.WORDS) (sym same) c.requires.branch, (subst (λ b. 32 < b.population) (sym same) many, ap (λ b. length b.bytes) same ∙ sym long ∙ c.requires.loose many)))
+    (omega arith, (subst (IsWholeBranch g.V.Words.WORDS) (sym same) c.requires.branch, (subst (λ b. 32 < b.population) (sym same) many, ap (λ b. length b.bytes) same ∙ sym long ∙ c.requires.loose many)))
 
 pub returns : goal.returns
 returns g c =

@@ -1,7 +1,8 @@
 use Rattle.std.proofs.Common.{◌≡◌, ◌+◌, ◌<◌, length, ap, ◌∙◌, subst, arith}
 use Rattle.judy_node.specs.Trees.{IsChild}
+use Rattle.judy_node.specs.Branches.{tree_below}
 use Rattle.judy_node.proofs.Shaped.{branch-child}
-use Rattle.judy_change.specs.Removals.{width_of, tree_below}
+use Rattle.judy_change.specs.Removals.{width_of}
 use Rattle.judy_change.proofs.InsertFacts.{apart_absent}
 use Rattle.judy_change.proofs.way_down.past_branch.Goals as goal
 

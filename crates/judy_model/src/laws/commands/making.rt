@@ -13,7 +13,8 @@ ghost use Rattle.judy_model.specs.CommandLaws.{Says};
 /// With a new name, a kind and a limit of 1 to 4,294,967,295, or none for the greatest, `make` puts the empty array last in a store
 /// of fewer than 64 arrays.
 pub fn make_puts_an_empty_array_last()
-    ensures limit { (store : Store) (name kind : List ℕ) (line : Line) (token : List ℕ) (limit : ℕ) (empty : ℕ → ArrayValue) →
+    ensures limit { (store : Store) (name kind : List ℕ) (line : Line) (token : List ℕ) (limit : ℕ)
+        (empty : ℕ → ArrayValue) →
         IsTrue (is_name name) → kind_named kind ≡ Some empty → word_of token ≡ Some limit → 0 < limit → limit ≤ 4294967295 →
         array_named store name ≡ None → length store < 64 → Says line (codes "make" ∷ name ∷ kind ∷ token ∷ []) →
         step store line ≡ (Ok done, store ++ (name, empty limit) ∷ []) }
@@ -30,19 +31,24 @@ pub fn make_is_refused_in_order()
     ensures kind { (store : Store) (name kind : List ℕ) (line : Line) (token : List ℕ) →
         IsTrue (is_name name) → kind_named kind ≡ None → Says line (codes "make" ∷ name ∷ kind ∷ token ∷ []) →
         step store line ≡ (Err wrong_kind, store) }
-    ensures word { (store : Store) (name kind : List ℕ) (line : Line) (token : List ℕ) (empty : ℕ → ArrayValue) →
+    ensures word { (store : Store) (name kind : List ℕ) (line : Line) (token : List ℕ)
+        (empty : ℕ → ArrayValue) →
         IsTrue (is_name name) → kind_named kind ≡ Some empty → word_of token ≡ None →
         Says line (codes "make" ∷ name ∷ kind ∷ token ∷ []) → step store line ≡ (Err bad_word, store) }
-    ensures zero { (store : Store) (name kind : List ℕ) (line : Line) (token : List ℕ) (empty : ℕ → ArrayValue) →
+    ensures zero { (store : Store) (name kind : List ℕ) (line : Line) (token : List ℕ)
+        (empty : ℕ → ArrayValue) →
         IsTrue (is_name name) → kind_named kind ≡ Some empty → word_of token ≡ Some 0 →
         Says line (codes "make" ∷ name ∷ kind ∷ token ∷ []) → step store line ≡ (Err bad_limit, store) }
-    ensures limit { (store : Store) (name kind : List ℕ) (line : Line) (token : List ℕ) (limit : ℕ) (empty : ℕ → ArrayValue) →
+    ensures limit { (store : Store) (name kind : List ℕ) (line : Line) (token : List ℕ) (limit : ℕ)
+        (empty : ℕ → ArrayValue) →
         IsTrue (is_name name) → kind_named kind ≡ Some empty → word_of token ≡ Some limit → IsFalse (nat_le limit 4294967295) →
         Says line (codes "make" ∷ name ∷ kind ∷ token ∷ []) → step store line ≡ (Err bad_limit, store) }
-    ensures known { (store : Store) (name kind : List ℕ) (line : Line) (token : List ℕ) (limit : ℕ) (empty : ℕ → ArrayValue) (array : ArrayValue) →
+    ensures known { (store : Store) (name kind : List ℕ) (line : Line) (token : List ℕ) (limit : ℕ)
+        (empty : ℕ → ArrayValue) (array : ArrayValue) →
         IsTrue (is_name name) → kind_named kind ≡ Some empty → word_of token ≡ Some limit → 0 < limit → limit ≤ 4294967295 →
         array_named store name ≡ Some array → Says line (codes "make" ∷ name ∷ kind ∷ token ∷ []) → step store line ≡ (Err exists, store) }
-    ensures many { (store : Store) (name kind : List ℕ) (line : Line) (token : List ℕ) (limit : ℕ) (empty : ℕ → ArrayValue) →
+    ensures many { (store : Store) (name kind : List ℕ) (line : Line) (token : List ℕ) (limit : ℕ)
+        (empty : ℕ → ArrayValue) →
         IsTrue (is_name name) → kind_named kind ≡ Some empty → word_of token ≡ Some limit → 0 < limit → limit ≤ 4294967295 →
         array_named store name ≡ None → length store ≡ 64 → Says line (codes "make" ∷ name ∷ kind ∷ token ∷ []) →
         step store line ≡ (Err too_many_arrays, store) }
@@ -55,7 +61,8 @@ pub fn make_without_a_limit_is_refused_in_order()
     ensures kind { (store : Store) (name kind : List ℕ) (line : Line) →
         IsTrue (is_name name) → kind_named kind ≡ None → Says line (codes "make" ∷ name ∷ kind ∷ []) →
         step store line ≡ (Err wrong_kind, store) }
-    ensures known { (store : Store) (name kind : List ℕ) (line : Line) (empty : ℕ → ArrayValue) (array : ArrayValue) →
+    ensures known { (store : Store) (name kind : List ℕ) (line : Line) (empty : ℕ → ArrayValue)
+        (array : ArrayValue) →
         IsTrue (is_name name) → kind_named kind ≡ Some empty → array_named store name ≡ Some array →
         Says line (codes "make" ∷ name ∷ kind ∷ []) → step store line ≡ (Err exists, store) }
     ensures many { (store : Store) (name kind : List ℕ) (line : Line) (empty : ℕ → ArrayValue) →

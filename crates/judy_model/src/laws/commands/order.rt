@@ -19,10 +19,14 @@ pub fn an_unknown_word_is_refused()
 
 /// Then a command is refused whose arguments aren't as many as it takes, whatever they say.
 pub fn a_wrong_number_of_arguments_is_refused()
-    ensures list { (arguments : List (List ℕ)) → length arguments ≢ 0 → RefusesItsArguments (codes "list") arguments }
-    ensures make { (arguments : List (List ℕ)) → length arguments ≢ 2 → length arguments ≢ 3 → RefusesItsArguments (codes "make") arguments }
-    ensures drop { (arguments : List (List ℕ)) → length arguments ≢ 1 → RefusesItsArguments (codes "drop") arguments }
-    ensures free { (arguments : List (List ℕ)) → length arguments ≢ 1 → RefusesItsArguments (codes "free") arguments }
+    ensures list { (arguments : List (List ℕ)) → length arguments ≢ 0
+        → RefusesItsArguments (codes "list") arguments }
+    ensures make { (arguments : List (List ℕ)) → length arguments ≢ 2 → length arguments ≢ 3
+        → RefusesItsArguments (codes "make") arguments }
+    ensures drop { (arguments : List (List ℕ)) → length arguments ≢ 1
+        → RefusesItsArguments (codes "drop") arguments }
+    ensures free { (arguments : List (List ℕ)) → length arguments ≢ 1
+        → RefusesItsArguments (codes "free") arguments }
     ensures one { (which : KeyCommand) (word : List ℕ) (arguments : List (List ℕ)) →
         command_named word ≡ Some (on_key which) → length arguments ≢ 2 → RefusesItsArguments word arguments }
     ensures two { (which : PairCommand) (word : List ℕ) (arguments : List (List ℕ)) →
@@ -33,7 +37,8 @@ pub fn a_wrong_number_of_arguments_is_refused()
 pub fn a_bad_name_is_refused()
     ensures drop { RefusesABadName (codes "drop") [] }
     ensures free { RefusesABadName (codes "free") [] }
-    ensures one { (which : KeyCommand) (word token : List ℕ) → command_named word ≡ Some (on_key which) → RefusesABadName word (token ∷ []) }
+    ensures one { (which : KeyCommand) (word token : List ℕ)
+        → command_named word ≡ Some (on_key which) → RefusesABadName word (token ∷ []) }
     ensures two { (which : PairCommand) (word first second : List ℕ) →
         command_named word ≡ Some (on_pair which) → RefusesABadName word (first ∷ second ∷ []) }
 {}
@@ -42,7 +47,8 @@ pub fn a_bad_name_is_refused()
 pub fn a_missing_array_is_refused()
     ensures drop { RefusesAMissingArray (codes "drop") [] }
     ensures free { RefusesAMissingArray (codes "free") [] }
-    ensures one { (which : KeyCommand) (word token : List ℕ) → command_named word ≡ Some (on_key which) → RefusesAMissingArray word (token ∷ []) }
+    ensures one { (which : KeyCommand) (word token : List ℕ)
+        → command_named word ≡ Some (on_key which) → RefusesAMissingArray word (token ∷ []) }
     ensures two { (which : PairCommand) (word first second : List ℕ) →
         command_named word ≡ Some (on_pair which) → RefusesAMissingArray word (first ∷ second ∷ []) }
 {}

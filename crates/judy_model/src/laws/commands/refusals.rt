@@ -103,7 +103,8 @@ pub fn strings_have_no_empty_neighbours()
 
 /// A judyhs array has no order, and so no neighbours beside.
 pub fn bytes_have_no_neighbours()
-    ensures first { HasNoCommandOfOne judyhs (codes "first") × HasNoCommandOfOne judyhs (codes "fe") }
+    ensures first { HasNoCommandOfOne judyhs (codes "first")
+        × HasNoCommandOfOne judyhs (codes "fe") }
     ensures next { HasNoCommandOfOne judyhs (codes "next") × HasNoCommandOfOne judyhs (codes "ne") }
     ensures last { HasNoCommandOfOne judyhs (codes "last") × HasNoCommandOfOne judyhs (codes "le") }
     ensures prev { HasNoCommandOfOne judyhs (codes "prev") × HasNoCommandOfOne judyhs (codes "pe") }

@@ -11,7 +11,8 @@ ghost use Rattle.judy_model.specs.CommandLaws.{Says, Changes};
 
 /// `free` answers how many keys the array held, and leaves it empty in its place.
 pub fn free_answers_how_many_keys_there_were()
-    ensures { (array : ArrayValue) → Changes (codes "free") [] array (freed (len_of array)) (emptied array) }
+    ensures { (array : ArrayValue)
+        → Changes (codes "free") [] array (freed (len_of array)) (emptied array) }
 {}
 
 /// `drop` answers how many keys the array held, and leaves the store without it.
@@ -23,5 +24,6 @@ pub fn drop_answers_how_many_keys_there_were()
 
 /// `list` answers the arrays of the store, which it leaves.
 pub fn list_answers_the_store()
-    ensures { (store : Store) (line : Line) → Says line (codes "list" ∷ []) → step store line ≡ (Ok (listed store), store) }
+    ensures { (store : Store) (line : Line) → Says line (codes "list" ∷ [])
+        → step store line ≡ (Ok (listed store), store) }
 {}

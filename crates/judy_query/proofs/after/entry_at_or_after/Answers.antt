@@ -24,7 +24,7 @@ pair_behind-requires g c =
     let words = g.V.Words.WORDS in
     let b = c.down.at.0.now in
     let way = c.down.invariant in
-    let branch = branch_is words c.args.tree.now.pairs c.down.at.0 c.args.key c.down.at.1 way.0 in
+    let branch = branch_is way.0 in
     let some = way.0.shown.some in
     let room = c.requires in
     record {
@@ -44,7 +44,7 @@ returns-in_default-step g c =
     let base = c.args.key - c.down.at.1 in
     let way = c.down.invariant in
     let beside = beside_is c.step-step.result c.in_default-step.not-Child in
-    let part = down_gap words pairs c.down.at.0 c.args.key c.down.at.1 way.0 c.step-step.result beside c.step-step.ensures in
+    let part = down_gap way.0 c.step-step.result beside c.step-step.ensures in
     let place = beside_reached (length b.children.items) c.step-step.result beside in
     let some = way.0.shown.some in
     record {
@@ -58,33 +58,31 @@ returns-in_default-step g c =
 
 pub index-requires : goal.index-requires
 index-requires g c =
-    let inside = child_inside g.V.Words.WORDS c.args.tree.now.pairs c.down.at.0 c.args.key c.down.at.1 c.down.invariant.0 c.in-Child.field-0 c.in-Child.place c.in-Child.rest c.in-Child.ensures in
+    let inside = child_inside c.down.invariant.0 c.in-Child.field-0 c.in-Child.place c.in-Child.rest c.in-Child.ensures in
     omega (arith, c.down.at.0.now.children.ok.0)
 
 pub enter-requires-in-down : goal.enter-requires-in-down
 enter-requires-in-down g c =
-    (omega arith, (omega (arith, c.down.invariant.3, c.requires), child_is g.V.Words.WORDS c.args.tree.now.pairs c.down.at.0 c.args.key c.down.at.1 c.down.invariant.0 c.in-Child.field-0 c.in-Child.place c.in-Child.rest c.in-Child.ensures c.index.result.now c.index.ensures))
+    (omega arith, (omega (arith, c.down.invariant.3, c.requires), child_is c.down.invariant.0 c.in-Child.field-0 c.in-Child.place c.in-Child.rest c.in-Child.ensures c.index.ensures))
 
 pub later_turn-later-requires-clause-inside : goal.later_turn-later-requires-clause-inside
 later_turn-later-requires-clause-inside g c =
-    let inside = child_inside g.V.Words.WORDS c.args.tree.now.pairs c.down.at.0 c.args.key c.down.at.1 c.down.invariant.0 c.in-Child.field-0 c.in-Child.place c.in-Child.rest c.in-Child.ensures in
+    let inside = child_inside c.down.invariant.0 c.in-Child.field-0 c.in-Child.place c.in-Child.rest c.in-Child.ensures in
     omega arith
 
 pub later_turn-later-requires-clause-step : goal.later_turn-later-requires-clause-step
 later_turn-later-requires-clause-step g c =
     let words = g.V.Words.WORDS in
     let b = c.down.at.0.now in
-    reached_rank words b.width b.skip b.bytes b.children.items b.population (branch_is words c.args.tree.now.pairs c.down.at.0 c.args.key c.down.at.1 c.down.invariant.0) c.down.at.1
+    reached_rank words b.width b.skip b.bytes b.children.items b.population (branch_is c.down.invariant.0) c.down.at.1
     (Child c.in-Child.field-0 c.in-Child.place c.in-Child.rest) c.in-Child.ensures
 
 pub down-preserved : goal.down-preserved
 down-preserved g c =
-    let words = g.V.Words.WORDS in
-    let pairs = c.args.tree.now.pairs in
     let b = c.down.at.0.now in
     let base = c.args.key - c.down.at.1 in
     let way = c.down.invariant in
-    let next = down_child words pairs c.down.at.0 c.args.key c.down.at.1 way.0 c.in-Child.field-0 c.in-Child.place c.in-Child.rest c.in-Child.ensures c.index.result.now c.index.ensures (Branch c.in-Branch-enter.below) c.in-Branch-enter.ensures.view in
+    let next = down_child way.0 c.in-Child.field-0 c.in-Child.place c.in-Child.rest c.in-Child.ensures c.index.ensures c.in-Branch-enter.ensures.view in
     let less = next.width_is in
     let visits = c.enter-in-down.ensures.visits in
     let so_far = way.3 in (
@@ -102,7 +100,7 @@ returns-in-Some g c =
     let words = g.V.Words.WORDS in
     let pairs = c.args.tree.now.pairs in
     let view = c.enter-in-down.result in
-    let next = down_child words pairs c.down.at.0 c.args.key c.down.at.1 c.down.invariant.0 c.in-Child.field-0 c.in-Child.place c.in-Child.rest c.in-Child.ensures c.index.result.now c.index.ensures view c.enter-in-down.ensures.view in
+    let next = down_child c.down.invariant.0 c.in-Child.field-0 c.in-Child.place c.in-Child.rest c.in-Child.ensures c.index.ensures c.enter-in-down.ensures.view in
     let above = next.down.above in
     let whole : c.args.key ≡ c.args.key - c.in-Child.rest + c.in-Child.rest = omega arith in
     let some = next.down.shown.some in
@@ -115,12 +113,11 @@ returns-in-Some g c =
 pub pair_behind-requires-in_default-from_in : goal.pair_behind-requires-in_default-from_in
 pair_behind-requires-in_default-from_in g c =
     let words = g.V.Words.WORDS in
-    let pairs = c.args.tree.now.pairs in
     let b = c.down.at.0.now in
     let way = c.down.invariant in
-    let next = down_child words pairs c.down.at.0 c.args.key c.down.at.1 way.0 c.in-Child.field-0 c.in-Child.place c.in-Child.rest c.in-Child.ensures c.index.result.now c.index.ensures c.enter-in-down.result c.enter-in-down.ensures.view in
-    let kid = child_inside words pairs c.down.at.0 c.args.key c.down.at.1 way.0 c.in-Child.field-0 c.in-Child.place c.in-Child.rest c.in-Child.ensures in
-    let branch = branch_is words pairs c.down.at.0 c.args.key c.down.at.1 way.0 in
+    let next = down_child way.0 c.in-Child.field-0 c.in-Child.place c.in-Child.rest c.in-Child.ensures c.index.ensures c.enter-in-down.ensures.view in
+    let kid = child_inside way.0 c.in-Child.field-0 c.in-Child.place c.in-Child.rest c.in-Child.ensures in
+    let branch = branch_is way.0 in
     let less = next.width_is in
     let some = next.down.shown.some in
     let visits = c.enter-in-down.ensures.visits in
@@ -142,7 +139,7 @@ returns-in_default-from_in g c =
     let base = c.args.key - c.down.at.1 in
     let way = c.down.invariant in
     let view = c.enter-in-down.result in
-    let next = down_child words pairs c.down.at.0 c.args.key c.down.at.1 way.0 c.in-Child.field-0 c.in-Child.place c.in-Child.rest c.in-Child.ensures c.index.result.now c.index.ensures view c.enter-in-down.ensures.view in
+    let next = down_child way.0 c.in-Child.field-0 c.in-Child.place c.in-Child.rest c.in-Child.ensures c.index.ensures c.enter-in-down.ensures.view in
     let behind = shift base (rest_of (256 ^ b.width) (number_of b.skip * 256) b.bytes b.children.items (suc c.in-Child.place)) in
     let some = next.down.shown.some in
     let visits = c.enter-in-down.ensures.visits in
@@ -156,7 +153,7 @@ returns-in_default-from_in g c =
 pub overflow_add-result : goal.overflow_add-result
 overflow_add-result g c =
     let view = c.enter-in-down.result in
-    let next = down_child g.V.Words.WORDS c.args.tree.now.pairs c.down.at.0 c.args.key c.down.at.1 c.down.invariant.0 c.in-Child.field-0 c.in-Child.place c.in-Child.rest c.in-Child.ensures c.index.result.now c.index.ensures view c.enter-in-down.ensures.view in
+    let next = down_child c.down.invariant.0 c.in-Child.field-0 c.in-Child.place c.in-Child.rest c.in-Child.ensures c.index.ensures c.enter-in-down.ensures.view in
     let down = next.down in
     let fits = down.part.fits in
     let below = found_below g.V.Words.WORDS 0 (256 ^ width_of view) (λ pair. is_ge (word_order pair.0 c.in-Child.rest)) (view_pairs view) c.in-Some-from_in.found.0 c.in-Some-from_in.found.1 down.shown.map (sym c.from_in-in_default-enter.ensures ∙ c.in-Some-from_in.is) in
@@ -167,7 +164,7 @@ returns-in_default-enter g c =
     let words = g.V.Words.WORDS in
     let pairs = c.args.tree.now.pairs in
     let view = c.enter-in-down.result in
-    let next = down_child words pairs c.down.at.0 c.args.key c.down.at.1 c.down.invariant.0 c.in-Child.field-0 c.in-Child.place c.in-Child.rest c.in-Child.ensures c.index.result.now c.index.ensures view c.enter-in-down.ensures.view in
+    let next = down_child c.down.invariant.0 c.in-Child.field-0 c.in-Child.place c.in-Child.rest c.in-Child.ensures c.index.ensures c.enter-in-down.ensures.view in
     let some = next.down.shown.some in
     record {
       entry = down_from words pairs view c.args.key c.in-Child.rest next.down (Some c.in-Some-from_in.found) (sym c.in-Some-from_in.is ∙ c.from_in-in_default-enter.ensures);

@@ -23,19 +23,19 @@ pub earlier_turn-earlier-requires-clause-inside : goal.earlier_turn-earlier-requ
 earlier_turn-earlier-requires-clause-inside g c =
     let words = g.V.Words.WORDS in
     let b = c.down.at.0.now in
-    passed_few words b.width b.skip b.bytes b.children.items b.population c.down.at.1 c.step-step.result (branch_is words c.args.tree.now.pairs c.down.at.0 c.args.key c.down.at.1 c.down.invariant.0) c.step-step.ensures
+    passed_few words b.width b.skip b.bytes b.children.items b.population c.down.at.1 c.step-step.result (branch_is c.down.invariant.0) c.step-step.ensures
 
 pub earlier_turn-earlier-requires-clause-step : goal.earlier_turn-earlier-requires-clause-step
 earlier_turn-earlier-requires-clause-step g c =
     let words = g.V.Words.WORDS in
     let b = c.down.at.0.now in
-    passed_rank words b.width b.skip b.bytes b.children.items b.population (branch_is words c.args.tree.now.pairs c.down.at.0 c.args.key c.down.at.1 c.down.invariant.0) c.down.at.1 c.step-step.result c.step-step.ensures
+    passed_rank words b.width b.skip b.bytes b.children.items b.population (branch_is c.down.invariant.0) c.down.at.1 c.step-step.result c.step-step.ensures
 
 pub earlier_turn-earlier-requires-clause-small : goal.earlier_turn-earlier-requires-clause-small
 earlier_turn-earlier-requires-clause-small g c =
     let words = g.V.Words.WORDS in
     let b = c.down.at.0.now in
-    passed_small words b.width b.skip b.bytes b.children.items b.population (branch_is words c.args.tree.now.pairs c.down.at.0 c.args.key c.down.at.1 c.down.invariant.0) c.down.at.1 c.step-step.result c.step-step.ensures
+    passed_small words b.width b.skip b.bytes b.children.items b.population (branch_is c.down.invariant.0) c.down.at.1 c.step-step.result c.step-step.ensures
 
 pub returns-in_default-step : goal.returns-in_default-step
 returns-in_default-step g c =
@@ -45,7 +45,7 @@ returns-in_default-step g c =
     let base = c.args.key - c.down.at.1 in
     let way = c.down.invariant in
     let beside = beside_is c.step-step.result c.in_default-step.not-Child in
-    let part = down_gap words pairs c.down.at.0 c.args.key c.down.at.1 way.0 c.step-step.result beside c.step-step.ensures in
+    let part = down_gap way.0 c.step-step.result beside c.step-step.ensures in
     let some = way.0.shown.some in
     record {
       entry = c.greatest.ensures.entry ∙ c.earlier_turn-earlier.ensures.pair
@@ -58,21 +58,19 @@ returns-in_default-step g c =
 
 pub index-requires : goal.index-requires
 index-requires g c =
-    let inside = child_inside g.V.Words.WORDS c.args.tree.now.pairs c.down.at.0 c.args.key c.down.at.1 c.down.invariant.0 c.in-Child.field-0 c.in-Child.place c.in-Child.rest c.in-Child.ensures in
+    let inside = child_inside c.down.invariant.0 c.in-Child.field-0 c.in-Child.place c.in-Child.rest c.in-Child.ensures in
     omega (arith, c.down.at.0.now.children.ok.0)
 
 pub enter-requires-in-down : goal.enter-requires-in-down
 enter-requires-in-down g c =
-    (omega arith, (omega (arith, c.down.invariant.3, c.requires), child_is g.V.Words.WORDS c.args.tree.now.pairs c.down.at.0 c.args.key c.down.at.1 c.down.invariant.0 c.in-Child.field-0 c.in-Child.place c.in-Child.rest c.in-Child.ensures c.index.result.now c.index.ensures))
+    (omega arith, (omega (arith, c.down.invariant.3, c.requires), child_is c.down.invariant.0 c.in-Child.field-0 c.in-Child.place c.in-Child.rest c.in-Child.ensures c.index.ensures))
 
 pub down-preserved : goal.down-preserved
 down-preserved g c =
-    let words = g.V.Words.WORDS in
-    let pairs = c.args.tree.now.pairs in
     let b = c.down.at.0.now in
     let base = c.args.key - c.down.at.1 in
     let way = c.down.invariant in
-    let next = down_child words pairs c.down.at.0 c.args.key c.down.at.1 way.0 c.in-Child.field-0 c.in-Child.place c.in-Child.rest c.in-Child.ensures c.index.result.now c.index.ensures (Branch c.in-Branch-enter.below) c.in-Branch-enter.ensures.view in
+    let next = down_child way.0 c.in-Child.field-0 c.in-Child.place c.in-Child.rest c.in-Child.ensures c.index.ensures c.in-Branch-enter.ensures.view in
     let place = ap (passed (length b.children.items)) c.in-Child.is in
     let less = next.width_is in
     let visits = c.enter-in-down.ensures.visits in
@@ -94,7 +92,7 @@ returns-in_default-up_to_in g c =
     let base = c.args.key - c.down.at.1 in
     let way = c.down.invariant in
     let view = c.enter-in-down.result in
-    let next = down_child words pairs c.down.at.0 c.args.key c.down.at.1 way.0 c.in-Child.field-0 c.in-Child.place c.in-Child.rest c.in-Child.ensures c.index.result.now c.index.ensures view c.enter-in-down.ensures.view in
+    let next = down_child way.0 c.in-Child.field-0 c.in-Child.place c.in-Child.rest c.in-Child.ensures c.index.ensures c.enter-in-down.ensures.view in
     let front : ℕ → Pairs = λ place. shift base (first_of (256 ^ b.width) (number_of b.skip * 256) b.bytes b.children.items place) in
     let place = ap (passed (length b.children.items)) c.in-Child.is in
     let some = next.down.shown.some in
@@ -109,7 +107,7 @@ returns-in_default-up_to_in g c =
 pub overflow_add-result : goal.overflow_add-result
 overflow_add-result g c =
     let view = c.enter-in-down.result in
-    let next = down_child g.V.Words.WORDS c.args.tree.now.pairs c.down.at.0 c.args.key c.down.at.1 c.down.invariant.0 c.in-Child.field-0 c.in-Child.place c.in-Child.rest c.in-Child.ensures c.index.result.now c.index.ensures view c.enter-in-down.ensures.view in
+    let next = down_child c.down.invariant.0 c.in-Child.field-0 c.in-Child.place c.in-Child.rest c.in-Child.ensures c.index.ensures c.enter-in-down.ensures.view in
     let down = next.down in
     let fits = down.part.fits in
     let below = up_to_below g.V.Words.WORDS 0 (256 ^ width_of view) c.in-Child.rest (view_pairs view) c.in-Some.found.0 c.in-Some.found.1 down.shown.map (sym c.up_to_in-in_default-enter.ensures ∙ c.in-Some.is) in
@@ -120,7 +118,7 @@ returns-in_default-enter g c =
     let words = g.V.Words.WORDS in
     let pairs = c.args.tree.now.pairs in
     let view = c.enter-in-down.result in
-    let next = down_child words pairs c.down.at.0 c.args.key c.down.at.1 c.down.invariant.0 c.in-Child.field-0 c.in-Child.place c.in-Child.rest c.in-Child.ensures c.index.result.now c.index.ensures view c.enter-in-down.ensures.view in
+    let next = down_child c.down.invariant.0 c.in-Child.field-0 c.in-Child.place c.in-Child.rest c.in-Child.ensures c.index.ensures c.enter-in-down.ensures.view in
     let some = next.down.shown.some in
     record {
       entry = down_up_to words pairs view c.args.key c.in-Child.rest next.down (Some c.in-Some.found) (sym c.in-Some.is ∙ c.up_to_in-in_default-enter.ensures);

@@ -18,7 +18,7 @@ keys_before-below-requires-clause-place g c =
     let pairs = c.args.tree.now.pairs in
     let b = c.in-Branch.branch.now in
     let down = subst (λ v. IsDown words pairs v c.args.key c.down.left) c.in-Branch.is c.down.invariant.0 in
-    let few = passed_few words b.width b.skip b.bytes b.children.items b.population c.down.left c.step-step.result (branch_is words pairs c.in-Branch.branch c.args.key c.down.left down) c.step-step.ensures in
+    let few = passed_few words b.width b.skip b.bytes b.children.items b.population c.down.left c.step-step.result (branch_is down) c.step-step.ensures in
     let same = c.passed.ensures in
     omega arith
 
@@ -28,7 +28,7 @@ overflow_add-below g c =
     let pairs = c.args.tree.now.pairs in
     let b = c.in-Branch.branch.now in
     let way = subst (λ v. (down : IsDown words pairs v c.args.key c.down.left) × (c.down.below ≡ length down.front)) c.in-Branch.is (c.down.invariant.0, c.down.invariant.1) in
-    let few = front_within words pairs c.in-Branch.branch c.args.key c.down.left way.0 c.step-step.result c.step-step.ensures in
+    let few = front_within way.0 c.step-step.result c.step-step.ensures in
     let keys = c.keys_before-below.ensures ∙ ap (λ n. keys_before n b.children.items) c.passed.ensures in
     let below = way.1 in
     omega (arith, c.ranges.key)
@@ -39,8 +39,8 @@ returns-in_default-step g c =
     let pairs = c.args.tree.now.pairs in
     let b = c.in-Branch.branch.now in
     let way = subst (λ v. (down : IsDown words pairs v c.args.key c.down.left) × (c.down.below ≡ length down.front)) c.in-Branch.is (c.down.invariant.0, c.down.invariant.1) in
-    let part = down_gap words pairs c.in-Branch.branch c.args.key c.down.left way.0 c.step-step.result (beside_is c.step-step.result c.in_default-step.not-Child) c.step-step.ensures in
-    let long = front_long words pairs c.in-Branch.branch c.args.key c.down.left way.0 (passed (length b.children.items) c.step-step.result) in
+    let part = down_gap way.0 c.step-step.result (beside_is c.step-step.result c.in_default-step.not-Child) c.step-step.ensures in
+    let long = front_long way.0 (passed (length b.children.items) c.step-step.result) in
     let keys = c.keys_before-below.ensures ∙ ap (λ n. keys_before n b.children.items) c.passed.ensures in
     let below = way.1 in
     let ranked = part-rank words (256 ^ 8) pairs c.args.key 1 0 c.args.key [] _ _ part (omega arith) (omega arith) in
@@ -56,7 +56,7 @@ index-requires g c =
     let words = g.V.Words.WORDS in
     let pairs = c.args.tree.now.pairs in
     let down = subst (λ v. IsDown words pairs v c.args.key c.down.left) c.in-Branch.is c.down.invariant.0 in
-    let inside = child_inside words pairs c.in-Branch.branch c.args.key c.down.left down c.in-Child.field-0 c.in-Child.place c.in-Child.rest c.in-Child.ensures in
+    let inside = child_inside down c.in-Child.field-0 c.in-Child.place c.in-Child.rest c.in-Child.ensures in
     omega (arith, c.in-Branch.branch.now.children.ok.0)
 
 pub enter-view-requires-in-Branch : goal.enter-view-requires-in-Branch
@@ -64,14 +64,14 @@ enter-view-requires-in-Branch g c =
     let words = g.V.Words.WORDS in
     let pairs = c.args.tree.now.pairs in
     let down = subst (λ v. IsDown words pairs v c.args.key c.down.left) c.in-Branch.is c.down.invariant.0 in
-    (omega arith, (omega (arith, c.down.invariant.2, c.enter-view.ensures.visits, c.requires), child_is words pairs c.in-Branch.branch c.args.key c.down.left down c.in-Child.field-0 c.in-Child.place c.in-Child.rest c.in-Child.ensures c.index.result.now c.index.ensures))
+    (omega arith, (omega (arith, c.down.invariant.2, c.enter-view.ensures.visits, c.requires), child_is down c.in-Child.field-0 c.in-Child.place c.in-Child.rest c.in-Child.ensures c.index.ensures))
 
 pub down-smaller : goal.down-smaller
 down-smaller g c =
     let words = g.V.Words.WORDS in
     let pairs = c.args.tree.now.pairs in
     let down = subst (λ v. IsDown words pairs v c.args.key c.down.left) c.in-Branch.is c.down.invariant.0 in
-    let next = down_child words pairs c.in-Branch.branch c.args.key c.down.left down c.in-Child.field-0 c.in-Child.place c.in-Child.rest c.in-Child.ensures c.index.result.now c.index.ensures c.enter-view-in-Branch.result c.enter-view-in-Branch.ensures.view in
+    let next = down_child down c.in-Child.field-0 c.in-Child.place c.in-Child.rest c.in-Child.ensures c.index.ensures c.enter-view-in-Branch.ensures.view in
     let here = ap width_of c.in-Branch.is in
     let less = next.width_is in
     omega arith
@@ -82,12 +82,12 @@ down-preserved g c =
     let pairs = c.args.tree.now.pairs in
     let b = c.in-Branch.branch.now in
     let way = subst (λ v. (down : IsDown words pairs v c.args.key c.down.left) × (c.down.below ≡ length down.front)) c.in-Branch.is (c.down.invariant.0, c.down.invariant.1) in
-    let next = down_child words pairs c.in-Branch.branch c.args.key c.down.left way.0 c.in-Child.field-0 c.in-Child.place c.in-Child.rest c.in-Child.ensures c.index.result.now c.index.ensures c.enter-view-in-Branch.result c.enter-view-in-Branch.ensures.view in
+    let next = down_child way.0 c.in-Child.field-0 c.in-Child.place c.in-Child.rest c.in-Child.ensures c.index.ensures c.enter-view-in-Branch.ensures.view in
     let here = ap width_of c.in-Branch.is in
     let less = next.width_is in
     let visits = c.enter-view-in-Branch.ensures.visits in
     let so_far = c.down.invariant.2 in
-    let long = front_long words pairs c.in-Branch.branch c.args.key c.down.left way.0 c.in-Child.place in
+    let long = front_long way.0 c.in-Child.place in
     let keys = c.keys_before-below.ensures ∙ ap (λ n. keys_before n b.children.items) (c.passed.ensures ∙ ap (passed (length b.children.items)) c.in-Child.is) in
     let below = way.1 in
     let grown = ap length next.front_is in

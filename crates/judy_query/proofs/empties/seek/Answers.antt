@@ -44,7 +44,7 @@ index-child-requires g c =
     let words = g.V.Words.WORDS in
     let all = c.args.tree.now.pairs in
     let down = subst (λ v. IsDown words all v c.args.key c.down.left) c.in-Branch.is c.down.invariant.0 in
-    let inside = child_inside words all c.in-Branch.branch c.args.key c.down.left down c.in-Child.byte c.in-Child.place c.in-Child.rest c.in-Child.ensures in
+    let inside = child_inside down c.in-Child.byte c.in-Child.place c.in-Child.rest c.in-Child.ensures in
     omega (arith, c.in-Branch.branch.now.children.ok.0)
 
 pub returns-then-is_full-clause-room : goal.returns-then-is_full-clause-room
@@ -73,7 +73,7 @@ enter-view-requires g c =
     let room = child_room words all b key left down c.in-Child.byte c.in-Child.place c.in-Child.rest c.in-Child.ensures c.index-child.result.now c.index-child.ensures (not_full (length c.index-child.result.now.pairs) (256 ^ b.now.width) c.is_full.result c.is_full.ensures c.if-is_full.false) in
     record {
       below = omega (arith, c.down.invariant.3, c.enter_root-view.ensures.visits, c.requires);
-      child = child_is words all b key left down c.in-Child.byte c.in-Child.place c.in-Child.rest c.in-Child.ensures c.index-child.result.now c.index-child.ensures;
+      child = child_is down c.in-Child.byte c.in-Child.place c.in-Child.rest c.in-Child.ensures c.index-child.ensures;
       narrow = omega (arith, down.shown.narrow);
       room = omega (arith, room);
     }
@@ -83,7 +83,7 @@ down-smaller g c =
     let words = g.V.Words.WORDS in
     let all = c.args.tree.now.pairs in
     let down = subst (λ v. IsDown words all v c.args.key c.down.left) c.in-Branch.is c.down.invariant.0 in
-    let next = down_child words all c.in-Branch.branch c.args.key c.down.left down c.in-Child.byte c.in-Child.place c.in-Child.rest c.in-Child.ensures c.index-child.result.now c.index-child.ensures c.enter-view.result c.enter-view.ensures.view in
+    let next = down_child down c.in-Child.byte c.in-Child.place c.in-Child.rest c.in-Child.ensures c.index-child.ensures c.enter-view.ensures.view in
     omega (arith, ap width_of c.in-Branch.is, next.width_is)
 
 pub down-preserved : goal.down-preserved
@@ -97,7 +97,7 @@ down-preserved g c =
     let down = subst (λ v. IsDown words all v key left) c.in-Branch.is c.down.invariant.0 in
     let past = subst (λ v. IsRoomPast side words all 0 (2 ^ 64) (key - left) (256 ^ width_of v) c.down.beside) c.in-Branch.is c.down.invariant.2 in
     let room = child_past words all b key left down c.in-Child.byte c.in-Child.place c.in-Child.rest c.in-Child.ensures side c.room_past.result c.down.beside c.room_past.ensures past in
-    let next = down_child words all b key left down c.in-Child.byte c.in-Child.place c.in-Child.rest c.in-Child.ensures c.index-child.result.now c.index-child.ensures c.enter-view.result c.enter-view.ensures.view in
+    let next = down_child down c.in-Child.byte c.in-Child.place c.in-Child.rest c.in-Child.ensures c.index-child.ensures c.enter-view.ensures.view in
     let here = ap width_of c.in-Branch.is in
     let less = next.width_is in
     let visits = c.enter-view.ensures.visits in

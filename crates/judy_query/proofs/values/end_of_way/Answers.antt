@@ -65,26 +65,23 @@ returns-in_default g c =
     let tree = branch_pairs top.width top.skip top.bytes top.children.items in
     let down = c.down.invariant.0 in
     let some = down.shown.some in
-    let part = down_gap words tree (record { ref_ptr = (0, 0); now = c.down.branch.now }) c.args.key c.down.left down c.step.result (beside_is c.step.result c.in_default.not-Child) c.step.ensures in
+    let part = down_gap down c.step.result (beside_is c.step.result c.in_default.not-Child) c.step.ensures in
     record { value = part-value words (256 ^ 8) tree c.args.key 1 0 c.args.key [] _ _ part (omega arith) (omega arith); end = tt; no_fewer = c.down.invariant.2; visits = omega (arith, c.down.invariant.1) }
 
 pub index-requires : goal.index-requires
 index-requires g c =
-    let top = c.args.top.now in
-    let inside = child_inside g.V.Words.WORDS (branch_pairs top.width top.skip top.bytes top.children.items) (record { ref_ptr = (0, 0); now = c.down.branch.now }) c.args.key c.down.left c.down.invariant.0 c.in-Child.field-0 c.in-Child.place c.in-Child.rest c.in-Child.ensures in
+    let inside = child_inside c.down.invariant.0 c.in-Child.field-0 c.in-Child.place c.in-Child.rest c.in-Child.ensures in
     omega (arith, c.down.branch.now.children.ok.0)
 
 pub enter-requires : goal.enter-requires
 enter-requires g c =
     let some = c.down.invariant.0.shown.some in
     let top_narrow = c.requires.shown.narrow in
-    let top = c.args.top.now in
-    (omega arith, (omega (arith, c.down.invariant.1, c.requires.below), child_is g.V.Words.WORDS (branch_pairs top.width top.skip top.bytes top.children.items) (record { ref_ptr = (0, 0); now = c.down.branch.now }) c.args.key c.down.left c.down.invariant.0 c.in-Child.field-0 c.in-Child.place c.in-Child.rest c.in-Child.ensures c.index.result.now c.index.ensures))
+    (omega arith, (omega (arith, c.down.invariant.1, c.requires.below), child_is c.down.invariant.0 c.in-Child.field-0 c.in-Child.place c.in-Child.rest c.in-Child.ensures c.index.ensures))
 
 pub down-smaller : goal.down-smaller
 down-smaller g c =
-    let top = c.args.top.now in
-    let next = down_child g.V.Words.WORDS (branch_pairs top.width top.skip top.bytes top.children.items) (record { ref_ptr = (0, 0); now = c.down.branch.now }) c.args.key c.down.left c.down.invariant.0 c.in-Child.field-0 c.in-Child.place c.in-Child.rest c.in-Child.ensures c.index.result.now c.index.ensures c.enter.result c.enter.ensures.view in
+    let next = down_child c.down.invariant.0 c.in-Child.field-0 c.in-Child.place c.in-Child.rest c.in-Child.ensures c.index.ensures c.enter.ensures.view in
     let here = ap width_of c.in-Branch.is in
     let less = next.width_is in
     omega arith
@@ -94,7 +91,7 @@ down-preserved g c =
     let words = g.V.Words.WORDS in
     let top = c.args.top.now in
     let tree = branch_pairs top.width top.skip top.bytes top.children.items in
-    let next = down_child words tree (record { ref_ptr = (0, 0); now = c.down.branch.now }) c.args.key c.down.left c.down.invariant.0 c.in-Child.field-0 c.in-Child.place c.in-Child.rest c.in-Child.ensures c.index.result.now c.index.ensures c.enter.result c.enter.ensures.view in
+    let next = down_child c.down.invariant.0 c.in-Child.field-0 c.in-Child.place c.in-Child.rest c.in-Child.ensures c.index.ensures c.enter.ensures.view in
     let here = ap width_of c.in-Branch.is in
     let less = next.width_is in
     let visits = c.enter.ensures.visits in
@@ -106,7 +103,7 @@ returns-in_default-enter g c =
     let words = g.V.Words.WORDS in
     let top = c.args.top.now in
     let tree = branch_pairs top.width top.skip top.bytes top.children.items in
-    let next = down_child words tree (record { ref_ptr = (0, 0); now = c.down.branch.now }) c.args.key c.down.left c.down.invariant.0 c.in-Child.field-0 c.in-Child.place c.in-Child.rest c.in-Child.ensures c.index.result.now c.index.ensures c.enter.result c.enter.ensures.view in
+    let next = down_child c.down.invariant.0 c.in-Child.field-0 c.in-Child.place c.in-Child.rest c.in-Child.ensures c.index.ensures c.enter.ensures.view in
     let some = next.down.shown.some in
     let visits = c.enter.ensures.visits in
     let so_far = c.down.invariant.1 in

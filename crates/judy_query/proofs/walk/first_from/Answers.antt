@@ -10,7 +10,7 @@ use Rattle.judy_query.proofs.BranchRooms.{bytes_ascend}
 use Rattle.judy_leaf.proofs.NextKeys.{rank_behind}
 use Rattle.judy_query.proofs.Downs.{kid_is, start_room}
 use Rattle.judy_query.proofs.Splits.{rest_of}
-use Rattle.judy_query.proofs.WalkFacts.{entered_width, entered_shown, entered_some, entered_fits, entered_pairs}
+use Rattle.judy_query.proofs.WalkFacts.{entered_of, entered_width, entered_shown, entered_some, entered_fits, entered_pairs}
 use Rattle.judy_query.proofs.walk.first_from.Goals as goal
 
 pub enter-view-requires : goal.enter-view-requires
@@ -42,38 +42,31 @@ overflow_add-base g c =
 
 pub first_of-requires : goal.first_of-requires
 first_of-requires g c =
-    let words = g.V.Words.WORDS in
     let turn = c.args.turn in
-    let b = turn.branch.now in
-    let is = c.requires.turn.branch in
-    let start : IsStart (256 ^ b.width) (number_of b.skip * 256) b.bytes turn.place c.start_at.result = (c.byte_from-byte.result, c.byte_from-byte.ensures, c.start_at.ensures) in
-    let wide = entered_width words b.width b.skip b.bytes b.children.items b.population is turn.place c.start_at.result c.requires.turn.inside start c.index.result.now c.index.ensures c.enter-view.result c.enter-view.ensures.view in
+    let entered = entered_of c.requires.turn.branch c.requires.turn.inside c.byte_from-byte.ensures c.start_at.ensures c.index.ensures c.enter-view.ensures.view in
+    let wide = entered_width entered in
     let one = c.keep.ensures.one in
     let room = c.requires.room in
-    let shown = entered_shown words b.width b.skip b.bytes b.children.items b.population is turn.place c.start_at.result c.requires.turn.inside start c.index.result.now c.index.ensures c.enter-view.result c.enter-view.ensures.view in
-    let fits = entered_fits words b.width b.skip b.bytes b.children.items b.population is turn.place c.start_at.result c.requires.turn.inside start c.index.result.now c.index.ensures c.enter-view.result c.enter-view.ensures.view turn.base c.requires.turn.fits in
-    let some = entered_some words b.width b.skip b.bytes b.children.items b.population is turn.place c.start_at.result c.requires.turn.inside start c.index.result.now c.index.ensures c.enter-view.result c.enter-view.ensures.view in
+    let shown = entered_shown entered in
+    let fits = entered_fits entered turn.base c.requires.turn.fits in
+    let some = entered_some entered in
     (omega arith, (shown, (fits, (some, (c.keep.ensures.turns, (omega arith, omega (arith, c.requires.below, c.enter-view.ensures.visits)))))))
 
 pub returns-clause-pairs : goal.returns-clause-pairs
 returns-clause-pairs g c =
     let turn = c.args.turn in
     let b = turn.branch.now in
-    let start : IsStart (256 ^ b.width) (number_of b.skip * 256) b.bytes turn.place c.start_at.result = (c.byte_from-byte.result, c.byte_from-byte.ensures, c.start_at.ensures) in
+    let entered = entered_of c.requires.turn.branch c.requires.turn.inside c.byte_from-byte.ensures c.start_at.ensures c.index.ensures c.enter-view.ensures.view in
     let others = waiting c.args.turns.now.items in
     let behind : c.args.turn.place + 1 ≡ suc c.args.turn.place = omega arith in
     c.first_of.ensures.pairs
     ∙ ap (λ ps. shift (turn.base + c.start_at.result) (view_pairs c.enter-view.result) ++ ps)
     (c.keep.ensures.pairs ∙ ap (λ n. shift turn.base (rest_of (256 ^ b.width) (number_of b.skip * 256) b.bytes b.children.items n) ++ others) behind)
-    ∙ sym (entered_pairs g.V.Words.WORDS b.width b.skip b.bytes b.children.items b.population c.requires.turn.branch turn.place c.start_at.result c.requires.turn.inside start
-    c.index.result.now c.index.ensures c.enter-view.result c.enter-view.ensures.view turn.base others)
+    ∙ sym (entered_pairs entered turn.base others)
 
 pub returns-clause-visits : goal.returns-clause-visits
 returns-clause-visits g c =
-    let words = g.V.Words.WORDS in
-    let turn = c.args.turn in
-    let b = turn.branch.now in
-    let start : IsStart (256 ^ b.width) (number_of b.skip * 256) b.bytes turn.place c.start_at.result = (c.byte_from-byte.result, c.byte_from-byte.ensures, c.start_at.ensures) in
-    let wide = entered_width words b.width b.skip b.bytes b.children.items b.population c.requires.turn.branch turn.place c.start_at.result c.requires.turn.inside start c.index.result.now c.index.ensures c.enter-view.result c.enter-view.ensures.view in
+    let entered = entered_of c.requires.turn.branch c.requires.turn.inside c.byte_from-byte.ensures c.start_at.ensures c.index.ensures c.enter-view.ensures.view in
+    let wide = entered_width entered in
     let room = c.requires.room in
     omega (arith, c.enter-view.ensures.visits, c.first_of.ensures.visits)

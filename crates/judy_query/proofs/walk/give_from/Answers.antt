@@ -15,7 +15,7 @@ use Rattle.judy_query.proofs.BranchRooms.{bytes_ascend}
 use Rattle.judy_query.proofs.Downs.{kid_is, start_room}
 use Rattle.judy_query.proofs.Splits.{rest_of}
 use Rattle.judy_query.proofs.GivingFacts.{given_with, put_more, more_some, whole_some}
-use Rattle.judy_query.proofs.WalkFacts.{entered_width, entered_shown, entered_some, entered_fits, entered_pairs}
+use Rattle.judy_query.proofs.WalkFacts.{entered_of, entered_width, entered_shown, entered_some, entered_fits, entered_pairs}
 use Rattle.judy_query.proofs.walk.give_from.Goals as goal
 
 pub overflow_add-start : goal.overflow_add-start
@@ -43,9 +43,8 @@ give_whole-requires-clause-fits g c =
     let turn = c.args.turn in
     let b = turn.branch.now in
     let inside : c.loop-count.place < length b.children.items = omega (arith, b.children.ok.0, c.len.ensures, c.if-place-len.true) in
-    let start : IsStart (256 ^ b.width) (number_of b.skip * 256) b.bytes c.loop-count.place c.start_at.result = (c.byte_from-byte.result, c.byte_from-byte.ensures, c.start_at.ensures) in
-    entered_fits g.V.Words.WORDS b.width b.skip b.bytes b.children.items b.population c.requires.turn.branch c.loop-count.place c.start_at.result inside start c.index.result.now c.index.ensures
-    c.enter-view.result c.enter-view.ensures.view turn.base c.requires.turn.fits
+    let entered = entered_of c.requires.turn.branch inside c.byte_from-byte.ensures c.start_at.ensures c.index.ensures c.enter-view.ensures.view in
+    entered_fits entered turn.base c.requires.turn.fits
 
 pub keep-requires : goal.keep-requires
 keep-requires g c =
@@ -60,32 +59,28 @@ keep-requires g c =
 
 pub first_of-stretch-requires : goal.first_of-stretch-requires
 first_of-stretch-requires g c =
-    let words = g.V.Words.WORDS in
     let turn = c.args.turn in
     let b = turn.branch.now in
     let inside : c.loop-count.place < length b.children.items = omega (arith, b.children.ok.0, c.len.ensures, c.if-place-len.true) in
-    let is = c.requires.turn.branch in
-    let start : IsStart (256 ^ b.width) (number_of b.skip * 256) b.bytes c.loop-count.place c.start_at.result = (c.byte_from-byte.result, c.byte_from-byte.ensures, c.start_at.ensures) in
-    let wide = entered_width words b.width b.skip b.bytes b.children.items b.population is c.loop-count.place c.start_at.result inside start c.index.result.now c.index.ensures c.enter-view.result c.enter-view.ensures.view in
+    let entered = entered_of c.requires.turn.branch inside c.byte_from-byte.ensures c.start_at.ensures c.index.ensures c.enter-view.ensures.view in
+    let wide = entered_width entered in
     let one = c.keep.ensures.one in
     let room = c.requires.room in
     let same = ap length c.loop-count.invariant.turns in
     let within = c.loop-count.invariant.given.within in
     let so_far = c.loop-count.invariant.visits in
-    let shown = entered_shown words b.width b.skip b.bytes b.children.items b.population is c.loop-count.place c.start_at.result inside start c.index.result.now c.index.ensures c.enter-view.result c.enter-view.ensures.view in
-    let fits = entered_fits words b.width b.skip b.bytes b.children.items b.population is c.loop-count.place c.start_at.result inside start c.index.result.now c.index.ensures c.enter-view.result c.enter-view.ensures.view turn.base c.requires.turn.fits in
-    let some = entered_some words b.width b.skip b.bytes b.children.items b.population is c.loop-count.place c.start_at.result inside start c.index.result.now c.index.ensures c.enter-view.result c.enter-view.ensures.view in
+    let shown = entered_shown entered in
+    let fits = entered_fits entered turn.base c.requires.turn.fits in
+    let some = entered_some entered in
     (omega arith, (shown, (fits, (some, (c.keep.ensures.turns, (omega arith, omega (arith, c.requires.below, c.enter-view.ensures.visits)))))))
 
 pub returns-in_default-clause-given : goal.returns-in_default-clause-given
 returns-in_default-clause-given g c =
-    let words = g.V.Words.WORDS in
     let turn = c.args.turn in
     let b = turn.branch.now in
-    let is = c.requires.turn.branch in
     let place = c.loop-count.place in
     let inside : place < length b.children.items = omega (arith, b.children.ok.0, c.len.ensures, c.if-place-len.true) in
-    let start : IsStart (256 ^ b.width) (number_of b.skip * 256) b.bytes place c.start_at.result = (c.byte_from-byte.result, c.byte_from-byte.ensures, c.start_at.ensures) in
+    let entered = entered_of c.requires.turn.branch inside c.byte_from-byte.ensures c.start_at.ensures c.index.ensures c.enter-view.ensures.view in
     let n = c.loop-count.count in
     let out = c.loop-count.out in
     let now = put_mid n (length out - n) out c.give_whole.new.out in
@@ -100,7 +95,7 @@ returns-in_default-clause-given g c =
     let behind : place + 1 ≡ suc place = omega arith in
     let split = c.first_of-stretch.ensures.pairs
     ∙ ap (λ ps. shift (turn.base + c.start_at.result) (view_pairs c.enter-view.result) ++ ps) (c.keep.ensures.pairs ∙ (λ t. rest (behind t) ++ waiting (c.loop-count.invariant.turns t)))
-    ∙ sym (entered_pairs words b.width b.skip b.bytes b.children.items b.population is place c.start_at.result inside start c.index.result.now c.index.ensures c.enter-view.result c.enter-view.ensures.view turn.base others) in
+    ∙ sym (entered_pairs entered turn.base others) in
     let mid : Pairs = c.first_of-stretch.result ++ left in
     let so_far = subst (λ (left : Pairs). AreGiven made all left c.args.out.now out n) (sym split) c.loop-count.invariant.given in
     let given = subst (λ (now : List _). AreGiven made all mid c.args.out.now now n) (sym same) so_far in
@@ -109,20 +104,18 @@ returns-in_default-clause-given g c =
 
 pub returns-in_default-clause-visits : goal.returns-in_default-clause-visits
 returns-in_default-clause-visits g c =
-    let words = g.V.Words.WORDS in
     let turn = c.args.turn in
     let b = turn.branch.now in
-    let is = c.requires.turn.branch in
     let place = c.loop-count.place in
     let inside : place < length b.children.items = omega (arith, b.children.ok.0, c.len.ensures, c.if-place-len.true) in
-    let start : IsStart (256 ^ b.width) (number_of b.skip * 256) b.bytes place c.start_at.result = (c.byte_from-byte.result, c.byte_from-byte.ensures, c.start_at.ensures) in
+    let entered = entered_of c.requires.turn.branch inside c.byte_from-byte.ensures c.start_at.ensures c.index.ensures c.enter-view.ensures.view in
     let n = c.loop-count.count in
     let out = c.loop-count.out in
     let now = put_mid n (length out - n) out c.give_whole.new.out in
     let same : now ≡ out = ap (put_mid n (length out - n) out) c.in_default.ensures.given ∙ put_same n (length out - n) out in
     let long = ap length same in
     let room = c.loop-count-test.true in
-    let wide = entered_width words b.width b.skip b.bytes b.children.items b.population is place c.start_at.result inside start c.index.result.now c.index.ensures c.enter-view.result c.enter-view.ensures.view in
+    let wide = entered_width entered in
     let more = more_some g.E.FromPair.made now n c.fill-more.result (length c.first_of-stretch.result) c.fill-more.ensures.most (omega arith) c.first_of-stretch.ensures.some in
     let so_far = c.loop-count.invariant.visits in
     let few = c.requires.room in
@@ -138,10 +131,10 @@ loop-count-preserved g c =
     let is = c.requires.turn.branch in
     let place = c.loop-count.place in
     let inside : place < length b.children.items = omega (arith, b.children.ok.0, c.len.ensures, c.if-place-len.true) in
-    let start : IsStart (256 ^ b.width) (number_of b.skip * 256) b.bytes place c.start_at.result = (c.byte_from-byte.result, c.byte_from-byte.ensures, c.start_at.ensures) in
+    let entered = entered_of c.requires.turn.branch inside c.byte_from-byte.ensures c.start_at.ensures c.index.ensures c.enter-view.ensures.view in
     let from : place + 1 ≡ rank b.bytes (c.from-edge.result + 1) = sym (ap (λ n. rank b.bytes (n + 1)) c.from-edge.ensures
     ∙ rank_behind b.bytes place c.byte_from-byte.result (bytes_ascend words b.width b.skip b.bytes b.children.items b.population is) c.byte_from-byte.ensures) in
-    let some = entered_some words b.width b.skip b.bytes b.children.items b.population is place c.start_at.result inside start c.index.result.now c.index.ensures c.enter-view.result c.enter-view.ensures.view in
+    let some = entered_some entered in
     let here = shift (turn.base + c.start_at.result) (view_pairs c.enter-view.result) in
     let long = length-shift (turn.base + c.start_at.result) (view_pairs c.enter-view.result) in
     let whole = whole_some made here _ _ c.in-Some.whole c.in-Some.ensures.given (omega arith) in
@@ -149,7 +142,7 @@ loop-count-preserved g c =
     let others = waiting c.args.turns.now.items in
     let all : Pairs = rest turn.place ++ others in
     let behind : suc place ≡ place + 1 = omega arith in
-    let split = entered_pairs words b.width b.skip b.bytes b.children.items b.population is place c.start_at.result inside start c.index.result.now c.index.ensures c.enter-view.result c.enter-view.ensures.view turn.base others
+    let split = entered_pairs entered turn.base others
     ∙ ap (λ n. here ++ (rest n ++ others)) behind in
     let given = subst (λ (left : Pairs). AreGiven made all left c.args.out.now c.loop-count.out c.loop-count.count) split c.loop-count.invariant.given in
     let within = c.loop-count-test.true in

@@ -27,7 +27,7 @@ reached-requires g c =
     let pairs = c.args.tree.now.pairs in
     let b = c.in-Branch.branch.now in
     let down = subst (λ v. IsDown words pairs v c.args.key c.down.left) c.in-Branch.is c.down.invariant.0 in
-    passed_few words b.width b.skip b.bytes b.children.items b.population c.down.left c.step-step.result (branch_is words pairs c.in-Branch.branch c.args.key c.down.left down) c.step-step.ensures
+    passed_few words b.width b.skip b.bytes b.children.items b.population c.down.left c.step-step.result (branch_is down) c.step-step.ensures
 
 pub keep-requires : goal.keep-requires
 keep-requires g c =
@@ -35,7 +35,7 @@ keep-requires g c =
     let pairs = c.args.tree.now.pairs in
     let b = c.in-Branch.branch.now in
     let down = subst (λ v. IsDown words pairs v c.args.key c.down.left) c.in-Branch.is c.down.invariant.0 in
-    let is = branch_is words pairs c.in-Branch.branch c.args.key c.down.left down in
+    let is = branch_is down in
     let from = c.reached.ensures ∙ reached_rank words b.width b.skip b.bytes b.children.items b.population is c.down.left c.step-step.result c.step-step.ensures ∙ ap (rank b.bytes) (sym c.byte_behind.ensures) in
     let here = ap width_of c.in-Branch.is in
     let room = c.down.invariant.3 in
@@ -49,7 +49,7 @@ returns-in_default-step g c =
     let base = c.args.key - c.down.left in
     let way = subst (λ v. (down : IsDown words pairs v c.args.key c.down.left) × (down.back ≡ waiting c.down.turns.items)) c.in-Branch.is (c.down.invariant.0, c.down.invariant.1) in
     let beside = beside_is c.step-step.result c.in_default-step.not-Child in
-    let part = down_gap words pairs c.in-Branch.branch c.args.key c.down.left way.0 c.step-step.result beside c.step-step.ensures in
+    let part = down_gap way.0 c.step-step.result beside c.step-step.ensures in
     let place : c.reached.result ≡ passed (length b.children.items) c.step-step.result = c.reached.ensures ∙ beside_reached (length b.children.items) c.step-step.result beside in
     let some = c.down.invariant.0.shown.some in
     record {
@@ -66,7 +66,7 @@ index-requires g c =
     let words = g.V.Words.WORDS in
     let pairs = c.args.tree.now.pairs in
     let down = subst (λ v. IsDown words pairs v c.args.key c.down.left) c.in-Branch.is c.down.invariant.0 in
-    let inside = child_inside words pairs c.in-Branch.branch c.args.key c.down.left down c.in-Child.field-0 c.in-Child.place c.in-Child.rest c.in-Child.ensures in
+    let inside = child_inside down c.in-Child.field-0 c.in-Child.place c.in-Child.rest c.in-Child.ensures in
     omega (arith, c.in-Branch.branch.now.children.ok.0)
 
 pub enter-view-requires-in-Branch : goal.enter-view-requires-in-Branch
@@ -74,14 +74,14 @@ enter-view-requires-in-Branch g c =
     let words = g.V.Words.WORDS in
     let pairs = c.args.tree.now.pairs in
     let down = subst (λ v. IsDown words pairs v c.args.key c.down.left) c.in-Branch.is c.down.invariant.0 in
-    (omega arith, (omega (arith, c.down.invariant.4, c.requires.below), child_is words pairs c.in-Branch.branch c.args.key c.down.left down c.in-Child.field-0 c.in-Child.place c.in-Child.rest c.in-Child.ensures c.index.result.now c.index.ensures))
+    (omega arith, (omega (arith, c.down.invariant.4, c.requires.below), child_is down c.in-Child.field-0 c.in-Child.place c.in-Child.rest c.in-Child.ensures c.index.ensures))
 
 pub down-smaller : goal.down-smaller
 down-smaller g c =
     let words = g.V.Words.WORDS in
     let pairs = c.args.tree.now.pairs in
     let down = subst (λ v. IsDown words pairs v c.args.key c.down.left) c.in-Branch.is c.down.invariant.0 in
-    let next = down_child words pairs c.in-Branch.branch c.args.key c.down.left down c.in-Child.field-0 c.in-Child.place c.in-Child.rest c.in-Child.ensures c.index.result.now c.index.ensures c.enter-view-in-Branch.result c.enter-view-in-Branch.ensures.view in
+    let next = down_child down c.in-Child.field-0 c.in-Child.place c.in-Child.rest c.in-Child.ensures c.index.ensures c.enter-view-in-Branch.ensures.view in
     let here = ap width_of c.in-Branch.is in
     let less = next.width_is in
     omega arith
@@ -94,7 +94,7 @@ down-preserved g c =
     let base = c.args.key - c.down.left in
     let rest : ℕ → Pairs = λ n. shift base (rest_of (256 ^ b.width) (number_of b.skip * 256) b.bytes b.children.items n) in
     let way = subst (λ v. (down : IsDown words pairs v c.args.key c.down.left) × (down.back ≡ waiting c.down.turns.items)) c.in-Branch.is (c.down.invariant.0, c.down.invariant.1) in
-    let next = down_child words pairs c.in-Branch.branch c.args.key c.down.left way.0 c.in-Child.field-0 c.in-Child.place c.in-Child.rest c.in-Child.ensures c.index.result.now c.index.ensures c.enter-view-in-Branch.result c.enter-view-in-Branch.ensures.view in
+    let next = down_child way.0 c.in-Child.field-0 c.in-Child.place c.in-Child.rest c.in-Child.ensures c.index.ensures c.enter-view-in-Branch.ensures.view in
     let place : c.reached.result ≡ suc c.in-Child.place = c.reached.ensures ∙ ap (reached (length b.children.items)) c.in-Child.is in
     let here = ap width_of c.in-Branch.is in
     let less = next.width_is in

@@ -7,7 +7,7 @@ use Rattle.judy_c.proofs.map.Map.first_slot.Goals as goal
 
 pub returns-in-None : goal.returns-in-None
 returns-in-None c =
-    let none = nothing_first (map_of c.args.self.now) c.args.from c.in-None.ensures.null in (
+    let none = nothing_first _ c.args.from c.in-None.ensures.null in (
       (refl, (λ w is. absurd (true≢false (sym is))), refl),
       record { writes_back = tt; key = ap (λ found. unwrap_or found c.args.key.now) (sym none); value = ap (option_and_then (map.get (map_of c.args.self.now))) (sym none) },
     )

@@ -1,15 +1,15 @@
--- What is less so far, and what is less behind the child that the way has come to.
+-- What counts so far, and what counts behind the child that the way has come to.
 use Rattle.std.proofs.Common.{◌≡◌, suc, ◌+◌, length}
-use Rattle.judy_model.specs.Counts.{rank}
 use Rattle.judy_sl.specs.Pieces.{IsText}
 use Rattle.judy_sl.specs.Arenas.{world_of}
 use Rattle.judy_sl.specs.Behind.{map_behind}
+use Rattle.judy_sl.specs.Counted.{ranked}
 use Rattle.judy_sl.proofs.arena.Arena.rank_behind.Given as goal
 
 abbrev pub invariant-loop-keys : goal.invariant-loop-keys
 invariant-loop-keys l = record {
   text : IsText l.rest;
-  whole : l.lesser + rank (map_behind (world_of l.self) (suc l.at)) l.rest ≡ rank (map_behind (world_of l.self) (suc l.child)) l.key;
+  whole : l.lesser + ranked l.itself (map_behind (world_of l.self) (suc l.at)) l.rest ≡ ranked l.itself (map_behind (world_of l.self) (suc l.child)) l.key;
 }
 
 abbrev pub decreases-loop-keys : goal.decreases-loop-keys

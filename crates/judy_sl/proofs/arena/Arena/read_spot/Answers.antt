@@ -1,17 +1,42 @@
-use Rattle.std.proofs.Common.{◌∙◌, arith, subst}
+use Rattle.std.proofs.Common.{◌∙◌, ◌≡◌, ◌+◌, List, ℕ, length, sym, ap, subst, arith}
+use Rattle.std.proofs.lemmas.List.{length-drop}
 use Rattle.judy_sl.specs.Arenas.{world_of}
-use Rattle.judy_sl.proofs.NthReads.{Reading, reading_start, reading_here, reading_on}
+use Rattle.judy_sl.specs.Counted.{keys_behind_all}
+use Rattle.judy_sl.specs.Nth.{IsSpotIn}
+use Rattle.judy_sl.proofs.PageCounts.{page_is}
+use Rattle.judy_sl.proofs.PageReads.{Reading, reading_start, reading_some, reading_page, reading_spot}
 use Rattle.judy_sl.proofs.arena.Arena.read_spot.Goals as goal
 
-pub loop-piece-init : goal.loop-piece-init
-loop-piece-init c = reading_start (world_of c.args.self.now) c.args.level.now.map c.args.place c.into_iter-piece-iterator.result (c.into_iter-piece-iterator.ensures.into_iter_gives ∙ c.iter-piece-items.ensures) c.requires.within
+pub pages-init : goal.pages-init
+pages-init c = record { room = omega arith; sought = reading_start (world_of c.args.self.now) c.args.entries c.args.place c.requires.within }
 
-pub returns-then-left-keys : goal.returns-then-left-keys
-returns-then-left-keys c =
-    let on = subst (λ rest. Reading (world_of c.args.self.now) c.args.level.now.map c.args.place rest c.loop-piece.left) c.in-Some.ensures.steps c.loop-piece.invariant in
-    reading_here (world_of c.args.self.now) c.args.level.now.map c.args.place c.loop-piece.left c.in-Some.piece c.in-Some.value c.keys_at-keys.result c.next.new.self on c.keys_at-keys.ensures c.if-left-keys.true
+pub returns-in-Ok : goal.returns-in-Ok
+returns-in-Ok c =
+    let world = world_of c.args.self.now in
+    let left = c.pages.entries in
+    let told = c.fill-told.result in
+    let count = c.fill-told.ensures.count in
+    let is = page_is left c.pages.page c.fill-told.new.out told (omega arith) c.fill-told.ensures.out in
+    reading_spot world c.args.entries left c.args.place told c.pages.left c.pages.invariant.sought c.in-Ok.spot (subst (λ page. IsSpotIn world page c.pages.left c.in-Ok.spot) is c.in-Ok.ensures)
 
-pub loop-piece-preserved : goal.loop-piece-preserved
-loop-piece-preserved c =
-    let on = subst (λ rest. Reading (world_of c.args.self.now) c.args.level.now.map c.args.place rest c.loop-piece.left) c.in-Some.ensures.steps c.loop-piece.invariant in
-    reading_on (world_of c.args.self.now) c.args.level.now.map c.args.place c.loop-piece.left c.in-Some.piece c.in-Some.value c.keys_at-keys.result c.next.new.self on c.keys_at-keys.ensures _ (omega arith)
+pub pages-preserved : goal.pages-preserved
+pages-preserved c =
+    let world = world_of c.args.self.now in
+    let left = c.pages.entries in
+    let told = c.fill-told.result in
+    let count = c.fill-told.ensures.count in
+    let is = page_is left c.pages.page c.fill-told.new.out told (omega arith) c.fill-told.ensures.out in
+    let behind = subst (λ page. c.pages.left ≡ keys_behind_all world page + c.in-Err.behind) is c.in-Err.ensures in
+    let on = reading_page world c.args.entries left c.args.place told c.pages.left c.pages.invariant.sought c.in-Err.behind behind in
+    record {
+      room = c.fill-told.auto.out ∙ c.pages.invariant.room;
+      sought = subst (λ (rest : List (ℕ × ℕ)). Reading world c.args.entries rest c.args.place c.in-Err.behind) (sym c.fill-told.ensures.left) on;
+    }
+
+pub pages-smaller : goal.pages-smaller
+pages-smaller c =
+    let some = reading_some (world_of c.args.self.now) c.args.entries c.pages.entries c.args.place c.pages.left c.pages.invariant.sought in
+    let room = c.pages.invariant.room in
+    let count = c.fill-told.ensures.count in
+    let left = ap length c.fill-told.ensures.left ∙ length-drop c.fill-told.result c.pages.entries in
+    omega arith

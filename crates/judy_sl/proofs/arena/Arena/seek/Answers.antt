@@ -1,11 +1,41 @@
-use Rattle.std.proofs.Common.{ℕ, List, subst}
+use Rattle.std.proofs.Common.{◌≡◌, ◌∙◌, ℕ, Bool, List, Option, Some, is_some, sym, ap, refl, subst}
+use Rattle.std.specs.FinMap.{FinMap, contains_key}
+use Rattle.judy_model.specs.Keys.{word_order}
+use Rattle.judy_sl.specs.declared.scans.Look.{Look}
+use Rattle.judy_sl.specs.declared.scans.Turn.{Turn}
+use Rattle.judy_sl.specs.Pieces.{pieces}
+use Rattle.judy_sl.specs.World.{World}
 use Rattle.judy_sl.specs.Arenas.{world_of}
-use Rattle.judy_sl.specs.Runs.{LeadsUp, IsRunTo}
+use Rattle.judy_sl.specs.Scans.{upward, IsNone, IsTurn, IsTurnAt}
+use Rattle.judy_sl.specs.Runs.{EntryLeads}
+use Rattle.judy_sl.proofs.RunWays.{turn_level, turn_leads}
 use Rattle.judy_sl.proofs.arena.Arena.seek.Goals as goal
+
+pub returns-in_err-turn-clause-neighbour : goal.returns-in_err-turn-clause-neighbour
+returns-in_err-turn-clause-neighbour c =
+    let none = subst (IsTurn c.upward.result (world_of c.args.self.now) c.as_slice.result.now) c.in_err-turn.was c.turn.ensures.is_turn in
+    let looked = subst (λ (look : Look). IsNone look (world_of c.args.self.now) 0 (pieces c.as_slice.result.now)) c.upward.ensures none in
+    rw c.from_residual.ensures (subst (λ bytes. IsNone (upward c.args.itself) (world_of c.args.self.now) 0 (pieces bytes)) c.as_slice.ensures.value looked, refl)
+
+-- The turn that was found, above a key.
+turn_at : (itself : Bool) (world : World) (seen key : List ℕ) (look : Look) (found : Option Turn) (turn : Turn) → IsTurn look world seen found → found ≡ Some turn → look ≡ upward itself → seen ≡ key → IsTurnAt (upward itself) world key turn
+turn_at itself world seen key look found turn is was looks same =
+    subst (λ bytes. IsTurnAt (upward itself) world bytes turn) same (subst (λ (l : Look). IsTurnAt l world seen turn) looks (subst (IsTurn look world seen) was is))
+
+pub level_behind-level-requires-clause-leads : goal.level_behind-level-requires-clause-leads
+level_behind-level-requires-clause-leads c =
+    let at = turn_at c.args.itself (world_of c.args.self.now) c.as_slice.result.now c.as_slice-2.result.now c.upward.result c.turn.result c.in_ok-turn.turn c.turn.ensures.is_turn c.in_ok-turn.was c.upward.ensures (c.as_slice.ensures.value ∙ sym c.as_slice-2.ensures.value) in
+    (at.map, turn_level c.args.itself (world_of c.args.self.now) c.as_slice-2.result.now c.in_ok-turn.turn at)
+
+pub entries_beyond-requires : goal.entries_beyond-requires
+entries_beyond-requires c =
+    let at = turn_at c.args.itself (world_of c.args.self.now) c.as_slice.result.now c.as_slice-2.result.now c.upward.result c.turn.result c.in_ok-turn.turn c.turn.ensures.is_turn c.in_ok-turn.was c.upward.ensures (c.as_slice.ensures.value ∙ sym c.as_slice-2.ensures.value) in
+    let behind = c.level_behind-level.ensures at.map (turn_level c.args.itself (world_of c.args.self.now) c.as_slice-2.result.now c.in_ok-turn.turn at) in
+    ap (λ (words : FinMap word_order ℕ). contains_key words c.in_ok-turn.turn.piece) behind.0 ∙ ap (λ (found : Option ℕ). is_some found) at.held
 
 pub climb-value-requires-clause-leads : goal.climb-value-requires-clause-leads
 climb-value-requires-clause-leads c =
-    let world = world_of c.args.self.now in
-    let run = subst (λ key. IsRunTo c.args.itself world key c.run.result) c.as_slice.ensures.value c.run.ensures in
-    let made = subst (IsRunTo c.args.itself world c.args.key.now.items) c.in_ok-made.was run in
-    subst (λ (entries : List (ℕ × ℕ)). LeadsUp c.args.itself world c.args.key.now.items entries c.in_ok-made.made.depth) c.in_ok-entry.ensures.steps made.1
+    let at = turn_at c.args.itself (world_of c.args.self.now) c.as_slice.result.now c.as_slice-2.result.now c.upward.result c.turn.result c.in_ok-turn.turn c.turn.ensures.is_turn c.in_ok-turn.was c.upward.ensures (c.as_slice.ensures.value ∙ sym c.as_slice-2.ensures.value) in
+    let behind = c.level_behind-level.ensures at.map (turn_level c.args.itself (world_of c.args.self.now) c.as_slice-2.result.now c.in_ok-turn.turn at) in
+    subst (λ bytes. EntryLeads c.args.itself (world_of c.args.self.now) bytes (c.in_ok-turn.turn.piece, c.in_ok-turn.turn.value) c.level_behind-level.new.above.items (record { level = c.level_behind-level.result; entries = c.entries_beyond.result })) c.as_slice-2.ensures.value
+    (turn_leads c.args.itself (world_of c.args.self.now) c.as_slice-2.result.now c.in_ok-turn.turn at c.level_behind-level.new.above.items (record { level = c.level_behind-level.result; entries = c.entries_beyond.result }) behind.1 behind.0 c.entries_beyond.ensures)

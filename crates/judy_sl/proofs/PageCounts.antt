@@ -1,0 +1,85 @@
+-- The keys behind the entries of a level, as these are read page by page.
+use Rattle.std.proofs.Common.{◌≡◌, ℕ, zero, suc, ◌+◌, ◌-◌, ◌<◌, ◌≤◌, min, ⊎_elim, [], ◌∷◌, ◌++◌, map, length, take, drop, get_or, sym, ap, ◌∙◌, arith}
+use Rattle.std.specs.List.{flat_map}
+use Rattle.std.specs.FinMap.{FinMap, entries, entries_sorted}
+use Rattle.std.proofs.Math.Seq.{take-add}
+use Rattle.std.proofs.lemmas.Bool.{cases_lt}
+use Rattle.std.proofs.lemmas.List.{map-id, take_at, take-take, take-append-drop, length-append, length-take-le, take_more}
+use Rattle.std.proofs.lemmas.List.Concat.{flat_map-append}
+use Rattle.judy_model.specs.Keys.{word_order}
+use Rattle.judy_model.specs.Counts.{rank}
+use Rattle.judy_sums.specs.Pairs.{Pairs}
+use Rattle.judy_sums.specs.Levels.{keys_below, part_len}
+use Rattle.judy_sums.proofs.LevelCounts.{entries_below_is}
+use Rattle.judy_sl.specs.World.{World}
+use Rattle.judy_sl.specs.Behind.{entry_keys}
+use Rattle.judy_sl.specs.Counted.{keys_behind_all}
+use Rattle.judy_sl.proofs.EntryCounts.{below_front}
+
+-- ---- a page
+
+-- The entries of a page are the next of those that were left.
+pub page_is : (left out page : Pairs) (told : ℕ) → told ≤ length left → page ≡ take told (map (λ (entry : ℕ × ℕ). (entry.0, entry.1)) left) ++ drop told out → take told page ≡ take told left
+page_is left out page told within is =
+    ap (take told) (is ∙ ap (λ (all : Pairs). take told all ++ drop told out) (map-id left))
+    ∙ take_at (take told left) (drop told out) told (length-take-le told left within)
+
+-- So are those of its front.
+pub page_front : (left page : Pairs) (told read : ℕ) → read ≤ told → take told page ≡ take told left → take read page ≡ take read left
+page_front left page told read less is = sym (take-take read told page less) ∙ ap (take read) is ∙ take-take read told left less
+
+module _ (world : World) where
+  -- The keys behind some entries are those behind the front of them and those behind the rest.
+  pub front_rest : (entries : Pairs) (count : ℕ) → keys_behind_all world (take count entries) + keys_behind_all world (drop count entries) ≡ keys_behind_all world entries
+  front_rest entries count =
+      let all = ap (keys_behind_all world) (take-append-drop count entries) in
+      let both = ap length (flat_map-append (entry_keys world) (take count entries) (drop count entries)) in
+      let long = length-append (flat_map (entry_keys world) (take count entries)) (flat_map (entry_keys world) (drop count entries)) in
+      omega arith
+
+  -- Those behind the entries up to one place are those up to an earlier one, and those from there on.
+  pub front_more : (entries : Pairs) (start end : ℕ) → start ≤ end → keys_behind_all world (take end entries) ≡ keys_behind_all world (take start entries) + keys_behind_all world (take (end - start) (drop start entries))
+  front_more entries start end less =
+      let split : take end entries ≡ take start entries ++ take (end - start) (drop start entries) = ap (λ n. take n entries) (let e : end ≡ start + (end - start) = omega arith in e) ∙ take-add start (end - start) entries in
+      let all = ap (keys_behind_all world) split in
+      let both = ap length (flat_map-append (entry_keys world) (take start entries) (take (end - start) (drop start entries))) in
+      let long = length-append (flat_map (entry_keys world) (take start entries)) (flat_map (entry_keys world) (take (end - start) (drop start entries))) in
+      omega arith
+
+  -- Where a key stands behind the entries up to a place, there are some.
+  pub front_some : (entries : Pairs) (end : ℕ) → 1 ≤ keys_behind_all world (take end entries) → 1 ≤ end
+  front_some entries zero some = some
+  front_some entries (suc end) some = omega arith
+
+  -- So with one entry more.
+  pub front_one : (entries : Pairs) (place : ℕ) → place < length entries → keys_behind_all world (take (place + 1) entries) ≡ keys_behind_all world (take place entries) + length (entry_keys world (get_or entries place (0, 0)))
+  front_one entries place within =
+      let all = ap (keys_behind_all world) (take_more entries place (0, 0) within) ∙ ap length (flat_map-append (entry_keys world) (take place entries) (get_or entries place (0, 0) ∷ [])) in
+      let both = length-append (flat_map (entry_keys world) (take place entries)) (flat_map (entry_keys world) (get_or entries place (0, 0) ∷ [])) in
+      let one = length-append (entry_keys world (get_or entries place (0, 0))) [] in
+      omega arith
+
+  -- Of the first entries a page is read, or all where they are fewer.
+  pub front_read : (entries : Pairs) (count room read told : ℕ) → count ≤ length entries → read ≡ min count room → told ≡ min room (length entries)
+      → keys_behind_all world (take count entries) ≡ keys_behind_all world (take read entries) + keys_behind_all world (take (count - read) (drop told entries))
+  front_read entries count room read told there least most = ⊎_elim
+      (λ (few : count < room).
+      let same = ap (λ n. keys_behind_all world (take n entries)) (let e : count ≡ read = omega arith in e) in
+      let none = ap (λ n. keys_behind_all world (take n (drop told entries))) (let e : count - read ≡ 0 = omega arith in e) in
+      omega arith)
+      (λ (full : room ≤ count).
+      let more = front_more entries read count (omega arith) in
+      let rest = ap (λ n. keys_behind_all world (take (count - read) (drop n entries))) (let e : read ≡ told = omega arith in e) in
+      omega arith)
+      (cases_lt count room)
+
+  -- ---- below a piece
+
+  module _ (words : FinMap word_order ℕ) (piece : ℕ) where
+    -- The keys below a piece stand behind as many entries at the front as have lesser pieces,
+    pub front_keys : keys_below (part_len (entry_keys world)) (entries words) piece ≡ keys_behind_all world (take (rank words piece) (entries words))
+    front_keys = below_front (entry_keys world) piece (entries words) (entries_sorted words) ∙ ap (λ n. keys_behind_all world (take n (entries words))) (sym (entries_below_is words piece))
+
+    -- and the others behind those from there on.
+    pub rest_keys : keys_below (part_len (entry_keys world)) (entries words) piece + keys_behind_all world (drop (rank words piece) (entries words)) ≡ keys_behind_all world (entries words)
+    rest_keys = let front = front_keys in let both = front_rest (entries words) (rank words piece) in omega arith

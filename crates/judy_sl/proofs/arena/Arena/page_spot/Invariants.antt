@@ -1,0 +1,8 @@
+-- The place is what stands behind the entries that were read, and what is left.
+use Rattle.std.proofs.Common.{◌≡◌, ◌+◌, take}
+use Rattle.judy_sl.specs.Arenas.{world_of}
+use Rattle.judy_sl.specs.Counted.{keys_behind_all}
+use Rattle.judy_sl.proofs.arena.Arena.page_spot.Given as goal
+
+abbrev pub invariant-loop-piece : goal.invariant-loop-piece
+invariant-loop-piece l = l.place ≡ keys_behind_all (world_of l.self) (take l.piece-index l.page) + l.left

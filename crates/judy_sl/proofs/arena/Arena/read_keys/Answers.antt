@@ -1,0 +1,70 @@
+use Rattle.std.proofs.Common.{◌≡◌, ◌-◌, length, take, ap, ◌∙◌, arith}
+use Rattle.std.proofs.lemmas.List.{length-drop}
+use Rattle.judy_sums.specs.Pairs.{Pairs}
+use Rattle.judy_sl.specs.Arenas.{world_of}
+use Rattle.judy_sl.specs.Counted.{keys_behind_all}
+use Rattle.judy_sl.proofs.PageCounts.{page_is, page_front, front_read}
+use Rattle.judy_sl.proofs.arena.Arena.read_keys.Goals as goal
+
+pub pages-init : goal.pages-init
+pages-init c = record { room = omega arith; there = let there = c.requires.there in omega arith; whole = omega arith }
+
+pub page_keys-keys-requires-clause-fits : goal.page_keys-keys-requires-clause-fits
+page_keys-keys-requires-clause-fits c =
+    let world = world_of c.args.self.now in
+    let left = c.pages.entries in
+    let told = c.fill.result in
+    let read = c.min-read.result in
+    let count = c.fill.ensures.count in
+    let least = c.min-read.ensures in
+    let room = c.pages.invariant.room in
+    let there = c.pages.invariant.there in
+    let page = page_front left c.fill.new.out told read (omega arith) (page_is left c.pages.page c.fill.new.out told (omega arith) c.fill.ensures.out) in
+    let here = ap (keys_behind_all world) page in
+    let split = front_read world left c.pages.left 32 read told there (omega arith) (omega arith) in
+    let so_far = c.pages.invariant.whole in
+    let fits = c.requires.fits in
+    omega arith
+
+pub overflow_add-keys : goal.overflow_add-keys
+overflow_add-keys c =
+    let world = world_of c.args.self.now in
+    let left = c.pages.entries in
+    let told = c.fill.result in
+    let read = c.min-read.result in
+    let count = c.fill.ensures.count in
+    let least = c.min-read.ensures in
+    let room = c.pages.invariant.room in
+    let there = c.pages.invariant.there in
+    let page = page_front left c.fill.new.out told read (omega arith) (page_is left c.pages.page c.fill.new.out told (omega arith) c.fill.ensures.out) in
+    let here = ap (keys_behind_all world) page in
+    let split = front_read world left c.pages.left 32 read told there (omega arith) (omega arith) in
+    let so_far = c.pages.invariant.whole in
+    let more = c.page_keys-keys.ensures in
+    let fits = c.requires.fits in
+    omega arith
+
+pub pages-preserved : goal.pages-preserved
+pages-preserved c =
+    let world = world_of c.args.self.now in
+    let left = c.pages.entries in
+    let told = c.fill.result in
+    let read = c.min-read.result in
+    let count = c.fill.ensures.count in
+    let least = c.min-read.ensures in
+    let room = c.pages.invariant.room in
+    let there = c.pages.invariant.there in
+    let page = page_front left c.fill.new.out told read (omega arith) (page_is left c.pages.page c.fill.new.out told (omega arith) c.fill.ensures.out) in
+    let here = ap (keys_behind_all world) page in
+    let split = front_read world left c.pages.left 32 read told there (omega arith) (omega arith) in
+    let so_far = c.pages.invariant.whole in
+    let more = c.page_keys-keys.ensures in
+    let behind = ap (λ (rest : Pairs). keys_behind_all world (take (c.pages.left - read) rest)) c.fill.ensures.left in
+    let long = ap length c.fill.ensures.left ∙ length-drop told left in
+    record { room = c.fill.auto.out ∙ room; there = omega arith; whole = omega arith }
+
+pub returns : goal.returns
+returns c =
+    let none = ap (λ n. keys_behind_all (world_of c.args.self.now) (take n c.pages.entries)) (let done = c.pages-test.false in let e : c.pages.left ≡ 0 = omega arith in e) in
+    let so_far = c.pages.invariant.whole in
+    omega arith
