@@ -10,7 +10,9 @@
 #include <stdio.h>
 #include <stdlib.h>
 #include <string.h>
+#include <sys/wait.h>
 #include <time.h>
+#include <unistd.h>
 
 typedef uint64_t word;
 
@@ -97,15 +99,66 @@ static void print(const struct array *array, const char *pattern, size_t n, cons
     fflush(stdout);
 }
 
+/* A process that measures one array, so that it alone decides how its memory lies: the arrays of a program use one library each. It is
+ * told by bytes: to take a turn, which it answers, or to end and print what it measured. */
+struct runner {
+    pid_t id;
+    int tell, answer;
+};
+
+enum { TURN = 't', END = 'e' };
+
+static void fail(const char *what) {
+    perror(what);
+    exit(1);
+}
+
+/* What such a process does. */
+static void run(const struct array *array, const struct keys *keys, const char *pattern, size_t n, int told_by, int answer) {
+    double told[OPERATIONS];
+    char word;
+    none_yet(told);
+    while (read(told_by, &word, 1) == 1 && word == TURN) {
+        array->measure(keys, told);
+        if (write(answer, &word, 1) != 1) fail("a turn");
+    }
+    print(array, pattern, n, told);
+    _exit(0);
+}
+
+static struct runner begin(const struct array *array, const struct keys *keys, const char *pattern, size_t n) {
+    int tell[2], answer[2];
+    if (pipe(tell) || pipe(answer)) fail("pipe");
+    pid_t id = fork();
+    if (id < 0) fail("fork");
+    if (id == 0) run(array, keys, pattern, n, tell[0], answer[1]);
+    close(tell[0]);
+    close(answer[1]);
+    return (struct runner){id, tell[1], answer[0]};
+}
+
+static void take_turn(const struct runner *runner) {
+    char word = TURN;
+    if (write(runner->tell, &word, 1) != 1 || read(runner->answer, &word, 1) != 1) fail("a turn");
+}
+
+static void end(const struct runner *runner) {
+    char word = END;
+    int status;
+    if (write(runner->tell, &word, 1) != 1 || waitpid(runner->id, &status, 0) < 0 || status) fail("an end");
+    close(runner->tell);
+    close(runner->answer);
+}
+
 /* The arrays take turns, so that what slows the machine for a while slows them all. The least of many turns is a steady figure. */
 static void measure_pattern(const struct program *program, size_t n, size_t pattern) {
-    double told[program->array_count][OPERATIONS];
+    struct runner runners[program->array_count];
     struct keys *keys = program->make(n, pattern);
     size_t turns = n < 100000 ? 25 : 3;
-    for (size_t it = 0; it < program->array_count; it++) none_yet(told[it]);
+    for (size_t it = 0; it < program->array_count; it++) runners[it] = begin(&program->arrays[it], keys, program->name(pattern), n);
     for (size_t turn = 0; turn < turns; turn++)
-        for (size_t it = 0; it < program->array_count; it++) program->arrays[it].measure(keys, told[it]);
-    for (size_t it = 0; it < program->array_count; it++) print(&program->arrays[it], program->name(pattern), n, told[it]);
+        for (size_t it = 0; it < program->array_count; it++) take_turn(&runners[it]);
+    for (size_t it = 0; it < program->array_count; it++) end(&runners[it]);
     program->drop(keys);
 }
 
