@@ -239,6 +239,13 @@ uint32_t sellumaq_judysl_next(const sellumaq_judysl *map, uint8_t *buffer, size_
 uint32_t sellumaq_judysl_last(const sellumaq_judysl *map, uint8_t *buffer, size_t capacity, size_t *length, uint64_t *value);
 uint32_t sellumaq_judysl_prev(const sellumaq_judysl *map, uint8_t *buffer, size_t capacity, size_t *length, uint64_t *value);
 
+/* The same four keys with the slots of their values, each in one way down the map: where the four above write the value to `*value`, the slot of
+ * the key found is handed out through `slot`. */
+uint32_t sellumaq_judysl_first_slot(const sellumaq_judysl *map, uint8_t *buffer, size_t capacity, size_t *length, uint64_t **slot);
+uint32_t sellumaq_judysl_next_slot(const sellumaq_judysl *map, uint8_t *buffer, size_t capacity, size_t *length, uint64_t **slot);
+uint32_t sellumaq_judysl_last_slot(const sellumaq_judysl *map, uint8_t *buffer, size_t capacity, size_t *length, uint64_t **slot);
+uint32_t sellumaq_judysl_prev_slot(const sellumaq_judysl *map, uint8_t *buffer, size_t capacity, size_t *length, uint64_t **slot);
+
 /* The keys from a string on, or those above it where `itself` is false, with their values, by ascending key. The bytes of the keys are written
  * to `bytes`, one key behind the other, and the length and the value of each to its place in `entries`; what stands behind them in both
  * stays. Answers how many keys it told. It ends where no key is left, or where the `room` bytes or the `capacity` entries have no place for

@@ -280,7 +280,7 @@ PPvoid_t JudySLGet(Pcvoid_t array, const uint8_t *string, PJError_t error) {
     return sellumaq_judysl_slot(&map, string, strlen((const char *)string), &slot) ? (PPvoid_t)slot : NULL;
 }
 
-typedef uint32_t scan(const sellumaq_judysl *map, uint8_t *buffer, size_t capacity, size_t *length, uint64_t *value);
+typedef uint32_t scan(const sellumaq_judysl *map, uint8_t *buffer, size_t capacity, size_t *length, uint64_t **slot);
 
 /* A search from a string, which the string found replaces. How much room the caller has for that isn't told, so it is found in a buffer
  * of this call's. A string that is longer than a key may be is cut: no key lies between it and its longest beginning that is short enough,
@@ -289,23 +289,23 @@ static PPvoid_t search(scan *call, scan *cut, Pcvoid_t array, uint8_t *string, P
     READS(refuse_slot);
     sellumaq_judysl map = {(void *)array};
     uint8_t buffer[SELLUMAQ_KEY_BYTES];
-    uint64_t value;
+    uint64_t *slot;
     size_t length = strnlen((const char *)string, sizeof buffer + 1);
     if (length > sizeof buffer) length = sizeof buffer, call = cut;
     memcpy(buffer, string, length);
-    if (call(&map, buffer, sizeof buffer, &length, &value) != SELLUMAQ_FOUND) return NULL;
+    if (call(&map, buffer, sizeof buffer, &length, &slot) != SELLUMAQ_FOUND) return NULL;
     memcpy(string, buffer, length);
     string[length] = 0;
-    return JudySLGet(array, string, error);
+    return (PPvoid_t)slot;
 }
 
 #define STRING_SEARCH(name, call, cut) \
     PPvoid_t name(Pcvoid_t array, uint8_t *string, PJError_t error) { return search(call, cut, array, string, error); }
 
-STRING_SEARCH(JudySLFirst, sellumaq_judysl_first, sellumaq_judysl_next)
-STRING_SEARCH(JudySLNext, sellumaq_judysl_next, sellumaq_judysl_next)
-STRING_SEARCH(JudySLLast, sellumaq_judysl_last, sellumaq_judysl_last)
-STRING_SEARCH(JudySLPrev, sellumaq_judysl_prev, sellumaq_judysl_last)
+STRING_SEARCH(JudySLFirst, sellumaq_judysl_first_slot, sellumaq_judysl_next_slot)
+STRING_SEARCH(JudySLNext, sellumaq_judysl_next_slot, sellumaq_judysl_next_slot)
+STRING_SEARCH(JudySLLast, sellumaq_judysl_last_slot, sellumaq_judysl_last_slot)
+STRING_SEARCH(JudySLPrev, sellumaq_judysl_prev_slot, sellumaq_judysl_last_slot)
 
 /* A pointer to no bytes that isn't null. */
 static const uint8_t *bytes_at(const void *bytes) { return bytes ? bytes : (const uint8_t *)""; }

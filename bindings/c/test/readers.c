@@ -26,6 +26,7 @@ static void *read_all(void *none) {
         CHECK(sellumaq_judysl_get(&strings, string, length, &value) && value == key);
         CHECK(sellumaq_judyhs_get(&bytes, string, length, &value) && value == key);
         CHECK(sellumaq_judysl_last(&strings, string, sizeof string, &length, &value) == SELLUMAQ_FOUND && value == key);
+        CHECK(sellumaq_judysl_last_slot(&strings, string, sizeof string, &length, &slot) == SELLUMAQ_FOUND && *slot == key);
         CHECK(sellumaq_judyl_ins(&own, key * key, &slot));
     }
     CHECK(sellumaq_judyl_free(&own) == KEYS);

@@ -64,12 +64,16 @@ static size_t string(const void *longest) {
 
 /* The nearest keys to the one that stands in the text. */
 static void look_around(const sellumaq_judysl *map, size_t length) {
-    uint64_t value;
+    uint64_t value, *slot;
     size_t there = length;
     CHECK(sellumaq_judysl_first(map, text, LONGEST, &length, &value) == SELLUMAQ_FOUND && length == there);
     CHECK(sellumaq_judysl_last(map, text, LONGEST, &length, &value) == SELLUMAQ_FOUND && length == there);
+    CHECK(sellumaq_judysl_first_slot(map, text, LONGEST, &length, &slot) == SELLUMAQ_FOUND && length == there);
+    CHECK(sellumaq_judysl_last_slot(map, text, LONGEST, &length, &slot) == SELLUMAQ_FOUND && length == there);
     CHECK(sellumaq_judysl_next(map, text, LONGEST, &length, &value) <= SELLUMAQ_FOUND);
+    CHECK(sellumaq_judysl_prev_slot(map, text, LONGEST, &length, &slot) <= SELLUMAQ_FOUND);
     CHECK(sellumaq_judysl_prev(map, text, LONGEST, &length, &value) <= SELLUMAQ_FOUND);
+    CHECK(sellumaq_judysl_next_slot(map, text, LONGEST, &length, &slot) <= SELLUMAQ_FOUND);
 }
 
 static void *strings(void *longest) {

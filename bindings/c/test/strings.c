@@ -51,6 +51,27 @@ static bool told(scan *call, sellumaq_judysl *map, int from, int place) {
     return call(map, buffer, found - 1, &length, &value) == SELLUMAQ_TOO_SMALL && length == length_of(from) && !memcmp(buffer, strings[from], length);
 }
 
+typedef uint32_t slot_scan(const sellumaq_judysl *map, uint8_t *buffer, size_t capacity, size_t *length, uint64_t **slot);
+
+/* The same of a scan that hands out a slot; where it does, another value is left there, which is the key's then. */
+static bool lent(slot_scan *call, sellumaq_judysl *map, int from, int place) {
+    uint8_t buffer[LONGEST + 1];
+    size_t length = length_of(from), found = place < 0 ? length : length_of(place);
+    uint64_t own = 77, *slot = &own, value = 0;
+    memset(buffer, '~', sizeof buffer);
+    memcpy(buffer, strings[from], length);
+    uint32_t answer = call(map, buffer, LONGEST, &length, &slot);
+    if (length != found || memcmp(buffer, strings[place < 0 ? from : place], length) || buffer[LONGEST] != '~') return false;
+    if (place < 0) return answer == SELLUMAQ_NONE && slot == &own;
+    if (answer != SELLUMAQ_FOUND || slot == &own || *slot != values[place]) return false;
+    values[place] = *slot = 3 * *slot + 1;
+    if (!sellumaq_judysl_get(map, strings[place], found, &value) || value != values[place]) return false;
+    if (found <= length_of(from)) return true;
+    memcpy(buffer, strings[from], length = length_of(from));
+    slot = &own;
+    return call(map, buffer, found - 1, &length, &slot) == SELLUMAQ_TOO_SMALL && slot == &own && length == length_of(from) && !memcmp(buffer, strings[from], length);
+}
+
 /* Whether the n-th key is the one at a place, or there is none for -1; and nothing is written but that. */
 static bool is_nth(const sellumaq_judysl *map, uint64_t n, int place) {
     uint8_t buffer[LONGEST + 1];
@@ -84,6 +105,10 @@ static void compare(sellumaq_judysl *map, int place) {
     CHECK(told(sellumaq_judysl_next, map, place, next_held(place + 1)));
     CHECK(told(sellumaq_judysl_last, map, place, prev_held(place)));
     CHECK(told(sellumaq_judysl_prev, map, place, prev_held(place - 1)));
+    CHECK(lent(sellumaq_judysl_first_slot, map, place, next_held(place)));
+    CHECK(lent(sellumaq_judysl_next_slot, map, place, next_held(place + 1)));
+    CHECK(lent(sellumaq_judysl_last_slot, map, place, prev_held(place)));
+    CHECK(lent(sellumaq_judysl_prev_slot, map, place, prev_held(place - 1)));
     CHECK(sellumaq_judysl_len(map) == count_held());
 }
 
@@ -96,18 +121,23 @@ static void edges(sellumaq_judysl *map) {
     CHECK(sellumaq_judysl_ins(map, longest, sizeof longest, &slot) == SELLUMAQ_BAD_KEY && sellumaq_judysl_ins(map, zero, 3, &slot) == SELLUMAQ_BAD_KEY);
     CHECK(slot == NULL && map->array == NULL);
     CHECK(sellumaq_judysl_next(map, longest, sizeof longest, &length, &value) == SELLUMAQ_NONE);
+    CHECK(sellumaq_judysl_next_slot(map, longest, sizeof longest, &length, &slot) == SELLUMAQ_NONE && slot == NULL && map->array == NULL);
     CHECK(sellumaq_judysl_ins(map, longest, SELLUMAQ_KEY_BYTES, &slot) == SELLUMAQ_FOUND && *slot == 0);
     *slot = 5;
     CHECK(sellumaq_judysl_ins(map, zero, 0, &slot) == SELLUMAQ_FOUND && sellumaq_judysl_ins(map, zero, 3, &slot) == SELLUMAQ_BAD_KEY);
     CHECK(!sellumaq_judysl_get(map, zero, 3, &value) && !sellumaq_judysl_slot(map, longest, sizeof longest, &slot) && !sellumaq_judysl_del(map, zero, 3));
     length = 3;
+    slot = NULL;
     CHECK(sellumaq_judysl_first(map, zero, 3, &length, &value) == SELLUMAQ_BAD_KEY);
+    CHECK(sellumaq_judysl_first_slot(map, zero, 3, &length, &slot) == SELLUMAQ_BAD_KEY && slot == NULL && length == 3);
     length = 4;
+    CHECK(sellumaq_judysl_last_slot(map, zero, 3, &length, &slot) == SELLUMAQ_BAD_KEY && slot == NULL && length == 4);
     CHECK(sellumaq_judysl_first(map, zero, 3, &length, &value) == SELLUMAQ_BAD_KEY && length == 4);
     length = sizeof longest;
     CHECK(sellumaq_judysl_last(map, longest, sizeof longest, &length, &value) == SELLUMAQ_BAD_KEY && length == sizeof longest && value == 7);
     length = SELLUMAQ_KEY_BYTES;
     CHECK(sellumaq_judysl_last(map, longest, sizeof longest, &length, &value) == SELLUMAQ_FOUND && length == SELLUMAQ_KEY_BYTES && value == 5);
+    CHECK(sellumaq_judysl_last_slot(map, longest, SELLUMAQ_KEY_BYTES, &length, &slot) == SELLUMAQ_FOUND && length == SELLUMAQ_KEY_BYTES && *slot == 5);
     CHECK(sellumaq_judysl_prev(map, longest, sizeof longest, &length, &value) == SELLUMAQ_FOUND && length == 0 && value == 0);
     CHECK(sellumaq_judysl_count(map, zero, 0, longest, SELLUMAQ_KEY_BYTES) == 2 && sellumaq_judysl_count(map, longest, SELLUMAQ_KEY_BYTES, zero, 0) == 0);
     CHECK(sellumaq_judysl_count(map, zero, 3, longest, SELLUMAQ_KEY_BYTES) == 0 && sellumaq_judysl_count(map, zero, 0, longest, sizeof longest) == 0);

@@ -1,10 +1,10 @@
 -- The two calls of C that put a byte string in and hand its slot out, as one walk, as `KeySlots` is of those that look one up. Assumes `Logic`.
-use Rattle.std.proofs.Common.{ℕ, ◌^◌, Option, List, [], ◌∷◌, Result, refl, sym, subst, w32, MutBor}
+use Rattle.std.proofs.Common.{◌≡◌, ℕ, ◌^◌, Option, Some, List, [], ◌∷◌, Result, refl, sym, subst, w32, MutBor}
 use Rattle.std.specs.Prelude.{◌++◌, take as front, drop as rest}
 use Rattle.std.proofs.raw_atomic.Walks.{proved}
 use seplogic.Ra.Ura.{Ura}
 use base.Logic.{sep, emp, id⊢}
-use base.Fml.{ftrue, flft}
+use base.Fml.{Lft, ftrue, flft}
 use mir.Syntax.{named, erased, mut, imm, Callee, Sym, Ty, ty_int, ty_ref, ty_struct, ty_enum, tnil, tcons, ttnil, ttcons, w8, w64, Fn, local, value_local, seq, assign, call, place, deref, addr_of, copy, return}
 use mir.Val.{Val, vint}
 use contract.Monad.{fact, fact_i}
@@ -42,11 +42,19 @@ use Rattle.judy_c.specs.contracts.answers.Refusal.{the_row as Refused}
 use Rattle.judy_c.specs.contracts.answers.answer_insert as teller
 use Rattle.judy_c.specs.contracts.strings.Strings.ins as lender
 use Rattle.judy_c.proofs.HandsOut.{Lent, Pointer, heap_typed}
-use Rattle.judy_c.proofs.AnswersInsert.{Made, Teller, made_typed, answers_insert}
+use Rattle.judy_c.proofs.answers.Refusal.TheLaws.{the_row_laws as refused_laws}
+use Rattle.judy_c.proofs.Answering as answering_made
 use Rattle.judy_c.specs.contracts.judysl.sellumaq_judysl_ins as f
 
 abbrev Key : Slot 3
 Key = shr_slice_of (1 ∷ []) tt (plain (λ _. u8))
+
+-- what is said of an insert's answer
+abbrev IsAnswered : Result (MutBor ℕ) Refusal → ℕ → MutBor ℕ → MutBor ℕ → Type 0
+IsAnswered made told before after = (answered told after ≡ Some made) × IsHanded (Some made) before after
+
+abbrev Made : Lft → RattleType
+Made = answering_made.Made Refused refused_laws IsAnswered
 
 abbrev Pointed : Slot 3
 Pointed = mut_ref_to (0 ∷ []) tt (plain (λ _. u64))
@@ -119,7 +127,7 @@ module _ (R : RattleType) (one : One R.mir) (array_in : R.Denot → ArrayOf byte
     Lender = triple_of 𝓛 lent.signature (closing 𝓛 lent lending)
 
     pub answers_slot : (Handle' handle' : Ty) (Slice Result' : Sym) (𝓜 : Model 𝓤 𝓛.H) (𝓡 : Running 𝓤 𝓛.H 𝓜) (k lends : Callee) → let 𝓣 = tables 𝓤 𝓛.H 𝓜 𝓡 𝓡.env in
-        Closed 𝓤 𝓛.H 𝓣.C 𝓣.Λ k (inserting Handle' handle' Slice Result' lends) → Triple 𝓤 (𝓣.C lends) Lender → Triple 𝓤 (𝓣.C teller.Key.name) (Teller 𝓛 𝓜.mem 𝓡.returns)
+        Closed 𝓤 𝓛.H 𝓣.C 𝓣.Λ k (inserting Handle' handle' Slice Result' lends) → Triple 𝓤 (𝓣.C lends) Lender → Triple 𝓤 (𝓣.C teller.Key.name) (answering_made.Teller Refused refused_laws IsAnswered 𝓛)
         → Meets 𝓛 answered_by.signature (𝓣.C k) (closing 𝓛 answered_by answering)
     answers_slot Handle' handle' Slice Result' 𝓜 𝓡 k lends closed met told_met =
         let W = walk_of 𝓛 answered_by stayed answering in let framing = framed 𝓤 𝓛.H 𝓜 (tables 𝓤 𝓛.H 𝓜 𝓡 𝓡.env) in
@@ -143,10 +151,10 @@ module _ (R : RattleType) (one : One R.mir) (array_in : R.Denot → ArrayOf byte
         ‵ (lasts lent z.0.0 z.0.3 ws) ⊛ (‵ (LendsInsOf R array_in handle key.now made) ⊛ raw (fact 𝓤 (IsMade IsKey (array_in handle.now) key.now made))))))) (id⊢ 𝓤 _) $
         await ! tt $ pick ! (λ made. split ! $ split ! $ split3 ! $ move ! (4 ∷ []) $ pick ! (λ _. split ! $ drop ! $ split ! $ move ! (1 ∷ []) $ heard ! _ (λ value.
         -- [what the handle becomes; its token; the key's token; nothing; what the insert made; the pointer's token; the pointer]
-        move ! (4 ∷ []) $ peeks ! (Made κ) (Is (Made κ)) (shows 𝓛 (Made κ)) made (v ∷ []) (λ is. lands_as ! refl refl (made_typed 𝓛 κ made v is) $
+        move ! (4 ∷ []) $ peeks ! (Made κ) (Is (Made κ)) (shows 𝓛 (Made κ)) made (v ∷ []) (λ is. lands_as ! refl refl (answering_made.made_typed Refused refused_laws IsAnswered 𝓛 κ made v is) $
         sets ! (addr ! (through ! refl (stop !))) refl (tt, tt) $
         move ! (2 ∷ 5 ∷ 4 ∷ []) $ group ! 3 $ move ! (1 ∷ 4 ∷ 0 ∷ []) $
-        answers_insert 𝓛 𝓜.mem 𝓡.returns κ κ' q q' bounds.0 made v slot ! framing told_met (and_then ! (get ! refl) (and_then ! (get ! refl) (no_more !))) (λ told last fits handed.
+        answering_made.answers Refused refused_laws IsAnswered 𝓛 κ κ' q q' bounds.0 made v slot ! framing told_met (and_then ! (get ! refl) (and_then ! (get ! refl) (no_more !))) (λ told last fits handed.
         lands_as ! refl refl (tt, record { fits = fits }) $ returns ! (look_at ! 0 refl) $ free_all ! refl $
         -- [what is left of the pointer; the tokens; what the handle becomes; the key's token]
         rewrite ! 2 (λ (o : Option (Result (MutBor ℕ) Refusal)). ‵ (LendsAnswered R array_in handle key.now o)) (sym handed.0) refl $

@@ -9,8 +9,9 @@ pub mod ScanFacts
 pub mod HandsOut
 pub mod NearestSlots
 pub mod KeySlots
-pub mod AnswersInsert
+pub mod Answering
 pub mod KeyInserts
+pub mod ScannedSlots
 pub mod SortedAnswers
 pub mod PairLemmas
 pub mod PageLemmas

@@ -1,7 +1,7 @@
 -- What a scan of C tells is what its contract says.
 use Rattle.std.proofs.Common.{◌≡◌, ℕ, zero, suc, ◌≤◌, ◌<◌, ◌++◌, length, drop, List, [], Option, Some, None, IsTrue, is_some, unwrap_or, refl, sym, ap, subst, ◌∙◌, true≢false}
 use Rattle.std.proofs.lemmas.Bool.{and_parts}
-use Rattle.std.specs.FinMap.{FinMap, contains_key, empty, get-empty}
+use Rattle.std.specs.FinMap.{FinMap, get, contains_key, empty, get-empty}
 use Rattle.judy_model.specs.Keys.{byte_order}
 use Rattle.judy_model.specs.Nearest.{IsFirst, IsNext, IsLast, IsPrev}
 use Rattle.judy_model.proofs.NearestLemmas.{first-IsFirst, next-IsNext, last-IsLast, prev-IsPrev}
@@ -29,6 +29,11 @@ no_neighbour scan map from is = by (neighbour scan map from) refl
     by None none = refl
     by (Some key) some =
         absurd (true≢false (sym (neighbour_held scan map from key some) ∙ ap (λ m. contains_key m key) is ∙ ap is_some (get-empty byte_order key)))
+
+-- a key that was found with a value has that value
+pub found_held : (map : FinMap byte_order ℕ) (looked : Option (List ℕ)) (from key : List ℕ) (value : ℕ) → key ≡ unwrap_or looked from → Some value ≡ value_found map looked → get map key ≡ Some value
+found_held map None from key value at is = absurd (true≢false (ap is_some is))
+found_held map (Some found) from key value at is = ap (get map) at ∙ sym is
 
 module _ (map : FinMap byte_order ℕ) (before after : Room) where
   -- what is told of a key of the map that was put into a buffer, with the value that was answered, is what is said of that key

@@ -11,6 +11,7 @@ pub mod StringMaps
 pub mod Answers
 pub mod KeyInserts
 pub mod KeyScans
+pub mod ScanSlots
 pub mod KeySlots
 pub mod StringSlots
 pub mod ByteMaps

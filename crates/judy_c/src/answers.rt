@@ -1,8 +1,11 @@
 //! How the calls of C on arrays over strings, and over byte strings, answer.
 
-ghost use Rattle.std.specs.Prelude.{◌≡◌, Some};
+ghost use Rattle.std.specs.Prelude.{◌≡◌, ◌==◌, Some};
+ghost use Rattle.std.specs.Result.{result_ok};
 ghost use Rattle.judy_c.specs.Answers.{answered, IsHanded};
 ghost use Rattle.judy_c.specs.KeyPuts.{number_of, was_of, IsToldOld};
+ghost use Rattle.judy_c.specs.ScanSlots.{number_found};
+ghost use Rattle.judy_c.specs.Told.{IsTold};
 
 // The key was there, and has the new value now.
 const PRESENT: u32 = 0;
@@ -36,6 +39,14 @@ pub(crate) enum Refusal {
     BadKey,
 }
 
+// Why a scan hands out no slot.
+#[derive(Clone, Copy)]
+pub(crate) enum Missed {
+    NoKey,
+    BadKey,
+    TooSmall,
+}
+
 // Answers an insert by its number, and hands the slot out where there is one.
 pub(crate) fn answer_insert<'a>(made: Result<&'a mut u64, Refusal>, slot: &mut &'a mut u64) -> u32
     ensures { (answered result slot.new ≡ Some made.entry)
@@ -49,6 +60,22 @@ pub(crate) fn answer_insert<'a>(made: Result<&'a mut u64, Refusal>, slot: &mut &
         Err(Refusal::NoMemory) => NO_MEMORY,
         Err(Refusal::Full) => FULL,
         Err(Refusal::BadKey) => BAD_KEY,
+    }
+}
+
+// Answers a scan by its number, and hands the slot of the key found out where there is one.
+pub(crate) fn answer_scan<'a>(found: Result<&'a mut u64, Missed>, slot: &mut &'a mut u64) -> u32
+    ensures { (result ≡ number_found found.entry)
+        × IsTold (result_ok found.entry) (result == 1) slot.old slot.new }
+{
+    match found {
+        Ok(word) => {
+            *slot = word;
+            FOUND
+        }
+        Err(Missed::NoKey) => NONE,
+        Err(Missed::BadKey) => BAD_KEY,
+        Err(Missed::TooSmall) => TOO_SMALL,
     }
 }
 

@@ -13,7 +13,7 @@
 //! set.rt, map.rt, strings.rt and bytes.rt have the handles, and in the folders of these names stand a map's slots. A struct that C knows has
 //! no type parameter: held.rt has what each of them holds, whatever the array's type, with its pointer and the array behind it, handles.rt
 //! lends each handle as that, and arrays.rt has the array for which a null handle stands. judy1.rt, judyl.rt, judysl.rt and judyhs.rt have the calls, entries.rt those that tell a key with its value,
-//! nearest_slots.rt those that hand out the slot of a key that they find,
+//! nearest_slots.rt and string_slots.rt those that hand out the slot of a key that they find,
 //! exchanges.rt those that tell the value that was there, walks.rt those that tell many keys at a time, looks.rt those
 //! that look many up, sorted.rt those that make an array at once, told.rt how a call answers a
 //! word or a slot that may not be there, answers.rt how one answers by a number, scans.rt the scans over strings, string_counts.rt
@@ -41,6 +41,7 @@ mod scans;
 mod set;
 mod sorted;
 mod string_counts;
+mod string_slots;
 mod strings;
 mod told;
 mod walks;

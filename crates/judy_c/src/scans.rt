@@ -1,7 +1,10 @@
 //! The scans of C over an array of strings.
 
-ghost use Rattle.std.specs.Prelude.{◌≡◌, ◌≢◌, ◌≤◌, ◌↔◌, IsTrue, All, [], length, take, unwrap_or};
+ghost use Rattle.std.specs.Prelude.{◌≡◌, ◌≢◌, ◌≤◌, ◌<◌, ◌++◌, ◌↔◌, IsTrue, IsFalse, All, [], length, take, drop, unwrap_or};
+ghost use Rattle.std.specs.Borrow.{sem};
+ghost use Rattle.std.specs.Option.{option_copied_mut};
 ghost use Rattle.judy_model.specs.Keys.{IsStringKey};
+ghost use Rattle.judy_sl.specs.Lends.{LendsSlot};
 ghost use Rattle.judy_sl.specs.Scans.{value_found};
 ghost use Rattle.judy_c.specs.Answers.{IsSaid};
 ghost use Rattle.judy_c.specs.KeyScans.{neighbour, scan_says, entry_says};
@@ -66,8 +69,29 @@ impl Scan {
     }
 }
 
+// The slot of the value of the key that a scan looks for, in one way down; the key is then in the buffer.
+pub(crate) fn find_slot<'a>(
+    array: &'a mut JudySl,
+    scan: Scan,
+    key: &mut KeyBuf,
+) -> Option<&'a mut u64>
+    requires { All (λ byte. byte ≢ 0) key.old.items }
+    ensures* writes_back { sem 𝓛 (LendsSlot array.entry key.new.items result) }
+    ensures key { key.new.items
+        ≡ unwrap_or (neighbour scan array.old.map key.old.items) key.old.items }
+    ensures value { option_copied_mut result
+        ≡ value_found array.old.map (neighbour scan array.old.map key.old.items) }
+{
+    match scan {
+        Scan::First => array.first_slot(key),
+        Scan::Next => array.next_slot(key),
+        Scan::Last => array.last_slot(key),
+        Scan::Prev => array.prev_slot(key),
+    }
+}
+
 // Copies the string of so many bytes at the beginning of a buffer, where there is one that a scan may begin at.
-fn read_start(buffer: &[u8], count: usize, key: &mut KeyBuf) -> bool
+pub(crate) fn read_start(buffer: &[u8], count: usize, key: &mut KeyBuf) -> bool
     requires { key.old.items ≡ [] }
     ensures is { IsTrue result
         ↔ ((count ≤ length buffer.now) × IsStringKey (take count buffer.now)) }
@@ -95,11 +119,25 @@ pub(crate) fn tell_entry(
     let Some(word) = found else {
         return NONE;
     };
-    if buffer.len() < key.len() {
+    if !write_key(key, buffer, count) {
         return TOO_SMALL;
+    }
+    *value = word;
+    FOUND
+}
+
+// Writes a key and its length, where it fits the caller's buffer; else both stay.
+pub(crate) fn write_key(key: &[u8], buffer: &mut [u8], count: &mut usize) -> bool
+    ensures written { IsTrue result → (length key.now ≤ length buffer.old)
+        × (buffer.new ≡ key.now ++ drop (length key.now) buffer.old)
+        × (count.new ≡ length key.now) }
+    ensures stays { IsFalse result → (length buffer.old < length key.now)
+        × (buffer.new ≡ buffer.old) × (count.new ≡ count.old) }
+{
+    if buffer.len() < key.len() {
+        return false;
     }
     buffer[..key.len()].copy_from_slice(key);
     *count = key.len();
-    *value = word;
-    FOUND
+    true
 }

@@ -6,6 +6,7 @@ ghost use Rattle.judy_model.specs.Arrays.{ArrayOf};
 ghost use Rattle.judy_c.specs.Owned.{strings_coded};
 
 mod puts;
+mod scans;
 mod slots;
 
 use std::marker::Model;

@@ -33,7 +33,7 @@ low-spelled (suc width) (byte ∷ bytes) are =
     (λ i. digit i ∷ take (length bytes) (low_bytes-above width byte (spelled width bytes) i))
     ∙ ap (λ rest. byte ∷ rest) (low-spelled width bytes later)
 
-low-first : (bytes : List ℕ) → IsByteString bytes → take (length bytes) (low_bytes 8 (first_word bytes)) ≡ take 8 bytes
+pub low-first : (bytes : List ℕ) → IsByteString bytes → take (length bytes) (low_bytes 8 (first_word bytes)) ≡ take 8 bytes
 unfolding first_word
 low-first bytes are = low-spelled 8 bytes are
 
@@ -58,7 +58,7 @@ bytes-back bytes are = back-within (length bytes) bytes (omega arith) are
 
 -- ---- the bytes of words, one after the other
 
-be-low_bytes : (word : ℕ) → to_be_bytes w64 word ≡ low_bytes 8 word
+pub be-low_bytes : (word : ℕ) → to_be_bytes w64 word ≡ low_bytes 8 word
 be-low_bytes word = search rules
 
 -- Those of one word more.

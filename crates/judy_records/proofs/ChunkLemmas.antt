@@ -97,11 +97,7 @@ last-word bytes last below enough some is =
 
 -- ---- all words
 
--- The whole words are all where no byte is left.
-pub words-whole : (bytes : List ℕ) → length bytes % 8 ≡ 0 → words_of bytes ≡ words_in (length bytes / 8) bytes
-words-whole bytes none = (let e : words_for (length bytes) ≡ length bytes / 8 = omega arith in ap (λ n. words_in n bytes) e)
-
--- Else the shorter word stands behind them.
+-- Where bytes are left behind the whole words, a shorter word stands behind these.
 pub words-last : (bytes : List ℕ) → 0 < length bytes % 8 → words_of bytes ≡ words_in (length bytes / 8 + 1) bytes
 words-last bytes some = (let e : words_for (length bytes) ≡ length bytes / 8 + 1 = omega arith in ap (λ n. words_in n bytes) e)
 

@@ -4,5 +4,6 @@ pub mod SpotLemmas
 pub mod FreeLemmas
 pub mod RecordLemmas
 pub mod OrderLemmas
+pub mod PadLemmas
 pub mod BackLemmas
 pub mod ChunkLemmas

@@ -24,7 +24,7 @@ AreTold (x ∷ xs) [] = All (λ byte. byte ≢ 0) (x ∷ xs)
 AreTold (x ∷ xs) (y ∷ ys) = AreTold xs ys
 
 -- Texts are, since they have no zero byte at all,
-text-bytes : (bytes : List ℕ) → IsText bytes → IsByteString bytes
+pub text-bytes : (bytes : List ℕ) → IsText bytes → IsByteString bytes
 text-bytes bytes text = λ k d within. (text k d within).0
 
 text-some : (bytes : List ℕ) → IsText bytes → All (λ byte. byte ≢ 0) bytes

@@ -29,9 +29,13 @@ words-cons bytes some =
     let e : words_for (length bytes) ≡ suc (words_for (length (drop 8 bytes))) = omega arith in
     ap (λ n. words_in n bytes) e
 
--- What is left of bytes behind one word more.
-pub rest-more : (bytes rest : List ℕ) (count : ℕ) → rest ≡ drop (8 * count) bytes → drop 8 rest ≡ drop (8 * (count + 1)) bytes
-rest-more bytes rest count e = (let s : 8 * count + 8 ≡ 8 * (count + 1) = omega arith in ap (drop 8) e ∙ drop-drop 8 (8 * count) bytes ∙ ap (λ n. drop n bytes) s)
+-- The word at a place.
+pub words-at : (count at : ℕ) (bytes : List ℕ) → at < count → get_or (words_in count bytes) at 0 ≡ first_word (drop (8 * at) bytes)
+words-at zero at bytes inside = absurd (omega (arith, inside))
+words-at (suc count) zero bytes inside = refl
+words-at (suc count) (suc at) bytes inside =
+    let e : 8 + 8 * at ≡ 8 * suc at = omega arith in
+    words-at count at (drop 8 bytes) (omega (arith, inside)) ∙ ap first_word (drop-drop (8 * at) 8 bytes ∙ ap (λ n. drop n bytes) e)
 
 -- A word is written over a text.
 pub words-written : (old now bytes rest : List ℕ) (count : ℕ) → count < length old → now ≡ words_in count bytes ++ drop count old → rest ≡ drop (8 * count) bytes → set now count (first_word rest) ≡ words_in (count + 1) bytes ++ drop (count + 1) old

@@ -1,5 +1,5 @@
 -- The words of a text: its bytes by eights, each eight as a word, and the last one padded with zeros.
-use Rattle.std.specs.Prelude.{◌≢◌, ℕ, zero, suc, ◌+◌, ◌*◌, ◌/◌, ◌^◌, ◌<◌, List, [], ◌∷◌, length, take, drop, All}
+use Rattle.std.specs.Prelude.{◌≢◌, ℕ, zero, suc, ◌+◌, ◌-◌, ◌*◌, ◌/◌, ◌^◌, ◌<◌, List, [], ◌∷◌, length, take, drop, filter, nat_lt, slice_get, Some, All}
 use Rattle.std.specs.List.{flat_map}
 use Rattle.judy_model.specs.WordBytes.{low_bytes}
 
@@ -29,6 +29,14 @@ words_of bytes = words_in (words_for (length bytes)) bytes
 -- The first so many bytes that words spell, eight each.
 abbrev pub bytes_in : ℕ → List ℕ → List ℕ
 bytes_in count words = take count (flat_map (λ word. low_bytes 8 word) words)
+
+-- The text that words spell: their bytes that aren't zero.
+unfoldable pub text_in : List ℕ → List ℕ
+text_in words = filter (λ byte. nat_lt 0 byte) (flat_map (λ word. low_bytes 8 word) words)
+
+-- Bytes of which the last, where there is one, isn't zero.
+abbrev pub EndsWell : List ℕ → Type 0
+EndsWell bytes = slice_get bytes (length bytes - 1) ≢ Some 0
 
 -- Bytes of which none is zero.
 abbrev pub IsText : List ℕ → Type 0

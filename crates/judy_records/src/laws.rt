@@ -2,7 +2,7 @@
 
 ghost use Rattle.std.specs.Prelude.{◌≡◌, ℕ, List, [], ◌∷◌, length};
 ghost use Rattle.judy_model.specs.Keys.{byte_order, IsByteString};
-ghost use Rattle.judy_records.specs.Texts.{words_of, bytes_in, IsText};
+ghost use Rattle.judy_records.specs.Texts.{words_of, bytes_in, text_in, EndsWell, IsText};
 
 /// Some texts as words: none at all, one of three bytes, and one of nine. Zero bytes at the end don't show in the words, and the length
 /// tells how many there are.
@@ -38,4 +38,15 @@ pub fn byte_strings_of_one_length_compare_as_their_words()
 pub fn byte_strings_are_what_their_words_spell()
     ensures { (bytes : List ℕ) → IsByteString bytes
         → bytes_in (length bytes) (words_of bytes) ≡ bytes }
+{}
+
+/// A text without a zero byte is what its words spell but for zeros.
+pub fn texts_are_what_their_words_spell()
+    ensures { (text : List ℕ) → IsText text → text_in (words_of text) ≡ text }
+{}
+
+/// Of byte strings that don't end with a zero only one has its words.
+pub fn byte_strings_that_end_well_differ_in_their_words()
+    ensures { (one two : List ℕ) → IsByteString one → IsByteString two → EndsWell one
+        → EndsWell two → words_of one ≡ words_of two → one ≡ two }
 {}

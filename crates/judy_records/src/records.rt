@@ -2,7 +2,7 @@
 
 ghost use Rattle.std.specs.Prelude.{◌≡◌, ◌≤◌, ◌+◌, ◌↔◌, ℕ, IsTrue, IsOk, IfOk, OnOk, length};
 ghost use Rattle.std.specs.Borrow.{sem};
-ghost use Rattle.judy_model.specs.Keys.{byte_order};
+ghost use Rattle.judy_model.specs.Keys.{byte_order, IsWord};
 ghost use Rattle.judy_places.specs.Places.{NoneLost};
 ghost use Rattle.judy_records.specs.Texts.{words_of, words_for, bytes_in};
 ghost use Rattle.judy_records.specs.Spots.{held, spot_at, IsHeld, value_of, text_of, links_of, empty_list, HasRoom, next_place, with_capacity, with_spot, put_in, taken_out, removed};
@@ -62,12 +62,14 @@ impl Records {
         self.size
     }
 
-    /// Does nothing: it tells a caller's proof that no free place is lost.
+    /// Does nothing: it tells a caller's proof that no free place is lost, and that values are words.
     pub fn told(&self)
         ensures none_lost { NoneLost (links_of self.now) self.now.first }
+        ensures values { (place : ℕ) → IsHeld (spot_at self.now place)
+            → IsWord (value_of (spot_at self.now place)) }
         ensures size { self.now.size ≤ 2305843009213693952 }
     {
-        let _ = &self.words;
+        words::told(&self.words);
     }
 
     /// The value of the record at a place.
@@ -87,8 +89,8 @@ impl Records {
         &mut self.words[place * (self.size + 1)]
     }
 
-    // The words of the text at a place.
-    fn text(&self, place: usize) -> &[u64]
+    /// The words of the text at a place.
+    pub fn text(&self, place: usize) -> &[u64]
         requires { IsHeld (spot_at self.now place) }
         ensures { result.now ≡ text_of (spot_at self.now place) }
     {

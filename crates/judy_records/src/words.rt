@@ -1,6 +1,7 @@
 //! Bytes as words.
 
-ghost use Rattle.std.specs.Prelude.{◌≡◌, ◌<◌, ◌/◌, ◌*◌, ◌%◌, IfOk, slice_index, length, drop};
+ghost use Rattle.std.specs.Prelude.{ℕ, ◌≡◌, ◌<◌, ◌/◌, ◌*◌, ◌%◌, IfOk, slice_index, length, drop};
+ghost use Rattle.judy_model.specs.Keys.{IsWord};
 ghost use Rattle.judy_records.specs.Texts.{first_word, words_for, bytes_in};
 
 use std::alloc::{AllocError, Global};
@@ -75,3 +76,8 @@ pub fn bytes_in(alloc: Global, words: &[u64], count: usize) -> Result<Vec<u8>, A
     bytes.truncate(count);
     Ok(bytes)
 }
+
+// Does nothing: it tells a caller's proof that numbers of 64 bits are words.
+pub fn told(_words: &[u64])
+    ensures { (at : ℕ) → IsWord (slice_index _words.now at) }
+{}

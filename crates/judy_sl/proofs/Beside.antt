@@ -9,11 +9,12 @@ use Rattle.judy_sl.specs.declared.arena.Place.TheVariants.{Root, Below}
 use Rattle.judy_sl.specs.declared.shrink.Cut.{Cut}
 use Rattle.judy_sl.specs.Pieces.{piece_of}
 use Rattle.judy_sl.specs.World.{World, level}
-use Rattle.judy_sl.specs.Arenas.{world_of, IsArena}
+use Rattle.judy_sl.specs.Arenas.{world_of, child_at, IsArena}
 use Rattle.judy_sl.specs.Ways.{LeadsTo, seat_of, piece_at, is_below}
-use Rattle.judy_sl.specs.Shrunk.{place_without, IsCutWhere, IsLeft}
+use Rattle.judy_sl.specs.Shrunk.{child_without, place_without, IsCutWhere, IsLeft}
 use Rattle.judy_sl.specs.Counted.{OneMore, AreCounted, AreCountedBut}
 use Rattle.judy_sl.proofs.OnWay.{pieces-head}
+use Rattle.judy_sl.proofs.Linked.{root-with_child}
 use Rattle.judy_sl.proofs.Written.{behind-leads}
 use Rattle.judy_sl.proofs.Lone.{get-remove_here}
 use Rattle.judy_sl.proofs.FirstWays.{leads_below}
@@ -37,7 +38,8 @@ module _ (before mid after : Arena) (is : IsArena before) (key : List ℕ) (left
   place-left : (place : Place) (rest : List ℕ) → LeadsTo (world_of before) key (seat_of place) (piece_at place ∷ rest) → mid ≡ place_without before place → is_below place ≡ is_some (get after.root.map (piece_of key))
   place-left (Root piece) rest leads mid_is = sym (ap (λ (found : Option ℕ). is_some found) (root-left piece rest leads mid_is))
   place-left (Below at piece) rest leads mid_is =
-      sym (ap (λ (found : Option ℕ). is_some found) (first-left (Below at piece) mid_is (piece_of key)) ∙ leads_below before is key at (piece ∷ rest) leads)
+      let same = ap (λ (words : ArrayOf word_order). get words.map (piece_of key)) (root-with_child before at (child_without (child_at before at) piece)) in
+      sym (ap (λ (found : Option ℕ). is_some found) (first-left (Below at piece) mid_is (piece_of key) ∙ same) ∙ leads_below before is key at (piece ∷ rest) leads)
 
   -- A key that was cut off below the first level leaves others that begin with its first piece, and one cut off there none.
   pub beside-left : (cut : Cut) → IsCutWhere (Unit {0}) (world_of before) key cut → mid ≡ place_without before cut.place → is_below cut.place ≡ is_some (get after.root.map (piece_of key))

@@ -1,6 +1,6 @@
 -- The pieces that two rests have in common.
-use Rattle.std.proofs.Common.{◌≡◌, ◌≢◌, ℕ, ◌≤◌, List, [], ◌∷◌, ◌++◌, length, drop, inl, inr, refl, sym, ap, subst, ◌∙◌}
-use Rattle.std.proofs.lemmas.List.{append_assoc}
+use Rattle.std.proofs.Common.{◌≡◌, ◌≢◌, ℕ, ◌≤◌, List, [], ◌∷◌, ◌++◌, length, drop, inl, inr, refl, sym, ap, subst, ◌∙◌, arith}
+use Rattle.std.proofs.lemmas.List.{append_assoc, length-drop}
 use Rattle.std.proofs.lemmas.Bool.{cases_lt}
 use Rattle.std.specs.Map.{keys_of}
 use Rattle.judy_model.specs.Keys.{word_order}
@@ -18,6 +18,8 @@ pub record IsCommon (tail key : List ℕ) (upper : List (ℕ × ArrayOf word_ord
   pub rest_parts : pieces key ≡ keys_of upper ++ pieces rest
   pub held_text : IsText held
   pub rest_text : IsText rest
+  pub held_short : length held ≤ length tail
+  pub rest_short : length rest ≤ length key
   pub differ : held ≢ rest
 
 -- Rests that differ, with the same first piece, are both longer than it.
@@ -56,5 +58,7 @@ module _ (tail key : List ℕ) (upper : List (ℕ × ArrayOf word_order)) (held 
         rest_parts = is.rest_parts ∙ ap (λ ps. keys_of upper ++ ps) (pieces_long rest long.1 ∙ ap (λ p. p ∷ pieces (drop 8 rest)) (sym piece_is)) ∙ sym (ap (λ ps. ps ++ pieces (drop 8 rest)) keys ∙ append_assoc (keys_of upper) (piece ∷ []) (pieces (drop 8 rest)));
         held_text = text-drop 8 held is.held_text;
         rest_text = text-drop 8 rest is.rest_text;
+        held_short = (let l = length-drop 8 held in let h = is.held_short in omega (arith, l, h));
+        rest_short = (let l = length-drop 8 rest in let r = is.rest_short in omega (arith, l, r));
         differ = λ e. is.differ (pieces_same held rest is.held_text is.rest_text (pieces_long held long.0 ∙ (λ i. same i ∷ pieces (e i)) ∙ sym (pieces_long rest long.1)));
       })

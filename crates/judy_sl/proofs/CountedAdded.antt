@@ -4,25 +4,27 @@ use Rattle.std.proofs.lemmas.Option.{none-some}
 use Rattle.std.specs.FinMap.{FinMap, get}
 use Rattle.judy_model.specs.Keys.{word_order, IsStringKey}
 use Rattle.judy_model.specs.Arrays.{ArrayOf}
-use Rattle.judy_sl.specs.declared.child.Child.{Child}
-use Rattle.judy_sl.specs.declared.child.Child.TheVariants.{Free, Tail, Level}
+use Rattle.judy_sl.specs.Children.{Child, Free, Tail, Level}
 use Rattle.judy_sl.specs.declared.arena.Arena.{Arena}
-use Rattle.judy_sl.specs.Pieces.{pieces}
+use Rattle.judy_sl.specs.Pieces.{pieces, AreInner}
 use Rattle.judy_sl.specs.World.{gone, level, lookup, walk}
 use Rattle.judy_sl.specs.Worlds.{AllLed}
 use Rattle.judy_sl.specs.Arenas.{world_of, node_of, child_at, IsArena}
 use Rattle.judy_sl.specs.Counted.{keys_behind, LevelTells, Same, OneLess, AreCounted, AreCountedBut, Passes}
 use Rattle.judy_sl.specs.Grown.{IsChange}
 use Rattle.judy_sl.proofs.Ways.{step-parts}
-use Rattle.judy_sl.proofs.Led.{KeepsEntries}
-use Rattle.judy_sl.proofs.KeptLevels.{IsReached, all-reached, reached-keeps, reached-once}
+use Rattle.judy_sl.proofs.KeptLevels.{IsReached, all-reached, reached-once}
 use Rattle.judy_sl.proofs.KeysBehind.{keys-reached, keys-stay, keys-come}
 
 -- A level was one before, and told the same number.
 abbrev pub LevelWas : Arena → ℕ → Child → Type 0
-LevelWas before at (Free next) = Unit {0}
+LevelWas before at Free = Unit {0}
 LevelWas before at (Tail rest) = Unit {0}
 LevelWas before at (Level told words) = (was : ArrayOf word_order) × (child_at before at ≡ Level told was)
+
+-- The pieces that lead to a level that was there still lead there.
+abbrev pub StaysLed : Arena → Arena → Type 0
+StaysLed before after = (at told : ℕ) (was : ArrayOf word_order) → child_at before at ≡ Level told was → (front : List ℕ) → AreInner front → walk (world_of before) 0 front ≡ Some (suc at) → walk (world_of after) 0 front ≡ Some (suc at)
 
 -- A new level tells 1 key, and there are two: the one whose tail stood there, and one that has come in.
 pub record IsNewLevel (after : Arena) (key : List ℕ) (at told : ℕ) : Type 0 where
@@ -32,23 +34,23 @@ pub record IsNewLevel (after : Arena) (key : List ℕ) (at told : ℕ) : Type 0 
 
 -- A level was one before, or it is new.
 abbrev pub LevelCame : Arena → Arena → List ℕ → ℕ → Child → Type 0
-LevelCame before after key at (Free next) = Unit {0}
+LevelCame before after key at Free = Unit {0}
 LevelCame before after key at (Tail rest) = Unit {0}
 LevelCame before after key at (Level told words) = ((was : ArrayOf word_order) × (child_at before at ≡ Level told was)) ⊎ IsNewLevel after key at told
 
 pub came-was : (before after : Arena) (key : List ℕ) (at : ℕ) (child : Child) → LevelWas before at child → LevelCame before after key at child
-came-was before after key at (Free next) was = tt
+came-was before after key at Free was = tt
 came-was before after key at (Tail rest) was = tt
 came-was before after key at (Level told words) was = inl was
 
-module _ (before after : Arena) (is : IsArena before) (is_after : IsArena after) (led : AllLed (world_of before)) (counted : AreCounted before) (key : List ℕ) (is_key : IsStringKey key) (value : ℕ) (change : IsChange (world_of before) (world_of after) (pieces key) (Some value)) (none : lookup (world_of before) 0 (pieces key) ≡ None) (keeps : (seat : ℕ) → KeepsEntries (world_of before seat) (world_of after seat)) where
+module _ (before after : Arena) (is : IsArena before) (is_after : IsArena after) (led : AllLed (world_of before)) (counted : AreCounted before) (key : List ℕ) (is_key : IsStringKey key) (value : ℕ) (change : IsChange (world_of before) (world_of after) (pieces key) (Some value)) (none : lookup (world_of before) 0 (pieces key) ≡ None) (stays : StaysLed before after) where
   -- A level that was there.
   module _ (at told : ℕ) (was : ArrayOf word_order) (was_is : child_at before at ≡ Level told was) where
     reached : IsReached (world_of before) (suc at)
     reached = all-reached (world_of before) is.behind is.is_world led at (λ gone_is. let g : level was.map ≡ gone = sym (ap node_of was_is) ∙ gone_is in cc)
 
     abbrev reached-after : IsReached (world_of after) (suc at)
-    reached-after = reached-keeps (world_of before) (world_of after) keeps (suc at) reached
+    reached-after = record { front = reached.front; inner = reached.inner; way = stays at told was was_is reached.front reached.inner reached.way }
 
     told-before : told ≡ keys_behind (world_of before) (suc at)
     told-before = subst (λ child. LevelTells Same child (keys_behind (world_of before) (suc at))) was_is (counted at)
@@ -91,13 +93,13 @@ module _ (before after : Arena) (is : IsArena before) (is_after : IsArena after)
             none-some step.found (sym (absent piece (front ++ rest) parts) ∙ ap (λ (m : FinMap word_order ℕ). get m piece) same ∙ step.entry)
 
   passed-child : (at : ℕ) (child : Child) → LevelCame before after key at child → Passes (world_of after) key (suc at) → LevelTells OneLess child (keys_behind (world_of after) (suc at))
-  passed-child at (Free next) came passes = tt
+  passed-child at Free came passes = tt
   passed-child at (Tail rest) came passes = tt
   passed-child at (Level told words) (inl was) passes = was-passed at told was.0 was.1 passes
   passed-child at (Level told words) (inr new) passes = ap (λ n. suc n) new.one ∙ sym new.two
 
   other-child : (at : ℕ) (child : Child) → LevelCame before after key at child → (Passes (world_of after) key (suc at) → ⊥) → LevelTells Same child (keys_behind (world_of after) (suc at))
-  other-child at (Free next) came off = tt
+  other-child at Free came off = tt
   other-child at (Tail rest) came off = tt
   other-child at (Level told words) (inl was) off = was-off at told was.0 was.1 (λ rest e. off (front-passes at told was.0 was.1 rest e))
   other-child at (Level told words) (inr new) off = absurd (off new.passes)
@@ -110,7 +112,7 @@ module _ (before after : Arena) (is : IsArena before) (is_after : IsArena after)
   }
 
   first-child : ((piece : ℕ) (rest : List ℕ) → pieces key ≡ piece ∷ rest → get before.root.map piece ≡ None) → (at : ℕ) (child : Child) → LevelWas before at child → LevelTells Same child (keys_behind (world_of after) (suc at))
-  first-child absent at (Free next) was = tt
+  first-child absent at Free was = tt
   first-child absent at (Tail rest) was = tt
   first-child absent at (Level told words) was = was-off at told was.0 was.1 (first-off at told was.0 was.1 absent)
 

@@ -1,5 +1,5 @@
 -- What levels tell of the keys behind them stays where a value is written, or nothing is.
-use Rattle.std.proofs.Common.{◌≡◌, ℕ, suc, ◌%◌, cond, true, false, ⊎_elim, List, [], ◌∷◌, get_or, Option, None, Some, is_some, refl, sym, ap, ◌∙◌, subst}
+use Rattle.std.proofs.Common.{◌≡◌, ℕ, suc, ◌%◌, cond, true, false, ⊎_elim, List, [], ◌∷◌, Option, None, Some, is_some, refl, sym, ap, ◌∙◌, subst}
 use Rattle.std.specs.Ordering.{eq_by_cmp}
 use Rattle.std.specs.Cmp.{eq_by_cmp_equiv}
 use Rattle.std.specs.FinMap.{FinMap, get, insert, contains_key, contains_key-keys, keys, len}
@@ -10,8 +10,7 @@ use Rattle.judy_model.specs.Keys.{word_order, byte_order, IsStringKey}
 use Rattle.judy_model.specs.Tables.{table, string_keys}
 use Rattle.judy_model.proofs.KeysLemmas.{keys_ascending, length-keys}
 use Rattle.judy_model.proofs.TableLemmas.{byte_order_total, string_keys-all, get-table, table_some}
-use Rattle.judy_sl.specs.declared.child.Child.{Child}
-use Rattle.judy_sl.specs.declared.child.Child.TheVariants.{Free, Tail, Level}
+use Rattle.judy_sl.specs.Children.{Child, Free, Tail, Level}
 use Rattle.judy_sl.specs.declared.arena.Arena.{Arena}
 use Rattle.judy_sl.specs.declared.arena.Place.{Place}
 use Rattle.judy_sl.specs.declared.arena.Place.TheVariants.{Root, Below}
@@ -19,14 +18,15 @@ use Rattle.judy_sl.specs.Pieces.{pieces, IsFinal, IsInner, ArePieces}
 use Rattle.judy_sl.specs.World.{World, Node, gone, tail, level, lookup, at_node, at_entry}
 use Rattle.judy_sl.specs.Arenas.{world_of, child_at, IsArena}
 use Rattle.judy_sl.specs.Children.{child_with}
-use Rattle.judy_sl.specs.Places.{IsInside, place_with}
+use Rattle.judy_sl.specs.Places.{IsPlace, place_with}
+use Rattle.judy_tails.specs.Tails.{no_tails}
 use Rattle.judy_sl.specs.Ways.{IsFound, HasValue, seat_of, piece_at}
 use Rattle.judy_sl.specs.Counted.{keys_behind, Same, LevelTells, AreCounted}
 use Rattle.judy_sl.proofs.PieceLemmas.{text_of_key, pieces_are}
 use Rattle.judy_sl.proofs.Seats.{cond-same, cond-other}
-use Rattle.judy_sl.proofs.Linked.{node_with, child_at-same, child_at-other, world-with_place, get-insert_here, get-insert_off}
+use Rattle.judy_sl.proofs.Linked.{node_with, can-with, child_at-same, child_at-other, world-with_place, get-insert_here, get-insert_off}
 use Rattle.judy_sl.proofs.Written.{place-there}
-use Rattle.judy_sl.proofs.Filled.{place-inside}
+use Rattle.judy_sl.proofs.Maps.{child-none}
 
 -- Maps of the same keys are as long.
 pub len_alike : (one other : FinMap byte_order ℕ) → ((key : List ℕ) → contains_key one key ≡ contains_key other key) → len one ≡ len other
@@ -138,26 +138,26 @@ written_node (level map) piece rest was value has = written_entries map piece wa
 
 -- A child tells what it did.
 told_with : (child : Child) (piece value keys : ℕ) → LevelTells Same child keys → LevelTells Same (child_with child piece value) keys
-told_with (Free next) piece value keys tells = tt
+told_with Free piece value keys tells = tt
 told_with (Tail rest) piece value keys tells = tt
 told_with (Level told words) piece value keys tells = tells
 
-told_place : (arena : Arena) (place : Place) (value : ℕ) → IsInside arena place → (keys : ℕ → ℕ) → ((at : ℕ) → LevelTells Same (child_at arena at) (keys at)) → (at : ℕ) → LevelTells Same (child_at (place_with arena place value) at) (keys at)
-told_place arena (Root piece) value inside keys told at = told at
-told_place arena (Below there piece) value inside keys told at = ⊎_elim
-    (λ same. subst (λ (child : Child). LevelTells Same child (keys at)) (sym (child_at-same arena there (child_with (child_at arena there) piece value) inside at same))
+told_place : (arena : Arena) (place : Place) (value : ℕ) → IsPlace arena place → (keys : ℕ → ℕ) → ((at : ℕ) → LevelTells Same (child_at arena at) (keys at)) → (at : ℕ) → LevelTells Same (child_at (place_with arena place value) at) (keys at)
+told_place arena (Root piece) value is keys told at = told at
+told_place arena (Below there piece) value is keys told at = ⊎_elim
+    (λ same. subst (λ (child : Child). LevelTells Same child (keys at)) (sym (child_at-same arena there (child_with (child_at arena there) piece value) (can-with arena there piece value is) at same))
     (told_with (child_at arena there) piece value (keys at) (subst (λ k. LevelTells Same (child_at arena k) (keys at)) same (told at))))
-    (λ apart. subst (λ (child : Child). LevelTells Same child (keys at)) (sym (child_at-other arena there (child_with (child_at arena there) piece value) inside at apart)) (told at))
+    (λ apart. subst (λ (child : Child). LevelTells Same child (keys at)) (sym (child_at-other arena there (child_with (child_at arena there) piece value) (can-with arena there piece value is) at apart)) (told at))
     (cases_eq at there)
 
 module _ (arena : Arena) (is : IsArena arena) (key : List ℕ) (place : Place) (found : IsFound (world_of arena) key place) (value : ℕ) where
-  inside : IsInside arena place
-  inside = place-inside arena place (place-there arena is key place found)
+  there : IsPlace arena place
+  there = place-there arena is key place found
 
   seats_alike : (seat : ℕ) → NodesAlike (world_of arena seat) (world_of (place_with arena place value) seat)
   seats_alike seat =
       let node = node_with (world_of arena (seat_of place)) (piece_at place) value in
-      subst (λ (world : World). NodesAlike (world_of arena seat) (world seat)) (sym (world-with_place arena place value inside)) (⊎_elim
+      subst (λ (world : World). NodesAlike (world_of arena seat) (world seat)) (sym (world-with_place arena place value there)) (⊎_elim
       (λ same. subst (NodesAlike (world_of arena seat)) (sym (cond-same (world_of arena) (seat_of place) node seat same)) (subst (λ at. NodesAlike (world_of arena at) node) (sym same)
       (written_node (world_of arena (seat_of place)) (piece_at place) found.rest found.value value found.has)))
       (λ apart. subst (NodesAlike (world_of arena seat)) (sym (cond-other (world_of arena) (seat_of place) node seat apart)) (alike_itself (world_of arena seat)))
@@ -167,8 +167,8 @@ module _ (arena : Arena) (is : IsArena arena) (key : List ℕ) (place : Place) (
   pub counted_written : AreCounted arena → AreCounted (place_with arena place value)
   counted_written counted at =
       subst (LevelTells Same (child_at (place_with arena place value) at)) (behind_alike (world_of arena) (world_of (place_with arena place value)) seats_alike (suc at))
-      (told_place arena place value inside (λ k. keys_behind (world_of arena) (suc k)) counted at)
+      (told_place arena place value there (λ k. keys_behind (world_of arena) (suc k)) counted at)
 
 -- An arena without a child tells nothing.
-pub counted_new : (arena : Arena) → arena.children.items ≡ [] → AreCounted arena
-counted_new arena nothing at = subst (λ (child : Child). LevelTells Same child (keys_behind (world_of arena) (suc at))) (ap (λ (items : List Child). get_or items at (Free 0)) (sym nothing)) tt
+pub counted_new : (arena : Arena) → arena.levels.slots ≡ [] → arena.tails ≡ no_tails → AreCounted arena
+counted_new arena no_levels nothing at = subst (λ (child : Child). LevelTells Same child (keys_behind (world_of arena) (suc at))) (sym (child-none arena no_levels nothing at)) tt

@@ -1,22 +1,21 @@
 -- A key that is added where a level has no entry for it.
-use Rattle.std.proofs.Common.{◌≡◌, ◌≢◌, ℕ, zero, suc, ◌<◌, ◌-◌, List, [], ◌∷◌, ◌++◌, length, get_or, set, None, Some, refl, sym, ap, subst, ◌∙◌, arith}
-use Rattle.std.proofs.lemmas.List.{length-drop, length-set}
+use Rattle.std.proofs.Common.{◌≡◌, ◌≢◌, ℕ, zero, suc, ◌<◌, ◌-◌, List, [], ◌∷◌, ◌++◌, length, Some, refl, sym, ap, subst, ◌∙◌, arith}
+use Rattle.std.proofs.lemmas.List.{length-drop}
 use Rattle.std.specs.FinMap.{FinMap, insert}
 use Rattle.judy_model.specs.Keys.{word_order, IsStringKey}
 use Rattle.judy_model.specs.Arrays.{ArrayOf}
-use Rattle.judy_sl.specs.declared.child.Child.{Child}
-use Rattle.judy_sl.specs.declared.child.Child.TheVariants.{Free, Tail, Level}
+use Rattle.judy_sl.specs.Children.{Child, Free, Tail, Level}
 use Rattle.judy_sl.specs.declared.arena.Arena.{Arena}
 use Rattle.judy_sl.specs.declared.arena.Place.{Place}
 use Rattle.judy_sl.specs.declared.arena.Place.TheVariants.{Root, Below}
 use Rattle.judy_sl.specs.Pieces.{pieces, IsFinal, SpellKey}
 use Rattle.judy_sl.specs.World.{World, Node, gone, level}
 use Rattle.judy_sl.specs.Worlds.{IsWorld, AllLed}
-use Rattle.judy_sl.specs.Arenas.{world_of, node_of, child_at, links_of, IsArena, HasText, HasLimit}
-use Rattle.judy_sl.specs.Children.{child_with, IsTaken}
-use Rattle.judy_sl.specs.Places.{IsPlace, IsInside, place_with}
+use Rattle.judy_sl.specs.Arenas.{world_of, node_of, child_at, IsArena, HasText, HasLimit}
+use Rattle.judy_sl.specs.Children.{IsTaken, IsLevelChild}
+use Rattle.judy_sl.specs.Places.{IsPlace, IsLevelPlace, place_with}
 use Rattle.judy_sl.specs.Ways.{seat_of, piece_at, IsGap, HasValue, left_of}
-use Rattle.judy_sl.specs.Grown.{IsChange, IsAdded, IsSame, next_place, free_or}
+use Rattle.judy_sl.specs.Grown.{IsChange, IsAdded, IsSame}
 use Rattle.judy_sl.proofs.PieceLemmas.{piece-IsFinal}
 use Rattle.judy_sl.proofs.Ways.{pieces_short}
 use Rattle.judy_sl.proofs.Changes.{way-stays}
@@ -24,14 +23,13 @@ use Rattle.judy_sl.proofs.Seats.{set_node, cond-same, NodeFits, IsUsed}
 use Rattle.judy_sl.proofs.Entries.{changes_value}
 use Rattle.judy_sl.proofs.Written.{behind-leads, apart-leads}
 use Rattle.judy_sl.proofs.Led.{KeepsEntries, keeps-insert, led-set}
-use Rattle.judy_sl.proofs.Reused.{links-with}
-use Rattle.judy_sl.proofs.Linked.{node_with, inside_of, world-with_place, place-with_arena, fits-insert, insert-some, get-insert_here, get-insert_off}
+use Rattle.judy_sl.proofs.Linked.{node_with, world-with_place, place-with_arena, fits-insert, insert-some, get-insert_here, get-insert_off}
 
 -- ---- nothing has changed
 
 module _ (before after : Arena) (same : IsSame before after) where
-  child-same : (at : ℕ) → child_at after at ≡ child_at before at
-  child-same at = ap (λ items. get_or items at (Free 0)) same.items
+  pub child-same : (at : ℕ) → child_at after at ≡ child_at before at
+  child-same = same.children
 
   world-same-at : (seat : ℕ) → world_of after seat ≡ world_of before seat
   world-same-at zero = ap (λ (words : ArrayOf word_order). level words.map) same.root
@@ -52,25 +50,22 @@ module _ (before after : Arena) (same : IsSame before after) where
 -- ---- a place of a level
 
 taken-level : (child : Child) (map : FinMap word_order ℕ) → node_of child ≡ level map → IsTaken child
-taken-level (Free next) map e = absurd (cc)
+taken-level Free map e = absurd (cc)
 taken-level (Tail rest) map e = tt
 taken-level (Level keys words) map e = tt
 
 pub level-place : (arena : Arena) (place : Place) (map : FinMap word_order ℕ) → world_of arena (seat_of place) ≡ level map → IsPlace arena place
 level-place arena (Root piece) map e = tt
-level-place arena (Below at piece) map e = (inside_of arena at (λ none. let g : gone ≡ level map = sym none ∙ e in cc), taken-level (child_at arena at) map e)
+level-place arena (Below at piece) map e = taken-level (child_at arena at) map e
 
-pub place-inside : (arena : Arena) (place : Place) → IsPlace arena place → IsInside arena place
-place-inside arena (Root piece) is = tt
-place-inside arena (Below at piece) is = is.0
+level-child : (child : Child) (map : FinMap word_order ℕ) → node_of child ≡ level map → IsLevelChild child
+level-child Free map e = absurd (cc)
+level-child (Tail rest) map e = absurd (cc)
+level-child (Level keys words) map e = tt
 
--- A value that is put in leaves the next place.
-pub next-stays : (arena : Arena) (place : Place) (value : ℕ) → next_place (place_with arena place value) ≡ next_place arena
-next-stays arena (Root piece) value = refl
-next-stays arena (Below at piece) value =
-    let child = child_with (child_at arena at) piece value in
-    ap (λ links. free_or (get_or links arena.free None) arena.free (length (set arena.children.items at child))) (links-with arena (Below at piece) value)
-    ∙ ap (free_or (get_or (links_of arena) arena.free None) arena.free) (length-set arena.children.items at child)
+pub level-stands : (arena : Arena) (place : Place) (map : FinMap word_order ℕ) → world_of arena (seat_of place) ≡ level map → IsLevelPlace arena place
+level-stands arena (Root piece) map e = tt
+level-stands arena (Below at piece) map e = level-child (child_at arena at) map e
 
 -- ---- the last piece
 
@@ -101,7 +96,7 @@ module _ (arena : Arena) (is : IsArena arena) (key : List ℕ) (is_key : IsStrin
   is-used (suc at) = insert-some gap.map (piece_at place) 0
 
   world-is : world_of (place_with arena place 0) ≡ set_node (world_of arena) (seat_of place) node_in
-  world-is = world-with_place arena place 0 (place-inside arena place (level-place arena place gap.map gap.is_level))
+  world-is = world-with_place arena place 0 (level-place arena place gap.map gap.is_level)
 
   after-seat : world_of (place_with arena place 0) (seat_of place) ≡ level (insert gap.map (piece_at place) 0)
   after-seat = ap (λ (w : World). w (seat_of place)) world-is ∙ cond-same (world_of arena) (seat_of place) node_in (seat_of place) refl ∙ node-is
@@ -111,7 +106,7 @@ module _ (arena : Arena) (is : IsArena arena) (key : List ℕ) (is_key : IsStrin
 
   pub fills-last : IsAdded arena (place_with arena place 0) key place
   fills-last = record {
-    is_arena = place-with_arena arena is place 0 (place-inside arena place (level-place arena place gap.map gap.is_level))
+    is_arena = place-with_arena arena is place 0 (level-place arena place gap.map gap.is_level)
         (subst (NodeFits (world_of arena) is.behind (is.behind (seat_of place))) (sym node-is) (fits-insert (world_of arena) is.behind (is.behind (seat_of place)) gap.map (is.is_world.levels (seat_of place) gap.map gap.is_level) (piece_at place) 0 final spells))
         (subst (IsUsed (seat_of place)) (sym node-is) (is-used (seat_of place)));
     led = λ all.

@@ -19,6 +19,7 @@ use Rattle.judy_sl.specs.Pieces.{pieces, piece_of, SpellKey}
 use Rattle.judy_sl.specs.World.{World, lookup, at_entry, walk}
 use Rattle.judy_sl.specs.Arenas.{world_of, map_of, IsArena, IsStrings}
 use Rattle.judy_sl.specs.Places.{place_with}
+use Rattle.judy_tails.specs.Tails.{no_tails}
 use Rattle.judy_sl.specs.Ways.{LeadsTo, IsWay, IsNew, IsGap, IsFound, ends_first, left_of}
 use Rattle.judy_sl.specs.Grown.{IsAdded, IsSame}
 use Rattle.judy_sl.specs.Shrunk.{IsShrunk}
@@ -96,13 +97,13 @@ module _ (arena : Arena) (is : IsArena arena) (key : List ℕ) where
   way_first (At place) goes first = absurd (true≢false (sym first))
   way_first (Gap (Root piece) left) goes first = gap_first piece left goes
   way_first (Gap (Below at piece) left) goes first = absurd (true≢false (sym first))
-  way_first (Clash at left) goes first = absurd (true≢false (sym first))
+  way_first (Clash from at left) goes first = absurd (true≢false (sym first))
 
   way_below : (way : Way) → IsWay arena key way → IsNew way → ends_first way ≡ false → IsTrue (is_some (get arena.root.map (piece_of key)))
   way_below (At place) goes new below = absurd new
   way_below (Gap (Root piece) left) goes new below = absurd (true≢false below)
   way_below (Gap (Below at piece) left) goes new below = leads_below at (pieces (left_of key left)) goes.leads
-  way_below (Clash at left) goes new below = leads_below at (pieces (left_of key left)) goes.leads
+  way_below (Clash from at left) goes new below = leads_below at (pieces (left_of key left)) goes.leads
 
   -- No key begins as a new one does whose way ends in the first level,
   pub begun_none : (way : Way) → IsWay arena key way → ends_first way ≡ true → beginning (map_of arena) (piece_of key) ≡ 0
@@ -189,6 +190,6 @@ module _ (arena after : Arena) (key : List ℕ) (is_key : IsStringKey key) (shru
       gone_less = let was = gone_value found in firsts_less (map_of after) key was.0 gone_none firsts held was.1
 
 -- An arena without an entry.
-pub firsts_new : (arena : Arena) → arena.children.items ≡ [] → arena.root ≡ empty_array 18446744073709551615 → (firsts : FinMap word_order ℕ) → firsts ≡ empty → AreFirsts (map_of arena) firsts
-firsts_new arena nothing no_root firsts none =
-    subst (AreFirsts (map_of arena)) (sym none) (subst (λ (all : FinMap byte_order ℕ). AreFirsts all empty) (sym (empty-map arena nothing no_root)) no_firsts)
+pub firsts_new : (arena : Arena) → arena.levels.slots ≡ [] → arena.tails ≡ no_tails → arena.root ≡ empty_array 18446744073709551615 → (firsts : FinMap word_order ℕ) → firsts ≡ empty → AreFirsts (map_of arena) firsts
+firsts_new arena no_levels nothing no_root firsts none =
+    subst (AreFirsts (map_of arena)) (sym none) (subst (λ (all : FinMap byte_order ℕ). AreFirsts all empty) (sym (empty-map arena no_levels nothing no_root)) no_firsts)

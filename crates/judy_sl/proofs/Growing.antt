@@ -1,11 +1,10 @@
 -- What a new tail and a new entry leave of the levels, and of what they tell.
-use Rattle.std.proofs.Common.{◌≡◌, ℕ, suc, List, [], ◌∷◌, ◌++◌, get_or, IsTrue, None, inl, inr, refl, sym, ap, subst, ◌∙◌}
+use Rattle.std.proofs.Common.{◌≡◌, ℕ, suc, List, [], ◌∷◌, ◌++◌, IsTrue, None, inl, inr, refl, sym, ap, subst, ◌∙◌}
 use Rattle.std.proofs.lemmas.Bool.{cases_eq, false≢true}
 use Rattle.std.proofs.lemmas.Option.{none-some}
 use Rattle.std.specs.FinMap.{FinMap, get}
 use Rattle.judy_model.specs.Keys.{word_order, IsStringKey}
-use Rattle.judy_sl.specs.declared.child.Child.{Child}
-use Rattle.judy_sl.specs.declared.child.Child.TheVariants.{Free, Tail, Level}
+use Rattle.judy_sl.specs.Children.{Child, Free, Tail, Level}
 use Rattle.judy_sl.specs.declared.arena.Arena.{Arena}
 use Rattle.judy_sl.specs.declared.arena.Place.{Place}
 use Rattle.judy_sl.specs.declared.arena.Place.TheVariants.{Root, Below}
@@ -21,24 +20,28 @@ use Rattle.judy_sl.specs.Grown.{IsPut, IsAdded, IsSame}
 use Rattle.judy_sl.proofs.OnWay.{pieces-head}
 use Rattle.judy_sl.proofs.Written.{behind-leads}
 use Rattle.judy_sl.proofs.Led.{KeepsEntries, keeps-same, keeps-then, keeps-none, keeps-insert, keeps-set}
-use Rattle.judy_sl.proofs.Linked.{node_with, child_at-same, child_at-other, world-with_place}
-use Rattle.judy_sl.proofs.Filled.{world-same, level-place, place-inside}
-use Rattle.judy_sl.proofs.Tailed.{world-put}
+use Rattle.judy_sl.proofs.Linked.{node_with, can-with, child_at-same, child_at-other, world-with_place}
+use Rattle.judy_sl.proofs.Filled.{world-same, level-place}
+use Rattle.judy_sl.proofs.Tailed.{world-put, level-put}
 use Rattle.judy_sl.proofs.Keeping.{gap-none}
-use Rattle.judy_sl.proofs.CountedAdded.{LevelWas, came-was, counted-but, counted-first}
+use Rattle.judy_sl.proofs.KeptLevels.{walk-keeps}
+use Rattle.judy_sl.proofs.CountedAdded.{LevelWas, StaysLed, came-was, counted-but, counted-first}
 
 -- Each level stays one, with its number and its entries that lead on, and none is new.
 pub record GrowsOn (before after : Arena) : Type 0 where
   pub keeps : (seat : ℕ) → KeepsEntries (world_of before seat) (world_of after seat)
   pub was : (at : ℕ) → LevelWas before at (child_at after at)
 
+stays-grown : (before after : Arena) → GrowsOn before after → StaysLed before after
+stays-grown before after grows at told was e front inner way = walk-keeps (world_of before) (world_of after) grows.keeps 0 front (suc at) inner way
+
 pub was-same : (before : Arena) (at : ℕ) (child : Child) → child_at before at ≡ child → LevelWas before at child
-was-same before at (Free next) e = tt
+was-same before at Free e = tt
 was-same before at (Tail rest) e = tt
 was-same before at (Level told words) e = (words, e)
 
 pub was-then : (before middle : Arena) (at : ℕ) (child : Child) → LevelWas before at (child_at middle at) → LevelWas middle at child → LevelWas before at child
-was-then before middle at (Free next) first was = tt
+was-then before middle at Free first was = tt
 was-then before middle at (Tail rest) first was = tt
 was-then before middle at (Level told words) first was = subst (LevelWas before at) was.1 first
 
@@ -53,7 +56,7 @@ grows-then before middle after one two = record {
 pub grows-same : (before after : Arena) → IsSame before after → GrowsOn before after
 grows-same before after same = record {
   keeps = λ seat. keeps-same (world_of before seat) (world_of after seat) (ap (λ (w : World). w seat) (world-same before after same));
-  was = λ at. was-same before at (child_at after at) (sym (ap (λ items. get_or items at (Free 0)) same.items));
+  was = λ at. was-same before at (child_at after at) (sym (same.children at));
 }
 
 -- A tail was put where nothing was.
@@ -70,20 +73,20 @@ grows-put before after rest at put =
     }
 
 was-with : (arena : Arena) (at piece value : ℕ) (child : Child) → child_at arena at ≡ child → LevelWas arena at (child_with child piece value)
-was-with arena at piece value (Free next) e = tt
+was-with arena at piece value Free e = tt
 was-with arena at piece value (Tail rest) e = tt
 was-with arena at piece value (Level told words) e = (words, e)
 
 -- A level has an entry more.
 module _ (arena : Arena) (place : Place) (value : ℕ) (map : FinMap word_order ℕ) (is_level : world_of arena (seat_of place) ≡ level map) where
-  was-place : (p : Place) → world_of arena (seat_of p) ≡ level map → (k : ℕ) → LevelWas arena k (child_at (place_with arena p value) k)
+  pub was-place : (p : Place) → world_of arena (seat_of p) ≡ level map → (k : ℕ) → LevelWas arena k (child_at (place_with arena p value) k)
   was-place (Root piece) there k = was-same arena k (child_at arena k) refl
   was-place (Below at piece) there k =
-      let inside = place-inside arena (Below at piece) (level-place arena (Below at piece) map there) in
+      let can = can-with arena at piece value (level-place arena (Below at piece) map there) in
       let child = child_with (child_at arena at) piece value in
       elim (cases_eq k at) [
-        | inl e ↦ subst (LevelWas arena k) (sym (child_at-same arena at child inside k e)) (subst (λ n. LevelWas arena n child) (sym e) (was-with arena at piece value (child_at arena at) refl))
-        | inr apart ↦ was-same arena k (child_at (place_with arena (Below at piece) value) k) (sym (child_at-other arena at child inside k apart))
+        | inl e ↦ subst (LevelWas arena k) (sym (child_at-same arena at child can k e)) (subst (λ n. LevelWas arena n child) (sym e) (was-with arena at piece value (child_at arena at) refl))
+        | inr apart ↦ was-same arena k (child_at (place_with arena (Below at piece) value) k) (sym (child_at-other arena at child can k apart))
       ]
 
   pub grows-place : get map (piece_at place) ≡ None → GrowsOn arena (place_with arena place value)
@@ -92,7 +95,7 @@ module _ (arena : Arena) (place : Place) (value : ℕ) (map : FinMap word_order 
       let node = node_with (world_of arena seat) (piece_at place) value in
       let kept : KeepsEntries (world_of arena seat) node = subst (λ n. KeepsEntries n (node_with n (piece_at place) value)) (sym is_level) (keeps-insert map (piece_at place) value (λ at inner entry. none-some at (sym absent ∙ entry))) in
       record {
-        keeps = subst (λ (w : World). (s : ℕ) → KeepsEntries (world_of arena s) (w s)) (sym (world-with_place arena place value (place-inside arena place (level-place arena place map is_level)))) (keeps-set (world_of arena) seat node kept);
+        keeps = subst (λ (w : World). (s : ℕ) → KeepsEntries (world_of arena s) (w s)) (sym (world-with_place arena place value (level-place arena place map is_level))) (keeps-set (world_of arena) seat node kept);
         was = was-place place is_level;
       }
 
@@ -103,20 +106,20 @@ led-same before after same led = subst AllLed (sym (world-same before after same
 pub counted-same : (before after : Arena) → IsSame before after → AreCounted before → AreCounted after
 counted-same before after same counted at =
     subst (λ (w : World). LevelTells Same (child_at after at) (keys_behind w (suc at))) (sym (world-same before after same)) (
-    subst (λ items. LevelTells Same (get_or items at (Free 0)) (keys_behind (world_of before) (suc at))) (sym same.items) (counted at))
+    subst (λ child. LevelTells Same child (keys_behind (world_of before) (suc at))) (sym (same.children at)) (counted at))
 
 -- ---- a key that is added where a level has no entry for it
 
--- The steps: room, the entry, and the tail.
+-- The steps: the tail, where one is put in, and the entry.
 module _ (before : Arena) (key : List ℕ) (place : Place) (left : ℕ) (gap : IsGap (world_of before) key place left) where
   pub grows-last : (after : Arena) → after ≡ place_with before place 0 → GrowsOn before after
   grows-last after is_after = subst (GrowsOn before) (sym is_after) (grows-place before place 0 gap.map gap.is_level gap.absent)
 
-  pub grows-tail : (reserved entered after : Arena) (at put_at : ℕ) (rest : List ℕ × ℕ) → IsSame before reserved → entered ≡ place_with reserved place at → IsPut entered after (Tail rest) put_at → GrowsOn before after
-  grows-tail reserved entered after at put_at rest same entered_is put =
-      let there : world_of reserved (seat_of place) ≡ level gap.map = ap (λ (w : World). w (seat_of place)) (world-same before reserved same) ∙ gap.is_level in
-      let second : GrowsOn reserved entered = subst (GrowsOn reserved) (sym entered_is) (grows-place reserved place at gap.map there gap.absent) in
-      grows-then before reserved after (grows-same before reserved same) (grows-then reserved entered after second (grows-put entered after rest put_at put))
+  pub grows-tail : (placed after : Arena) (at : ℕ) (rest : List ℕ × ℕ) → IsPut before placed (Tail rest) at → after ≡ place_with placed place at → GrowsOn before after
+  grows-tail placed after at rest put is_after =
+      let there = level-put before placed (Tail rest) at put (seat_of place) gap.map gap.is_level in
+      let second : GrowsOn placed after = subst (GrowsOn placed) (sym is_after) (grows-place placed place at gap.map there gap.absent) in
+      grows-then before placed after (grows-put before placed rest at put) second
 
 module _ (before : Arena) (is : IsArena before) (led : AllLed (world_of before)) (counted : AreCounted before) (key : List ℕ) (is_key : IsStringKey key) (place : Place) (left : ℕ) (gap : IsGap (world_of before) key place left) where
   first-absent : (p : Place) → IsGap (world_of before) key p left → IsTrue (ends_at_first p) → (piece : ℕ) (rest : List ℕ) → pieces key ≡ piece ∷ rest → get before.root.map piece ≡ None
@@ -132,8 +135,8 @@ module _ (before : Arena) (is : IsArena before) (led : AllLed (world_of before))
   module _ (after : Arena) (made : Place) (added : IsAdded before after key made) (grows : GrowsOn before after) where
     -- Each level on its way tells one key less than stand behind it,
     pub gap-counted : AreCountedBut OneLess after key
-    gap-counted = counted-but before after is added.is_arena led counted key is_key 0 added.change (gap-none (world_of before) key place left gap) grows.keeps (λ at. came-was before after key at (child_at after at) (grows.was at))
+    gap-counted = counted-but before after is added.is_arena led counted key is_key 0 added.change (gap-none (world_of before) key place left gap) (stays-grown before after grows) (λ at. came-was before after key at (child_at after at) (grows.was at))
 
     -- and there is none where the way ended in the first level.
     pub gap-first : IsTrue (ends_at_first place) → AreCounted after
-    gap-first first = counted-first before after is added.is_arena led counted key is_key 0 added.change (gap-none (world_of before) key place left gap) grows.keeps (first-absent place gap first) grows.was
+    gap-first first = counted-first before after is added.is_arena led counted key is_key 0 added.change (gap-none (world_of before) key place left gap) (stays-grown before after grows) (first-absent place gap first) grows.was

@@ -1,22 +1,20 @@
 -- An array of strings, and what its changes make of it.
-use Rattle.std.proofs.Common.{◌≡◌, ℕ, suc, ◌≤◌, List, [], ◌∷◌, ◌++◌, get_or, map as map_items, None, Some, sym, ap, ◌∙◌, arith}
+use Rattle.std.proofs.Common.{◌≡◌, ℕ, suc, ◌≤◌, List, [], ◌∷◌, ◌++◌, None, Some, sym, ap, ◌∙◌, arith}
 use Rattle.std.specs.FinMap.{FinMap, get, insert, len, len-empty}
-use Rattle.judy_places.specs.Places.{free_places}
 use Rattle.judy_model.specs.Keys.{byte_order, IsStringKey}
 use Rattle.judy_model.specs.Arrays.{empty_array}
-use Rattle.judy_sl.specs.declared.child.Child.{Child}
 use Rattle.judy_sl.specs.declared.arena.Arena.{Arena}
 use Rattle.judy_sl.specs.declared.arena.Place.{Place}
 use Rattle.judy_sl.specs.Pieces.{pieces, piece_of}
 use Rattle.judy_sl.specs.World.{World, lookup, at_entry}
-use Rattle.judy_sl.specs.Arenas.{world_of, map_of, array_of, link_of, IsStrings}
+use Rattle.judy_sl.specs.Arenas.{world_of, map_of, array_of, IsStrings}
 use Rattle.judy_sl.specs.Places.{place_with, place_value}
 use Rattle.judy_sl.specs.Ways.{IsFound, IsGap, IsClash, seat_of, left_of}
 use Rattle.judy_sl.specs.Lends.{with_value}
+use Rattle.judy_tails.specs.Tails.{no_tails}
 use Rattle.judy_sl.proofs.Ways.{look_in, lookup-in, lookup-walk, lookup-level, tail-other}
 use Rattle.judy_sl.proofs.OnWay.{pieces-head}
 use Rattle.judy_sl.proofs.Written.{written-arena, written-led, written-change, found-there, value-there}
-use Rattle.judy_sl.proofs.Reused.{written-places}
 use Rattle.judy_sl.proofs.Maps.{get-map, map_written, empty-arena, empty-led, empty-map, len-written}
 
 module _ (world : World) (key : List ℕ) where
@@ -30,8 +28,8 @@ module _ (world : World) (key : List ℕ) where
       ∙ ap (λ o. at_entry o h.0 (λ at. lookup world (suc at) h.0)) (ap (get gap.map) (sym gap.next) ∙ gap.absent)
 
   -- nor where another's tail stands.
-  pub clash-none : (at left : ℕ) → IsClash world key at left → lookup world 0 (pieces key) ≡ None
-  clash-none at left clash =
+  pub clash-none : (from : Place) (at left : ℕ) → IsClash world key from at left → lookup world 0 (pieces key) ≡ None
+  clash-none from at left clash =
       let h = pieces-head (left_of key left) in
       ap (lookup world 0) (clash.leads.parts ∙ ap (λ ps. clash.leads.front ++ ps) h.1)
       ∙ lookup-walk world 0 clash.leads.front (suc at) (piece_of (left_of key left)) h.0 clash.leads.way
@@ -41,15 +39,11 @@ module _ (world : World) (key : List ℕ) where
       ∙ tail-other world clash.held (pieces (left_of key left)) clash.value clash.other
 
 -- A new array.
-pub strings-new : (limit : ℕ) (arena : Arena) → arena.children.items ≡ [] → arena.root ≡ empty_array 18446744073709551615 → arena.spare ≡ 0 → 1 ≤ limit → limit ≤ 4294967295 → IsStrings limit 0 arena
-strings-new limit arena nothing no_root none_free some most = record {
-  is_arena = empty-arena arena nothing no_root;
-  led = empty-led arena nothing no_root;
-  free_known = record {
-    none_lost = (0, λ at. ap (λ (items : List Child). get_or (map_items link_of items) at None) nothing);
-    counted = none_free ∙ sym (ap (λ (items : List Child). free_places (map_items link_of items)) nothing);
-  };
-  counted = sym (ap (λ (map : FinMap byte_order ℕ). len map) (empty-map arena nothing no_root) ∙ len-empty byte_order ℕ);
+pub strings-new : (limit : ℕ) (arena : Arena) → arena.levels.slots ≡ [] → arena.tails ≡ no_tails → arena.root ≡ empty_array 18446744073709551615 → 1 ≤ limit → limit ≤ 4294967295 → IsStrings limit 0 arena
+strings-new limit arena no_levels nothing no_root some most = record {
+  is_arena = empty-arena arena no_levels nothing no_root;
+  led = empty-led arena no_levels nothing no_root;
+  counted = sym (ap (λ (map : FinMap byte_order ℕ). len map) (empty-map arena no_levels nothing no_root) ∙ len-empty byte_order ℕ);
   within_limit = omega arith;
   holds_some = some;
   limit_fits = most;
@@ -69,7 +63,6 @@ module _ (limit count : ℕ) (arena : Arena) (is : IsStrings limit count arena) 
   strings-written value = record {
     is_arena = written-arena arena is.is_arena key place found value;
     led = written-led arena is.is_arena key place found value is.led;
-    free_known = (written-places arena place value).known is.free_known;
     counted = is.counted ∙ sym (ap (λ (map : FinMap byte_order ℕ). len map) (map-written value) ∙ len-written (map_of arena) key found.value value get-there);
     within_limit = is.within_limit;
     holds_some = is.holds_some;

@@ -1,21 +1,24 @@
--- How many keys stand behind what a child is, and behind an entry of a level.
-use Rattle.std.proofs.Common.{◌≡◌, ℕ, suc, ◌%◌, true, false, cond, List, [], ◌∷◌, ◌++◌, map, length, Option, None, Some, refl, sym, ap, ◌∙◌, subst, true≢false}
+-- How many keys stand behind what a place has, and behind an entry of a level.
+use Rattle.std.proofs.Common.{◌≡◌, ◌≢◌, ℕ, suc, ◌/◌, ◌%◌, true, false, cond, List, [], ◌∷◌, ◌++◌, map, length, Option, None, Some, IsSome, refl, sym, ap, ◌∙◌, subst, true≢false}
 use Rattle.std.specs.Ordering.{is_eq, eq_by_cmp}
 use Rattle.std.specs.Cmp.{tied_itself}
-use Rattle.std.specs.FinMap.{entries, get, len, empty, from_sorted, same_map, get-empty, get-from_sorted, entries-from_sorted, len-entries, len-empty}
+use Rattle.std.specs.FinMap.{entries, get, empty, from_sorted, same_map, get-empty, get-from_sorted, entries-from_sorted, len-entries}
 use Rattle.std.proofs.lemmas.Bool.{eq-eqb, ne_eqb}
 use Rattle.std.proofs.lemmas.Option.{none-some}
-use Rattle.judy_model.specs.Keys.{byte_order, IsStringKey}
+use Rattle.slab.specs.Slab as slab
+use Rattle.judy_model.specs.Arrays.{ArrayOf}
+use Rattle.judy_model.specs.Keys.{word_order, byte_order, IsStringKey}
 use Rattle.judy_model.proofs.Orders.{same_from_tie}
 use Rattle.judy_model.proofs.TableLemmas.{byte_order_total, byte_order_same, string_keys-all, get-table, table_some}
 use Rattle.judy_sl.specs.declared.arena.Arena.{Arena}
-use Rattle.judy_sl.specs.declared.child.Child.{Child}
-use Rattle.judy_sl.specs.declared.child.Child.TheVariants.{Free, Tail, Level}
+use Rattle.judy_sl.specs.declared.child.Level.{Level as LevelParts}
+use Rattle.judy_sl.specs.Children.{Tail, Level, is_level, level_child, tail_child}
+use Rattle.judy_tails.specs.Tails.{tail_at}
 use Rattle.judy_sl.specs.Pieces.{pieces, piece_bytes, IsFinal, IsInner, IsText}
 use Rattle.judy_sl.specs.World.{World, gone, tail, at_node, lookup}
 use Rattle.judy_sl.specs.Arenas.{world_of, child_at, node_of, HasText, IsArena}
 use Rattle.judy_sl.specs.Behind.{map_behind, entry_keys}
-use Rattle.judy_sl.specs.Counted.{keys_behind, keys_of, LevelTells, Same, AreCounted}
+use Rattle.judy_sl.specs.Counted.{keys_behind, LevelTells, Same, AreCounted, StandsWith}
 use Rattle.judy_sl.proofs.PieceLemmas.{text_of_key, key_of_text, pieces_are, pieces_same}
 use Rattle.judy_sl.proofs.OnWay.{pieces-head}
 use Rattle.judy_sl.proofs.ScanLevels.{tail_only, at_tail}
@@ -75,17 +78,46 @@ module _ (arena : Arena) (is : IsArena arena) (at : ℕ) (held : List ℕ) (valu
       ap entries (same_map byte_order_total byte_order_same (map_behind (world_of arena) (suc at)) (from_sorted one) (λ key. tail_get key ∙ sym (get-from_sorted byte_order one key tt)))
       ∙ entries-from_sorted byte_order one tt
 
--- ---- a child
+-- ---- a place
 
-module _ (arena : Arena) (is : IsArena arena) (counted : AreCounted arena) (at : ℕ) where
-  told : (child : Child) → child_at arena at ≡ child → keys_of child ≡ keys_behind (world_of arena) (suc at)
-  told (Free next) here = sym (ap len (gone_empty (world_of arena) (suc at) (ap node_of here)) ∙ len-empty byte_order ℕ)
-  told (Tail rest) here = sym (len-entries (map_behind (world_of arena) (suc at)) ∙ ap length (tail_entries arena is at rest.0 rest.1 (ap node_of here) (subst HasText here (is.texts at))))
-  told (Level keys words) here = subst (λ child. LevelTells Same child (keys_behind (world_of arena) (suc at))) here (counted at)
+module _ (arena : Arena) (is : IsArena arena) (at : ℕ) where
+  -- Behind a tail stands one key.
+  tail_told : (rest : List ℕ × ℕ) → child_at arena at ≡ Tail rest → keys_behind (world_of arena) (suc at) ≡ 1
+  tail_told rest here = len-entries (map_behind (world_of arena) (suc at)) ∙ ap length (tail_entries arena is at rest.0 rest.1 (ap node_of here) (subst HasText here (is.texts at)))
 
-  -- A child tells how many keys stand behind it.
-  pub keys_told : keys_of (child_at arena at) ≡ keys_behind (world_of arena) (suc at)
-  keys_told = told (child_at arena at) refl
+  -- What stands at a place that isn't one for levels is a tail, so one key stands behind it.
+  pub lone_told : is_level at ≡ false → world_of arena (suc at) ≢ gone → keys_behind (world_of arena) (suc at) ≡ 1
+  lone_told apart there = by (tail_at arena.tails at) (ap (λ b. cond b (level_child (slab.get arena.levels (at / 256))) (tail_child (tail_at arena.tails at))) apart)
+    where
+      by : (found : Option (List ℕ × ℕ)) → child_at arena at ≡ tail_child found → keys_behind (world_of arena) (suc at) ≡ 1
+      by None here = absurd (there (ap node_of here))
+      by (Some rest) here = tail_told rest here
+
+module _ (arena : Arena) (counted : AreCounted arena) (at keys : ℕ) (words : ArrayOf word_order) (here : child_at arena at ≡ Level keys words) where
+  -- A level tells how many keys stand behind it.
+  pub level_told : keys ≡ keys_behind (world_of arena) (suc at)
+  level_told = subst (λ child. LevelTells Same child (keys_behind (world_of arena) (suc at))) here (counted at)
+
+  -- So it stands with that number.
+  pub level_stands : StandsWith (world_of arena) words.map keys
+  level_stands = record { seat = suc at; is_level = ap node_of here; told = level_told }
+
+module _ (arena : Arena) (at : ℕ) (levels : is_level at ≡ true) where
+  -- A place for levels has what the list of levels has there.
+  level_here : child_at arena at ≡ level_child (slab.get arena.levels (at / 256))
+  level_here = ap (λ b. cond b (level_child (slab.get arena.levels (at / 256))) (tail_child (tail_at arena.tails at))) levels
+
+  -- So where something stands there, the list has it,
+  pub level_listed : world_of arena (suc at) ≢ gone → slab.ContainsKey arena.levels (at / 256)
+  level_listed there = by (slab.get arena.levels (at / 256)) refl
+    where
+      by : (found : Option LevelParts) → slab.get arena.levels (at / 256) ≡ found → IsSome found
+      by None is = absurd (there (ap node_of (level_here ∙ ap level_child is)))
+      by (Some parts) is = refl
+
+  -- and what the list has is the level.
+  pub level_read : (parts : LevelParts) → slab.get arena.levels (at / 256) ≡ Some parts → child_at arena at ≡ Level parts.keys parts.words
+  level_read parts is = level_here ∙ ap level_child is
 
 -- ---- an entry of a level
 

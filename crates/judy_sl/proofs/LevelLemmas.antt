@@ -7,11 +7,13 @@ use Rattle.std.proofs.lemmas.Option.{none-some}
 use Rattle.judy_model.specs.Keys.{IsStringKey, word_order}
 use Rattle.judy_model.proofs.TableLemmas.{string_keys-all, get-table}
 use Rattle.judy_sl.specs.declared.arena.Arena.{Arena}
+use Rattle.judy_sl.specs.Children.{IsTaken}
 use Rattle.judy_sl.specs.Pieces.{spelled, piece_of, pieces, spelling, AreInner, ArePieces, IsText, SpellKey}
-use Rattle.judy_sl.specs.World.{World, at_node, gone, tail, level, lookup, walk}
-use Rattle.judy_sl.specs.Arenas.{world_of, map_of, IsArena}
+use Rattle.judy_sl.specs.World.{World, tail, level, lookup, walk}
+use Rattle.judy_sl.specs.Arenas.{world_of, child_at, map_of, IsArena}
 use Rattle.judy_sl.specs.Levels.{IsLevelOf, HasBranch}
 use Rattle.judy_sl.proofs.Ways.{pieces_short, pieces_long, lookup-walk, walk-more, walk-behind}
+use Rattle.judy_sl.proofs.Linked.{taken_of}
 use Rattle.judy_sl.proofs.OnWay.{pieces-head}
 use Rattle.judy_sl.proofs.PieceLemmas.{text_of_key, pieces_are, pieces_same, piece-IsInner, piece-IsFinal, text-drop}
 use Rattle.judy_sl.proofs.PieceBytes.{spelling-pieces, spelling-append}
@@ -52,10 +54,6 @@ pub record OnLevel (world : World) (at : List ℕ) (map : FinMap word_order ℕ)
   pub fits : length rest ≤ length at
 
 module _ (arena : Arena) (at : List ℕ) (is_key : IsStringKey at) where
-  gone_none : (seat : ℕ) → world_of arena seat ≡ gone → (ps : List ℕ) (value : ℕ) → lookup (world_of arena) seat ps ≡ Some value → ⊥
-  gone_none seat is [] value found = none-some value found
-  gone_none seat is (p ∷ ps) value found = none-some value (sym (ap (λ node. at_node node p ps (λ next. lookup (world_of arena) (suc next) ps)) is) ∙ found)
-
   pub level_start : (map : FinMap word_order ℕ) → world_of arena 0 ≡ level map → length at % 8 ≡ 0 → OnLevel (world_of arena) at map at
   level_start map is whole = record { front = []; seat = 0; way = refl; inner = tt; is_level = is; split = λ more. refl; text = text_of_key at is_key; whole = whole; fits = omega arith }
 
@@ -77,6 +75,10 @@ module _ (arena : Arena) (at : List ℕ) (is_key : IsStringKey at) where
             whole = omega arith;
             fits = omega arith;
           }
+
+      -- Something stands where an entry leads.
+      pub level_taken : IsArena arena → (found : ℕ) → get map (piece_of rest) ≡ Some found → IsTaken (child_at arena found)
+      level_taken is_arena found entry = taken_of arena found ((is_arena.is_world.levels on.seat map on.is_level).leads (piece_of rest) found entry (piece-IsInner rest on.text long)).1
 
       -- Two keys that begin with the bytes are found behind the level.
       found_here : (more : List ℕ) → IsTrue (contains_key (map_of arena) (at ++ more)) → (value : ℕ) × IsStringKey (at ++ more) × (lookup (world_of arena) on.seat (piece_of rest ∷ pieces (drop 8 rest ++ more)) ≡ Some value)
@@ -106,9 +108,6 @@ module _ (arena : Arena) (at : List ℕ) (is_key : IsStringKey at) where
       alone_tail found value held is tailed = no_branch (λ ps qs one other are also here there.
           sym (tail_only (world_of arena) (suc found) held value tailed ps one (sym (lookup_inner (world_of arena) on.seat map on.is_level (piece_of rest) found ps is are) ∙ here))
           ∙ tail_only (world_of arena) (suc found) held value tailed qs other (sym (lookup_inner (world_of arena) on.seat map on.is_level (piece_of rest) found qs is also) ∙ there))
-
-      pub alone_gone : (found : ℕ) → get map (piece_of rest) ≡ Some found → world_of arena (suc found) ≡ gone → HasBranch (map_of arena) at → ⊥
-      alone_gone found is nothing = no_branch (λ ps qs one other are also here there. absurd (gone_none (suc found) nothing ps one (sym (lookup_inner (world_of arena) on.seat map on.is_level (piece_of rest) found ps is are) ∙ here)))
 
     module _ (is_arena : IsArena arena) (ended : rest ≡ []) where
       ends_here : (more : List ℕ) → pieces (at ++ more) ≡ on.front ++ pieces more

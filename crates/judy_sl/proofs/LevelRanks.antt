@@ -4,7 +4,7 @@ use Rattle.std.specs.Ordering.{ordering_then}
 use Rattle.std.specs.Int.{from_bool}
 use Rattle.std.specs.List.{AllByRecursion}
 use Rattle.std.specs.Cmp.{nat_cmp_is, tied_itself}
-use Rattle.std.specs.FinMap.{FinMap, entries, entries_sorted, get, get-entries, len, len-empty}
+use Rattle.std.specs.FinMap.{FinMap, entries, entries_sorted, get, get-entries, len}
 use Rattle.std.proofs.lemmas.List.{take_all, take-append-drop}
 use Rattle.judy_model.specs.Keys.{word_order, byte_order}
 use Rattle.judy_model.specs.Counts.{rank, count_up_to}
@@ -16,7 +16,7 @@ use Rattle.judy_sums.specs.Levels.{keys_below, part_of, part_len, ArePartedBy}
 use Rattle.judy_sums.proofs.Parts.{AreParts, count_parts}
 use Rattle.judy_sl.specs.declared.arena.Arena.{Arena}
 use Rattle.judy_sl.specs.Pieces.{piece_of, pieces, piece_bytes, IsText}
-use Rattle.judy_sl.specs.World.{World, gone, tail, level}
+use Rattle.judy_sl.specs.World.{World, tail, level}
 use Rattle.judy_sl.specs.Worlds.{IsWorld}
 use Rattle.judy_sl.specs.Arenas.{world_of, IsArena}
 use Rattle.judy_sl.specs.Behind.{map_behind, entry_keys}
@@ -24,7 +24,7 @@ use Rattle.judy_sl.specs.Counted.{comes, ranked}
 use Rattle.judy_sl.proofs.PieceLemmas.{text_of_key, piece-IsFinal, piece-IsInner, order-piece}
 use Rattle.judy_sl.proofs.PieceBytes.{bytes-piece}
 use Rattle.judy_sl.proofs.Behind.{order-front, Begun, begun_apart, all_parts, entries_behind}
-use Rattle.judy_sl.proofs.KeysTold.{gone_empty, tail_entries, led_pairs, final_keys, inner_keys}
+use Rattle.judy_sl.proofs.KeysTold.{tail_entries, led_pairs, final_keys, inner_keys}
 
 -- ---- what counts
 
@@ -71,7 +71,7 @@ unfolding rank count_up_to
 rank_pairs true all key = keys_that (λ other. is_le (byte_order other key)) (entries all)
 rank_pairs false all key = keys_that (λ other. is_lt (byte_order other key)) (entries all)
 
--- ---- at a free place, and at a tail
+-- ---- at a tail
 
 -- One where a test holds.
 abbrev pub one_if : Bool → ℕ
@@ -85,13 +85,6 @@ one_told false = refl
 one_pair : (pair : List ℕ × ℕ) (test : Bool) → length (cond test (pair ∷ []) []) ≡ one_if test
 one_pair pair true = refl
 one_pair pair false = refl
-
--- At a free place nothing counts.
-pub rank_gone : (itself : Bool) (world : World) (seat : ℕ) → world seat ≡ gone → (key : List ℕ) → ranked itself (map_behind world seat) key ≡ 0
-rank_gone itself world seat is key =
-    let most = ranked_most itself (map_behind world seat) key in
-    let none = ap len (gone_empty world seat is) ∙ len-empty byte_order ℕ in
-    omega arith
 
 -- At a tail its one key may be.
 pub rank_tail : (itself : Bool) (arena : Arena) → IsArena arena → (at : ℕ) (held : List ℕ) (value : ℕ) → world_of arena (suc at) ≡ tail (pieces held) value → IsText held → (key : List ℕ) → ranked itself (map_behind (world_of arena) (suc at)) key ≡ one_if (comes itself (byte_order held key))

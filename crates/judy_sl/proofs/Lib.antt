@@ -1,6 +1,4 @@
 pub mod Spelling
-pub mod VecBack
-pub mod Loans
 pub mod PieceLemmas
 pub mod Ways
 pub mod Frames
@@ -14,12 +12,13 @@ pub mod ScanEnds
 pub mod OnWay
 pub mod ScanEntries
 pub mod Linked
+pub mod PlaceKinds
 pub mod Led
 pub mod Lone
 pub mod Written
 pub mod Loose
+pub mod Replaced
 pub mod Maps
-pub mod Reused
 pub mod Keeping
 pub mod Filled
 pub mod Cuts
@@ -31,7 +30,9 @@ pub mod Inserted
 pub mod Removed
 pub mod Branching
 pub mod Grafts
+pub mod Hangs
 pub mod Grafted
+pub mod GraftedEntry
 pub mod Splits
 pub mod LevelLemmas
 pub mod Words

@@ -1,5 +1,7 @@
 -- A look-up reads a key once: bytes that are found are a key.
-use Rattle.std.proofs.Common.{◌≡◌, ℕ, suc, ◌<◌, ◌≤◌, List, length, drop, Option, None, Some, refl, sym, ◌∙◌}
+use Rattle.std.proofs.Common.{◌≡◌, ℕ, suc, ◌+◌, ◌-◌, ◌<◌, ◌≤◌, List, length, drop, get_or, Option, None, Some, refl, sym, ap, subst, ◌∙◌, arith}
+use Rattle.std.proofs.lemmas.List.{length-drop, get_or-drop}
+use Rattle.std.proofs.lemmas.Option.{slice_get_within, slice_get-get_or, get_or_from_slice_get}
 use Rattle.std.specs.FinMap.{FinMap, get}
 use Rattle.judy_model.specs.Keys.{IsStringKey, word_order}
 use Rattle.judy_sl.specs.declared.arena.Arena.{Arena}
@@ -11,10 +13,24 @@ use Rattle.judy_sl.proofs.Exact.{AreBytes, exact}
 use Rattle.judy_sl.proofs.OnWay.{IsOnWay, spelled-tail, spelled-last, found-last}
 use Rattle.judy_sl.proofs.Maps.{get-map, get-map_none}
 
+-- Bytes end as those that they are the end of.
+ends-drop : (n : ℕ) (bytes : List ℕ) → EndsWell bytes → EndsWell (drop n bytes)
+ends-drop n bytes ends last =
+    let end = length (drop n bytes) - 1 in
+    let within = slice_get_within (drop n bytes) end 0 last in
+    let l = length-drop n bytes in
+    let same : n + end ≡ length bytes - 1 = omega arith in
+    let byte : get_or bytes (length bytes - 1) 0 ≡ 0 = ap (λ k. get_or bytes k 0) (sym same) ∙ sym (get_or-drop n bytes end 0) ∙ get_or_from_slice_get (drop n bytes) end 0 0 last in
+    ends (slice_get-get_or bytes (length bytes - 1) 0 (omega arith) ∙ ap (λ b. Some b) byte)
+
 module _ (world : World) (key : List ℕ) (seat : ℕ) (map : FinMap word_order ℕ) (rest : List ℕ) (on : IsOnWay world key seat map rest) where
   -- No whole piece of a key is final.
   pub never-final : 8 ≤ length rest → IsFinal (piece_of rest) → IsText key → ⊥
   never-final long final text = piece-IsInner rest (on.text text) long final
+
+  -- What is left of bytes ends as they do.
+  pub ends-on : EndsWell key → EndsWell (drop 8 rest)
+  ends-on ends = ends-drop 8 rest (subst EndsWell (sym on.is_left) (ends-drop (length key - length rest) key ends))
 
 module _ (arena : Arena) (is : IsArena arena) (key : List ℕ) (small : AreBytes key) (ends : EndsWell key) (seat : ℕ) (map : FinMap word_order ℕ) (rest : List ℕ) (on : IsOnWay (world_of arena) key seat map rest) where
   -- What a tail's key is found for is that key,

@@ -1,11 +1,13 @@
 -- An arena as the map of its keys.
-use Rattle.std.proofs.Common.{◌≡◌, ◌≢◌, ℕ, zero, suc, ◌+◌, List, [], ◌++◌, get_or, cond, is_some, Option, None, Some, refl, sym, ap, subst, ◌∙◌, arith}
+use Rattle.std.proofs.Common.{◌≡◌, ◌≢◌, ℕ, zero, suc, ◌+◌, ◌/◌, Bool, true, false, List, [], ◌++◌, get_or, cond, is_some, Option, None, Some, refl, sym, ap, subst, ◌∙◌, arith}
 use Rattle.std.proofs.lemmas.Option.{none-some}
 use Rattle.std.specs.FinMap.{FinMap, get, empty, insert, remove, len, get-empty, len-insert}
 use Rattle.judy_model.specs.Keys.{word_order, byte_order, IsStringKey}
 use Rattle.judy_model.specs.Arrays.{ArrayOf, empty_array}
 use Rattle.judy_model.proofs.TableLemmas.{byte_order_total, string_keys-all, get-table, get-table_bad, none_at, table_none, table_insert, table_remove}
-use Rattle.judy_sl.specs.declared.child.Child.TheVariants.{Free}
+use Rattle.judy_sl.specs.Children.{Free, is_level, level_child, tail_child}
+use Rattle.judy_tails.specs.Tails.{TailLists, tail_at, no_tails}
+use Rattle.judy_sl.specs.declared.child.Level.{Level as LevelParts}
 use Rattle.judy_sl.specs.declared.arena.Arena.{Arena}
 use Rattle.judy_sl.specs.Pieces.{pieces, piece_of, SpellKey}
 use Rattle.judy_sl.specs.World.{gone, tail, level, lookup, at_entry}
@@ -43,10 +45,18 @@ module _ (arena other : Arena) (key : List ℕ) (is : IsStringKey key) where
       table_remove string_keys-all (λ k. lookup (world_of arena) 0 (pieces k)) (λ k. lookup (world_of other) 0 (pieces k)) key (λ _. change.at_key) (else_where None change)
 
 -- An arena without an entry.
-module _ (arena : Arena) (nothing : arena.children.items ≡ []) (no_root : arena.root ≡ empty_array 18446744073709551615) where
-  child-none : (at : ℕ) → child_at arena at ≡ Free 0
-  child-none at = ap (λ items. get_or items at (Free 0)) nothing
+module _ (arena : Arena) (no_levels : arena.levels.slots ≡ []) (nothing : arena.tails ≡ no_tails) where
+  pub child-none : (at : ℕ) → child_at arena at ≡ Free
+  child-none at =
+      ap (λ (slots : List (Option LevelParts)). cond (is_level at) (level_child (get_or slots (at / 256) None)) (tail_child (tail_at arena.tails at))) no_levels
+      ∙ ap (λ (tails : TailLists). cond (is_level at) Free (tail_child (tail_at tails at))) nothing
+      ∙ either (is_level at)
+    where
+      either : (b : Bool) → cond b Free Free ≡ Free
+      either true = refl
+      either false = refl
 
+module _ (arena : Arena) (no_levels : arena.levels.slots ≡ []) (nothing : arena.tails ≡ no_tails) (no_root : arena.root ≡ empty_array 18446744073709551615) where
   root-none : (piece : ℕ) → get arena.root.map piece ≡ None
   root-none piece = ap (λ (words : ArrayOf word_order). get words.map piece) no_root ∙ get-empty word_order piece
 
@@ -59,11 +69,11 @@ module _ (arena : Arena) (nothing : arena.children.items ≡ []) (no_root : aren
         ends = λ piece value entry final. absurd (none-some value (sym (none piece) ∙ entry));
         short = omega arith;
       }
-  levels-none (suc at) map e = absurd (let g : gone ≡ level map = sym (ap node_of (child-none at)) ∙ e in cc)
+  levels-none (suc at) map e = absurd (let g : gone ≡ level map = sym (ap node_of (child-none arena no_levels nothing at)) ∙ e in cc)
 
   tails-none : (seat : ℕ) (held : List ℕ) (value : ℕ) → world_of arena seat ≡ tail held value → SpellKey ([] ++ held)
   tails-none zero held value e = absurd (cc)
-  tails-none (suc at) held value e = absurd (let g : gone ≡ tail held value = sym (ap node_of (child-none at)) ∙ e in cc)
+  tails-none (suc at) held value e = absurd (let g : gone ≡ tail held value = sym (ap node_of (child-none arena no_levels nothing at)) ∙ e in cc)
 
   pub empty-arena : IsArena arena
   empty-arena = record {
@@ -71,16 +81,16 @@ module _ (arena : Arena) (nothing : arena.children.items ≡ []) (no_root : aren
     is_world = record {
       first = refl;
       levels = levels-none;
-      used = λ at map e. absurd (let g : gone ≡ level map = sym (ap node_of (child-none at)) ∙ e in cc);
+      used = λ at map e. absurd (let g : gone ≡ level map = sym (ap node_of (child-none arena no_levels nothing at)) ∙ e in cc);
       tails = tails-none;
     };
-    texts = λ at. subst HasText (sym (child-none at)) tt;
+    texts = λ at. subst HasText (sym (child-none arena no_levels nothing at)) tt;
     root_limit = ap (λ (words : ArrayOf word_order). words.limit) no_root;
-    limits = λ at. subst HasLimit (sym (child-none at)) tt;
+    limits = λ at. subst HasLimit (sym (child-none arena no_levels nothing at)) tt;
   }
 
   pub empty-led : AllLed (world_of arena)
-  empty-led at there = absurd (there (ap node_of (child-none at)))
+  empty-led at there = absurd (there (ap node_of (child-none arena no_levels nothing at)))
 
   pub empty-map : map_of arena ≡ empty
   empty-map = table_none string_keys-all (λ k. lookup (world_of arena) 0 (pieces k)) (λ key is.

@@ -3,18 +3,18 @@ use Rattle.std.proofs.Common.{◌≡◌, ◌≢◌, ℕ, zero, suc, ◌-◌, ◌
 use Rattle.std.proofs.lemmas.List.{append_assoc, length-drop, drop-drop, get_or_past}
 use Rattle.std.specs.FinMap.{FinMap, get}
 use Rattle.judy_model.specs.Keys.{word_order}
-use Rattle.judy_sl.specs.declared.child.Child.{Child}
-use Rattle.judy_sl.specs.declared.child.Child.TheVariants.{Free}
+use Rattle.judy_sl.specs.Children.{IsTaken}
 use Rattle.judy_sl.specs.declared.arena.Arena.{Arena}
 use Rattle.judy_sl.specs.declared.arena.Place.{Place}
 use Rattle.judy_sl.specs.declared.arena.Place.TheVariants.{Below}
 use Rattle.judy_sl.specs.Pieces.{pieces, pieces_in, piece_of, IsText, IsInner, IsFinal, AreInner, SpellKey}
-use Rattle.judy_sl.specs.World.{World, gone, tail, level, lookup, at_entry}
+use Rattle.judy_sl.specs.World.{World, tail, level, lookup, at_entry}
 use Rattle.judy_sl.specs.Worlds.{IsWorld}
-use Rattle.judy_sl.specs.Arenas.{world_of, node_of, child_at, IsArena}
-use Rattle.judy_sl.specs.Ways.{LeadsTo, HasValue, IsFound, IsGap, IsClash, place_in, seat_in, left_of}
+use Rattle.judy_sl.specs.Arenas.{world_of, child_at, IsArena}
+use Rattle.judy_sl.specs.Ways.{LeadsTo, HasValue, IsFound, IsGap, IsClash, place_in, seat_in, seat_of, piece_at, left_of}
 use Rattle.judy_sl.proofs.PieceLemmas.{text-drop, pieces_same}
 use Rattle.judy_sl.proofs.Spelling.{spelled-more}
+use Rattle.judy_sl.proofs.Linked.{taken_of}
 use Rattle.judy_sl.proofs.Ways.{look_in, lookup-in, lookup-walk, lookup-level, walk-more, walk-behind, pieces_short, pieces_long, tail-same, tail-other}
 
 -- The way has come to a level, and this is left of the key.
@@ -83,26 +83,24 @@ module _ (world : World) (key : List ℕ) (seat : ℕ) (map : FinMap word_order 
       ∙ lookup-level world seat map (piece_of rest ∷ h.0) on.is_level
       ∙ ap (look_in world (level map)) (sym h.1)
 
+-- The place of a piece in the level that the way has come to.
+pub at-place : (child : Option ℕ) (piece : ℕ) (place : Place) → place ≡ place_in child piece → (seat_in child ≡ seat_of place) × (piece ≡ piece_at place)
+at-place None piece place e = (ap seat_of (sym e), ap piece_at (sym e))
+at-place (Some at) piece place e = (ap seat_of (sym e), ap piece_at (sym e))
+
 -- The level has no entry.
 pub on-gap : (world : World) (key : List ℕ) (map : FinMap word_order ℕ) (rest : List ℕ) (child : Option ℕ) (piece : ℕ) (place : Place) → IsOnWay world key (seat_in child) map rest → place ≡ place_in child piece → piece ≡ piece_of rest → get map piece ≡ None → IsText key → IsGap world key place (length rest)
-on-gap world key map rest None piece place on e is none is_text = subst (λ p. IsGap world key p (length rest)) (sym e) (record {
-  within = on.within;
-  leads = subst (λ r. LeadsTo world key 0 (pieces r)) on.is_left on.leads;
-  text = subst IsText on.is_left (on.text is_text);
-  map = map;
-  is_level = on.is_level;
-  next = is ∙ ap piece_of on.is_left;
-  absent = none;
-})
-on-gap world key map rest (Some at) piece place on e is none is_text = subst (λ p. IsGap world key p (length rest)) (sym e) (record {
-  within = on.within;
-  leads = subst (λ r. LeadsTo world key (suc at) (pieces r)) on.is_left on.leads;
-  text = subst IsText on.is_left (on.text is_text);
-  map = map;
-  is_level = on.is_level;
-  next = is ∙ ap piece_of on.is_left;
-  absent = none;
-})
+on-gap world key map rest child piece place on e is none is_text =
+    let here = at-place child piece place e in
+    record {
+      within = on.within;
+      leads = subst (λ r. LeadsTo world key (seat_of place) (pieces r)) on.is_left (subst (λ seat. LeadsTo world key seat (pieces rest)) here.0 on.leads);
+      text = subst IsText on.is_left (on.text is_text);
+      map = map;
+      is_level = ap world (sym here.0) ∙ on.is_level;
+      next = sym here.1 ∙ is ∙ ap piece_of on.is_left;
+      absent = ap (get map) (sym here.1) ∙ none;
+    }
 
 -- Of fewer than eight bytes the lowest of a piece is missing.
 pub short-IsFinal : (bytes : List ℕ) → length bytes < 8 → IsFinal (piece_of bytes)
@@ -114,18 +112,14 @@ short-IsFinal bytes short =
 
 -- The level has the last piece.
 pub on-last : (world : World) (key : List ℕ) (map : FinMap word_order ℕ) (rest : List ℕ) (child : Option ℕ) (piece : ℕ) (place : Place) → IsOnWay world key (seat_in child) map rest → place ≡ place_in child piece → piece ≡ piece_of rest → length rest < 8 → (value : ℕ) → get map piece ≡ Some value → IsFound world key place
-on-last world key map rest None piece place on e is short value entry = subst (IsFound world key) (sym e) (record {
-  rest = pieces rest;
-  leads = on.leads;
-  value = value;
-  has = subst (λ node. HasValue node piece (pieces rest) value) (sym on.is_level) (pieces_short rest short ∙ ap (λ p. p ∷ []) (sym is), subst IsFinal (sym is) (short-IsFinal rest short), entry);
-})
-on-last world key map rest (Some at) piece place on e is short value entry = subst (IsFound world key) (sym e) (record {
-  rest = pieces rest;
-  leads = on.leads;
-  value = value;
-  has = subst (λ node. HasValue node piece (pieces rest) value) (sym on.is_level) (pieces_short rest short ∙ ap (λ p. p ∷ []) (sym is), subst IsFinal (sym is) (short-IsFinal rest short), entry);
-})
+on-last world key map rest child piece place on e is short value entry =
+    let here = at-place child piece place e in
+    record {
+      rest = pieces rest;
+      leads = subst (λ seat. LeadsTo world key seat (pieces rest)) here.0 on.leads;
+      value = value;
+      has = subst (λ p. HasValue (world (seat_of place)) p (pieces rest) value) here.1 (subst (λ node. HasValue node piece (pieces rest) value) (sym (ap world (sym here.0) ∙ on.is_level)) (pieces_short rest short ∙ ap (λ p. p ∷ []) (sym is), subst IsFinal (sym is) (short-IsFinal rest short), entry));
+    }
 
 pub pieces-some : (bytes : List ℕ) → pieces bytes ≢ []
 pieces-some bytes e = let h = pieces-head bytes in (let g : piece_of bytes ∷ h.0 ≡ [] = sym h.1 ∙ e in cc)
@@ -141,10 +135,15 @@ module _ (world : World) (key : List ℕ) (seat : ℕ) (map : FinMap word_order 
   }
 
   -- The way comes to another's.
-  pub on-clash : IsText held → held ≢ drop 8 rest → IsText key → IsClash world key at (length (drop 8 rest))
-  on-clash text ne is_text =
+  pub on-clash : IsText held → held ≢ drop 8 rest → IsText key → (from : Place) → (seat ≡ seat_of from) × (piece_of rest ≡ piece_at from) → IsClash world key from at (length (drop 8 rest))
+  on-clash text ne is_text from here =
       let left = left-on world key seat map rest on long in
       record {
+        map = map;
+        is_level = ap world (sym here.0) ∙ on.is_level;
+        inner = subst IsInner here.1 whole;
+        entry = ap (get map) (sym here.1) ∙ entry;
+        leads_from = subst (λ r. LeadsTo world key (seat_of from) (piece_at from ∷ pieces r)) left (subst (λ ps. LeadsTo world key (seat_of from) ps) (pieces_long rest long ∙ ap (λ p. p ∷ pieces (drop 8 rest)) here.1) (subst (λ s. LeadsTo world key s (pieces rest)) here.0 on.leads));
         within = omega (arith, length-drop 8 rest, on.within);
         leads = subst (λ r. LeadsTo world key (suc at) (pieces r)) left (leads-on world key seat map rest on at long whole entry);
         text = subst IsText left (text-drop 8 rest (on.text is_text));
@@ -180,9 +179,9 @@ module _ (world : World) (key : List ℕ) (seat : ℕ) (map : FinMap word_order 
       ∙ tail-other world (pieces held) (pieces (drop 8 rest)) value (λ e. ne (pieces_same held (drop 8 rest) text (text-drop 8 rest (on.text is_text)) e)))
 
 module _ (arena : Arena) (is : IsArena arena) (key : List ℕ) (seat : ℕ) (map : FinMap word_order ℕ) (rest : List ℕ) (on : IsOnWay (world_of arena) key seat map rest) where
-  -- Nothing stands where an entry leads: that can't be.
-  pub not-gone : IsInner (piece_of rest) → (at : ℕ) → get map (piece_of rest) ≡ Some at → node_of (child_at arena at) ≢ gone
-  not-gone whole at entry = ((is.is_world.levels seat map on.is_level).leads (piece_of rest) at entry whole).1
+  -- Something stands where an entry leads.
+  pub on-taken : IsInner (piece_of rest) → (at : ℕ) → get map (piece_of rest) ≡ Some at → IsTaken (child_at arena at)
+  on-taken whole at entry = taken_of arena at ((is.is_world.levels seat map on.is_level).leads (piece_of rest) at entry whole).1
 
   -- The level has no entry, so the key isn't there.
   pub found-none : get map (piece_of rest) ≡ None → lookup (world_of arena) 0 (pieces key) ≡ None
@@ -216,7 +215,3 @@ module _ (world : World) (behind : ℕ → List ℕ) (is : IsWorld world behind)
   pub spelled-last : length rest < 8 → (value : ℕ) → get map (piece_of rest) ≡ Some value → SpellKey (pieces key)
   spelled-last short value entry =
       subst SpellKey (ap (λ ps. behind seat ++ ps) (sym (pieces_short rest short)) ∙ leads-behind seat (pieces rest) on.leads) ((is.levels seat map on.is_level).ends (piece_of rest) value entry (short-IsFinal rest short))
-
--- A child that is read from the list.
-pub child_from : (arena : Arena) (items : List Child) → items ≡ arena.children.items → (at : ℕ) (found child : Child) → found ≡ get_or items at (Free 0) → found ≡ child → child_at arena at ≡ child
-child_from arena items e at found child read is = sym (ap (λ l. get_or l at (Free 0)) e) ∙ sym read ∙ is

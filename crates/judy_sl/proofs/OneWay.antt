@@ -1,8 +1,8 @@
 -- Seats on the way of one key: none comes twice, and each that comes later stands behind the others.
-use Rattle.std.proofs.Common.{◌≡◌, ℕ, suc, ◌<◌, ◌≤◌, List, [], ◌∷◌, ◌++◌, length, None, Some, refl, sym, ap, subst, ◌∙◌, arith, ⊎_elim, ◌⊎◌}
+use Rattle.std.proofs.Common.{◌≡◌, ◌≢◌, ℕ, suc, ◌<◌, ◌≤◌, List, [], ◌∷◌, ◌++◌, length, None, Some, inl, inr, refl, sym, ap, subst, ◌∙◌, arith, ⊎_elim, ◌⊎◌}
 use Rattle.std.proofs.lemmas.List.{length-append, append_cancel_left}
 use Rattle.std.proofs.lemmas.Bool.{cases_lt}
-use Rattle.std.proofs.lemmas.Option.{none-some}
+use Rattle.std.proofs.lemmas.Option.{none-some, same_Some}
 use Rattle.std.specs.FinMap.{FinMap, get}
 use Rattle.judy_model.specs.Keys.{word_order}
 use Rattle.judy_sl.specs.Pieces.{IsInner, IsFinal, AreInner}
@@ -110,3 +110,30 @@ module _ (world : World) (key : List ℕ) where
             (λ none. none-some goes.1.0 (sym none ∙ ap (λ node. entry_under node piece) goes.1.2 ∙ goes.1.3))
             (λ final. goes.0 final)
             ends
+
+    -- Where the next entry leads to what is no level, the way comes to that at most.
+    pub leads-none : (map : FinMap word_order ℕ) (at : ℕ) → world seat ≡ level map → get map piece ≡ Some at → ((m : FinMap word_order ℕ) → world (suc at) ≢ level m) → (later : ℕ) (qs : List ℕ) → LeadsTo world key later qs → (length ps ≤ length qs) ⊎ (later ≡ suc at)
+    leads-none map at is entry none later qs further = elim (cases_lt (length qs) (length ps)) [
+      | inl less ↦
+          let on = leads-apart seat later ps qs leads further (omega (arith, less)) in
+          inr (last-step on.mid on.way on.parts less)
+      | inr most ↦ inl most
+    ]
+      where
+        ends-there : (mid : List ℕ) → walk world (suc at) mid ≡ Some later → later ≡ suc at
+        ends-there [] way = cc
+        ends-there (first ∷ mid) way = (let step = step-parts (world (suc at)) first (λ to. walk world (suc to) mid) later way in absurd (none step.map step.is))
+
+        last-step : (mid : List ℕ) → walk world seat mid ≡ Some later → ps ≡ mid ++ qs → length qs < length ps → later ≡ suc at
+        last-step [] way parts less =
+            let same = ap length parts in
+            let never : ⊥ = omega (arith, same, less) in
+            absurd never
+        last-step (first ∷ mid) way parts less =
+            let lists : piece ∷ more ≡ first ∷ mid ++ qs = sym begins ∙ parts in
+            let heads : first ≡ piece = cc in
+            let step = step-parts (world seat) first (λ to. walk world (suc to) mid) later way in
+            let maps : level step.map ≡ level map = sym step.is ∙ is in
+            let same : step.map ≡ map = cc in
+            let found : step.found ≡ at = same_Some step.found at (sym step.entry ∙ ap (λ (m : FinMap word_order ℕ). get m first) same ∙ ap (get map) heads ∙ entry) in
+            ends-there mid (ap (λ to. walk world (suc to) mid) (sym found) ∙ step.goes)

@@ -1,20 +1,33 @@
 -- The keys behind the entries of a level, as these are read page by page.
-use Rattle.std.proofs.Common.{◌≡◌, ℕ, zero, suc, ◌+◌, ◌-◌, ◌<◌, ◌≤◌, min, ⊎_elim, [], ◌∷◌, ◌++◌, map, length, take, drop, get_or, sym, ap, ◌∙◌, arith}
+use Rattle.std.proofs.Common.{◌≡◌, ℕ, zero, suc, ◌+◌, ◌-◌, ◌<◌, ◌≤◌, min, ⊎_elim, List, [], ◌∷◌, ◌++◌, map, length, take, drop, get_or, All, sym, ap, ◌∙◌, arith}
 use Rattle.std.specs.List.{flat_map}
-use Rattle.std.specs.FinMap.{FinMap, entries, entries_sorted}
+use Rattle.std.specs.Cmp.{nat_cmp_total}
+use Rattle.std.specs.FinMap.{FinMap, nat_cmp-IsAntisymmetric, entries, entries_sorted, get-entries}
 use Rattle.std.proofs.Math.Seq.{take-add}
 use Rattle.std.proofs.lemmas.Bool.{cases_lt}
 use Rattle.std.proofs.lemmas.List.{map-id, take_at, take-take, take-append-drop, length-append, length-take-le, take_more}
 use Rattle.std.proofs.lemmas.List.Concat.{flat_map-append}
+use Rattle.std.proofs.lemmas.List.Elements.{All-from_recursion}
 use Rattle.judy_model.specs.Keys.{word_order}
 use Rattle.judy_model.specs.Counts.{rank}
 use Rattle.judy_sums.specs.Pairs.{Pairs}
 use Rattle.judy_sums.specs.Levels.{keys_below, part_len}
 use Rattle.judy_sums.proofs.LevelCounts.{entries_below_is}
-use Rattle.judy_sl.specs.World.{World}
+use Rattle.judy_sums.proofs.Parts.{each_found}
+use Rattle.judy_sl.specs.World.{World, level}
+use Rattle.judy_sl.specs.Worlds.{IsWorld}
 use Rattle.judy_sl.specs.Behind.{entry_keys}
-use Rattle.judy_sl.specs.Counted.{keys_behind_all}
+use Rattle.judy_sl.specs.Counted.{LeadsOn, keys_behind_all}
 use Rattle.judy_sl.proofs.EntryCounts.{below_front}
+
+-- ---- the entries of a level
+
+-- What each of them leads to is there.
+pub entries_lead : {world : World} {behind : ℕ → List ℕ} → IsWorld world behind → (seat : ℕ) (words : FinMap word_order ℕ) → world seat ≡ level words → All (LeadsOn world) (entries words)
+entries_lead {world} is seat words here =
+    All-from_recursion (LeadsOn world) (entries words)
+    (each_found word_order nat_cmp_total nat_cmp-IsAntisymmetric (LeadsOn world) (entries words) (entries_sorted words)
+    (λ piece at found inner. ((is.levels seat words here).leads piece at (get-entries words piece ∙ found) inner).1))
 
 -- ---- a page
 

@@ -4,44 +4,44 @@ use Rattle.std.proofs.lemmas.Bool.{cases_eq}
 use Rattle.std.proofs.lemmas.Option.{none-some}
 use Rattle.std.specs.FinMap.{FinMap, get}
 use Rattle.judy_model.specs.Keys.{word_order}
-use Rattle.judy_sl.specs.declared.child.Child.{Child}
-use Rattle.judy_sl.specs.declared.child.Child.TheVariants.{Free, Tail, Level}
+use Rattle.judy_model.specs.Arrays.{ArrayOf}
+use Rattle.judy_sl.specs.Children.{Child, Free, Tail, Level, is_level, IsTaken, IsLevelChild}
 use Rattle.judy_sl.specs.declared.arena.Arena.{Arena}
 use Rattle.judy_sl.specs.Pieces.{pieces, piece_of, IsText, IsInner}
 use Rattle.judy_sl.specs.World.{World, Node, gone, tail, level}
 use Rattle.judy_sl.specs.Worlds.{IsWorld}
-use Rattle.judy_sl.specs.Arenas.{world_of, node_of, child_at, link_of, links_of, HasText, HasLimit, IsArena}
+use Rattle.judy_sl.specs.Arenas.{world_of, node_of, child_at, HasText, HasLimit, IsArena}
 use Rattle.judy_sl.specs.Places.{with_child}
 use Rattle.judy_sl.specs.Ways.{LeadsTo}
 use Rattle.judy_sl.specs.Counted.{keys_behind, LevelTells, Same, OffBy, AreCounted, Passes, AreCountedBut}
-use Rattle.judy_sl.specs.Stepped.{child_stepped, ChildCanStep, entry_under}
+use Rattle.judy_sl.specs.Stepped.{child_stepped, ChildCanStep, entry_under, IsLevelSeat}
 use Rattle.judy_sl.proofs.PieceLemmas.{text-drop, piece-IsInner}
 use Rattle.judy_sl.proofs.Ways.{pieces_long}
 use Rattle.judy_sl.proofs.OnWay.{pieces-head, short-IsFinal}
 use Rattle.judy_sl.proofs.Seats.{set_node, cond-same, cond-other}
-use Rattle.judy_sl.proofs.Linked.{child_at-same, child_at-other, world-with_child, inside_of}
-use Rattle.judy_sl.proofs.Reused.{links-set}
-use Rattle.judy_sl.proofs.OneWay.{leads-once, leads-same, leads-more, leads-last}
+use Rattle.judy_sl.proofs.Linked.{CanHold, child_at-same, child_at-other, root-with_child, world-with_child, taken_of}
+use Rattle.judy_sl.proofs.PlaceKinds.{holds-level, level-taken, tail-not_level, tail-tells}
+use Rattle.judy_sl.proofs.OneWay.{leads-once, leads-same, leads-more, leads-last, leads-none}
 use Rattle.judy_sl.proofs.KeysFewer.{fewer-behind}
 
 -- ---- a number is stepped
 
 -- What is off by one is right once it is stepped.
 step-tells : (comes : Bool) (child : Child) (keys : ℕ) → LevelTells (OffBy comes) child keys → LevelTells Same (child_stepped comes child) keys
-step-tells comes (Free next) keys tells = tt
+step-tells comes Free keys tells = tt
 step-tells comes (Tail rest) keys tells = tt
 step-tells true (Level told words) keys tells = (let off : suc told ≡ keys = tells in omega (arith, off))
 step-tells false (Level told words) keys tells = (let off : told ≡ suc keys = tells in omega (arith, off))
 
 can-step : (comes : Bool) (child : Child) (keys : ℕ) → LevelTells (OffBy comes) child keys → keys ≤ 4294967295 → ChildCanStep comes child
-can-step comes (Free next) keys tells few = tt
+can-step comes Free keys tells few = tt
 can-step comes (Tail rest) keys tells few = tt
 can-step true (Level told words) keys tells few = (let off : suc told ≡ keys = tells in omega (arith, off, few))
 can-step false (Level told words) keys tells few = (let off : told ≡ suc keys = tells in omega (arith, off))
 
 -- A number is right where it can't be wrong.
 tells-stable : (child : Child) (keys : ℕ) → ((LevelTells Same child keys → ⊥) → ⊥) → LevelTells Same child keys
-tells-stable (Free next) keys never = tt
+tells-stable Free keys never = tt
 tells-stable (Tail rest) keys never = tt
 tells-stable (Level told words) keys never = elim (cases_eq told keys) [
   | inl same ↦ same
@@ -49,22 +49,17 @@ tells-stable (Level told words) keys never = elim (cases_eq told keys) [
 ]
 
 step-node : (comes : Bool) (child : Child) → node_of (child_stepped comes child) ≡ node_of child
-step-node comes (Free next) = refl
+step-node comes Free = refl
 step-node comes (Tail rest) = refl
 step-node comes (Level keys words) = refl
 
-step-link : (comes : Bool) (child : Child) → link_of (child_stepped comes child) ≡ link_of child
-step-link comes (Free next) = refl
-step-link comes (Tail rest) = refl
-step-link comes (Level keys words) = refl
-
 step-text : (comes : Bool) (child : Child) → HasText child → HasText (child_stepped comes child)
-step-text comes (Free next) has = has
+step-text comes Free has = has
 step-text comes (Tail rest) has = has
 step-text comes (Level keys words) has = has
 
 step-limit : (comes : Bool) (child : Child) → HasLimit child → HasLimit (child_stepped comes child)
-step-limit comes (Free next) has = has
+step-limit comes Free has = has
 step-limit comes (Tail rest) has = has
 step-limit comes (Level keys words) has = has
 
@@ -77,33 +72,47 @@ set-itself world at node same = λ i seat. by_seat seat i
       | inr apart ↦ cond-other world at node seat apart
     ]
 
+step-level : (comes : Bool) (child : Child) → IsLevelChild child → IsLevelChild (child_stepped comes child)
+step-level comes Free is = is
+step-level comes (Tail rest) is = is
+step-level comes (Level keys words) is = is
+
+-- A level's number may be stepped where it stands.
+can-step_at : (now : Arena) (comes : Bool) (at : ℕ) → IsLevelChild (child_at now at) → CanHold now at (child_stepped comes (child_at now at))
+can-step_at now comes at is = holds-level now at (child_stepped comes (child_at now at)) (step-level comes (child_at now at) is) is
+
+level-seat : (child : Child) → IsLevelChild child → IsLevelSeat (node_of child)
+level-seat Free is = is
+level-seat (Tail rest) is = is
+level-seat (Level keys words) is = tt
+
 -- ---- one child is stepped
 
-module _ (now : Arena) (is : IsArena now) (comes : Bool) (at : ℕ) (inside : at < length now.children.items) where
+module _ (now : Arena) (is : IsArena now) (comes : Bool) (at : ℕ) (is_level : IsLevelChild (child_at now at)) where
   abbrev child : Child
   child = child_stepped comes (child_at now at)
+
+  abbrev can : CanHold now at child
+  can = can-step_at now comes at is_level
 
   abbrev after : Arena
   after = with_child now at child
 
   after-world : world_of after ≡ world_of now
-  after-world = world-with_child now at child inside ∙ set-itself (world_of now) (suc at) (node_of child) (step-node comes (child_at now at))
-
-  after-links : links_of after ≡ links_of now
-  after-links = links-set now.children.items at child (step-link comes (child_at now at))
+  after-world = world-with_child now at child can ∙ set-itself (world_of now) (suc at) (node_of child) (step-node comes (child_at now at))
 
   after-arena : IsArena after
   after-arena = record {
     behind = is.behind;
     is_world = subst (λ w. IsWorld w is.behind) (sym after-world) is.is_world;
     texts = λ k. elim (cases_eq k at) [
-      | inl e ↦ subst HasText (sym (child_at-same now at child inside k e)) (step-text comes (child_at now at) (is.texts at))
-      | inr apart ↦ subst HasText (sym (child_at-other now at child inside k apart)) (is.texts k)
+      | inl e ↦ subst HasText (sym (child_at-same now at child can k e)) (step-text comes (child_at now at) (is.texts at))
+      | inr apart ↦ subst HasText (sym (child_at-other now at child can k apart)) (is.texts k)
     ];
-    root_limit = is.root_limit;
+    root_limit = ap (λ (words : ArrayOf word_order). words.limit) (root-with_child now at child) ∙ is.root_limit;
     limits = λ k. elim (cases_eq k at) [
-      | inl e ↦ subst HasLimit (sym (child_at-same now at child inside k e)) (step-limit comes (child_at now at) (is.limits at))
-      | inr apart ↦ subst HasLimit (sym (child_at-other now at child inside k apart)) (is.limits k)
+      | inl e ↦ subst HasLimit (sym (child_at-same now at child can k e)) (step-limit comes (child_at now at) (is.limits at))
+      | inr apart ↦ subst HasLimit (sym (child_at-other now at child can k apart)) (is.limits k)
     ];
   }
 
@@ -120,9 +129,7 @@ pub record IsRecounting (before now : Arena) (key : List ℕ) (comes : Bool) (se
   pub few : keys_behind (world_of before) seat ≤ 4294967295
   pub is_arena : IsArena now
   pub world : world_of now ≡ world_of before
-  pub links : links_of now ≡ links_of before
-  pub free : now.free ≡ before.free
-  pub spare : now.spare ≡ before.spare
+  pub stands : IsLevelSeat (world_of now seat)
   pub passed : (at : ℕ) → IsBehind (world_of before) key (length (pieces rest)) (suc at) → child_at now at ≡ child_stepped comes (child_at before at)
   pub others : (at : ℕ) → (IsBehind (world_of before) key (length (pieces rest)) (suc at) → ⊥) → child_at now at ≡ child_at before at
 
@@ -151,8 +158,11 @@ module _ (before : Arena) (is : IsArena before) (key : List ℕ) (comes : Bool) 
     next : LeadsTo world key (suc at) (pieces (drop 8 rest))
     next = leads-more world key seat (piece_of rest) (pieces (drop 8 rest)) (subst (LeadsTo world key seat) parts so_far.leads) found.0 found.1 inner at found.2
 
-    pub next-inside : at < length now.children.items
-    next-inside = inside_of now at (λ none. ((is.is_world.levels seat found.0 found.1).leads (piece_of rest) at found.2 inner).1 (ap (λ (w : World). w (suc at)) (sym so_far.world) ∙ none))
+    next-taken : IsTaken (child_at now at)
+    next-taken = taken_of now at (λ none. ((is.is_world.levels seat found.0 found.1).leads (piece_of rest) at found.2 inner).1 (ap (λ (w : World). w (suc at)) (sym so_far.world) ∙ none))
+
+    pub next-level : is_level at ≡ true → IsLevelChild (child_at now at)
+    next-level at_level = level-taken now at at_level next-taken
 
     ahead : IsBehind world key (length (pieces rest)) (suc at) → ⊥
     ahead behind =
@@ -172,15 +182,15 @@ module _ (before : Arena) (is : IsArena before) (key : List ℕ) (comes : Bool) 
     pub next-can : ChildCanStep comes (child_at now at)
     next-can = can-step comes (child_at now at) (keys_behind world (suc at)) tells next-few
 
-    module _ (after : Arena) (after_is : after ≡ with_child now at (child_stepped comes (child_at now at))) where
+    module _ (at_level : is_level at ≡ true) (after : Arena) (after_is : after ≡ with_child now at (child_stepped comes (child_at now at))) where
       here-is : child_at after at ≡ child_stepped comes (child_at before at)
       here-is =
           ap (λ (a : Arena). child_at a at) after_is
-          ∙ child_at-same now at (child_stepped comes (child_at now at)) next-inside at refl
+          ∙ child_at-same now at (child_stepped comes (child_at now at)) (can-step_at now comes at (next-level at_level)) at refl
           ∙ ap (λ child. child_stepped comes child) (so_far.others at ahead)
 
       else-is : (k : ℕ) → k ≢ at → child_at after k ≡ child_at now k
-      else-is k apart = ap (λ (a : Arena). child_at a k) after_is ∙ child_at-other now at (child_stepped comes (child_at now at)) next-inside k apart
+      else-is k apart = ap (λ (a : Arena). child_at a k) after_is ∙ child_at-other now at (child_stepped comes (child_at now at)) (can-step_at now comes at (next-level at_level)) k apart
 
       before-here : (k : ℕ) → k ≢ at → (behind : IsBehind world key (length (pieces (drop 8 rest))) (suc k)) → IsBehind world key (length (pieces rest)) (suc k)
       before-here k apart behind =
@@ -192,17 +202,18 @@ module _ (before : Arena) (is : IsArena before) (key : List ℕ) (comes : Bool) 
             | inr other ↦ (behind.0, behind.1, omega (arith, most, other, one-less))
           ]
 
+      after-is : world_of after ≡ world_of now
+      after-is = ap world_of after_is ∙ after-world now so_far.is_arena comes at (next-level at_level)
+
       -- One level further.
       pub recount-on : IsRecounting before after key comes (suc at) (drop 8 rest)
       recount-on = record {
         leads = next;
         text = text-drop 8 rest so_far.text;
         few = next-few;
-        is_arena = subst IsArena (sym after_is) (after-arena now so_far.is_arena comes at next-inside);
-        world = ap world_of after_is ∙ after-world now so_far.is_arena comes at next-inside ∙ so_far.world;
-        links = ap links_of after_is ∙ after-links now so_far.is_arena comes at next-inside ∙ so_far.links;
-        free = ap (λ (a : Arena). a.free) after_is ∙ so_far.free;
-        spare = ap (λ (a : Arena). a.spare) after_is ∙ so_far.spare;
+        is_arena = subst IsArena (sym after_is) (after-arena now so_far.is_arena comes at (next-level at_level));
+        world = after-is ∙ so_far.world;
+        stands = subst (λ (w : World). IsLevelSeat (w (suc at))) (sym after-is) (level-seat (child_at now at) (next-level at_level));
         passed = λ k behind. elim (cases_eq k at) [
           | inl e ↦ subst (λ n. child_at after n ≡ child_stepped comes (child_at before n)) (sym e) here-is
           | inr apart ↦ else-is k apart ∙ so_far.passed k (before-here k apart behind)
@@ -212,21 +223,35 @@ module _ (before : Arena) (is : IsArena before) (key : List ℕ) (comes : Bool) 
             else-is k apart ∙ so_far.others k (λ behind. ahead_is (behind.0, behind.1, (let most = behind.2 in omega (arith, most, one-less))));
       }
 
-  -- The way has ended.
-  module _ (ends : (entry_under (world_of now seat) (piece_of rest) ≡ None) ⊎ (length rest < 8)) where
-    all-passed : (at : ℕ) → Passes world key (suc at) → IsBehind world key (length (pieces rest)) (suc at)
-    all-passed at passes =
-        let head = pieces-head rest in
-        (passes.0, passes.1, leads-last world key seat (pieces rest) so_far.leads (piece_of rest) head.0 head.1 (⊎_elim (λ none. inl (ap (λ (w : World). entry_under (w seat) (piece_of rest)) (sym so_far.world) ∙ none)) (λ short. inr (short-IsFinal rest short)) ends) (suc at) passes.0 passes.1)
-
+  -- Each level that is still to come tells its number.
+  module _ (none_left : (at : ℕ) → Passes world key (suc at) → IsBehind world key (length (pieces rest)) (suc at) ⊎ ((keys : ℕ) → LevelTells Same (child_at now at) keys)) where
     told : (at : ℕ) → LevelTells Same (child_at now at) (keys_behind world (suc at))
     told at = tells-stable (child_at now at) (keys_behind world (suc at)) (λ wrong. wrong (not-passed (λ passes. wrong (passed passes))))
       where
         passed : Passes world key (suc at) → LevelTells Same (child_at now at) (keys_behind world (suc at))
-        passed passes = subst (λ child. LevelTells Same child (keys_behind world (suc at))) (sym (so_far.passed at (all-passed at passes))) (step-tells comes (child_at before at) (keys_behind world (suc at)) (counted.passed at passes))
+        passed passes = ⊎_elim
+            (λ behind. subst (λ child. LevelTells Same child (keys_behind world (suc at))) (sym (so_far.passed at behind)) (step-tells comes (child_at before at) (keys_behind world (suc at)) (counted.passed at passes)))
+            (λ tells. tells (keys_behind world (suc at)))
+            (none_left at passes)
 
         not-passed : (Passes world key (suc at) → ⊥) → LevelTells Same (child_at now at) (keys_behind world (suc at))
         not-passed away = subst (λ child. LevelTells Same child (keys_behind world (suc at))) (sym (so_far.others at (λ behind. away (behind.0, behind.1)))) (counted.others at away)
 
-    pub recount-end : AreCounted now
-    recount-end at = subst (λ (w : World). LevelTells Same (child_at now at) (keys_behind w (suc at))) (sym so_far.world) (told at)
+    counted-now : AreCounted now
+    counted-now at = subst (λ (w : World). LevelTells Same (child_at now at) (keys_behind w (suc at))) (sym so_far.world) (told at)
+
+  -- The way has ended: at a level,
+  pub recount-end : (entry_under (world_of now seat) (piece_of rest) ≡ None) ⊎ (length rest < 8) → AreCounted now
+  recount-end ends = counted-now (λ at passes.
+      let head = pieces-head rest in
+      inl (passes.0, passes.1, leads-last world key seat (pieces rest) so_far.leads (piece_of rest) head.0 head.1 (⊎_elim (λ none. inl (ap (λ (w : World). entry_under (w seat) (piece_of rest)) (sym so_far.world) ∙ none)) (λ short. inr (short-IsFinal rest short)) ends) (suc at) passes.0 passes.1))
+
+  -- or at a tail.
+  pub recount-tail : (at : ℕ) → entry_under (world_of now seat) (piece_of rest) ≡ Some at → is_level at ≡ false → AreCounted now
+  recount-tail at entry no_level = counted-now (λ k passes.
+      let head = pieces-head rest in
+      let to = entry-level (world seat) (piece_of rest) at (ap (λ (w : World). entry_under (w seat) (piece_of rest)) (sym so_far.world) ∙ entry) in
+      ⊎_elim
+      (λ most. inl (passes.0, passes.1, most))
+      (λ here. let e : k ≡ at = cc in inr (subst (λ n. (keys : ℕ) → LevelTells Same (child_at now n) keys) (sym e) (tail-tells now at no_level Same)))
+      (leads-none world key seat (pieces rest) so_far.leads (piece_of rest) head.0 head.1 to.0 at to.1 to.2 (tail-not_level before at no_level) (suc k) passes.0 passes.1))

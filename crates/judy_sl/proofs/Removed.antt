@@ -8,7 +8,7 @@ use Rattle.judy_model.proofs.TableLemmas.{byte_order_total, byte_order_same}
 use Rattle.judy_sl.specs.declared.arena.Arena.{Arena}
 use Rattle.judy_sl.specs.Pieces.{pieces}
 use Rattle.judy_sl.specs.World.{lookup}
-use Rattle.judy_sl.specs.Arenas.{world_of, map_of, array_of, FreesPlaces, IsStrings}
+use Rattle.judy_sl.specs.Arenas.{world_of, map_of, array_of, IsStrings}
 use Rattle.judy_sl.specs.Shrunk.{IsShrunk}
 use Rattle.judy_sl.proofs.Maps.{get-map, get-map_bad, map_removed}
 
@@ -32,7 +32,7 @@ module _ (limit : ℕ) (arena : Arena) (key : List ℕ) where
       pub key-deleted : array_of limit after ≡ with_map (array_of limit arena) (del (map_of arena) key)
       key-deleted = ap (λ (m : FinMap byte_order ℕ). record { limit = limit; map = m }) map-is
 
-      module _ (count : ℕ) (is : IsStrings limit count arena) (places : FreesPlaces arena after) (found : Bool) (answer : found ≡ is_some (lookup (world_of arena) 0 (pieces key))) where
+      module _ (count : ℕ) (is : IsStrings limit count arena) (found : Bool) (answer : found ≡ is_some (lookup (world_of arena) 0 (pieces key))) where
         len-is : len (map_of after) ≡ cond found (len (map_of arena) - 1) (len (map_of arena))
         len-is =
             ap (λ (m : FinMap byte_order ℕ). len m) map-is
@@ -54,7 +54,6 @@ module _ (limit : ℕ) (arena : Arena) (key : List ℕ) where
         strings-removed e = record {
           is_arena = shrunk.is_arena;
           led = shrunk.led;
-          free_known = places.known is.free_known;
           counted = ap (λ n. n - 1) is.counted ∙ sym (len-is ∙ ap (λ b. cond b (len (map_of arena) - 1) (len (map_of arena))) e);
           within_limit = (let w = is.within_limit in omega (arith, w));
           holds_some = is.holds_some;
@@ -65,7 +64,6 @@ module _ (limit : ℕ) (arena : Arena) (key : List ℕ) where
         strings-kept e = record {
           is_arena = shrunk.is_arena;
           led = shrunk.led;
-          free_known = places.known is.free_known;
           counted = is.counted ∙ sym (len-is ∙ ap (λ b. cond b (len (map_of arena) - 1) (len (map_of arena))) e);
           within_limit = is.within_limit;
           holds_some = is.holds_some;

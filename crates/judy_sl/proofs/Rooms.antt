@@ -1,26 +1,23 @@
 -- No level holds more entries than the array holds keys, so none is full.
-use Rattle.std.proofs.Common.{◌≡◌, ℕ, suc, ◌+◌, ◌<◌, ◌≤◌, cond, Bool, true, false, List, [], ◌∷◌, ◌++◌, length, get_or, Option, Some, is_some, IsTrue, refl, sym, ap, subst, ◌∙◌, arith}
+use Rattle.std.proofs.Common.{◌≡◌, ℕ, suc, ◌+◌, ◌<◌, ◌≤◌, cond, Bool, true, false, List, [], ◌∷◌, ◌++◌, length, get_or, Option, is_some, IsTrue, refl, sym, ap, subst, ◌∙◌, arith}
 use Rattle.std.proofs.Math.Seq.{get_or-append_seam}
 use Rattle.std.specs.Cmp.{nat_cmp_total}
 use Rattle.std.specs.FinMap.{FinMap, contains_key, len, len-insert, len-empty}
 use Rattle.judy_model.specs.Keys.{word_order}
 use Rattle.judy_model.specs.Arrays.{ArrayOf, empty_array}
 use Rattle.judy_model.proofs.Counting.{fewer, not_full}
-use Rattle.judy_model.proofs.Inserts.{is_full_present}
 use Rattle.judy_model.proofs.TableLemmas.{string_keys-all, get-table}
 use Rattle.judy_word.specs.Writes.{with_value}
-use Rattle.judy_sl.specs.declared.child.Child.{Child}
-use Rattle.judy_sl.specs.declared.child.Child.TheVariants.{Free, Tail, Level}
+use Rattle.judy_sl.specs.Children.{Child, Free, Tail, Level}
 use Rattle.judy_sl.specs.declared.arena.Arena.{Arena}
 use Rattle.judy_sl.specs.declared.arena.Place.{Place}
 use Rattle.judy_sl.specs.declared.arena.Place.TheVariants.{Root, Below}
 use Rattle.judy_sl.specs.Pieces.{pieces, SpellKey}
 use Rattle.judy_sl.specs.World.{level, lookup}
 use Rattle.judy_sl.specs.Arenas.{world_of, node_of, child_at, map_of, HasLimit, IsArena}
-use Rattle.judy_sl.specs.Children.{value_at, HasRoom}
-use Rattle.judy_sl.specs.Places.{place_value, PlaceHasRoom}
+use Rattle.judy_sl.specs.Children.{HasRoom}
+use Rattle.judy_sl.specs.Places.{PlaceHasRoom}
 use Rattle.judy_sl.specs.Ways.{LeadsTo, IsGap}
-use Rattle.judy_sl.specs.Grown.{IsSame}
 use Rattle.judy_sl.proofs.Ways.{lookup-walk}
 use Rattle.judy_sl.proofs.Written.{behind-leads}
 use Rattle.judy_sl.proofs.ScanEnds.{begins}
@@ -42,7 +39,7 @@ array-room : (words : ArrayOf word_order) (piece : ℕ) → words.limit ≡ 1844
 array-room words piece limit few = not_full words piece (omega arith)
 
 child-room : (child : Child) (piece : ℕ) (map : FinMap word_order ℕ) → node_of child ≡ level map → HasLimit child → len map ≤ 4294967295 → HasRoom child piece
-child-room (Free next) piece map e limit few = tt
+child-room Free piece map e limit few = tt
 child-room (Tail rest) piece map e limit few = tt
 child-room (Level keys words) piece map e limit few =
     let same : words.map ≡ map = cc in
@@ -59,21 +56,6 @@ room-gap arena is key (Below at piece) left gap few =
 pub room-in_first : (arena : Arena) → IsArena arena → len (map_of arena) ≤ 4294967295 → (piece : ℕ) → HasRoom (Level 0 arena.root) piece
 room-in_first arena is few piece =
     array-room arena.root piece is.root_limit (let most = level-few arena is [] 0 (pieces []) (record { front = []; inner = tt; way = refl; parts = refl }) arena.root.map refl in omega arith)
-
--- Where nothing has changed, there is as much room.
-pub room-same : (before after : Arena) → IsSame before after → (place : Place) → PlaceHasRoom before place → PlaceHasRoom after place
-room-same before after same (Root piece) room = subst (λ (words : ArrayOf word_order). HasRoom (Level 0 words) piece) (sym same.root) room
-room-same before after same (Below at piece) room = subst (λ items. HasRoom (get_or items at (Free 0)) piece) (sym same.items) room
-
-child-there : (child : Child) (piece value : ℕ) → value_at child piece ≡ Some value → HasRoom child piece
-child-there (Free next) piece value e = tt
-child-there (Tail rest) piece value e = tt
-child-there (Level keys words) piece value e = is_full_present words piece value e
-
--- A level is never full for what it holds.
-pub room-there : (arena : Arena) (place : Place) (value : ℕ) → place_value arena place ≡ Some value → PlaceHasRoom arena place
-room-there arena (Root piece) value e = is_full_present arena.root piece value e
-room-there arena (Below at piece) value e = child-there (child_at arena at) piece value e
 
 -- A new level has room, and one with one entry has room for another.
 pub room-first : (before : ArrayOf word_order) → before ≡ empty_array 18446744073709551615 → len before.map < before.limit

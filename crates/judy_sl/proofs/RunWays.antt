@@ -16,14 +16,15 @@ use Rattle.judy_sl.specs.declared.runs.Run.{Run}
 use Rattle.judy_sl.specs.Pieces.{piece_of, pieces, piece_bytes, spelling, IsFinal, IsInner, AreInner, IsText, SpellKey}
 use Rattle.judy_sl.specs.World.{World, gone, tail, level, step_node, step_entry, walk}
 use Rattle.judy_sl.specs.Worlds.{IsWorld}
-use Rattle.judy_sl.specs.Scans.{upward, meets, IsNone, IsNear, IsTurnAt, IsNeighbour}
+use Rattle.judy_sl.specs.Ways.{seat_in}
+use Rattle.judy_sl.specs.Scans.{upward, meets, IsNone, IsNear, IsTurnOf, IsNeighbour}
 use Rattle.judy_sl.specs.Runs.{AreBeyond, Levels, Passes, LeadAlong, Stands, EntryLeads, LeadsToLevel}
 use Rattle.judy_sl.proofs.PieceLemmas.{text_of_key, text-drop}
 use Rattle.judy_sl.proofs.Ways.{pieces_short, pieces_long, step-parts, walk-behind, walk-more}
 use Rattle.judy_sl.proofs.OnWay.{pieces-head}
 use Rattle.judy_sl.proofs.ScanLevels.{NoneBehind, pieces_last, none_child, none_tail, moved_near, turned_near, turned_none}
 use Rattle.judy_sl.proofs.ScanWays.{AreInner-more}
-use Rattle.judy_sl.proofs.ScanEnds.{OnFollow, key_spelled, place_is, tail_key, follow_level}
+use Rattle.judy_sl.proofs.ScanEnds.{OnFollow, its_pieces, place_is, tail_key, follow_level}
 use Rattle.judy_sl.proofs.PieceBytes.{bytes-piece, spelling-pieces}
 use Rattle.judy_sl.proofs.LevelEntries.{first_of_all}
 
@@ -139,8 +140,8 @@ cut_at (first ∷ front) piece rest key text is = ⊎_elim
 -- ---- to the level behind the first bytes of a key
 
 -- The level of a turn stands there.
-abbrev pub turn_level : (itself : Bool) (world : World) (key : List ℕ) (turn : Turn) (at : IsTurnAt (upward itself) world key turn) → LeadsToLevel world key turn.depth at.map
-turn_level itself world key turn at = record { front = at.front; seat = at.seat; way = at.way; inner = at.inner; is_level = at.is_level; long = at.long; within = at.within; parts = at.parts }
+abbrev pub turn_level : (itself : Bool) (world : World) (key : List ℕ) (turn : Turn) (at : IsTurnOf (upward itself) world key turn) → LeadsToLevel world key turn.depth at.map
+turn_level itself world key turn at = record { front = at.front; seat = seat_in turn.child; way = at.way; inner = at.inner; is_level = at.is_level; long = at.long; within = at.within; parts = at.parts }
 
 -- Levels have been passed, and from the one that was come to, with this rest of the key, others lead to the one that is sought; then so many
 -- bytes are left.
@@ -246,13 +247,13 @@ pub never_tail : (held : List ℕ) (value : ℕ) (map : FinMap word_order ℕ) �
 never_tail held value map is = cc
 
 -- With the levels above, a turn is an entry that leads up.
-pub turn_leads : (itself : Bool) (world : World) (key : List ℕ) (turn : Turn) (at : IsTurnAt (upward itself) world key turn) (above : Levels) (run : Run) → LeadAlong world 0 at.front above at.seat → run.level.now.map ≡ at.map → AreBeyond run.level.now.map turn.piece run.entries → EntryLeads itself world key (turn.piece, turn.value) above run
+pub turn_leads : (itself : Bool) (world : World) (key : List ℕ) (turn : Turn) (at : IsTurnOf (upward itself) world key turn) (above : Levels) (run : Run) → LeadAlong world 0 at.front above (seat_in turn.child) → run.level.now.map ≡ at.map → AreBeyond run.level.now.map turn.piece run.entries → EntryLeads itself world key (turn.piece, turn.value) above run
 turn_leads itself world key turn at above run along is beyond =
-    let depth : turn.depth ≡ 8 * length above = at.long ∙ ap (λ n. 8 * n) (along_long world 0 at.front above at.seat along) in
+    let depth : turn.depth ≡ 8 * length above = at.long ∙ ap (λ n. 8 * n) (along_long world 0 at.front above (seat_in turn.child) along) in
     record {
+      seat = seat_in turn.child;
       at = record {
         front = at.front;
-        seat = at.seat;
         way = at.way;
         inner = at.inner;
         deep = subst (λ n. take n key ≡ spelling at.front) depth at.deep;
@@ -288,7 +289,7 @@ climb_start itself world key entry above run leads =
     let at = leads.at in
     let held : get run.level.now.map entry.0 ≡ Some entry.1 = ap (λ (words : FinMap word_order ℕ). get words entry.0) (same_level run.level.now.map at.map (sym leads.is_level ∙ at.is_level)) ∙ at.held in
     record {
-      on = record { front = at.front; seat = at.seat; way = at.way; inner = at.inner; spells = at.deep; is_level = leads.is_level; held = ap (λ (found : Option ℕ). is_some found) held; near = at.near };
+      on = record { front = at.front; seat = leads.seat; way = at.way; inner = at.inner; spells = at.deep; is_level = leads.is_level; held = ap (λ (found : Option ℕ). is_some found) held; near = at.near };
       along = leads.along;
       entry = held;
       beyond = leads.beyond;
@@ -327,9 +328,6 @@ module _ {itself : Bool} {world : World} {behind : ℕ → List ℕ} (is_world :
         beyond = first.2;
       }
 
-  its_pieces : (rest after : List ℕ) → SpellKey (c.on.front ++ piece ∷ rest) → after ≡ (bytes ++ piece_bytes piece) ++ spelling rest → pieces after ≡ c.on.front ++ piece ∷ rest
-  its_pieces rest after spelled is = ap pieces (is ∙ sym (key_spelled is_world key map piece bytes c.on rest spelled)) ∙ spelled.spells
-
   -- Where a key was found of which nothing else is behind its entry, it stands there.
   stands_there : (rest after : List ℕ) → pieces after ≡ c.on.front ++ piece ∷ rest → NoneBehind (upward false) world c.on.seat piece rest → (held : Bor (ArrayOf word_order)) → held.now.map ≡ map → Stands world after above (record { level = held; entries = others })
   stands_there rest after its none held held_is = record {
@@ -348,7 +346,7 @@ module _ {itself : Bool} {world : World} {behind : ℕ → List ℕ} (is_world :
   pub climb_last : (held : Bor (ArrayOf word_order)) → held.now.map ≡ map → IsFinal piece → Stands world (bytes ++ piece_bytes piece) above (record { level = held; entries = others })
   climb_last held held_is final =
       let spelled = subst (λ place. SpellKey (place ++ piece ∷ [])) (place_is is_world key map piece bytes c.on) ((is_world.levels c.on.seat map c.on.is_level).ends piece value c.entry final) in
-      stands_there [] (bytes ++ piece_bytes piece) (its_pieces [] (bytes ++ piece_bytes piece) spelled (sym (append-nil (bytes ++ piece_bytes piece))))
+      stands_there [] (bytes ++ piece_bytes piece) (its_pieces is_world key map piece bytes c.on [] (bytes ++ piece_bytes piece) spelled (sym (append-nil (bytes ++ piece_bytes piece))))
       (λ ps found are is. ap (λ more. meets (upward false) world [] more) (pieces_last piece ps final are))
       held held_is
 
@@ -357,7 +355,7 @@ module _ {itself : Bool} {world : World} {behind : ℕ → List ℕ} (is_world :
   climb_tail held held_is kept found inner tailed text =
       let spelled = tail_key is_world key map piece bytes c.on value c.entry inner kept found tailed text in
       stands_there (pieces kept) ((bytes ++ piece_bytes piece) ++ kept)
-      (its_pieces (pieces kept) ((bytes ++ piece_bytes piece) ++ kept) spelled (ap (λ more. (bytes ++ piece_bytes piece) ++ more) (sym (spelling-pieces kept text))))
+      (its_pieces is_world key map piece bytes c.on (pieces kept) ((bytes ++ piece_bytes piece) ++ kept) spelled (ap (λ more. (bytes ++ piece_bytes piece) ++ more) (sym (spelling-pieces kept text))))
       (none_child (upward false) world c.on.seat map c.on.is_level piece value (pieces kept) c.entry inner (none_tail (upward false) world (suc value) (pieces kept) (pieces kept) found tailed (unmet world (pieces kept))))
       held held_is
 
@@ -373,9 +371,9 @@ module _ (world : World) (key : List ℕ) (text : IsText key) (above : Levels) (
       let way = along_walk world 0 stands.front above stands.seat stands.along in
       let inner = along_inner world 0 stands.front above stands.seat stands.along in
       record {
+        seat = stands.seat;
         at = record {
           front = stands.front;
-          seat = stands.seat;
           way = way;
           inner = inner;
           deep = ap (λ n. take (8 * n) key) (sym long) ∙ cut.deep;

@@ -7,18 +7,20 @@ use Rattle.std.proofs.lemmas.List.{append_assoc, append-nil, length-append, leng
 use Rattle.judy_model.specs.Keys.{IsWord, IsStringKey, word_order}
 use Rattle.judy_model.proofs.Ascending.{Among}
 use Rattle.judy_model.proofs.KeysLemmas.{length-keys, contains_key-from_among}
+use Rattle.judy_sl.specs.declared.arena.Place.TheVariants.{Below}
 use Rattle.judy_sl.specs.declared.scans.Look.{Look}
 use Rattle.judy_sl.specs.declared.scans.Turn.{Turn}
 use Rattle.judy_sl.specs.Pieces.{piece_of, pieces, piece_bytes, spelling, IsFinal, IsInner, AreInner, ArePieces, IsText, SpellKey}
 use Rattle.judy_sl.specs.World.{World, Node, gone, tail, level, lookup, walk}
+use Rattle.judy_sl.specs.Ways.{seat_in, place_in, HasValue, IsFound}
 use Rattle.judy_sl.specs.Worlds.{IsWorld}
-use Rattle.judy_sl.specs.Scans.{IsFirstEntry, IsNear, IsEnd, IsTurnAt, IsNeighbour}
+use Rattle.judy_sl.specs.Scans.{IsFirstEntry, IsNear, IsEnd, IsTurnOf, IsNeighbour}
 use Rattle.judy_sl.proofs.Ways.{pieces_short, pieces_long, lookup-walk, walk-more, walk-behind}
 use Rattle.judy_sl.proofs.PieceLemmas.{text_of_key, pieces_are, piece_of-lt, text-drop}
 use Rattle.judy_sl.proofs.PieceBytes.{spelling-pieces, spelling-append}
 use Rattle.judy_sl.proofs.ScanLevels.{pieces_rest, at_tail, lookup_final, lookup_inner, end_final, end_tail, end_level}
 use Rattle.judy_sl.proofs.ScanWays.{AreInner-more}
-use Rattle.judy_sl.proofs.OnWay.{pieces-head}
+use Rattle.judy_sl.proofs.OnWay.{pieces-head, pieces-some}
 
 -- ---- each entry begins a key
 
@@ -149,17 +151,19 @@ pub record OnFollow (look : Look) (world : World) (key : List ℕ) (map : FinMap
   pub held : IsTrue (contains_key map piece)
   pub near : (rest : List ℕ) → IsEnd look world seat piece rest → IsNear look world 0 (pieces key) (front ++ piece ∷ rest)
 
--- The same of some level, where the entry has the value.
-pub record Following (look : Look) (world : World) (key : List ℕ) (piece value : ℕ) (bytes : List ℕ) : Type 0 where
+-- The same of the level of a child or the first one, where the entry has the value.
+pub record Following (look : Look) (world : World) (key : List ℕ) (child : Option ℕ) (piece value : ℕ) (bytes : List ℕ) : Type 0 where
   pub map : FinMap word_order ℕ
   pub on : OnFollow look world key map piece bytes
+  pub stands : on.seat ≡ seat_in child
   pub entry : get map piece ≡ Some value
 
 -- At the turn.
-pub follow_start : (look : Look) (world : World) (key : List ℕ) (turn : Turn) → IsTurnAt look world key turn → Following look world key turn.piece turn.value (take turn.depth key)
+pub follow_start : (look : Look) (world : World) (key : List ℕ) (turn : Turn) → IsTurnOf look world key turn → Following look world key turn.child turn.piece turn.value (take turn.depth key)
 follow_start look world key turn at = record {
   map = at.map;
-  on = record { front = at.front; seat = at.seat; way = at.way; inner = at.inner; spells = at.deep; is_level = at.is_level; held = ap (λ (found : Option ℕ). is_some found) at.held; near = at.near };
+  on = record { front = at.front; seat = seat_in turn.child; way = at.way; inner = at.inner; spells = at.deep; is_level = at.is_level; held = ap (λ (found : Option ℕ). is_some found) at.held; near = at.near };
+  stands = refl;
   entry = at.held;
 }
 
@@ -182,11 +186,15 @@ module _ {look : Look} {world : World} {behind : ℕ → List ℕ} (is_world : I
       let within = spelled.is_key.is_bytes_key.within_limit in
       omega arith
 
+  -- Its pieces are then those of the buffer.
+  pub its_pieces : (rest after : List ℕ) → SpellKey (on.front ++ piece ∷ rest) → after ≡ (bytes ++ piece_bytes piece) ++ spelling rest → pieces after ≡ on.front ++ piece ∷ rest
+  its_pieces rest after spelled is = ap pieces (is ∙ sym (key_spelled rest spelled)) ∙ spelled.spells
+
   -- A key whose bytes the buffer then has, and whose value was found, is the neighbour.
   finish : (rest : List ℕ) (value : ℕ) (after : List ℕ) → SpellKey (on.front ++ piece ∷ rest) → IsEnd look world on.seat piece rest → lookup world on.seat (piece ∷ rest) ≡ Some value → after ≡ (bytes ++ piece_bytes piece) ++ spelling rest → IsNeighbour look world key after (Some value)
   finish rest value after spelled end found is =
       let one : after ≡ spelled.key = is ∙ sym (key_spelled rest spelled) in
-      let its : pieces after ≡ on.front ++ piece ∷ rest = ap pieces one ∙ spelled.spells in
+      let its = its_pieces rest after spelled is in
       (subst (IsNear look world 0 (pieces key)) (sym its) (on.near rest end), subst IsStringKey (sym one) spelled.is_key, ap (lookup world 0) its ∙ lookup-walk world 0 on.front on.seat piece rest on.way ∙ found)
 
   -- Where a key ends.
@@ -196,6 +204,29 @@ module _ {look : Look} {world : World} {behind : ℕ → List ℕ} (is_world : I
       (end_final look world on.seat map on.is_level piece value final is)
       (lookup_final world on.seat map on.is_level piece value is)
       (sym (append-nil (bytes ++ piece_bytes piece)))
+
+  -- Its value stands in the level.
+  pub follow_place : (child : Option ℕ) (value : ℕ) → on.seat ≡ seat_in child → IsFinal piece → get map piece ≡ Some value → IsFound world (bytes ++ piece_bytes piece) (place_in child piece)
+  follow_place child value stands final is = by child stands
+    where
+      its : pieces (bytes ++ piece_bytes piece) ≡ on.front ++ piece ∷ []
+      its = its_pieces [] (bytes ++ piece_bytes piece)
+          (subst (λ place. SpellKey (place ++ piece ∷ [])) place_is ((is_world.levels on.seat map on.is_level).ends piece value is final))
+          (sym (append-nil (bytes ++ piece_bytes piece)))
+
+      by : (child : Option ℕ) → on.seat ≡ seat_in child → IsFound world (bytes ++ piece_bytes piece) (place_in child piece)
+      by None stands = record {
+        rest = piece ∷ [];
+        leads = record { front = on.front; inner = on.inner; way = on.way ∙ ap (λ s. Some s) stands; parts = its };
+        value = value;
+        has = subst (λ node. HasValue node piece (piece ∷ []) value) (sym on.is_level ∙ ap world stands) (refl, final, is);
+      }
+      by (Some at) stands = record {
+        rest = piece ∷ [];
+        leads = record { front = on.front; inner = on.inner; way = on.way ∙ ap (λ s. Some s) stands; parts = its };
+        value = value;
+        has = subst (λ node. HasValue node piece (piece ∷ []) value) (sym on.is_level ∙ ap world stands) (refl, final, is);
+      }
 
   module _ (at : ℕ) (is : get map piece ≡ Some at) (inner : IsInner piece) where
     pub leads : (behind (suc at) ≡ on.front ++ piece ∷ []) × (world (suc at) ≢ gone)
@@ -224,6 +255,20 @@ module _ {look : Look} {world : World} {behind : ℕ → List ℕ} (is_world : I
           let end = end_tail look world on.seat map on.is_level piece at value (pieces held) is inner tailed (pieces_are held text) in
           finish (pieces held) value ((bytes ++ piece_bytes piece) ++ held) tail_key end (lookup_inner world on.seat map on.is_level piece at (pieces held) is (pieces_are held text) ∙ at_tail world (suc at) (pieces held) value tailed (pieces_are held text)) (ap (λ more. (bytes ++ piece_bytes piece) ++ more) (sym (spelling-pieces held text)))
 
+      -- Its value stands in the tail.
+      pub follow_tail_place : IsFound world ((bytes ++ piece_bytes piece) ++ held) (Below at 0)
+      follow_tail_place = record {
+        rest = pieces held;
+        leads = record {
+          front = on.front ++ piece ∷ [];
+          inner = AreInner-more on.front piece on.inner inner;
+          way = walk-more world 0 on.front on.seat map piece at on.way on.is_level is;
+          parts = its_pieces (pieces held) ((bytes ++ piece_bytes piece) ++ held) tail_key (ap (λ more. (bytes ++ piece_bytes piece) ++ more) (sym (spelling-pieces held text))) ∙ sym (append_assoc on.front (piece ∷ []) (pieces held));
+        };
+        value = value;
+        has = subst (λ node. HasValue node 0 (pieces held) value) (sym tailed) (refl, pieces-some held, refl);
+      }
+
     -- To a level, which has a first entry.
     module _ (below : FinMap word_order ℕ) (is_below : world (suc at) ≡ level below) where
       pub follow_some : IsFirstEntry look.side below None → ⊥
@@ -241,5 +286,6 @@ module _ {look : Look} {world : World} {behind : ℕ → List ℕ} (is_world : I
         near = λ rest end. subst (IsNear look world 0 (pieces key)) (sym (append_assoc on.front (piece ∷ []) (next ∷ rest))) (on.near (next ∷ rest) (end_level look world on.seat map on.is_level piece at next rest below is inner is_below first end));
       }
 
-      pub follow_down : (next : ℕ × ℕ) → IsFirstEntry look.side below (Some next.0) → get below next.0 ≡ Some next.1 → Following look world key next.0 next.1 (bytes ++ piece_bytes piece)
-      follow_down next first entry = record { map = below; on = follow_level next.0 first; entry = entry }
+      pub follow_down : (next : ℕ × ℕ) → IsFirstEntry look.side below (Some next.0) → get below next.0 ≡ Some next.1 → Following look world key (Some at) next.0 next.1 (bytes ++ piece_bytes piece)
+      unfolding follow_level
+      follow_down next first entry = record { map = below; on = follow_level next.0 first; stands = refl; entry = entry }

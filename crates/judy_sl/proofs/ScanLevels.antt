@@ -13,7 +13,7 @@ use Rattle.judy_sl.specs.declared.scans.Side.{Side}
 use Rattle.judy_sl.specs.declared.scans.Side.TheVariants.{Above, Below}
 use Rattle.judy_sl.specs.declared.scans.Look.{Look}
 use Rattle.judy_sl.specs.Pieces.{IsFinal, IsInner, ArePieces}
-use Rattle.judy_sl.specs.World.{World, gone, tail, level, at_node, at_entry, lookup}
+use Rattle.judy_sl.specs.World.{World, tail, level, at_node, at_entry, lookup}
 use Rattle.judy_sl.specs.Scans.{along, is_beyond, IsNearestEntry, IsFirstEntry, meets, IsNone, IsNear, IsEnd}
 
 -- ---- the order from a side
@@ -126,17 +126,9 @@ at_tail world seat (p ∷ ps) value is are =
     ap (λ node. at_node node p ps (λ at. lookup world (suc at) ps)) is ∙ ap (λ b. cond b (Some value) None) (ap is_eq (tied_itself byte_order_total (p ∷ ps)))
 
 module _ (look : Look) (world : World) where
-  -- ---- a seat without entries
+  -- ---- a tail
 
-  -- Where there is nothing, nothing is met.
-  pub none_gone : (seat : ℕ) (from : List ℕ) → world seat ≡ gone → IsNone look world seat from
-  none_gone seat from is = λ ps value are found. absurd (none-some value (sym (nothing ps) ∙ found))
-    where
-      nothing : (ps : List ℕ) → lookup world seat ps ≡ None
-      nothing [] = refl
-      nothing (p ∷ ps) = ap (λ node. at_node node p ps (λ at. lookup world (suc at) ps)) is
-
-  -- Nor where a tail isn't.
+  -- Where a tail isn't met, nothing is.
   pub none_tail : (seat : ℕ) (from held : List ℕ) (value : ℕ) → world seat ≡ tail held value → IsFalse (meets look world from held) → IsNone look world seat from
   none_tail seat from held value is unmet = λ ps other are found. ap (meets look world from) (sym (tail_only world seat held value is ps other found)) ∙ unmet
 

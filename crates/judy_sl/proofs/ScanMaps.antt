@@ -1,6 +1,7 @@
 -- What a scan of the levels finds is the neighbour in the map.
 use Rattle.std.proofs.Common.{◌≡◌, ℕ, Bool, true, false, not, IsTrue, IsFalse, List, Option, Some, None, is_some, unwrap_or, sym, refl, ap, ◌∙◌, true≢false, is_le}
 use Rattle.std.specs.FinMap.{FinMap, get, contains_key}
+use Rattle.std.proofs.lemmas.Option.{none-some}
 use Rattle.judy_model.specs.Keys.{IsStringKey, byte_order}
 use Rattle.judy_model.proofs.Orders.{le_from_not_lt, lt_from_not_le}
 use Rattle.judy_model.proofs.NearestLemmas.{first_found, first_missing, next_found, next_missing, last_found, last_missing, prev_found, prev_missing}
@@ -60,3 +61,8 @@ module _ (look : Look) (arena : Arena) (key : List ℕ) (text : IsText key) wher
       let also = text_of_key other there.1 in
       ap is_le (sym (bytes_along look.side after other mine also)) ∙ some.0.first (pieces other) there.0 (pieces_are other also) there.2 (meets_bytes other also ∙ met)) in
       (ap (λ one. unwrap_or one key) (sym found), sym has ∙ ap (value_found (map_of arena)) (sym found))
+
+-- Where something was found, it is the value of the key that is then in the buffer.
+pub value_there : (map : FinMap byte_order ℕ) (found : Option (List ℕ)) (value : ℕ) (before after : List ℕ) → Some value ≡ value_found map found → after ≡ unwrap_or found before → get map after ≡ value_found map found
+value_there map None value before after is same = absurd (none-some value (sym is))
+value_there map (Some key) value before after is same = ap (get map) same

@@ -22,20 +22,6 @@ module _ {A : Type 0} (f : ℕ → A) (at : ℕ) (x : A) where
   pub cond-other : (seat : ℕ) → seat ≢ at → cond (seat == at) x (f seat) ≡ f seat
   cond-other seat ne = ap (λ b. cond b x (f seat)) (ne_eqb seat at ne)
 
--- Where two changes don't meet, their order is free.
-pub set_node-comm : (world : World) (at to : ℕ) (one two : Node) → at ≢ to → set_node (set_node world at one) to two ≡ set_node (set_node world to two) at one
-set_node-comm world at to one two apart =
-    λ i seat. by_seat seat i
-  where
-    by_seat : (seat : ℕ) → set_node (set_node world at one) to two seat ≡ set_node (set_node world to two) at one seat
-    by_seat seat = elim (cases_eq seat to) [
-      | inl e ↦ cond-same (set_node world at one) to two seat e ∙ sym (cond-other (set_node world to two) at one seat (λ here. apart (sym here ∙ e)) ∙ cond-same world to two seat e)
-      | inr ne ↦ cond-other (set_node world at one) to two seat ne ∙ elim (cases_eq seat at) [
-        | inl e ↦ cond-same world at one seat e ∙ sym (cond-same (set_node world to two) at one seat e)
-        | inr off ↦ cond-other world at one seat off ∙ sym (cond-other (set_node world to two) at one seat off ∙ cond-other world to two seat ne)
-      ]
-    ]
-
 -- What a node must be behind the pieces of a place.
 abbrev pub NodeFits : World → (ℕ → List ℕ) → List ℕ → Node → Type 0
 NodeFits world behind place gone = ⊥

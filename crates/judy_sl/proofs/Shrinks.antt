@@ -1,31 +1,32 @@
 -- What becomes of an arena where a key is taken out.
 use Rattle.std.proofs.Common.{◌≡◌, ◌≢◌, ℕ, zero, suc, ◌<◌, ◌≤◌, List, [], ◌∷◌, ◌++◌, length, drop, Option, None, Some, is_some, true, inl, inr, refl, sym, ap, subst, ◌∙◌, arith}
 use Rattle.std.proofs.lemmas.Bool.{cases_eq}
+use Rattle.std.proofs.lemmas.Option.{same_Some}
 use Rattle.std.specs.FinMap.{FinMap, get, remove}
 use Rattle.judy_model.specs.Keys.{word_order}
 use Rattle.judy_model.specs.Arrays.{ArrayOf}
-use Rattle.judy_sl.specs.declared.child.Child.{Child}
-use Rattle.judy_sl.specs.declared.child.Child.TheVariants.{Free, Tail, Level}
+use Rattle.judy_sl.specs.Children.{Child, Free, Tail, Level, level_of, IsTaken, IsLevelChild}
 use Rattle.judy_sl.specs.declared.arena.Arena.{Arena}
 use Rattle.judy_sl.specs.declared.arena.Place.{Place}
 use Rattle.judy_sl.specs.declared.arena.Place.TheVariants.{Root, Below}
+use Rattle.judy_sl.specs.declared.child.Level.{Level as LevelParts}
 use Rattle.judy_sl.specs.declared.shrink.Cut.{Cut}
 use Rattle.judy_sl.specs.Pieces.{pieces, piece_of, IsText, ArePieces}
 use Rattle.judy_sl.specs.World.{World, Node, gone, tail, level, lookup, at_entry}
 use Rattle.judy_sl.specs.Worlds.{IsWorld, FitsBehind, AllLed}
-use Rattle.judy_sl.specs.Arenas.{world_of, node_of, child_at, FreesPlaces, IsArena, HasText, HasLimit}
-use Rattle.judy_sl.specs.Places.{IsInside}
+use Rattle.judy_sl.specs.Arenas.{world_of, node_of, child_at, IsArena, HasText, HasLimit}
+use Rattle.judy_sl.specs.Places.{IsLevelPlace}
 use Rattle.judy_sl.specs.Ways.{seat_of, piece_at, left_of}
 use Rattle.judy_sl.specs.Grown.{IsChange}
-use Rattle.judy_sl.specs.Shrunk.{without, child_without, place_without, vacated, EntryLone, NodeLone, IsLone, IsCutChild, IsCutWhere, IsLoose, IsLeft, IsCleared, IsShrunk}
+use Rattle.judy_sl.specs.Shrunk.{without, child_without, place_without, IsVacated, EntryLone, NodeLone, IsLone, IsCutChild, IsCutWhere, IsLoose, IsLeft, IsCleared, IsShrunk}
 use Rattle.judy_sl.proofs.PieceLemmas.{piece-IsFinal, piece-IsInner, text-drop, pieces_are}
 use Rattle.judy_sl.proofs.Ways.{lookup-walk, lookup-level, pieces_short, pieces_long}
-use Rattle.judy_sl.proofs.Seats.{set_node, NodeFits, IsUsed}
+use Rattle.judy_sl.proofs.Seats.{set_node, cond-same, cond-other, NodeFits, IsUsed}
 use Rattle.judy_sl.proofs.OnWay.{pieces-head}
-use Rattle.judy_sl.proofs.Linked.{child_at-same, child_at-other, world-with_child, world-with_root, arena-with_child, arena-with_root, inside_of}
-use Rattle.judy_sl.proofs.Filled.{level-place, place-inside}
+use Rattle.judy_sl.proofs.Linked.{CanHold, world-with_child, world-with_root, arena-with_child, arena-with_root, taken_of}
+use Rattle.judy_sl.proofs.Filled.{level-stands}
+use Rattle.judy_sl.proofs.PlaceKinds.{holds-level}
 use Rattle.judy_sl.proofs.Lone.{lone-found}
-use Rattle.judy_sl.proofs.Reused.{vacated-places, then-freeing}
 use Rattle.judy_sl.proofs.Loose.{freed, freed-world, freed-look, freed-tail, freed-last, freed-on, used-left, fits-here, ends-change, ends-led, on-change, on-loose}
 
 -- ---- a place becomes free
@@ -39,34 +40,38 @@ lone-some : (world : World) (at : ℕ) (ps : List ℕ) → IsLone world at ps �
 lone-some world at [] lone = absurd lone
 lone-some world at (piece ∷ rest) lone = node-some (world (suc at)) piece rest (λ found. IsLone world found rest) lone
 
--- A child at which a key stands is one of the list.
-pub lone-inside : (arena : Arena) (at : ℕ) (ps : List ℕ) → IsLone (world_of arena) at ps → at < length arena.children.items
-lone-inside arena at ps lone = inside_of arena at (lone-some (world_of arena) at ps lone)
+-- Something stands where a key stands.
+pub lone-taken : (arena : Arena) (at : ℕ) (ps : List ℕ) → IsLone (world_of arena) at ps → IsTaken (child_at arena at)
+lone-taken arena at ps lone = taken_of arena at (lone-some (world_of arena) at ps lone)
 
-module _ (arena : Arena) (at : ℕ) (inside : at < length arena.children.items) where
-  vacated-world-at : (seat : ℕ) → world_of (vacated arena at) seat ≡ freed (world_of arena) at seat
-  vacated-world-at zero = ap (λ (w : World). w 0) (world-with_child arena at (Free arena.free) inside)
-  vacated-world-at (suc k) = ap (λ (w : World). w (suc k)) (world-with_child arena at (Free arena.free) inside)
+module _ (arena after : Arena) (at : ℕ) (vacated : IsVacated arena after at) where
+  vacated-world-at : (seat : ℕ) → world_of after seat ≡ freed (world_of arena) at seat
+  vacated-world-at zero = ap (λ (words : ArrayOf word_order). level words.map) vacated.root ∙ sym (cond-other (world_of arena) (suc at) gone 0 (λ e. omega arith))
+  vacated-world-at (suc k) = elim (cases_eq k at) [
+    | inl e ↦ ap (λ n. node_of (child_at after n)) e ∙ ap node_of vacated.here ∙ sym (cond-same (world_of arena) (suc at) gone (suc k) (ap (λ n. suc n) e))
+    | inr apart ↦ ap node_of (vacated.elsewhere k apart) ∙ sym (cond-other (world_of arena) (suc at) gone (suc k) (λ e. apart (omega arith)))
+  ]
 
-  pub vacated-world : world_of (vacated arena at) ≡ freed (world_of arena) at
+  pub vacated-world : world_of after ≡ freed (world_of arena) at
   vacated-world = λ i seat. vacated-world-at seat i
 
-  pub vacated-arena : (is : IsArena arena) (ps : List ℕ) → IsLoose (world_of arena) at ps → IsArena (vacated arena at)
+  -- What holds of a free place, and held of each child, holds.
+  pub vacated-all : (Holds : Child → Type 0) → Holds Free → ((k : ℕ) → Holds (child_at arena k)) → (k : ℕ) → Holds (child_at after k)
+  vacated-all Holds free held k = elim (cases_eq k at) [
+    | inl e ↦ subst Holds (sym (ap (child_at after) e ∙ vacated.here)) free
+    | inr apart ↦ subst Holds (sym (vacated.elsewhere k apart)) (held k)
+  ]
+
+  pub vacated-arena : (is : IsArena arena) (ps : List ℕ) → IsLoose (world_of arena) at ps → IsArena after
   vacated-arena is ps loose = record {
     behind = is.behind;
     is_world = subst (λ w. IsWorld w is.behind) (sym vacated-world) (freed-world (world_of arena) at loose.unled is.behind is.is_world);
-    texts = λ k. elim (cases_eq k at) [
-      | inl e ↦ subst HasText (sym (child_at-same arena at (Free arena.free) inside k e)) tt
-      | inr apart ↦ subst HasText (sym (child_at-other arena at (Free arena.free) inside k apart)) (is.texts k)
-    ];
-    root_limit = is.root_limit;
-    limits = λ k. elim (cases_eq k at) [
-      | inl e ↦ subst HasLimit (sym (child_at-same arena at (Free arena.free) inside k e)) tt
-      | inr apart ↦ subst HasLimit (sym (child_at-other arena at (Free arena.free) inside k apart)) (is.limits k)
-    ];
+    texts = vacated-all HasText tt is.texts;
+    root_limit = ap (λ (words : ArrayOf word_order). words.limit) vacated.root ∙ is.root_limit;
+    limits = vacated-all HasLimit tt is.limits;
   }
 
-  pub vacated-look : (ps : List ℕ) → IsLoose (world_of arena) at ps → (other : List ℕ) → ArePieces other → lookup (world_of (vacated arena at)) 0 other ≡ lookup (world_of arena) 0 other
+  pub vacated-look : (ps : List ℕ) → IsLoose (world_of arena) at ps → (other : List ℕ) → ArePieces other → lookup (world_of after) 0 other ≡ lookup (world_of arena) 0 other
   vacated-look ps loose other are =
       ap (λ (w : World). lookup w 0 other) vacated-world ∙ freed-look (world_of arena) at loose.unled 0 other (λ e. omega arith) are
 
@@ -78,70 +83,62 @@ pub record IsClearing (before now : Arena) (at : ℕ) (rest : List ℕ) : Type 0
   pub text : IsText rest
   pub loose : IsLoose (world_of now) at (pieces rest)
   pub same : (ps : List ℕ) → ArePieces ps → lookup (world_of now) 0 ps ≡ lookup (world_of before) 0 ps
-  pub places : FreesPlaces before now
   pub left : IsLeft before now
 
-module _ (before now after : Arena) (at : ℕ) (rest : List ℕ) (is : IsClearing before now at rest) (child : Child) (child_is : child ≡ child_at now at) (after_is : after ≡ vacated now at) where
-  inside : at < length now.children.items
-  inside = lone-inside now at (pieces rest) is.loose.lone
+-- What stood there, by the level that it was.
+stood-level : (child : Child) (parts : LevelParts) → level_of child ≡ Some parts → node_of child ≡ level parts.words.map
+stood-level Free parts is = absurd (cc)
+stood-level (Tail rest) parts is = absurd (cc)
+stood-level (Level keys words) parts is = ap (λ (l : LevelParts). level l.words.map) (same_Some (record { keys = keys; words = words }) parts is)
 
+module _ (before now after : Arena) (at : ℕ) (rest : List ℕ) (is : IsClearing before now at rest) (vacated : IsVacated now after at) where
   after-world : world_of after ≡ freed (world_of now) at
-  after-world = ap world_of after_is ∙ vacated-world now at inside
+  after-world = vacated-world now after at vacated
 
   after-arena : IsArena after
-  after-arena = subst IsArena (sym after_is) (vacated-arena now at inside is.is_arena (pieces rest) is.loose)
+  after-arena = vacated-arena now after at vacated is.is_arena (pieces rest) is.loose
 
   after-same : (ps : List ℕ) → ArePieces ps → lookup (world_of after) 0 ps ≡ lookup (world_of before) 0 ps
-  after-same ps are = ap (λ (a : Arena). lookup (world_of a) 0 ps) after_is ∙ vacated-look now at inside (pieces rest) is.loose ps are ∙ is.same ps are
-
-  pub after-places : FreesPlaces before after
-  after-places =
-      then-freeing before now after is.places
-      (subst (FreesPlaces now) (sym after_is) (vacated-places now at inside (lone-some (world_of now) at (pieces rest) is.loose.lone)))
+  after-same ps are = vacated-look now after at vacated (pieces rest) is.loose ps are ∙ is.same ps are
 
   after-child : (k : ℕ) → node_of (child_at after k) ≢ gone → child_at after k ≡ child_at before k
-  after-child k there =
-      let moved = ap (λ (a : Arena). child_at a k) after_is in
-      elim (cases_eq k at) [
-        | inl e ↦ absurd (there (ap node_of (moved ∙ child_at-same now at (Free now.free) inside k e)))
-        | inr apart ↦
-            let stays = moved ∙ child_at-other now at (Free now.free) inside k apart in
-            stays ∙ is.left.children k (λ none. there (ap node_of stays ∙ none))
-      ]
+  after-child k there = elim (cases_eq k at) [
+    | inl e ↦ absurd (there (ap (λ n. node_of (child_at after n)) e ∙ ap node_of vacated.here))
+    | inr apart ↦
+        let stays = vacated.elsewhere k apart in
+        stays ∙ is.left.children k (λ none. there (ap node_of stays ∙ none))
+  ]
 
   after-left : IsLeft before after
-  after-left = record { root = ap (λ (a : Arena). a.root) after_is ∙ is.left.root; children = after-child }
+  after-left = record { root = vacated.root ∙ is.left.root; children = after-child }
 
   cleared : AllLed (freed (world_of now) at) → IsCleared before after
   cleared led = record { is_arena = after-arena; led = subst AllLed (sym after-world) led; same = after-same; left = after-left }
 
-  node-is : world_of now (suc at) ≡ node_of child
-  node-is = ap node_of (sym child_is)
-
-  no-level : (c : Child) → world_of now (suc at) ≡ node_of c → ((keys : ℕ) (words : ArrayOf word_order) → c ≡ Level keys words → ⊥) → AllLed (freed (world_of now) at)
-  no-level (Free next) e other = absurd (lone-some (world_of now) at (pieces rest) is.loose.lone e)
-  no-level (Tail kept) e other = freed-tail (world_of now) at (pieces rest) is.loose (pieces kept.0) kept.1 e
-  no-level (Level keys words) e other = absurd (other keys words refl)
+  no-level : (child : Child) → world_of now (suc at) ≡ node_of child → level_of child ≡ None → AllLed (freed (world_of now) at)
+  no-level Free e none = absurd (lone-some (world_of now) at (pieces rest) is.loose.lone e)
+  no-level (Tail kept) e none = freed-tail (world_of now) at (pieces rest) is.loose (pieces kept.0) kept.1 e
+  no-level (Level keys words) e none = absurd (cc)
 
   -- A tail was the end.
-  pub cleared-tail : ((keys : ℕ) (words : ArrayOf word_order) → child ≡ Level keys words → ⊥) → IsCleared before after
-  cleared-tail other = cleared (no-level child node-is other)
+  pub cleared-tail : level_of (child_at now at) ≡ None → IsCleared before after
+  cleared-tail none = cleared (no-level (child_at now at) refl none)
 
-  module _ (words : ArrayOf word_order) (keys : ℕ) (level_is : child ≡ Level keys words) where
-    level-is : world_of now (suc at) ≡ level words.map
-    level-is = node-is ∙ ap node_of level_is
+  module _ (parts : LevelParts) (stood : level_of (child_at now at) ≡ Some parts) where
+    level-is : world_of now (suc at) ≡ level parts.words.map
+    level-is = stood-level (child_at now at) parts stood
 
-    lone-is : (ps : List ℕ) → pieces rest ≡ piece_of rest ∷ ps → NodeLone (level words.map) (piece_of rest) ps (λ found. IsLone (world_of now) found ps)
+    lone-is : (ps : List ℕ) → pieces rest ≡ piece_of rest ∷ ps → NodeLone (level parts.words.map) (piece_of rest) ps (λ found. IsLone (world_of now) found ps)
     lone-is ps e = subst (λ n. NodeLone n (piece_of rest) ps (λ found. IsLone (world_of now) found ps)) level-is (subst (IsLone (world_of now) at) e is.loose.lone)
 
     -- A level under whose piece the key ends was the end.
     pub cleared-last : length rest < 8 → IsCleared before after
     cleared-last short =
         let lone = lone-is [] (pieces_short rest short) in
-        cleared (freed-last (world_of now) at (pieces rest) is.loose words.map level-is (piece_of rest) lone.0 (piece-IsFinal rest is.text short))
+        cleared (freed-last (world_of now) at (pieces rest) is.loose parts.words.map level-is (piece_of rest) lone.0 (piece-IsFinal rest is.text short))
 
     -- It goes on.
-    pub clearing-on : 8 ≤ length rest → (next : ℕ) → get words.map (piece_of rest) ≡ Some next → IsClearing before after next (drop 8 rest)
+    pub clearing-on : 8 ≤ length rest → (next : ℕ) → get parts.words.map (piece_of rest) ≡ Some next → IsClearing before after next (drop 8 rest)
     clearing-on long next entry =
         let h = pieces-head (drop 8 rest) in
         let lone = lone-is (piece_of (drop 8 rest) ∷ h.0) (pieces_long rest long ∙ ap (λ ps. piece_of rest ∷ ps) h.1) in
@@ -150,13 +147,12 @@ module _ (before now after : Arena) (at : ℕ) (rest : List ℕ) (is : IsClearin
         record {
           is_arena = after-arena;
           text = text;
-          loose = subst (λ w. IsLoose w next (pieces (drop 8 rest))) (sym after-world) (freed-on (world_of now) at (pieces rest) is.loose words.map level-is (piece_of rest) lone.0 next (pieces (drop 8 rest)) entry (piece-IsInner rest is.text long) (pieces_are (drop 8 rest) text) (subst (IsLone (world_of now) next) (sym h.1) on));
+          loose = subst (λ w. IsLoose w next (pieces (drop 8 rest))) (sym after-world) (freed-on (world_of now) at (pieces rest) is.loose parts.words.map level-is (piece_of rest) lone.0 next (pieces (drop 8 rest)) entry (piece-IsInner rest is.text long) (pieces_are (drop 8 rest) text) (subst (IsLone (world_of now) next) (sym h.1) on));
           same = after-same;
-          places = after-places;
           left = after-left;
         }
 
-    pub clearing-some : 8 ≤ length rest → get words.map (piece_of rest) ≡ None → ⊥
+    pub clearing-some : 8 ≤ length rest → get parts.words.map (piece_of rest) ≡ None → ⊥
     clearing-some long none =
         let lone = lone-is (pieces (drop 8 rest)) (pieces_long rest long) in
         subst (λ o. EntryLone o (pieces (drop 8 rest)) (λ found. IsLone (world_of now) found (pieces (drop 8 rest)))) none lone.1
@@ -164,27 +160,39 @@ module _ (before now after : Arena) (at : ℕ) (rest : List ℕ) (is : IsClearin
 -- ---- an entry is taken out
 
 limit-without : (child : Child) (piece : ℕ) → HasLimit child → HasLimit (child_without child piece)
-limit-without (Free next) piece has = has
+limit-without Free piece has = has
 limit-without (Tail rest) piece has = has
 limit-without (Level keys words) piece has = has
 
 text-without : (child : Child) (piece : ℕ) → HasText child → HasText (child_without child piece)
-text-without (Free next) piece has = has
+text-without Free piece has = has
 text-without (Tail rest) piece has = has
 text-without (Level keys words) piece has = has
 
 node-without : (child : Child) (piece : ℕ) (map : FinMap word_order ℕ) → node_of child ≡ level map → node_of (child_without child piece) ≡ level (remove map piece)
-node-without (Free next) piece map e = cc
+node-without Free piece map e = cc
 node-without (Tail rest) piece map e = cc
 node-without (Level keys words) piece map e = let same : words.map ≡ map = cc in ap (λ (m : FinMap word_order ℕ). level (remove m piece)) same
 
+-- What is put in the place of a level is a level.
+level-without : (child : Child) (piece : ℕ) → IsLevelChild child → IsLevelChild (child_without child piece)
+level-without Free piece is = is
+level-without (Tail rest) piece is = is
+level-without (Level keys words) piece is = is
+
+pub can-without : (arena : Arena) (at piece : ℕ) → IsLevelChild (child_at arena at) → CanHold arena at (child_without (child_at arena at) piece)
+can-without arena at piece is = holds-level arena at (child_without (child_at arena at) piece) (level-without (child_at arena at) piece is) is
+
 module _ (arena : Arena) (map : FinMap word_order ℕ) where
+  can-at : (at piece : ℕ) → world_of arena (suc at) ≡ level map → CanHold arena at (child_without (child_at arena at) piece)
+  can-at at piece is = can-without arena at piece (level-stands arena (Below at piece) map is)
+
   pub world-without : (place : Place) → world_of arena (seat_of place) ≡ level map → world_of (place_without arena place) ≡ set_node (world_of arena) (seat_of place) (level (remove map (piece_at place)))
   world-without (Root piece) is =
       let same : arena.root.map ≡ map = cc in
       world-with_root arena (without arena.root piece) ∙ ap (λ (m : FinMap word_order ℕ). set_node (world_of arena) 0 (level (remove m piece))) same
   world-without (Below at piece) is =
-      world-with_child arena at (child_without (child_at arena at) piece) (inside_of arena at (λ none. let g : gone ≡ level map = sym none ∙ is in cc))
+      world-with_child arena at (child_without (child_at arena at) piece) (can-at at piece is)
       ∙ ap (set_node (world_of arena) (suc at)) (node-without (child_at arena at) piece map is)
 
   pub arena-without : (is : IsArena arena) (place : Place) → world_of arena (seat_of place) ≡ level map → FitsBehind (world_of arena) is.behind (is.behind (seat_of place)) (remove map (piece_at place)) → IsUsed (seat_of place) (level (remove map (piece_at place))) → IsArena (place_without arena place)
@@ -193,13 +201,14 @@ module _ (arena : Arena) (map : FinMap word_order ℕ) where
       arena-with_root arena (without arena.root piece) is is.root_limit (subst (λ (m : FinMap word_order ℕ). FitsBehind (world_of arena) is.behind (is.behind 0) (remove m piece)) (sym same) fits)
   arena-without is (Below at piece) e fits used =
       let node = node-without (child_at arena at) piece map e in
-      arena-with_child arena at (child_without (child_at arena at) piece) (inside_of arena at (λ none. let g : gone ≡ level map = sym none ∙ e in cc)) is (text-without (child_at arena at) piece (is.texts at)) (limit-without (child_at arena at) piece (is.limits at)) (subst (NodeFits (world_of arena) is.behind (is.behind (suc at))) (sym node) fits) (subst (IsUsed (suc at)) (sym node) used)
+      arena-with_child arena at (child_without (child_at arena at) piece) (can-at at piece e) is (text-without (child_at arena at) piece (is.texts at)) (limit-without (child_at arena at) piece (is.limits at)) (subst (NodeFits (world_of arena) is.behind (is.behind (suc at))) (sym node) fits) (subst (IsUsed (suc at)) (sym node) used)
 
 -- ---- the whole
 
 module _ (arena : Arena) (is : IsArena arena) (all : AllLed (world_of arena)) (key : List ℕ) (cut : Cut) (cut_is : IsCutWhere (Unit {0}) (world_of arena) key cut) where
-  pub cut-inside : IsInside arena cut.place
-  cut-inside = place-inside arena cut.place (level-place arena cut.place cut_is.map cut_is.is_level)
+  -- A level stands where the key is cut off.
+  pub cut-level : IsLevelPlace arena cut.place
+  cut-level = level-stands arena cut.place cut_is.map cut_is.is_level
 
   child-found : (piece : ℕ) (rest : List ℕ) (below : Option ℕ) → IsCutChild (world_of arena) key cut_is.map piece rest below cut.left (Unit {0}) → (value : ℕ) × (at_entry (get cut_is.map piece) rest (λ at. lookup (world_of arena) (suc at) rest) ≡ Some value)
   child-found piece rest None is = (is.2.0, ap (λ ps. at_entry (get cut_is.map piece) ps (λ at. lookup (world_of arena) (suc at) ps)) is.0 ∙ ap (λ o. at_entry o [] (λ at. lookup (world_of arena) (suc at) [])) is.2.1)

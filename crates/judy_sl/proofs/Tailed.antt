@@ -6,28 +6,27 @@ use Rattle.std.proofs.lemmas.List.{append_assoc, length-drop}
 use Rattle.std.specs.FinMap.{FinMap, get, insert}
 use Rattle.judy_model.specs.Keys.{word_order, IsStringKey}
 use Rattle.judy_model.specs.Arrays.{ArrayOf}
-use Rattle.judy_sl.specs.declared.child.Child.{Child}
-use Rattle.judy_sl.specs.declared.child.Child.TheVariants.{Tail}
+use Rattle.judy_sl.specs.Children.{Child, Tail, Level, HasRoom}
 use Rattle.judy_sl.specs.declared.arena.Arena.{Arena}
 use Rattle.judy_sl.specs.declared.arena.Place.{Place}
-use Rattle.judy_sl.specs.declared.arena.Place.TheVariants.{Below}
+use Rattle.judy_sl.specs.declared.arena.Place.TheVariants.{Root, Below}
 use Rattle.judy_sl.specs.Pieces.{pieces, IsText, IsInner, IsFinal, SpellKey, ArePieces}
 use Rattle.judy_sl.specs.World.{World, Node, gone, tail, level, lookup, at_entry}
 use Rattle.judy_sl.specs.Worlds.{IsWorld, FitsBehind, AllLed}
 use Rattle.judy_sl.specs.Arenas.{world_of, node_of, child_at, IsArena, HasText, HasLimit}
-use Rattle.judy_sl.specs.Places.{place_with}
+use Rattle.judy_sl.specs.Places.{place_with, PlaceHasRoom}
 use Rattle.judy_sl.specs.Ways.{seat_of, piece_at, LeadsTo, IsFound, IsGap, HasValue, left_of}
-use Rattle.judy_sl.specs.Grown.{IsChange, IsPut, IsAdded, IsSame, next_place}
+use Rattle.judy_sl.specs.Grown.{IsChange, IsPut, IsAdded}
 use Rattle.judy_sl.proofs.PieceLemmas.{piece-IsInner, text-drop}
 use Rattle.judy_sl.proofs.Ways.{look_in, lookup-in, walk-more, tail-same, tail-other, pieces_long}
 use Rattle.judy_sl.proofs.Changes.{way-stays}
-use Rattle.judy_sl.proofs.Seats.{set_node, set_behind, set_node-comm, cond-same, cond-other, IsUsed, keeps, fits-put, put}
+use Rattle.judy_sl.proofs.Seats.{set_node, set_behind, cond-same, cond-other, IsUsed, keeps, fits-put, put}
 use Rattle.judy_sl.proofs.Entries.{changes_behind}
 use Rattle.judy_sl.proofs.OnWay.{pieces-some, inner-more}
 use Rattle.judy_sl.proofs.Written.{behind-leads}
 use Rattle.judy_sl.proofs.Led.{led-put}
 use Rattle.judy_sl.proofs.Linked.{node_with, texts-place, limits-place, root-place, world-with_place, insert-some, get-insert_here, get-insert_off}
-use Rattle.judy_sl.proofs.Filled.{level-place, place-inside, world-same, arena-same, next-stays}
+use Rattle.judy_sl.proofs.Filled.{level-place}
 
 -- A child that was put is at its seat.
 pub world-put : (before after : Arena) (child : Child) (at : ℕ) → IsPut before after child at → world_of after ≡ set_node (world_of before) (suc at) (node_of child)
@@ -39,6 +38,22 @@ world-put before after child at is = λ i seat. by_seat seat i
       | inl e ↦ ap (λ n. node_of (child_at after n)) e ∙ ap node_of is.here ∙ sym (cond-same (world_of before) (suc at) (node_of child) (suc k) (ap (λ n. suc n) e))
       | inr apart ↦ ap node_of (is.elsewhere k apart) ∙ sym (cond-other (world_of before) (suc at) (node_of child) (suc k) (λ e. apart (omega arith)))
     ]
+
+-- A level that stood there before stands there after.
+module _ (before after : Arena) (child : Child) (at : ℕ) (put_is : IsPut before after child at) where
+  put-off : (seat : ℕ) (map : FinMap word_order ℕ) → world_of before seat ≡ level map → seat ≢ suc at
+  put-off seat map is_level e = (let g : level map ≡ gone = sym is_level ∙ ap (world_of before) e ∙ put_is.was_free in cc)
+
+  pub level-put : (seat : ℕ) (map : FinMap word_order ℕ) → world_of before seat ≡ level map → world_of after seat ≡ level map
+  level-put seat map is_level =
+      ap (λ (w : World). w seat) (world-put before after child at put_is)
+      ∙ cond-other (world_of before) (suc at) (node_of child) seat (put-off seat map is_level)
+      ∙ is_level
+
+  -- And it has as much room.
+  pub room-put : (place : Place) (map : FinMap word_order ℕ) → world_of before (seat_of place) ≡ level map → PlaceHasRoom before place → PlaceHasRoom after place
+  room-put (Root piece) map is_level room = subst (λ (words : ArrayOf word_order). HasRoom (Level 0 words) piece) (sym put_is.root) room
+  room-put (Below to piece) map is_level room = subst (λ held. HasRoom held piece) (sym (put_is.elsewhere to (λ e. put-off (suc to) map is_level (ap (λ n. suc n) e)))) room
 
 -- An entry that leads to a new tail, over the seats alone.
 module _ (world : World) (behind : ℕ → List ℕ) (is : IsWorld world behind) (root : FinMap word_order ℕ) (root_is : world 0 ≡ level root) (key : List ℕ) (is_key : IsStringKey key) (seat : ℕ) (piece : ℕ) (held : List ℕ) (some : held ≢ []) (inner : IsInner piece) (leads : LeadsTo world key seat (piece ∷ held)) (map : FinMap word_order ℕ) (is_level : world seat ≡ level map) (absent : get map piece ≡ None) (at : ℕ) (free : world (suc at) ≡ gone) where
@@ -148,90 +163,68 @@ module _ (world : World) (behind : ℕ → List ℕ) (is : IsWorld world behind)
     has = subst (λ n. HasValue n 0 held 0) (sym after-new) (refl, some, refl);
   }
 
--- The same over arenas.
-module _ (arena : Arena) (is : IsArena arena) (key : List ℕ) (is_key : IsStringKey key) (place : Place) (left : ℕ) (gap : IsGap (world_of arena) key place left) (long : 8 ≤ left) (entered after : Arena) (at : ℕ) (entered_is : entered ≡ place_with arena place at) (rest : List ℕ × ℕ) (put_is : IsPut entered after (Tail rest) at) (bytes : rest.0 ≡ drop 8 (left_of key left)) (zero_is : rest.1 ≡ 0) where
+-- The same over arenas: the tail is put in, and then the entry.
+module _ (arena : Arena) (is : IsArena arena) (key : List ℕ) (is_key : IsStringKey key) (place : Place) (left : ℕ) (gap : IsGap (world_of arena) key place left) (long : 8 ≤ left) (placed : Arena) (at : ℕ) (rest : List ℕ × ℕ) (put_is : IsPut arena placed (Tail rest) at) (bytes : rest.0 ≡ drop 8 (left_of key left)) (zero_is : rest.1 ≡ 0) where
   abbrev rest_of : List ℕ
   rest_of = left_of key left
+
+  abbrev held_of : List ℕ
+  held_of = pieces (drop 8 rest_of)
 
   long-rest : 8 ≤ length rest_of
   long-rest = let k = length-drop (length key - left) key in omega (arith, k, gap.within)
 
-  leads-is : LeadsTo (world_of arena) key (seat_of place) (piece_at place ∷ pieces (drop 8 rest_of))
-  leads-is = subst (LeadsTo (world_of arena) key (seat_of place)) (pieces_long rest_of long-rest ∙ ap (λ p. p ∷ pieces (drop 8 rest_of)) (sym gap.next)) gap.leads
+  leads-is : LeadsTo (world_of arena) key (seat_of place) (piece_at place ∷ held_of)
+  leads-is = subst (LeadsTo (world_of arena) key (seat_of place)) (pieces_long rest_of long-rest ∙ ap (λ p. p ∷ held_of) (sym gap.next)) gap.leads
 
   inner-is : IsInner (piece_at place)
   inner-is = subst IsInner (sym gap.next) (piece-IsInner rest_of gap.text long-rest)
 
-  node-is : node_of (Tail rest) ≡ tail (pieces (drop 8 rest_of)) 0
-  node-is = λ i. tail (pieces (bytes i)) (zero_is i)
+  placed-world : world_of placed ≡ set_node (world_of arena) (suc at) (tail held_of 0)
+  placed-world =
+      world-put arena placed (Tail rest) at put_is
+      ∙ λ i. set_node (world_of arena) (suc at) (tail (pieces (bytes i)) (zero_is i))
 
-  entered-world : world_of entered ≡ set_node (world_of arena) (seat_of place) (level (insert gap.map (piece_at place) at))
-  entered-world =
-      ap world_of entered_is
-      ∙ world-with_place arena place at (place-inside arena place (level-place arena place gap.map gap.is_level))
-      ∙ ap (λ n. set_node (world_of arena) (seat_of place) (node_with n (piece_at place) at)) gap.is_level
+  level-there : world_of placed (seat_of place) ≡ level gap.map
+  level-there = level-put arena placed (Tail rest) at put_is (seat_of place) gap.map gap.is_level
 
-  seat-off : seat_of place ≢ suc at
-  seat-off e =
-      let g : level (insert gap.map (piece_at place) at) ≡ gone =
-      sym (cond-same (world_of arena) (seat_of place) (level (insert gap.map (piece_at place) at)) (suc at) (sym e))
-      ∙ sym (ap (λ (w : World). w (suc at)) entered-world)
-      ∙ put_is.was_free in
-      cc
-
-  free-is : world_of arena (suc at) ≡ gone
-  free-is =
-      sym (cond-other (world_of arena) (seat_of place) (level (insert gap.map (piece_at place) at)) (suc at) (λ e. seat-off (sym e)))
-      ∙ sym (ap (λ (w : World). w (suc at)) entered-world)
-      ∙ put_is.was_free
-
-  after-is : world_of after ≡ set_node (set_node (world_of arena) (suc at) (tail (pieces (drop 8 rest_of)) 0)) (seat_of place) (level (insert gap.map (piece_at place) at))
+  after-is : world_of (place_with placed place at) ≡ set_node (set_node (world_of arena) (suc at) (tail held_of 0)) (seat_of place) (level (insert gap.map (piece_at place) at))
   after-is =
-      world-put entered after (Tail rest) at put_is
-      ∙ ap (λ (w : World). set_node w (suc at) (node_of (Tail rest))) entered-world
-      ∙ ap (set_node (set_node (world_of arena) (seat_of place) (level (insert gap.map (piece_at place) at))) (suc at)) node-is
-      ∙ set_node-comm (world_of arena) (seat_of place) (suc at) (level (insert gap.map (piece_at place) at)) (tail (pieces (drop 8 rest_of)) 0) seat-off
+      world-with_place placed place at (level-place placed place gap.map level-there)
+      ∙ ap (λ n. set_node (world_of placed) (seat_of place) (node_with n (piece_at place) at)) level-there
+      ∙ ap (λ (w : World). set_node w (seat_of place) (level (insert gap.map (piece_at place) at))) placed-world
 
-  pub fills-tail : IsText rest.0 → IsAdded arena after key (Below at 0)
+  texts-placed : IsText rest.0 → (k : ℕ) → HasText (child_at placed k)
+  texts-placed text k = elim (cases_eq k at) [
+    | inl e ↦ subst HasText (sym (ap (child_at placed) e ∙ put_is.here)) text
+    | inr apart ↦ subst HasText (sym (put_is.elsewhere k apart)) (is.texts k)
+  ]
+
+  limits-placed : (k : ℕ) → HasLimit (child_at placed k)
+  limits-placed k = elim (cases_eq k at) [
+    | inl e ↦ subst HasLimit (sym (ap (child_at placed) e ∙ put_is.here)) tt
+    | inr apart ↦ subst HasLimit (sym (put_is.elsewhere k apart)) (is.limits k)
+  ]
+
+  pub fills-tail : IsText rest.0 → IsAdded arena (place_with placed place at) key (Below at 0)
   fills-tail text =
-      let inside = place-inside arena place (level-place arena place gap.map gap.is_level) in
-      let texts = texts-place arena at place inside is.texts in
-      let limits = limits-place arena at place inside is.limits in
+      let there = level-place placed place gap.map level-there in
       let world = world_of arena in
-      let held = pieces (drop 8 rest_of) in
       record {
         is_arena = record {
-          behind = behind_after world is.behind is.is_world arena.root.map refl key is_key (seat_of place) (piece_at place) held (pieces-some (drop 8 rest_of)) inner-is leads-is gap.map gap.is_level gap.absent at free-is;
-          is_world = subst (λ w. IsWorld w (behind_after world is.behind is.is_world arena.root.map refl key is_key (seat_of place) (piece_at place) held (pieces-some (drop 8 rest_of)) inner-is leads-is gap.map gap.is_level gap.absent at free-is)) (sym after-is) (after-world world is.behind is.is_world arena.root.map refl key is_key (seat_of place) (piece_at place) held (pieces-some (drop 8 rest_of)) inner-is leads-is gap.map gap.is_level gap.absent at free-is);
-          texts = λ k. elim (cases_eq k at) [
-            | inl e ↦ subst HasText (sym (ap (child_at after) e ∙ put_is.here)) text
-            | inr apart ↦ subst HasText (sym (put_is.elsewhere k apart ∙ ap (λ a. child_at a k) entered_is)) (texts k)
-          ];
-          root_limit = ap (λ (words : ArrayOf word_order). words.limit) (put_is.root ∙ ap (λ (a : Arena). a.root) entered_is) ∙ root-place arena at place ∙ is.root_limit;
-          limits = λ k. elim (cases_eq k at) [
-            | inl e ↦ subst HasLimit (sym (ap (child_at after) e ∙ put_is.here)) tt
-            | inr apart ↦ subst HasLimit (sym (put_is.elsewhere k apart ∙ ap (λ a. child_at a k) entered_is)) (limits k)
-          ];
+          behind = behind_after world is.behind is.is_world arena.root.map refl key is_key (seat_of place) (piece_at place) held_of (pieces-some (drop 8 rest_of)) inner-is leads-is gap.map gap.is_level gap.absent at put_is.was_free;
+          is_world = subst (λ w. IsWorld w (behind_after world is.behind is.is_world arena.root.map refl key is_key (seat_of place) (piece_at place) held_of (pieces-some (drop 8 rest_of)) inner-is leads-is gap.map gap.is_level gap.absent at put_is.was_free)) (sym after-is) (after-world world is.behind is.is_world arena.root.map refl key is_key (seat_of place) (piece_at place) held_of (pieces-some (drop 8 rest_of)) inner-is leads-is gap.map gap.is_level gap.absent at put_is.was_free);
+          texts = texts-place placed at place there (texts-placed text);
+          root_limit = root-place placed at place ∙ ap (λ (words : ArrayOf word_order). words.limit) put_is.root ∙ is.root_limit;
+          limits = limits-place placed at place there limits-placed;
         };
-        led = λ all. subst AllLed (sym after-is) (led-put world at (tail held 0) (seat_of place) gap.map (piece_at place) free-is gap.is_level inner-is (λ to entry. none-some to (sym gap.absent ∙ entry)) (get-insert_here gap.map (piece_at place) at) all);
-        change = subst (λ w. IsChange world w (pieces key) (Some 0)) (sym after-is) (subst (λ ps. IsChange world (tailed_after world is.behind is.is_world arena.root.map refl key is_key (seat_of place) (piece_at place) held (pieces-some (drop 8 rest_of)) inner-is leads-is gap.map gap.is_level gap.absent at free-is) ps (Some 0)) (sym leads-is.parts) (tail-change world is.behind is.is_world arena.root.map refl key is_key (seat_of place) (piece_at place) held (pieces-some (drop 8 rest_of)) inner-is leads-is gap.map gap.is_level gap.absent at free-is));
-        found = subst (λ w. IsFound w key (Below at 0)) (sym after-is) (tail-found world is.behind is.is_world arena.root.map refl key is_key (seat_of place) (piece_at place) held (pieces-some (drop 8 rest_of)) inner-is leads-is gap.map gap.is_level gap.absent at free-is);
+        led = λ all. subst AllLed (sym after-is) (led-put world at (tail held_of 0) (seat_of place) gap.map (piece_at place) put_is.was_free gap.is_level inner-is (λ to entry. none-some to (sym gap.absent ∙ entry)) (get-insert_here gap.map (piece_at place) at) all);
+        change = subst (λ w. IsChange world w (pieces key) (Some 0)) (sym after-is) (subst (λ ps. IsChange world (tailed_after world is.behind is.is_world arena.root.map refl key is_key (seat_of place) (piece_at place) held_of (pieces-some (drop 8 rest_of)) inner-is leads-is gap.map gap.is_level gap.absent at put_is.was_free) ps (Some 0)) (sym leads-is.parts) (tail-change world is.behind is.is_world arena.root.map refl key is_key (seat_of place) (piece_at place) held_of (pieces-some (drop 8 rest_of)) inner-is leads-is gap.map gap.is_level gap.absent at put_is.was_free));
+        found = subst (λ w. IsFound w key (Below at 0)) (sym after-is) (tail-found world is.behind is.is_world arena.root.map refl key is_key (seat_of place) (piece_at place) held_of (pieces-some (drop 8 rest_of)) inner-is leads-is gap.map gap.is_level gap.absent at put_is.was_free);
       }
 
--- A key that is added to an arena in which nothing had changed is added to the arena before.
-pub added-same : (before same after : Arena) (key : List ℕ) (place : Place) → IsSame before same → IsAdded same after key place → IsAdded before after key place
-added-same before same after key at is added = record {
-  is_arena = added.is_arena;
-  led = λ all. added.led (subst AllLed (sym (world-same before same is)) all);
-  change = subst (λ w. IsChange w (world_of after) (pieces key) (Some 0)) (world-same before same is) added.change;
-  found = added.found;
-}
-
 -- The whole of it, as the steps of the code come.
-pub filled-tail : (before reserved entered after : Arena) (key : List ℕ) (place : Place) (left at put_at : ℕ) (rest : List ℕ × ℕ) → IsArena before → IsStringKey key → IsGap (world_of before) key place left → 8 ≤ left → IsSame before reserved → at ≡ next_place reserved → entered ≡ place_with reserved place at → put_at ≡ next_place entered → IsPut entered after (Tail rest) put_at → rest.0 ≡ drop 8 (left_of key left) → rest.1 ≡ 0 → IsAdded before after key (Below at 0)
-filled-tail before reserved entered after key place left at put_at rest is is_key gap long same at_is entered_is put_at_is put_is bytes value =
-    let gap_there : IsGap (world_of reserved) key place left = subst (λ w. IsGap w key place left) (sym (world-same before reserved same)) gap in
-    let here : put_at ≡ at = put_at_is ∙ ap next_place entered_is ∙ next-stays reserved place at ∙ sym at_is in
-    added-same before reserved after key (Below at 0) same (
-    fills-tail reserved (arena-same before reserved same is) key is_key place left gap_there long entered after at entered_is rest (subst (IsPut entered after (Tail rest)) here put_is) bytes value (subst IsText (sym bytes) (text-drop 8 (left_of key left) gap_there.text))
-    )
+pub filled-tail : (before placed after : Arena) (key : List ℕ) (place : Place) (left at : ℕ) (rest : List ℕ × ℕ) → IsArena before → IsStringKey key → IsGap (world_of before) key place left → 8 ≤ left → IsPut before placed (Tail rest) at → after ≡ place_with placed place at → rest.0 ≡ drop 8 (left_of key left) → rest.1 ≡ 0 → IsAdded before after key (Below at 0)
+filled-tail before placed after key place left at rest is is_key gap long put_is after_is bytes value =
+    subst (λ a. IsAdded before a key (Below at 0)) (sym after_is)
+    (fills-tail before is key is_key place left gap long placed at rest put_is bytes value (subst IsText (sym bytes) (text-drop 8 (left_of key left) gap.text)))

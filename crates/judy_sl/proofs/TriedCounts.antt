@@ -1,5 +1,5 @@
 -- What levels tell where a key was tried as one whose first piece leads nowhere.
-use Rattle.std.proofs.Common.{◌≡◌, ℕ, Bool, true, false, not, if◌then◌else◌, List, length, None, refl, ap}
+use Rattle.std.proofs.Common.{◌≡◌, ℕ, Bool, true, false, not, if◌then◌else◌, List, length, None, refl}
 use Rattle.std.specs.FinMap.{FinMap, get, insert, contains_key}
 use Rattle.judy_model.specs.Keys.{word_order, IsStringKey}
 use Rattle.judy_model.specs.Arrays.{ArrayOf, with_map}
@@ -7,12 +7,13 @@ use Rattle.judy_word.specs.Held.{with_new}
 use Rattle.judy_sl.specs.declared.arena.Arena.{Arena}
 use Rattle.judy_sl.specs.declared.arena.Place.{Place}
 use Rattle.judy_sl.specs.declared.arena.Place.TheVariants.{Root}
+use Rattle.judy_sl.specs.Children.{Tail}
 use Rattle.judy_sl.specs.Pieces.{piece_of}
 use Rattle.judy_sl.specs.Worlds.{AllLed}
 use Rattle.judy_sl.specs.Arenas.{world_of, IsArena}
 use Rattle.judy_sl.specs.Counted.{AreCounted}
-use Rattle.judy_sl.specs.Grown.{IsTailPut, IsAdded}
-use Rattle.judy_sl.proofs.Tried.{first-gap}
+use Rattle.judy_sl.specs.Grown.{IsPut, IsAdded}
+use Rattle.judy_sl.proofs.Tried.{first-gap, put-first, after-first}
 use Rattle.judy_sl.proofs.Growing.{grows-tail, gap-first}
 
 -- A word that is there stays with its value.
@@ -24,9 +25,9 @@ put-present map word value = elim (contains_key map word) as (λ (held : Bool). 
 
 -- No level is on the way of a key whose first piece is new, so each tells how many keys stand behind it.
 module _ (arena : Arena) (is : IsArena arena) (led : AllLed (world_of arena)) (counted : AreCounted arena) (key : List ℕ) (is_key : IsStringKey key) (piece : ℕ) (piece_is : piece ≡ piece_of key) (none : get arena.root.map piece ≡ None) where
-  pub tried-counted : (words : ArrayOf word_order) (after : Arena) (at put_at : ℕ) (rest : List ℕ) (made : Place) → words ≡ with_map arena.root (insert arena.root.map piece at) → IsTailPut (record arena { root = words }) after rest put_at → IsAdded arena after key made → AreCounted after
-  tried-counted words after at put_at rest made words_is put added =
+  pub tried-counted : (words : ArrayOf word_order) (after : Arena) (at : ℕ) (rest : List ℕ × ℕ) (made : Place) → words ≡ with_map arena.root (insert arena.root.map piece at) → IsPut (record arena { root = words }) after (Tail rest) at → IsAdded arena after key made → AreCounted after
+  tried-counted words after at rest made words_is put added =
       let gap = first-gap arena is key is_key piece piece_is none in
       gap-first arena is led counted key is_key (Root piece) (length key) gap after made added (
-      grows-tail arena key (Root piece) (length key) gap arena (record arena { root = words }) after at put_at put.0 (record { root = refl; items = refl }) (ap (λ root. record arena { root = root }) words_is) put.2
+      grows-tail arena key (Root piece) (length key) gap (record after { root = arena.root }) after at rest (put-first arena is key is_key piece piece_is none words after at rest words_is put) (after-first arena is key is_key piece piece_is none words after at rest words_is put)
       ) refl

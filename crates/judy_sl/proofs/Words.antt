@@ -1,7 +1,5 @@
 -- An array all of whose seats have words as values.
-use Rattle.std.proofs.Common.{◌≡◌, ℕ, zero, suc, ◌<◌, ◌≤◌, Bool, true, false, cond, List, [], ◌∷◌, length, Option, Some, None, sym, subst, ⊎_elim, arith}
-use Rattle.std.proofs.lemmas.Bool.{cases_lt}
-use Rattle.std.proofs.lemmas.List.{get_or_past}
+use Rattle.std.proofs.Common.{◌≡◌, ℕ, zero, suc, ◌≤◌, ◌/◌, Bool, true, false, cond, List, [], ◌∷◌, Option, Some, None, refl, subst, arith}
 use Rattle.std.proofs.lemmas.Option.{none-some}
 use Rattle.std.specs.FinMap.{get}
 use Rattle.std.specs.Ordering.{eq_by_cmp}
@@ -9,13 +7,15 @@ use Rattle.judy_model.specs.Keys.{IsWord, IsStringKey, byte_order}
 use Rattle.judy_model.specs.Arrays.{IsArrayOf, judysl, IsArray}
 use Rattle.judy_model.proofs.KeptLemmas.{holds-IsArrayOf, words_hold}
 use Rattle.judy_model.proofs.TableLemmas.{string_keys-all, byte_order_total, table_some}
-use Rattle.judy_sl.specs.declared.child.Child.{Child}
-use Rattle.judy_sl.specs.declared.child.Child.TheVariants.{Free}
+use Rattle.slab.specs.Slab as slab
+use Rattle.judy_tails.specs.Tails.{tail_at}
+use Rattle.judy_sl.specs.Children.{is_level, level_child, tail_child}
+use Rattle.judy_sl.specs.declared.child.Level.{Level as LevelParts}
 use Rattle.judy_sl.specs.declared.arena.Arena.{Arena}
 use Rattle.judy_sl.specs.Pieces.{pieces}
 use Rattle.judy_sl.specs.World.{World, Node, gone, tail, level, lookup, at_node, at_entry}
 use Rattle.judy_sl.specs.Words.{HasWords}
-use Rattle.judy_sl.specs.Arenas.{world_of, node_of, child_at, array_of, IsStrings}
+use Rattle.judy_sl.specs.Arenas.{world_of, node_of, array_of, IsStrings}
 
 module _ (P : ℕ → Type 0) where
   if-one : (b : Bool) (held value : ℕ) → P held → cond b (Some held) None ≡ Some value → P value
@@ -53,10 +53,21 @@ words-array limit count arena is words =
 pub strings-kept : (limit count : ℕ) (arena : Arena) → IsStrings limit count arena → (key : List ℕ) (value : ℕ) → get (array_of limit arena).map key ≡ Some value → IsStringKey key
 strings-kept limit count arena is key value held = (table_some string_keys-all (λ k. lookup (world_of arena) 0 (pieces k)) key value held).0
 
--- The first level and the children are all seats.
-pub children-words : (arena : Arena) → IsArrayOf IsWord arena.root → ((at : ℕ) → at < length arena.children.items → HasWords (node_of (child_at arena at))) → (seat : ℕ) → HasWords (world_of arena seat)
-children-words arena root each zero = λ piece value held. (words_hold arena.root piece value root held).1
-children-words arena root each (suc at) = ⊎_elim
-    (λ inside. each at inside)
-    (λ past. subst (λ (child : Child). HasWords (node_of child)) (sym (get_or_past arena.children.items at (Free 0) past)) tt)
-    (cases_lt at (length arena.children.items))
+-- So each level,
+level-words : (found : Option LevelParts) → ((parts : LevelParts) → found ≡ Some parts → IsArrayOf IsWord parts.words) → HasWords (node_of (level_child found))
+level-words None each = tt
+level-words (Some parts) each = λ piece value held. (words_hold parts.words piece value (each parts refl) held).1
+
+-- and each tail.
+tail-words : (found : Option (List ℕ × ℕ)) → ((rest : List ℕ × ℕ) → found ≡ Some rest → IsWord rest.1) → HasWords (node_of (tail_child found))
+tail-words None each = tt
+tail-words (Some rest) each = each rest refl
+
+-- The first level, the others and the tails are all seats.
+pub seats-words : (arena : Arena) → IsArrayOf IsWord arena.root → ((key : ℕ) (parts : LevelParts) → slab.get arena.levels key ≡ Some parts → IsArrayOf IsWord parts.words) → ((place : ℕ) (rest : List ℕ × ℕ) → tail_at arena.tails place ≡ Some rest → IsWord rest.1) → (seat : ℕ) → HasWords (world_of arena seat)
+seats-words arena root levels tails zero = λ piece value held. (words_hold arena.root piece value root held).1
+seats-words arena root levels tails (suc at) = by (is_level at)
+  where
+    by : (b : Bool) → HasWords (node_of (cond b (level_child (slab.get arena.levels (at / 256))) (tail_child (tail_at arena.tails at))))
+    by true = level-words (slab.get arena.levels (at / 256)) (levels (at / 256))
+    by false = tail-words (tail_at arena.tails at) (tails at)

@@ -1,8 +1,7 @@
 -- A value that is written where the key's value stands.
 use Rattle.std.proofs.Common.{◌≡◌, ◌≢◌, ℕ, zero, suc, List, [], ◌∷◌, ◌++◌, Some, refl, sym, ap, subst, ◌∙◌}
 use Rattle.std.specs.FinMap.{insert}
-use Rattle.judy_sl.specs.declared.child.Child.{Child}
-use Rattle.judy_sl.specs.declared.child.Child.TheVariants.{Free, Tail, Level}
+use Rattle.judy_sl.specs.Children.{Child, Free, Tail, Level}
 use Rattle.judy_sl.specs.declared.arena.Arena.{Arena}
 use Rattle.judy_sl.specs.declared.arena.Place.{Place}
 use Rattle.judy_sl.specs.declared.arena.Place.TheVariants.{Root, Below}
@@ -11,14 +10,14 @@ use Rattle.judy_sl.specs.World.{World, Node, gone, tail, level, lookup, at_entry
 use Rattle.judy_sl.specs.Worlds.{IsWorld, AllLed}
 use Rattle.judy_sl.specs.Arenas.{world_of, node_of, child_at, IsArena}
 use Rattle.judy_sl.specs.Children.{value_at, IsTaken}
-use Rattle.judy_sl.specs.Places.{IsInside, IsPlace, place_with, place_value}
+use Rattle.judy_sl.specs.Places.{IsPlace, place_with, place_value}
 use Rattle.judy_sl.specs.Ways.{seat_of, piece_at, HasValue, IsFound, LeadsTo}
 use Rattle.judy_sl.proofs.Ways.{look_in, lookup-walk, walk-behind, tail-same}
 use Rattle.judy_sl.proofs.Seats.{set_node, cond-same, cond-other, NodeFits, IsUsed}
 use Rattle.judy_sl.specs.Grown.{IsChange}
 use Rattle.judy_sl.proofs.Entries.{changes_tail, changes_value}
 use Rattle.judy_sl.proofs.Led.{KeepsEntries, keeps-none, keeps-insert, led-set}
-use Rattle.judy_sl.proofs.Linked.{node_with, inside_of, world-with_place, place-with_arena, fits-insert, insert-some, get-insert_here, get-insert_off}
+use Rattle.judy_sl.proofs.Linked.{node_with, world-with_place, place-with_arena, fits-insert, insert-some, get-insert_here, get-insert_off}
 
 -- The seat to which a key leads has its pieces behind it.
 pub behind-leads : (world : World) (behind : ℕ → List ℕ) → IsWorld world behind → (key : List ℕ) (seat : ℕ) (rest : List ℕ) (leads : LeadsTo world key seat rest) → behind seat ≡ leads.front
@@ -32,7 +31,7 @@ apart-leads world behind is key seat rest leads node at some off =
 
 module _ (arena : Arena) (is : IsArena arena) (key : List ℕ) (place : Place) (found : IsFound (world_of arena) key place) where
   value-child : (child : Child) (piece : ℕ) (rest : List ℕ) (value : ℕ) → HasValue (node_of child) piece rest value → value_at child piece ≡ Some value
-  value-child (Free next) piece rest value has = absurd has
+  value-child Free piece rest value has = absurd has
   value-child (Tail kept) piece rest value has = ap (λ v. Some v) has.2
   value-child (Level keys words) piece rest value has = has.2
 
@@ -49,21 +48,14 @@ module _ (arena : Arena) (is : IsArena arena) (key : List ℕ) (place : Place) (
   some-node (tail held v) piece rest value has e = cc
   some-node (level map) piece rest value has e = cc
 
-  inside-place : (p : Place) (rest : List ℕ) (value : ℕ) → HasValue (world_of arena (seat_of p)) (piece_at p) rest value → IsInside arena p
-  inside-place (Root piece) rest value has = tt
-  inside-place (Below at piece) rest value has = inside_of arena at (some-node (node_of (child_at arena at)) piece rest value has)
-
-  pub inside-there : IsInside arena place
-  inside-there = inside-place place found.rest found.value found.has
-
   taken-child : (child : Child) (piece : ℕ) (rest : List ℕ) (value : ℕ) → HasValue (node_of child) piece rest value → IsTaken child
-  taken-child (Free next) piece rest value has = absurd has
+  taken-child Free piece rest value has = absurd has
   taken-child (Tail kept) piece rest value has = tt
   taken-child (Level keys words) piece rest value has = tt
 
   taken-place : (p : Place) (rest : List ℕ) (value : ℕ) → HasValue (world_of arena (seat_of p)) (piece_at p) rest value → IsPlace arena p
   taken-place (Root piece) rest value has = tt
-  taken-place (Below at piece) rest value has = (inside-place (Below at piece) rest value has, taken-child (child_at arena at) piece rest value has)
+  taken-place (Below at piece) rest value has = taken-child (child_at arena at) piece rest value has
 
   -- Something stands there.
   pub place-there : IsPlace arena place
@@ -103,7 +95,7 @@ module _ (arena : Arena) (is : IsArena arena) (key : List ℕ) (place : Place) (
 
     -- The arena stays one.
     pub written-arena : IsArena (place_with arena place value)
-    written-arena = place-with_arena arena is place value inside-there (fits-node (world_of arena (seat_of place)) refl found.has) (used-node (seat_of place) (world_of arena (seat_of place)) found.has)
+    written-arena = place-with_arena arena is place value place-there (fits-node (world_of arena (seat_of place)) refl found.has) (used-node (seat_of place) (world_of arena (seat_of place)) found.has)
 
     keeps-node : (node : Node) → HasValue node (piece_at place) found.rest found.value → KeepsEntries node (node_with node (piece_at place) value)
     keeps-node gone has = absurd has
@@ -114,7 +106,7 @@ module _ (arena : Arena) (is : IsArena arena) (key : List ℕ) (place : Place) (
     pub written-led : AllLed (world_of arena) → AllLed (world_of (place_with arena place value))
     written-led all =
         let node = world_of arena (seat_of place) in
-        subst AllLed (sym (world-with_place arena place value inside-there)) (led-set (world_of arena) (seat_of place) (node_with node (piece_at place) value) (keeps-node node found.has) (some-node node (piece_at place) found.rest found.value found.has) all)
+        subst AllLed (sym (world-with_place arena place value place-there)) (led-set (world_of arena) (seat_of place) (node_with node (piece_at place) value) (keeps-node node found.has) (some-node node (piece_at place) found.rest found.value found.has) all)
 
     change-node : (node : Node) → world_of arena (seat_of place) ≡ node → HasValue node (piece_at place) found.rest found.value → IsChange (world_of arena) (set_node (world_of arena) (seat_of place) (node_with node (piece_at place) value)) (found.leads.front ++ found.rest) (Some value)
     change-node gone e has = absurd has
@@ -133,4 +125,4 @@ module _ (arena : Arena) (is : IsArena arena) (key : List ℕ) (place : Place) (
     -- And the key has the value.
     pub written-change : IsChange (world_of arena) (world_of (place_with arena place value)) (pieces key) (Some value)
     written-change =
-        subst (λ w. IsChange (world_of arena) w (pieces key) (Some value)) (sym (world-with_place arena place value inside-there)) (subst (λ l. IsChange (world_of arena) other l (Some value)) (sym found.leads.parts) (change-node (world_of arena (seat_of place)) refl found.has))
+        subst (λ w. IsChange (world_of arena) w (pieces key) (Some value)) (sym (world-with_place arena place value place-there)) (subst (λ l. IsChange (world_of arena) other l (Some value)) (sym found.leads.parts) (change-node (world_of arena (seat_of place)) refl found.has))

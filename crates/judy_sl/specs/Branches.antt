@@ -25,7 +25,7 @@ entry_of (Some twig) value = 0
 -- What goes on behind the first piece of a rest.
 abbrev pub IsTwig : List ℕ → ℕ → Option Twig → Type 0
 IsTwig rest value None = length rest < 8
-IsTwig rest value (Some twig) = (8 ≤ length rest) × (twig.piece ≡ piece_of rest) × (twig.rest.0 ≡ drop 8 rest) × (twig.rest.1 ≡ value)
+IsTwig rest value (Some twig) = (8 ≤ length rest) × (twig.piece ≡ piece_of rest) × (twig.rest.now ≡ drop 8 rest) × (twig.value ≡ value)
 
 -- The first piece of a rest was put into a level.
 pub record IsSprout (before after : ArrayOf word_order) (rest : List ℕ) (value : ℕ) (twig : Option Twig) : Type 0 where
@@ -43,6 +43,8 @@ pub record IsBuilt (tail : List ℕ) (value : ℕ) (key : List ℕ) (branch : Br
   pub rest_parts : pieces key ≡ keys_of branch.upper.items ++ pieces rest
   pub held_text : IsText held
   pub rest_text : IsText rest
+  pub held_short : length held ≤ length tail
+  pub rest_short : length rest ≤ length key
   pub differ : piece_of held ≢ piece_of rest
   pub middle : ArrayOf word_order
   pub old : IsSprout (empty_array 18446744073709551615) middle held value branch.old

@@ -1,48 +1,70 @@
--- What a child becomes, for whatever is left in a slot of it.
-use Rattle.std.specs.Prelude.{ℕ, IsFalse, Option, Some, None, Result}
-use Rattle.std.specs.Borrow.{LendsIf, LendsIfOk, MutBor, Fml, u64}
+-- What stands at a place, and what it becomes.
+use Rattle.std.specs.Prelude.{◌≡◌, ℕ, ◌%◌, ◌/◌, ◌==◌, Bool, cond, IsFalse, List, Option, Some, None}
 use Rattle.std.specs.FinMap.{get}
-use Rattle.judy_model.specs.Arrays.{ins, is_full}
+use Rattle.judy_model.specs.Keys.{word_order}
+use Rattle.judy_model.specs.Arrays.{ArrayOf, is_full}
 use Rattle.judy_word.specs.Writes.{with_value}
-use Rattle.judy_sl.specs.declared.child.Child.{Child}
-use Rattle.judy_sl.specs.declared.child.Child.TheVariants.{Free, Tail, Level}
-use Rattle.judy_sl.specs.declared.error.SlError.{SlError}
-use Rattle.judy_sl.specs.contracts.child.Child.{the_row}
+use Rattle.judy_sl.specs.declared.child.Level.{Level as LevelParts}
+use Rattle.judy_sl.specs.declared.child.ChildRef.{ChildRef}
+use Rattle.judy_sl.specs.declared.child.ChildRef.TheVariants as seen
+
+-- Nothing; a tail, the rest of one key with the key's value; or a level, with the number of keys behind it.
+pub data Child : Type 0 where
+  Free : Child
+  Tail : List ℕ × ℕ → Child
+  Level : ℕ → ArrayOf word_order → Child
+
+-- Whether a place is one for levels.
+abbrev pub is_level : ℕ → Bool
+is_level place = place % 256 == 255
+
+-- What the list of levels has.
+abbrev pub level_child : Option LevelParts → Child
+level_child None = Free
+level_child (Some parts) = Level parts.keys parts.words
+
+-- What the lists of tails have.
+abbrev pub tail_child : Option (List ℕ × ℕ) → Child
+tail_child None = Free
+tail_child (Some rest) = Tail rest
+
+-- What is read is what stands there.
+abbrev pub IsRefTo : Child → ChildRef → Type 0
+IsRefTo child (seen.Tail tail) = child ≡ Tail tail
+IsRefTo child (seen.Level parts) = child ≡ Level parts.now.keys parts.now.words
 
 -- The child with a value written at a piece of a level, or as the value of a tail.
 abbrev pub child_with : Child → ℕ → ℕ → Child
-child_with (Free next) piece value = Free next
+child_with Free piece value = Free
 child_with (Tail rest) piece value = Tail ((rest.0, value))
 child_with (Level keys words) piece value = Level keys (with_value words piece value)
 
 -- The value that is there.
 abbrev pub value_at : Child → ℕ → Option ℕ
-value_at (Free next) piece = None
+value_at Free piece = None
 value_at (Tail rest) piece = Some rest.1
 value_at (Level keys words) piece = get words.map piece
 
--- The child ends with the value that is left behind the slot written at the piece, where there is a slot.
-abbrev pub LendsChild : MutBor Child → ℕ → Option (MutBor ℕ) → Fml
-LendsChild child piece slot = LendsIf the_row u64 child slot (child_with child.now piece) child.now
-
--- The same where the insert succeeds.
-abbrev pub LendsChildOk : MutBor Child → ℕ → Result (MutBor ℕ) SlError → Fml
-LendsChildOk child piece slot = LendsIfOk the_row u64 child slot (child_with child.now piece) child.now
-
--- The value that is there once the piece is put in: 0 where it is new.
-abbrev pub value_in : Child → ℕ → Option ℕ
-value_in (Free next) piece = None
-value_in (Tail rest) piece = Some rest.1
-value_in (Level keys words) piece = get (ins words.map piece) piece
-
--- The place isn't free.
+-- Something stands there.
 abbrev pub IsTaken : Child → Type 0
-IsTaken (Free next) = ⊥
+IsTaken Free = ⊥
 IsTaken (Tail rest) = Unit {0}
 IsTaken (Level keys words) = Unit {0}
 
+-- A level stands there.
+abbrev pub IsLevelChild : Child → Type 0
+IsLevelChild Free = ⊥
+IsLevelChild (Tail rest) = ⊥
+IsLevelChild (Level keys words) = Unit {0}
+
 -- A level isn't full for the piece.
 abbrev pub HasRoom : Child → ℕ → Type 0
-HasRoom (Free next) piece = Unit {0}
+HasRoom Free piece = Unit {0}
 HasRoom (Tail rest) piece = Unit {0}
 HasRoom (Level keys words) piece = IsFalse (is_full words piece)
+
+-- The level that stood there, where one did.
+abbrev pub level_of : Child → Option LevelParts
+level_of Free = None
+level_of (Tail rest) = None
+level_of (Level keys words) = Some (record { keys = keys; words = words })

@@ -1,15 +1,15 @@
 -- How many keys stand behind each seat, and what levels tell of that.
-use Rattle.std.specs.Prelude.{◌≡◌, ℕ, suc, Bool, true, false, List, length}
+use Rattle.std.specs.Prelude.{◌≡◌, ◌≢◌, ℕ, suc, Bool, true, false, List, length}
 use Rattle.std.specs.List.{flat_map}
 use Rattle.std.specs.declared.cmp.Ordering.{Ordering}
 use Rattle.std.specs.Ordering.{is_lt, is_le}
 use Rattle.std.specs.FinMap.{FinMap, len}
 use Rattle.judy_model.specs.Keys.{word_order, byte_order}
 use Rattle.judy_model.specs.Counts.{rank, count_up_to}
-use Rattle.judy_sl.specs.declared.child.Child.{Child}
-use Rattle.judy_sl.specs.declared.child.Child.TheVariants.{Free, Tail, Level}
+use Rattle.judy_sl.specs.Children.{Child, Free, Tail, Level}
 use Rattle.judy_sl.specs.declared.arena.Arena.{Arena}
-use Rattle.judy_sl.specs.World.{World, level}
+use Rattle.judy_sl.specs.Pieces.{IsInner}
+use Rattle.judy_sl.specs.World.{World, gone, level}
 use Rattle.judy_sl.specs.Behind.{map_behind, entry_keys}
 use Rattle.judy_sl.specs.Arenas.{world_of, child_at}
 use Rattle.judy_sl.specs.Ways.{LeadsTo}
@@ -32,15 +32,13 @@ abbrev pub ranked : Bool → FinMap byte_order ℕ → List ℕ → ℕ
 ranked false all key = rank all key
 ranked true all key = count_up_to all key
 
--- How many keys a child tells: a level has the number, and a tail is the end of one key.
-abbrev pub keys_of : Child → ℕ
-keys_of (Free next) = 0
-keys_of (Tail rest) = 1
-keys_of (Level keys words) = keys
+-- What an entry of a level leads to is there.
+abbrev pub LeadsOn : World → ℕ × ℕ → Type 0
+LeadsOn world entry = IsInner entry.0 → world (suc entry.1) ≢ gone
 
 -- The number that a level tells is to another as a relation says; nothing is asked of what is no level.
 abbrev pub LevelTells : (ℕ → ℕ → Type 0) → Child → ℕ → Type 0
-LevelTells is_to (Free next) keys = Unit {0}
+LevelTells is_to Free keys = Unit {0}
 LevelTells is_to (Tail rest) keys = Unit {0}
 LevelTells is_to (Level told words) keys = is_to told keys
 

@@ -5,7 +5,6 @@ use Rattle.std.specs.FinMap.{FinMap, get}
 use Rattle.judy_model.specs.Arrays.{ArrayOf}
 use Rattle.judy_model.specs.Keys.{word_order}
 use Rattle.judy_sl.specs.declared.scans.Side.TheVariants.{Above}
-use Rattle.judy_sl.specs.declared.scans.Turn.{Turn}
 use Rattle.judy_sl.specs.declared.runs.Run.{Run}
 use Rattle.judy_sl.specs.Pieces.{IsInner, AreInner, ArePieces, pieces}
 use Rattle.judy_sl.specs.World.{World, level, lookup, walk}
@@ -51,15 +50,12 @@ pub record Stands (world : World) (key : List ℕ) (above : Levels) (run : Run) 
   pub beyond : AreBeyond run.level.now.map piece run.entries
   pub none : (ps : List ℕ) (value : ℕ) → ArePieces (piece ∷ ps) → lookup world seat (piece ∷ ps) ≡ Some value → IsFalse (meets (upward false) world rest ps)
 
--- The turn at an entry of a level behind so many bytes.
-abbrev pub turn_to : ℕ × ℕ → ℕ → Turn
-turn_to entry depth = record { piece = entry.0; value = entry.1; depth = depth }
-
 -- At an entry of the level of a run is the turn above a key, and the run has those beyond it.
 pub record EntryLeads (itself : Bool) (world : World) (key : List ℕ) (entry : ℕ × ℕ) (above : Levels) (run : Run) : Type 0 where
-  pub at : IsTurnAt (upward itself) world key (turn_to entry (8 * length above))
-  pub along : LeadAlong world 0 at.front above at.seat
-  pub is_level : world at.seat ≡ level run.level.now.map
+  pub seat : ℕ
+  pub at : IsTurnAt (upward itself) world key seat entry.0 entry.1 (8 * length above)
+  pub along : LeadAlong world 0 at.front above seat
+  pub is_level : world seat ≡ level run.level.now.map
   pub beyond : AreBeyond run.level.now.map entry.0 run.entries
 
 -- At the entry that is next is the turn above a key; or no key is above it, and it stands in the level of the run.

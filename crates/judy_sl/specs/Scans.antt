@@ -12,8 +12,10 @@ use Rattle.judy_sl.specs.declared.scans.Side.{Side}
 use Rattle.judy_sl.specs.declared.scans.Side.TheVariants.{Above, Below}
 use Rattle.judy_sl.specs.declared.scans.Look.{Look}
 use Rattle.judy_sl.specs.declared.scans.Turn.{Turn}
+use Rattle.judy_sl.specs.declared.scans.Found.{Found}
 use Rattle.judy_sl.specs.Pieces.{AreInner, ArePieces, pieces, spelling}
 use Rattle.judy_sl.specs.World.{World, level, lookup, walk}
+use Rattle.judy_sl.specs.Ways.{seat_in, IsFound}
 
 -- The order of pieces from one side: what is met first comes first.
 abbrev pub along : Side → ℕ → ℕ → Ordering
@@ -65,10 +67,18 @@ piece_in entry = option_map (λ entry. entry.0) entry
 abbrev pub IsEntryOf : FinMap word_order ℕ → Option (ℕ × ℕ) → Type 0
 IsEntryOf map entry = IfSome entry (λ entry. get map entry.0 ≡ Some entry.1)
 
--- The turn at an entry where there is one, and else the turn before.
-abbrev pub turn_or : Option (ℕ × ℕ) → ℕ → Option Turn → Option Turn
-turn_or None depth turn = turn
-turn_or (Some entry) depth turn = Some (record { piece = entry.0; value = entry.1; depth = depth })
+-- The turn at an entry where there is one, of the first level or that of a child, and else the turn before.
+abbrev pub turn_or : Option ℕ → Option (ℕ × ℕ) → ℕ → Option Turn → Option Turn
+turn_or child None depth turn = turn
+turn_or child (Some entry) depth turn = Some (record { child = child; piece = entry.0; value = entry.1; depth = depth })
+
+-- The value that was found.
+abbrev pub value_in : Option Found → Option ℕ
+value_in found = option_map (λ (one : Found). one.value) found
+
+-- These bytes are a key, whose value stands at the place that was found.
+abbrev pub StandsAt : World → List ℕ → Option Found → Type 0
+StandsAt world key found = IfSome found (λ (one : Found). IsStringKey key × IsFound world key one.place)
 
 module _ (look : Look) (world : World) where
   -- Whether pieces are met from others.
@@ -94,26 +104,29 @@ module _ (look : Look) (world : World) where
     pub found : lookup world seat (piece ∷ rest) ≡ Some value
     pub first : (ps : List ℕ) (value : ℕ) → ArePieces (piece ∷ ps) → lookup world seat (piece ∷ ps) ≡ Some value → IsTrue (is_le (slice_cmp (along look.side) rest ps))
 
-  -- The turn is at an entry of a level, behind the front of a key, eight bytes a piece, and the first of the keys behind
-  -- that entry is met first of all.
-  pub record IsTurnAt (key : List ℕ) (turn : Turn) : Type 0 where
+  -- A turn is at an entry of the level of a seat, behind the front of a key, eight bytes a piece, and the first of the keys
+  -- behind that entry is met first of all.
+  pub record IsTurnAt (key : List ℕ) (seat piece value depth : ℕ) : Type 0 where
     pub front : List ℕ
-    pub seat : ℕ
     pub way : walk world 0 front ≡ Some seat
     pub inner : AreInner front
-    pub deep : take turn.depth key ≡ spelling front
-    pub long : turn.depth ≡ 8 * length front
-    pub within : turn.depth ≤ length key
-    pub parts : (piece : ℕ) × (rest : List ℕ) × (pieces key ≡ front ++ piece ∷ rest)
+    pub deep : take depth key ≡ spelling front
+    pub long : depth ≡ 8 * length front
+    pub within : depth ≤ length key
+    pub parts : (next : ℕ) × (rest : List ℕ) × (pieces key ≡ front ++ next ∷ rest)
     pub map : FinMap word_order ℕ
     pub is_level : world seat ≡ level map
-    pub held : get map turn.piece ≡ Some turn.value
-    pub near : (rest : List ℕ) → IsEnd seat turn.piece rest → IsNear 0 (pieces key) (front ++ turn.piece ∷ rest)
+    pub held : get map piece ≡ Some value
+    pub near : (rest : List ℕ) → IsEnd seat piece rest → IsNear 0 (pieces key) (front ++ piece ∷ rest)
+
+  -- The turn is there.
+  abbrev pub IsTurnOf : List ℕ → Turn → Type 0
+  IsTurnOf key turn = IsTurnAt key (seat_in turn.child) turn.piece turn.value turn.depth
 
   -- There is a turn, or no key is met.
   abbrev pub IsTurn : List ℕ → Option Turn → Type 0
   IsTurn key None = IsNone 0 (pieces key)
-  IsTurn key (Some turn) = IsTurnAt key turn
+  IsTurn key (Some turn) = IsTurnOf key turn
 
   -- A scan leaves the key that is met first, and answers its value; or none is met, and the key stays.
   abbrev pub IsNeighbour : List ℕ → List ℕ → Option ℕ → Type 0

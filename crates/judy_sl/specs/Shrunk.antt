@@ -3,8 +3,7 @@ use Rattle.std.specs.Prelude.{◌≡◌, ◌≢◌, ℕ, suc, ◌+◌, ◌≤◌
 use Rattle.std.specs.FinMap.{FinMap, get, len}
 use Rattle.judy_model.specs.Keys.{word_order}
 use Rattle.judy_model.specs.Arrays.{ArrayOf, with_map, del}
-use Rattle.judy_sl.specs.declared.child.Child.{Child}
-use Rattle.judy_sl.specs.declared.child.Child.TheVariants.{Free, Tail, Level}
+use Rattle.judy_sl.specs.Children.{Child, Free, Tail, Level}
 use Rattle.judy_sl.specs.declared.arena.Arena.{Arena}
 use Rattle.judy_sl.specs.declared.arena.Place.{Place}
 use Rattle.judy_sl.specs.declared.arena.Place.TheVariants.{Root, Below}
@@ -23,7 +22,7 @@ without words piece = with_map words (del words.map piece)
 
 -- A child without an entry of its level; a tail has none.
 abbrev pub child_without : Child → ℕ → Child
-child_without (Free next) piece = Free next
+child_without Free piece = Free
 child_without (Tail rest) piece = Tail rest
 child_without (Level keys words) piece = Level keys (without words piece)
 
@@ -32,9 +31,11 @@ abbrev pub place_without : Arena → Place → Arena
 place_without arena (Root piece) = record arena { root = without arena.root piece }
 place_without arena (Below at piece) = with_child arena at (child_without (child_at arena at) piece)
 
--- A place was made free, the first one to be used again.
-abbrev pub vacated : Arena → ℕ → Arena
-vacated arena at = record (with_child arena at (Free arena.free)) { free = at; spare = arena.spare + 1 }
+-- Nothing stands at a place any more, and all else stays.
+pub record IsVacated (before after : Arena) (at : ℕ) : Type 0 where
+  pub here : child_at after at ≡ Free
+  pub elsewhere : (k : ℕ) → k ≢ at → child_at after k ≡ child_at before k
+  pub root : after.root ≡ before.root
 
 -- ---- one key alone
 

@@ -1,8 +1,7 @@
 -- What a child becomes where a key is counted in behind it, or out, and how the way of a key goes on from a seat.
 use Rattle.std.specs.Prelude.{ℕ, ◌<◌, ◌≤◌, ◌+◌, ◌-◌, Bool, true, false, Option, None}
 use Rattle.std.specs.FinMap.{get}
-use Rattle.judy_sl.specs.declared.child.Child.{Child}
-use Rattle.judy_sl.specs.declared.child.Child.TheVariants.{Free, Tail, Level}
+use Rattle.judy_sl.specs.Children.{Child, Free, Tail, Level}
 use Rattle.judy_sl.specs.World.{Node, gone, tail, level}
 
 -- A number that is stepped: one more where a key comes, and one less where one goes.
@@ -12,7 +11,7 @@ stepped false keys = keys - 1
 
 -- The child with its number stepped, where it is a level.
 abbrev pub child_stepped : Bool → Child → Child
-child_stepped comes (Free next) = Free next
+child_stepped comes Free = Free
 child_stepped comes (Tail rest) = Tail rest
 child_stepped comes (Level keys words) = Level (stepped comes keys) words
 
@@ -23,7 +22,7 @@ CanStep false keys = 1 ≤ keys
 
 -- The number of a child can be stepped, where it is a level.
 abbrev pub ChildCanStep : Bool → Child → Type 0
-ChildCanStep comes (Free next) = Unit {0}
+ChildCanStep comes Free = Unit {0}
 ChildCanStep comes (Tail rest) = Unit {0}
 ChildCanStep comes (Level keys words) = CanStep comes keys
 
@@ -32,3 +31,9 @@ abbrev pub entry_under : Node → ℕ → Option ℕ
 entry_under gone piece = None
 entry_under (tail held value) piece = None
 entry_under (level map) piece = get map piece
+
+-- A level stands there.
+abbrev pub IsLevelSeat : Node → Type 0
+IsLevelSeat gone = ⊥
+IsLevelSeat (tail held value) = ⊥
+IsLevelSeat (level map) = Unit {0}

@@ -7,7 +7,7 @@ use Rattle.judy_sl.specs.declared.arena.Place.{Place}
 use Rattle.judy_sl.specs.declared.arena.Place.TheVariants.{Root, Below}
 use Rattle.judy_sl.specs.declared.arena.Way.{Way}
 use Rattle.judy_sl.specs.declared.arena.Way.TheVariants.{At, Gap, Clash}
-use Rattle.judy_sl.specs.Pieces.{pieces, piece_of, IsFinal, IsText, AreInner}
+use Rattle.judy_sl.specs.Pieces.{pieces, piece_of, IsInner, IsFinal, IsText, AreInner}
 use Rattle.judy_sl.specs.World.{World, Node, gone, tail, level, walk}
 use Rattle.judy_sl.specs.Arenas.{world_of}
 
@@ -71,8 +71,13 @@ pub record IsGap (world : World) (key : List ℕ) (place : Place) (left : ℕ) :
   pub next : piece_at place ≡ piece_of (left_of key left)
   pub absent : get map (piece_at place) ≡ None
 
--- The way comes to a tail of another key, so many bytes before the key's end.
-pub record IsClash (world : World) (key : List ℕ) (at left : ℕ) : Type 0 where
+-- The way comes by an entry of a level, that of a place, to a tail of another key, so many bytes before the key's end.
+pub record IsClash (world : World) (key : List ℕ) (from : Place) (at left : ℕ) : Type 0 where
+  pub map : FinMap word_order ℕ
+  pub is_level : world (seat_of from) ≡ level map
+  pub inner : IsInner (piece_at from)
+  pub entry : get map (piece_at from) ≡ Some at
+  pub leads_from : LeadsTo world key (seat_of from) (piece_at from ∷ pieces (left_of key left))
   pub within : left ≤ length key
   pub leads : LeadsTo world key (suc at) (pieces (left_of key left))
   pub text : IsText (left_of key left)
@@ -85,7 +90,7 @@ pub record IsClash (world : World) (key : List ℕ) (at left : ℕ) : Type 0 whe
 abbrev pub IsWay : Arena → List ℕ → Way → Type 0
 IsWay arena key (At place) = IsFound (world_of arena) key place
 IsWay arena key (Gap place left) = IsGap (world_of arena) key place left
-IsWay arena key (Clash at left) = IsClash (world_of arena) key at left
+IsWay arena key (Clash from at left) = IsClash (world_of arena) key from at left
 
 -- It ends in the first level, which has no entry for the key's first piece.
 abbrev pub ends_at_first : Place → Bool
@@ -95,10 +100,10 @@ ends_at_first (Below at piece) = false
 abbrev pub ends_first : Way → Bool
 ends_first (At place) = false
 ends_first (Gap place left) = ends_at_first place
-ends_first (Clash at left) = false
+ends_first (Clash from at left) = false
 
 -- The way ends without the key's value.
 abbrev pub IsNew : Way → Type 0
 IsNew (At place) = ⊥
 IsNew (Gap place left) = Unit {0}
-IsNew (Clash at left) = Unit {0}
+IsNew (Clash from at left) = Unit {0}

@@ -1,32 +1,36 @@
-//! All levels and tails of an array: the first level, and the others in one list.
+//! All levels and tails of an array: the first level, the others in a list, and the tails in records by their length.
 
-ghost use Rattle.std.specs.Prelude.{◌≡◌, ◌<◌, [], length, Some, None, IfOk, OnOk, IfErr, OnErr};
+ghost use Rattle.std.specs.Prelude.{◌≡◌, [], Some, None, OnOk, IfErr, OnErr, IsSome};
 ghost use Rattle.std.specs.Borrow.{sem};
 ghost use Rattle.std.specs.Option.{option_copied_mut};
 ghost use Rattle.std.specs.FinMap as map;
 ghost use Rattle.judy_model.specs.Arrays.{empty_array};
 ghost use Rattle.judy_model.specs.Keys.{IsStringKey};
 ghost use Rattle.judy_sl.specs.Pieces.{IsText, EndsWell};
+ghost use Rattle.judy_sl.specs.Children.{IsRefTo, IsTaken};
 ghost use Rattle.judy_sl.specs.Arenas.{child_at, map_of, IsArena};
-ghost use Rattle.judy_sl.specs.Places.{place_value, place_in_value, place_with, IsInside, IsPlace, PlaceHasRoom, LendsItem, LendsPlace, LendsPlaceOk};
+ghost use Rattle.judy_sl.specs.Places.{place_value, place_with, IsPlace, IsLevelPlace, PlaceHasRoom, LendsPlace, LendsHere};
+ghost use Rattle.judy_tails.specs.Tails.{no_tails};
 ghost use Rattle.judy_sl.specs.declared.error.SlError.TheVariants.{NoMemory};
 ghost use Rattle.judy_sl.specs.declared.arena.Way.TheVariants.{At};
 ghost use Rattle.judy_sl.specs.Ways.{is_below, place_in, ends_first, IsWay};
 
-use crate::child::{Child, put_in};
+use crate::child::{ChildRef, LEVEL, Level, is_level, put_in};
 use crate::error::SlError;
 use crate::pieces::first_piece;
-use judy_word::{InsertError, WordMap};
+use judy_tails::Tails;
+use judy_word::WordMap;
+use slab::Slab;
 use std::alloc::Global;
 
-// The value of a piece that isn't final is the place of its child in the list. Free places are linked from `free`, and
-// `spare` is how many they are.
+// The value of a piece that isn't final is the place of its child. The lowest byte of a place tells whether a level stands
+// there or a tail, and the others where in its list.
 #[derive(Drop)]
 pub struct Arena {
     pub root: WordMap,
-    pub children: Vec<Child>,
-    pub free: usize,
-    pub spare: usize,
+    pub levels: Slab<Level>,
+    pub tails: Tails,
+    pub alloc: Global,
 }
 
 // Where a value stands: under a piece of the first level, or under a piece of the child at a place; a tail has one
@@ -34,16 +38,16 @@ pub struct Arena {
 #[derive(Clone, Copy)]
 pub enum Place {
     Root(u64),
-    Below(usize, u64),
+    Below(u64, u64),
 }
 
-// How the way of a key ends: where its value stands; at a place of a level that has no entry for the next piece; or at
-// a tail of another key. The number is how many bytes of the key are left there.
+// How the way of a key ends: where its value stands; at a place of a level that has no entry for the next piece; or, by
+// the entry at a place, at a tail of another key. The last number is how many bytes of the key are left there.
 #[derive(Clone, Copy)]
 pub enum Way {
     At(Place),
     Gap(Place, usize),
-    Clash(usize, usize),
+    Clash(Place, u64, usize),
 }
 
 impl Place {
@@ -65,7 +69,7 @@ impl Way {
 }
 
 // The place of a piece of the first level, or of the level of a child.
-pub fn place_in(child: Option<usize>, piece: u64) -> Place
+pub fn place_in(child: Option<u64>, piece: u64) -> Place
     ensures { result ≡ place_in child piece }
 {
     match child {
@@ -77,15 +81,27 @@ pub fn place_in(child: Option<usize>, piece: u64) -> Place
 impl Arena {
     // The arena without an entry.
     pub fn new(alloc: Global) -> Arena
-        ensures items { result.children.items ≡ [] }
+        ensures levels { result.levels.slots ≡ [] }
+        ensures tails { result.tails ≡ no_tails }
         ensures root { result.root ≡ empty_array 18446744073709551615 }
-        ensures none_free { result.spare ≡ 0 }
     {
         Arena {
             root: WordMap::unbounded(alloc),
-            children: Vec::new(alloc),
-            free: usize::MAX,
-            spare: 0,
+            levels: Slab::new(alloc),
+            tails: Tails::new(alloc),
+            alloc,
+        }
+    }
+
+    // What stands at a place. The list of levels isn't looked into for a tail, nor a record for a level.
+    pub fn child(&self, at: u64) -> ChildRef<'_>
+        requires { IsTaken (child_at self.now at) }
+        ensures { IsRefTo (child_at self.now at) result }
+    {
+        if is_level(at) {
+            ChildRef::Level(&self.levels[(at / 256) as usize])
+        } else {
+            ChildRef::Tail(self.tails.at(at))
         }
     }
 
@@ -109,20 +125,18 @@ impl Arena {
                 return Way::Gap(place_in(child, piece), rest.len());
             };
             rest = &rest[8..];
-            match self.children.get(at as usize) {
-                Some(Child::Level(_, next)) => {
-                    level = next;
-                    child = Some(at as usize);
+            match self.child(at) {
+                ChildRef::Level(next) => {
+                    level = &next.words;
+                    child = Some(at);
                 }
-                Some(Child::Tail(tail)) => {
-                    return if tail.bytes() == rest {
-                        Way::At(Place::Below(at as usize, 0))
+                ChildRef::Tail(tail) => {
+                    return if tail.is(rest) {
+                        Way::At(Place::Below(at, 0))
                     } else {
-                        Way::Clash(at as usize, rest.len())
+                        Way::Clash(place_in(child, piece), at, rest.len())
                     };
                 }
-                Some(Child::Free(_)) => unreachable!(),
-                None => unreachable!(),
             }
         }
         let piece = first_piece(rest);
@@ -147,65 +161,56 @@ impl Arena {
             }
             let at = level.get(piece)?;
             rest = &rest[8..];
-            match self.children.get(at as usize) {
-                Some(Child::Level(_, next)) => level = next,
-                Some(Child::Tail(tail)) => {
-                    return if tail.bytes() == rest {
+            match self.child(at) {
+                ChildRef::Level(next) => level = &next.words,
+                ChildRef::Tail(tail) => {
+                    return if tail.is(rest) {
                         Some(tail.value())
                     } else {
                         None
                     };
                 }
-                Some(Child::Free(_)) => return None,
-                None => return None,
             }
         }
         level.get(first_piece(rest))
     }
 
-    // The child at a place.
-    pub fn child_at(&mut self, at: usize) -> &mut Child
-        requires { at < length self.old.children.items }
-        ensures* writes_back { sem 𝓛 (LendsItem self.entry at result) }
-        ensures value { result.now ≡ child_at self.old at }
-    {
-        &mut self.children[at]
-    }
-
     // The slot of a value that is there.
     pub fn slot(&mut self, place: Place) -> Option<&mut u64>
-        requires { IsInside self.old place }
+        requires { IsPlace self.old place }
         ensures* writes_back { sem 𝓛 (LendsPlace self.entry place result) }
         ensures value { option_copied_mut result ≡ place_value self.old place }
     {
         match place {
             Place::Root(piece) => self.root.slot(piece),
-            Place::Below(at, piece) => self.child_at(at).slot(piece),
+            Place::Below(at, piece) => {
+                if is_level(at) {
+                    match self.levels.get_mut((at / 256) as usize) {
+                        Some(level) => level.words.slot(piece),
+                        None => unreachable!(),
+                    }
+                } else {
+                    Some(self.tails.slot(at))
+                }
+            }
         }
     }
 
-    // The slot of a value, which is put in with the value 0 where it is absent.
-    pub fn ins(&mut self, place: Place) -> Result<&mut u64, SlError>
-        requires place { IsPlace self.old place }
-        requires room { PlaceHasRoom self.old place }
-        ensures* writes_back { sem 𝓛 (LendsPlaceOk self.entry place result) }
-        ensures value { IfOk result (λ slot. Some slot.now ≡ place_in_value self.old place) }
-        ensures refused { IfErr result
-            (λ error. (place_value self.old place ≡ None) × (error ≡ NoMemory)) }
+    // The same where it is known to be there.
+    pub fn lend(&mut self, place: Place) -> &mut u64
+        requires { IsSome (place_value self.old place) }
+        ensures* writes_back { sem 𝓛 (LendsHere self.entry place result) }
+        ensures value { place_value self.old place ≡ Some result.now }
     {
-        match place {
-            Place::Root(piece) => match self.root.ins(piece) {
-                Ok(slot) => Ok(slot),
-                Err(InsertError::Full) => unreachable!(),
-                Err(InsertError::NoMemory) => Err(SlError::NoMemory),
-            },
-            Place::Below(at, piece) => self.child_at(at).ins(piece),
+        match self.slot(place) {
+            Some(slot) => slot,
+            None => unreachable!(),
         }
     }
 
-    // Puts a value in at a place, or writes it there.
+    // Puts a value into a level at a place, or writes it there.
     pub fn enter(&mut self, place: Place, value: u64) -> Result<(), SlError>
-        requires place { IsPlace self.old place }
+        requires place { IsLevelPlace self.old place }
         requires room { PlaceHasRoom self.old place }
         ensures entered { OnOk result (self.new ≡ place_with self.old place value) }
         ensures unchanged { OnErr result (self.new ≡ self.old) }
@@ -213,7 +218,10 @@ impl Arena {
     {
         match place {
             Place::Root(piece) => put_in(&mut self.root, piece, value),
-            Place::Below(at, piece) => self.child_at(at).put(piece, value),
+            Place::Below(at, piece) => match self.levels.get_mut((at / 256) as usize) {
+                Some(level) => put_in(&mut level.words, piece, value),
+                None => unreachable!(),
+            },
         }
     }
 }

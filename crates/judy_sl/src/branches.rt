@@ -8,25 +8,25 @@ ghost use Rattle.judy_sl.specs.Branches.{IsSprout, IsBuilt, single};
 
 use crate::error::SlError;
 use crate::pieces::first_piece;
-use judy_entry::Entry;
 use judy_word::{InsertError, WordMap};
 use std::alloc::Global;
 
 // A tail to be, and the piece that is to lead to it.
-#[derive(Drop)]
-pub struct Twig {
+#[derive(Clone, Copy)]
+pub struct Twig<'a> {
     pub piece: u64,
-    pub rest: Entry,
+    pub rest: &'a [u8],
+    pub value: u64,
 }
 
 // For each whole piece that both keys have a level with that entry alone, the first on top; the level of the first
 // piece at which they differ; and what goes on behind it.
 #[derive(Drop)]
-pub struct Branch {
+pub struct Branch<'a> {
     pub upper: Vec<(u64, WordMap)>,
     pub fork: WordMap,
-    pub old: Option<Twig>,
-    pub new: Option<Twig>,
+    pub old: Option<Twig<'a>>,
+    pub new: Option<Twig<'a>>,
 }
 
 // A level with one entry.
@@ -45,12 +45,7 @@ fn one_entry(alloc: Global, piece: u64) -> Result<WordMap, SlError>
 
 // Puts the first piece of the rest of a key into a level: with the key's value where it is the last one, and else to
 // lead to a tail.
-fn sprout(
-    alloc: Global,
-    level: &mut WordMap,
-    rest: &[u8],
-    value: u64,
-) -> Result<Option<Twig>, SlError>
+fn sprout<'a>(level: &mut WordMap, rest: &'a [u8], value: u64) -> Result<Option<Twig<'a>>, SlError>
     requires { map.len level.old.map < level.old.limit }
     ensures sprouted { IfOk result (λ twig. IsSprout level.old level.new rest.now value twig) }
     ensures refused { IfErr result (λ error. error ≡ NoMemory) }
@@ -63,26 +58,33 @@ fn sprout(
             Err(InsertError::NoMemory) => Err(SlError::NoMemory),
         };
     }
-    let Ok(rest) = Entry::new(alloc, &rest[8..], value) else {
-        return Err(SlError::NoMemory);
-    };
     match level.put(piece, 0) {
-        Ok(_) => Ok(Some(Twig { piece, rest })),
+        Ok(_) => Ok(Some(Twig {
+            piece,
+            rest: &rest[8..],
+            value,
+        })),
         Err(InsertError::Full) => unreachable!(),
         Err(InsertError::NoMemory) => Err(SlError::NoMemory),
     }
 }
 
-// The branch of a tail and the rest of another key. When memory is there no contract says; rows try that it succeeds.
-pub fn branch_of(alloc: Global, tail: &Entry, key: &[u8]) -> Result<Branch, SlError>
-    requires tail_text { IsText tail.now.0 }
+// The branch of a tail, by its bytes and its value, and the rest of another key. When memory is there no contract says; rows try that it
+// succeeds.
+pub fn branch_of<'a>(
+    alloc: Global,
+    tail: &'a [u8],
+    value: u64,
+    key: &'a [u8],
+) -> Result<Branch<'a>, SlError>
+    requires tail_text { IsText tail.now }
     requires key_text { IsText key.now }
-    requires differ { tail.now.0 ≢ key.now }
-    ensures built { IfOk result (λ made. IsBuilt tail.now.0 tail.now.1 key.now made) }
+    requires differ { tail.now ≢ key.now }
+    ensures built { IfOk result (λ made. IsBuilt tail.now value key.now made) }
     ensures refused { IfErr result (λ error. error ≡ NoMemory) }
 {
     let mut upper = Vec::new(alloc);
-    let mut held = tail.bytes();
+    let mut held = tail;
     let mut rest = key;
     while first_piece(held) == first_piece(rest) {
         let piece = first_piece(rest);
@@ -97,11 +99,11 @@ pub fn branch_of(alloc: Global, tail: &Entry, key: &[u8]) -> Result<Branch, SlEr
         rest = &rest[8..];
     }
     let mut fork = WordMap::unbounded(alloc);
-    let old = match sprout(alloc, &mut fork, held, tail.value()) {
+    let old = match sprout(&mut fork, held, value) {
         Ok(old) => old,
         Err(error) => return Err(error),
     };
-    match sprout(alloc, &mut fork, rest, 0) {
+    match sprout(&mut fork, rest, 0) {
         Ok(new) => Ok(Branch {
             upper,
             fork,

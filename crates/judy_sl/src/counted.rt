@@ -1,64 +1,49 @@
 //! How levels come to tell how many keys stand behind them: an insert or a delete changes the levels first, and then one more
 //! way down counts the key in or out.
 
-ghost use Rattle.std.specs.Prelude.{◌≡◌, ◌<◌, ◌≤◌, length, is_some, IfSome, IfOk, IfErr};
+ghost use Rattle.std.specs.Prelude.{◌≡◌, ◌<◌, ◌≤◌, is_some, IfSome, IfOk, IfErr};
 ghost use Rattle.std.specs.FinMap as map;
 ghost use Rattle.judy_model.specs.Keys.{IsStringKey};
 ghost use Rattle.judy_sl.specs.declared.error.SlError.TheVariants.{NoMemory};
 ghost use Rattle.judy_sl.specs.Pieces.{pieces, piece_of};
 ghost use Rattle.judy_sl.specs.World.{lookup};
 ghost use Rattle.judy_sl.specs.Worlds.{AllLed};
-ghost use Rattle.judy_sl.specs.Arenas.{world_of, child_at, map_of, links_of, IsArena, TakesPlaces, FreesPlaces, KnowsFree};
+ghost use Rattle.judy_sl.specs.Arenas.{world_of, child_at, map_of, IsArena};
+ghost use Rattle.judy_sl.specs.Children.{IsLevelChild};
 ghost use Rattle.judy_sl.specs.Places.{with_child};
-ghost use Rattle.judy_sl.specs.Stepped.{child_stepped, entry_under, ChildCanStep};
+ghost use Rattle.judy_sl.specs.Stepped.{child_stepped, entry_under, ChildCanStep, IsLevelSeat};
 ghost use Rattle.judy_sl.specs.Ways.{seat_in, IsWay, IsNew};
 ghost use Rattle.judy_sl.specs.Grown.{IsAdded, IsSame};
 ghost use Rattle.judy_sl.specs.Shrunk.{IsShrunk};
 ghost use Rattle.judy_sl.specs.Counted.{AreCounted, AreCountedBut, OffBy};
 
 use crate::arena::{Arena, Place, Way};
-use crate::child::Child;
+use crate::child::is_level;
 use crate::error::SlError;
 use crate::pieces::first_piece;
 
-impl Child {
-    // Counts a key in behind a level, or out.
-    fn count(&mut self, comes: bool)
-        requires can { ChildCanStep comes self.old }
-        ensures { self.new ≡ child_stepped comes self.old }
-    {
-        if let Child::Level(keys, _) = self {
-            if comes {
-                *keys += 1;
-            } else {
-                *keys -= 1;
-            }
-        }
-    }
-}
-
 impl Arena {
-    // Counts a key in behind the child at a place, or out.
-    fn count_at(&mut self, at: usize, comes: bool)
-        requires inside { at < length self.old.children.items }
+    // Counts a key in behind the level at a place, or out.
+    fn count_at(&mut self, at: u64, comes: bool)
+        requires inside { IsLevelChild (child_at self.old at) }
         requires can { ChildCanStep comes (child_at self.old at) }
         ensures { self.new ≡ with_child self.old at (child_stepped comes (child_at self.old at)) }
     {
-        self.child_at(at).count(comes);
+        match self.levels.get_mut((at / 256) as usize) {
+            Some(level) if comes => level.keys += 1,
+            Some(level) => level.keys -= 1,
+            None => unreachable!(),
+        }
     }
 
-    // What the first level has under a piece, or the level of a child.
-    fn entry_of(&self, child: Option<usize>, piece: u64) -> Option<u64>
+    // What the first level has under a piece, or the level at a place.
+    fn entry_of(&self, child: Option<u64>, piece: u64) -> Option<u64>
+        requires { IsLevelSeat (world_of self.now (seat_in child)) }
         ensures { result ≡ entry_under (world_of self.now (seat_in child)) piece }
     {
         match child {
             None => self.root.get(piece),
-            Some(at) => match self.children.get(at) {
-                Some(Child::Level(_, level)) => level.get(piece),
-                Some(Child::Tail(_)) => None,
-                Some(Child::Free(_)) => None,
-                None => None,
-            },
+            Some(at) => self.levels[(at / 256) as usize].words.get(piece),
         }
     }
 
@@ -71,9 +56,6 @@ impl Arena {
         ensures counted { AreCounted self.new }
         ensures world { world_of self.new ≡ world_of self.old }
         ensures is_arena { IsArena self.new }
-        ensures links { links_of self.new ≡ links_of self.old }
-        ensures free { self.new.free ≡ self.old.free }
-        ensures spare { self.new.spare ≡ self.old.spare }
     {
         let mut child = None;
         let mut rest = key;
@@ -81,9 +63,12 @@ impl Arena {
             let Some(at) = self.entry_of(child, first_piece(rest)) else {
                 return;
             };
+            if !is_level(at) {
+                return;
+            }
             rest = &rest[8..];
-            self.count_at(at as usize, comes);
-            child = Some(at as usize);
+            self.count_at(at, comes);
+            child = Some(at);
         }
     }
 
@@ -96,11 +81,9 @@ impl Arena {
         requires way { IsWay self.old key.now way }
         requires new { IsNew way }
         requires few { map.len (map_of self.old) < 4294967295 }
-        requires known { KnowsFree self.old }
         ensures added { IfOk result (λ made. IsAdded self.old self.new key.now made) }
         ensures counted { AreCounted self.new }
         ensures refused { IfErr result (λ error. IsSame self.old self.new × (error ≡ NoMemory)) }
-        ensures places { TakesPlaces self.old self.new }
     {
         let made = match self.add(key, way) {
             Ok(made) => made,
@@ -118,7 +101,6 @@ impl Arena {
         requires is_arena { IsArena self.old }
         requires counted { AreCounted self.old }
         requires led { AllLed (world_of self.old) }
-        requires known { KnowsFree self.old }
         requires is_key { IsStringKey key.now }
         requires few { map.len (map_of self.old) ≤ 4294967295 }
         ensures answer { is_some result ≡ is_some (lookup (world_of self.old) 0 (pieces key.now)) }
@@ -126,7 +108,6 @@ impl Arena {
         ensures beside { IfSome result
             (λ beside. beside ≡ is_some (map.get self.new.root.map (piece_of key.now))) }
         ensures counted { AreCounted self.new }
-        ensures places { FreesPlaces self.old self.new }
     {
         let Some(beside) = self.del(key) else {
             return None;

@@ -1,22 +1,24 @@
 //! How many keys stand where, by what the levels tell of the keys behind them.
 
-ghost use Rattle.std.specs.Prelude.{◌≡◌, ◌<◌, ◌≤◌, ◌^◌, suc, length, take, drop};
+ghost use Rattle.std.specs.Prelude.{◌≡◌, ◌<◌, ◌≤◌, ◌^◌, suc, length, take, drop, All};
 ghost use Rattle.std.specs.FinMap as map;
 ghost use Rattle.judy_model.specs.Counts as counts;
 ghost use Rattle.judy_model.specs.Keys.{byte_order, IsStringKey};
 ghost use Rattle.judy_sums.specs.Levels.{keys_below, part_len};
 ghost use Rattle.judy_sl.specs.Pieces.{IsText};
-ghost use Rattle.judy_sl.specs.Arenas.{world_of, map_of, IsArena};
+ghost use Rattle.judy_sl.specs.Children.{IsTaken};
+ghost use Rattle.judy_sl.specs.Arenas.{world_of, child_at, map_of, IsArena};
 ghost use Rattle.judy_sl.specs.Behind.{map_behind, entry_keys};
-ghost use Rattle.judy_sl.specs.Counted.{keys_of, keys_behind, keys_behind_all, comes, ranked, AreCounted, StandsWith};
+ghost use Rattle.judy_sl.specs.Counted.{LeadsOn, keys_behind, keys_behind_all, comes, ranked, AreCounted, StandsWith};
 ghost use Rattle.judy_sl.specs.Firsts.{AreFirsts};
 
 use crate::arena::Arena;
-use crate::child::Child;
+use crate::child::{ChildRef, is_level};
 use crate::pieces::first_piece;
 use crate::strings::JudySl;
 use judy_sums::Sums;
 use judy_word::{Entries, WordMap};
+use std::cmp::Ordering;
 
 impl JudySl {
     /// How many keys there are from `from` to `to`, both included; 0 where `from` is above `to` (this project's own).
@@ -37,31 +39,14 @@ impl JudySl {
     }
 }
 
-impl Child {
-    // How many keys stand behind it.
-    pub fn keys(&self) -> u64
-        ensures { result ≡ keys_of self.now }
-    {
-        match self {
-            Child::Level(keys, _) => u64::from(*keys),
-            Child::Tail(_) => 1,
-            Child::Free(_) => 0,
-        }
-    }
-}
-
 // How many entries of a level are read at a time: what stands behind them is looked up at once then, not each after the step to it.
 pub const PAGE: usize = 32;
 
-// Whether the rest of a key is less than another, or, where that itself counts, not above it.
-fn comes(itself: bool, rest: &[u8], other: &[u8]) -> bool
-    ensures { result ≡ comes itself (byte_order rest.now other.now) }
+// Whether what compares so to a key counts: what is less does, and where the key itself counts, so does what is the same.
+fn comes(itself: bool, order: Ordering) -> bool
+    ensures { result ≡ comes itself order }
 {
-    if itself {
-        rest.cmp(other).is_le()
-    } else {
-        rest.cmp(other).is_lt()
-    }
+    if itself { order.is_le() } else { order.is_lt() }
 }
 
 // How many pieces of a level are less than a piece.
@@ -76,25 +61,25 @@ fn lesser_in(level: &WordMap, piece: u64) -> u64
 }
 
 impl Arena {
-    // How many keys stand behind an entry of a level: one where its piece is final, and else those behind its child.
+    // How many keys stand behind an entry of a level: one where its piece is final or it leads to a tail, for which nothing is read, and else
+    // as many as its level tells.
     pub fn keys_at(&self, piece: u64, value: u64) -> u64
         requires is_arena { IsArena self.now }
         requires counted { AreCounted self.now }
+        requires leads { LeadsOn (world_of self.now) (piece, value) }
         ensures { result ≡ length (entry_keys (world_of self.now) (piece, value)) }
     {
-        if piece % 256 == 0 {
+        if piece % 256 == 0 || !is_level(value) {
             return 1;
         }
-        match self.children.get(value as usize) {
-            Some(child) => child.keys(),
-            None => 0,
-        }
+        u64::from(self.levels[(value / 256) as usize].keys)
     }
 
     // How many keys stand behind some entries of a level.
     fn page_keys(&self, page: &[(u64, u64)]) -> u64
         requires is_arena { IsArena self.now }
         requires counted { AreCounted self.now }
+        requires leads { All (LeadsOn (world_of self.now)) page.now }
         requires fits { keys_behind_all (world_of self.now) page.now < 2 ^ 64 }
         ensures { result ≡ keys_behind_all (world_of self.now) page.now }
     {
@@ -109,6 +94,7 @@ impl Arena {
     pub fn read_keys(&self, mut entries: Entries<'_>, count: u64) -> u64
         requires is_arena { IsArena self.now }
         requires counted { AreCounted self.now }
+        requires leads { All (LeadsOn (world_of self.now)) entries }
         requires there { count ≤ length entries }
         requires fits { keys_behind_all (world_of self.now) (take count entries) < 2 ^ 64 }
         ensures { result ≡ keys_behind_all (world_of self.now) (take count entries.entry) }
@@ -149,9 +135,10 @@ impl Arena {
     }
 
     // How many keys behind a child are less than the rest of a key, or, where that itself counts, not above it.
-    fn rank_behind(&self, itself: bool, child: usize, key: &[u8]) -> u64
+    fn rank_behind(&self, itself: bool, child: u64, key: &[u8]) -> u64
         requires is_arena { IsArena self.now }
         requires counted { AreCounted self.now }
+        requires there { IsTaken (child_at self.now child) }
         requires is_text { IsText key.now }
         requires few { keys_behind (world_of self.now) (suc child) ≤ 4294967295 }
         ensures { result ≡ ranked itself (map_behind (world_of self.now) (suc child)) key.now }
@@ -160,24 +147,20 @@ impl Arena {
         let mut rest = key;
         let mut lesser = 0;
         loop {
-            match self.children.get(at) {
-                Some(Child::Level(keys, level)) => {
+            match self.child(at) {
+                ChildRef::Level(level) => {
                     let piece = first_piece(rest);
-                    lesser += self.keys_before(level, *keys, piece);
-                    let Some(next) = level.get(piece) else {
+                    lesser += self.keys_before(&level.words, level.keys, piece);
+                    let Some(next) = level.words.get(piece) else {
                         return lesser;
                     };
                     if rest.len() < 8 {
                         return lesser + u64::from(itself);
                     }
-                    at = next as usize;
+                    at = next;
                     rest = &rest[8..];
                 }
-                Some(Child::Tail(tail)) => {
-                    return lesser + u64::from(comes(itself, tail.bytes(), rest));
-                }
-                Some(Child::Free(_)) => return lesser,
-                None => return lesser,
+                ChildRef::Tail(tail) => return lesser + u64::from(comes(itself, tail.order(rest))),
             }
         }
     }
@@ -200,6 +183,6 @@ impl Arena {
         if key.len() < 8 {
             return lesser + u64::from(itself);
         }
-        lesser + self.rank_behind(itself, at as usize, &key[8..])
+        lesser + self.rank_behind(itself, at, &key[8..])
     }
 }

@@ -8,7 +8,7 @@ ghost use Rattle.judy_sl.specs.declared.error.SlError.TheVariants.{NoMemory};
 ghost use Rattle.judy_sl.specs.Pieces.{pieces};
 ghost use Rattle.judy_sl.specs.World.{lookup};
 ghost use Rattle.judy_sl.specs.Worlds.{AllLed};
-ghost use Rattle.judy_sl.specs.Arenas.{world_of, map_of, IsArena, TakesPlaces, FreesPlaces, KnowsFree};
+ghost use Rattle.judy_sl.specs.Arenas.{world_of, map_of, IsArena};
 ghost use Rattle.judy_sl.specs.Ways.{IsWay, IsNew};
 ghost use Rattle.judy_sl.specs.Grown.{IsAdded, IsSame};
 ghost use Rattle.judy_sl.specs.Shrunk.{IsShrunk};
@@ -30,13 +30,11 @@ pub fn add(arena: &mut Arena, firsts: &mut Sums, key: &[u8], way: Way) -> Result
     requires way { IsWay arena.old key.now way }
     requires new { IsNew way }
     requires few { map.len (map_of arena.old) < 4294967295 }
-    requires known { KnowsFree arena.old }
     requires firsts { AreFirsts (map_of arena.old) firsts.old }
     ensures added { IfOk result (λ made. IsAdded arena.old arena.new key.now made) }
     ensures counted { AreCounted arena.new }
     ensures refused { IfErr result (λ error. IsSame arena.old arena.new × (error ≡ NoMemory)) }
     ensures firsts { AreFirsts (map_of arena.new) firsts.new }
-    ensures places { TakesPlaces arena.old arena.new }
 {
     if way.ends_first() {
         return arena.add_counted(key, way);
@@ -59,7 +57,6 @@ pub fn del(arena: &mut Arena, firsts: &mut Sums, key: &[u8]) -> bool
     requires is_arena { IsArena arena.old }
     requires counted { AreCounted arena.old }
     requires led { AllLed (world_of arena.old) }
-    requires known { KnowsFree arena.old }
     requires is_key { IsStringKey key.now }
     requires few { map.len (map_of arena.old) ≤ 4294967295 }
     requires firsts { AreFirsts (map_of arena.old) firsts.old }
@@ -67,7 +64,6 @@ pub fn del(arena: &mut Arena, firsts: &mut Sums, key: &[u8]) -> bool
     ensures shrunk { IsShrunk arena.old arena.new key.now }
     ensures counted { AreCounted arena.new }
     ensures firsts { AreFirsts (map_of arena.new) firsts.new }
-    ensures places { FreesPlaces arena.old arena.new }
 {
     let Some(beside) = arena.del_counted(key) else {
         return false;

@@ -1,128 +1,88 @@
-//! How an arena takes a new key. What is new is built beside the array, and its places are reserved; then comes at most
-//! one insert into a level of the array, the last step that can be refused; and then the new children are put in their
-//! places. Only where a key is tried as a new one does that insert come first: what is refused behind it takes it out
-//! again. New children take the free places first; the list grows only for those that are left.
+//! How an arena takes a new key. What is new is built beside the array, and room for its levels is reserved; a tail is put in its place, to
+//! which nothing leads yet; then comes at most one insert into a level of the array, the last step that can be refused, and where it is, the tail
+//! is taken out again. Only where a key is tried as a new one does that insert come first.
 
-ghost use Rattle.std.specs.Prelude.{ℕ, List, ◌≡◌, ◌≢◌, ◌+◌, ◌<◌, ◌≤◌, None, IfOk, IsOk, OnOk, IfErr, OnErr, IfSome, IsTrue, length, get_or, vec_len};
+ghost use Rattle.std.specs.Prelude.{ℕ, List, [], ◌≡◌, ◌+◌, ◌≤◌, None, IfOk, OnOk, IfErr, OnErr, IfSome, IsSome, IsTrue, length};
 ghost use Rattle.std.specs.FinMap as map;
 ghost use Rattle.judy_word.specs.Writes.{with_value};
+ghost use Rattle.judy_tails.specs.Tails.{next_place};
 ghost use Rattle.judy_model.specs.Keys.{IsStringKey};
 ghost use Rattle.judy_sl.specs.declared.error.SlError.TheVariants.{NoMemory};
-ghost use Rattle.judy_sl.specs.Pieces.{piece_of};
-ghost use Rattle.judy_sl.specs.World.{gone};
-ghost use Rattle.judy_sl.specs.Arenas.{world_of, node_of, child_at, map_of, link_of, links_of, IsArena, TakesPlaces, KnowsFree, HasRoom};
+ghost use Rattle.judy_sl.specs.Pieces.{piece_of, IsText};
+ghost use Rattle.judy_sl.specs.Children.{Tail, Level as LevelChild, IsTaken};
+ghost use Rattle.judy_sl.specs.Arenas.{world_of, child_at, map_of, IsArena, HasRoom};
+ghost use Rattle.judy_sl.specs.Places.{place_value, place_with};
+ghost use Rattle.judy_sl.specs.Branches.{AreSingle};
 ghost use Rattle.judy_sl.specs.Ways.{IsGap, IsClash, IsWay, IsNew, ends_at_first, ends_first};
 ghost use Rattle.judy_sl.specs.Worlds.{AllLed};
 ghost use Rattle.judy_sl.specs.Counted.{AreCounted, AreCountedBut, OneLess};
 ghost use Rattle.judy_sl.specs.Firsts.{beginning};
-ghost use Rattle.judy_sl.specs.Grown.{IsPut, IsTailPut, IfShown, IsHung, HasTwig, IsSound, IsGraft, IsGrafted, IsAdded, IsSame, next_place};
+ghost use Rattle.judy_sl.specs.Grown.{IsPut, IfShown, IsHung, AreHung, HasTwig, IsTwigText, IsSound, IsGraft, IsGrafted, IsAdded, IsSame};
 
 use crate::arena::{Arena, Place, Way};
 use crate::branches::{Branch, Twig, branch_of};
-use crate::child::Child;
+use crate::child::{ChildRef, LEVEL, Level};
 use crate::error::SlError;
-use crate::keys::is_key;
+use crate::keys::{KeyBuf, is_key};
 use crate::pieces::first_piece;
-use judy_entry::Entry;
 use judy_word::{InsertError, WordMap};
 use std::alloc::AllocError;
 
+// The most levels, so that each place is a word.
+const MOST: usize = 36_028_797_018_963_968;
+
 // Lets an entry of a level lead to the child at a place.
-fn link(level: &mut WordMap, piece: u64, place: usize)
+fn link(level: &mut WordMap, piece: u64, place: u64)
     requires { IsTrue (map.contains_key level.old.map piece) }
     ensures { level.new ≡ with_value level.old piece place }
 {
     match level.slot(piece) {
-        Some(slot) => *slot = place as u64,
+        Some(slot) => *slot = place,
         None => unreachable!(),
     }
 }
 
 impl Arena {
-    // Makes room for so many more children. Those for which places are free need none, so that an insert that needs no more
-    // asks for nothing. For the others the list grows by an eighth, and not to its double: it is much of what an array takes.
+    // Makes room for so many more levels. Those for which places are free need none. For the others the list grows by an eighth, and not to
+    // its double.
     fn make_room(&mut self, more: usize) -> Result<(), AllocError>
-        requires known { KnowsFree self.old }
         ensures same { IsSame self.old self.new }
-        ensures places { TakesPlaces self.old self.new }
-        ensures known { KnowsFree self.new }
-        ensures next { next_place self.new ≡ next_place self.old }
+        ensures tails { self.new.tails ≡ self.old.tails }
         ensures room { OnOk result (HasRoom self.new more) }
-        ensures unasked { HasRoom self.old more → (self.new ≡ self.old) × IsOk result }
     {
-        let lacking = more.saturating_sub(self.spare);
-        if self.children.capacity() - self.children.len() >= lacking {
-            return Ok(());
+        let levels = self.levels.len();
+        if self.levels.capacity() - levels < more {
+            self.levels.reserve_exact(more.saturating_add(levels / 8))?;
         }
-        self.children
-            .reserve_exact(lacking.saturating_add(self.children.len() / 8))
+        if self.levels.capacity() > MOST {
+            return Err(AllocError);
+        }
+        Ok(())
     }
 
-    // What the first free place is linked to, and none where no place is free.
-    fn first_link(&self) -> Option<usize>
-        ensures { result ≡ get_or (links_of self.now) self.now.free None }
-    {
-        match self.children.get(self.free) {
-            Some(Child::Free(next)) => Some(*next),
-            Some(Child::Tail(_)) => None,
-            Some(Child::Level(_, _)) => None,
-            None => None,
-        }
-    }
-
-    // The place that the next new child takes: the first free one, or the end of the list.
-    fn next_place(&self) -> usize
-        ensures { result ≡ next_place self.now }
-    {
-        match self.first_link() {
-            Some(_) => self.free,
-            None => self.children.len(),
-        }
-    }
-
-    // Puts a child at the next place, for which there is room.
-    fn put(&mut self, child: Child) -> usize
-        requires known { KnowsFree self.old }
+    // Puts a level in, for which there is room, and answers its place. It tells one key, that of the tail in whose place it comes.
+    fn put_level(&mut self, words: WordMap) -> u64
         requires room { HasRoom self.old 1 }
-        requires taken { link_of child ≡ None }
-        ensures place { result ≡ next_place self.old }
-        ensures places { TakesPlaces self.old self.new }
-        ensures put { IsPut self.old self.new child result }
+        ensures put { IsPut self.old self.new (LevelChild 1 words) result }
         ensures room { (more : ℕ) → HasRoom self.old (more + 1) → HasRoom self.new more }
-        ensures grows { vec_len self.old.children ≤ vec_len self.new.children }
     {
-        match self.first_link() {
-            Some(next) => {
-                let at = self.free;
-                self.free = next;
-                self.spare -= 1;
-                self.children[at] = child;
-                at
-            }
-            None => {
-                let at = self.children.len();
-                self.children.push_reserved(child);
-                at
-            }
-        }
+        let index = self.levels.insert_reserved(Level { keys: 1, words });
+        index as u64 * 256 + LEVEL
     }
 
-    // Puts the tail of a new key, with the value 0, at the next place, and answers that place.
-    fn put_tail(&mut self, rest: &[u8]) -> Result<usize, SlError>
-        requires known { KnowsFree self.old }
-        ensures place { IfOk result (λ at. at ≡ next_place self.old) }
-        ensures put { IfOk result (λ at. IsTailPut self.old self.new rest.now at) }
+    // Puts a tail in at the next place for its length, and answers that place.
+    fn put_tail(&mut self, rest: &[u8], value: u64) -> Result<u64, SlError>
+        requires text { IsText rest.now }
+        requires short { length rest.now ≤ 1024 }
+        ensures place { IfOk result (λ at. at ≡ next_place self.old.tails (length rest.now)) }
+        ensures put { IfOk result (λ at. IsPut self.old self.new (Tail ((rest.now, value))) at) }
+        ensures levels { self.new.levels ≡ self.old.levels }
         ensures refused { IfErr result (λ error. IsSame self.old self.new × (error ≡ NoMemory)) }
-        ensures places { TakesPlaces self.old self.new }
     {
-        let alloc = *self.children.allocator();
-        let Ok(tail) = Entry::new(alloc, rest, 0) else {
-            return Err(SlError::NoMemory);
-        };
-        if self.make_room(1).is_err() {
-            return Err(SlError::NoMemory);
+        match self.tails.put(rest, value) {
+            Ok(at) => Ok(at),
+            Err(_) => Err(SlError::NoMemory),
         }
-        Ok(self.put(Child::Tail(tail)))
     }
 
     // Tries a key as one whose first piece leads nowhere, and puts it in with the value 0 if so: one way down the first level shows that and
@@ -133,7 +93,6 @@ impl Arena {
         requires counted { AreCounted self.old }
         requires led { AllLed (world_of self.old) }
         requires few { map.len (map_of self.old) ≤ 4294967295 }
-        requires known { KnowsFree self.old }
         ensures tried { IfShown result (IsTrue tries) }
         ensures counted { AreCounted self.new }
         ensures key { IfShown result (IsStringKey key.now) }
@@ -144,20 +103,19 @@ impl Arena {
             (λ found. IfSome found (λ place. beginning (map_of self.old) (piece_of key.now) ≡ 0)) }
         ensures open { IfOk result (λ found. found ≡ None → self.new ≡ self.old) }
         ensures refused { IfErr result (λ error. IsSame self.old self.new × (error ≡ NoMemory)) }
-        ensures places { TakesPlaces self.old self.new }
     {
         if !tries || key.len() < 8 || !is_key(key) {
             return Ok(None);
         }
-        let next = self.next_place();
+        let next = self.tails.next_place(key.len() - 8);
         let piece = first_piece(key);
-        match self.root.put_if_absent(piece, next as u64) {
+        match self.root.put_if_absent(piece, next) {
             Ok(true) => {}
             Ok(false) => return Ok(None),
             Err(InsertError::Full) => unreachable!(),
             Err(InsertError::NoMemory) => return Err(SlError::NoMemory),
         }
-        match self.put_tail(&key[8..]) {
+        match self.put_tail(&key[8..], 0) {
             Ok(at) => Ok(Some(Place::Below(at, 0))),
             Err(error) => {
                 self.root.del(piece);
@@ -174,12 +132,10 @@ impl Arena {
         requires counted { AreCounted self.old }
         requires led { AllLed (world_of self.old) }
         requires few { map.len (map_of self.old) ≤ 4294967295 }
-        requires known { KnowsFree self.old }
         ensures added { IfOk result (λ made. IsAdded self.old self.new key.now made) }
         ensures counted { IfOk result (λ made. AreCountedBut OneLess self.new key.now) }
         ensures first { IfOk result (λ made. IsTrue (ends_at_first place) → AreCounted self.new) }
         ensures refused { IfErr result (λ error. IsSame self.old self.new × (error ≡ NoMemory)) }
-        ensures places { TakesPlaces self.old self.new }
     {
         if left < 8 {
             return match self.enter(place, 0) {
@@ -187,106 +143,137 @@ impl Arena {
                 Err(error) => Err(error),
             };
         }
-        let alloc = *self.children.allocator();
-        let Ok(tail) = Entry::new(alloc, &key[key.len() - left + 8..], 0) else {
-            return Err(SlError::NoMemory);
+        let at = match self.put_tail(&key[key.len() - left + 8..], 0) {
+            Ok(at) => at,
+            Err(error) => return Err(error),
         };
-        if self.make_room(1).is_err() {
-            return Err(SlError::NoMemory);
-        }
-        let at = self.next_place();
-        match self.enter(place, at as u64) {
-            Ok(()) => {
-                self.put(Child::Tail(tail));
-                Ok(Place::Below(at, 0))
+        match self.enter(place, at) {
+            Ok(()) => Ok(Place::Below(at, 0)),
+            Err(error) => {
+                self.vacate(at);
+                Err(error)
             }
-            Err(error) => Err(error),
         }
     }
 
-    // Lets an entry of a level that stands beside the array lead to a new tail, where one is to be.
-    fn hang(&mut self, level: &mut WordMap, twig: Option<Twig>)
-        requires known { KnowsFree self.old }
-        requires room { HasRoom self.old 1 }
+    // Puts the tail in to which an entry of a level that stands beside the array is to lead, where one is to be, and answers its place.
+    fn hang(&mut self, level: &mut WordMap, twig: Option<Twig>) -> Result<Option<u64>, SlError>
         requires there { HasTwig level.old twig }
-        ensures hung { IsHung self.old self.new level.old level.new twig }
-        ensures places { TakesPlaces self.old self.new }
-        ensures room { (more : ℕ) → HasRoom self.old (more + 1) → HasRoom self.new more }
-        ensures grows { vec_len self.old.children ≤ vec_len self.new.children }
+        requires text { IsTwigText twig }
+        ensures hung { IfOk result
+            (λ at. IsHung self.old self.new level.old level.new twig.entry at) }
+        ensures levels { self.new.levels ≡ self.old.levels }
+        ensures refused { IfErr result (λ error. IsSame self.old self.new × (error ≡ NoMemory)) }
     {
-        match twig {
-            Some(Twig { piece, rest }) => {
-                let place = self.put(Child::Tail(rest));
-                link(level, piece, place);
+        let Some(Twig { piece, rest, value }) = twig else {
+            return Ok(None);
+        };
+        let place = match self.put_tail(rest, value) {
+            Ok(place) => place,
+            Err(error) => return Err(error),
+        };
+        link(level, piece, place);
+        Ok(Some(place))
+    }
+
+    // Hangs up both tails of a branch, or neither of them.
+    fn hang_both(&mut self, branch: &mut Branch) -> Result<(), SlError>
+        requires { IsSound branch.now }
+        ensures hung { OnOk result (AreHung self.old self.new branch.entry.now branch.exit.now) }
+        ensures levels { OnOk result (self.new.levels ≡ self.old.levels) }
+        ensures refused { IfErr result (λ error. IsSame self.old self.new × (error ≡ NoMemory)) }
+    {
+        let old = match self.hang(&mut branch.fork, branch.old) {
+            Ok(old) => old,
+            Err(error) => return Err(error),
+        };
+        match self.hang(&mut branch.fork, branch.new) {
+            Ok(_) => Ok(()),
+            Err(error) => {
+                if let Some(place) = old {
+                    self.vacate(place);
+                }
+                Err(error)
             }
-            None => {}
         }
     }
 
-    // Puts a branch in the place of a tail.
-    fn graft(&mut self, at: usize, branch: Branch)
-        requires known { KnowsFree self.old }
-        requires room { HasRoom self.old (length branch.upper.items + 2) }
-        requires inside { at < vec_len self.old.children }
-        requires taken { node_of (child_at self.old at) ≢ gone }
-        requires sound { IsSound branch }
-        requires is_arena { IsArena self.old }
-        ensures grafted { (key : List ℕ) (left : ℕ) → IsStringKey key
-            → IsGraft self.old key at left branch → IsGrafted self.old self.new key }
-        ensures counted { (key : List ℕ) (left : ℕ) → IsStringKey key
-            → IsGraft self.old key at left branch → AllLed (world_of self.old) → AreCounted self.old
-            → AreCountedBut OneLess self.new key }
-        ensures places { TakesPlaces self.old self.new }
+    // Lets the entry at a place lead elsewhere.
+    fn lead(&mut self, from: Place, to: u64)
+        requires { IsSome (place_value self.old from) }
+        ensures { self.new ≡ place_with self.old from to }
     {
-        let Branch {
-            mut upper,
-            fork,
-            old,
-            new,
-        } = branch;
-        let mut level = fork;
-        self.hang(&mut level, old);
-        self.hang(&mut level, new);
+        *self.lend(from) = to;
+    }
+
+    // Puts the levels of a branch in whose tails are hung up, leads the entry at a place to the top one, and gives back the tail to which it led.
+    // None of this asks for memory.
+    fn graft(&mut self, from: Place, at: u64, branch: Branch)
+        requires room { HasRoom self.old (length branch.upper.items + 1) }
+        requires taken { IsTaken (child_at self.old at) }
+        requires entry { IsSome (place_value self.old from) }
+        requires singles { AreSingle branch.upper.items }
+        ensures { (before : Arena) (key : List ℕ) (left : ℕ) (made : Branch)
+            → IsGraft before key from at left made → AreHung before self.old made branch.entry
+            → IsGrafted before self.new key }
+    {
+        let mut upper = branch.upper;
+        let mut level = branch.fork;
         while let Some((piece, above)) = upper.pop() {
-            let place = self.put(Child::Level(1, level));
+            let place = self.put_level(level);
             level = above;
             link(&mut level, piece, place);
         }
-        self.children[at] = Child::Level(1, level);
+        let place = self.put_level(level);
+        self.lead(from, place);
+        self.vacate(at);
+    }
+
+    // Puts the bytes of the tail at a place into an empty buffer, and answers its value.
+    fn read_tail(&self, at: u64, key: &mut KeyBuf) -> u64
+        requires tail { (rest : List ℕ × ℕ) × (child_at self.now at ≡ Tail rest)
+            × (length rest.0 ≤ 1024) }
+        requires empty { key.old.items ≡ [] }
+        ensures { child_at self.now at ≡ Tail ((key.new.items, result)) }
+    {
+        match self.child(at) {
+            ChildRef::Tail(tail) => {
+                tail.push_to(key);
+                tail.value()
+            }
+            ChildRef::Level(_) => unreachable!(),
+        }
     }
 
     // Adds a key whose way comes to another's tail.
-    fn split(&mut self, key: &[u8], at: usize, left: usize) -> Result<Place, SlError>
+    fn split(&mut self, key: &[u8], from: Place, at: u64, left: usize) -> Result<Place, SlError>
         requires is_arena { IsArena self.old }
         requires is_key { IsStringKey key.now }
-        requires clash { IsClash (world_of self.old) key.now at left }
+        requires clash { IsClash (world_of self.old) key.now from at left }
         requires counted { AreCounted self.old }
         requires led { AllLed (world_of self.old) }
-        requires known { KnowsFree self.old }
         ensures added { IfOk result (λ made. IsAdded self.old self.new key.now made) }
         ensures counted { IfOk result (λ made. AreCountedBut OneLess self.new key.now) }
         ensures refused { IfErr result (λ error. IsSame self.old self.new × (error ≡ NoMemory)) }
-        ensures places { TakesPlaces self.old self.new }
     {
-        let alloc = *self.children.allocator();
+        let mut held = KeyBuf::new();
+        let value = self.read_tail(at, &mut held);
         let rest = &key[key.len() - left..];
-        let built = match &self.children[at] {
-            Child::Tail(tail) => branch_of(alloc, tail, rest),
-            Child::Level(_, _) => unreachable!(),
-            Child::Free(_) => unreachable!(),
-        };
-        let made = match built {
+        let mut made = match branch_of(self.alloc, held.as_slice(), value, rest) {
             Ok(made) => made,
             Err(error) => return Err(error),
         };
-        if self.make_room(made.upper.len() + 2).is_err() {
+        if self.make_room(made.upper.len() + 1).is_err() {
             return Err(SlError::NoMemory);
         }
-        self.graft(at, made);
+        if let Err(error) = self.hang_both(&mut made) {
+            return Err(error);
+        }
+        self.graft(from, at, made);
         match self.walk(key) {
             Way::At(place) => Ok(place),
             Way::Gap(_, _) => unreachable!(),
-            Way::Clash(_, _) => unreachable!(),
+            Way::Clash(_, _, _) => unreachable!(),
         }
     }
 
@@ -299,17 +286,15 @@ impl Arena {
         requires way { IsWay self.old key.now way }
         requires new { IsNew way }
         requires few { map.len (map_of self.old) ≤ 4294967295 }
-        requires known { KnowsFree self.old }
         ensures added { IfOk result (λ made. IsAdded self.old self.new key.now made) }
         ensures counted { IfOk result (λ made. AreCountedBut OneLess self.new key.now) }
         ensures first { IfOk result (λ made. IsTrue (ends_first way) → AreCounted self.new) }
         ensures refused { IfErr result (λ error. IsSame self.old self.new × (error ≡ NoMemory)) }
-        ensures places { TakesPlaces self.old self.new }
     {
         match way {
             Way::At(_) => unreachable!(),
             Way::Gap(place, left) => self.fill(key, place, left),
-            Way::Clash(at, left) => self.split(key, at, left),
+            Way::Clash(from, at, left) => self.split(key, from, at, left),
         }
     }
 }

@@ -3,35 +3,22 @@
 ghost use Rattle.std.specs.Prelude.{◌≡◌, ℕ, List, Some};
 ghost use Rattle.std.specs.FinMap.{get};
 ghost use Rattle.judy_model.specs.Arrays as array;
-ghost use Rattle.judy_model.specs.Keys.{IsWord, IsStringKey};
-ghost use Rattle.judy_sl.specs.Arenas.{world_of, node_of};
+ghost use Rattle.judy_model.specs.Keys.{IsStringKey};
+ghost use Rattle.judy_sl.specs.Arenas.{world_of};
 ghost use Rattle.judy_sl.specs.Words.{HasWords};
 
 use crate::arena::Arena;
-use crate::child::Child;
 use crate::strings::JudySl;
 
-impl Child {
-    // The values that a child has are words.
-    fn has_words(&self)
-        ensures { HasWords (node_of self.now) }
-    {
-        match self {
-            Child::Level(_, level) => level.is_array(),
-            Child::Tail(tail) => is_word(tail.value()),
-            Child::Free(_) => {}
-        }
-    }
-}
-
 impl Arena {
-    // So are those of all seats.
+    // The values of all seats are words.
     fn has_words(&self)
         ensures { (seat : ℕ) → HasWords (world_of self.now seat) }
     {
         self.root.is_array();
-        for child in &self.children {
-            child.has_words();
+        self.tails.told();
+        for (_, level) in self.levels.iter() {
+            level.words.is_array();
         }
     }
 }
@@ -54,8 +41,3 @@ impl JudySl {
         let _arena = &self.arena;
     }
 }
-
-// A number of 64 bits is a word.
-fn is_word(_one: u64)
-    ensures { IsWord _one }
-{}

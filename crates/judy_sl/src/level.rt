@@ -6,7 +6,7 @@ ghost use Rattle.judy_sl.specs.Arenas.{map_of, IsArena};
 ghost use Rattle.judy_sl.specs.Levels.{IsLevelOf, HasBranch};
 
 use crate::arena::Arena;
-use crate::child::Child;
+use crate::child::ChildRef;
 use crate::pieces::first_piece;
 use crate::strings::JudySl;
 use judy_word::{JudyL, WordMap};
@@ -25,11 +25,9 @@ impl Arena {
         while rest.len() >= 8 {
             let place = level.get(first_piece(rest))?;
             rest = &rest[8..];
-            match self.children.get(place as usize) {
-                Some(Child::Level(_, next)) => level = next,
-                Some(Child::Tail(_)) => return None,
-                Some(Child::Free(_)) => return None,
-                None => return None,
+            match self.child(place) {
+                ChildRef::Level(next) => level = &next.words,
+                ChildRef::Tail(_) => return None,
             }
         }
         Some(level)

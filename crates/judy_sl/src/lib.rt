@@ -6,8 +6,8 @@
 //! project's own. It stands on the word arrays of judy_word.
 //!
 //! Inside, a key is cut into pieces of eight bytes (specs/Pieces.antt), and a tree of `JudyL`s finds them piece by
-//! piece (specs/World.antt); `Arena` keeps all levels and tails of an array in one list (specs/Arenas.antt). arena.rt
-//! has the way of a key, grow.rt and branches.rt how a key comes in, shrink.rt how one goes, and scans.rt the
+//! piece (specs/World.antt); `Arena` keeps the levels of an array in one list and its tails in records (specs/Arenas.antt).
+//! arena.rt has the way of a key, grow.rt and branches.rt how a key comes in, shrink.rt how one goes, and scans.rt the
 //! neighbours; cursor.rt and runs.rt have walks that go from key to key by what a level still has.
 #![tactic(auto)]
 
@@ -24,6 +24,7 @@ mod kept;
 mod keys;
 pub mod laws;
 mod level;
+mod nearest_slots;
 mod nth;
 mod pieces;
 mod runs;

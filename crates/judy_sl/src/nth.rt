@@ -1,17 +1,17 @@
 //! Which key stands at a place: the first piece is sought among the first level's by how many keys stand before it, and behind it
 //! each level's entries are read from the nearer end up to the place, unless each has one key behind it.
 
-ghost use Rattle.std.specs.Prelude.{◌≡◌, ◌<◌, ◌≤◌, ◌+◌, ◌^◌, ℕ, Some, suc, drop, unwrap_or};
+ghost use Rattle.std.specs.Prelude.{◌≡◌, ◌<◌, ◌≤◌, ◌+◌, ◌^◌, ℕ, Some, suc, drop, unwrap_or, All};
 ghost use Rattle.std.specs.FinMap as map;
 ghost use Rattle.judy_model.specs.Counts as counts;
 ghost use Rattle.judy_sl.specs.Arenas.{world_of, map_of, IsArena};
-ghost use Rattle.judy_sl.specs.Counted.{keys_behind, keys_behind_all, AreCounted, StandsWith};
+ghost use Rattle.judy_sl.specs.Counted.{LeadsOn, keys_behind, keys_behind_all, AreCounted, StandsWith};
 ghost use Rattle.judy_sl.specs.Firsts.{AreFirsts};
 ghost use Rattle.judy_sl.specs.Nth.{before_entry, KeysFit, IsChosen, AreReadFor, IsSpotIn, IsSpotOf, IsNthBehind};
 ghost use Rattle.judy_sl.specs.Scans.{value_found};
 
 use crate::arena::Arena;
-use crate::child::Child;
+use crate::child::ChildRef;
 use crate::counts::PAGE;
 use crate::keys::KeyBuf;
 use crate::pieces::push_piece;
@@ -136,6 +136,7 @@ impl Arena {
     fn page_spot(&self, page: &[(u64, u64)], place: u64) -> Result<Spot, u64>
         requires is_arena { IsArena self.now }
         requires counted { AreCounted self.now }
+        requires leads { All (LeadsOn (world_of self.now)) page.now }
         ensures { AreReadFor (world_of self.now) page.now place result }
     {
         let mut left = place;
@@ -157,6 +158,7 @@ impl Arena {
     fn read_spot(&self, mut entries: Entries<'_>, place: u64) -> Spot
         requires is_arena { IsArena self.now }
         requires counted { AreCounted self.now }
+        requires leads { All (LeadsOn (world_of self.now)) entries }
         requires within { place < keys_behind_all (world_of self.now) entries }
         ensures { IsSpotIn (world_of self.now) entries.entry place result }
     {
@@ -176,6 +178,7 @@ impl Arena {
     fn read_back(&self, level: &WordMap, keys: u64, place: u64) -> Spot
         requires is_arena { IsArena self.now }
         requires counted { AreCounted self.now }
+        requires leads { All (LeadsOn (world_of self.now)) (map.entries level.now.map) }
         requires all { keys ≡ keys_behind_all (world_of self.now) (map.entries level.now.map) }
         requires within { place < keys }
         ensures { IsSpotIn (world_of self.now) (map.entries level.now.map) place result }
@@ -222,7 +225,7 @@ impl Arena {
     }
 
     // Puts what is left of the key at a place behind a child, counted from 0, behind the bytes of the buffer, and answers its value.
-    fn nth_behind(&self, child: usize, place: u64, key: &mut KeyBuf) -> Option<u64>
+    fn nth_behind(&self, child: u64, place: u64, key: &mut KeyBuf) -> Option<u64>
         requires is_arena { IsArena self.now }
         requires counted { AreCounted self.now }
         requires within { place < keys_behind (world_of self.now) (suc child) }
@@ -233,22 +236,20 @@ impl Arena {
         let mut at = child;
         let mut left = place;
         'down: loop {
-            match self.children.get(at) {
-                Some(Child::Level(keys, level)) => {
-                    let spot = self.spot_at(level, *keys, left);
+            match self.child(at) {
+                ChildRef::Level(level) => {
+                    let spot = self.spot_at(&level.words, level.keys, left);
                     push_piece(key, spot.piece);
                     if spot.piece % 256 == 0 {
                         return Some(spot.value);
                     }
-                    at = spot.value as usize;
+                    at = spot.value;
                     left = spot.place;
                 }
-                Some(Child::Tail(tail)) => {
-                    key.try_extend_from_slice(tail.bytes()).ok()?;
+                ChildRef::Tail(tail) => {
+                    tail.push_to(key);
                     return Some(tail.value());
                 }
-                Some(Child::Free(_)) => unreachable!(),
-                None => unreachable!(),
             }
         }
     }
@@ -272,6 +273,6 @@ impl Arena {
         if piece % 256 == 0 {
             return Some(value);
         }
-        self.nth_behind(value as usize, place - mark.before, key)
+        self.nth_behind(value, place - mark.before, key)
     }
 }

@@ -8,7 +8,7 @@ ghost use Rattle.judy_sl.specs.Arenas.{world_of, IsArena};
 ghost use Rattle.judy_sl.specs.Runs.{AreBeyond, EntryLeads, RunLeads, IsNextEntry, Stands, HasLevel, IsLevelBehind, IsAbove};
 
 use crate::arena::Arena;
-use crate::child::Child;
+use crate::child::ChildRef;
 use crate::keys::KeyBuf;
 use crate::pieces::{first_piece, push_piece};
 use crate::scans::Look;
@@ -52,14 +52,12 @@ impl Arena {
                 unreachable!()
             };
             rest = &rest[8..];
-            match self.children.get(at as usize) {
-                Some(Child::Level(_, next)) => {
+            match self.child(at) {
+                ChildRef::Level(next) => {
                     above.push(Some(level));
-                    level = next;
+                    level = &next.words;
                 }
-                Some(Child::Tail(_)) => unreachable!(),
-                Some(Child::Free(_)) => unreachable!(),
-                None => unreachable!(),
+                ChildRef::Tail(_) => unreachable!(),
             }
         }
         level
@@ -86,21 +84,19 @@ impl Arena {
         let (mut piece, mut value) = entry;
         while piece % 256 != 0 {
             push_piece(key, piece);
-            match self.children.get(value as usize) {
-                Some(Child::Level(_, next)) => {
+            match self.child(value) {
+                ChildRef::Level(next) => {
                     above.push(Some(run.level));
-                    run.level = next;
-                    run.entries = next.iter();
+                    run.level = &next.words;
+                    run.entries = next.words.iter();
                     let first = run.entries.next()?;
                     piece = first.0;
                     value = first.1;
                 }
-                Some(Child::Tail(tail)) => {
-                    key.try_extend_from_slice(tail.bytes()).ok()?;
+                ChildRef::Tail(tail) => {
+                    tail.push_to(key);
                     return Some(tail.value());
                 }
-                Some(Child::Free(_)) => return None,
-                None => return None,
             }
         }
         push_piece(key, piece);

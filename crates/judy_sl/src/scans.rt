@@ -7,13 +7,14 @@ ghost use Rattle.judy_model.specs.Keys.{IsWord};
 ghost use Rattle.judy_model.specs.Neighbours as neighbours;
 ghost use Rattle.judy_sl.specs.Pieces.{IsText};
 ghost use Rattle.judy_sl.specs.Arenas.{world_of, map_of, IsArena};
-ghost use Rattle.judy_sl.specs.Scans.{look_to, upward, is_beyond, along_bytes, IsNearestEntry, IsFirstEntry, piece_in, IsEntryOf, turn_or, neighbour_along, value_found, IsTurn, IsTurnAt, IsNeighbour};
+ghost use Rattle.judy_sl.specs.Scans.{look_to, upward, is_beyond, along_bytes, IsNearestEntry, IsFirstEntry, piece_in, IsEntryOf, turn_or, neighbour_along, value_found, value_in, StandsAt, IsTurn, IsTurnOf, IsNeighbour};
 
-use crate::arena::Arena;
-use crate::child::Child;
+use crate::arena::{Arena, Place, place_in};
+use crate::child::ChildRef;
 use crate::keys::KeyBuf;
 use crate::pieces::{first_piece, push_piece};
 use crate::strings::JudySl;
+use judy_tails::Tail;
 use judy_word::WordMap;
 use std::cmp::Ordering;
 
@@ -31,23 +32,33 @@ pub struct Look {
     pub itself: bool,
 }
 
-// An entry of a level, a piece and its value, behind so many bytes of a key: a scan's answer is the first of the keys
-// behind it.
+// An entry, a piece and its value, of the first level or the level of a child, behind so many bytes of a key: a scan's
+// answer is the first of the keys behind it.
 #[derive(Clone, Copy)]
 pub struct Turn {
+    pub child: Option<u64>,
     pub piece: u64,
     pub value: u64,
     pub depth: usize,
 }
 
+// The value of the key that a scan found, and where it stands.
+#[derive(Clone, Copy)]
+pub struct Found {
+    pub place: Place,
+    pub value: u64,
+}
+
 impl Side {
-    // Which of two rests of keys is met first.
-    fn order(self, one: &[u8], other: &[u8]) -> Ordering
-        ensures { result ≡ along_bytes self one.now other.now }
+    // Which is met first, the rest of a key or a tail.
+    fn order(self, rest: &[u8], tail: &Tail) -> Ordering
+        requires { IsText rest.now }
+        ensures { result ≡ along_bytes self rest.now tail.now.0 }
     {
+        let order = tail.order(rest);
         match self {
-            Side::Above => one.cmp(other),
-            Side::Below => other.cmp(one),
+            Side::Above => order.reverse(),
+            Side::Below => order,
         }
     }
 
@@ -88,14 +99,14 @@ impl Side {
 
 impl Look {
     // To a side, where the key itself counts.
-    fn inclusive(side: Side) -> Look
+    pub fn inclusive(side: Side) -> Look
         ensures { result ≡ look_to side true }
     {
         Look { side, itself: true }
     }
 
     // To a side, where it doesn't.
-    fn exclusive(side: Side) -> Look
+    pub fn exclusive(side: Side) -> Look
         ensures { result ≡ look_to side false }
     {
         Look {
@@ -127,11 +138,12 @@ impl Look {
         }
     }
 
-    // Whether the rest of one key is met from that of another.
-    fn meets(self, rest: &[u8], other: &[u8]) -> bool
-        ensures { result ≡ is_beyond self.itself (along_bytes self.side rest.now other.now) }
+    // Whether a tail is met from the rest of a key.
+    fn meets(self, tail: &Tail, rest: &[u8]) -> bool
+        requires { IsText rest.now }
+        ensures { result ≡ is_beyond self.itself (along_bytes self.side rest.now tail.now.0) }
     {
-        match self.side.order(rest, other) {
+        match self.side.order(rest, tail) {
             Ordering::Less => true,
             Ordering::Equal => self.itself,
             Ordering::Greater => false,
@@ -140,9 +152,25 @@ impl Look {
 }
 
 impl Arena {
-    // Puts the neighbour of the key into the buffer that holds the key, and answers the neighbour's value; where
-    // there is none the buffer stays.
-    pub fn neighbour(&self, look: Look, key: &mut KeyBuf) -> Option<u64>
+    // Puts the neighbour of the key into the buffer that holds the key, and answers the neighbour's value and where it
+    // stands; where there is none the buffer stays.
+    pub fn nearest(&self, look: Look, key: &mut KeyBuf) -> Option<Found>
+        requires is_arena { IsArena self.now }
+        requires without_zero { All (λ byte. byte ≢ 0) key.old.items }
+        ensures key { key.new.items
+            ≡ unwrap_or (neighbour_along look.side look.itself (map_of self.now) key.old.items)
+            key.old.items }
+        ensures value { value_in result
+            ≡ value_found (map_of self.now)
+            (neighbour_along look.side look.itself (map_of self.now) key.old.items) }
+        ensures stands { StandsAt (world_of self.now) key.new.items result }
+    {
+        let turn = self.turn(look, key.as_slice())?;
+        self.follow(look, turn, key)
+    }
+
+    // Its value alone.
+    fn neighbour(&self, look: Look, key: &mut KeyBuf) -> Option<u64>
         requires is_arena { IsArena self.now }
         requires without_zero { All (λ byte. byte ≢ 0) key.old.items }
         ensures key { key.new.items
@@ -152,8 +180,10 @@ impl Arena {
             ≡ value_found (map_of self.now)
             (neighbour_along look.side look.itself (map_of self.now) key.old.items) }
     {
-        let turn = self.turn(look, key.as_slice())?;
-        self.follow(look, turn, key)
+        match self.nearest(look, key) {
+            Some(found) => Some(found.value),
+            None => None,
+        }
     }
 
     // The entry behind which the neighbour of the key stands.
@@ -175,9 +205,10 @@ impl Arena {
         requires is_arena { IsArena self.now }
         requires without_zero { All (λ byte. byte ≢ 0) key.now }
         ensures is_text { IsText key.now }
-        ensures is_turn { IfSome result (IsTurnAt look (world_of self.now) key.now) }
+        ensures is_turn { IfSome result (IsTurnOf look (world_of self.now) key.now) }
     {
         let mut level = &self.root;
+        let mut child = None;
         let mut rest = key;
         while rest.len() >= 8 {
             let piece = first_piece(rest);
@@ -188,31 +219,35 @@ impl Arena {
             let apart = entry.0 != piece;
             if apart {
                 return Some(Turn {
+                    child,
                     piece: entry.0,
                     value: entry.1,
                     depth,
                 });
             }
             rest = &rest[8..];
-            match self.children.get(entry.1 as usize) {
-                Some(Child::Level(_, next)) => level = next,
-                Some(Child::Tail(tail)) => {
-                    let met = look.meets(rest, tail.bytes());
+            match self.child(entry.1) {
+                ChildRef::Level(next) => {
+                    level = &next.words;
+                    child = Some(entry.1);
+                }
+                ChildRef::Tail(tail) => {
+                    let met = look.meets(&tail, rest);
                     return if met {
                         Some(Turn {
+                            child,
                             piece,
                             value: entry.1,
                             depth,
                         })
                     } else {
-                        nearer(look.side.beyond(level, piece), depth, None)
+                        nearer(child, look.side.beyond(level, piece), depth, None)
                     };
                 }
-                Some(Child::Free(_)) => return None,
-                None => return None,
             }
         }
         nearer(
+            child,
             look.last_entry(level, first_piece(rest)),
             key.len() - rest.len(),
             None,
@@ -227,22 +262,27 @@ impl Arena {
         ensures is_turn { IsTurn look (world_of self.now) key.now result }
     {
         let mut level = &self.root;
+        let mut child = None;
         let mut rest = key;
         let mut turn = None;
         while rest.len() >= 8 {
             let piece = first_piece(rest);
             let depth = key.len() - rest.len();
-            turn = nearer(look.side.beyond(level, piece), depth, turn);
+            turn = nearer(child, look.side.beyond(level, piece), depth, turn);
             rest = &rest[8..];
             let Some(at) = level.get(piece) else {
                 return turn;
             };
-            match self.children.get(at as usize) {
-                Some(Child::Level(_, next)) => level = next,
-                Some(Child::Tail(tail)) => {
-                    let met = look.meets(rest, tail.bytes());
+            match self.child(at) {
+                ChildRef::Level(next) => {
+                    level = &next.words;
+                    child = Some(at);
+                }
+                ChildRef::Tail(tail) => {
+                    let met = look.meets(&tail, rest);
                     return if met {
                         Some(Turn {
+                            child,
                             piece,
                             value: at,
                             depth,
@@ -251,46 +291,53 @@ impl Arena {
                         turn
                     };
                 }
-                Some(Child::Free(_)) => return turn,
-                None => return turn,
             }
         }
         nearer(
+            child,
             look.last_entry(level, first_piece(rest)),
             key.len() - rest.len(),
             turn,
         )
     }
 
-    // Puts the first of the keys behind the entry into the buffer that holds the key, and answers its value. There is
-    // one: an entry leads to a tail, or to a level with entries.
-    fn follow(&self, look: Look, turn: Turn, key: &mut KeyBuf) -> Option<u64>
+    // Puts the first of the keys behind the entry into the buffer that holds the key, and answers its value and where it
+    // stands. There is one: an entry leads to a tail, or to a level with entries.
+    fn follow(&self, look: Look, turn: Turn, key: &mut KeyBuf) -> Option<Found>
         requires is_arena { IsArena self.now }
         requires is_text { IsText key.old.items }
-        requires is_turn { IsTurnAt look (world_of self.now) key.old.items turn }
-        ensures { IsNeighbour look (world_of self.now) key.old.items key.new.items result }
+        requires is_turn { IsTurnOf look (world_of self.now) key.old.items turn }
+        ensures neighbour { IsNeighbour look
+            (world_of self.now) key.old.items key.new.items (value_in result) }
+        ensures stands { StandsAt (world_of self.now) key.new.items result }
     {
         key.truncate(turn.depth);
+        let mut child = turn.child;
         let mut piece = turn.piece;
         let mut value = turn.value;
         while piece % 256 != 0 {
             push_piece(key, piece);
-            match self.children.get(value as usize) {
-                Some(Child::Level(_, next)) => {
-                    let entry = look.side.end(next)?;
+            match self.child(value) {
+                ChildRef::Level(next) => {
+                    let entry = look.side.end(&next.words)?;
+                    child = Some(value);
                     piece = entry.0;
                     value = entry.1;
                 }
-                Some(Child::Tail(tail)) => {
-                    key.try_extend_from_slice(tail.bytes()).ok()?;
-                    return Some(tail.value());
+                ChildRef::Tail(tail) => {
+                    tail.push_to(key);
+                    return Some(Found {
+                        place: Place::Below(value, 0),
+                        value: tail.value(),
+                    });
                 }
-                Some(Child::Free(_)) => return None,
-                None => return None,
             }
         }
         push_piece(key, piece);
-        Some(value)
+        Some(Found {
+            place: place_in(child, piece),
+            value,
+        })
     }
 }
 
@@ -348,12 +395,18 @@ impl JudySl {
     }
 }
 
-// The turn at the entry where there is one, and else the turn before.
-fn nearer(entry: Option<(u64, u64)>, depth: usize, turn: Option<Turn>) -> Option<Turn>
-    ensures { result ≡ turn_or entry depth turn }
+// The turn at the entry where there is one, of the first level or the level of a child, and else the turn before.
+fn nearer(
+    child: Option<u64>,
+    entry: Option<(u64, u64)>,
+    depth: usize,
+    turn: Option<Turn>,
+) -> Option<Turn>
+    ensures { result ≡ turn_or child entry depth turn }
 {
     match entry {
         Some((piece, value)) => Some(Turn {
+            child,
             piece,
             value,
             depth,

@@ -1,29 +1,29 @@
 //! How an arena loses a key: the entry at which its way leaves that of every other key is taken out, and what stands
 //! below it is given back. None of this asks for memory.
 
-ghost use Rattle.std.specs.Prelude.{◌≡◌, ◌<◌, Some, None, is_some, length, IsSome, IfSome};
+ghost use Rattle.std.specs.Prelude.{◌≡◌, Some, None, is_some, IsSome, IfSome};
 ghost use Rattle.std.specs.FinMap.{get};
 ghost use Rattle.judy_model.specs.Keys.{IsStringKey};
 ghost use Rattle.judy_sl.specs.Pieces.{pieces, piece_of, IsText};
 ghost use Rattle.judy_sl.specs.World.{lookup};
 ghost use Rattle.judy_sl.specs.Worlds.{AllLed};
-ghost use Rattle.judy_sl.specs.Arenas.{world_of, child_at, IsArena, FreesPlaces, KnowsFree};
-ghost use Rattle.judy_sl.specs.Places.{IsInside};
+ghost use Rattle.judy_sl.specs.Children.{level_of, IsTaken};
+ghost use Rattle.judy_sl.specs.Arenas.{world_of, child_at, IsArena};
+ghost use Rattle.judy_sl.specs.Places.{IsLevelPlace};
 ghost use Rattle.judy_sl.specs.Counted.{AreCounted, AreCountedBut, OneMore};
-ghost use Rattle.judy_sl.specs.Shrunk.{place_without, vacated, IsCut, IsDeeper, IsLoose, IsCleared, IsShrunk};
+ghost use Rattle.judy_sl.specs.Shrunk.{place_without, IsVacated, IsCut, IsDeeper, IsLoose, IsCleared, IsShrunk};
 
 use crate::arena::{Arena, Place, place_in};
-use crate::child::Child;
+use crate::child::{ChildRef, Level, is_level};
 use crate::pieces::first_piece;
 use judy_word::WordMap;
-use std::mem;
 
 // Where a key is cut off: at an entry of the last level on its way that has another one, or of the first level; the
 // child to which that leads, if the key goes on; and how many bytes of the key are left there.
 #[derive(Clone, Copy)]
 pub struct Cut {
     pub place: Place,
-    pub below: Option<usize>,
+    pub below: Option<u64>,
     pub left: usize,
 }
 
@@ -55,20 +55,16 @@ impl Arena {
             rest = &rest[8..];
             let here = Cut {
                 place: place_in(child, piece),
-                below: Some(at as usize),
+                below: Some(at),
                 left: rest.len(),
             };
             cut = Some(deeper(cut, level, here));
-            match self.children.get(at as usize) {
-                Some(Child::Level(_, next)) => {
-                    level = next;
-                    child = Some(at as usize);
+            match self.child(at) {
+                ChildRef::Level(next) => {
+                    level = &next.words;
+                    child = Some(at);
                 }
-                Some(Child::Tail(tail)) => {
-                    return if tail.bytes() == rest { cut } else { None };
-                }
-                Some(Child::Free(_)) => unreachable!(),
-                None => unreachable!(),
+                ChildRef::Tail(tail) => return if tail.is(rest) { cut } else { None },
             }
         }
         let piece = first_piece(rest);
@@ -81,52 +77,56 @@ impl Arena {
         Some(deeper(cut, level, here))
     }
 
-    // Takes an entry out.
+    // Takes an entry out of a level.
     fn take_out(&mut self, place: Place)
-        requires { IsInside self.old place }
+        requires { IsLevelPlace self.old place }
         ensures { self.new ≡ place_without self.old place }
     {
         match place {
             Place::Root(piece) => {
                 self.root.del(piece);
             }
-            Place::Below(at, piece) => self.child_at(at).take_out(piece),
+            Place::Below(at, piece) => match self.levels.get_mut((at / 256) as usize) {
+                Some(level) => {
+                    level.words.del(piece);
+                }
+                None => unreachable!(),
+            },
         }
     }
 
-    // Makes a place free, and answers what stood there.
-    fn vacate(&mut self, at: usize) -> Child
-        requires known { KnowsFree self.old }
-        requires inside { at < length self.old.children.items }
-        ensures child { result ≡ child_at self.old at }
-        ensures vacated { self.new ≡ vacated self.old at }
+    // Gives back what stands at a place, and answers the level that stood there, where it was one.
+    pub fn vacate(&mut self, at: u64) -> Option<Level>
+        requires taken { IsTaken (child_at self.old at) }
+        ensures level { result ≡ level_of (child_at self.old at) }
+        ensures vacated { IsVacated self.old self.new at }
     {
-        let child = mem::replace(&mut self.children[at], Child::Free(self.free));
-        self.free = at;
-        self.spare += 1;
-        child
+        if is_level(at) {
+            Some(self.levels.remove((at / 256) as usize))
+        } else {
+            self.tails.remove(at);
+            None
+        }
     }
 
     // Gives back a child to which no entry leads, and what it alone leads to, along the rest of a key.
-    fn clear(&mut self, at: usize, key: &[u8])
+    fn clear(&mut self, at: u64, key: &[u8])
         requires is_arena { IsArena self.old }
         requires is_text { IsText key.now }
         requires loose { IsLoose (world_of self.old) at (pieces key.now) }
-        requires known { KnowsFree self.old }
         ensures cleared { IsCleared self.old self.new }
-        ensures places { FreesPlaces self.old self.new }
     {
         let mut at = at;
         let mut rest = key;
         loop {
-            let Child::Level(_, level) = self.vacate(at) else {
+            let Some(level) = self.vacate(at) else {
                 return;
             };
             if rest.len() < 8 {
                 return;
             }
-            match level.get(first_piece(rest)) {
-                Some(next) => at = next as usize,
+            match level.words.get(first_piece(rest)) {
+                Some(next) => at = next,
                 None => unreachable!(),
             }
             rest = &rest[8..];
@@ -139,7 +139,6 @@ impl Arena {
         requires is_arena { IsArena self.old }
         requires counted { AreCounted self.old }
         requires led { AllLed (world_of self.old) }
-        requires known { KnowsFree self.old }
         requires is_key { IsStringKey key.now }
         ensures answer { is_some result ≡ is_some (lookup (world_of self.old) 0 (pieces key.now)) }
         ensures shrunk { IsShrunk self.old self.new key.now }
@@ -147,7 +146,6 @@ impl Arena {
             (λ beside. beside ≡ is_some (get self.new.root.map (piece_of key.now))) }
         ensures counted { IsSome result → AreCountedBut OneMore self.new key.now }
         ensures missed { result ≡ None → AreCounted self.new }
-        ensures places { FreesPlaces self.old self.new }
     {
         let Some(cut) = self.find_cut(key) else {
             return None;

@@ -87,13 +87,13 @@ impl JudySl {
         match self.arena.try_add(key, tries) {
             Ok(Some(place)) => {
                 self.count += 1;
-                self.arena.ins(place)
+                Ok(self.arena.lend(place))
             }
             Err(error) => Err(error),
             Ok(None) => match self.arena.walk(key) {
                 Way::At(place) => {
                     self.adds = false;
-                    self.arena.ins(place)
+                    Ok(self.arena.lend(place))
                 }
                 way => {
                     if !is_key(key) {
@@ -106,7 +106,7 @@ impl JudySl {
                         Ok(made) => {
                             self.count += 1;
                             self.adds = way.ends_first();
-                            self.arena.ins(made)
+                            Ok(self.arena.lend(made))
                         }
                         Err(error) => Err(error),
                     }
@@ -140,7 +140,7 @@ impl JudySl {
         match arena.walk(key) {
             Way::At(place) => self.arena.slot(place),
             Way::Gap(_, _) => None,
-            Way::Clash(_, _) => None,
+            Way::Clash(_, _, _) => None,
         }
     }
 
@@ -162,7 +162,7 @@ impl JudySl {
         found
     }
 
-    // Gives back what is left of an array that holds no key: its list and its free places.
+    // Gives back what is left of an array that holds no key: the lists of its levels and of its tails.
     fn give_back(&mut self)
         ensures { self.new ≡ self.old }
     {
@@ -201,7 +201,7 @@ impl JudySl {
         ensures emptied { self.new ≡ array.empty_array self.old.limit }
     {
         let freed = self.count;
-        let alloc = *self.arena.children.allocator();
+        let alloc = self.arena.alloc;
         self.arena = Arena::new(alloc);
         self.firsts = Sums::new(alloc);
         self.count = 0;

@@ -306,6 +306,34 @@ extern "C" {
         length: *mut usize,
         value: *mut u64,
     ) -> u32;
+    pub fn sellumaq_judysl_first_slot(
+        map: *const sellumaq_judysl,
+        buffer: *mut u8,
+        capacity: usize,
+        length: *mut usize,
+        slot: *mut *mut u64,
+    ) -> u32;
+    pub fn sellumaq_judysl_next_slot(
+        map: *const sellumaq_judysl,
+        buffer: *mut u8,
+        capacity: usize,
+        length: *mut usize,
+        slot: *mut *mut u64,
+    ) -> u32;
+    pub fn sellumaq_judysl_last_slot(
+        map: *const sellumaq_judysl,
+        buffer: *mut u8,
+        capacity: usize,
+        length: *mut usize,
+        slot: *mut *mut u64,
+    ) -> u32;
+    pub fn sellumaq_judysl_prev_slot(
+        map: *const sellumaq_judysl,
+        buffer: *mut u8,
+        capacity: usize,
+        length: *mut usize,
+        slot: *mut *mut u64,
+    ) -> u32;
     pub fn sellumaq_judysl_count(
         map: *const sellumaq_judysl,
         from: *const u8,

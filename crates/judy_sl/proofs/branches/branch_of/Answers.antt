@@ -49,9 +49,11 @@ returns-in-Ok-sprout-2-clause-built c = record {
   rest_parts = c.loop-piece.invariant.rest_parts;
   held_text = c.loop-piece.invariant.held_text;
   rest_text = c.loop-piece.invariant.rest_text;
+  held_short = c.loop-piece.invariant.held_short;
+  rest_short = c.loop-piece.invariant.rest_short;
   differ = λ e. c.loop-piece-test.false (c.first_piece.ensures ∙ e ∙ sym c.first_piece-in-loop-piece.ensures);
   middle = c.sprout.new.level;
-  old = subst (λ (l : ArrayOf word_order). IsSprout l c.sprout.new.level c.loop-piece.held.now c.args.tail.now.1 c.in-Ok-sprout.old) c.unbounded-fork.ensures (rw c.value.ensures at c.in-Ok-sprout.ensures.sprouted);
+  old = subst (λ (l : ArrayOf word_order). IsSprout l c.sprout.new.level c.loop-piece.held.now c.args.value c.in-Ok-sprout.old) c.unbounded-fork.ensures c.in-Ok-sprout.ensures.sprouted;
   new = c.in-Ok-sprout-2.ensures.sprouted;
 }
 

@@ -1,13 +1,13 @@
 use Rattle.std.proofs.Common.{◌≡◌, ◌∙◌, sym, ap, arith, drop, false, subst, refl, suc}
 use Rattle.std.proofs.lemmas.List.{take_rest}
 use Rattle.std.specs.FinMap.{get}
-use Rattle.judy_sl.specs.declared.child.Child.TheVariants.{Free, Tail, Level}
 use Rattle.judy_sl.specs.Pieces.{piece_of, pieces}
 use Rattle.judy_sl.specs.Arenas.{world_of, node_of, HasText}
+use Rattle.judy_sl.specs.Ways.{seat_in}
 use Rattle.judy_sl.specs.Scans.{is_beyond, along_bytes, meets, IsNearestEntry, piece_in, IsTurn}
 use Rattle.judy_sl.proofs.PieceLemmas.{text_from_bytes, piece-IsInner, text-drop}
-use Rattle.judy_sl.proofs.OnWay.{child_from}
-use Rattle.judy_sl.proofs.ScanLevels.{none_absent, none_child, none_gone, none_tail}
+use Rattle.judy_sl.proofs.Linked.{taken_of}
+use Rattle.judy_sl.proofs.ScanLevels.{none_absent, none_child, none_tail}
 use Rattle.judy_sl.proofs.ScanEntries.{bytes_along}
 use Rattle.judy_sl.proofs.ScanWays.{on_start, on_moved, on_left, on_tail, on_last}
 use Rattle.judy_sl.proofs.arena.Arena.any_turn.Goals as goal
@@ -21,77 +21,65 @@ returns-in_default-clause-is_turn c =
     let on = c.loop-rest.invariant in
     let nearest = subst (λ p. IsNearestEntry c.args.look.side false words p (piece_in c.beyond.result)) c.first_piece-piece.ensures c.beyond.ensures.nearest in
     let absent = sym (ap (λ p. get words p) c.first_piece-piece.ensures) ∙ sym c.get.ensures ∙ c.in_default.is in
-    let none = none_absent c.args.look (world_of c.args.self.now) on.scan.seat words on.scan.is_level (piece_of c.loop-rest.rest.now) (pieces (drop 8 c.loop-rest.rest.now)) absent in
+    let none = none_absent c.args.look (world_of c.args.self.now) (seat_in c.loop-rest.child) words on.scan.is_level (piece_of c.loop-rest.rest.now) (pieces (drop 8 c.loop-rest.rest.now)) absent in
     subst (IsTurn c.args.look (world_of c.args.self.now) c.args.key.now) (sym c.nearer-turn.ensures)
-    (on_left c.args.look (world_of c.args.self.now) c.args.key.now words c.loop-rest.rest.now c.loop-rest.turn on c.loop-rest-test.true c.beyond.result nearest c.beyond.ensures.value none)
+    (on_left c.args.look (world_of c.args.self.now) c.args.key.now c.loop-rest.child words c.loop-rest.rest.now c.loop-rest.turn on c.loop-rest-test.true c.beyond.result nearest c.beyond.ensures.value none)
+
+pub child-requires : goal.child-requires
+child-requires c =
+    let words = c.loop-rest.level.now.map in
+    let on = c.loop-rest.invariant.scan in
+    let entry = sym (ap (λ p. get words p) c.first_piece-piece.ensures) ∙ sym c.get.ensures ∙ c.in-Some.is in
+    taken_of c.args.self.now c.in-Some.at ((c.requires.is_arena.is_world.levels (seat_in c.loop-rest.child) words on.is_level).leads (piece_of c.loop-rest.rest.now) c.in-Some.at entry (piece-IsInner c.loop-rest.rest.now on.text c.loop-rest-test.true)).1
+
+pub meets-met-requires : goal.meets-met-requires
+meets-met-requires c = rw take_rest (text-drop 8 c.loop-rest.rest.now c.loop-rest.invariant.scan.text)
 
 pub loop-rest-preserved : goal.loop-rest-preserved
 loop-rest-preserved c =
     let words = c.loop-rest.level.now.map in
     let nearest = subst (λ p. IsNearestEntry c.args.look.side false words p (piece_in c.beyond.result)) c.first_piece-piece.ensures c.beyond.ensures.nearest in
     let entry = sym (ap (λ p. get words p) c.first_piece-piece.ensures) ∙ sym c.get.ensures ∙ c.in-Some.is in
-    let child = child_from c.args.self.now _ c.deref.ensures.value c.in-Some.at _ (Level c.in-Some-Level.field-0-0 c.in-Some-Level.next) (c.in-Some-Level.ensures.lookup.4 (omega arith) (Free 0)) c.in-Some-Level.field-0-is in
-    rw (take_rest, c.nearer-turn.ensures) (on_moved c.args.look (world_of c.args.self.now) c.args.key.now words c.loop-rest.rest.now c.loop-rest.turn c.loop-rest.invariant c.loop-rest-test.true c.beyond.result c.in-Some.at c.in-Some-Level.next.map nearest c.beyond.ensures.value entry (ap node_of child))
+    let child = c.in-Level.ensures in
+    rw (take_rest, c.nearer-turn.ensures) (on_moved c.args.look (world_of c.args.self.now) c.args.key.now c.loop-rest.child words c.loop-rest.rest.now c.loop-rest.turn c.loop-rest.invariant c.loop-rest-test.true c.beyond.result c.in-Some.at c.in-Level.next.now.words.map nearest c.beyond.ensures.value entry (ap node_of child))
 
 pub returns-then-met-clause-is_turn : goal.returns-then-met-clause-is_turn
 returns-then-met-clause-is_turn c =
     let words = c.loop-rest.level.now.map in
     let on = c.loop-rest.invariant in
     let entry = sym (ap (λ p. get words p) c.first_piece-piece.ensures) ∙ sym c.get.ensures ∙ c.in-Some.is in
-    let held = c.in-Some-Tail.tail.0 in
-    let child = child_from c.args.self.now _ c.deref.ensures.value c.in-Some.at _ (Tail c.in-Some-Tail.tail) (c.in-Some-Tail.ensures.lookup.4 (omega arith) (Free 0)) c.in-Some-Tail.field-0-is in
+    let held = c.in-Tail.tail.0 in
+    let child = c.in-Tail.ensures in
     let text = subst HasText child (c.requires.is_arena.texts c.in-Some.at) in
     let met : meets c.args.look (world_of c.args.self.now) (pieces (drop 8 c.loop-rest.rest.now)) (pieces held) ≡ c.meets-met.result =
     ap (is_beyond c.args.look.itself) (bytes_along c.args.look.side (drop 8 c.loop-rest.rest.now) held (text-drop 8 c.loop-rest.rest.now on.scan.text) text)
-    ∙ (λ t. is_beyond c.args.look.itself (along_bytes c.args.look.side (sym (take_rest c.loop-rest.rest.now 8) t) (sym c.bytes.ensures t)))
+    ∙ (λ t. is_beyond c.args.look.itself (along_bytes c.args.look.side (sym (take_rest c.loop-rest.rest.now 8) t) held))
     ∙ sym c.meets-met.ensures in
-    rw c.first_piece-piece.ensures (on_tail c.args.look (world_of c.args.self.now) c.args.key.now words c.loop-rest.rest.now c.loop-rest.turn on c.loop-rest-test.true c.in-Some.at c.in-Some-Tail.tail.1 (pieces held) entry (ap node_of child) (met ∙ c.if-met.true))
+    rw c.first_piece-piece.ensures (on_tail c.args.look (world_of c.args.self.now) c.args.key.now c.loop-rest.child words c.loop-rest.rest.now c.loop-rest.turn on c.loop-rest-test.true c.in-Some.at c.in-Tail.tail.1 (pieces held) entry (ap node_of child) (met ∙ c.if-met.true))
 
 pub returns-else-met-clause-is_turn : goal.returns-else-met-clause-is_turn
 returns-else-met-clause-is_turn c =
     let words = c.loop-rest.level.now.map in
     let on = c.loop-rest.invariant in
     let entry = sym (ap (λ p. get words p) c.first_piece-piece.ensures) ∙ sym c.get.ensures ∙ c.in-Some.is in
-    let held = c.in-Some-Tail.tail.0 in
-    let child = child_from c.args.self.now _ c.deref.ensures.value c.in-Some.at _ (Tail c.in-Some-Tail.tail) (c.in-Some-Tail.ensures.lookup.4 (omega arith) (Free 0)) c.in-Some-Tail.field-0-is in
+    let held = c.in-Tail.tail.0 in
+    let child = c.in-Tail.ensures in
     let text = subst HasText child (c.requires.is_arena.texts c.in-Some.at) in
     let met : meets c.args.look (world_of c.args.self.now) (pieces (drop 8 c.loop-rest.rest.now)) (pieces held) ≡ c.meets-met.result =
     ap (is_beyond c.args.look.itself) (bytes_along c.args.look.side (drop 8 c.loop-rest.rest.now) held (text-drop 8 c.loop-rest.rest.now on.scan.text) text)
-    ∙ (λ t. is_beyond c.args.look.itself (along_bytes c.args.look.side (sym (take_rest c.loop-rest.rest.now 8) t) (sym c.bytes.ensures t)))
+    ∙ (λ t. is_beyond c.args.look.itself (along_bytes c.args.look.side (sym (take_rest c.loop-rest.rest.now 8) t) held))
     ∙ sym c.meets-met.ensures in
     let nearest = subst (λ p. IsNearestEntry c.args.look.side false words p (piece_in c.beyond.result)) c.first_piece-piece.ensures c.beyond.ensures.nearest in
-    let none = none_child c.args.look (world_of c.args.self.now) on.scan.seat words on.scan.is_level (piece_of c.loop-rest.rest.now) c.in-Some.at (pieces (drop 8 c.loop-rest.rest.now)) entry (piece-IsInner c.loop-rest.rest.now on.scan.text c.loop-rest-test.true) (none_tail c.args.look (world_of c.args.self.now) (suc c.in-Some.at) (pieces (drop 8 c.loop-rest.rest.now)) (pieces held) c.in-Some-Tail.tail.1 (ap node_of child) (met ∙ c.if-met.false)) in
+    let none = none_child c.args.look (world_of c.args.self.now) (seat_in c.loop-rest.child) words on.scan.is_level (piece_of c.loop-rest.rest.now) c.in-Some.at (pieces (drop 8 c.loop-rest.rest.now)) entry (piece-IsInner c.loop-rest.rest.now on.scan.text c.loop-rest-test.true) (none_tail c.args.look (world_of c.args.self.now) (suc c.in-Some.at) (pieces (drop 8 c.loop-rest.rest.now)) (pieces held) c.in-Tail.tail.1 (ap node_of child) (met ∙ c.if-met.false)) in
     subst (IsTurn c.args.look (world_of c.args.self.now) c.args.key.now) (sym c.nearer-turn.ensures)
-    (on_left c.args.look (world_of c.args.self.now) c.args.key.now words c.loop-rest.rest.now c.loop-rest.turn on c.loop-rest-test.true c.beyond.result nearest c.beyond.ensures.value none)
-
-pub returns-in-Some-Free-clause-is_turn : goal.returns-in-Some-Free-clause-is_turn
-returns-in-Some-Free-clause-is_turn c =
-    let words = c.loop-rest.level.now.map in
-    let on = c.loop-rest.invariant in
-    let nearest = subst (λ p. IsNearestEntry c.args.look.side false words p (piece_in c.beyond.result)) c.first_piece-piece.ensures c.beyond.ensures.nearest in
-    let entry = sym (ap (λ p. get words p) c.first_piece-piece.ensures) ∙ sym c.get.ensures ∙ c.in-Some.is in
-    let child = child_from c.args.self.now _ c.deref.ensures.value c.in-Some.at _ (Free c.in-Some-Free.field-0-0) (c.in-Some-Free.ensures.lookup.4 (omega arith) (Free 0)) c.in-Some-Free.field-0-is in
-    let none = none_child c.args.look (world_of c.args.self.now) on.scan.seat words on.scan.is_level (piece_of c.loop-rest.rest.now) c.in-Some.at (pieces (drop 8 c.loop-rest.rest.now)) entry (piece-IsInner c.loop-rest.rest.now on.scan.text c.loop-rest-test.true) (none_gone c.args.look (world_of c.args.self.now) (suc c.in-Some.at) (pieces (drop 8 c.loop-rest.rest.now)) (ap node_of child)) in
-    subst (IsTurn c.args.look (world_of c.args.self.now) c.args.key.now) (sym c.nearer-turn.ensures)
-    (on_left c.args.look (world_of c.args.self.now) c.args.key.now words c.loop-rest.rest.now c.loop-rest.turn on c.loop-rest-test.true c.beyond.result nearest c.beyond.ensures.value none)
-
-pub returns-in-None-clause-is_turn : goal.returns-in-None-clause-is_turn
-returns-in-None-clause-is_turn c =
-    let words = c.loop-rest.level.now.map in
-    let on = c.loop-rest.invariant in
-    let nearest = subst (λ p. IsNearestEntry c.args.look.side false words p (piece_in c.beyond.result)) c.first_piece-piece.ensures c.beyond.ensures.nearest in
-    let entry = sym (ap (λ p. get words p) c.first_piece-piece.ensures) ∙ sym c.get.ensures ∙ c.in-Some.is in
-    let child = child_from c.args.self.now _ c.deref.ensures.value c.in-Some.at _ (Free 0) (c.in-None.ensures.lookup.4 (omega arith) (Free 0)) refl in
-    let none = none_child c.args.look (world_of c.args.self.now) on.scan.seat words on.scan.is_level (piece_of c.loop-rest.rest.now) c.in-Some.at (pieces (drop 8 c.loop-rest.rest.now)) entry (piece-IsInner c.loop-rest.rest.now on.scan.text c.loop-rest-test.true) (none_gone c.args.look (world_of c.args.self.now) (suc c.in-Some.at) (pieces (drop 8 c.loop-rest.rest.now)) (ap node_of child)) in
-    subst (IsTurn c.args.look (world_of c.args.self.now) c.args.key.now) (sym c.nearer-turn.ensures)
-    (on_left c.args.look (world_of c.args.self.now) c.args.key.now words c.loop-rest.rest.now c.loop-rest.turn on c.loop-rest-test.true c.beyond.result nearest c.beyond.ensures.value none)
+    (on_left c.args.look (world_of c.args.self.now) c.args.key.now c.loop-rest.child words c.loop-rest.rest.now c.loop-rest.turn on c.loop-rest-test.true c.beyond.result nearest c.beyond.ensures.value none)
 
 pub returns-clause-is_turn : goal.returns-clause-is_turn
 returns-clause-is_turn c =
     let words = c.loop-rest.level.now.map in
     let nearest = subst (λ p. IsNearestEntry c.args.look.side c.args.look.itself words p (piece_in c.last_entry.result)) c.first_piece.ensures c.last_entry.ensures.nearest in
     subst (IsTurn c.args.look (world_of c.args.self.now) c.args.key.now) (sym c.nearer.ensures)
-    (on_last c.args.look (world_of c.args.self.now) c.args.key.now words c.loop-rest.rest.now c.loop-rest.turn c.loop-rest.invariant c.last_entry.result (omega arith) nearest c.last_entry.ensures.value)
+    (on_last c.args.look (world_of c.args.self.now) c.args.key.now c.loop-rest.child words c.loop-rest.rest.now c.loop-rest.turn c.loop-rest.invariant c.last_entry.result (omega arith) nearest c.last_entry.ensures.value)
 
 pub returns-in_default-clause-is_text : goal.returns-in_default-clause-is_text
 returns-in_default-clause-is_text c = text_from_bytes c.args.key.now c.type_inv.key c.requires.without_zero
@@ -101,12 +89,6 @@ returns-then-met-clause-is_text c = text_from_bytes c.args.key.now c.type_inv.ke
 
 pub returns-else-met-clause-is_text : goal.returns-else-met-clause-is_text
 returns-else-met-clause-is_text c = text_from_bytes c.args.key.now c.type_inv.key c.requires.without_zero
-
-pub returns-in-Some-Free-clause-is_text : goal.returns-in-Some-Free-clause-is_text
-returns-in-Some-Free-clause-is_text c = text_from_bytes c.args.key.now c.type_inv.key c.requires.without_zero
-
-pub returns-in-None-clause-is_text : goal.returns-in-None-clause-is_text
-returns-in-None-clause-is_text c = text_from_bytes c.args.key.now c.type_inv.key c.requires.without_zero
 
 pub returns-clause-is_text : goal.returns-clause-is_text
 returns-clause-is_text c = text_from_bytes c.args.key.now c.type_inv.key c.requires.without_zero

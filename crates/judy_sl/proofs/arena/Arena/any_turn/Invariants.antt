@@ -4,7 +4,7 @@ use Rattle.judy_sl.proofs.ScanWays.{OnTurn}
 use Rattle.judy_sl.proofs.arena.Arena.any_turn.Given as goal
 
 abbrev pub invariant-loop-rest : goal.invariant-loop-rest
-invariant-loop-rest l = OnTurn l.look (world_of l.self) l.key l.level.map l.rest l.turn
+invariant-loop-rest l = OnTurn l.look (world_of l.self) l.key l.child l.level.map l.rest l.turn
 
 abbrev pub decreases-loop-rest : goal.decreases-loop-rest
 decreases-loop-rest l = length l.rest

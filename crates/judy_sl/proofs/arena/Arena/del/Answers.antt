@@ -1,9 +1,7 @@
-use Rattle.std.proofs.Common.{sym, ◌∙◌, subst}
+use Rattle.std.proofs.Common.{sym, ◌∙◌}
 use Rattle.std.proofs.lemmas.List.{take_rest}
 use Rattle.judy_sl.proofs.PieceLemmas.{text_of_key, pieces_are}
-use Rattle.judy_sl.specs.Arenas.{FreesPlaces, KnowsFree}
-use Rattle.judy_sl.proofs.Reused.{without-places, then-freeing}
-use Rattle.judy_sl.proofs.Shrinks.{cut-inside, cut-found, shrunk-last, shrunk-on, on-arena, on-is_loose}
+use Rattle.judy_sl.proofs.Shrinks.{cut-level, cut-found, shrunk-last, shrunk-on, on-arena, on-is_loose}
 use Rattle.judy_sl.proofs.CountedLost.{counted-lost, left-same}
 use Rattle.judy_sl.proofs.Beside.{beside-left}
 use Rattle.judy_sl.proofs.arena.Arena.del.Goals as goal
@@ -15,9 +13,6 @@ clear-requires-clause-is_arena c =
 pub clear-requires-clause-loose : goal.clear-requires-clause-loose
 clear-requires-clause-loose c =
     rw take_rest (on-is_loose c.args.self.now c.requires.is_arena c.requires.led c.args.key.now c.in-Some.cut c.in-Some.ensures c.take_out.new.self c.take_out.ensures c.in-Some-below.at c.in-Some-below.is)
-
-pub clear-requires-clause-known : goal.clear-requires-clause-known
-clear-requires-clause-known c = subst KnowsFree (sym c.take_out.ensures) ((without-places c.args.self.now c.in-Some.cut.place).known c.requires.known)
 
 pub returns-in-Some-below-clause-answer : goal.returns-in-Some-below-clause-answer
 returns-in-Some-below-clause-answer c = sym (cut-found c.args.self.now c.requires.is_arena c.requires.led c.args.key.now c.in-Some.cut c.in-Some.ensures)
@@ -33,23 +28,15 @@ pub returns-in_default-below-clause-shrunk : goal.returns-in_default-below-claus
 returns-in_default-below-clause-shrunk c =
     shrunk-last c.args.self.now c.requires.is_arena c.requires.led c.args.key.now c.in-Some.cut c.in-Some.ensures c.take_out.new.self c.take_out.ensures c.in_default-below.is
 
-pub returns-in-Some-below-clause-places : goal.returns-in-Some-below-clause-places
-returns-in-Some-below-clause-places c =
-    then-freeing c.args.self.now c.take_out.new.self c.clear.new.self
-    (subst (FreesPlaces c.args.self.now) (sym c.take_out.ensures) (without-places c.args.self.now c.in-Some.cut.place)) c.clear.ensures.places
-
-pub returns-in_default-below-clause-places : goal.returns-in_default-below-clause-places
-returns-in_default-below-clause-places c = subst (FreesPlaces c.args.self.now) (sym c.take_out.ensures) (without-places c.args.self.now c.in-Some.cut.place)
-
 pub returns-in-Some-below-clause-counted : goal.returns-in-Some-below-clause-counted
 returns-in-Some-below-clause-counted c = λ found.
-    counted-lost c.args.self.now c.take_out.new.self c.clear.new.self c.in-Some.cut.place c.take_out.ensures (cut-inside c.args.self.now c.requires.is_arena c.requires.led c.args.key.now c.in-Some.cut c.in-Some.ensures) c.clear.ensures.cleared.left c.args.key.now c.requires.is_key
+    counted-lost c.args.self.now c.take_out.new.self c.clear.new.self c.in-Some.cut.place c.take_out.ensures (cut-level c.args.self.now c.requires.is_arena c.requires.led c.args.key.now c.in-Some.cut c.in-Some.ensures) c.clear.ensures.cleared.left c.args.key.now c.requires.is_key
     (shrunk-on c.args.self.now c.requires.is_arena c.requires.led c.args.key.now c.in-Some.cut c.in-Some.ensures c.take_out.new.self c.take_out.ensures c.in-Some-below.at c.in-Some-below.is c.clear.new.self (pieces_are c.args.key.now (text_of_key c.args.key.now c.requires.is_key)) c.clear.ensures.cleared)
     (cut-found c.args.self.now c.requires.is_arena c.requires.led c.args.key.now c.in-Some.cut c.in-Some.ensures) c.requires.counted
 
 pub returns-in_default-below-clause-counted : goal.returns-in_default-below-clause-counted
 returns-in_default-below-clause-counted c = λ found.
-    counted-lost c.args.self.now c.take_out.new.self c.take_out.new.self c.in-Some.cut.place c.take_out.ensures (cut-inside c.args.self.now c.requires.is_arena c.requires.led c.args.key.now c.in-Some.cut c.in-Some.ensures) (left-same c.take_out.new.self) c.args.key.now c.requires.is_key
+    counted-lost c.args.self.now c.take_out.new.self c.take_out.new.self c.in-Some.cut.place c.take_out.ensures (cut-level c.args.self.now c.requires.is_arena c.requires.led c.args.key.now c.in-Some.cut c.in-Some.ensures) (left-same c.take_out.new.self) c.args.key.now c.requires.is_key
     (shrunk-last c.args.self.now c.requires.is_arena c.requires.led c.args.key.now c.in-Some.cut c.in-Some.ensures c.take_out.new.self c.take_out.ensures c.in_default-below.is)
     (cut-found c.args.self.now c.requires.is_arena c.requires.led c.args.key.now c.in-Some.cut c.in-Some.ensures) c.requires.counted
 

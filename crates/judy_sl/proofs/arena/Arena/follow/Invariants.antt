@@ -4,7 +4,7 @@ use Rattle.judy_sl.proofs.ScanEnds.{Following}
 use Rattle.judy_sl.proofs.arena.Arena.follow.Given as goal
 
 abbrev pub invariant-loop-piece : goal.invariant-loop-piece
-invariant-loop-piece l = Following l.look (world_of l.self) l.fn.key.items l.piece l.value l.key.items
+invariant-loop-piece l = Following l.look (world_of l.self) l.fn.key.items l.child l.piece l.value l.key.items
 
 abbrev pub decreases-loop-piece : goal.decreases-loop-piece
 decreases-loop-piece l = 1024 - length l.key.items

@@ -1,8 +1,13 @@
-use Rattle.std.proofs.Common.{ℕ, ◌<◌, get_or}
-use Rattle.judy_sl.specs.declared.child.Child.TheVariants.{Free}
-use Rattle.judy_sl.specs.Arenas.{node_of}
-use Rattle.judy_sl.specs.Words.{HasWords}
+use Rattle.std.proofs.Common.{◌≡◌, ◌⊎◌, ℕ, Some, Contains}
+use Rattle.slab.specs.Slab as slab
+use Rattle.judy_model.specs.Keys.{IsWord}
+use Rattle.judy_model.specs.Arrays.{IsArrayOf}
+use Rattle.judy_sl.specs.declared.child.Level.{Level as LevelParts}
 use Rattle.judy_sl.proofs.arena.Arena.has_words.Given as goal
 
-abbrev pub invariant-loop-child : goal.invariant-loop-child
-invariant-loop-child l = (at : ℕ) → at < l.child-index → HasWords (node_of (get_or l.child-items at (Free 0)))
+-- Each level is still to come, or its values are words.
+abbrev pub invariant-loop-level : goal.invariant-loop-level
+invariant-loop-level l =
+    (goal.iterator-loop-level).can_next l.level-iterator ×
+    (goal.iterator-loop-level).is_finite l.level-iterator ×
+    ((key : ℕ) (parts : LevelParts) → slab.get l.self.levels key ≡ Some parts → Contains l.level-iterator (key, parts) ⊎ IsArrayOf IsWord parts.words)

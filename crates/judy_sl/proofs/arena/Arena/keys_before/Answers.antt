@@ -1,15 +1,16 @@
-use Rattle.std.proofs.Common.{◌≡◌, ℕ, ◌-◌, length, take, drop, ◌∙◌, sym, ap, arith}
+use Rattle.std.proofs.Common.{◌≡◌, ℕ, ◌-◌, length, take, drop, All, ◌∙◌, sym, ap, subst, arith}
 use Rattle.std.specs.Cmp.{nat_cmp_total}
 use Rattle.std.specs.FinMap.{FinMap, entries, len, len-entries}
 use Rattle.std.proofs.lemmas.List.{length-drop, take_all}
+use Rattle.std.proofs.lemmas.List.Elements.{All-drop}
 use Rattle.judy_model.specs.Keys.{word_order}
 use Rattle.judy_model.specs.Counts.{rank}
 use Rattle.judy_model.proofs.RankLemmas.{rank-le}
 use Rattle.judy_sums.specs.Pairs.{Pairs}
 use Rattle.judy_sl.specs.Arenas.{world_of}
-use Rattle.judy_sl.specs.Counted.{keys_behind_all}
+use Rattle.judy_sl.specs.Counted.{LeadsOn, keys_behind_all}
 use Rattle.judy_sl.proofs.LoneKeys.{level_keys, lone_below}
-use Rattle.judy_sl.proofs.PageCounts.{front_keys, rest_keys}
+use Rattle.judy_sl.proofs.PageCounts.{entries_lead, front_keys, rest_keys}
 use Rattle.judy_sl.proofs.arena.Arena.keys_before.Goals as goal
 
 -- The entries from a piece on, as the array of the level has them, are all that are left.
@@ -27,6 +28,11 @@ returns-then-all-entries c =
     let stands = c.requires.told in
     let alone = sym stands.told ∙ sym c.from-all.ensures ∙ c.if-all-entries.true ∙ c.len-entries.ensures.count in
     c.lesser_in-lesser.ensures ∙ sym (lone_below c.requires.is_arena.is_world stands.seat c.args.level.now.map stands.is_level alone c.args.piece)
+
+pub read_keys-requires-clause-leads : goal.read_keys-requires-clause-leads
+read_keys-requires-clause-leads c =
+    let stands = c.requires.told in
+    subst (λ (all : Pairs). All (LeadsOn (world_of c.args.self.now)) all) (sym c.iter.ensures) (entries_lead c.requires.is_arena.is_world stands.seat c.args.level.now.map stands.is_level)
 
 pub read_keys-requires-clause-there : goal.read_keys-requires-clause-there
 read_keys-requires-clause-there c =
@@ -57,6 +63,14 @@ overflow_sub-entries c =
     let lesser = c.lesser_in-lesser.ensures in
     let count = c.len-entries.ensures.count in
     omega arith
+
+pub read_keys-requires-else-lesser-entries-clause-leads : goal.read_keys-requires-else-lesser-entries-clause-leads
+read_keys-requires-else-lesser-entries-clause-leads c =
+    let world = world_of c.args.self.now in
+    let words = c.args.level.now.map in
+    let stands = c.requires.told in
+    let rest = rest_is words c.array.result.now.map c.array.ensures.map c.args.piece c.iter_from.result c.iter_from.ensures in
+    subst (λ (all : Pairs). All (LeadsOn world) all) (sym rest) (All-drop (LeadsOn world) (rank words c.args.piece) (entries words) (entries_lead c.requires.is_arena.is_world stands.seat words stands.is_level))
 
 pub read_keys-requires-else-lesser-entries-clause-there : goal.read_keys-requires-else-lesser-entries-clause-there
 read_keys-requires-else-lesser-entries-clause-there c =

@@ -1,12 +1,12 @@
 use Rattle.std.proofs.Common.{◌≡◌, ◌≢◌, ◌∙◌, sym, ap, arith, drop, true, false, subst, refl, suc, Some}
 use Rattle.std.proofs.lemmas.List.{take_rest}
 use Rattle.std.specs.FinMap.{get}
-use Rattle.judy_sl.specs.declared.child.Child.TheVariants.{Free, Tail, Level}
 use Rattle.judy_sl.specs.Pieces.{piece_of, pieces}
 use Rattle.judy_sl.specs.Arenas.{world_of, node_of, HasText}
+use Rattle.judy_sl.specs.Ways.{seat_in}
 use Rattle.judy_sl.specs.Scans.{is_beyond, along_bytes, meets, IsNearestEntry, IsEntryOf, piece_in}
 use Rattle.judy_sl.proofs.PieceLemmas.{text_from_bytes, piece-IsInner, text-drop}
-use Rattle.judy_sl.proofs.OnWay.{child_from}
+use Rattle.judy_sl.proofs.Linked.{taken_of}
 use Rattle.judy_sl.proofs.ScanLevels.{none_absent, none_child, none_tail}
 use Rattle.judy_sl.proofs.ScanEntries.{bytes_along, apart-beyond, apart-absent}
 use Rattle.judy_sl.proofs.ScanWays.{scan_start, scan_moved, scan_left, scan_tail, scan_last}
@@ -24,16 +24,27 @@ returns-then-apart-clause-is_turn c =
     let apart : c.in-Some.entry.0 ≢ piece_of c.loop-rest.rest.now = (λ e. c.if-apart.true (e ∙ sym c.first_piece-piece.ensures)) in
     let beyond = apart-beyond words (piece_of c.loop-rest.rest.now) c.in-Some.entry.0 apart c.args.look.side nearest in
     let absent = apart-absent words (piece_of c.loop-rest.rest.now) c.in-Some.entry.0 apart c.args.look.side nearest in
-    let none = none_absent c.args.look (world_of c.args.self.now) on.seat words on.is_level (piece_of c.loop-rest.rest.now) (pieces (drop 8 c.loop-rest.rest.now)) absent in
-    scan_left c.args.look (world_of c.args.self.now) c.args.key.now words c.loop-rest.rest.now on c.loop-rest-test.true (Some c.in-Some.entry) beyond (subst (IsEntryOf words) c.in-Some.is c.from.ensures.value) none
+    let none = none_absent c.args.look (world_of c.args.self.now) (seat_in c.loop-rest.child) words on.is_level (piece_of c.loop-rest.rest.now) (pieces (drop 8 c.loop-rest.rest.now)) absent in
+    scan_left c.args.look (world_of c.args.self.now) c.args.key.now c.loop-rest.child words c.loop-rest.rest.now on c.loop-rest-test.true (Some c.in-Some.entry) beyond (subst (IsEntryOf words) c.in-Some.is c.from.ensures.value) none
+
+pub child-requires : goal.child-requires
+child-requires c =
+    let words = c.loop-rest.level.now.map in
+    let on = c.loop-rest.invariant in
+    let held = subst (IsEntryOf words) c.in-Some.is c.from.ensures.value in
+    let entry = ap (get words) (sym c.first_piece-piece.ensures ∙ sym c.if-apart.false) ∙ held in
+    taken_of c.args.self.now c.in-Some.entry.1 ((c.requires.is_arena.is_world.levels (seat_in c.loop-rest.child) words on.is_level).leads (piece_of c.loop-rest.rest.now) c.in-Some.entry.1 entry (piece-IsInner c.loop-rest.rest.now on.text c.loop-rest-test.true)).1
+
+pub meets-met-requires : goal.meets-met-requires
+meets-met-requires c = rw take_rest (text-drop 8 c.loop-rest.rest.now c.loop-rest.invariant.text)
 
 pub loop-rest-preserved : goal.loop-rest-preserved
 loop-rest-preserved c =
     let words = c.loop-rest.level.now.map in
     let held = subst (IsEntryOf words) c.in-Some.is c.from.ensures.value in
     let entry = ap (get words) (sym c.first_piece-piece.ensures ∙ sym c.if-apart.false) ∙ held in
-    let child = child_from c.args.self.now _ c.deref.ensures.value c.in-Some.entry.1 _ (Level c.in-Some-Level.field-0-0 c.in-Some-Level.next) (c.in-Some-Level.ensures.lookup.4 (omega arith) (Free 0)) c.in-Some-Level.field-0-is in
-    rw take_rest (scan_moved c.args.look (world_of c.args.self.now) c.args.key.now words c.loop-rest.rest.now c.loop-rest.invariant c.loop-rest-test.true c.in-Some.entry.1 c.in-Some-Level.next.map entry (ap node_of child))
+    let child = c.in-Level.ensures in
+    rw take_rest (scan_moved c.args.look (world_of c.args.self.now) c.args.key.now c.loop-rest.child words c.loop-rest.rest.now c.loop-rest.invariant c.loop-rest-test.true c.in-Some.entry.1 c.in-Level.next.now.words.map entry (ap node_of child))
 
 pub returns-then-met-clause-is_turn : goal.returns-then-met-clause-is_turn
 returns-then-met-clause-is_turn c =
@@ -41,14 +52,14 @@ returns-then-met-clause-is_turn c =
     let on = c.loop-rest.invariant in
     let there = subst (IsEntryOf words) c.in-Some.is c.from.ensures.value in
     let entry = ap (get words) (sym c.first_piece-piece.ensures ∙ sym c.if-apart.false) ∙ there in
-    let held = c.in-Some-Tail.tail.0 in
-    let child = child_from c.args.self.now _ c.deref.ensures.value c.in-Some.entry.1 _ (Tail c.in-Some-Tail.tail) (c.in-Some-Tail.ensures.lookup.4 (omega arith) (Free 0)) c.in-Some-Tail.field-0-is in
+    let held = c.in-Tail.tail.0 in
+    let child = c.in-Tail.ensures in
     let text = subst HasText child (c.requires.is_arena.texts c.in-Some.entry.1) in
     let met : meets c.args.look (world_of c.args.self.now) (pieces (drop 8 c.loop-rest.rest.now)) (pieces held) ≡ c.meets-met.result =
     ap (is_beyond c.args.look.itself) (bytes_along c.args.look.side (drop 8 c.loop-rest.rest.now) held (text-drop 8 c.loop-rest.rest.now on.text) text)
-    ∙ (λ t. is_beyond c.args.look.itself (along_bytes c.args.look.side (sym (take_rest c.loop-rest.rest.now 8) t) (sym c.bytes.ensures t)))
+    ∙ (λ t. is_beyond c.args.look.itself (along_bytes c.args.look.side (sym (take_rest c.loop-rest.rest.now 8) t) held))
     ∙ sym c.meets-met.ensures in
-    rw c.first_piece-piece.ensures (scan_tail c.args.look (world_of c.args.self.now) c.args.key.now words c.loop-rest.rest.now on c.loop-rest-test.true c.in-Some.entry.1 c.in-Some-Tail.tail.1 (pieces held) entry (ap node_of child) (met ∙ c.if-met.true))
+    rw c.first_piece-piece.ensures (scan_tail c.args.look (world_of c.args.self.now) c.args.key.now c.loop-rest.child words c.loop-rest.rest.now on c.loop-rest-test.true c.in-Some.entry.1 c.in-Tail.tail.1 (pieces held) entry (ap node_of child) (met ∙ c.if-met.true))
 
 pub returns-else-met-clause-is_turn : goal.returns-else-met-clause-is_turn
 returns-else-met-clause-is_turn c =
@@ -56,22 +67,22 @@ returns-else-met-clause-is_turn c =
     let on = c.loop-rest.invariant in
     let there = subst (IsEntryOf words) c.in-Some.is c.from.ensures.value in
     let entry = ap (get words) (sym c.first_piece-piece.ensures ∙ sym c.if-apart.false) ∙ there in
-    let held = c.in-Some-Tail.tail.0 in
-    let child = child_from c.args.self.now _ c.deref.ensures.value c.in-Some.entry.1 _ (Tail c.in-Some-Tail.tail) (c.in-Some-Tail.ensures.lookup.4 (omega arith) (Free 0)) c.in-Some-Tail.field-0-is in
+    let held = c.in-Tail.tail.0 in
+    let child = c.in-Tail.ensures in
     let text = subst HasText child (c.requires.is_arena.texts c.in-Some.entry.1) in
     let met : meets c.args.look (world_of c.args.self.now) (pieces (drop 8 c.loop-rest.rest.now)) (pieces held) ≡ c.meets-met.result =
     ap (is_beyond c.args.look.itself) (bytes_along c.args.look.side (drop 8 c.loop-rest.rest.now) held (text-drop 8 c.loop-rest.rest.now on.text) text)
-    ∙ (λ t. is_beyond c.args.look.itself (along_bytes c.args.look.side (sym (take_rest c.loop-rest.rest.now 8) t) (sym c.bytes.ensures t)))
+    ∙ (λ t. is_beyond c.args.look.itself (along_bytes c.args.look.side (sym (take_rest c.loop-rest.rest.now 8) t) held))
     ∙ sym c.meets-met.ensures in
     let nearest = subst (λ p. IsNearestEntry c.args.look.side false words p (piece_in c.beyond.result)) c.first_piece-piece.ensures c.beyond.ensures.nearest in
-    let none = none_child c.args.look (world_of c.args.self.now) on.seat words on.is_level (piece_of c.loop-rest.rest.now) c.in-Some.entry.1 (pieces (drop 8 c.loop-rest.rest.now)) entry (piece-IsInner c.loop-rest.rest.now on.text c.loop-rest-test.true) (none_tail c.args.look (world_of c.args.self.now) (suc c.in-Some.entry.1) (pieces (drop 8 c.loop-rest.rest.now)) (pieces held) c.in-Some-Tail.tail.1 (ap node_of child) (met ∙ c.if-met.false)) in
-    rw c.nearer.ensures (scan_left c.args.look (world_of c.args.self.now) c.args.key.now words c.loop-rest.rest.now on c.loop-rest-test.true c.beyond.result nearest c.beyond.ensures.value none)
+    let none = none_child c.args.look (world_of c.args.self.now) (seat_in c.loop-rest.child) words on.is_level (piece_of c.loop-rest.rest.now) c.in-Some.entry.1 (pieces (drop 8 c.loop-rest.rest.now)) entry (piece-IsInner c.loop-rest.rest.now on.text c.loop-rest-test.true) (none_tail c.args.look (world_of c.args.self.now) (suc c.in-Some.entry.1) (pieces (drop 8 c.loop-rest.rest.now)) (pieces held) c.in-Tail.tail.1 (ap node_of child) (met ∙ c.if-met.false)) in
+    rw c.nearer.ensures (scan_left c.args.look (world_of c.args.self.now) c.args.key.now c.loop-rest.child words c.loop-rest.rest.now on c.loop-rest-test.true c.beyond.result nearest c.beyond.ensures.value none)
 
 pub returns-clause-is_turn : goal.returns-clause-is_turn
 returns-clause-is_turn c =
     let words = c.loop-rest.level.now.map in
     let nearest = subst (λ p. IsNearestEntry c.args.look.side c.args.look.itself words p (piece_in c.last_entry.result)) c.first_piece.ensures c.last_entry.ensures.nearest in
-    rw c.nearer-2.ensures (scan_last c.args.look (world_of c.args.self.now) c.args.key.now words c.loop-rest.rest.now c.loop-rest.invariant c.last_entry.result (omega arith) nearest c.last_entry.ensures.value)
+    rw c.nearer-2.ensures (scan_last c.args.look (world_of c.args.self.now) c.args.key.now c.loop-rest.child words c.loop-rest.rest.now c.loop-rest.invariant c.last_entry.result (omega arith) nearest c.last_entry.ensures.value)
 
 pub returns-in_default-clause-is_text : goal.returns-in_default-clause-is_text
 returns-in_default-clause-is_text c = text_from_bytes c.args.key.now c.type_inv.key c.requires.without_zero
@@ -84,12 +95,6 @@ returns-then-met-clause-is_text c = text_from_bytes c.args.key.now c.type_inv.ke
 
 pub returns-else-met-clause-is_text : goal.returns-else-met-clause-is_text
 returns-else-met-clause-is_text c = text_from_bytes c.args.key.now c.type_inv.key c.requires.without_zero
-
-pub returns-in-Some-Free-clause-is_text : goal.returns-in-Some-Free-clause-is_text
-returns-in-Some-Free-clause-is_text c = text_from_bytes c.args.key.now c.type_inv.key c.requires.without_zero
-
-pub returns-in-None-clause-is_text : goal.returns-in-None-clause-is_text
-returns-in-None-clause-is_text c = text_from_bytes c.args.key.now c.type_inv.key c.requires.without_zero
 
 pub returns-clause-is_text : goal.returns-clause-is_text
 returns-clause-is_text c = text_from_bytes c.args.key.now c.type_inv.key c.requires.without_zero

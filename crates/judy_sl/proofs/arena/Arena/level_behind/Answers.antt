@@ -2,10 +2,9 @@ use Rattle.std.proofs.Common.{◌∙◌, ◌-◌, sym, ap, arith, length, refl}
 use Rattle.std.proofs.lemmas.List.{take_rest}
 use Rattle.std.proofs.lemmas.Option.{none-some}
 use Rattle.std.specs.FinMap.{get}
-use Rattle.judy_sl.specs.declared.child.Child.TheVariants.{Free, Tail, Level}
 use Rattle.judy_sl.specs.Pieces.{pieces}
 use Rattle.judy_sl.specs.Arenas.{world_of, node_of}
-use Rattle.judy_sl.proofs.OnWay.{child_from}
+use Rattle.judy_sl.proofs.Linked.{taken_of}
 use Rattle.judy_sl.proofs.RunWays.{front_short, way_start, way_step, way_child, way_moved, way_end, never_gone, never_tail}
 use Rattle.judy_sl.proofs.arena.Arena.level_behind.Goals as goal
 
@@ -32,6 +31,13 @@ slice_bounds-rest-start c =
     let eight = step.eight in
     omega (arith, eight)
 
+pub child-requires : goal.child-requires
+child-requires c =
+    let leads = c.requires.leads.1 in
+    let step = way_step (world_of c.args.self.now) leads.front leads.seat c.requires.leads.0 (length c.args.key.now - c.args.depth) c.loop-rest.level.now.map c.loop-rest.rest.now c.loop-rest.above.items (c.loop-rest.invariant c.requires.leads.0 leads) c.loop-rest-test.true in
+    let here = way_child step c.in-Some.at (sym (ap (λ p. get c.loop-rest.level.now.map p) c.first_piece.ensures) ∙ sym c.get.ensures ∙ c.in-Some.is) in
+    taken_of c.args.self.now c.in-Some.at (λ none. never_gone step.below (sym none ∙ here))
+
 pub push-requires : goal.push-requires
 push-requires c =
     let leads = c.requires.leads.1 in
@@ -43,29 +49,15 @@ push-requires c =
 pub loop-rest-preserved : goal.loop-rest-preserved
 loop-rest-preserved c = λ target leads.
     let step = way_step (world_of c.args.self.now) leads.front leads.seat target (length c.args.key.now - c.args.depth) c.loop-rest.level.now.map c.loop-rest.rest.now c.loop-rest.above.items (c.loop-rest.invariant target leads) c.loop-rest-test.true in
-    let child = child_from c.args.self.now _ c.deref.ensures.value c.in-Some.at _ (Level c.in-Some-Level.field-0-0 c.in-Some-Level.next) (c.in-Some-Level.ensures.lookup.4 (omega arith) (Free 0)) c.in-Some-Level.field-0-is in
-    rw (take_rest, c.push.ensures.items) (way_moved step c.in-Some.at (sym (ap (λ p. get c.loop-rest.level.now.map p) c.first_piece.ensures) ∙ sym c.get.ensures ∙ c.in-Some.is) c.loop-rest.level refl c.in-Some-Level.next.map (ap node_of child))
+    let child = c.in-Level.ensures in
+    rw (take_rest, c.push.ensures.items) (way_moved step c.in-Some.at (sym (ap (λ p. get c.loop-rest.level.now.map p) c.first_piece.ensures) ∙ sym c.get.ensures ∙ c.in-Some.is) c.loop-rest.level refl c.in-Level.next.now.words.map (ap node_of child))
 
-pub unreachable-requires-in-Some-Tail : goal.unreachable-requires-in-Some-Tail
-unreachable-requires-in-Some-Tail c =
+pub unreachable-requires-in-Tail : goal.unreachable-requires-in-Tail
+unreachable-requires-in-Tail c =
     let leads = c.requires.leads.1 in
     let step = way_step (world_of c.args.self.now) leads.front leads.seat c.requires.leads.0 (length c.args.key.now - c.args.depth) c.loop-rest.level.now.map c.loop-rest.rest.now c.loop-rest.above.items (c.loop-rest.invariant c.requires.leads.0 leads) c.loop-rest-test.true in
-    let child = child_from c.args.self.now _ c.deref.ensures.value c.in-Some.at _ (Tail c.in-Some-Tail.field-0-0) (c.in-Some-Tail.ensures.lookup.4 (omega arith) (Free 0)) c.in-Some-Tail.field-0-is in
-    never_tail (pieces c.in-Some-Tail.field-0-0.0) c.in-Some-Tail.field-0-0.1 step.below (sym (ap node_of child) ∙ way_child step c.in-Some.at (sym (ap (λ p. get c.loop-rest.level.now.map p) c.first_piece.ensures) ∙ sym c.get.ensures ∙ c.in-Some.is))
-
-pub unreachable-requires-in-Some-Free : goal.unreachable-requires-in-Some-Free
-unreachable-requires-in-Some-Free c =
-    let leads = c.requires.leads.1 in
-    let step = way_step (world_of c.args.self.now) leads.front leads.seat c.requires.leads.0 (length c.args.key.now - c.args.depth) c.loop-rest.level.now.map c.loop-rest.rest.now c.loop-rest.above.items (c.loop-rest.invariant c.requires.leads.0 leads) c.loop-rest-test.true in
-    let child = child_from c.args.self.now _ c.deref.ensures.value c.in-Some.at _ (Free c.in-Some-Free.field-0-0) (c.in-Some-Free.ensures.lookup.4 (omega arith) (Free 0)) c.in-Some-Free.field-0-is in
-    never_gone step.below (sym (ap node_of child) ∙ way_child step c.in-Some.at (sym (ap (λ p. get c.loop-rest.level.now.map p) c.first_piece.ensures) ∙ sym c.get.ensures ∙ c.in-Some.is))
-
-pub unreachable-requires-in-None : goal.unreachable-requires-in-None
-unreachable-requires-in-None c =
-    let leads = c.requires.leads.1 in
-    let step = way_step (world_of c.args.self.now) leads.front leads.seat c.requires.leads.0 (length c.args.key.now - c.args.depth) c.loop-rest.level.now.map c.loop-rest.rest.now c.loop-rest.above.items (c.loop-rest.invariant c.requires.leads.0 leads) c.loop-rest-test.true in
-    let child = child_from c.args.self.now _ c.deref.ensures.value c.in-Some.at _ (Free 0) (c.in-None.ensures.lookup.4 (omega arith) (Free 0)) refl in
-    never_gone step.below (sym (ap node_of child) ∙ way_child step c.in-Some.at (sym (ap (λ p. get c.loop-rest.level.now.map p) c.first_piece.ensures) ∙ sym c.get.ensures ∙ c.in-Some.is))
+    let child = c.in-Tail.ensures in
+    never_tail (pieces c.in-Tail.field-0.0) c.in-Tail.field-0.1 step.below (sym (ap node_of child) ∙ way_child step c.in-Some.at (sym (ap (λ p. get c.loop-rest.level.now.map p) c.first_piece.ensures) ∙ sym c.get.ensures ∙ c.in-Some.is))
 
 pub returns : goal.returns
 returns c = λ target leads.

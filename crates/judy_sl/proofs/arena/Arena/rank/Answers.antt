@@ -4,10 +4,11 @@ use Rattle.std.proofs.lemmas.List.{take_rest}
 use Rattle.judy_model.specs.Counts.{rank}
 use Rattle.judy_sums.specs.Pairs.{sum_below}
 use Rattle.judy_sl.specs.Pieces.{piece_of}
-use Rattle.judy_sl.specs.Arenas.{world_of, map_of}
+use Rattle.judy_sl.specs.Arenas.{world_of, child_at, map_of}
 use Rattle.judy_sl.specs.Behind.{map_behind}
 use Rattle.judy_sl.specs.Counted.{ranked}
 use Rattle.judy_sl.proofs.PieceLemmas.{text_of_key, text-drop, piece-IsInner}
+use Rattle.judy_sl.proofs.Linked.{taken_of}
 use Rattle.judy_sl.proofs.LevelRanks.{one_told, ranked_most, level_most, rank_absent, rank_final, rank_inner}
 use Rattle.judy_sl.proofs.FirstSums.{first_keys_below, behind_most}
 use Rattle.judy_sl.proofs.arena.Arena.rank.Goals as goal
@@ -56,6 +57,12 @@ returns-then-key-lt8 c =
     let here = rank_final c.args.itself c.args.key.now text c.requires.is_arena.is_world 0 c.args.self.now.root.map refl c.if-key-lt8.true c.in-Some.at there in
     let one = c.from.ensures ∙ one_told c.args.itself in
     omega arith
+
+pub rank_behind-requires-clause-there : goal.rank_behind-requires-clause-there
+rank_behind-requires-clause-there c =
+    let there = ap (get c.args.self.now.root.map) (sym c.first_piece-piece.ensures) ∙ sym c.get.ensures ∙ c.in-Some.is in
+    let inner = piece-IsInner c.args.key.now (text_of_key c.args.key.now c.requires.is_key) c.if-key-lt8.false in
+    taken_of c.args.self.now c.in-Some.at (((c.requires.is_arena.is_world.levels 0 c.args.self.now.root.map refl).leads (piece_of c.args.key.now) c.in-Some.at there inner).1)
 
 pub rank_behind-requires-clause-is_text : goal.rank_behind-requires-clause-is_text
 rank_behind-requires-clause-is_text c = rw take_rest (text-drop 8 c.args.key.now (text_of_key c.args.key.now c.requires.is_key))

@@ -1,55 +1,46 @@
-use Rattle.std.proofs.Common.{suc, refl, sym, ap, ◌∙◌, subst, arith}
+use Rattle.std.proofs.Common.{suc, sym, ap, ◌∙◌, subst, arith}
 use Rattle.std.specs.FinMap.{entries, get}
 use Rattle.std.proofs.lemmas.List.{take_rest}
-use Rattle.judy_model.specs.Keys.{byte_order}
 use Rattle.judy_sums.specs.Levels.{keys_below, part_len}
-use Rattle.judy_sl.specs.declared.child.Child.TheVariants.{Free, Tail, Level}
-use Rattle.judy_sl.specs.Arenas.{world_of, node_of, HasText}
+use Rattle.judy_sl.specs.Pieces.{piece_of}
+use Rattle.judy_sl.specs.Arenas.{world_of, child_at, node_of, HasText}
 use Rattle.judy_sl.specs.Behind.{map_behind, entry_keys}
-use Rattle.judy_sl.specs.Counted.{comes, keys_behind, LevelTells, Same}
-use Rattle.judy_sl.proofs.PieceLemmas.{text-drop}
-use Rattle.judy_sl.proofs.OnWay.{child_from}
-use Rattle.judy_sl.proofs.LevelRanks.{one_if, one_told, ranked_most, rank_gone, rank_tail, level_most, rank_absent, rank_final, rank_inner}
+use Rattle.judy_sl.specs.Counted.{comes}
+use Rattle.judy_sl.proofs.PieceLemmas.{text-drop, piece-IsInner}
+use Rattle.judy_sl.proofs.Linked.{taken_of}
+use Rattle.judy_sl.proofs.KeysTold.{level_stands}
+use Rattle.judy_sl.proofs.LevelRanks.{one_if, one_told, ranked_most, rank_tail, level_most, rank_absent, rank_final, rank_inner}
 use Rattle.judy_sl.proofs.arena.Arena.rank_behind.Goals as goal
 
-pub loop-keys-init : goal.loop-keys-init
-loop-keys-init c = record { text = c.requires.is_text; whole = omega arith }
+pub loop-level-init : goal.loop-level-init
+loop-level-init c = record { text = c.requires.is_text; there = c.requires.there; whole = omega arith }
 
 pub keys_before-lesser-requires-clause-told : goal.keys_before-lesser-requires-clause-told
-keys_before-lesser-requires-clause-told c =
-    let child = child_from c.args.self.now _ c.deref.ensures.value c.loop-keys.at _ (Level c.in-Some-Level.keys c.in-Some-Level.level) (c.in-Some-Level.ensures.lookup.4 (omega arith) (Free 0)) c.in-Some-Level.field-0-is in
-    record {
-      seat = suc c.loop-keys.at;
-      is_level = ap node_of child;
-      told = subst (λ child. LevelTells Same child (keys_behind (world_of c.args.self.now) (suc c.loop-keys.at))) child (c.requires.counted c.loop-keys.at);
-    }
+keys_before-lesser-requires-clause-told c = level_stands c.args.self.now c.requires.counted c.loop-level.at c.in-Level.level.now.keys c.in-Level.level.now.words c.in-Level.ensures
 
 pub overflow_add-lesser : goal.overflow_add-lesser
 overflow_add-lesser c =
-    let child = child_from c.args.self.now _ c.deref.ensures.value c.loop-keys.at _ (Level c.in-Some-Level.keys c.in-Some-Level.level) (c.in-Some-Level.ensures.lookup.4 (omega arith) (Free 0)) c.in-Some-Level.field-0-is in
-    let most = level_most c.args.itself c.loop-keys.rest.now c.loop-keys.invariant.text c.requires.is_arena.is_world (suc c.loop-keys.at) c.in-Some-Level.level.map (ap node_of child) in
-    let before = c.keys_before-lesser.ensures ∙ ap (keys_below (part_len (entry_keys (world_of c.args.self.now))) (entries c.in-Some-Level.level.map)) c.first_piece-piece.ensures in
-    let whole = c.loop-keys.invariant.whole in
+    let most = level_most c.args.itself c.loop-level.rest.now c.loop-level.invariant.text c.requires.is_arena.is_world (suc c.loop-level.at) c.in-Level.level.now.words.map (ap node_of c.in-Level.ensures) in
+    let before = c.keys_before-lesser.ensures ∙ ap (keys_below (part_len (entry_keys (world_of c.args.self.now))) (entries c.in-Level.level.now.words.map)) c.first_piece-piece.ensures in
+    let whole = c.loop-level.invariant.whole in
     let all = ranked_most c.args.itself (map_behind (world_of c.args.self.now) (suc c.args.child)) c.args.key.now in
     let few = c.requires.few in
     omega arith
 
 pub returns-in_default : goal.returns-in_default
 returns-in_default c =
-    let child = child_from c.args.self.now _ c.deref.ensures.value c.loop-keys.at _ (Level c.in-Some-Level.keys c.in-Some-Level.level) (c.in-Some-Level.ensures.lookup.4 (omega arith) (Free 0)) c.in-Some-Level.field-0-is in
-    let none = ap (get c.in-Some-Level.level.map) (sym c.first_piece-piece.ensures) ∙ sym c.get-in-Some-Level.ensures ∙ c.in_default.is in
-    let here = rank_absent c.args.itself c.loop-keys.rest.now c.loop-keys.invariant.text c.requires.is_arena.is_world (suc c.loop-keys.at) c.in-Some-Level.level.map (ap node_of child) none in
-    let before = c.keys_before-lesser.ensures ∙ ap (keys_below (part_len (entry_keys (world_of c.args.self.now))) (entries c.in-Some-Level.level.map)) c.first_piece-piece.ensures in
-    let whole = c.loop-keys.invariant.whole in
+    let none = ap (get c.in-Level.level.now.words.map) (sym c.first_piece-piece.ensures) ∙ sym c.get.ensures ∙ c.in_default.is in
+    let here = rank_absent c.args.itself c.loop-level.rest.now c.loop-level.invariant.text c.requires.is_arena.is_world (suc c.loop-level.at) c.in-Level.level.now.words.map (ap node_of c.in-Level.ensures) none in
+    let before = c.keys_before-lesser.ensures ∙ ap (keys_below (part_len (entry_keys (world_of c.args.self.now))) (entries c.in-Level.level.now.words.map)) c.first_piece-piece.ensures in
+    let whole = c.loop-level.invariant.whole in
     omega arith
 
 pub overflow_add-result : goal.overflow_add-result
 overflow_add-result c =
-    let child = child_from c.args.self.now _ c.deref.ensures.value c.loop-keys.at _ (Level c.in-Some-Level.keys c.in-Some-Level.level) (c.in-Some-Level.ensures.lookup.4 (omega arith) (Free 0)) c.in-Some-Level.field-0-is in
-    let entry = ap (get c.in-Some-Level.level.map) (sym c.first_piece-piece.ensures) ∙ sym c.get-in-Some-Level.ensures ∙ c.in-Some.is in
-    let here = rank_final c.args.itself c.loop-keys.rest.now c.loop-keys.invariant.text c.requires.is_arena.is_world (suc c.loop-keys.at) c.in-Some-Level.level.map (ap node_of child) c.if-rest-lt8.true c.in-Some.next entry in
-    let before = c.keys_before-lesser.ensures ∙ ap (keys_below (part_len (entry_keys (world_of c.args.self.now))) (entries c.in-Some-Level.level.map)) c.first_piece-piece.ensures in
-    let whole = c.loop-keys.invariant.whole in
+    let entry = ap (get c.in-Level.level.now.words.map) (sym c.first_piece-piece.ensures) ∙ sym c.get.ensures ∙ c.in-Some.is in
+    let here = rank_final c.args.itself c.loop-level.rest.now c.loop-level.invariant.text c.requires.is_arena.is_world (suc c.loop-level.at) c.in-Level.level.now.words.map (ap node_of c.in-Level.ensures) c.if-rest-lt8.true c.in-Some.next entry in
+    let before = c.keys_before-lesser.ensures ∙ ap (keys_below (part_len (entry_keys (world_of c.args.self.now))) (entries c.in-Level.level.now.words.map)) c.first_piece-piece.ensures in
+    let whole = c.loop-level.invariant.whole in
     let all = ranked_most c.args.itself (map_behind (world_of c.args.self.now) (suc c.args.child)) c.args.key.now in
     let few = c.requires.few in
     let one = c.from.ensures ∙ one_told c.args.itself in
@@ -57,53 +48,40 @@ overflow_add-result c =
 
 pub returns-then-rest-lt8 : goal.returns-then-rest-lt8
 returns-then-rest-lt8 c =
-    let child = child_from c.args.self.now _ c.deref.ensures.value c.loop-keys.at _ (Level c.in-Some-Level.keys c.in-Some-Level.level) (c.in-Some-Level.ensures.lookup.4 (omega arith) (Free 0)) c.in-Some-Level.field-0-is in
-    let entry = ap (get c.in-Some-Level.level.map) (sym c.first_piece-piece.ensures) ∙ sym c.get-in-Some-Level.ensures ∙ c.in-Some.is in
-    let here = rank_final c.args.itself c.loop-keys.rest.now c.loop-keys.invariant.text c.requires.is_arena.is_world (suc c.loop-keys.at) c.in-Some-Level.level.map (ap node_of child) c.if-rest-lt8.true c.in-Some.next entry in
-    let before = c.keys_before-lesser.ensures ∙ ap (keys_below (part_len (entry_keys (world_of c.args.self.now))) (entries c.in-Some-Level.level.map)) c.first_piece-piece.ensures in
-    let whole = c.loop-keys.invariant.whole in
+    let entry = ap (get c.in-Level.level.now.words.map) (sym c.first_piece-piece.ensures) ∙ sym c.get.ensures ∙ c.in-Some.is in
+    let here = rank_final c.args.itself c.loop-level.rest.now c.loop-level.invariant.text c.requires.is_arena.is_world (suc c.loop-level.at) c.in-Level.level.now.words.map (ap node_of c.in-Level.ensures) c.if-rest-lt8.true c.in-Some.next entry in
+    let before = c.keys_before-lesser.ensures ∙ ap (keys_below (part_len (entry_keys (world_of c.args.self.now))) (entries c.in-Level.level.now.words.map)) c.first_piece-piece.ensures in
+    let whole = c.loop-level.invariant.whole in
     let one = c.from.ensures ∙ one_told c.args.itself in
     omega arith
 
-pub loop-keys-preserved : goal.loop-keys-preserved
-loop-keys-preserved c =
-    let child = child_from c.args.self.now _ c.deref.ensures.value c.loop-keys.at _ (Level c.in-Some-Level.keys c.in-Some-Level.level) (c.in-Some-Level.ensures.lookup.4 (omega arith) (Free 0)) c.in-Some-Level.field-0-is in
-    let entry = ap (get c.in-Some-Level.level.map) (sym c.first_piece-piece.ensures) ∙ sym c.get-in-Some-Level.ensures ∙ c.in-Some.is in
-    let here = rank_inner c.args.itself c.loop-keys.rest.now c.loop-keys.invariant.text c.requires.is_arena.is_world (suc c.loop-keys.at) c.in-Some-Level.level.map (ap node_of child) c.if-rest-lt8.false c.in-Some.next entry in
-    let before = c.keys_before-lesser.ensures ∙ ap (keys_below (part_len (entry_keys (world_of c.args.self.now))) (entries c.in-Some-Level.level.map)) c.first_piece-piece.ensures in
-    let whole = c.loop-keys.invariant.whole in
-    rw take_rest (record { text = text-drop 8 c.loop-keys.rest.now c.loop-keys.invariant.text; whole = omega arith })
+pub loop-level-preserved : goal.loop-level-preserved
+loop-level-preserved c =
+    let entry = ap (get c.in-Level.level.now.words.map) (sym c.first_piece-piece.ensures) ∙ sym c.get.ensures ∙ c.in-Some.is in
+    let here = rank_inner c.args.itself c.loop-level.rest.now c.loop-level.invariant.text c.requires.is_arena.is_world (suc c.loop-level.at) c.in-Level.level.now.words.map (ap node_of c.in-Level.ensures) c.if-rest-lt8.false c.in-Some.next entry in
+    let before = c.keys_before-lesser.ensures ∙ ap (keys_below (part_len (entry_keys (world_of c.args.self.now))) (entries c.in-Level.level.now.words.map)) c.first_piece-piece.ensures in
+    let whole = c.loop-level.invariant.whole in
+    let inner = piece-IsInner c.loop-level.rest.now c.loop-level.invariant.text c.if-rest-lt8.false in
+    rw take_rest (record {
+      text = text-drop 8 c.loop-level.rest.now c.loop-level.invariant.text;
+      there = taken_of c.args.self.now c.in-Some.next (((c.requires.is_arena.is_world.levels (suc c.loop-level.at) c.in-Level.level.now.words.map (ap node_of c.in-Level.ensures)).leads (piece_of c.loop-level.rest.now) c.in-Some.next entry inner).1);
+      whole = omega arith;
+    })
 
-pub overflow_add-result-in-Some-Tail : goal.overflow_add-result-in-Some-Tail
-overflow_add-result-in-Some-Tail c =
-    let child = child_from c.args.self.now _ c.deref.ensures.value c.loop-keys.at _ (Tail c.in-Some-Tail.tail) (c.in-Some-Tail.ensures.lookup.4 (omega arith) (Free 0)) c.in-Some-Tail.field-0-is in
-    let text = subst HasText child (c.requires.is_arena.texts c.loop-keys.at) in
-    let here = rank_tail c.args.itself c.args.self.now c.requires.is_arena c.loop-keys.at c.in-Some-Tail.tail.0 c.in-Some-Tail.tail.1 (ap node_of child) text c.loop-keys.rest.now in
-    let one = c.from-in-Some-Tail.ensures ∙ one_told c.comes.result ∙ ap (λ b. one_if b) (c.comes.ensures ∙ ap (λ held. comes c.args.itself (byte_order held c.loop-keys.rest.now)) c.bytes.ensures) in
-    let whole = c.loop-keys.invariant.whole in
+pub overflow_add-result-in-Tail : goal.overflow_add-result-in-Tail
+overflow_add-result-in-Tail c =
+    let text = subst HasText c.in-Tail.ensures (c.requires.is_arena.texts c.loop-level.at) in
+    let here = rank_tail c.args.itself c.args.self.now c.requires.is_arena c.loop-level.at c.in-Tail.tail.0 c.in-Tail.tail.1 (ap node_of c.in-Tail.ensures) text c.loop-level.rest.now in
+    let one = c.from-in-Tail.ensures ∙ one_told c.comes.result ∙ ap (λ b. one_if b) (c.comes.ensures ∙ ap (comes c.args.itself) c.order.ensures) in
+    let whole = c.loop-level.invariant.whole in
     let all = ranked_most c.args.itself (map_behind (world_of c.args.self.now) (suc c.args.child)) c.args.key.now in
     let few = c.requires.few in
     omega arith
 
-pub returns-in-Some-Tail : goal.returns-in-Some-Tail
-returns-in-Some-Tail c =
-    let child = child_from c.args.self.now _ c.deref.ensures.value c.loop-keys.at _ (Tail c.in-Some-Tail.tail) (c.in-Some-Tail.ensures.lookup.4 (omega arith) (Free 0)) c.in-Some-Tail.field-0-is in
-    let text = subst HasText child (c.requires.is_arena.texts c.loop-keys.at) in
-    let here = rank_tail c.args.itself c.args.self.now c.requires.is_arena c.loop-keys.at c.in-Some-Tail.tail.0 c.in-Some-Tail.tail.1 (ap node_of child) text c.loop-keys.rest.now in
-    let one = c.from-in-Some-Tail.ensures ∙ one_told c.comes.result ∙ ap (λ b. one_if b) (c.comes.ensures ∙ ap (λ held. comes c.args.itself (byte_order held c.loop-keys.rest.now)) c.bytes.ensures) in
-    let whole = c.loop-keys.invariant.whole in
-    omega arith
-
-pub returns-in-Some-Free : goal.returns-in-Some-Free
-returns-in-Some-Free c =
-    let child = child_from c.args.self.now _ c.deref.ensures.value c.loop-keys.at _ (Free c.in-Some-Free.field-0-0) (c.in-Some-Free.ensures.lookup.4 (omega arith) (Free 0)) c.in-Some-Free.field-0-is in
-    let here = rank_gone c.args.itself (world_of c.args.self.now) (suc c.loop-keys.at) (ap node_of child) c.loop-keys.rest.now in
-    let whole = c.loop-keys.invariant.whole in
-    omega arith
-
-pub returns-in-None : goal.returns-in-None
-returns-in-None c =
-    let child = child_from c.args.self.now _ c.deref.ensures.value c.loop-keys.at _ (Free 0) (c.in-None.ensures.lookup.4 (omega arith) (Free 0)) refl in
-    let here = rank_gone c.args.itself (world_of c.args.self.now) (suc c.loop-keys.at) (ap node_of child) c.loop-keys.rest.now in
-    let whole = c.loop-keys.invariant.whole in
+pub returns-in-Tail : goal.returns-in-Tail
+returns-in-Tail c =
+    let text = subst HasText c.in-Tail.ensures (c.requires.is_arena.texts c.loop-level.at) in
+    let here = rank_tail c.args.itself c.args.self.now c.requires.is_arena c.loop-level.at c.in-Tail.tail.0 c.in-Tail.tail.1 (ap node_of c.in-Tail.ensures) text c.loop-level.rest.now in
+    let one = c.from-in-Tail.ensures ∙ one_told c.comes.result ∙ ap (λ b. one_if b) (c.comes.ensures ∙ ap (comes c.args.itself) c.order.ensures) in
+    let whole = c.loop-level.invariant.whole in
     omega arith

@@ -1,9 +1,10 @@
-use Rattle.std.proofs.Common.{◌-◌, ◌++◌, length, take, drop, ap, ◌∙◌, sym, arith}
+use Rattle.std.proofs.Common.{◌-◌, ◌++◌, length, take, drop, All, ap, ◌∙◌, sym, subst, arith}
 use Rattle.std.specs.FinMap.{entries, len-entries}
 use Rattle.std.proofs.lemmas.List.{length-drop, take_all, take-append-drop}
+use Rattle.std.proofs.lemmas.List.Elements.{All-drop}
 use Rattle.judy_sums.specs.Pairs.{Pairs}
 use Rattle.judy_sl.specs.Arenas.{world_of}
-use Rattle.judy_sl.specs.Counted.{keys_behind_all}
+use Rattle.judy_sl.specs.Counted.{LeadsOn, keys_behind_all}
 use Rattle.judy_sl.proofs.PageCounts.{front_some, front_rest, front_more}
 use Rattle.judy_sl.proofs.PageReads.{spot_behind}
 use Rattle.judy_sl.proofs.arena.Arena.read_back.Goals as goal
@@ -25,6 +26,11 @@ entries_at-requires-clause-within c =
     let some = front_some (world_of c.args.self.now) (entries c.args.level.now.map) c.pages.end (omega arith) in
     let start = c.saturating_sub-start.ensures in
     omega arith
+
+pub read_keys-before-requires-clause-leads : goal.read_keys-before-requires-clause-leads
+read_keys-before-requires-clause-leads c =
+    let world = world_of c.args.self.now in
+    subst (λ (rest : Pairs). All (LeadsOn world) rest) (sym c.entries_at.ensures) (All-drop (LeadsOn world) c.saturating_sub-start.result (entries c.args.level.now.map) c.requires.leads)
 
 pub read_keys-before-requires-clause-there : goal.read_keys-before-requires-clause-there
 read_keys-before-requires-clause-there c =
@@ -58,6 +64,11 @@ overflow_sub-before c =
     let more = front_more world all start c.pages.end (omega arith) in
     let read = c.read_keys-before.ensures ∙ ap (λ (rest : Pairs). keys_behind_all world (take (c.pages.end - start) rest)) c.entries_at.ensures in
     omega arith
+
+pub read_spot-requires-clause-leads : goal.read_spot-requires-clause-leads
+read_spot-requires-clause-leads c =
+    let world = world_of c.args.self.now in
+    subst (λ (rest : Pairs). All (LeadsOn world) rest) (sym c.entries_at-then-before-place.ensures) (All-drop (LeadsOn world) c.saturating_sub-start.result (entries c.args.level.now.map) c.requires.leads)
 
 pub read_spot-requires-clause-within : goal.read_spot-requires-clause-within
 read_spot-requires-clause-within c =

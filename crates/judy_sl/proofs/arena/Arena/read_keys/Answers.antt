@@ -1,16 +1,17 @@
-use Rattle.std.proofs.Common.{◌≡◌, ◌-◌, length, take, ap, ◌∙◌, arith}
+use Rattle.std.proofs.Common.{◌≡◌, ◌-◌, length, take, All, sym, ap, subst, ◌∙◌, arith}
 use Rattle.std.proofs.lemmas.List.{length-drop}
+use Rattle.std.proofs.lemmas.List.Elements.{All-take, All-drop}
 use Rattle.judy_sums.specs.Pairs.{Pairs}
 use Rattle.judy_sl.specs.Arenas.{world_of}
-use Rattle.judy_sl.specs.Counted.{keys_behind_all}
+use Rattle.judy_sl.specs.Counted.{LeadsOn, keys_behind_all}
 use Rattle.judy_sl.proofs.PageCounts.{page_is, page_front, front_read}
 use Rattle.judy_sl.proofs.arena.Arena.read_keys.Goals as goal
 
 pub pages-init : goal.pages-init
-pages-init c = record { room = omega arith; there = let there = c.requires.there in omega arith; whole = omega arith }
+pages-init c = record { room = omega arith; leads = c.requires.leads; there = let there = c.requires.there in omega arith; whole = omega arith }
 
-pub page_keys-keys-requires-clause-fits : goal.page_keys-keys-requires-clause-fits
-page_keys-keys-requires-clause-fits c =
+pub page_keys-keys-requires : goal.page_keys-keys-requires
+page_keys-keys-requires c =
     let world = world_of c.args.self.now in
     let left = c.pages.entries in
     let told = c.fill.result in
@@ -24,7 +25,12 @@ page_keys-keys-requires-clause-fits c =
     let split = front_read world left c.pages.left 32 read told there (omega arith) (omega arith) in
     let so_far = c.pages.invariant.whole in
     let fits = c.requires.fits in
-    omega arith
+    record {
+      is_arena = c.requires.is_arena;
+      counted = c.requires.counted;
+      leads = subst (λ (page : Pairs). All (LeadsOn world) page) (sym page) (All-take (LeadsOn world) read left c.pages.invariant.leads);
+      fits = omega arith;
+    }
 
 pub overflow_add-keys : goal.overflow_add-keys
 overflow_add-keys c =
@@ -61,7 +67,12 @@ pages-preserved c =
     let more = c.page_keys-keys.ensures in
     let behind = ap (λ (rest : Pairs). keys_behind_all world (take (c.pages.left - read) rest)) c.fill.ensures.left in
     let long = ap length c.fill.ensures.left ∙ length-drop told left in
-    record { room = c.fill.auto.out ∙ room; there = omega arith; whole = omega arith }
+    record {
+      room = c.fill.auto.out ∙ room;
+      leads = subst (λ (rest : Pairs). All (LeadsOn world) rest) (sym c.fill.ensures.left) (All-drop (LeadsOn world) told left c.pages.invariant.leads);
+      there = omega arith;
+      whole = omega arith;
+    }
 
 pub returns : goal.returns
 returns c =

@@ -6,7 +6,7 @@ use Rattle.judy_sl.specs.declared.scans.Turn.{Turn}
 use Rattle.judy_sl.specs.Pieces.{pieces}
 use Rattle.judy_sl.specs.World.{World}
 use Rattle.judy_sl.specs.Arenas.{world_of}
-use Rattle.judy_sl.specs.Scans.{upward, IsNone, IsTurn, IsTurnAt}
+use Rattle.judy_sl.specs.Scans.{upward, IsNone, IsTurn, IsTurnOf}
 use Rattle.judy_sl.specs.Runs.{EntryLeads}
 use Rattle.judy_sl.proofs.RunWays.{turn_level, turn_leads}
 use Rattle.judy_sl.proofs.arena.Arena.seek.Goals as goal
@@ -18,9 +18,9 @@ returns-in_err-turn-clause-neighbour c =
     rw c.from_residual.ensures (subst (λ bytes. IsNone (upward c.args.itself) (world_of c.args.self.now) 0 (pieces bytes)) c.as_slice.ensures.value looked, refl)
 
 -- The turn that was found, above a key.
-turn_at : (itself : Bool) (world : World) (seen key : List ℕ) (look : Look) (found : Option Turn) (turn : Turn) → IsTurn look world seen found → found ≡ Some turn → look ≡ upward itself → seen ≡ key → IsTurnAt (upward itself) world key turn
+turn_at : (itself : Bool) (world : World) (seen key : List ℕ) (look : Look) (found : Option Turn) (turn : Turn) → IsTurn look world seen found → found ≡ Some turn → look ≡ upward itself → seen ≡ key → IsTurnOf (upward itself) world key turn
 turn_at itself world seen key look found turn is was looks same =
-    subst (λ bytes. IsTurnAt (upward itself) world bytes turn) same (subst (λ (l : Look). IsTurnAt l world seen turn) looks (subst (IsTurn look world seen) was is))
+    subst (λ bytes. IsTurnOf (upward itself) world bytes turn) same (subst (λ (l : Look). IsTurnOf l world seen turn) looks (subst (IsTurn look world seen) was is))
 
 pub level_behind-level-requires-clause-leads : goal.level_behind-level-requires-clause-leads
 level_behind-level-requires-clause-leads c =

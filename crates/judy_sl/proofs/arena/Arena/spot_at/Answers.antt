@@ -1,11 +1,12 @@
-use Rattle.std.proofs.Common.{◌∙◌, sym, ap, arith, ℕ, ◌+◌, ◌<◌, subst, List}
+use Rattle.std.proofs.Common.{◌∙◌, sym, ap, arith, ℕ, ◌+◌, ◌<◌, subst, List, All}
 use Rattle.std.specs.FinMap.{FinMap, get}
 use Rattle.judy_model.specs.Keys.{word_order}
 use Rattle.judy_model.specs.Counts.{by_count}
 use Rattle.judy_sl.specs.Arenas.{world_of}
-use Rattle.judy_sl.specs.Counted.{keys_behind_all}
+use Rattle.judy_sl.specs.Counted.{LeadsOn, keys_behind_all}
 use Rattle.judy_sl.specs.Nth.{IsSpotIn}
 use Rattle.judy_sl.proofs.LoneKeys.{level_keys, lone_spot}
+use Rattle.judy_sl.proofs.PageCounts.{entries_lead}
 use Rattle.judy_sl.proofs.Nths.{place_some}
 use Rattle.judy_sl.proofs.NthReads.{spot_of}
 use Rattle.judy_sl.proofs.arena.Arena.spot_at.Goals as goal
@@ -35,6 +36,16 @@ returns-then-keys-entries c =
     let at = ap (λ (words : FinMap word_order ℕ). by_count words (c.args.place + 1)) (sym c.array.ensures.map) ∙ sym c.in-Some.ensures.key in
     let held = ap (λ (words : FinMap word_order ℕ). get words c.in-Some.piece) (sym c.array.ensures.map) ∙ c.in-Some.ensures.value in
     lone_spot c.requires.is_arena.is_world stands.seat c.args.level.now.map stands.is_level alone c.args.place c.in-Some.piece c.in-Some.value at held
+
+pub read_spot-requires-clause-leads : goal.read_spot-requires-clause-leads
+read_spot-requires-clause-leads c =
+    let stands = c.requires.told in
+    subst (λ (all : List (ℕ × ℕ)). All (LeadsOn (world_of c.args.self.now)) all) (sym c.iter.ensures) (entries_lead c.requires.is_arena.is_world stands.seat c.args.level.now.map stands.is_level)
+
+pub read_back-requires-clause-leads : goal.read_back-requires-clause-leads
+read_back-requires-clause-leads c =
+    let stands = c.requires.told in
+    entries_lead c.requires.is_arena.is_world stands.seat c.args.level.now.map stands.is_level
 
 pub read_spot-requires-clause-within : goal.read_spot-requires-clause-within
 read_spot-requires-clause-within c = subst (λ (all : List (ℕ × ℕ)). c.args.place < keys_behind_all (world_of c.args.self.now) all) (sym c.iter.ensures) c.requires.within

@@ -1,10 +1,12 @@
-use Rattle.std.proofs.Common.{refl, sym, ap, ◌∙◌, arith}
+use Rattle.std.proofs.Common.{◌≡◌, length, refl, sym, ap, subst, ◌∙◌, arith}
 use Rattle.std.proofs.lemmas.Bool.{false≢true}
-use Rattle.std.proofs.lemmas.List.{take_rest}
-use Rattle.std.specs.FinMap.{get, remove}
+use Rattle.std.proofs.lemmas.List.{length-drop, take_rest}
+use Rattle.std.specs.FinMap.{get, insert, remove}
 use Rattle.judy_model.specs.Keys.{word_order}
 use Rattle.judy_model.specs.Arrays.{ArrayOf, with_map}
-use Rattle.judy_sl.specs.Pieces.{piece_of}
+use Rattle.judy_sl.specs.Pieces.{piece_of, IsText}
+use Rattle.judy_tails.specs.Tails.{next_place}
+use Rattle.judy_sl.proofs.PieceLemmas.{text_of_key, text-drop}
 use Rattle.judy_sl.proofs.FirstWays.{unrooted}
 use Rattle.judy_sl.proofs.Rooms.{room-in_first}
 use Rattle.judy_sl.proofs.Tried.{first-absent, first-added}
@@ -30,14 +32,31 @@ returns-in-Ok-clause-absent c =
     let added = sym c.in-Ok-true.field-0-test ∙ c.in-Ok-true.ensures.answer in
     first-absent c.args.self.now c.requires.is_arena c.args.key.now key c.first_piece-piece.result c.first_piece-piece.ensures (put-absent c.args.self.now.root.map c.first_piece-piece.result added)
 
+-- Its tail is a text.
+pub put_tail-requires-clause-text : goal.put_tail-requires-clause-text
+put_tail-requires-clause-text c =
+    subst IsText (sym (take_rest c.args.key.now 8)) (text-drop 8 c.args.key.now (text_of_key c.args.key.now (c.is_key.ensures.0 c.if-not-is_key.false)))
+
+-- The entry leads to where it is put.
+next_is : (c : goal.In-Ok) → c.in-Ok.at ≡ c.next_place-next.result
+next_is c =
+    c.in-Ok.ensures.place
+    ∙ ap (next_place c.args.self.now.tails) (ap length (take_rest c.args.key.now 8) ∙ length-drop 8 c.args.key.now)
+    ∙ sym c.next_place-next.ensures
+
+words_is : (c : goal.In-Ok) → c.put_if_absent.new.self ≡ with_map c.args.self.now.root (insert c.args.self.now.root.map c.first_piece-piece.result c.in-Ok.at)
+words_is c =
+    let added = sym c.in-Ok-true.field-0-test ∙ c.in-Ok-true.ensures.answer in
+    c.in-Ok-true.ensures.put
+    ∙ ap (with_map c.args.self.now.root) (put-new c.args.self.now.root.map c.first_piece-piece.result c.next_place-next.result added ∙ ap (insert c.args.self.now.root.map c.first_piece-piece.result) (sym (next_is c)))
+
 pub returns-in-Ok-clause-added : goal.returns-in-Ok-clause-added
 returns-in-Ok-clause-added c =
     let key = c.is_key.ensures.0 c.if-not-is_key.false in
     let long = c.if-key-lt8.false in
     let added = sym c.in-Ok-true.field-0-test ∙ c.in-Ok-true.ensures.answer in
-    let words = c.in-Ok-true.ensures.put ∙ ap (with_map c.args.self.now.root) (put-new c.args.self.now.root.map c.first_piece-piece.result c.next_place-next.result added) in
     first-added c.args.self.now c.requires.is_arena c.args.key.now key c.first_piece-piece.result c.first_piece-piece.ensures (put-absent c.args.self.now.root.map c.first_piece-piece.result added)
-    c.put_if_absent.new.self c.put_tail.new.self c.next_place-next.result c.in-Ok.at _ (omega arith) c.next_place-next.ensures words c.in-Ok.ensures.place (take_rest c.args.key.now 8) c.in-Ok.ensures.put
+    c.put_if_absent.new.self c.put_tail.new.self c.in-Ok.at _ (words_is c) c.in-Ok.ensures.put (omega arith) (take_rest c.args.key.now 8) refl
 
 pub returns-in-Ok-clause-first : goal.returns-in-Ok-clause-first
 returns-in-Ok-clause-first c =
@@ -57,21 +76,20 @@ returns-in-Err-clause-refused c =
     let undone = c.del.ensures.deleted
     ∙ ap (λ (made : ArrayOf word_order). with_map made (remove made.map c.first_piece-piece.result)) (c.in-Err.ensures.refused.0.root ∙ c.in-Ok-true.ensures.put)
     ∙ ap (with_map c.args.self.now.root) (put-undone c.args.self.now.root.map c.first_piece-piece.result c.next_place-next.result added) in
-    (record { root = undone; items = c.in-Err.ensures.refused.0.items }, c.in-Err.ensures.refused.1)
+    (record { root = undone; children = c.in-Err.ensures.refused.0.children }, c.in-Err.ensures.refused.1)
 
 pub returns-in-Ok-false-clause-counted : goal.returns-in-Ok-false-clause-counted
 returns-in-Ok-false-clause-counted c =
     let stayed = sym c.in-Ok-false.field-0-test ∙ c.in-Ok-false.ensures.answer in
     let words = c.in-Ok-false.ensures.put ∙ ap (with_map c.args.self.now.root) (put-present c.args.self.now.root.map c.first_piece-piece.result c.next_place-next.result stayed) in
-    counted-same c.args.self.now (record c.args.self.now { root = c.put_if_absent.new.self }) (record { root = words; items = refl }) c.requires.counted
+    counted-same c.args.self.now (record c.args.self.now { root = c.put_if_absent.new.self }) (record { root = words; children = λ at. refl }) c.requires.counted
 
 pub returns-in-Ok-clause-counted : goal.returns-in-Ok-clause-counted
 returns-in-Ok-clause-counted c =
     let key = c.is_key.ensures.0 c.if-not-is_key.false in
     let added = sym c.in-Ok-true.field-0-test ∙ c.in-Ok-true.ensures.answer in
-    let words = c.in-Ok-true.ensures.put ∙ ap (with_map c.args.self.now.root) (put-new c.args.self.now.root.map c.first_piece-piece.result c.next_place-next.result added) in
     tried-counted c.args.self.now c.requires.is_arena c.requires.led c.requires.counted c.args.key.now key c.first_piece-piece.result c.first_piece-piece.ensures (put-absent c.args.self.now.root.map c.first_piece-piece.result added)
-    c.put_if_absent.new.self c.put_tail.new.self c.next_place-next.result c.in-Ok.at _ _ words c.in-Ok.ensures.put (returns-in-Ok-clause-added c)
+    c.put_if_absent.new.self c.put_tail.new.self c.in-Ok.at _ _ (words_is c) c.in-Ok.ensures.put (returns-in-Ok-clause-added c)
 
 pub returns-in-Err-clause-counted : goal.returns-in-Err-clause-counted
 returns-in-Err-clause-counted c = counted-same c.args.self.now _ (returns-in-Err-clause-refused c).0 c.requires.counted

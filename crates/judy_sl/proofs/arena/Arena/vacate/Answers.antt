@@ -1,18 +1,25 @@
-use Rattle.std.proofs.Common.{ap, ◌+◌, arith}
-use Rattle.std.proofs.lemmas.List.{length-map}
-use Rattle.judy_sl.specs.declared.child.Child.{Child}
-use Rattle.judy_sl.specs.Places.{with_child}
-use Rattle.judy_sl.specs.Arenas.{link_of, links_of}
-use Rattle.judy_sl.proofs.Reused.{free-most}
+use Rattle.std.proofs.Common.{refl, sym, ◌∙◌}
+use Rattle.judy_sl.proofs.PlaceKinds.{taken-level, taken-tail, level-stood, no-level-stood, level-vacated, tail-vacated}
 use Rattle.judy_sl.proofs.arena.Arena.vacate.Goals as goal
 
-pub returns-clause-vacated : goal.returns-clause-vacated
-returns-clause-vacated c = ap (λ (child : Child). record (with_child c.args.self.now c.args.at child) { free = c.args.at; spare = c.args.self.now.spare + 1 }) c.replace-child.ensures.after
+pub remove-requires : goal.remove-requires
+remove-requires c = taken-level c.args.self.now c.args.at (sym c.is_level.ensures ∙ c.if-is_level.true) c.requires.taken
 
-pub overflow_add-self : goal.overflow_add-self
-overflow_add-self c =
-    let counted = c.requires.known.counted in
-    let most = free-most (links_of c.args.self.now) in
-    let long = length-map c.args.self.now.children.items link_of in
-    let sizes = c.args.self.now.children.ok in
-    omega (arith, counted, most, long, sizes)
+pub returns-then-is_level : goal.returns-then-is_level
+returns-then-is_level c =
+    let is = sym c.is_level.ensures ∙ c.if-is_level.true in
+    record {
+      level = level-stood c.args.self.now c.args.at is c.remove.result c.remove.ensures.value;
+      vacated = level-vacated c.args.self.now _ c.args.at refl is c.remove.ensures.updates refl;
+    }
+
+pub remove-requires-else-is_level : goal.remove-requires-else-is_level
+remove-requires-else-is_level c = taken-tail c.args.self.now c.args.at (sym c.is_level.ensures ∙ c.if-is_level.false) c.requires.taken
+
+pub returns-else-is_level : goal.returns-else-is_level
+returns-else-is_level c =
+    let is = sym c.is_level.ensures ∙ c.if-is_level.false in
+    record {
+      level = no-level-stood c.args.self.now c.args.at is;
+      vacated = tail-vacated c.args.self.now _ c.args.at refl is c.remove-else-is_level.ensures refl;
+    }

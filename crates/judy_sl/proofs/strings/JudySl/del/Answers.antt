@@ -12,15 +12,15 @@ returns-then-not-is_key-clause-deleted c =
 
 pub overflow_sub-self : goal.overflow_sub-self
 overflow_sub-self c =
-    count-some c.self.inside.limit c.self.inside.arena c.args.key.now (c.is_key.ensures.0 c.if-not-is_key.false) c.del-found.new.arena c.del-found.ensures.shrunk c.self.inside.count c.self.invariant.0 c.del-found.ensures.places c.del-found.result c.del-found.ensures.answer c.if-found.true
+    count-some c.self.inside.limit c.self.inside.arena c.args.key.now (c.is_key.ensures.0 c.if-not-is_key.false) c.del-found.new.arena c.del-found.ensures.shrunk c.self.inside.count c.self.invariant.0 c.del-found.result c.del-found.ensures.answer c.if-found.true
 
 pub invariant_of-self : goal.invariant_of-self
 invariant_of-self c =
-    (strings-removed c.self.inside.limit c.self.inside.arena c.args.key.now (c.is_key.ensures.0 c.if-not-is_key.false) c.del-found.new.arena c.del-found.ensures.shrunk c.self.inside.count c.self.invariant.0 c.del-found.ensures.places c.del-found.result c.del-found.ensures.answer c.if-found.true, c.del-found.ensures.counted, c.del-found.ensures.firsts)
+    (strings-removed c.self.inside.limit c.self.inside.arena c.args.key.now (c.is_key.ensures.0 c.if-not-is_key.false) c.del-found.new.arena c.del-found.ensures.shrunk c.self.inside.count c.self.invariant.0 c.del-found.result c.del-found.ensures.answer c.if-found.true, c.del-found.ensures.counted, c.del-found.ensures.firsts)
 
 pub invariant_of-self-else-found : goal.invariant_of-self-else-found
 invariant_of-self-else-found c =
-    (strings-kept c.self.inside.limit c.self.inside.arena c.args.key.now (c.is_key.ensures.0 c.if-not-is_key.false) c.del-found.new.arena c.del-found.ensures.shrunk c.self.inside.count c.self.invariant.0 c.del-found.ensures.places c.del-found.result c.del-found.ensures.answer c.if-found.false, c.del-found.ensures.counted, c.del-found.ensures.firsts)
+    (strings-kept c.self.inside.limit c.self.inside.arena c.args.key.now (c.is_key.ensures.0 c.if-not-is_key.false) c.del-found.new.arena c.del-found.ensures.shrunk c.self.inside.count c.self.invariant.0 c.del-found.result c.del-found.ensures.answer c.if-found.false, c.del-found.ensures.counted, c.del-found.ensures.firsts)
 
 pub returns-then-found-clause-answer : goal.returns-then-found-clause-answer
 returns-then-found-clause-answer c =

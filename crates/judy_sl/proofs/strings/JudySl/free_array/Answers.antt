@@ -10,14 +10,14 @@ use Rattle.judy_sl.proofs.strings.JudySl.free_array.Goals as goal
 
 pub invariant_of-self : goal.invariant_of-self
 invariant_of-self c = (
-  strings-new c.self.inside.limit c.new.result c.new.ensures.items c.new.ensures.root c.new.ensures.none_free c.self.invariant.0.holds_some c.self.invariant.0.limit_fits,
-  counted_new c.new.result c.new.ensures.items,
-  firsts_new c.new.result c.new.ensures.items c.new.ensures.root c.new-2.result c.new-2.ensures,
+  strings-new c.self.inside.limit c.new.result c.new.ensures.levels c.new.ensures.tails c.new.ensures.root c.self.invariant.0.holds_some c.self.invariant.0.limit_fits,
+  counted_new c.new.result c.new.ensures.levels c.new.ensures.tails,
+  firsts_new c.new.result c.new.ensures.levels c.new.ensures.tails c.new.ensures.root c.new-2.result c.new-2.ensures,
 )
 
 pub returns-clause-emptied : goal.returns-clause-emptied
 returns-clause-emptied c =
-    ap (λ (map : FinMap byte_order ℕ). record { limit = c.self.inside.limit; map = map }) (empty-map c.new.result c.new.ensures.items c.new.ensures.root)
+    ap (λ (map : FinMap byte_order ℕ). record { limit = c.self.inside.limit; map = map }) (empty-map c.new.result c.new.ensures.levels c.new.ensures.tails c.new.ensures.root)
     ∙ ap (λ (strings : ArrayOf byte_order). empty_array strings.limit) c.self.view_is
 
 pub returns-clause-freed : goal.returns-clause-freed

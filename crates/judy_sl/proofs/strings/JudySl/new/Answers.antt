@@ -9,10 +9,10 @@ use Rattle.judy_sl.proofs.strings.JudySl.new.Goals as goal
 
 pub invariant_of-result : goal.invariant_of-result
 invariant_of-result c = (
-  strings-new c.args.limit c.new.result c.new.ensures.items c.new.ensures.root c.new.ensures.none_free c.requires.some c.requires.most,
-  counted_new c.new.result c.new.ensures.items,
-  firsts_new c.new.result c.new.ensures.items c.new.ensures.root c.new-2.result c.new-2.ensures,
+  strings-new c.args.limit c.new.result c.new.ensures.levels c.new.ensures.tails c.new.ensures.root c.requires.some c.requires.most,
+  counted_new c.new.result c.new.ensures.levels c.new.ensures.tails,
+  firsts_new c.new.result c.new.ensures.levels c.new.ensures.tails c.new.ensures.root c.new-2.result c.new-2.ensures,
 )
 
 pub returns : goal.returns
-returns c = ap (λ (map : FinMap byte_order ℕ). record { limit = c.args.limit; map = map }) (empty-map c.new.result c.new.ensures.items c.new.ensures.root)
+returns c = ap (λ (map : FinMap byte_order ℕ). record { limit = c.args.limit; map = map }) (empty-map c.new.result c.new.ensures.levels c.new.ensures.tails c.new.ensures.root)

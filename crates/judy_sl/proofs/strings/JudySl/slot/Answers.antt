@@ -38,4 +38,4 @@ returns-in-Gap c =
 
 pub returns-in-Clash : goal.returns-in-Clash
 returns-in-Clash c =
-    rw (← c.self.view_is) (refl, record { writes_back = tt; value = sym (get-map_none c.self.inside.arena c.args.key.now (λ key. clash-none (world_of c.self.inside.arena) c.args.key.now _ _ (c.in-Clash.ensures.way (text_of_key _ key)))) })
+    rw (← c.self.view_is) (refl, record { writes_back = tt; value = sym (get-map_none c.self.inside.arena c.args.key.now (λ key. clash-none (world_of c.self.inside.arena) c.args.key.now _ _ _ (c.in-Clash.ensures.way (text_of_key _ key)))) })

@@ -1,0 +1,118 @@
+-- Places of levels and places of tails.
+use Rattle.std.proofs.Common.{◌≡◌, ◌≢◌, ℕ, suc, ◌%◌, ◌/◌, true, false, cond, List, Option, None, Some, IsSome, refl, sym, ap, subst, ◌∙◌, arith}
+use Rattle.std.proofs.lemmas.Bool.{eqb-true}
+use Rattle.std.specs.FinMap.{FinMap}
+use Rattle.slab.specs.Slab as slab
+use Rattle.judy_model.specs.Keys.{word_order}
+use Rattle.judy_model.specs.Arrays.{ArrayOf}
+use Rattle.judy_sl.specs.declared.arena.Arena.{Arena}
+use Rattle.judy_sl.specs.declared.child.Level.{Level as LevelParts}
+use Rattle.judy_tails.specs.Tails.{tail_at, Updates}
+use Rattle.judy_sl.specs.Children.{Child, Free, Tail, Level, is_level, level_child, tail_child, level_of, IsTaken, IsLevelChild}
+use Rattle.judy_sl.specs.World.{level}
+use Rattle.judy_sl.specs.Counted.{LevelTells}
+use Rattle.judy_sl.specs.Arenas.{world_of, node_of, child_at}
+use Rattle.judy_sl.specs.Shrunk.{IsVacated}
+use Rattle.judy_sl.proofs.Linked.{CanHold}
+
+-- ---- what stands at a place, by its kind
+
+some_level : (slot : Option LevelParts) → IsTaken (level_child slot) → IsSome slot
+some_level None taken = absurd taken
+some_level (Some parts) taken = refl
+
+some_tail : (slot : Option (List ℕ × ℕ)) → IsTaken (tail_child slot) → IsSome slot
+some_tail None taken = absurd taken
+some_tail (Some rest) taken = refl
+
+level_from : (slot : Option LevelParts) (parts : LevelParts) → slot ≡ Some parts → Some parts ≡ level_of (level_child slot)
+level_from None parts is = absurd (cc)
+level_from (Some there) parts is = sym is
+
+level_taken : (slot : Option LevelParts) → IsTaken (level_child slot) → IsLevelChild (level_child slot)
+level_taken None taken = taken
+level_taken (Some parts) taken = tt
+
+no_level : (slot : Option (List ℕ × ℕ)) → None ≡ level_of (tail_child slot)
+no_level None = refl
+no_level (Some rest) = refl
+
+tells_all : (is_to : ℕ → ℕ → Type 0) (keys : ℕ) (slot : Option (List ℕ × ℕ)) → LevelTells is_to (tail_child slot) keys
+tells_all is_to keys None = tt
+tells_all is_to keys (Some rest) = tt
+
+not_level : (slot : Option (List ℕ × ℕ)) (map : FinMap word_order ℕ) → node_of (tail_child slot) ≢ level map
+not_level None map e = cc
+not_level (Some rest) map e = cc
+
+module _ (arena : Arena) (at : ℕ) where
+  pub child-level : is_level at ≡ true → child_at arena at ≡ level_child (slab.get arena.levels (at / 256))
+  child-level is = ap (λ b. cond b (level_child (slab.get arena.levels (at / 256))) (tail_child (tail_at arena.tails at))) is
+
+  pub child-tail : is_level at ≡ false → child_at arena at ≡ tail_child (tail_at arena.tails at)
+  child-tail is = ap (λ b. cond b (level_child (slab.get arena.levels (at / 256))) (tail_child (tail_at arena.tails at))) is
+
+  -- What is taken stands in the list of its kind.
+  pub taken-level : is_level at ≡ true → IsTaken (child_at arena at) → slab.ContainsKey arena.levels (at / 256)
+  taken-level is taken = some_level (slab.get arena.levels (at / 256)) (subst IsTaken (child-level is) taken)
+
+  pub taken-tail : is_level at ≡ false → IsTaken (child_at arena at) → IsSome (tail_at arena.tails at)
+  taken-tail is taken = some_tail (tail_at arena.tails at) (subst IsTaken (child-tail is) taken)
+
+  pub level-stood : is_level at ≡ true → (parts : LevelParts) → slab.get arena.levels (at / 256) ≡ Some parts → Some parts ≡ level_of (child_at arena at)
+  level-stood is parts there = level_from (slab.get arena.levels (at / 256)) parts there ∙ ap level_of (sym (child-level is))
+
+  pub no-level-stood : is_level at ≡ false → None ≡ level_of (child_at arena at)
+  no-level-stood is = no_level (tail_at arena.tails at) ∙ ap level_of (sym (child-tail is))
+
+  -- What is taken at a place of levels is a level,
+  pub level-taken : is_level at ≡ true → IsTaken (child_at arena at) → IsLevelChild (child_at arena at)
+  level-taken is taken = subst IsLevelChild (sym (child-level is)) (level_taken (slab.get arena.levels (at / 256)) (subst IsTaken (child-level is) taken))
+
+  -- and at one of tails none, so nothing is told there.
+  pub tail-not_level : is_level at ≡ false → (map : FinMap word_order ℕ) → world_of arena (suc at) ≢ level map
+  tail-not_level is map e = not_level (tail_at arena.tails at) map (ap node_of (sym (child-tail is)) ∙ e)
+
+  pub tail-tells : is_level at ≡ false → (is_to : ℕ → ℕ → Type 0) (keys : ℕ) → LevelTells is_to (child_at arena at) keys
+  tail-tells is is_to keys = subst (λ child. LevelTells is_to child keys) (sym (child-tail is)) (tells_all is_to keys (tail_at arena.tails at))
+
+-- Where a level stands, another may.
+pub holds-level : (arena : Arena) (at : ℕ) (child : Child) → IsLevelChild child → IsLevelChild (child_at arena at) → CanHold arena at child
+holds-level arena at Free is there = absurd is
+holds-level arena at (Tail rest) is there = absurd is
+holds-level arena at (Level keys words) is there = by_child (child_at arena at) refl there
+  where
+    by_child : (was : Child) → child_at arena at ≡ was → IsLevelChild was → (told : ℕ) × (held : ArrayOf word_order) × (child_at arena at ≡ Level told held)
+    by_child Free e there = absurd there
+    by_child (Tail rest) e there = absurd there
+    by_child (Level told held) e there = (told, held, e)
+
+-- ---- what stood at a place is taken out of its list
+
+-- Two places of levels stand at two keys of their list.
+other-key : (k at : ℕ) → is_level k ≡ true → is_level at ≡ true → k ≢ at → k / 256 ≢ at / 256
+other-key k at one other apart =
+    let first = eqb-true (k % 256) 255 one in
+    let second = eqb-true (at % 256) 255 other in
+    omega (arith, first, second)
+
+module _ (before after : Arena) (at : ℕ) (root : after.root ≡ before.root) where
+  pub level-vacated : is_level at ≡ true → slab.Updates before.levels after.levels (at / 256) None → after.tails ≡ before.tails → IsVacated before after at
+  level-vacated is updates tails = record {
+    here = child-level after at is ∙ ap level_child updates.changed;
+    elsewhere = λ k apart. elim (is_level k) as (λ b. is_level k ≡ b → child_at after k ≡ child_at before k) [
+      | true ↦ λ e. child-level after k e ∙ ap level_child (updates.others (k / 256) (other-key k at e is apart)) ∙ sym (child-level before k e)
+      | false ↦ λ e. child-tail after k e ∙ ap (λ all. tail_child (tail_at all k)) tails ∙ sym (child-tail before k e)
+    ] refl;
+    root = root;
+  }
+
+  pub tail-vacated : is_level at ≡ false → Updates before.tails after.tails at None → after.levels ≡ before.levels → IsVacated before after at
+  tail-vacated is updates levels = record {
+    here = child-tail after at is ∙ ap tail_child updates.here;
+    elsewhere = λ k apart. elim (is_level k) as (λ b. is_level k ≡ b → child_at after k ≡ child_at before k) [
+      | true ↦ λ e. child-level after k e ∙ ap (λ list. level_child (slab.get list (k / 256))) levels ∙ sym (child-level before k e)
+      | false ↦ λ e. child-tail after k e ∙ ap tail_child (updates.elsewhere k apart) ∙ sym (child-tail before k e)
+    ] refl;
+    root = root;
+  }

@@ -1,0 +1,2 @@
+pub mod TailLemmas
+pub mod ListLemmas

@@ -1,0 +1,146 @@
+-- One record as a tail.
+use Rattle.std.proofs.Common.{◌≡◌, ◌≢◌, ◌+◌, ◌<◌, ◌%◌, ◌/◌, ◌^◌, ◌≤◌, ℕ, zero, suc, List, [], ◌∷◌, ◌++◌, length, take, drop, get_or, true, false, nat_lt, cond, sym, refl, ap, ◌∙◌, subst, arith}
+use Rattle.std.specs.List.{flat_map, filter}
+use Rattle.std.specs.Int.{to_be_bytes, w64}
+use Rattle.std.proofs.lemmas.Bool.{ltb-true, lt-ltb}
+use Rattle.std.proofs.lemmas.Grind.{flat_map-append}
+use Rattle.std.proofs.lemmas.Nat.{mod_below}
+use Rattle.std.proofs.lemmas.List.{take_more, length-append, take-append-drop, append-nil, get_or_default}
+use Rattle.std.proofs.lemmas.List.Elements.{All-nil, All-cons, All-head, All-tail, All-append, filter-append}
+use Rattle.judy_model.proofs.Places.{length-filter-le}
+use Rattle.judy_model.specs.Keys.{IsByteString, byte_order}
+use Rattle.judy_model.specs.WordBytes.{low_bytes}
+use Rattle.judy_records.specs.Texts.{words_for, words_of, text_in, EndsWell, IsText}
+use Rattle.judy_records.specs.Spots.{Spot, free, held, text_of}
+use Rattle.judy_records.proofs.BackLemmas.{be-low_bytes}
+use Rattle.judy_records.proofs.OrderLemmas.{order-words, text-bytes}
+use Rattle.judy_records.proofs.PadLemmas.{same-ends, text-ends, full-word}
+use Rattle.judy_records.proofs.TextLemmas.{length-words}
+use Rattle.judy_model.proofs.ByteLemmas.{length-low_bytes}
+use Rattle.judy_tails.specs.Inside.{IsWhole}
+
+-- ---- the text that words spell is one
+
+low-are : (width word : ℕ) → IsByteString (low_bytes width word)
+low-are zero word = All-nil (λ byte. byte < 256)
+low-are (suc width) word = All-cons (λ byte. byte < 256) (word / 256 ^ width % 256) (low_bytes width word) (mod_below (word / 256 ^ width) 256 (omega arith)) (low-are width word)
+
+bytes-are : (words : List ℕ) → IsByteString (flat_map (λ word. low_bytes 8 word) words)
+bytes-are [] = All-nil (λ byte. byte < 256)
+bytes-are (word ∷ words) = All-append (λ byte. byte < 256) (low_bytes 8 word) (flat_map (λ word. low_bytes 8 word) words) (low-are 8 word) (bytes-are words)
+
+left-are : (bytes : List ℕ) → IsByteString bytes → IsText (filter (λ byte. nat_lt 0 byte) bytes)
+left-are [] are = All-nil (λ byte. (byte < 256) × (byte ≢ 0))
+left-are (byte ∷ bytes) are =
+    let rest = left-are bytes (All-tail (λ byte. byte < 256) byte bytes are) in
+    elim (nat_lt 0 byte) as (λ b. nat_lt 0 byte ≡ b → IsText (cond b (byte ∷ filter (λ byte. nat_lt 0 byte) bytes) (filter (λ byte. nat_lt 0 byte) bytes))) [
+      | true ↦ λ some. All-cons (λ byte. (byte < 256) × (byte ≢ 0)) byte _ (All-head (λ byte. byte < 256) byte bytes are, λ none. absurd (let more = ltb-true 0 byte some in omega (arith, more, none))) rest
+      | false ↦ λ none. rest
+    ] refl
+
+pub is-text : (words : List ℕ) → IsText (text_in words)
+unfolding text_in
+is-text words = left-are (flat_map (λ word. low_bytes 8 word) words) (bytes-are words)
+
+-- What no program's bytes exceed.
+pub are-bytes : (bytes : List ℕ) → ((at : ℕ) → get_or bytes at 0 < 256) → IsByteString bytes
+are-bytes bytes below at default inside = subst (λ byte. byte < 256) (get_or_default bytes at 0 default inside) (below at)
+
+-- ---- a whole record
+
+pub whole-is : (spot : Spot) → IsWhole spot → text_of spot ≡ words_of (text_in (text_of spot))
+whole-is (free next) whole = absurd whole
+whole-is (held value words) whole = whole
+
+module _ (spot : Spot) (whole : IsWhole spot) where
+  pub whole-words : text_of spot ≡ words_of (text_in (text_of spot))
+  whole-words = whole-is spot whole
+
+  -- Its text is that of the bytes where its words are theirs, and only there.
+  pub whole-same : (bytes : List ℕ) → IsByteString bytes → EndsWell bytes → text_of spot ≡ words_of bytes → text_in (text_of spot) ≡ bytes
+  whole-same bytes are ends same =
+      let text = is-text (text_of spot) in
+      same-ends (text_in (text_of spot)) bytes (text-bytes (text_in (text_of spot)) text) are (text-ends (text_in (text_of spot)) text) ends (sym whole-words ∙ same)
+
+  pub same-whole : (bytes : List ℕ) → text_in (text_of spot) ≡ bytes → text_of spot ≡ words_of bytes
+  same-whole bytes same = whole-words ∙ ap words_of same
+
+  -- It compares as its words do.
+  pub whole-order : (text : List ℕ) → IsText text → byte_order (text_of spot) (words_of text) ≡ byte_order (text_in (text_of spot)) text
+  whole-order text is = ap (λ words. byte_order words (words_of text)) whole-words ∙ order-words (text_in (text_of spot)) text (is-text (text_of spot)) is
+
+  -- None of the bytes of a word is zero where the last one isn't.
+  pub whole-full : (at : ℕ) → at < length (text_of spot) → get_or (text_of spot) at 0 % 256 ≢ 0 → length (text_in (get_or (text_of spot) at 0 ∷ [])) ≡ 8
+  whole-full at inside some =
+      let text = text_in (text_of spot) in
+      let long = length-words (words_for (length text)) text in
+      let same = ap (λ words. get_or words at 0) whole-words in
+      let full = full-word text (is-text (text_of spot)) at (omega (arith, inside, long, ap length whole-words)) (subst (λ n. n % 256 ≢ 0) same some) in
+      ap (λ n. length (text_in (n ∷ []))) same ∙ ap length full ∙ length-low_bytes 8 (get_or (words_of text) at 0)
+
+-- ---- the bytes of its words, one after the other
+
+-- Those of one word more.
+text-append : (words more : List ℕ) → text_in (words ++ more) ≡ text_in words ++ text_in more
+unfolding text_in
+text-append words more =
+    ap (filter (λ byte. nat_lt 0 byte)) (flat_map-append (λ word. low_bytes 8 word) words more)
+    ∙ filter-append (λ byte. nat_lt 0 byte) (flat_map (λ word. low_bytes 8 word) words) (flat_map (λ word. low_bytes 8 word) more)
+
+pub text-none : text_in [] ≡ []
+unfolding text_in
+text-none = refl
+
+pub text-more : (words : List ℕ) (at : ℕ) → at < length words → text_in (take (at + 1) words) ≡ text_in (take at words) ++ text_in (get_or words at 0 ∷ [])
+text-more words at inside = ap text_in (take_more words at 0 inside) ∙ text-append (take at words) (get_or words at 0 ∷ [])
+
+-- They are no more than all.
+pub text-within : (words : List ℕ) (at : ℕ) → at < length words → length (text_in (take at words)) + length (text_in (get_or words at 0 ∷ [])) ≤ length (text_in words)
+text-within words at inside =
+    let whole = ap (λ all. length (text_in all)) (sym (take-append-drop (at + 1) words)) ∙ ap length (text-append (take (at + 1) words) (drop (at + 1) words)) in
+    let front = ap length (text-more words at inside) in
+    let one = length-append (text_in (take at words)) (text_in (get_or words at 0 ∷ [])) in
+    let parts = length-append (text_in (take (at + 1) words)) (text_in (drop (at + 1) words)) in
+    omega (arith, whole, front, one, parts)
+
+-- ---- the bytes of one word, one after the other
+
+-- Those of the first so many that aren't zero.
+abbrev pub kept : ℕ → List ℕ → List ℕ
+kept count bytes = filter (λ byte. nat_lt 0 byte) (take count bytes)
+
+module _ (bytes : List ℕ) (at : ℕ) (inside : at < length bytes) where
+  one-more : kept (at + 1) bytes ≡ kept at bytes ++ filter (λ byte. nat_lt 0 byte) (get_or bytes at 0 ∷ [])
+  one-more =
+      ap (filter (λ byte. nat_lt 0 byte)) (take_more bytes at 0 inside)
+      ∙ filter-append (λ byte. nat_lt 0 byte) (take at bytes) (get_or bytes at 0 ∷ [])
+
+  module _ (some : get_or bytes at 0 ≢ 0) where
+    pub kept-some : kept (at + 1) bytes ≡ kept at bytes ++ get_or bytes at 0 ∷ []
+    kept-some = one-more ∙ ap (λ b. kept at bytes ++ cond b (get_or bytes at 0 ∷ []) []) (lt-ltb 0 (get_or bytes at 0) (omega (arith, some)))
+
+    pub kept-within : length (kept at bytes) < length (filter (λ byte. nat_lt 0 byte) bytes)
+    kept-within =
+        let whole = ap (λ all. length (filter (λ byte. nat_lt 0 byte) all)) (sym (take-append-drop (at + 1) bytes)) ∙ ap length (filter-append (λ byte. nat_lt 0 byte) (take (at + 1) bytes) (drop (at + 1) bytes)) in
+        let parts = length-append (kept (at + 1) bytes) (filter (λ byte. nat_lt 0 byte) (drop (at + 1) bytes)) in
+        let front = ap length kept-some in
+        let one = length-append (kept at bytes) (get_or bytes at 0 ∷ []) in
+        omega (arith, whole, parts, front, one)
+
+pub word-text : (word : ℕ) (bytes : List ℕ) → bytes ≡ to_be_bytes w64 word → text_in (word ∷ []) ≡ filter (λ byte. nat_lt 0 byte) bytes
+unfolding text_in
+word-text word bytes is = ap (filter (λ byte. nat_lt 0 byte)) (append-nil (low_bytes 8 word) ∙ sym (is ∙ be-low_bytes word))
+
+-- Where no byte is zero, all are kept.
+all-kept : (bytes : List ℕ) → length (filter (λ byte. nat_lt 0 byte) bytes) ≡ length bytes → filter (λ byte. nat_lt 0 byte) bytes ≡ bytes
+all-kept [] same = refl
+all-kept (byte ∷ bytes) same =
+    elim (nat_lt 0 byte) as (λ b. length (cond b (byte ∷ filter (λ byte. nat_lt 0 byte) bytes) (filter (λ byte. nat_lt 0 byte) bytes)) ≡ suc (length bytes) → cond b (byte ∷ filter (λ byte. nat_lt 0 byte) bytes) (filter (λ byte. nat_lt 0 byte) bytes) ≡ byte ∷ bytes) [
+      | true ↦ λ all. ap (λ rest. byte ∷ rest) (all-kept bytes (omega (arith, all)))
+      | false ↦ λ fewer. absurd (let most = length-filter-le (λ byte. nat_lt 0 byte) bytes in omega (arith, fewer, most))
+    ] same
+
+pub full-text : (word : ℕ) (bytes : List ℕ) → bytes ≡ to_be_bytes w64 word → length (text_in (word ∷ [])) ≡ 8 → text_in (word ∷ []) ≡ bytes
+full-text word bytes is full =
+    let text = word-text word bytes is in
+    text ∙ all-kept bytes (sym (ap length text) ∙ full ∙ sym (ap length is))

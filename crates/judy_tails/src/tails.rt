@@ -1,0 +1,133 @@
+//! The lists of tails, one for each number of words.
+
+ghost use Rattle.std.specs.Prelude.{◌≡◌, ◌<◌, ◌≤◌, ◌%◌, ℕ, List, Some, None, IsSome, IfOk, OnOk, OnErr, length};
+ghost use Rattle.std.specs.Borrow.{sem};
+ghost use Rattle.judy_model.specs.Keys.{IsWord};
+ghost use Rattle.judy_records.specs.Texts.{IsText};
+ghost use Rattle.judy_tails.specs.Tails.{tail_at, next_place, no_tails, text_of, Updates, SameTails};
+
+use crate::tail::Tail;
+use judy_records::{Records, words_for};
+use std::alloc::{AllocError, Global};
+use std::marker::Model;
+
+/// Texts without a zero byte, of at most 1,024 bytes, each with a value and a place of its own. To contracts it is a `TailLists`.
+#[derive(Drop)]
+pub struct Tails {
+    lists: Vec<Records>,
+}
+
+impl Model for Tails {
+    ghost use Rattle.judy_tails.specs.Tails.{TailLists};
+
+    ghost Value = { TailLists };
+
+    ghost use Rattle.judy_tails.specs.Inside.{lists_of, AreTails};
+
+    ghost view = { λ t. lists_of t.lists.items };
+
+    ghost invariant = { λ t. AreTails t.lists.items };
+}
+
+impl Tails {
+    ghost use Rattle.judy_tails.specs.Inside.{AreSame};
+    ghost use Rattle.judy_tails.specs.Lends.{LendsValue};
+
+    /// No tails. It asks for no memory.
+    pub fn new(alloc: Global) -> Tails
+        ensures { result ≡ no_tails }
+    {
+        Tails {
+            lists: Vec::new(alloc),
+        }
+    }
+
+    /// The tail at a place, where one stands.
+    pub fn at(&self, place: u64) -> Tail<'_>
+        requires { IsSome (tail_at self.now place) }
+        ensures { tail_at self.now place ≡ Some result }
+    {
+        Tail::new(&self.lists[(place % 256) as usize], (place / 256) as usize)
+    }
+
+    /// Lends the value of the tail at a place; all else stays.
+    pub fn slot(&mut self, place: u64) -> &mut u64
+        requires { IsSome (tail_at self.old place) }
+        ensures* writes_back { sem 𝓛 (LendsValue self.entry place result) }
+        ensures value { tail_at self.old place
+            ≡ Some (text_of (tail_at self.old place), result.now) }
+    {
+        self.lists[(place % 256) as usize].slot((place / 256) as usize)
+    }
+
+    /// The place that the next text of so many bytes takes.
+    pub fn next_place(&self, bytes: usize) -> u64
+        requires { bytes ≤ 1024 }
+        ensures { result ≡ next_place self.now bytes }
+    {
+        let size = words_for(bytes);
+        match self.lists.get(size) {
+            Some(list) => list.next_place() as u64 * 256 + size as u64,
+            None => size as u64,
+        }
+    }
+
+    /// Puts a text with its value in at the next place for its length, and answers that place. Memory is asked for only where no place of that
+    /// length is free. The error is want of memory, and all places have then what they had.
+    pub fn put(&mut self, text: &[u8], value: u64) -> Result<u64, AllocError>
+        requires text { IsText text.now }
+        requires short { length text.now ≤ 1024 }
+        ensures place { IfOk result (λ place. place ≡ next_place self.old (length text.now)) }
+        ensures kind { IfOk result (λ place. place % 256 ≤ 128) }
+        ensures free { IfOk result (λ place. tail_at self.old place ≡ None) }
+        ensures put { IfOk result
+            (λ place. Updates self.old self.new place (Some (text.now, value))) }
+        ensures refused { OnErr result (SameTails self.old self.new) }
+    {
+        let size = words_for(text.len());
+        self.reach(size)?;
+        let list = &mut self.lists[size];
+        list.reserve(1)?;
+        let place = list.next_place();
+        if place as u64 >= MOST {
+            return Err(AllocError);
+        }
+        list.put(value, text);
+        Ok(place as u64 * 256 + size as u64)
+    }
+
+    /// Takes the tail at a place out. It asks for no memory; with the last text of its length goes the memory of its list.
+    pub fn remove(&mut self, place: u64)
+        requires { IsSome (tail_at self.old place) }
+        ensures { Updates self.old self.new place None }
+    {
+        self.lists[(place % 256) as usize].remove((place / 256) as usize);
+    }
+
+    /// Does nothing: it tells a caller's proof that values are words.
+    pub fn told(&self)
+        ensures { (place : ℕ) (tail : List ℕ × ℕ) → tail_at self.now place ≡ Some tail
+            → IsWord tail.1 }
+    {
+        for list in &self.lists {
+            list.told();
+        }
+    }
+
+    // Makes lists up to that of texts of so many words.
+    fn reach(&mut self, size: usize) -> Result<(), AllocError>
+        requires { size ≤ 128 }
+        ensures same { AreSame self.old self.new }
+        ensures reached { OnOk result (size < length self.new.lists) }
+    {
+        while self.lists.len() <= size {
+            let alloc = *self.lists.allocator();
+            let more = self.lists.len();
+            self.lists.push(Records::new(alloc, more))?;
+        }
+        Ok(())
+    }
+}
+
+// The most records that a list holds, so that each place is a word.
+const MOST: u64 = 36_028_797_018_963_968;
