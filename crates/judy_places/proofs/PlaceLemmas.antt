@@ -47,27 +47,6 @@ taken-reused before first after next (inr is) =
       tight = λ lost. inr (all lost);
     }
 
--- Nothing is taken, or some and then more.
-pub same-reused : (before : Links) (first : ℕ) (after : Links) (next : ℕ) → after ≡ before → next ≡ first → AreReused before first after next
-same-reused before first after next links is = record {
-  kept = λ lost. subst (λ (l : Links). NoneLost l next) (sym links) (subst (NoneLost before) (sym is) lost);
-  full = λ all. subst AllTaken (sym links) all;
-  tight = λ lost. inl (let l = ap (λ (l : Links). length l) links in omega (arith, l));
-}
-
-pub then-reused : (before : Links) (first : ℕ) (between : Links) (second : ℕ) (after : Links) (third : ℕ) → AreReused before first between second → AreReused between second after third → AreReused before first after third
-then-reused before first between second after third one two = record {
-  kept = λ lost. two.kept (one.kept lost);
-  full = λ all. two.full (one.full all);
-  tight = λ lost. elim (two.tight (one.kept lost)) [
-    | inr all ↦ inr all
-    | inl short ↦ elim (one.tight lost) [
-      | inl shorter ↦ inl (omega (arith, short, shorter))
-      | inr all ↦ inr (two.full all)
-    ]
-  ];
-}
-
 -- A taken place becomes the first free one.
 pub place-freed : (before : Links) (first at : ℕ) → at < length before → get_or before at None ≡ None → AreFreed before first (set before at (Some first)) at
 place-freed before first at inside taken = record {
@@ -75,18 +54,6 @@ place-freed before first at inside taken = record {
       let back : set (set before at (Some first)) at None ≡ before = set-set before at (Some first) None ∙ ap (set before at) (sym taken) ∙ set-get_or before at None in
       (suc lost.0, (first, get_or-set_same before at (Some first) None inside, subst (λ (links : Links). AreLinked lost.0 links first) (sym back) lost.1));
   long = length-set before at (Some first);
-}
-
-pub same-freed : (before : Links) (first : ℕ) (after : Links) (next : ℕ) → after ≡ before → next ≡ first → AreFreed before first after next
-same-freed before first after next links is = record {
-  kept = λ lost. subst (λ (l : Links). NoneLost l next) (sym links) (subst (NoneLost before) (sym is) lost);
-  long = ap (λ (l : Links). length l) links;
-}
-
-pub then-freed : (before : Links) (first : ℕ) (between : Links) (second : ℕ) (after : Links) (third : ℕ) → AreFreed before first between second → AreFreed between second after third → AreFreed before first after third
-then-freed before first between second after third one two = record {
-  kept = λ lost. two.kept (one.kept lost);
-  long = two.long ∙ one.long;
 }
 
 -- How many are free.
