@@ -2,7 +2,7 @@
 //! which nothing leads yet; then comes at most one insert into a level of the array, the last step that can be refused, and where it is, the tail
 //! is taken out again. Only where a key is tried as a new one does that insert come first.
 
-ghost use Rattle.std.specs.Prelude.{ℕ, List, [], ◌≡◌, ◌+◌, ◌≤◌, None, IfOk, OnOk, IfErr, OnErr, IfSome, IsSome, IsTrue, length};
+ghost use Rattle.std.specs.Prelude.{ℕ, List, [], ◌≡◌, ◌+◌, ◌≤◌, None, IfOk, IsOk, OnOk, IfErr, OnErr, IfSome, IsSome, IsTrue, length};
 ghost use Rattle.std.specs.FinMap as map;
 ghost use Rattle.judy_word.specs.Writes.{with_value};
 ghost use Rattle.judy_tails.specs.Tails.{next_place};
@@ -49,6 +49,7 @@ impl Arena {
         ensures same { IsSame self.old self.new }
         ensures tails { self.new.tails ≡ self.old.tails }
         ensures room { OnOk result (HasRoom self.new more) }
+        ensures unasked { HasRoom self.old more → (self.new ≡ self.old) × IsOk result }
     {
         let levels = self.levels.len();
         if self.levels.capacity() - levels < more {

@@ -72,8 +72,9 @@ impl Tails {
         }
     }
 
-    /// Puts a text with its value in at the next place for its length, and answers that place. Memory is asked for only where no place of that
-    /// length is free. The error is want of memory, and all places have then what they had.
+    /// Puts a text with its value in at the next place for its length, and answers that place. The error is want of memory, or 2^55 texts of
+    /// that length, and all places have then what they had. (That memory is asked for only where no place of that length is free no contract
+    /// tells.)
     pub fn put(&mut self, text: &[u8], value: u64) -> Result<u64, AllocError>
         requires text { IsText text.now }
         requires short { length text.now ≤ 1024 }
