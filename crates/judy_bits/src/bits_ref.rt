@@ -68,6 +68,8 @@ impl<'a> BitsRef<'a> {
     }
 
     /// The place of a member, which is its rank; none where the byte isn't a member, and then nothing is counted.
+    // As a set's: a call would cost as much as the count.
+    #[inline(always)]
     pub fn place(&self, byte: u8) -> Option<usize>
         ensures { result ≡ set.place self.now byte }
     {

@@ -14,6 +14,7 @@
 --     returns, free_all, ends_at, leaves   the return: the locals go, and what is left has to be what the contract says
 pub mod Cutting
 pub mod Gaps
+pub mod Inserts
 pub mod Sharing
 pub mod Values
 pub mod Writes

@@ -2,6 +2,7 @@
 
 ghost use Rattle.std.specs.Prelude.{◌≡◌, ◌+◌, ◌-◌, ◌<◌, ◌≤◌, ◌^◌, length, take, drop, replicate, ◌++◌, slice_index, slice_set, IfOk};
 ghost use Rattle.std.specs.Borrow.{sem};
+ghost use Rattle.std.specs.List.{insert};
 ghost use Rattle.judy_block.specs.Contents.{Contents, empty_block, with_gap, without_gap};
 ghost use Rattle.judy_block.specs.Deeds.{IsDeedOf};
 ghost use Rattle.judy_block.specs.Layout.{used_of, capacity_of, tag_of, contents_of, IsBlock};
@@ -130,6 +131,24 @@ impl Block {
         open_words(&mut cells[1..], i, n);
     }
 
+    /// Puts a word in at place `i`, and then another at place `j`, which is behind it and at most behind the last word. Both have to
+    /// fit the capacity.
+    ///
+    /// Each of the words from place `i` on is moved once, the last first.
+    pub fn insert_two(&mut self, i: usize, word: u64, j: usize, other: u64)
+        requires first { i < j }
+        requires second { j ≤ length self.old.words + 1 }
+        requires room { length self.old.words + 2 ≤ self.old.capacity }
+        ensures { self.new
+            ≡ record self.old { words = insert (insert self.old.words i word) j other } }
+    {
+        let header = self.header();
+        let used = header.used();
+        let cells = self.cells.front_mut(1 + used + 2);
+        cells[0] = header.with_used(used + 2).bits;
+        insert_words(&mut cells[1..], i, word, j, other);
+    }
+
     /// Takes out the `n` words from place `i` on, which have to be there; the words after them move down.
     ///
     /// Each of these words is moved once, the first first.
@@ -189,6 +208,20 @@ fn open_words(words: &mut [u64], i: usize, n: usize)
     let used = words.len() - n;
     words.copy_within(i..used, i + n);
     clear_words(words, i, n);
+}
+
+// Puts a word in at `i`, and then another at `j`, behind it; the last two words are spare, and go.
+fn insert_words(words: &mut [u64], i: usize, word: u64, j: usize, other: u64)
+    requires first { i < j }
+    requires second { j < length words.old }
+    ensures { words.new
+        ≡ insert (insert (take (length words.old - 2) words.old) i word) j other }
+{
+    let used = words.len() - 2;
+    words.copy_within(j - 1..used, j + 1);
+    words[j] = other;
+    words.copy_within(i..j - 1, i + 1);
+    words[i] = word;
 }
 
 // Makes the `n` words from `i` on zeros.

@@ -35,34 +35,35 @@ pub fn exchange<V: Words + Drop>(
     ensures exchanged { IsExchanged key value node.old node.new result }
     ensures first { node.old.pairs ≡ [] → result ≡ Ok None }
 {
-    let root = mem::replace(node, NodeOf::empty()).open();
-    let (root, answer) = in_root(alloc, root, key, value);
-    *node = NodeOf::close(root);
-    answer
+    in_root(alloc, node.place.kind_mut(), key, value)
 }
 
-// In a root taken out of its place.
+// In a root, which is changed where it stands.
 fn in_root<V: Words + Drop>(
     alloc: Global,
-    root: RootOf<V>,
+    root: &mut RootOf<V>,
     key: u64,
     value: u64,
-) -> (RootOf<V>, Result<Option<u64>, AllocError>)
+) -> Result<Option<u64>, AllocError>
     requires words { V.WORDS ≡ 1 }
-    requires root { IsRoot V.WORDS root }
-    requires room { has_key key (root_tree root) ≡ false
-        → length (root_tree root).pairs < 2 ^ 64 - 1 }
-    ensures root { IsRoot V.WORDS result.0 }
-    ensures exchanged { IsExchanged key value (root_tree root) (root_tree result.0) result.1 }
-    ensures first { (root_tree root).pairs ≡ [] → result.1 ≡ Ok None }
+    requires root { IsRoot V.WORDS root.old }
+    requires room { has_key key (root_tree root.old) ≡ false
+        → length (root_tree root.old).pairs < 2 ^ 64 - 1 }
+    ensures root { IsRoot V.WORDS root.new }
+    ensures exchanged { IsExchanged key value (root_tree root.old) (root_tree root.new) result }
+    ensures first { (root_tree root.old).pairs ≡ [] → result ≡ Ok None }
 {
     match root {
-        RootOf::Empty => (RootOf::One(key, value), Ok(None)),
-        RootOf::One(only, there) => in_one(alloc, only, there, key, value),
-        RootOf::Many(mut child) => {
-            let done = exchange_in(alloc, &mut child, 8, key, value);
-            (RootOf::Many(child), done)
+        RootOf::Empty => {
+            *root = RootOf::One(key, value);
+            Ok(None)
         }
+        RootOf::One(only, there) => {
+            let (new, answer) = in_one(alloc, *only, *there, key, value);
+            *root = new;
+            answer
+        }
+        RootOf::Many(child) => exchange_in(alloc, child, 8, key, value),
     }
 }
 

@@ -13,7 +13,6 @@ use crate::way_down::insert_in;
 use judy_leaf::Words;
 use judy_node::{ChildOf, NodeOf, RootOf, kind_of_sorted};
 use std::alloc::{AllocError, Global};
-use std::mem;
 
 /// Puts a key into a tree. True: it was absent, and stands there with the value 0. False: it was there, with its value, and
 /// nothing has changed; no memory is asked for. The error is want of memory, for an absent key alone; the tree is the old one then,
@@ -44,10 +43,7 @@ pub fn insert_with<V: Words + Drop>(
     ensures inserted { IsInserted key value node.old node.new result }
     ensures first { node.old.pairs ≡ [] → result ≡ Ok true }
 {
-    let root = mem::replace(node, NodeOf::empty()).open();
-    let (root, answer) = into_root(alloc, root, key, value);
-    *node = NodeOf::close(root);
-    answer
+    into_root(alloc, node.place.kind_mut(), key, value)
 }
 
 /// Lends the value of a key, of a tree whose keys have values; none where the key is absent. The tree becomes the one with the
@@ -62,29 +58,33 @@ pub fn slot<V: Words + Drop>(node: &mut NodeOf<V>, key: u64) -> Option<&mut u64>
     node.slot(key)
 }
 
-// Into a root taken out of its place.
+// Into a root, which is changed where it stands.
 fn into_root<V: Words + Drop>(
     alloc: Global,
-    root: RootOf<V>,
+    root: &mut RootOf<V>,
     key: u64,
     value: u64,
-) -> (RootOf<V>, Result<bool, AllocError>)
+) -> Result<bool, AllocError>
     requires one { V.WORDS ≤ 1 }
-    requires root { IsRoot V.WORDS root }
+    requires root { IsRoot V.WORDS root.old }
     requires no_value { V.WORDS ≡ 0 → value ≡ 0 }
-    requires room { has_key key (root_tree root) ≡ false
-        → length (root_tree root).pairs < 2 ^ 64 - 1 }
-    ensures root { IsRoot V.WORDS result.0 }
-    ensures inserted { IsInserted key value (root_tree root) (root_tree result.0) result.1 }
-    ensures first { (root_tree root).pairs ≡ [] → result.1 ≡ Ok true }
+    requires room { has_key key (root_tree root.old) ≡ false
+        → length (root_tree root.old).pairs < 2 ^ 64 - 1 }
+    ensures root { IsRoot V.WORDS root.new }
+    ensures inserted { IsInserted key value (root_tree root.old) (root_tree root.new) result }
+    ensures first { (root_tree root.old).pairs ≡ [] → result ≡ Ok true }
 {
     match root {
-        RootOf::Empty => (RootOf::One(key, value), Ok(true)),
-        RootOf::One(only, there) => beside_one(alloc, only, there, key, value),
-        RootOf::Many(mut child) => {
-            let done = insert_in(alloc, &mut child, 8, key, value);
-            (RootOf::Many(child), done)
+        RootOf::Empty => {
+            *root = RootOf::One(key, value);
+            Ok(true)
         }
+        RootOf::One(only, there) => {
+            let (new, answer) = beside_one(alloc, *only, *there, key, value);
+            *root = new;
+            answer
+        }
+        RootOf::Many(child) => insert_in(alloc, child, 8, key, value),
     }
 }
 

@@ -1,5 +1,6 @@
 -- A pair more in the block of a leaf, or one less, from what happens to its values and to its keys.
-use Rattle.std.proofs.Common.{◌≡◌, ℕ, ◌+◌, ◌*◌, ◌≤◌, [], length, take, ap, sym, ◌∙◌, subst, arith}
+use Rattle.std.proofs.Common.{◌≡◌, ℕ, ◌+◌, ◌*◌, ◌/◌, ◌^◌, ◌<◌, ◌≤◌, [], length, take, refl, ap, sym, ◌∙◌, subst, arith}
+use Rattle.std.proofs.Math.Nat.{div-eq_of_lt-le}
 use Rattle.std.specs.List.{insert, remove}
 use Rattle.std.proofs.lemmas.List.{length-take-le}
 use Rattle.judy_block.specs.Contents.{Contents}
@@ -9,9 +10,11 @@ use Rattle.judy_leaf.specs.KeyChanges.{IsKeyChange}
 use Rattle.judy_leaf.specs.ValueChanges.{IsValueChange}
 use Rattle.judy_leaf.specs.PairChanges.{IsPairPut, IsPairTaken}
 use Rattle.judy_leaf.proofs.LeafLists.{length-keys_from}
+use Rattle.judy_leaf.proofs.ValueSteps.{put_is, value_put, length-insert}
+use Rattle.judy_leaf.proofs.WholeWords.{words_are, word_put}
 use Rattle.judy_leaf.proofs.PairLists.{pairs-insert, pairs-insert_none, pairs-remove, pairs-remove_none}
 
-once : (n : ℕ) → 1 * n ≡ n
+pub once : (n : ℕ) → 1 * n ≡ n
 once n = omega arith
 
 never_more : (n : ℕ) → 0 * n ≡ 0
@@ -40,6 +43,25 @@ put_with_value words count at key value before mid after one place are changed p
           ∙ pairs-insert old (take count before.words) at key value (values ∙ sym long) (omega arith)
           ∙ ap (λ n. insert (pairs_of (keys_from before.tag count n before) (take n before.words)) at (key, value)) (sym (once count));
     })
+
+-- With values, where a word has one key.
+pub put_words : (width count at key value : ℕ) (before : Contents) → 4 < width → before.tag ≡ width → at ≤ count → count < 32 → key < 256 ^ width → AreKeysFrom width count count before
+    → IsPairPut 1 count at key value before (record before { words = insert (insert before.words at value) (count + 1 + at) key })
+put_words width count at key value before wide tag place few below keys =
+    let is = keys.packed.is_width in
+    let most = is.most in
+    let one : 8 / width ≡ 1 = div-eq_of_lt-le width (omega arith) (omega arith) in
+    let exact = keys.exact in
+    let words = words_are width is one count in
+    let own = subst (λ w. AreKeysFrom w count count before) (sym tag) keys in
+    let values = insert before.words at value in
+    let longer = length-insert before.words at value (omega arith) in
+    let mid : Contents = record before { words = values } in
+    let after : Contents = record before { words = insert values (count + 1 + at) key } in
+    let changed = value_put count at value before values place own (sym (put_is before.words at value (omega arith))) in
+    let put = word_put width is one (count + 1) count at mid (subst (λ w. AreKeysFrom w count (count + 1) mid) tag changed.are) key (insert values (count + 1 + at) key) place few below (sym (put_is values (count + 1 + at) key (omega arith))) in
+    put_with_value 1 count at key value before mid after refl place (subst (λ n. AreKeysFrom before.tag count n before) (sym (once count)) own) changed
+    (subst (λ w. IsKeyChange w (count + 1) count (count + 1) (λ keys. insert keys at key) mid after) (sym tag) put)
 
 -- Without values.
 pub put_without : (words count at key value : ℕ) (before after : Contents) → words ≡ 0 → value ≡ 0 → at ≤ count → AreKeysFrom before.tag count (words * count) before

@@ -166,6 +166,8 @@ impl<V: Words + Drop> ImmOf<V> {
     }
 
     /// The nearest key at or above a number, with its value; none where all keys are below.
+    // Where keys have a value there is one key, and in its caller this is one comparison.
+    #[inline(always)]
     pub fn at_or_after(&self, number: u64) -> Option<(u64, u64)>
         ensures { result ≡ pair_from self.now.pairs number }
     {
@@ -176,6 +178,8 @@ impl<V: Words + Drop> ImmOf<V> {
     }
 
     /// The nearest key at or below a number, with its value; none where all keys are above.
+    // As `at_or_after`.
+    #[inline(always)]
     pub fn at_or_before(&self, number: u64) -> Option<(u64, u64)>
         ensures { result ≡ pair_up_to self.now.pairs number }
     {

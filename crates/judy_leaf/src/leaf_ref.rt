@@ -136,6 +136,8 @@ impl<'a, V: Words + Drop> LeafRef<'a, V> {
     }
 
     /// The key at a place, counted from 0 and below the number of keys.
+    // Whoever just entered a leaf has its parts at hand: by a call of this one they would be written to memory first.
+    #[inline(always)]
     pub fn key_at(&self, at: usize) -> u64
         requires { at < length self.now.pairs }
         ensures { result ≡ slice_index (keys_of self.now.pairs) at }
@@ -169,6 +171,8 @@ impl<'a, V: Words + Drop> LeafRef<'a, V> {
     }
 
     /// The nearest key at or above a number, with its value; none where all keys are below.
+    // As `key_at`.
+    #[inline(always)]
     pub fn at_or_after(&self, number: u64) -> Option<(u64, u64)>
         ensures { result ≡ pair_from self.now.pairs number }
     {
@@ -181,6 +185,8 @@ impl<'a, V: Words + Drop> LeafRef<'a, V> {
     }
 
     /// The nearest key at or below a number, with its value; none where all keys are above.
+    // As `key_at`.
+    #[inline(always)]
     pub fn at_or_before(&self, number: u64) -> Option<(u64, u64)>
         ensures { result ≡ pair_up_to self.now.pairs number }
     {

@@ -52,10 +52,27 @@ pub(crate) fn put<V: Words + Drop>(
     ensures { IsPairPut V.WORDS count at key value block.old block.new }
 {
     if V::WORDS == 1 {
-        values::insert(block, count, at, value);
-        keys::insert(width, block, count + 1, count, at, key);
+        put_with_value(block, width, count, at, key, value);
     } else {
         keys::insert(width, block, 0, count, at, key);
+    }
+}
+
+// The same where keys have values. Where a word has one key, each word is moved once for both.
+fn put_with_value(block: &mut Block, width: usize, count: usize, at: usize, key: u64, value: u64)
+    requires tag { block.old.tag ≡ width }
+    requires keys { AreKeysFrom width count count block.old }
+    requires few { count < 32 }
+    requires place { at ≤ count }
+    requires below { key < 256 ^ width }
+    requires room { count + 1 + words_for width (count + 1) ≤ block.old.capacity }
+    ensures { IsPairPut 1 count at key value block.old block.new }
+{
+    if width > 4 {
+        block.insert_two(at, value, count + 1 + at, key);
+    } else {
+        values::insert(block, count, at, value);
+        keys::insert(width, block, count + 1, count, at, key);
     }
 }
 

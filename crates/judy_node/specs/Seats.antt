@@ -14,6 +14,7 @@ use Rattle.judy_node.specs.declared.child.BranchOf.{BranchOf}
 use Rattle.judy_node.specs.declared.child.KindOf.{KindOf}
 use Rattle.judy_node.specs.declared.child.PlaceOf.{PlaceOf}
 use Rattle.judy_node.specs.declared.node.RootOf.{RootOf}
+use Rattle.judy_node.specs.declared.node.RootPlaceOf.{RootPlaceOf}
 use Rattle.judy_node.specs.declared.node.RootOf.TheVariants.{Empty, One, Many}
 use Rattle.judy_node.specs.declared.child.KindOf.TheVariants.{Imm, Leaf, Bit, Branch}
 
@@ -28,6 +29,10 @@ IsSeat words (Branch b) key at rest = (byte : ℕ) × IsKeyOf (256 ^ b.value.wid
 -- The place of a node of a kind.
 abbrev pub placed : {V : _} → KindOf V → PlaceOf V
 placed kind = record { kind = whole kind }
+
+-- The place of a root of a kind.
+abbrev pub root_placed : {V : _} → RootOf V → RootPlaceOf V
+root_placed kind = record { kind = kind }
 
 -- A branch with another child at a place.
 abbrev pub with_child : {V : _} → BranchOf V → ℕ → Tree → BranchOf V

@@ -40,7 +40,7 @@ pub use build::{
 };
 pub use child::{BranchOf, Child, ChildOf, KindOf, PlaceOf, imm_of};
 pub use head::Head;
-pub use node::{Node, NodeOf, RootOf};
+pub use node::{Node, NodeOf, RootOf, RootPlaceOf};
 pub use room::make_room;
 pub use shape::Shape;
 pub use step::Step;

@@ -20,6 +20,13 @@ use std::marker::Model;
 /// A tree of words.
 #[derive(Drop)]
 pub struct NodeOf<V: Words + Drop> {
+    /// Where the root stands, to be changed there.
+    pub place: RootPlaceOf<V>,
+}
+
+/// The place of a root, which is written there, and read by none who may not write it: a reader has to enter the root.
+#[derive(Drop)]
+pub struct RootPlaceOf<V: Words + Drop> {
     pub(crate) kind: RootOf<V>,
 }
 
@@ -45,9 +52,9 @@ impl<V: Words + Drop> Model for NodeOf<V> {
 
     ghost use Rattle.judy_node.specs.Roots.{root_tree, IsRoot};
 
-    ghost view = { λ a. root_tree a.kind };
+    ghost view = { λ a. root_tree a.place.kind };
 
-    ghost invariant = { λ a. IsRoot V.WORDS a.kind };
+    ghost invariant = { λ a. IsRoot V.WORDS a.place.kind };
 }
 
 impl<V: Words + Drop> NodeOf<V> {
@@ -55,23 +62,21 @@ impl<V: Words + Drop> NodeOf<V> {
     pub fn empty() -> NodeOf<V>
         ensures { result ≡ empty_tree }
     {
-        NodeOf {
-            kind: RootOf::Empty,
-        }
+        NodeOf::close(RootOf::Empty)
     }
 
     /// A law, told by a call that does nothing, of what every tree keeps: its keys ascend, and where no node is loose, its form is that of the rule.
     pub fn told(&self)
         ensures { IsNode V.WORDS self.now }
     {
-        let _ = &self.kind;
+        let _ = &self.place;
     }
 
     /// How many keys there are. No node is entered.
     pub fn pop(&self) -> u64
         ensures { result ≡ length self.now.pairs }
     {
-        match &self.kind {
+        match &self.place.kind {
             RootOf::Empty => 0,
             RootOf::One(_, _) => 1,
             RootOf::Many(child) => child.pop(),
@@ -84,7 +89,7 @@ impl<V: Words + Drop> NodeOf<V> {
         ensures visits { meter.new ≡ meter.old + 1 }
         ensures view { IsView V.WORDS 8 self.now result }
     {
-        match &self.kind {
+        match &self.place.kind {
             RootOf::Empty => {
                 meter.tick();
                 ViewOf::Null
@@ -102,7 +107,8 @@ impl<V: Words + Drop> NodeOf<V> {
         ensures tree { self ≡ root_tree result }
         ensures root { IsRoot V.WORDS result }
     {
-        self.kind
+        let place = self.place;
+        place.kind
     }
 
     /// The tree whose root has a kind.
@@ -110,7 +116,9 @@ impl<V: Words + Drop> NodeOf<V> {
         requires { IsRoot V.WORDS kind }
         ensures { result ≡ root_tree kind }
     {
-        NodeOf { kind }
+        NodeOf {
+            place: RootPlaceOf { kind },
+        }
     }
 
     /// How many nodes of each kind the tree has. It goes over all of them, and counts no visit, which takes leave.
@@ -118,7 +126,7 @@ impl<V: Words + Drop> NodeOf<V> {
         ensures { shape_as result ≡ shape_in self.now.form }
     {
         let mut shape = Shape::nothing();
-        match &self.kind {
+        match &self.place.kind {
             RootOf::Empty => {}
             RootOf::One(_, _) => shape.immediates = 1,
             RootOf::Many(child) => {
@@ -133,7 +141,7 @@ impl<V: Words + Drop> NodeOf<V> {
     pub fn gather(&self, leave: Unmetered, alloc: Global) -> Result<Vec<(u64, u64)>, AllocError>
         ensures { IfOk result (λ pairs. pairs.items ≡ self.now.pairs) }
     {
-        match &self.kind {
+        match &self.place.kind {
             RootOf::Empty => Ok(Vec::new(alloc)),
             RootOf::One(key, value) => Ok(vec![in alloc; (*key, *value)]?),
             RootOf::Many(child) => {
@@ -157,13 +165,25 @@ impl<V: Words + Drop> NodeOf<V> {
         }
         if pairs.len() == 1 {
             let (key, value) = pairs[0];
-            return Ok(NodeOf {
-                kind: RootOf::One(key, value),
-            });
+            return Ok(NodeOf::close(RootOf::One(key, value)));
         }
         let kind = kind_of_sorted(alloc, 8, pairs)?;
-        Ok(NodeOf {
-            kind: RootOf::Many(ChildOf::close(kind)),
-        })
+        Ok(NodeOf::close(RootOf::Many(ChildOf::close(kind))))
+    }
+}
+
+impl<V: Words + Drop> RootPlaceOf<V> {
+    ghost use Rattle.std.specs.Borrow.{sem, Lends};
+    ghost use Rattle.judy_node.specs.contracts.node.RootPlaceOf.{the_row};
+    ghost use Rattle.judy_node.specs.contracts.node.RootOf.{the_row as root};
+    ghost use Rattle.judy_node.specs.Seats.{root_placed};
+
+    /// Lends the root by its kind, to be changed where it stands.
+    pub fn kind_mut(&mut self) -> &mut RootOf<V>
+        ensures* changes { sem 𝓛
+            (Lends (the_row V.row V.Words) (root V.row V.Words) self.entry result root_placed) }
+        ensures value { root_placed result.now ≡ self.old }
+    {
+        &mut self.kind
     }
 }

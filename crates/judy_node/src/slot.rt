@@ -309,9 +309,9 @@ impl<V: Words + Drop> NodeOf<V> {
             (with_value self.entry.now key) self.entry.now) }
         ensures value { option_copied_mut result ≡ value_of key self.old.pairs }
     {
-        if self.kind.misses(key) {
+        if self.place.kind.misses(key) {
             return None;
         }
-        self.kind.slot(key)
+        self.place.kind.slot(key)
     }
 }

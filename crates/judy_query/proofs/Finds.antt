@@ -47,7 +47,7 @@ present_value (pair ∷ pairs) key (suc at) ascending there =
     later key pair pairs (λ (e : key ≡ pair.0). let never : ⊥ = omega arith in never) ∙ present_value pairs key at ascending.1 there
 
 module _ (pairs : Pairs) (key : ℕ) where
-  placed : IsStrictlySortedBy word_order (keys_of pairs) → (at : ℕ) → place (keys_of pairs) key ≡ Some at → slice_get (keys_of pairs) at ≡ Some key
+  pub placed : IsStrictlySortedBy word_order (keys_of pairs) → (at : ℕ) → place (keys_of pairs) key ≡ Some at → slice_get (keys_of pairs) at ≡ Some key
   placed ascending at = elim (has (keys_of pairs) key) as (λ b. has (keys_of pairs) key ≡ b → cond b (Some (rank (keys_of pairs) key)) None ≡ Some at → slice_get (keys_of pairs) at ≡ Some key) [
     | true ↦ λ held found. ap (slice_get (keys_of pairs)) (sym (same_Some (rank (keys_of pairs) key) at found)) ∙ slice_get-rank (keys_of pairs) ascending key held
     | false ↦ λ _ none. cc

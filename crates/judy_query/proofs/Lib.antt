@@ -16,3 +16,4 @@ pub mod WalkFacts
 mod ScanFacts
 mod GivingFacts
 mod LaterFacts
+pub mod AroundFacts

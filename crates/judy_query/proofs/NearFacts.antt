@@ -60,8 +60,8 @@ find-head : (words low top : ℕ) (p : ℕ × ℕ → Bool) (pairs : Pairs) → 
 find-head words low top p [] map passes = refl
 find-head words low top p (pair ∷ pairs) map passes = ap (λ b. cond b (Some pair) (find p pairs)) (passes pair map.0)
 
--- From a key of a part on: the part's answer, and else the first pair behind it.
-pub part-from : (words top : ℕ) (tree : Pairs) (base unit left key : ℕ) (pairs front back : Pairs) → IsPart words top tree base unit pairs front back → key ≡ base + left → left < unit
+-- From a key of a part on, or from the part's end: the part's answer, and else the first pair behind it.
+pub part-from : (words top : ℕ) (tree : Pairs) (base unit left key : ℕ) (pairs front back : Pairs) → IsPart words top tree base unit pairs front back → key ≡ base + left → left ≤ unit
     → pair_from tree key ≡ option_or (raised base (pair_from pairs left)) (slice_get back 0)
 part-from words top tree base unit left key pairs front back part sum within =
     ap (λ ps. pair_from ps key) part.same
@@ -69,6 +69,12 @@ part-from words top tree base unit left key pairs front back part sum within =
     ∙ find-shift base (λ pair. is_ge (word_order pair.0 key)) (λ pair. is_ge (word_order pair.0 left)) pairs back
     (λ pair. is_ge_word (base + pair.0) key ∙ same_test key (base + pair.0) left pair.0 (λ less. omega arith) (λ less. omega arith) ∙ sym (is_ge_word pair.0 left))
     ∙ ap (option_or (raised base (pair_from pairs left))) (find-head words (base + unit) top (λ pair. is_ge (word_order pair.0 key)) back part.after (λ pair above. is_ge_word pair.0 key ∙ le-leb key pair.0 (omega arith)))
+
+-- From the end of all words on there is none.
+pub from_end : (words low top : ℕ) (pairs : Pairs) (key : ℕ) → IsMap words low top pairs → top ≤ key → pair_from pairs key ≡ None
+from_end words low top pairs key map past =
+    ap (λ ps. pair_from ps key) (sym (append-nil pairs))
+    ∙ find-front words low top (λ pair. is_ge (word_order pair.0 key)) pairs [] map (λ pair below. is_ge_word pair.0 key ∙ le_false key pair.0 (omega arith))
 
 -- From a number on among pairs that are moved up.
 pub from-shift : (by key : ℕ) (pairs : Pairs) → pair_from (shift by pairs ++ []) key ≡ raised by (pair_from pairs (key - by))
@@ -202,8 +208,9 @@ module _ {V : _} (words : ℕ) (tree : Pairs) (view : ViewOf V) (key left : ℕ)
   pub down_from : (found : Option (ℕ × ℕ)) → found ≡ pair_from (view_pairs view) left → option_or (raised (key - left) found) (slice_get down.back 0) ≡ pair_from tree key
   down_from found is =
       let above = down.above in
+      let inside = down.inside in
       ap (λ found. option_or (raised (key - left) found) (slice_get down.back 0)) is
-      ∙ sym (part-from words (256 ^ 8) tree (key - left) (256 ^ width_of view) left key (view_pairs view) down.front down.back down.part (omega arith) down.inside)
+      ∙ sym (part-from words (256 ^ 8) tree (key - left) (256 ^ width_of view) left key (view_pairs view) down.front down.back down.part (omega arith) (omega arith))
 
   pub down_up_to : (found : Option (ℕ × ℕ)) → found ≡ pair_up_to (view_pairs view) left → option_or (raised (key - left) found) (last_pair down.front) ≡ pair_up_to tree key
   down_up_to found is =

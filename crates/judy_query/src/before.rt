@@ -26,6 +26,8 @@ pub fn at_or_before<V: Words + Drop>(tree: &NodeOf<V>, key: u64, meter: &mut Met
 }
 
 /// The same with the key's value, 0 where keys have no value.
+// As `entry_at_or_after`.
+#[inline(always)]
 pub fn entry_at_or_before<V: Words + Drop>(
     tree: &NodeOf<V>,
     key: u64,

@@ -33,8 +33,8 @@ pub(crate) fn value_in<V: Words + Drop>(view: &ViewOf<'_, V>, key: u64) -> Optio
     }
 }
 
-// The value of a key of an immediate.
-fn value_in_imm<V: Words + Drop>(list: &ImmOf<V>, key: u64) -> Option<u64>
+/// The value of a key of an immediate.
+pub(crate) fn value_in_imm<V: Words + Drop>(list: &ImmOf<V>, key: u64) -> Option<u64>
     ensures { result ≡ value_of list.now.pairs key }
 {
     list.told();
@@ -99,6 +99,8 @@ pub(crate) fn len_in<V: Words + Drop>(view: &ViewOf<'_, V>) -> u64
 }
 
 /// The pair at a place, counted from 0.
+// As `from_in` below.
+#[inline(always)]
 pub(crate) fn entry_in<V: Words + Drop>(view: &ViewOf<'_, V>, at: u64) -> (u64, u64)
     requires end { IsEnd view.now }
     requires shown { IsShown V.WORDS view.now }

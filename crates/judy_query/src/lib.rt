@@ -11,13 +11,13 @@
 //! own and each call that reads nodes without a visit.
 //!
 //! values.rt has the value of a key, many.rt those of many, whose ways go side by side, counts.rt how many keys are below a word,
-//! places.rt the key at a place, after.rt and before.rt the nearest keys, turns.rt where the search for one of these turns off the key's
-//! way. empties.rt has the nearest words that are no keys, by one search for both sides of a key, of which sides.rt has what differs;
-//! absent.rt what a node without children tells of them, rooms.rt where a branch has some: no full child is entered, but passed over by
-//! the number of its keys. sparing.rt has the meters by which that search goes down, watch.rt one of them that looks at each child, for a
-//! law (laws.rt). walk.rt has the walk, waiting.rt the children that it comes back to, stretch.rt the pairs of one node in turn, scan.rt
-//! those of a bitmap leaf, and givings.rt many of them at a time. branches.rt has what all ways down ask of a branch, ends.rt what they
-//! ask where they end.
+//! places.rt the key at a place, after.rt and before.rt the nearest keys, surroundings.rt a key's value and the key above it at once,
+//! turns.rt where the search for a nearest key turns off the key's way. empties.rt has the nearest words that are no keys, by one search
+//! for both sides of a key, of which sides.rt has what differs; absent.rt what a node without children tells of them, rooms.rt where a
+//! branch has some: no full child is entered, but passed over by the number of its keys. sparing.rt has the meters by which that search
+//! goes down, watch.rt one of them that looks at each child, for a law (laws.rt). walk.rt has the walk, waiting.rt the children that it
+//! comes back to, stretch.rt the pairs of one node in turn, scan.rt those of a bitmap leaf, and givings.rt many of them at a time.
+//! branches.rt has what all ways down ask of a branch, ends.rt what they ask where they end.
 //!
 //! The crate enters nodes and never opens one. It stands on judy_model, judy_bits, judy_leaf, judy_node and `arrayvec`, and judy_word
 //! stands on it.
@@ -39,6 +39,7 @@ mod scan;
 mod sides;
 mod sparing;
 mod stretch;
+mod surroundings;
 mod turns;
 mod values;
 mod waiting;
@@ -51,5 +52,6 @@ pub use counts::rank;
 pub use empties::{empty_at_or_after, empty_at_or_before};
 pub use many::{MOST_WAYS, lookup_many};
 pub use places::{entry_nth, nth};
+pub use surroundings::around;
 pub use values::lookup;
 pub use walk::Walk;

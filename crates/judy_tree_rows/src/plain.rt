@@ -143,6 +143,24 @@ pub(crate) fn check_nearest(
     same_pair(rt, before, pair_up_to(plain, word), word);
 }
 
+// Compares the value of a word and the nearest pair above it.
+pub(crate) fn check_around(
+    rt: &impl Abort,
+    word: u64,
+    plain: &[(u64, u64)],
+    found: Option<u64>,
+    above: Option<(u64, u64)>,
+) {
+    let here = plain.iter().find(|pair| pair.0 == word);
+    same_number(rt, found, here.map(|pair| pair.1), word);
+    same_pair(
+        rt,
+        above,
+        plain.iter().copied().find(|pair| pair.0 > word),
+        word,
+    );
+}
+
 // Compares the nearest numbers at or above a word and at or below it that are no keys, of all up to the greatest key of a width.
 pub(crate) fn check_absent(
     rt: &impl Abort,

@@ -375,6 +375,17 @@ impl JudyL {
         self.tree.prev_entry(i)
     }
 
+    /// The value of `i`, as `get`, and the least key above it with its value, as `next_entry`, in one way down the tree. (This project's own.)
+    // As `first`.
+    #[inline(always)]
+    pub fn around(&self, i: u64) -> (Option<u64>, Option<(u64, u64)>)
+        ensures found { result.0 ≡ map.get self.now.map i }
+        ensures key { option_map (λ entry. entry.0) result.1 ≡ neighbours.next self.now.map i }
+        ensures value { IfSome result.1 (λ entry. map.get self.now.map entry.0 ≡ Some entry.1) }
+    {
+        self.tree.around(i)
+    }
+
     /// The `n`-th key in ascending order, counted from 1, with its value; `None` for 0, and for an `n` above the number of keys (both
     /// corners are this project's own). (Manual: JLBC, JudyLByCount, which gives both.)
     pub fn by_count_entry(&self, n: u64) -> Option<(u64, u64)>

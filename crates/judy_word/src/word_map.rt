@@ -168,6 +168,17 @@ impl WordMap {
         self.array.prev_entry(i)
     }
 
+    /// The value of a key, and the least key above it with its value.
+    // Compiled into the caller, as the search is.
+    #[inline(always)]
+    pub fn around(&self, i: u64) -> (Option<u64>, Option<(u64, u64)>)
+        ensures found { result.0 ≡ map.get self.now.map i }
+        ensures key { option_map (λ entry. entry.0) result.1 ≡ neighbours.next self.now.map i }
+        ensures value { IfSome result.1 (λ entry. map.get self.now.map entry.0 ≡ Some entry.1) }
+    {
+        self.array.around(i)
+    }
+
     /// All keys with their values, by ascending key, one after another.
     pub fn iter(&self) -> Entries<'_>
         ensures { result ≡ map.entries self.now.map }

@@ -10,7 +10,7 @@ ghost use Rattle.judy_word.specs.Held.{map_in};
 use crate::tree_array::TreeArray;
 use judy_bits::Meter;
 use judy_leaf::{FromPair, Words};
-use judy_query::{Walk, entry_at_or_after, entry_at_or_before, entry_nth};
+use judy_query::{Walk, around, entry_at_or_after, entry_at_or_before, entry_nth};
 use judy_unmetered::UNMETERED;
 use std::iter::Iterator;
 use std::marker::Model;
@@ -89,6 +89,8 @@ impl<V: Words + Drop> TreeArray<V> {
     }
 
     /// The greatest key that isn't above it, with its value, or `None`.
+    // As `first_entry`.
+    #[inline(always)]
     pub fn last_entry(&self, from: u64) -> Option<(u64, u64)>
         ensures key { option_map (λ entry. entry.0) result
             ≡ neighbours.last (map_in self.now) from }
@@ -99,6 +101,8 @@ impl<V: Words + Drop> TreeArray<V> {
     }
 
     /// The greatest key below it, with its value, or `None`.
+    // As `first_entry`.
+    #[inline(always)]
     pub fn prev_entry(&self, from: u64) -> Option<(u64, u64)>
         ensures key { option_map (λ entry. entry.0) result
             ≡ neighbours.prev (map_in self.now) from }
@@ -111,7 +115,24 @@ impl<V: Words + Drop> TreeArray<V> {
         }
     }
 
+    /// The value of a word, 0 where keys have no value, `None` where it is no key; and the least key above it with its value, or `None`: in one
+    /// way down.
+    // As `first_entry`.
+    #[inline(always)]
+    pub fn around(&self, key: u64) -> (Option<u64>, Option<(u64, u64)>)
+        ensures found { result.0 ≡ map.get (map_in self.now) key }
+        ensures key { option_map (λ entry. entry.0) result.1
+            ≡ neighbours.next (map_in self.now) key }
+        ensures value { IfSome result.1
+            (λ entry. map.get (map_in self.now) entry.0 ≡ Some entry.1) }
+    {
+        self.root.told();
+        around(&self.root, key, &mut Meter::new(UNMETERED))
+    }
+
     /// The n-th key by ascending order, counted from 1, with its value; `None` for 0, and above the number of keys.
+    // As `first_entry`.
+    #[inline(always)]
     pub fn by_count_entry(&self, n: u64) -> Option<(u64, u64)>
         ensures key { option_map (λ entry. entry.0) result ≡ counts.by_count (map_in self.now) n }
         ensures value { IfSome result (λ entry. map.get (map_in self.now) entry.0 ≡ Some entry.1) }

@@ -17,6 +17,8 @@ impl<V: Words + Drop> TreeArray<V> {
 
     /// Lends the value of a key, of an array whose keys have values; `None` where the key is absent. The array becomes the one with
     /// the value that is left in the slot, and nothing else changes, its nodes neither.
+    // The way down is one call, whatever stands in front of it: a look at the root is compiled into its callers.
+    #[inline(always)]
     pub fn slot(&mut self, key: u64) -> Option<&mut u64>
         requires words { V.WORDS ≡ 1 }
         ensures* changes { sem 𝓛
@@ -29,6 +31,7 @@ impl<V: Words + Drop> TreeArray<V> {
     }
 
     // Lends the value of a key that is there.
+    #[inline(always)]
     pub(crate) fn slot_of(&mut self, key: u64) -> &mut u64
         requires words { V.WORDS ≡ 1 }
         requires present { IsTrue (map.contains_key (map_in self.old) key) }

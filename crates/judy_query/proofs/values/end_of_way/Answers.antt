@@ -4,10 +4,11 @@ use Rattle.judy_node.specs.Trees.{Pairs, branch_pairs}
 use Rattle.judy_node.specs.declared.view.ViewOf.{ViewOf}
 use Rattle.judy_node.specs.declared.view.ViewOf.TheVariants.{Null, One, Imm, Leaf, BitLeaf, Branch}
 use Rattle.judy_node.specs.Views.{view_pairs}
-use Rattle.judy_query.specs.Parts.{IsDown, IsShown, IsEnd, value_of, width_of}
+use Rattle.judy_query.specs.Parts.{IsDown, IsShown, IsEnd, width_of}
 use Rattle.judy_query.proofs.Parts.{whole_part}
 use Rattle.judy_query.proofs.Downs.{down_child, down_gap, child_inside, child_is, beside_is}
 use Rattle.judy_query.proofs.Finds.{part-value}
+use Rattle.judy_query.proofs.AroundFacts.{down_value}
 use Rattle.judy_query.proofs.values.end_of_way.Invariants.{shown}
 use Rattle.judy_query.proofs.values.end_of_way.Goals as goal
 
@@ -36,12 +37,6 @@ module _ {V : _} (words : ℕ) (b : _) (key left : ℕ) where
     back = down.back;
     part = down.part;
   }
-
--- The value of a key is that of what is left of it at the node that the way has come to.
-down_value : {V : _} (words : ℕ) (tree : Pairs) (view : ViewOf V) (key left : ℕ) → IsDown words tree view key left → value_of tree key ≡ value_of (view_pairs view) left
-down_value words tree view key left down =
-    let above = down.above in
-    part-value words (256 ^ 8) tree (key - left) (256 ^ width_of view) left key _ down.front down.back down.part (omega arith) down.inside
 
 -- A node that isn't shown as a branch has no children.
 end_is : {V : _} (view : ViewOf V) → ((branch : _) → view ≡ Branch branch → ⊥) → IsEnd view

@@ -1,0 +1,92 @@
+-- Words that moved up by two, and those before them that moved up by one, with two words put where they stood.
+use Rattle.std.proofs.Common.{◌≡◌, ℕ, zero, suc, ◌+◌, ◌-◌, ◌<◌, ◌≤◌, ◌∙◌, List, [], ◌∷◌, ◌++◌, length, take, drop, set, refl, sym, ap, arith}
+use Rattle.std.proofs.lemmas.List.{take-take, take-append-le, take-append-drop, take-set, drop-set, length-take-le, length-append, length-set, drop-take, drop_all, append-nil, append_assoc}
+use Rattle.std.specs.List.{copy_within, insert}
+use lib.Seq.{drop_at}
+
+-- A list with another word at a place is the words before it, that word, and those behind it.
+set_is : (ws : List ℕ) (i word : ℕ) → i < length ws → set ws i word ≡ take i ws ++ (word ∷ drop (i + 1) ws)
+set_is ws i word inside = sym (take-append-drop i (set ws i word)) ∙ (λ t. take-set ws i word t ++ drop-set ws i word inside t)
+
+-- A word put in before a place, and one at it.
+both_in : (ws : List ℕ) (i k word other : ℕ) → i ≤ k → k ≤ length ws → insert (take k ws) i word ++ (other ∷ drop k ws) ≡ insert (insert ws i word) (suc k) other
+both_in ws zero k word other before inside = refl
+both_in ws (suc i) zero word other before inside = let never : ⊥ = omega arith in absurd never
+both_in [] (suc i) (suc k) word other before inside = let never : ⊥ = omega arith in absurd never
+both_in (x ∷ ws) (suc i) (suc k) word other before inside = ap (λ rest. x ∷ rest) (both_in ws i k word other (omega arith) (omega arith))
+
+module _ (ws : List ℕ) (i j word other : ℕ) (first : i < j) (second : j < length ws) where
+  -- so many words are in use, so many of them stay before the second place, and these move by two
+  abbrev used : ℕ
+  used = length ws - 2
+
+  abbrev low : ℕ
+  low = j - 1
+
+  abbrev rest : List ℕ
+  rest = take (used - low) (drop low ws)
+
+  abbrev moved : List ℕ
+  moved = copy_within ws low used (j + 1)
+
+  moved_is : moved ≡ take (j + 1) ws ++ rest
+  moved_is = ap (λ l. take (j + 1) ws ++ rest ++ l) (drop_all (j + 1 + (used - low)) ws (omega arith)) ∙ append-nil _
+
+  -- the words with the second one put in, before the first one is
+  abbrev half : List ℕ
+  half = set moved j other
+
+  half_is : half ≡ take j ws ++ (other ∷ rest)
+  half_is =
+      let long = length-take-le (j + 1) ws (omega arith) in
+      let all = ap length moved_is ∙ length-append (take (j + 1) ws) rest in
+      let front = take-append-le j (take (j + 1) ws) rest (omega arith) ∙ take-take j (j + 1) ws (omega arith) in
+      set_is moved j other (omega arith)
+      ∙ (λ t. take j (moved_is t) ++ (other ∷ drop (j + 1) (moved_is t)))
+      ∙ (λ t. front t ++ (other ∷ drop_at (take (j + 1) ws) rest (j + 1) long t))
+
+  abbrev mid : List ℕ
+  mid = take (low - i) (drop i half)
+
+  front_kept : (n : ℕ) → n ≤ j → take n half ≡ take n ws
+  front_kept n within =
+      let long = length-take-le j ws (omega arith) in
+      ap (take n) half_is ∙ take-append-le n (take j ws) (other ∷ rest) (omega arith) ∙ take-take n j ws within
+
+  mid_is : mid ≡ drop i (take low ws)
+  mid_is =
+      let all : i + (low - i) ≡ low = omega arith in
+      sym (drop-take i (low - i) half) ∙ ap (λ n. drop i (take n half)) all ∙ ap (drop i) (front_kept low (omega arith))
+
+  behind : drop (i + 1 + (low - i)) half ≡ other ∷ rest
+  behind =
+      let at : i + 1 + (low - i) ≡ j = omega arith in
+      ap (λ n. drop n half) at ∙ ap (drop j) half_is ∙ drop_at (take j ws) (other ∷ rest) j (length-take-le j ws (omega arith))
+
+  abbrev last : List ℕ
+  last = copy_within half i low (i + 1)
+
+  last_is : last ≡ take (i + 1) ws ++ drop i (take low ws) ++ (other ∷ rest)
+  last_is = λ t. front_kept (i + 1) (omega arith) t ++ mid_is t ++ behind t
+
+  pub two_inserted : set last i word ≡ insert (insert (take used ws) i word) j other
+  two_inserted =
+      let kept = take (i + 1) ws in
+      let between = drop i (take low ws) in
+      let long : length kept ≡ i + 1 = length-take-le (i + 1) ws (omega arith) in
+      let split : last ≡ kept ++ (between ++ (other ∷ rest)) = last_is ∙ append_assoc kept between (other ∷ rest) in
+      let all = ap length split ∙ length-append kept (between ++ (other ∷ rest)) in
+      let more : length (between ++ (other ∷ rest)) ≡ length between + length (other ∷ rest) = length-append between (other ∷ rest) in
+      let front : take i (kept ++ (between ++ (other ∷ rest))) ≡ take i (take low ws) =
+      take-append-le i kept (between ++ (other ∷ rest)) (omega arith) ∙ take-take i (i + 1) ws (omega arith) ∙ sym (take-take i low ws (omega arith)) in
+      let same : take low (take used ws) ≡ take low ws = take-take low used ws (omega arith) in
+      let some : used ≡ low + (used - low) = omega arith in
+      let tail : drop low (take used ws) ≡ rest = ap (λ n. drop low (take n ws)) some ∙ drop-take low (used - low) ws in
+      let next : suc low ≡ j = omega arith in
+      set_is last i word (omega arith)
+      ∙ (λ t. take i (split t) ++ (word ∷ drop (i + 1) (split t)))
+      ∙ (λ t. front t ++ (word ∷ drop_at kept (between ++ (other ∷ rest)) (i + 1) long t))
+      ∙ sym (append_assoc (take i (take low ws)) (word ∷ between) (other ∷ rest))
+      ∙ (λ t. insert (sym same t) i word ++ (other ∷ sym tail t))
+      ∙ both_in (take used ws) i low word other (omega arith) (omega (arith, length-take-le used ws (omega arith)))
+      ∙ ap (λ n. insert (insert (take used ws) i word) n other) next

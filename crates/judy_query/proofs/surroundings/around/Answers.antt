@@ -1,0 +1,177 @@
+use Rattle.std.proofs.Common.{suc, ◌+◌, ◌-◌, ◌*◌, ◌^◌, [], length, slice_get, None, Some, sym, refl, ap, ◌∙◌, arith, is_ge}
+use Rattle.std.specs.Option.{option_or}
+use Rattle.judy_model.specs.Keys.{word_order}
+use Rattle.judy_model.specs.WordBytes.{number_of}
+use Rattle.judy_leaf.specs.KeyLists.{shift}
+use Rattle.judy_leaf.specs.Nearby.{pair_from}
+use Rattle.judy_node.specs.Views.{view_pairs}
+use Rattle.judy_node.specs.declared.step.Step.TheVariants.{Child}
+use Rattle.judy_node.specs.declared.view.ViewOf.TheVariants.{Branch}
+use Rattle.judy_query.specs.Parts.{value_of, width_of, passed}
+use Rattle.judy_query.proofs.AroundFacts.{down_value, down_above}
+use Rattle.judy_query.proofs.Downs.{down_root, down_child, down_gap, child_inside, child_is, beside_is, branch_is, passed_few, beside_reached}
+use Rattle.judy_query.proofs.Finds.{part-value}
+use Rattle.judy_query.proofs.Links.{get_is}
+use Rattle.judy_query.proofs.NearFacts.{part-from, head-append, found_below}
+use Rattle.judy_query.proofs.LaterFacts.{reached_rank}
+use Rattle.judy_query.proofs.Splits.{rest_of}
+use Rattle.judy_query.proofs.surroundings.around.Goals as goal
+
+pub down-init : goal.down-init
+down-init g c =
+    let down = down_root g.V.Words.WORDS c.args.tree.now (Branch c.in-Branch.top) c.args.key c.told.ensures c.in-Branch.ensures.view (omega (arith, c.ranges.key)) in
+    let narrow = down.shown.narrow in
+    (down, refl, tt, omega (arith, c.enter.ensures.visits), omega (arith, c.enter.ensures.visits))
+
+pub returns-in_default : goal.returns-in_default
+returns-in_default g c =
+    let words = g.V.Words.WORDS in
+    let pairs = c.args.tree.now.pairs in
+    let same = c.enter.ensures.view.pairs in
+    record {
+      value = c.around_in.ensures.value ∙ ap (λ ps. value_of ps c.args.key) (sym same) ∙ sym (get_is words (256 ^ 8) pairs c.told.ensures.map c.args.key);
+      above = c.around_in.ensures.above ∙ ap (λ ps. pair_from ps (c.args.key + 1)) (sym same);
+      no_fewer = omega (arith, c.enter.ensures.visits);
+      visits = omega (arith, c.enter.ensures.visits);
+    }
+
+pub pair_behind-requires : goal.pair_behind-requires
+pair_behind-requires g c =
+    let words = g.V.Words.WORDS in
+    let b = c.down.at.0.now in
+    let way = c.down.invariant in
+    let branch = branch_is way.0 in
+    let some = way.0.shown.some in
+    let room = c.requires in
+    record {
+      branch = branch;
+      inside = passed_few words b.width b.skip b.bytes b.children.items b.population c.down.at.1 c.step-step.result branch c.step-step.ensures;
+      step = reached_rank words b.width b.skip b.bytes b.children.items b.population branch c.down.at.1 c.step-step.result c.step-step.ensures;
+      fits = way.0.part.fits;
+      before = way.2;
+      room = omega (arith, way.3, room);
+    }
+
+pub returns-in_default-step : goal.returns-in_default-step
+returns-in_default-step g c =
+    let words = g.V.Words.WORDS in
+    let pairs = c.args.tree.now.pairs in
+    let b = c.down.at.0.now in
+    let base = c.args.key - c.down.at.1 in
+    let way = c.down.invariant in
+    let beside = beside_is c.step-step.result c.in_default-step.not-Child in
+    let part = down_gap way.0 c.step-step.result beside c.step-step.ensures in
+    let place = beside_reached (length b.children.items) c.step-step.result beside in
+    let some = way.0.shown.some in
+    record {
+      value = sym (get_is words (256 ^ 8) pairs c.told.ensures.map c.args.key ∙ part-value words (256 ^ 8) pairs c.args.key 1 0 c.args.key [] _ _ part (omega arith) (omega arith));
+      above = c.pair_behind.ensures.entry
+          ∙ (λ t. option_or (slice_get (shift base (rest_of (256 ^ b.width) (number_of b.skip * 256) b.bytes b.children.items (place t))) 0) (sym way.1 t))
+          ∙ sym (head-append (shift base (rest_of (256 ^ b.width) (number_of b.skip * 256) b.bytes b.children.items (passed (length b.children.items) c.step-step.result))) way.0.back)
+          ∙ sym (part-from words (256 ^ 8) pairs c.args.key 1 1 (c.args.key + 1) [] _ _ part (omega arith) (omega arith));
+      no_fewer = omega (arith, way.4, c.pair_behind.ensures.no_fewer);
+      visits = omega (arith, way.3, c.pair_behind.ensures.visits);
+    }
+
+pub index-requires : goal.index-requires
+index-requires g c =
+    let inside = child_inside c.down.invariant.0 c.in-Child.field-0 c.in-Child.place c.in-Child.rest c.in-Child.ensures in
+    omega (arith, c.down.at.0.now.children.ok.0)
+
+pub enter-requires-in-down : goal.enter-requires-in-down
+enter-requires-in-down g c =
+    (omega arith, (omega (arith, c.down.invariant.3, c.requires), child_is c.down.invariant.0 c.in-Child.field-0 c.in-Child.place c.in-Child.rest c.in-Child.ensures c.index.ensures))
+
+pub later_turn-later-requires-clause-inside : goal.later_turn-later-requires-clause-inside
+later_turn-later-requires-clause-inside g c =
+    let inside = child_inside c.down.invariant.0 c.in-Child.field-0 c.in-Child.place c.in-Child.rest c.in-Child.ensures in
+    omega arith
+
+pub later_turn-later-requires-clause-step : goal.later_turn-later-requires-clause-step
+later_turn-later-requires-clause-step g c =
+    let words = g.V.Words.WORDS in
+    let b = c.down.at.0.now in
+    reached_rank words b.width b.skip b.bytes b.children.items b.population (branch_is c.down.invariant.0) c.down.at.1
+    (Child c.in-Child.field-0 c.in-Child.place c.in-Child.rest) c.in-Child.ensures
+
+pub down-preserved : goal.down-preserved
+down-preserved g c =
+    let b = c.down.at.0.now in
+    let base = c.args.key - c.down.at.1 in
+    let way = c.down.invariant in
+    let next = down_child way.0 c.in-Child.field-0 c.in-Child.place c.in-Child.rest c.in-Child.ensures c.index.ensures c.in-Branch-enter.ensures.view in
+    let less = next.width_is in
+    let visits = c.enter-in-down.ensures.visits in
+    let so_far = way.3 in (
+      next.down,
+      ap (λ ps. slice_get ps 0) next.back_is ∙ head-append (shift base (rest_of (256 ^ b.width) (number_of b.skip * 256) b.bytes b.children.items (suc c.in-Child.place))) way.0.back
+          ∙ (λ t. option_or (slice_get (shift base (rest_of (256 ^ b.width) (number_of b.skip * 256) b.bytes b.children.items (suc c.in-Child.place))) 0) (way.1 t))
+          ∙ sym c.later_turn-later.ensures.pair,
+      c.later_turn-later.ensures.turn,
+      omega arith,
+      omega (arith, visits, way.4),
+    )
+
+pub pair_behind-requires-in_default-above : goal.pair_behind-requires-in_default-above
+pair_behind-requires-in_default-above g c =
+    let words = g.V.Words.WORDS in
+    let b = c.down.at.0.now in
+    let way = c.down.invariant in
+    let next = down_child way.0 c.in-Child.field-0 c.in-Child.place c.in-Child.rest c.in-Child.ensures c.index.ensures c.enter-in-down.ensures.view in
+    let kid = child_inside way.0 c.in-Child.field-0 c.in-Child.place c.in-Child.rest c.in-Child.ensures in
+    let branch = branch_is way.0 in
+    let less = next.width_is in
+    let some = next.down.shown.some in
+    let visits = c.enter-in-down.ensures.visits in
+    let room = c.requires in
+    record {
+      branch = branch;
+      inside = omega (arith, kid);
+      step = reached_rank words b.width b.skip b.bytes b.children.items b.population branch c.down.at.1 (Child c.in-Child.field-0 c.in-Child.place c.in-Child.rest) c.in-Child.ensures;
+      fits = way.0.part.fits;
+      before = way.2;
+      room = omega (arith, way.3, visits, room);
+    }
+
+pub returns-in_default-above : goal.returns-in_default-above
+returns-in_default-above g c =
+    let words = g.V.Words.WORDS in
+    let pairs = c.args.tree.now.pairs in
+    let b = c.down.at.0.now in
+    let base = c.args.key - c.down.at.1 in
+    let way = c.down.invariant in
+    let view = c.enter-in-down.result in
+    let next = down_child c.down.invariant.0 c.in-Child.field-0 c.in-Child.place c.in-Child.rest c.in-Child.ensures c.index.ensures c.enter-in-down.ensures.view in
+    let behind = shift base (rest_of (256 ^ b.width) (number_of b.skip * 256) b.bytes b.children.items (suc c.in-Child.place)) in
+    let some = next.down.shown.some in
+    let visits = c.enter-in-down.ensures.visits in
+    record {
+      value = c.around_in-value.ensures.value ∙ sym (get_is words (256 ^ 8) pairs c.told.ensures.map c.args.key ∙ down_value words pairs view c.args.key c.in-Child.rest next.down);
+      above = c.pair_behind-in_default-above.ensures.entry ∙ (λ t. option_or (slice_get behind 0) (sym way.1 t)) ∙ sym (head-append behind way.0.back) ∙ sym (ap (λ ps. slice_get ps 0) next.back_is)
+          ∙ down_above words pairs view c.args.key c.in-Child.rest next.down None (sym c.in_default-above.is ∙ c.around_in-value.ensures.above);
+      no_fewer = omega (arith, way.4, c.pair_behind-in_default-above.ensures.no_fewer, visits);
+      visits = omega (arith, way.3, c.pair_behind-in_default-above.ensures.visits, next.width_is);
+    }
+
+pub overflow_add-result : goal.overflow_add-result
+overflow_add-result g c =
+    let view = c.enter-in-down.result in
+    let next = down_child c.down.invariant.0 c.in-Child.field-0 c.in-Child.place c.in-Child.rest c.in-Child.ensures c.index.ensures c.enter-in-down.ensures.view in
+    let down = next.down in
+    let fits = down.part.fits in
+    let below = found_below g.V.Words.WORDS 0 (256 ^ width_of view) (λ pair. is_ge (word_order pair.0 (c.in-Child.rest + 1))) (view_pairs view) c.in-Some.found.0 c.in-Some.found.1 down.shown.map (sym c.around_in-value.ensures.above ∙ c.in-Some.is) in
+    omega arith
+
+pub returns-in_default-enter : goal.returns-in_default-enter
+returns-in_default-enter g c =
+    let words = g.V.Words.WORDS in
+    let pairs = c.args.tree.now.pairs in
+    let view = c.enter-in-down.result in
+    let next = down_child c.down.invariant.0 c.in-Child.field-0 c.in-Child.place c.in-Child.rest c.in-Child.ensures c.index.ensures c.enter-in-down.ensures.view in
+    let some = next.down.shown.some in
+    record {
+      value = c.around_in-value.ensures.value ∙ sym (get_is words (256 ^ 8) pairs c.told.ensures.map c.args.key ∙ down_value words pairs view c.args.key c.in-Child.rest next.down);
+      above = down_above words pairs view c.args.key c.in-Child.rest next.down (Some c.in-Some.found) (sym c.in-Some.is ∙ c.around_in-value.ensures.above);
+      no_fewer = omega (arith, c.down.invariant.4, c.enter-in-down.ensures.visits);
+      visits = omega (arith, c.down.invariant.3, c.enter-in-down.ensures.visits, next.width_is);
+    }
