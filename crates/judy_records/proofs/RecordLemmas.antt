@@ -29,6 +29,9 @@ module _ (list : Inside) (are : AreRecords list) where
   pub links-kept : NoneLost (links_of (list_of list)) list.free
   links-kept = (list.spare, freed-linked all (spots-taken list.count list.size list.words.items) list.spare list.free are.chained)
 
+  pub spots-within : length (list_of list).spots * (list.size + 1) ≤ vec_capacity list.words
+  spots-within = (let each = ap (λ n. n * (list.size + 1)) spots-long in let long = are.long in let all = list.words.ok.0 in let within = list.words.ok.1 in omega (arith, each, long, all, within))
+
   pub spare-most : list.spare ≤ list.count
   spare-most =
       let most = free-most (links_of (list_of list)) in

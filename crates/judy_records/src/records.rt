@@ -1,6 +1,6 @@
 //! Records of one length.
 
-ghost use Rattle.std.specs.Prelude.{◌≡◌, ◌≤◌, ◌+◌, ◌↔◌, ℕ, IsTrue, IsOk, IfOk, OnOk, length};
+ghost use Rattle.std.specs.Prelude.{◌≡◌, ◌≤◌, ◌+◌, ◌*◌, ◌↔◌, ℕ, IsTrue, IsOk, IfOk, OnOk, length};
 ghost use Rattle.std.specs.Borrow.{sem};
 ghost use Rattle.judy_model.specs.Keys.{byte_order, IsWord};
 ghost use Rattle.judy_places.specs.Places.{NoneLost};
@@ -62,12 +62,13 @@ impl Records {
         self.size
     }
 
-    /// Does nothing: it tells a caller's proof that no free place is lost, and that values are words.
+    /// Does nothing: it tells a caller's proof that no free place is lost, that values are words, and that there is memory for what the list holds.
     pub fn told(&self)
         ensures none_lost { NoneLost (links_of self.now) self.now.first }
         ensures values { (place : ℕ) → IsHeld (spot_at self.now place)
             → IsWord (value_of (spot_at self.now place)) }
         ensures size { self.now.size ≤ 2305843009213693952 }
+        ensures within { length self.now.spots * (self.now.size + 1) ≤ self.now.capacity }
     {
         words::told(&self.words);
     }

@@ -1,2 +1,3 @@
 pub mod TailLemmas
 pub mod ListLemmas
+pub mod LengthLemmas

@@ -1,22 +1,25 @@
 -- Lists of tails, and what stands at a place of them.
-use Rattle.std.proofs.Common.{◌≡◌, ◌≢◌, ◌+◌, ◌-◌, ◌<◌, ◌%◌, ◌/◌, ◌^◌, ◌≤◌, ℕ, zero, suc, List, [], ◌∷◌, ◌++◌, length, map, get_or, set, Option, None, Some, IsSome, ◌⊎◌, inl, inr, ⊎_elim, cond, sym, refl, ap, ◌∙◌, subst, arith}
+use Rattle.std.proofs.Common.{◌≡◌, ◌≢◌, ◌+◌, ◌-◌, ◌<◌, ◌%◌, ◌/◌, ◌^◌, ◌≤◌, ℕ, zero, suc, List, [], ◌∷◌, ◌++◌, ◌*◌, length, map, get_or, set, Option, None, Some, IsSome, ◌⊎◌, inl, inr, ⊎_elim, eqb, cond, sym, refl, ap, ◌∙◌, subst, mul-le-mul_right, add-mul, arith}
 use Rattle.std.proofs.Math.ListN.{get_or-map}
 use Rattle.std.proofs.Math.Seq.{map-set_same}
+use Rattle.std.specs.Prelude.{Contains}
+use Rattle.std.specs.List.{IsDistinct}
 use Rattle.std.proofs.lemmas.Bool.{cases_lt, cases_order}
 use Rattle.std.proofs.lemmas.Bool.Decides.{eqb_tells}
-use Rattle.std.proofs.lemmas.List.{length-set, length-append, length-map, get_or-set_same, get_or-set_other, get_or_past, get_or_read, get_or_append_left, get_or-append_right, map-set}
+use Rattle.std.proofs.lemmas.List.{length-set, length-append, length-map, get_or-set_same, get_or-set_other, get_or_past, get_or_read, get_or_append_left, get_or-append_right, map-set, map-append}
 use Rattle.std.proofs.lemmas.Grind.{get_or_head}
 use Rattle.std.proofs.lemmas.List as seq
 use Rattle.judy_model.specs.Keys.{IsWord}
-use Rattle.judy_places.specs.Places.{free_places}
+use Rattle.judy_places.specs.Places.{NoneLost, free_places}
+use Rattle.judy_places.proofs.PlaceLemmas.{none-free}
 use Rattle.judy_records.specs.Texts.{words_of, text_in, IsText}
-use Rattle.judy_records.specs.Spots.{Spot, free, held, RecordList, IsHeld, value_of, text_of, link_of, links_of, empty_list, spot_at, next_place, free_or, with_capacity, with_value, put_by, put_in, taken_out, removed}
+use Rattle.judy_records.specs.Spots.{Spot, free, held, RecordList, IsHeld, value_of, text_of, link_of, links_of, HasRoom, empty_list, spot_at, next_place, free_or, with_capacity, with_value, put_by, put_in, taken_out, removed}
 use Rattle.judy_records.proofs.PadLemmas.{text-back}
 use Rattle.judy_records.proofs.FreeLemmas.{held-inside, free-most}
 use Rattle.judy_tails.specs.Tails.{TailLists, tail_at, Updates}
 use Rattle.judy_tails.specs.Tails as tails
 use Rattle.judy_tails.proofs.TailLemmas.{whole-is}
-use Rattle.judy_tails.specs.Inside.{tail_of, tails_in, lists_of, IsWhole, IsWholeOrFree, IsTailList, AreTails, AreSame}
+use Rattle.judy_tails.specs.Inside.{tail_of, tails_in, size_of, lists_of, IsWhole, IsWholeOrFree, IsTailList, AreTails, AreSame}
 
 -- ---- one place
 
@@ -34,16 +37,16 @@ whole-held (held value words) is whole = whole
 
 -- ---- the lists
 
--- The list of texts of so many words.
+-- The list of a number.
 abbrev pub list_at : List RecordList → ℕ → RecordList
-list_at lists size = get_or lists size (empty_list size)
+list_at lists number = get_or lists number (empty_list 0)
 
 -- What stands at a place.
 pub tail-at : (lists : List RecordList) (place : ℕ) → tail_at (lists_of lists) place ≡ tail_of (spot_at (list_at lists (place % 256)) (place / 256))
 tail-at lists place =
-    let size = place % 256 in
-    ap (λ all. get_or all (place / 256) None) (get_or-map tails_in lists size (empty_list size))
-    ∙ get_or-map tail_of (list_at lists size).spots (place / 256) (free 0)
+    let number = place % 256 in
+    ap (λ all. get_or all (place / 256) None) (get_or-map tails_in lists number (empty_list 0))
+    ∙ get_or-map tail_of (list_at lists number).spots (place / 256) (free 0)
 
 -- Where a tail stands there is a list, and a record in it.
 module _ (lists : List RecordList) (place : ℕ) (some : IsSome (tail_at (lists_of lists) place)) where
@@ -53,7 +56,7 @@ module _ (lists : List RecordList) (place : ℕ) (some : IsSome (tail_at (lists_
   pub is-inside : place % 256 < length lists
   is-inside = ⊎_elim
       (λ inside. inside)
-      (λ past. absurd (subst (λ (list : RecordList). IsHeld (spot_at list (place / 256))) (get_or_past lists (place % 256) (empty_list (place % 256)) past) is-held))
+      (λ past. absurd (subst (λ (list : RecordList). IsHeld (spot_at list (place / 256))) (get_or_past lists (place % 256) (empty_list 0) past) is-held))
       (cases_lt (place % 256) (length lists))
 
   pub is-whole : AreTails lists → IsWhole (spot_at (list_at lists (place % 256)) (place / 256))
@@ -68,24 +71,25 @@ module _ (lists : List RecordList) (place : ℕ) (some : IsSome (tail_at (lists_
 
   -- The list is read there.
   pub is-read : (list : RecordList) → list ≡ get_or lists (place % 256) list → list ≡ list_at lists (place % 256)
-  is-read list read = get_or_read lists (place % 256) list is-inside read (empty_list (place % 256))
+  is-read list read = get_or_read lists (place % 256) list is-inside read (empty_list 0)
 
 -- ---- another list in the place of one
 
-module _ (lists : List RecordList) (size : ℕ) (inside : size < length lists) (list : RecordList) where
-  at-same : (default : RecordList) → get_or (set lists size list) size default ≡ list
-  at-same default = get_or-set_same lists size list default inside
+module _ (lists : List RecordList) (number : ℕ) (inside : number < length lists) (list : RecordList) where
+  at-same : get_or (set lists number list) number (empty_list 0) ≡ list
+  at-same = get_or-set_same lists number list (empty_list 0) inside
 
-  at-other : (other : ℕ) → other ≢ size → list_at (set lists size list) other ≡ list_at lists other
-  at-other other apart = get_or-set_other lists size other list (empty_list other) apart
+  at-other : (other : ℕ) → other ≢ number → list_at (set lists number list) other ≡ list_at lists other
+  at-other other apart = get_or-set_other lists number other list (empty_list 0) apart
 
-  pub set-are : AreTails lists → IsTailList size list → AreTails (set lists size list)
-  set-are are is = record {
+  -- Its texts are as long.
+  pub set-are : AreTails lists → list.size ≡ (list_at lists number).size → IsTailList list → AreTails (set lists number list)
+  set-are are size is = record {
     each = λ other. ⊎_elim
-        (λ same. subst (λ n. IsTailList n (list_at (set lists size list) n)) (sym same) (subst (IsTailList size) (sym (at-same (empty_list size))) is))
-        (λ apart. subst (IsTailList other) (sym (at-other other (λ same. ⊎_elim (λ less. omega (arith, less, same)) (λ more. omega (arith, more, same)) apart))) (are.each other))
-        (cases_order other size);
-    few = (let long = length-set lists size list in let few = are.few in omega (arith, long, few));
+        (λ same. subst IsTailList (sym (ap (list_at (set lists number list)) same ∙ at-same)) is)
+        (λ apart. subst IsTailList (sym (at-other other (λ same. ⊎_elim (λ less. omega (arith, less, same)) (λ more. omega (arith, more, same)) apart))) (are.each other))
+        (cases_order other number);
+    apart = subst (IsDistinct eqb) (sym (map-set_same size_of lists number list (empty_list 0) size)) are.apart;
   }
 
 -- The place has another tail then, and all others what they had.
@@ -93,15 +97,15 @@ module _ (lists : List RecordList) (place : ℕ) (inside : place % 256 < length 
   pub set-updates : Updates (lists_of lists) (lists_of (set lists (place % 256) list)) place tail
   set-updates = record {
     here = tail-at (set lists (place % 256) list) place
-        ∙ ap (λ (list : RecordList). tail_of (spot_at list (place / 256))) (at-same lists (place % 256) inside list (empty_list (place % 256)))
+        ∙ ap (λ (list : RecordList). tail_of (spot_at list (place / 256))) (at-same lists (place % 256) inside list)
         ∙ here;
     elsewhere = λ other apart.
         tail-at (set lists (place % 256) list) other
         ∙ ⊎_elim
         (λ (same : other % 256 ≡ place % 256).
         let away : other / 256 ≢ place / 256 = λ e. apart (omega (arith, e, same)) in
-        ap (λ n. tail_of (spot_at (get_or (set lists (place % 256) list) n (empty_list (other % 256))) (other / 256))) same
-        ∙ ap (λ (list : RecordList). tail_of (spot_at list (other / 256))) (at-same lists (place % 256) inside list (empty_list (other % 256)))
+        ap (λ n. tail_of (spot_at (list_at (set lists (place % 256) list) n) (other / 256))) same
+        ∙ ap (λ (list : RecordList). tail_of (spot_at list (other / 256))) (at-same lists (place % 256) inside list)
         ∙ elsewhere (other / 256) away
         ∙ ap (λ n. tail_of (spot_at (list_at lists n) (other / 256))) (sym same))
         (λ differ. ap (λ (list : RecordList). tail_of (spot_at list (other / 256))) (at-other lists (place % 256) inside list (other % 256) (λ e. ⊎_elim (λ less. omega (arith, less, e)) (λ more. omega (arith, more, e)) differ)))
@@ -119,9 +123,9 @@ module _ (list : RecordList) (index : ℕ) (is : IsHeld (spot_at list index)) (v
   value-next : next_place (with_value list index value) ≡ next_place list
   value-next = (λ i. free_or (get_or (map-set_same link_of list.spots index (held value (text_of (spot_at list index))) (free 0) (sym (held-link (spot_at list index) is)) i) list.first None) list.first (length-set list.spots index (held value (text_of (spot_at list index))) i))
 
-  pub value-are : (size : ℕ) → IsTailList size list → IsTailList size (with_value list index value)
-  value-are size are = record {
-    size_is = are.size_is;
+  pub value-are : IsTailList list → IsTailList (with_value list index value)
+  value-are are = record {
+    short = are.short;
     whole = λ other. ⊎_elim
         (λ same. subst (λ n. IsWholeOrFree (spot_at (with_value list index value) n)) (sym same)
         (subst IsWholeOrFree (sym (get_or-set_same list.spots index (held value (text_of (spot_at list index))) (free 0) (held-inside list.spots index is))) (whole-is (spot_at list index) (whole-held (spot_at list index) is (are.whole index)))))
@@ -141,17 +145,18 @@ module _ (lists : List RecordList) (place : ℕ) (some : IsSome (tail_at (lists_
       map-set tails_in lists (place % 256) (with_value list (place / 256) value)
       ∙ ap (set (map tails_in lists) (place % 256))
       (map-set tail_of list.spots (place / 256) (held value (text_of spot))
-      ∙ (λ i. set (sym (get_or-map tails_in lists (place % 256) (empty_list (place % 256))) i) (place / 256) (Some (ap tails.text_of (sym (is-tail lists place some)) i, value))))
+      ∙ (λ i. set (sym (get_or-map tails_in lists (place % 256) (empty_list 0)) i) (place / 256) (Some (ap tails.text_of (sym (is-tail lists place some)) i, value))))
 
   pub value-lists : lists_of valued ≡ tails.with_value (lists_of lists) place value
   value-lists = λ i. record {
+    words = map-set_same size_of lists (place % 256) (with_value (list_at lists (place % 256)) (place / 256) value) (empty_list 0) refl i;
     lists = tails-valued i;
-    next = map-set_same next_place lists (place % 256) (with_value (list_at lists (place % 256)) (place / 256) value) (empty_list (place % 256)) (value-next (list_at lists (place % 256)) (place / 256) (is-held lists place some) value) i;
+    next = map-set_same next_place lists (place % 256) (with_value (list_at lists (place % 256)) (place / 256) value) (empty_list 0) (value-next (list_at lists (place % 256)) (place / 256) (is-held lists place some) value) i;
   }
 
   pub value-all : AreTails lists → AreTails valued
-  value-all are = set-are lists (place % 256) (is-inside lists place some) (with_value (list_at lists (place % 256)) (place / 256) value) are
-      (value-are (list_at lists (place % 256)) (place / 256) (is-held lists place some) value (place % 256) (are.each (place % 256)))
+  value-all are = set-are lists (place % 256) (is-inside lists place some) (with_value (list_at lists (place % 256)) (place / 256) value) are refl
+      (value-are (list_at lists (place % 256)) (place / 256) (is-held lists place some) value (are.each (place % 256)))
 
 -- ---- a record that goes
 
@@ -200,11 +205,17 @@ module _ (list : RecordList) (index : ℕ) (is : IsHeld (spot_at list index)) wh
       (λ out. ap (λ (list : RecordList). tail_of (spot_at list other)) out ∙ ap tail_of (get_or-set_other list.spots index other (free list.first) (free 0) apart))
       removed-is
 
-  pub removed-are : (size : ℕ) → IsTailList size list → IsTailList size (removed list index)
-  removed-are size are = ⊎_elim
-      (λ last. subst (IsTailList size) (sym last.0) (record { size_is = are.size_is; whole = λ place. tt; long = omega arith }))
-      (λ out. subst (IsTailList size) (sym out) (record {
-        size_is = are.size_is;
+  pub removed-size : (removed list index).size ≡ list.size
+  removed-size = ⊎_elim
+      (λ last. ap (λ (list : RecordList). list.size) last.0)
+      (λ out. ap (λ (list : RecordList). list.size) out)
+      removed-is
+
+  pub removed-are : IsTailList list → IsTailList (removed list index)
+  removed-are are = ⊎_elim
+      (λ last. subst IsTailList (sym last.0) (record { short = are.short; whole = λ place. tt; long = omega arith }))
+      (λ out. subst IsTailList (sym out) (record {
+        short = are.short;
         whole = λ other. ⊎_elim
             (λ same. subst (λ n. IsWholeOrFree (spot_at (taken_out list index) n)) (sym same) (subst IsWholeOrFree (sym (get_or-set_same list.spots index (free list.first) (free 0) (held-inside list.spots index is))) tt))
             (λ apart. subst IsWholeOrFree (sym (get_or-set_other list.spots index other (free list.first) (free 0) (λ e. ⊎_elim (λ less. omega (arith, less, e)) (λ more. omega (arith, more, e)) apart))) (are.whole other))
@@ -219,7 +230,8 @@ module _ (lists : List RecordList) (place : ℕ) (some : IsSome (tail_at (lists_
 
   pub without-are : AreTails lists → AreTails without
   without-are are = set-are lists (place % 256) (is-inside lists place some) (removed (list_at lists (place % 256)) (place / 256)) are
-      (removed-are (list_at lists (place % 256)) (place / 256) (is-held lists place some) (place % 256) (are.each (place % 256)))
+      (removed-size (list_at lists (place % 256)) (place / 256) (is-held lists place some))
+      (removed-are (list_at lists (place % 256)) (place / 256) (is-held lists place some) (are.each (place % 256)))
 
   pub without-updates : Updates (lists_of lists) (lists_of without) place None
   without-updates =
@@ -230,7 +242,7 @@ module _ (lists : List RecordList) (place : ℕ) (some : IsSome (tail_at (lists_
 -- ---- a record that comes
 
 -- One more at the end of a list leaves what stands before it.
-pushed-other : {X : Type 0} (xs : List X) (x default : X) (at : ℕ) → at ≢ length xs → get_or (xs ++ x ∷ []) at default ≡ get_or xs at default
+pub pushed-other : {X : Type 0} (xs : List X) (x default : X) (at : ℕ) → at ≢ length xs → get_or (xs ++ x ∷ []) at default ≡ get_or xs at default
 pushed-other [] x default zero apart = absurd (apart refl)
 pushed-other [] x default (suc at) apart = refl
 pushed-other (y ∷ ys) x default zero apart = refl
@@ -286,49 +298,77 @@ module _ (list : RecordList) where
 pub next-within : (list : RecordList) → next_place list ≤ length list.spots
 next-within list = (next-is list 0 []).within
 
--- The next place of texts of so many words, where there is a list of them and where there is none.
-pub next-at : (lists : List RecordList) (size : ℕ) → get_or (lists_of lists).next size 0 ≡ next_place (list_at lists size)
-next-at lists size = get_or-map next_place lists size (empty_list size)
+-- Where a place of the list is free, the next place is one of the list, and no memory is wanted for it.
+free-link : (spots : List Spot) (at : ℕ) → at < length spots → tail_of (get_or spots at (free 0)) ≡ None → (get_or (map link_of spots) at None ≢ None) × (1 ≤ free_places (map link_of spots))
+free-link [] at inside none = absurd (omega (arith, inside))
+free-link (free next ∷ rest) zero inside none = (λ e. cc, omega arith)
+free-link (held value words ∷ rest) zero inside none = absurd (cc)
+free-link (free next ∷ rest) (suc at) inside none = (let more = free-link rest at (omega (arith, inside)) none in (more.0, omega arith))
+free-link (held value words ∷ rest) (suc at) inside none = free-link rest at (omega (arith, inside)) none
 
-pub next-past : (lists : List RecordList) (size : ℕ) → length lists ≤ size → get_or (lists_of lists).next size 0 ≡ 0
-next-past lists size past = next-at lists size ∙ ap next_place (get_or_past lists size (empty_list size) past)
+module _ (list : RecordList) (some : Contains (tails_in list) None) where
+  free-is : (get_or (links_of list) some.0 None ≢ None) × (1 ≤ free_places (links_of list))
+  free-is =
+      let inside : some.0 < length list.spots = (let long = length-map list.spots tail_of in let within = some.1 in omega (arith, within, long)) in
+      free-link list.spots some.0 inside (sym (get_or-map tail_of list.spots some.0 (free 0)) ∙ some.2)
 
--- The list of so many words with memory for more leaves what stands there.
-module _ (lists : List RecordList) (size capacity : ℕ) where
+  pub free-room : length list.spots * (list.size + 1) ≤ list.capacity → HasRoom list 1
+  free-room within =
+      let one = mul-le-mul_right (list.size + 1) free-is.1 in
+      let more = add-mul (length list.spots) 1 (list.size + 1) in
+      omega (arith, within, one, more)
+
+  pub free-next : NoneLost (links_of list) list.first → next_place list < length list.spots
+  free-next lost = by (get_or (links_of list) list.first None) refl
+    where
+      by : (link : Option ℕ) → get_or (links_of list) list.first None ≡ link → free_or link list.first (length list.spots) < length list.spots
+      by None none = absurd (free-is.0 (none-free (links_of list) list.first lost none some.0))
+      by (Some next) linked = linked-inside list next linked
+
+-- The next place of a list, where there is one of this number and where there is none.
+pub next-at : (lists : List RecordList) (number : ℕ) → get_or (lists_of lists).next number 0 ≡ next_place (list_at lists number)
+next-at lists number = get_or-map next_place lists number (empty_list 0)
+
+pub next-past : (lists : List RecordList) (number : ℕ) → length lists ≤ number → get_or (lists_of lists).next number 0 ≡ 0
+next-past lists number past = next-at lists number ∙ ap next_place (get_or_past lists number (empty_list 0) past)
+
+-- The list with memory for more leaves what stands there.
+module _ (lists : List RecordList) (number capacity : ℕ) where
   abbrev pub roomy : RecordList
-  roomy = with_capacity (list_at lists size) capacity
+  roomy = with_capacity (list_at lists number) capacity
 
-  pub roomy-lists : lists_of (set lists size roomy) ≡ lists_of lists
+  pub roomy-lists : lists_of (set lists number roomy) ≡ lists_of lists
   roomy-lists = λ i. record {
-    lists = map-set_same tails_in lists size roomy (empty_list size) refl i;
-    next = map-set_same next_place lists size roomy (empty_list size) refl i;
+    words = map-set_same size_of lists number roomy (empty_list 0) refl i;
+    lists = map-set_same tails_in lists number roomy (empty_list 0) refl i;
+    next = map-set_same next_place lists number roomy (empty_list 0) refl i;
   }
 
-  pub roomy-are : AreTails lists → IsTailList size roomy
-  roomy-are are = record { size_is = (are.each size).size_is; whole = (are.each size).whole; long = (are.each size).long }
+  pub roomy-are : AreTails lists → IsTailList roomy
+  roomy-are are = record { short = (are.each number).short; whole = (are.each number).whole; long = (are.each number).long }
 
   -- A text is put in there.
-  module _ (are : AreTails lists) (inside : size < length lists) (value : ℕ) (text : List ℕ) (is : IsText text) where
+  module _ (are : AreTails lists) (inside : number < length lists) (value : ℕ) (text : List ℕ) (is : IsText text) where
     abbrev pub with_text : List RecordList
-    with_text = set lists size (put_in roomy (held value (words_of text)))
+    with_text = set lists number (put_in roomy (held value (words_of text)))
 
     next : IsNext roomy value (words_of text) (next_place roomy) (put_in roomy (held value (words_of text)))
     next = next-is roomy value (words_of text)
 
     pub put-are : next_place roomy < 2 ^ 55 → AreTails with_text
-    put-are short = set-are lists size inside (put_in roomy (held value (words_of text))) are (record {
-      size_is = next.size ∙ (are.each size).size_is;
+    put-are short = set-are lists number inside (put_in roomy (held value (words_of text))) are next.size (record {
+      short = subst (λ n. n ≤ 128) (sym next.size) (are.each number).short;
       whole = λ other. ⊎_elim
           (λ same. subst IsWholeOrFree (sym (ap (spot_at (put_in roomy (held value (words_of text)))) same ∙ next.here)) (ap words_of (sym (text-back text is))))
-          (λ apart. subst IsWholeOrFree (sym (next.elsewhere other (λ e. ⊎_elim (λ less. omega (arith, less, e)) (λ more. omega (arith, more, e)) apart))) ((are.each size).whole other))
+          (λ apart. subst IsWholeOrFree (sym (next.elsewhere other (λ e. ⊎_elim (λ less. omega (arith, less, e)) (λ more. omega (arith, more, e)) apart))) ((are.each number).whole other))
           (cases_order other (next_place roomy));
-      long = (let long = (are.each size).long in let within = next.within in let grown = next.long in ⊎_elim
+      long = (let long = (are.each number).long in let within = next.within in let grown = next.long in ⊎_elim
           (λ before. let same = next.most before in omega (arith, same, long))
           (λ end. omega (arith, end, within, grown, short))
           (cases_lt (next_place roomy) (length roomy.spots)));
     })
 
-    module _ (place : ℕ) (low : place % 256 ≡ size) (high : place / 256 ≡ next_place roomy) where
+    module _ (place : ℕ) (low : place % 256 ≡ number) (high : place / 256 ≡ next_place roomy) where
       pub put-free : tail_at (lists_of lists) place ≡ None
       put-free = tail-at lists place ∙ (λ i. tail_of (spot_at (list_at lists (low i)) (high i))) ∙ next.none
 
@@ -338,31 +378,6 @@ module _ (lists : List RecordList) (size capacity : ℕ) where
           (set-updates lists place (subst (λ n. n < length lists) (sym low) inside) (put_in roomy (held value (words_of text))) (Some (text, value))
           (ap (λ n. tail_of (spot_at (put_in roomy (held value (words_of text))) n)) high ∙ ap tail_of next.here ∙ ap (λ text. Some (text, value)) (text-back text is))
           (λ other apart. ap tail_of (next.elsewhere other (λ e. apart (e ∙ sym high))) ∙ ap (λ n. tail_of (spot_at (list_at lists n) other)) (sym low)))
-
--- ---- lists that are made
-
--- The lists with one more that has no text.
-pub longer-at : (lists : List RecordList) (size : ℕ) → list_at (lists ++ empty_list (length lists) ∷ []) size ≡ list_at lists size
-longer-at lists size = ⊎_elim
-    (λ same.
-    ap (λ n. list_at (lists ++ empty_list n ∷ []) size) (sym same)
-    ∙ get_or-append_right lists (empty_list size ∷ []) (length lists) size (empty_list size) refl (omega (arith, same))
-    ∙ get_or_head (empty_list size) [] (size - length lists) (empty_list size) (omega (arith, same))
-    ∙ sym (get_or_past lists size (empty_list size) (omega (arith, same))))
-    (λ apart. pushed-other lists (empty_list (length lists)) (empty_list size) size (λ e. ⊎_elim (λ less. omega (arith, less, e)) (λ more. omega (arith, more, e)) apart))
-    (cases_order size (length lists))
-
-pub longer-are : (lists : List RecordList) → length lists ≤ 128 → AreTails lists → AreTails (lists ++ empty_list (length lists) ∷ [])
-longer-are lists within are = record {
-  each = λ size. subst (IsTailList size) (sym (longer-at lists size)) (are.each size);
-  few = (let long = length-append lists (empty_list (length lists) ∷ []) in omega (arith, long, within));
-}
-
-pub same-lists : (before after : List RecordList) → ((size : ℕ) → list_at after size ≡ list_at before size) → AreSame (lists_of before) (lists_of after)
-same-lists before after same = record {
-  lists = λ size. get_or-map tails_in after size (empty_list size) ∙ ap tails_in (same size) ∙ sym (get_or-map tails_in before size (empty_list size));
-  next = λ size. get_or-map next_place after size (empty_list size) ∙ ap next_place (same size) ∙ sym (get_or-map next_place before size (empty_list size));
-}
 
 -- What holds of the same lists.
 module _ (before middle : TailLists) (same : AreSame before middle) where

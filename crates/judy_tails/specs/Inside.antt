@@ -1,5 +1,6 @@
--- How tails stand in lists of records: the list at a place has the texts that take so many words.
-use Rattle.std.specs.Prelude.{◌≡◌, ◌≤◌, ◌^◌, ℕ, List, [], length, get_or, map, Option, None, Some}
+-- How tails stand in lists of records, each of which has the texts that take as many words as it says.
+use Rattle.std.specs.Prelude.{◌≡◌, ◌≤◌, ◌^◌, eqb, ℕ, List, [], length, get_or, map, Option, None, Some}
+use Rattle.std.specs.List.{IsDistinct}
 use Rattle.judy_records.specs.Texts.{words_of, text_in}
 use Rattle.judy_records.specs.Spots.{Spot, free, held, RecordList, empty_list, spot_at, next_place}
 use Rattle.judy_tails.specs.Tails.{TailLists}
@@ -13,9 +14,14 @@ tail_of (held value words) = Some (text_in words, value)
 abbrev pub tails_in : RecordList → List (Option (List ℕ × ℕ))
 tails_in list = map tail_of list.spots
 
+-- How many words each of its texts takes.
+abbrev pub size_of : RecordList → ℕ
+size_of list = list.size
+
 -- What the lists hold.
 abbrev pub lists_of : List RecordList → TailLists
 lists_of lists = record {
+  words = map size_of lists;
   lists = map tails_in lists;
   next = map next_place lists;
 }
@@ -30,18 +36,18 @@ abbrev pub IsWholeOrFree : Spot → Type 0
 IsWholeOrFree (free next) = Unit {0}
 IsWholeOrFree (held value words) = words ≡ words_of (text_in words)
 
--- A list has texts of so many words alone, and no more than places are words for.
-pub record IsTailList (size : ℕ) (list : RecordList) : Type 0 where
-  pub size_is : list.size ≡ size
+-- A list has whole texts of no more words than the longest one takes, and no more than places are words for.
+pub record IsTailList (list : RecordList) : Type 0 where
+  pub short : list.size ≤ 128
   pub whole : (place : ℕ) → IsWholeOrFree (spot_at list place)
   pub long : length list.spots ≤ 2 ^ 55
 
--- What always holds of the lists: each has the texts of its length, and there are no more than the longest text asks for.
+-- What always holds of the lists: no two are for texts of one length.
 pub record AreTails (lists : List RecordList) : Type 0 where
-  pub each : (size : ℕ) → IsTailList size (get_or lists size (empty_list size))
-  pub few : length lists ≤ 129
+  pub each : (number : ℕ) → IsTailList (get_or lists number (empty_list 0))
+  pub apart : IsDistinct eqb (map size_of lists)
 
--- To callers the lists are what they were, and some may be there that have no text.
+-- To callers the lists are what they were, and one may be there that has no text.
 pub record AreSame (before after : TailLists) : Type 0 where
-  pub lists : (size : ℕ) → get_or after.lists size [] ≡ get_or before.lists size []
-  pub next : (size : ℕ) → get_or after.next size 0 ≡ get_or before.next size 0
+  pub lists : (number : ℕ) → get_or after.lists number [] ≡ get_or before.lists number []
+  pub next : (number : ℕ) → get_or after.next number 0 ≡ get_or before.next number 0

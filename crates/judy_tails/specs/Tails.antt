@@ -1,24 +1,33 @@
 -- Tails, place by place: a tail is a text, with the value that it has.
-use Rattle.std.specs.Prelude.{◌≡◌, ◌≢◌, ℕ, ◌*◌, ◌+◌, ◌/◌, ◌%◌, List, [], get_or, set, Option, None, Some}
+use Rattle.std.specs.Prelude.{◌≡◌, ◌≢◌, ℕ, ◌*◌, ◌+◌, ◌/◌, ◌%◌, ◌==◌, List, [], get_or, set, Contains, Option, None, Some}
+use Rattle.std.specs.List.{position_or_len}
 use Rattle.judy_records.specs.Texts.{words_for}
 
--- For each number of words that texts take: what stands at each place among the texts of that length, and which place is taken next.
+-- Of each list, by its number: how many words each text in it takes, what stands at each place, and which place is taken next.
 pub record TailLists : Type 0 where
+  pub words : List ℕ
   pub lists : List (List (Option (List ℕ × ℕ)))
   pub next : List ℕ
 
--- A place tells by its lowest byte how many words its text takes, and by the others which of these it is. What stands there: a text and its
--- value, or nothing.
+-- A place tells by its lowest byte the number of a list, and by the others the place in it. What stands there: a text and its value, or nothing.
 abbrev pub tail_at : TailLists → ℕ → Option (List ℕ × ℕ)
 tail_at all place = get_or (get_or all.lists (place % 256) []) (place / 256) None
 
+-- The list for texts of so many bytes, by its number: the first one whose texts take as many words, or else the next one to be made.
+abbrev pub list_for : TailLists → ℕ → ℕ
+list_for all bytes = position_or_len (λ words. words_for bytes == words) all.words
+
 -- The place that the next text of so many bytes takes.
 abbrev pub next_place : TailLists → ℕ → ℕ
-next_place all bytes = get_or all.next (words_for bytes) 0 * 256 + words_for bytes
+next_place all bytes = get_or all.next (list_for all bytes) 0 * 256 + list_for all bytes
+
+-- Some place of the list for texts of so many bytes is free.
+abbrev pub HasFree : TailLists → ℕ → Type 0
+HasFree all bytes = Contains (get_or all.lists (list_for all bytes) []) None
 
 -- No tail stands anywhere.
 abbrev pub no_tails : TailLists
-no_tails = record { lists = []; next = [] }
+no_tails = record { words = []; lists = []; next = [] }
 
 -- Another tail at a place where one stands.
 abbrev pub with_tail : TailLists → ℕ → List ℕ × ℕ → TailLists

@@ -1,8 +1,8 @@
 //! Tails: texts without a zero byte, each with a value, kept by how many words they take. A text stands in a record of just these words, so none has a
 //! tag, a length or a pointer, and a text of no byte takes the word of its value alone.
 //!
-//! A [`Tails`] gives each text a place, a number that stays its own until it is removed. Its lowest byte tells how many words the text takes. To
-//! contracts a `Tails` is a `TailLists`: what stands at each place.
+//! A [`Tails`] gives each text a place, a number that stays its own until it is removed. Its lowest byte tells a list, which has the texts of one length
+//! in words. To contracts a `Tails` is a `TailLists`: what stands at each place.
 #![tactic(auto)]
 
 mod tail;

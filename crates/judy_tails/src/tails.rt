@@ -1,10 +1,10 @@
-//! The lists of tails, one for each number of words.
+//! The lists of tails, one for each number of words that some tail took.
 
-ghost use Rattle.std.specs.Prelude.{◌≡◌, ◌<◌, ◌≤◌, ◌%◌, ℕ, List, Some, None, IsSome, IfOk, OnOk, OnErr, length};
+ghost use Rattle.std.specs.Prelude.{◌≡◌, ◌<◌, ◌≤◌, ◌%◌, ℕ, List, Some, None, IsSome, IsOk, IfOk, OnErr, length, slice_get};
 ghost use Rattle.std.specs.Borrow.{sem};
 ghost use Rattle.judy_model.specs.Keys.{IsWord};
-ghost use Rattle.judy_records.specs.Texts.{IsText};
-ghost use Rattle.judy_tails.specs.Tails.{tail_at, next_place, no_tails, text_of, Updates, SameTails};
+ghost use Rattle.judy_records.specs.Texts.{IsText, words_for};
+ghost use Rattle.judy_tails.specs.Tails.{tail_at, list_for, next_place, HasFree, no_tails, text_of, Updates, SameTails};
 
 use crate::tail::Tail;
 use judy_records::{Records, words_for};
@@ -65,16 +65,16 @@ impl Tails {
         requires { bytes ≤ 1024 }
         ensures { result ≡ next_place self.now bytes }
     {
-        let size = words_for(bytes);
-        match self.lists.get(size) {
-            Some(list) => list.next_place() as u64 * 256 + size as u64,
-            None => size as u64,
+        let number = self.list_for(bytes);
+        match self.lists.get(number) {
+            Some(list) => list.next_place() as u64 * 256 + number as u64,
+            None => number as u64,
         }
     }
 
-    /// Puts a text with its value in at the next place for its length, and answers that place. The error is want of memory, or 2^55 texts of
-    /// that length, and all places have then what they had. (That memory is asked for only where no place of that length is free no contract
-    /// tells.)
+    /// Puts a text with its value in at the next place for its length, and answers that place. Where a place of that length is free it takes one,
+    /// which asks for no memory and can't be refused. The error is want of memory, or 2^55 texts of that length, and all places have then what they
+    /// had.
     pub fn put(&mut self, text: &[u8], value: u64) -> Result<u64, AllocError>
         requires text { IsText text.now }
         requires short { length text.now ≤ 1024 }
@@ -83,18 +83,19 @@ impl Tails {
         ensures free { IfOk result (λ place. tail_at self.old place ≡ None) }
         ensures put { IfOk result
             (λ place. Updates self.old self.new place (Some (text.now, value))) }
+        ensures unasked { HasFree self.old (length text.now) → IsOk result }
         ensures refused { OnErr result (SameTails self.old self.new) }
     {
-        let size = words_for(text.len());
-        self.reach(size)?;
-        let list = &mut self.lists[size];
+        let number = self.reach(text.len())?;
+        let list = &mut self.lists[number];
+        list.told();
         list.reserve(1)?;
         let place = list.next_place();
         if place as u64 >= MOST {
             return Err(AllocError);
         }
         list.put(value, text);
-        Ok(place as u64 * 256 + size as u64)
+        Ok(place as u64 * 256 + number as u64)
     }
 
     /// Takes the tail at a place out. It asks for no memory; with the last text of its length goes the memory of its list.
@@ -115,18 +116,37 @@ impl Tails {
         }
     }
 
-    // Makes lists up to that of texts of so many words.
-    fn reach(&mut self, size: usize) -> Result<(), AllocError>
-        requires { size ≤ 128 }
-        ensures same { AreSame self.old self.new }
-        ensures reached { OnOk result (size < length self.new.lists) }
+    // The number of the list for texts of so many bytes; where there is none, that of the next one. Lists are as few as lengths in words: fourteen at most
+    // where no text has more than a hundred bytes.
+    fn list_for(&self, bytes: usize) -> usize
+        ensures { result ≡ list_for self.now bytes }
     {
-        while self.lists.len() <= size {
-            let alloc = *self.lists.allocator();
-            let more = self.lists.len();
-            self.lists.push(Records::new(alloc, more))?;
+        let words = words_for(bytes);
+        for number in 0..self.lists.len() {
+            if self.lists[number].size() == words {
+                return number;
+            }
         }
-        Ok(())
+        self.lists.len()
+    }
+
+    // The same, and there is such a list then. The error is want of memory.
+    fn reach(&mut self, bytes: usize) -> Result<usize, AllocError>
+        requires { bytes ≤ 1024 }
+        ensures number { IfOk result (λ number. number ≡ list_for self.old bytes) }
+        ensures same { AreSame self.old self.new }
+        ensures found { list_for self.old bytes < length self.old.lists → IsOk result }
+        ensures reached { IfOk result
+            (λ number. slice_get self.new.words number ≡ Some (words_for bytes)) }
+    {
+        let number = self.list_for(bytes);
+        if number == self.lists.len() {
+            let alloc = *self.lists.allocator();
+            self.lists.reserve_exact(number / 2 + 1)?;
+            self.lists
+                .push_reserved(Records::new(alloc, words_for(bytes)));
+        }
+        Ok(number)
     }
 }
 

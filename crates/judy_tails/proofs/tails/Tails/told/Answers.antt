@@ -1,4 +1,4 @@
-use Rattle.std.proofs.Common.{◌≡◌, ◌%◌, List, get_or, IsSome, length, refl, ⊎_elim, ap, sym, ◌∙◌, arith, subst}
+use Rattle.std.proofs.Common.{◌≡◌, ◌%◌, List, IsSome, length, refl, ⊎_elim, ap, sym, ◌∙◌, arith, subst}
 use Rattle.std.proofs.lemmas.Bool.{cases_lt}
 use Rattle.std.proofs.lemmas.List.{get_or_read}
 use Rattle.judy_model.specs.Keys.{IsWord}
@@ -8,13 +8,13 @@ use Rattle.judy_tails.proofs.ListLemmas.{list_at, is-inside, values-are}
 use Rattle.judy_tails.proofs.tails.Tails.told.Goals as goal
 
 pub loop-list-preserved : goal.loop-list-preserved
-loop-list-preserved c = λ size index before. ⊎_elim
-    (λ less. c.loop-list.invariant size index less)
+loop-list-preserved c = λ number index before. ⊎_elim
+    (λ less. c.loop-list.invariant number index less)
     (λ last.
-    let here : size ≡ c.loop-list.list-index = omega (arith, before, last) in
-    let read = get_or_read c.deref-list-items.result.now c.loop-list.list-index c.list-item.result c.loop-list-test.true c.list-item.is (empty_list size) ∙ ap (λ n. get_or c.deref-list-items.result.now n (empty_list size)) (sym here) in
+    let here : number ≡ c.loop-list.list-index = omega (arith, before, last) in
+    let read = get_or_read c.deref-list-items.result.now c.loop-list.list-index c.list-item.result c.loop-list-test.true c.list-item.is (empty_list 0) ∙ ap (list_at c.deref-list-items.result.now) (sym here) in
     subst (λ (list : RecordList). IsHeld (spot_at list index) → IsWord (value_of (spot_at list index))) read (c.told.ensures.values index))
-    (cases_lt size c.loop-list.list-index)
+    (cases_lt number c.loop-list.list-index)
 
 pub returns : goal.returns
 returns c = λ place tail is.

@@ -5,4 +5,4 @@ use Rattle.judy_tails.proofs.ListLemmas.{list_at}
 use Rattle.judy_tails.proofs.tails.Tails.told.Given as goal
 
 abbrev pub invariant-loop-list : goal.invariant-loop-list
-invariant-loop-list l = (size index : ℕ) → size < l.list-index → IsHeld (spot_at (list_at l.list-items size) index) → IsWord (value_of (spot_at (list_at l.list-items size) index))
+invariant-loop-list l = (number index : ℕ) → number < l.list-index → IsHeld (spot_at (list_at l.list-items number) index) → IsWord (value_of (spot_at (list_at l.list-items number) index))
