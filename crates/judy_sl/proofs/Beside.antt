@@ -1,6 +1,6 @@
 -- Where a key was taken out, whether others begin with its first piece.
-use Rattle.std.proofs.Common.{◌≡◌, ℕ, false, List, [], ◌∷◌, ◌++◌, is_some, Option, None, sym, ap, ◌∙◌, true≢false}
-use Rattle.std.specs.FinMap.{FinMap, get}
+use Rattle.std.proofs.Common.{◌≡◌, ℕ, List, [], ◌∷◌, ◌++◌, is_some, Option, None, sym, ap, ◌∙◌}
+use Rattle.std.specs.FinMap.{get}
 use Rattle.judy_model.specs.Keys.{word_order}
 use Rattle.judy_model.specs.Arrays.{ArrayOf}
 use Rattle.judy_sl.specs.declared.arena.Arena.{Arena}
@@ -8,11 +8,9 @@ use Rattle.judy_sl.specs.declared.arena.Place.{Place}
 use Rattle.judy_sl.specs.declared.arena.Place.TheVariants.{Root, Below}
 use Rattle.judy_sl.specs.declared.shrink.Cut.{Cut}
 use Rattle.judy_sl.specs.Pieces.{piece_of}
-use Rattle.judy_sl.specs.World.{World, level}
 use Rattle.judy_sl.specs.Arenas.{world_of, child_at, IsArena}
 use Rattle.judy_sl.specs.Ways.{LeadsTo, seat_of, piece_at, is_below}
 use Rattle.judy_sl.specs.Shrunk.{child_without, place_without, IsCutWhere, IsLeft}
-use Rattle.judy_sl.specs.Counted.{OneMore, AreCounted, AreCountedBut}
 use Rattle.judy_sl.proofs.OnWay.{pieces-head}
 use Rattle.judy_sl.proofs.Linked.{root-with_child}
 use Rattle.judy_sl.proofs.Written.{behind-leads}
@@ -44,15 +42,3 @@ module _ (before mid after : Arena) (is : IsArena before) (key : List ℕ) (left
   -- A key that was cut off below the first level leaves others that begin with its first piece, and one cut off there none.
   pub beside-left : (cut : Cut) → IsCutWhere (Unit {0}) (world_of before) key cut → mid ≡ place_without before cut.place → is_below cut.place ≡ is_some (get after.root.map (piece_of key))
   beside-left cut cut_is mid_is = place-left cut.place cut_is.rest cut_is.leads mid_is
-
-module _ (arena : Arena) (is : IsArena arena) (key : List ℕ) where
-  -- Where no key begins with the first piece of another, the way of that passes no level, so that all of them tell their number.
-  pub alone-counted : false ≡ is_some (get arena.root.map (piece_of key)) → AreCountedBut OneMore arena key → AreCounted arena
-  alone-counted alone but at = but.others at (λ passes. true≢false (sym (leads_below arena is key at passes.0 passes.1) ∙ sym alone))
-
--- A first level that is seen alike has the same entries.
-pub beside-same : (before after : Arena) → world_of after ≡ world_of before → (piece : ℕ) → is_some (get before.root.map piece) ≡ is_some (get after.root.map piece)
-beside-same before after same piece =
-    let first : level before.root.map ≡ level after.root.map = sym (ap (λ (w : World). w 0) same) in
-    let map : before.root.map ≡ after.root.map = cc in
-    ap (λ (words : FinMap word_order ℕ). is_some (get words piece)) map

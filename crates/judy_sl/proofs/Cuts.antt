@@ -7,11 +7,11 @@ use Rattle.judy_sl.specs.declared.arena.Place.{Place}
 use Rattle.judy_sl.specs.declared.shrink.Cut.{Cut}
 use Rattle.judy_sl.specs.Pieces.{pieces, piece_of, IsText, IsInner, IsFinal}
 use Rattle.judy_sl.specs.World.{World, tail, level}
-use Rattle.judy_sl.specs.Ways.{LeadsTo, seat_of, piece_at, place_in, seat_in}
+use Rattle.judy_sl.specs.Ways.{IsOnWay, LeadsTo, seat_of, piece_at, place_in, seat_in}
 use Rattle.judy_sl.specs.Shrunk.{EntryLone, NodeLone, IsLone, IsWide, IsCutChild, IsCutWhere, IsDeeper}
 use Rattle.judy_sl.proofs.PieceLemmas.{piece-IsFinal, piece-IsInner, text-drop}
 use Rattle.judy_sl.proofs.Ways.{pieces_short, pieces_long}
-use Rattle.judy_sl.proofs.OnWay.{IsOnWay, pieces-head, left-on}
+use Rattle.judy_sl.proofs.OnWay.{pieces-head, left-on}
 use Rattle.judy_sl.proofs.Lone.{only-entry}
 
 -- The cut on the way so far: none at the first level; then one, which holds where at the child stands one key alone.
@@ -43,6 +43,7 @@ pub cut-weaker : (world : World) (key : List ℕ) (cut : Cut) (holds less : Type
 cut-weaker world key cut holds less weaker is = record {
   rest = is.rest;
   leads = is.leads;
+  deep = is.deep;
   map = is.map;
   is_level = is.is_level;
   wide = is.wide;
@@ -59,7 +60,7 @@ still world key (Some at) rest (Some before) cut less is e weaker =
     cut-weaker world key cut (IsLone world at (pieces rest)) less (weaker at refl) (subst (λ c. IsCutWhere (IsLone world at (pieces rest)) world key c) same is)
 
 module _ (world : World) (key : List ℕ) (child : Option ℕ) (map : FinMap word_order ℕ) (rest : List ℕ) (on : IsOnWay world key (seat_in child) map rest) (is_text : IsText key) (before : Option Cut) (so_far : IsCutSoFar world key child rest before) where
-  leads-here : (place : Place) → seat_of place ≡ seat_in child → piece_at place ≡ piece_of rest → (ps : List ℕ) → pieces rest ≡ piece_of rest ∷ ps → LeadsTo world key (seat_of place) (piece_at place ∷ ps)
+  abbrev leads-here : (place : Place) → seat_of place ≡ seat_in child → piece_at place ≡ piece_of rest → (ps : List ℕ) → pieces rest ≡ piece_of rest ∷ ps → LeadsTo world key (seat_of place) (piece_at place ∷ ps)
   leads-here place seat piece ps e = record {
     front = on.leads.front;
     inner = on.leads.inner;
@@ -81,7 +82,7 @@ module _ (world : World) (key : List ℕ) (child : Option ℕ) (map : FinMap wor
   entry-on at [] lone = absurd lone
   entry-on at (piece ∷ ps) lone = lone
 
-  module _ (piece : ℕ) (piece_is : piece ≡ piece_of rest) (place : Place) (place_is : place ≡ place_in child piece) where
+  module _ (piece : ℕ) (piece_is : piece ≡ piece_of rest) (place : Place) (place_is : place ≡ place_in child piece) (depth : ℕ) (deep_is : depth ≡ length on.leads.front) where
     seat-is : seat_of place ≡ seat_in child
     seat-is = ap seat_of place_is ∙ place-seat child piece
 
@@ -92,7 +93,7 @@ module _ (world : World) (key : List ℕ) (child : Option ℕ) (map : FinMap wor
     is-level = ap world seat-is ∙ on.is_level
 
     -- The way goes on.
-    pub cut-on : (at : ℕ) (cut : Cut) → 8 ≤ length rest → get map piece ≡ Some at → IsDeeper before map (record { place = place; below = Some at; left = length (drop 8 rest) }) cut → IsCutWhere (IsLone world at (pieces (drop 8 rest))) world key cut
+    pub cut-on : (at : ℕ) (cut : Cut) → 8 ≤ length rest → get map piece ≡ Some at → IsDeeper before map (record { place = place; below = Some at; left = length (drop 8 rest); depth = depth }) cut → IsCutWhere (IsLone world at (pieces (drop 8 rest))) world key cut
     cut-on at cut long entry (inl deeper) =
         let left = left-on world key (seat_in child) map rest on long in
         let l = length-drop 8 rest in
@@ -100,6 +101,7 @@ module _ (world : World) (key : List ℕ) (child : Option ℕ) (map : FinMap wor
         subst (λ c. IsCutWhere (IsLone world at (pieces (drop 8 rest))) world key c) (sym deeper.0) (record {
           rest = pieces (drop 8 rest);
           leads = leads-here place seat-is at-is (pieces (drop 8 rest)) (pieces_long rest long);
+          deep = deep_is;
           map = map;
           is_level = is-level;
           wide = wide-here place seat-is deeper.1;
@@ -109,10 +111,11 @@ module _ (world : World) (key : List ℕ) (child : Option ℕ) (map : FinMap wor
         still world key child rest before cut (IsLone world at (pieces (drop 8 rest))) so_far before_is.0 (λ k is lone. lone-here k is at (ap (get map) (sym piece_is) ∙ entry) before_is.1 (pieces (drop 8 rest)) (pieces_long rest long) (entry-on at (pieces (drop 8 rest)) lone))
 
     -- The key ends here.
-    pub cut-last : (value : ℕ) (cut : Cut) → length rest < 8 → get map piece ≡ Some value → IsDeeper before map (record { place = place; below = None; left = 0 }) cut → IsCutWhere (Unit {0}) world key cut
+    pub cut-last : (value : ℕ) (cut : Cut) → length rest < 8 → get map piece ≡ Some value → IsDeeper before map (record { place = place; below = None; left = 0; depth = depth }) cut → IsCutWhere (Unit {0}) world key cut
     cut-last value cut short entry (inl deeper) = subst (λ c. IsCutWhere (Unit {0}) world key c) (sym deeper.0) (record {
       rest = [];
       leads = leads-here place seat-is at-is [] (pieces_short rest short);
+      deep = deep_is;
       map = map;
       is_level = is-level;
       wide = wide-here place seat-is deeper.1;

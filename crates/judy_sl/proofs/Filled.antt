@@ -58,7 +58,13 @@ pub level-place : (arena : Arena) (place : Place) (map : FinMap word_order ℕ) 
 level-place arena (Root piece) map e = tt
 level-place arena (Below at piece) map e = taken-level (child_at arena at) map e
 
-level-child : (child : Child) (map : FinMap word_order ℕ) → node_of child ≡ level map → IsLevelChild child
+-- A level is there.
+pub level-there : (child : Child) → IsLevelChild child → node_of child ≡ gone → ⊥
+level-there Free is none = is
+level-there (Tail rest) is none = is
+level-there (Level keys words) is none = cc
+
+pub level-child : (child : Child) (map : FinMap word_order ℕ) → node_of child ≡ level map → IsLevelChild child
 level-child Free map e = absurd (cc)
 level-child (Tail rest) map e = absurd (cc)
 level-child (Level keys words) map e = tt

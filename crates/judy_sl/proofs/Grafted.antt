@@ -1,5 +1,5 @@
 -- A branch that takes the place of a tail: from its fork up, level by level.
-use Rattle.std.proofs.Common.{◌≡◌, ◌≢◌, ℕ, zero, suc, ◌*◌, ◌/◌, ◌<◌, ◌≤◌, List, [], ◌∷◌, ◌++◌, length, drop, Option, None, Some, IsTrue, is_some, ◌⊎◌, inl, inr, refl, sym, ap, subst, ◌∙◌, arith}
+use Rattle.std.proofs.Common.{◌≡◌, ◌≢◌, ℕ, suc, ◌*◌, ◌<◌, ◌≤◌, List, [], ◌∷◌, ◌++◌, length, drop, Option, None, Some, IsTrue, is_some, ◌⊎◌, inl, inr, refl, sym, ap, subst, ◌∙◌, arith}
 use Rattle.std.proofs.lemmas.Bool.{cases_eq}
 use Rattle.std.proofs.lemmas.List.{append_assoc, length-append, length-drop}
 use Rattle.std.specs.Map.{keys_of}
@@ -12,14 +12,14 @@ use Rattle.judy_sl.specs.declared.arena.Arena.{Arena}
 use Rattle.judy_sl.specs.declared.arena.Place.{Place}
 use Rattle.judy_sl.specs.declared.branches.Twig.{Twig}
 use Rattle.judy_sl.specs.declared.branches.Branch.{Branch}
-use Rattle.judy_sl.specs.Pieces.{pieces, pieces_in, piece_of, IsText, IsInner, SpellKey, ArePieces, AreInner}
+use Rattle.judy_sl.specs.Pieces.{pieces, piece_of, IsText, IsInner, SpellKey, ArePieces, AreInner}
 use Rattle.judy_sl.specs.World.{World, gone, tail, level}
 use Rattle.judy_sl.specs.Worlds.{IsLed}
 use Rattle.judy_sl.specs.Arenas.{world_of, node_of, child_at, IsArena}
 use Rattle.judy_sl.specs.Ways.{left_of}
 use Rattle.judy_sl.specs.Grown.{IsPut, IsHung, HasTwig, IsTwigText, IsSound, AreHung, IsGraft}
 use Rattle.judy_sl.specs.Branches.{IsTwig, IsSprout, IsBuilt, AreSingle, single, entry_of}
-use Rattle.judy_sl.proofs.PieceLemmas.{piece-IsFinal, piece-IsInner, text-drop, pieces_are}
+use Rattle.judy_sl.proofs.PieceLemmas.{piece-IsFinal, piece-IsInner, text-drop, pieces_are, length-pieces}
 use Rattle.judy_sl.proofs.Ways.{pieces_short, pieces_long}
 use Rattle.judy_sl.proofs.Seats.{set_node, set_behind, cond-same, cond-other}
 use Rattle.judy_sl.proofs.OnWay.{pieces-head, pieces-some}
@@ -90,16 +90,6 @@ hung before now after grafts words linked place rest value (Some twig) None is h
 hung before now after grafts words linked place rest value (Some twig) (Some at) is has text spells entry =
     hung-some before now after grafts words linked place rest value twig at is.0 is.1 has text spells
 
--- ---- how long pieces are
-
-length-pieces_in : (count : ℕ) (bytes : List ℕ) → length (pieces_in count bytes) ≡ suc count
-length-pieces_in zero bytes = refl
-length-pieces_in (suc count) bytes = ap (λ n. suc n) (length-pieces_in count (drop 8 bytes))
-
-length-pieces : (bytes : List ℕ) → length (pieces bytes) ≡ suc (length bytes / 8)
-unfolding pieces
-length-pieces bytes = length-pieces_in (length bytes / 8) bytes
-
 -- A place behind which a key's pieces go on isn't too long.
 pub short-place : (place : List ℕ) (piece : ℕ) (rest : List ℕ) → SpellKey (place ++ piece ∷ rest) → 8 * length place ≤ 1024
 short-place place piece rest spells =
@@ -143,21 +133,21 @@ are-more piece [] inner are = absurd are
 are-more piece (next ∷ rest) inner are = (inner, are)
 
 -- A level is put: what was led to still is,
-pub put-led : (now later : Arena) (words : ArrayOf word_order) (to : ℕ) → IsPut now later (Level 1 words) to → (at : ℕ) → IsLed (world_of now) at → IsLed (world_of later) at
+pub put-led : (now later : Arena) (words : ArrayOf word_order) (to : ℕ) → IsPut now later (Level 2 words) to → (at : ℕ) → IsLed (world_of now) at → IsLed (world_of later) at
 put-led now later words to put_is at led =
     let keeps : KeepsEntries (world_of now (suc to)) (level words.map) = keeps-none (world_of now (suc to)) (level words.map) (λ m e. let g : gone ≡ level m = sym put_is.was_free ∙ e in cc) in
-    subst (λ w. IsLed w at) (sym (world-put now later (Level 1 words) to put_is)) (led-moves (world_of now) (set_node (world_of now) (suc to) (level words.map)) (keeps-set (world_of now) (suc to) (level words.map) keeps) at led)
+    subst (λ w. IsLed w at) (sym (world-put now later (Level 2 words) to put_is)) (led-moves (world_of now) (set_node (world_of now) (suc to) (level words.map)) (keeps-set (world_of now) (suc to) (level words.map) keeps) at led)
 
 -- and what it leads to is.
-pub new-led : (now later : Arena) (words : ArrayOf word_order) (to : ℕ) → IsPut now later (Level 1 words) to → (at piece : ℕ) → IsInner piece → get words.map piece ≡ Some at → IsLed (world_of later) at
+pub new-led : (now later : Arena) (words : ArrayOf word_order) (to : ℕ) → IsPut now later (Level 2 words) to → (at piece : ℕ) → IsInner piece → get words.map piece ≡ Some at → IsLed (world_of later) at
 new-led now later words to put_is at piece inner entry = record { seat = suc to; map = words.map; is_level = ap node_of put_is.here; piece = piece; inner = inner; entry = entry }
 
-led-up : (before now later : Arena) (words : ArrayOf word_order) (linked : FinMap word_order ℕ) (to : ℕ) → IsPut now later (Level 1 words) to → (at : ℕ) → IsLedUp before now words.map at → IsLedUp before later linked at
+led-up : (before now later : Arena) (words : ArrayOf word_order) (linked : FinMap word_order ℕ) (to : ℕ) → IsPut now later (Level 2 words) to → (at : ℕ) → IsLedUp before now words.map at → IsLedUp before later linked at
 led-up before now later words linked to put_is at (inl was) = inl was
 led-up before now later words linked to put_is at (inr (inl led)) = inr (inl (put-led now later words to put_is at led))
 led-up before now later words linked to put_is at (inr (inr entry)) = inr (inl (new-led now later words to put_is at entry.0 entry.1 entry.2))
 
-pub grafting-up : (before now after : Arena) (front held new : List ℕ) (value : ℕ) (upper rest : List (ℕ × ArrayOf word_order)) (words above linked : ArrayOf word_order) (piece to : ℕ) → IsGrafting before now front held new value upper words → upper ≡ rest ++ (piece, above) ∷ [] → above ≡ single piece → IsPut now after (Level 1 words) to → linked ≡ with_value above piece to → IsGrafting before after front held new value rest linked
+pub grafting-up : (before now after : Arena) (front held new : List ℕ) (value : ℕ) (upper rest : List (ℕ × ArrayOf word_order)) (words above linked : ArrayOf word_order) (piece to : ℕ) → IsGrafting before now front held new value upper words → upper ≡ rest ++ (piece, above) ∷ [] → above ≡ single piece → IsPut now after (Level 2 words) to → linked ≡ with_value above piece to → IsGrafting before after front held new value rest linked
 grafting-up before now after front held new value upper rest words above linked piece to is upper_is above_is put_is linked_is =
     let keys : keys_of upper ≡ keys_of rest ++ piece ∷ [] = ap keys_of upper_is ∙ keys-more rest piece above in
     let parts = inner-front (keys_of rest) piece (subst AreInner keys is.inner) in

@@ -1,7 +1,7 @@
 -- A branch whose levels stand: the entry that led to the tail leads to its top level, and the tail is gone.
-use Rattle.std.proofs.Common.{◌≡◌, ◌≢◌, ℕ, zero, suc, ◌<◌, List, [], ◌∷◌, ◌++◌, length, Some, ◌⊎◌, inl, inr, refl, sym, ap, subst, ◌∙◌, arith}
+use Rattle.std.proofs.Common.{◌≡◌, ◌≢◌, ℕ, zero, suc, ◌-◌, ◌<◌, ◌≤◌, List, [], ◌∷◌, ◌++◌, length, Some, ◌⊎◌, inl, inr, refl, sym, ap, subst, ◌∙◌, arith}
 use Rattle.std.proofs.lemmas.Bool.{cases_eq}
-use Rattle.std.proofs.lemmas.List.{append-nil, length-append}
+use Rattle.std.proofs.lemmas.List.{append-nil, length-append, length-drop}
 use Rattle.std.specs.FinMap.{FinMap, insert}
 use Rattle.judy_model.specs.Keys.{word_order}
 use Rattle.judy_model.specs.Arrays.{ArrayOf}
@@ -14,7 +14,7 @@ use Rattle.judy_sl.specs.World.{World, Node, gone, tail, level}
 use Rattle.judy_sl.specs.Worlds.{IsWorld, FitsBehind, IsLed, AllLed}
 use Rattle.judy_sl.specs.Arenas.{world_of, node_of, child_at, IsArena, HasText, HasLimit}
 use Rattle.judy_sl.specs.Places.{place_with}
-use Rattle.judy_sl.specs.Ways.{seat_of, piece_at, left_of}
+use Rattle.judy_sl.specs.Ways.{IsOnWay, seat_of, piece_at, left_of}
 use Rattle.judy_sl.specs.Grown.{IsChange, IsPut, IsGraft, IsGrafted}
 use Rattle.judy_sl.specs.Shrunk.{IsVacated}
 use Rattle.judy_sl.proofs.PieceLemmas.{text_of_key, pieces_are}
@@ -23,8 +23,9 @@ use Rattle.judy_sl.proofs.Seats.{set_node, cond-same, cond-other}
 use Rattle.judy_sl.proofs.OnWay.{pieces-some}
 use Rattle.judy_sl.proofs.Written.{behind-leads}
 use Rattle.judy_sl.proofs.Led.{led-moves}
+use Rattle.judy_sl.proofs.KeptLevels.{IsReached, reached-behind, all-reached}
 use Rattle.judy_sl.proofs.Linked.{node_with, world-with_place, texts-place, limits-place, root-place}
-use Rattle.judy_sl.proofs.Filled.{level-place}
+use Rattle.judy_sl.proofs.Filled.{level-child, level-place}
 use Rattle.judy_sl.proofs.Loose.{freed}
 use Rattle.judy_sl.proofs.Shrinks.{vacated-world}
 use Rattle.judy_sl.proofs.Growing.{was-place}
@@ -39,7 +40,7 @@ gone-where gone none = refl
 gone-where (tail held value) none = absurd (none (λ e. cc))
 gone-where (level map) none = absurd (none (λ e. cc))
 
-module _ (before now top after : Arena) (key : List ℕ) (from : Place) (at left : ℕ) (branch : Branch) (graft : IsGraft before key from at left branch) (words : ArrayOf word_order) (is : IsGrafting before now graft.clash.leads.front graft.clash.held (pieces (left_of key left)) graft.clash.value [] words) (to : ℕ) (put_is : IsPut now top (Level 1 words) to) (vacated : IsVacated (place_with top from to) after at) where
+module _ (before now top after : Arena) (key : List ℕ) (from : Place) (at left : ℕ) (branch : Branch) (graft : IsGraft before key from at left branch) (words : ArrayOf word_order) (is : IsGrafting before now graft.clash.leads.front graft.clash.held (pieces (left_of key left)) graft.clash.value [] words) (to : ℕ) (put_is : IsPut now top (Level 2 words) to) (vacated : IsVacated (place_with top from to) after at) where
   abbrev pub front : List ℕ
   front = graft.clash.leads.front
 
@@ -81,7 +82,7 @@ module _ (before now top after : Arena) (key : List ℕ) (from : Place) (at left
       subst (λ ps. IsBranch (world_of now) is.grafts.is.behind (front ++ []) words.map held ps graft.clash.value) (sym is.new_parts) (
       subst (λ ps. IsBranch (world_of now) is.grafts.is.behind (front ++ []) words.map ps is.new_now graft.clash.value) (sym is.held_parts) is.branch))
 
-  fits-top : FitsBehind (world_of now) (behind_put now top is.grafts.is (Level 1 words) to put_is (place ++ piece ∷ []) tt is.limit) (place ++ piece ∷ []) words.map
+  fits-top : FitsBehind (world_of now) (behind_put now top is.grafts.is (Level 2 words) to put_is (place ++ piece ∷ []) tt is.limit) (place ++ piece ∷ []) words.map
   fits-top = up-fits now top is.grafts.is words to put_is is.limit place piece graft.clash.inner held new graft.clash.value branch-is held_are new_are
 
   abbrev pub top_grafts : Grafts before top
@@ -91,11 +92,11 @@ module _ (before now top after : Arena) (key : List ℕ) (from : Place) (at left
   behind = top_grafts.is.behind
 
   pub top-there : (world_of top (suc to) ≡ level words.map) × (behind (suc to) ≡ place ++ piece ∷ [])
-  top-there = put-here now top is.grafts.is (Level 1 words) to put_is (place ++ piece ∷ []) tt is.limit fits-top branch-is.used
+  top-there = put-here now top is.grafts.is (Level 2 words) to put_is (place ++ piece ∷ []) tt is.limit fits-top branch-is.used
 
   looks : (ps : List ℕ) → ArePieces ps → look_in (world_of top) (level words.map) ps ≡ look_in (world_of now) (level words.map) ps
   looks [] are = refl
-  looks (p ∷ rest) are = put-look now top is.grafts.is (Level 1 words) to put_is (place ++ piece ∷ []) tt is.limit fits-top branch-is.used (place ++ piece ∷ []) words.map branch-is.fits p rest are
+  looks (p ∷ rest) are = put-look now top is.grafts.is (Level 2 words) to put_is (place ++ piece ∷ []) tt is.limit fits-top branch-is.used (place ++ piece ∷ []) words.map branch-is.fits p rest are
 
   -- Each level was there, or stands between.
   pub top-made : (k : ℕ) → LevelMade before front held new (behind (suc k)) k (child_at top k)
@@ -217,18 +218,51 @@ module _ (before now top after : Arena) (key : List ℕ) (from : Place) (at left
   after-stands : StandsBehind before after is.grafts.was after-arena
   after-stands k told found e =
       let was_level : world_of before (suc k) ≡ level found.map = ap node_of e in
-      let there : world_of before (suc k) ≢ gone = (λ none. let g : level found.map ≡ gone = sym was_level ∙ none in cc) in
-      let stood = top_grafts.same (suc k) there in
-      let off : suc k ≢ suc at = (λ same. let g : level found.map ≡ tail held graft.clash.value = sym was_level ∙ ap (world_of before) same ∙ graft.clash.is_tail in cc) in (
-        (λ none. elim (cases_eq (suc k) (seat_of from)) [
-          | inl here ↦ (let g : level (insert graft.clash.map piece to) ≡ gone = sym (ap (λ (w : World). w (suc k)) after-is ∙ cond-other (led_away (world_of before) (world_of top) is.grafts.was.behind behind (seat_of from) piece at to beside) (suc at) gone (suc k) off ∙ cond-same (world_of top) (seat_of from) (level (insert graft.clash.map piece to)) (suc k) here) ∙ none in cc)
-          | inr away ↦ there (sym stood.0 ∙ sym (ap (λ (w : World). w (suc k)) after-is ∙ cond-other (led_away (world_of before) (world_of top) is.grafts.was.behind behind (seat_of from) piece at to beside) (suc at) gone (suc k) off ∙ cond-other (world_of top) (seat_of from) (level (insert graft.clash.map piece to)) (suc k) away) ∙ none)
-        ]),
+      let stood = top_grafts.same (suc k) (λ none. let g : level found.map ≡ gone = sym was_level ∙ none in cc) in
+      let off : suc k ≢ suc at = (λ same. let g : level found.map ≡ tail held graft.clash.value = sym was_level ∙ ap (world_of before) same ∙ graft.clash.is_tail in cc) in
+      let away = ap (λ (w : World). w (suc k)) after-is ∙ cond-other (led_away (world_of before) (world_of top) is.grafts.was.behind behind (seat_of from) piece at to beside) (suc at) gone (suc k) off in (
+        elim (cases_eq (suc k) (seat_of from)) [
+          | inl here ↦ level-child (child_at after k) (insert graft.clash.map piece to) (away ∙ cond-same (world_of top) (seat_of from) (level (insert graft.clash.map piece to)) (suc k) here)
+          | inr apart ↦ level-child (child_at after k) found.map (away ∙ cond-other (world_of top) (seat_of from) (level (insert graft.clash.map piece to)) (suc k) apart ∙ stood.0 ∙ was_level)
+        ],
         stood.1,
       )
 
-  pub grafted : IsGrafted before after key
+  -- ---- and the way of the key
+
+  top-after : world_of after (suc to) ≡ level words.map
+  top-after =
+      ap (λ (w : World). w (suc to)) after-is
+      ∙ cond-other (led_away (world_of before) (world_of top) is.grafts.was.behind behind (seat_of from) piece at to beside) (suc at) gone (suc to) (λ e. let g : gone ≡ tail held graft.clash.value = sym beside.free ∙ ap (world_of before) e ∙ graft.clash.is_tail in cc)
+      ∙ cond-other (world_of top) (seat_of from) (level (insert graft.clash.map piece to)) (suc to) (λ e. let g : gone ≡ level graft.clash.map = sym beside.free ∙ ap (world_of before) e ∙ graft.clash.is_level in cc)
+      ∙ top-there.0
+
+  top-reached : IsReached (world_of after) (suc to)
+  top-reached = all-reached (world_of after) behind after-world after-led to (λ none. let g : level words.map ≡ gone = sym top-after ∙ none in cc)
+
+  -- It goes on from the top level.
+  top-on : IsOnWay (world_of after) key (suc to) words.map (left_of key left)
+  top-on =
+      let long = length-drop (length key - left) key in
+      let same : length (left_of key left) ≡ left = omega (arith, long, graft.clash.within) in
+      record {
+        leads = record {
+          front = top-reached.front;
+          inner = top-reached.inner;
+          way = top-reached.way;
+          parts = graft.clash.leads.parts ∙ ap (λ ps. ps ++ new) (front-is ∙ sym top-there.1 ∙ reached-behind (world_of after) behind after-world (suc to) top-reached);
+        };
+        is_level = top-after;
+        text = λ text. graft.clash.text;
+        is_left = ap (left_of key) (sym same);
+        within = omega (arith, same, graft.clash.within);
+      }
+
+  pub grafted : IsGrafted before after key left to
   grafted = record {
+    within = graft.clash.within;
+    map = words.map;
+    on = top-on;
     is_arena = after-arena;
     led = after-led;
     counted = grafted-counted before after key from at left branch graft is.grafts.was after-arena after-led after-change after-stands after-made;

@@ -19,11 +19,11 @@ pub record IsBetween (front held new place : List ℕ) : Type 0 where
   pub held_is : held ≡ mid ++ held_more
   pub new_is : new ≡ mid ++ new_more
 
--- A level was one before, or it tells 1 key and stands between.
+-- A level was one before, or it tells two keys and stands between.
 abbrev pub LevelMade : Arena → List ℕ → List ℕ → List ℕ → List ℕ → ℕ → Child → Type 0
 LevelMade before front held new place at Free = Unit {0}
 LevelMade before front held new place at (Tail rest) = Unit {0}
-LevelMade before front held new place at (Level told words) = ((was : ArrayOf word_order) × (child_at before at ≡ Level told was)) ⊎ ((told ≡ 1) × IsBetween front held new place)
+LevelMade before front held new place at (Level told words) = ((was : ArrayOf word_order) × (child_at before at ≡ Level told was)) ⊎ ((told ≡ 2) × IsBetween front held new place)
 
 pub made-was : (before : Arena) (front held new place : List ℕ) (at : ℕ) (child : Child) → LevelWas before at child → LevelMade before front held new place at child
 made-was before front held new place at Free was = tt

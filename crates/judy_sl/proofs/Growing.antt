@@ -1,6 +1,6 @@
 -- What a new tail and a new entry leave of the levels, and of what they tell.
-use Rattle.std.proofs.Common.{◌≡◌, ℕ, suc, List, [], ◌∷◌, ◌++◌, IsTrue, None, inl, inr, refl, sym, ap, subst, ◌∙◌}
-use Rattle.std.proofs.lemmas.Bool.{cases_eq, false≢true}
+use Rattle.std.proofs.Common.{◌≡◌, ℕ, suc, List, None, inl, inr, refl, sym, ap, subst, ◌∙◌}
+use Rattle.std.proofs.lemmas.Bool.{cases_eq}
 use Rattle.std.proofs.lemmas.Option.{none-some}
 use Rattle.std.specs.FinMap.{FinMap, get}
 use Rattle.judy_model.specs.Keys.{word_order, IsStringKey}
@@ -8,24 +8,21 @@ use Rattle.judy_sl.specs.Children.{Child, Free, Tail, Level}
 use Rattle.judy_sl.specs.declared.arena.Arena.{Arena}
 use Rattle.judy_sl.specs.declared.arena.Place.{Place}
 use Rattle.judy_sl.specs.declared.arena.Place.TheVariants.{Root, Below}
-use Rattle.judy_sl.specs.Pieces.{pieces, piece_of}
 use Rattle.judy_sl.specs.World.{World, gone, level}
 use Rattle.judy_sl.specs.Worlds.{AllLed}
 use Rattle.judy_sl.specs.Arenas.{world_of, node_of, child_at, IsArena}
 use Rattle.judy_sl.specs.Children.{child_with}
 use Rattle.judy_sl.specs.Places.{place_with}
-use Rattle.judy_sl.specs.Ways.{seat_of, piece_at, ends_at_first, IsGap, left_of}
-use Rattle.judy_sl.specs.Counted.{keys_behind, LevelTells, Same, OneLess, AreCounted, AreCountedBut}
+use Rattle.judy_sl.specs.Ways.{seat_of, piece_at, levels_passed, IsGap}
+use Rattle.judy_sl.specs.Counted.{keys_behind, LevelTells, Same, AreCounted, AreCountedBut}
 use Rattle.judy_sl.specs.Grown.{IsPut, IsAdded, IsSame}
-use Rattle.judy_sl.proofs.OnWay.{pieces-head}
-use Rattle.judy_sl.proofs.Written.{behind-leads}
 use Rattle.judy_sl.proofs.Led.{KeepsEntries, keeps-same, keeps-then, keeps-none, keeps-insert, keeps-set}
 use Rattle.judy_sl.proofs.Linked.{node_with, can-with, child_at-same, child_at-other, world-with_place}
-use Rattle.judy_sl.proofs.Filled.{world-same, level-place}
+use Rattle.judy_sl.proofs.Filled.{world-same, level-child, level-place}
 use Rattle.judy_sl.proofs.Tailed.{world-put, level-put}
 use Rattle.judy_sl.proofs.Keeping.{gap-none}
 use Rattle.judy_sl.proofs.KeptLevels.{walk-keeps}
-use Rattle.judy_sl.proofs.CountedAdded.{LevelWas, StaysLed, came-was, counted-but, counted-first}
+use Rattle.judy_sl.proofs.CountedAdded.{LevelWas, StaysLed, came-was, counted-but}
 
 -- Each level stays one, with its number and its entries that lead on, and none is new.
 pub record GrowsOn (before after : Arena) : Type 0 where
@@ -33,7 +30,9 @@ pub record GrowsOn (before after : Arena) : Type 0 where
   pub was : (at : ℕ) → LevelWas before at (child_at after at)
 
 stays-grown : (before after : Arena) → GrowsOn before after → StaysLed before after
-stays-grown before after grows at told was e front inner way = walk-keeps (world_of before) (world_of after) grows.keeps 0 front (suc at) inner way
+stays-grown before after grows at told was e =
+    let kept = grows.keeps (suc at) was.map (ap node_of e) in
+    (level-child (child_at after at) kept.0 kept.1, λ front inner way. walk-keeps (world_of before) (world_of after) grows.keeps 0 front (suc at) inner way)
 
 pub was-same : (before : Arena) (at : ℕ) (child : Child) → child_at before at ≡ child → LevelWas before at child
 was-same before at Free e = tt
@@ -121,22 +120,7 @@ module _ (before : Arena) (key : List ℕ) (place : Place) (left : ℕ) (gap : I
       let second : GrowsOn placed after = subst (GrowsOn placed) (sym is_after) (grows-place placed place at gap.map there gap.absent) in
       grows-then before placed after (grows-put before placed rest at put) second
 
-module _ (before : Arena) (is : IsArena before) (led : AllLed (world_of before)) (counted : AreCounted before) (key : List ℕ) (is_key : IsStringKey key) (place : Place) (left : ℕ) (gap : IsGap (world_of before) key place left) where
-  first-absent : (p : Place) → IsGap (world_of before) key p left → IsTrue (ends_at_first p) → (piece : ℕ) (rest : List ℕ) → pieces key ≡ piece ∷ rest → get before.root.map piece ≡ None
-  first-absent (Below at piece) at_gap first p rest parts = absurd (false≢true first)
-  first-absent (Root piece) at_gap first p rest parts =
-      let front : at_gap.leads.front ≡ [] = sym (behind-leads (world_of before) is.behind is.is_world key 0 (pieces (left_of key left)) at_gap.leads) ∙ is.is_world.first in
-      let h = pieces-head (left_of key left) in
-      let head : p ∷ rest ≡ piece_of (left_of key left) ∷ h.0 = sym parts ∙ at_gap.leads.parts ∙ ap (λ f. f ++ pieces (left_of key left)) front ∙ h.1 in
-      let same : p ≡ piece_of (left_of key left) = cc in
-      let root : before.root.map ≡ at_gap.map = (let e = at_gap.is_level in cc) in
-      ap (λ (m : FinMap word_order ℕ). get m p) root ∙ ap (get at_gap.map) (same ∙ sym at_gap.next) ∙ at_gap.absent
-
-  module _ (after : Arena) (made : Place) (added : IsAdded before after key made) (grows : GrowsOn before after) where
-    -- Each level on its way tells one key less than stand behind it,
-    pub gap-counted : AreCountedBut OneLess after key
-    gap-counted = counted-but before after is added.is_arena led counted key is_key 0 added.change (gap-none (world_of before) key place left gap) (stays-grown before after grows) (λ at. came-was before after key at (child_at after at) (grows.was at))
-
-    -- and there is none where the way ended in the first level.
-    pub gap-first : IsTrue (ends_at_first place) → AreCounted after
-    gap-first first = counted-first before after is added.is_arena led counted key is_key 0 added.change (gap-none (world_of before) key place left gap) (stays-grown before after grows) (first-absent place gap first) grows.was
+-- Each level that its way has passed tells one key less than stand behind it.
+pub gap-counted : (before : Arena) (is : IsArena before) (led : AllLed (world_of before)) (counted : AreCounted before) (key : List ℕ) (is_key : IsStringKey key) (place : Place) (left : ℕ) (gap : IsGap (world_of before) key place left) (after : Arena) (made : Place) (added : IsAdded before after key made) (grows : GrowsOn before after) → AreCountedBut after (levels_passed (world_of before) key)
+gap-counted before is led counted key is_key place left gap after made added grows =
+    counted-but before after is added.is_arena led counted key is_key 0 added.change (gap-none (world_of before) key place left gap) (stays-grown before after grows) (λ at. came-was before after at (child_at after at) (grows.was at))

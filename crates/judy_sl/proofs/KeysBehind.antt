@@ -1,8 +1,8 @@
 -- How many keys stand behind pieces, and what one key more makes of that.
-use Rattle.std.proofs.Common.{◌≡◌, ◌≢◌, ℕ, suc, ◌+◌, List, [], ◌∷◌, ◌++◌, length, drop, Option, None, Some, inl, inr, refl, sym, ap, subst, ◌∙◌, arith}
+use Rattle.std.proofs.Common.{◌≡◌, ◌≢◌, ℕ, suc, ◌+◌, ◌≤◌, true, List, [], ◌∷◌, ◌++◌, length, drop, Option, None, Some, is_some, inl, inr, refl, sym, ap, subst, ◌∙◌, arith, true≢false}
 use Rattle.std.proofs.lemmas.Bool.{cases_lt}
 use Rattle.std.proofs.lemmas.List.{append_cancel_left, append_assoc, length-drop}
-use Rattle.std.specs.FinMap.{FinMap, get, insert, empty, len, same_map, get-empty, len-empty}
+use Rattle.std.specs.FinMap.{FinMap, get, insert, empty, len, same_map, empty_of_len, get-empty, len-empty}
 use Rattle.judy_model.specs.Keys.{byte_order, IsStringKey}
 use Rattle.judy_model.specs.Tables.{table, string_keys}
 use Rattle.judy_model.proofs.TableLemmas.{byte_order_total, byte_order_same, string_keys-all, get-table, table_some, table_none, table_insert}
@@ -91,6 +91,21 @@ module _ (world other : World) (key : List ℕ) (value : ℕ) (change : IsChange
       ap (λ (m : FinMap byte_order ℕ). len m) (table_insert string_keys-all (found_after world front) (found_after other front) left.key value left.is_key (ap (lookup other 0) whole ∙ change.at_key) (λ r is_r ne. off-key r is_r (λ same. ne (
       pieces_same r left.key (text_of_key r is_r) (text_of_key left.key left.is_key) (append_cancel_left front (pieces r) (pieces left.key) (same ∙ sym whole))))))
       ∙ more ∙ omega arith
+
+-- Where a key is there, some go on behind its first pieces.
+pub keys-some : (world : World) (front : List ℕ) → AreInner front → (key : List ℕ) → IsStringKey key → (rest : List ℕ) → pieces key ≡ front ++ rest → is_some (lookup world 0 (pieces key)) ≡ true → 1 ≤ keys_after world front
+keys-some world front inner key is rest parts there = elim (cases_lt (keys_after world front) 1) [
+  | inl none ↦
+      let left = rest-key front rest key inner is parts in
+      let nothing = empty_of_len (table string_keys (found_after world front)) (omega (arith, none)) in
+      let absent : lookup world 0 (pieces key) ≡ None =
+      ap (lookup world 0) (parts ∙ ap (λ ps. front ++ ps) (sym left.spells))
+      ∙ sym (get-table string_keys-all (found_after world front) left.key left.is_key)
+      ∙ ap (λ (m : FinMap byte_order ℕ). get m left.key) nothing
+      ∙ get-empty byte_order left.key in
+      absurd (true≢false (sym there ∙ ap (λ (found : Option ℕ). is_some found) absent))
+  | inr some ↦ some
+]
 
 some-behind : (front ps : List ℕ) → ps ≢ [] → front ++ ps ≢ []
 some-behind [] ps some = some

@@ -1,5 +1,5 @@
 -- How many keys stand behind what a place has, and behind an entry of a level.
-use Rattle.std.proofs.Common.{◌≡◌, ◌≢◌, ℕ, suc, ◌/◌, ◌%◌, true, false, cond, List, [], ◌∷◌, ◌++◌, map, length, Option, None, Some, IsSome, refl, sym, ap, ◌∙◌, subst, true≢false}
+use Rattle.std.proofs.Common.{◌≡◌, ◌≢◌, ℕ, suc, ◌/◌, ◌%◌, true, false, cond, List, [], ◌∷◌, ◌++◌, map, length, Option, None, Some, refl, sym, ap, ◌∙◌, subst, true≢false}
 use Rattle.std.specs.Ordering.{is_eq, eq_by_cmp}
 use Rattle.std.specs.Cmp.{tied_itself}
 use Rattle.std.specs.FinMap.{entries, get, empty, from_sorted, same_map, get-empty, get-from_sorted, entries-from_sorted, len-entries}
@@ -11,8 +11,7 @@ use Rattle.judy_model.specs.Keys.{word_order, byte_order, IsStringKey}
 use Rattle.judy_model.proofs.Orders.{same_from_tie}
 use Rattle.judy_model.proofs.TableLemmas.{byte_order_total, byte_order_same, string_keys-all, get-table, table_some}
 use Rattle.judy_sl.specs.declared.arena.Arena.{Arena}
-use Rattle.judy_sl.specs.declared.child.Level.{Level as LevelParts}
-use Rattle.judy_sl.specs.Children.{Tail, Level, is_level, level_child, tail_child}
+use Rattle.judy_sl.specs.Children.{Child, Free, Tail, Level, is_level, level_child, tail_child, keys_told, IsLevelChild}
 use Rattle.judy_tails.specs.Tails.{tail_at}
 use Rattle.judy_sl.specs.Pieces.{pieces, piece_bytes, IsFinal, IsInner, IsText}
 use Rattle.judy_sl.specs.World.{World, gone, tail, at_node, lookup}
@@ -102,22 +101,18 @@ module _ (arena : Arena) (counted : AreCounted arena) (at keys : ℕ) (words : A
   pub level_stands : StandsWith (world_of arena) words.map keys
   level_stands = record { seat = suc at; is_level = ap node_of here; told = level_told }
 
-module _ (arena : Arena) (at : ℕ) (levels : is_level at ≡ true) where
-  -- A place for levels has what the list of levels has there.
-  level_here : child_at arena at ≡ level_child (slab.get arena.levels (at / 256))
-  level_here = ap (λ b. cond b (level_child (slab.get arena.levels (at / 256))) (tail_child (tail_at arena.tails at))) levels
+-- A level's number may be asked for,
+pub level_asked : (arena : Arena) (at keys : ℕ) (words : ArrayOf word_order) → child_at arena at ≡ Level keys words → IsLevelChild (child_at arena at)
+level_asked arena at keys words here = subst IsLevelChild (sym here) tt
 
-  -- So where something stands there, the list has it,
-  pub level_listed : world_of arena (suc at) ≢ gone → slab.ContainsKey arena.levels (at / 256)
-  level_listed there = by (slab.get arena.levels (at / 256)) refl
-    where
-      by : (found : Option LevelParts) → slab.get arena.levels (at / 256) ≡ found → IsSome found
-      by None is = absurd (there (ap node_of (level_here ∙ ap level_child is)))
-      by (Some parts) is = refl
+-- and is that of the keys there.
+told_by : (child : Child) → IsLevelChild child → (keys : ℕ) → LevelTells Same child keys → keys_told child ≡ keys
+told_by Free is keys tells = absurd is
+told_by (Tail rest) is keys tells = absurd is
+told_by (Level told words) is keys tells = tells
 
-  -- and what the list has is the level.
-  pub level_read : (parts : LevelParts) → slab.get arena.levels (at / 256) ≡ Some parts → child_at arena at ≡ Level parts.keys parts.words
-  level_read parts is = level_here ∙ ap level_child is
+pub level_counted : (arena : Arena) → AreCounted arena → (at : ℕ) → IsLevelChild (child_at arena at) → keys_told (child_at arena at) ≡ keys_behind (world_of arena) (suc at)
+level_counted arena counted at is = told_by (child_at arena at) is (keys_behind (world_of arena) (suc at)) (counted at)
 
 -- ---- an entry of a level
 

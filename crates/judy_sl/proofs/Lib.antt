@@ -1,4 +1,5 @@
 pub mod Spelling
+pub mod Numbered
 pub mod PieceLemmas
 pub mod Ways
 pub mod Frames
@@ -43,6 +44,7 @@ pub mod Behind
 pub mod LevelEntries
 pub mod RunWays
 pub mod KeptLevels
+pub mod PassedLevels
 pub mod KeysBehind
 pub mod CountedAdded
 pub mod Growing
@@ -61,9 +63,8 @@ pub mod PageReads
 pub mod NthWays
 pub mod NthFirsts
 pub mod LoneKeys
-pub mod OneWay
 pub mod KeysFewer
-pub mod Recounted
+pub mod Stepping
 pub mod CountedLost
 pub mod CountedKeys
 pub mod Beginnings

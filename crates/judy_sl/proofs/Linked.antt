@@ -12,7 +12,7 @@ use Rattle.judy_model.proofs.Inserts.{get-insert_itself}
 use Rattle.judy_word.specs.Writes.{with_value}
 use Rattle.slab.specs.Slab as slab
 use Rattle.slab.proofs.SlabLemmas.{Updates-with_value}
-use Rattle.judy_sl.specs.declared.child.Level.{Level as LevelParts}
+use Rattle.judy_sl.specs.LevelLists.{LevelParts}
 use Rattle.judy_sl.specs.Children.{Child, Free, Tail, Level, is_level, level_child, tail_child, child_with, IsTaken}
 use Rattle.judy_tails.specs.Tails.{TailLists, tail_at, with_tail}
 use Rattle.judy_sl.specs.declared.arena.Arena.{Arena}

@@ -7,10 +7,11 @@ use Rattle.judy_model.specs.Keys.{IsStringKey, word_order}
 use Rattle.judy_sl.specs.declared.arena.Arena.{Arena}
 use Rattle.judy_sl.specs.Pieces.{pieces, piece_of, IsText, IsFinal, IsInner, EndsWell}
 use Rattle.judy_sl.specs.World.{World, tail}
+use Rattle.judy_sl.specs.Ways.{IsOnWay}
 use Rattle.judy_sl.specs.Arenas.{world_of, map_of, IsArena}
 use Rattle.judy_sl.proofs.PieceLemmas.{piece-IsInner}
 use Rattle.judy_sl.proofs.Exact.{AreBytes, exact}
-use Rattle.judy_sl.proofs.OnWay.{IsOnWay, spelled-tail, spelled-last, found-last}
+use Rattle.judy_sl.proofs.OnWay.{spelled-tail, spelled-last, found-last}
 use Rattle.judy_sl.proofs.Maps.{get-map, get-map_none}
 
 -- Bytes end as those that they are the end of.

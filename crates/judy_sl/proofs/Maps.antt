@@ -7,7 +7,7 @@ use Rattle.judy_model.specs.Arrays.{ArrayOf, empty_array}
 use Rattle.judy_model.proofs.TableLemmas.{byte_order_total, string_keys-all, get-table, get-table_bad, none_at, table_none, table_insert, table_remove}
 use Rattle.judy_sl.specs.Children.{Free, is_level, level_child, tail_child}
 use Rattle.judy_tails.specs.Tails.{TailLists, tail_at, no_tails}
-use Rattle.judy_sl.specs.declared.child.Level.{Level as LevelParts}
+use Rattle.judy_sl.specs.LevelLists.{LevelParts}
 use Rattle.judy_sl.specs.declared.arena.Arena.{Arena}
 use Rattle.judy_sl.specs.Pieces.{pieces, piece_of, SpellKey}
 use Rattle.judy_sl.specs.World.{gone, tail, level, lookup, at_entry}

@@ -1,6 +1,6 @@
 -- The way of a key, level by level.
 use Rattle.std.proofs.Common.{◌≡◌, ◌≢◌, ℕ, zero, suc, ◌-◌, ◌+◌, ◌/◌, ◌<◌, ◌≤◌, List, [], ◌∷◌, ◌++◌, length, drop, get_or, Option, None, Some, refl, sym, ap, subst, ◌∙◌, arith}
-use Rattle.std.proofs.lemmas.List.{append_assoc, length-drop, drop-drop, get_or_past}
+use Rattle.std.proofs.lemmas.List.{append_assoc, length-append, length-drop, drop-drop, get_or_past}
 use Rattle.std.specs.FinMap.{FinMap, get}
 use Rattle.judy_model.specs.Keys.{word_order}
 use Rattle.judy_sl.specs.Children.{IsTaken}
@@ -11,19 +11,11 @@ use Rattle.judy_sl.specs.Pieces.{pieces, pieces_in, piece_of, IsText, IsInner, I
 use Rattle.judy_sl.specs.World.{World, tail, level, lookup, at_entry}
 use Rattle.judy_sl.specs.Worlds.{IsWorld}
 use Rattle.judy_sl.specs.Arenas.{world_of, child_at, IsArena}
-use Rattle.judy_sl.specs.Ways.{LeadsTo, HasValue, IsFound, IsGap, IsClash, place_in, seat_in, seat_of, piece_at, left_of}
+use Rattle.judy_sl.specs.Ways.{IsOnWay, LeadsTo, HasValue, IsFound, IsGap, IsClash, place_in, seat_in, seat_of, piece_at, left_of}
 use Rattle.judy_sl.proofs.PieceLemmas.{text-drop, pieces_same}
 use Rattle.judy_sl.proofs.Spelling.{spelled-more}
 use Rattle.judy_sl.proofs.Linked.{taken_of}
 use Rattle.judy_sl.proofs.Ways.{look_in, lookup-in, lookup-walk, lookup-level, walk-more, walk-behind, pieces_short, pieces_long, tail-same, tail-other}
-
--- The way has come to a level, and this is left of the key.
-pub record IsOnWay (world : World) (key : List ℕ) (seat : ℕ) (map : FinMap word_order ℕ) (rest : List ℕ) : Type 0 where
-  pub leads : LeadsTo world key seat (pieces rest)
-  pub is_level : world seat ≡ level map
-  pub text : IsText key → IsText rest
-  pub is_left : rest ≡ left_of key (length rest)
-  pub within : length rest ≤ length key
 
 -- It begins at the first level.
 pub on-start : (world : World) (key : List ℕ) (map : FinMap word_order ℕ) → world 0 ≡ level map → IsOnWay world key 0 map key
@@ -34,6 +26,11 @@ on-start world key map is = record {
   is_left = (let e : length key - length key ≡ 0 = omega arith in ap (λ n. drop n key) (sym e));
   within = omega arith;
 }
+
+-- No piece deep.
+pub start-deep : (world : World) (key : List ℕ) (map : FinMap word_order ℕ) (is : world 0 ≡ level map) → length (on-start world key map is).leads.front ≡ 0
+unfolding on-start
+start-deep world key map is = refl
 
 pieces_in-head : (count : ℕ) (bytes : List ℕ) → (rest : List ℕ) × (pieces_in count bytes ≡ piece_of bytes ∷ rest)
 pieces_in-head zero bytes = ([], refl)
@@ -73,6 +70,11 @@ module _ (world : World) (key : List ℕ) (seat : ℕ) (map : FinMap word_order 
     is_left = left-on long;
     within = omega (arith, length-drop 8 rest, on.within);
   }
+
+  -- It is one piece deeper then.
+  pub moved-deep : (at : ℕ) (next : FinMap word_order ℕ) (long : 8 ≤ length rest) (whole : IsInner (piece_of rest)) (entry : get map (piece_of rest) ≡ Some at) (is : world (suc at) ≡ level next) → length (on-moved at next long whole entry is).leads.front ≡ suc (length on.leads.front)
+  unfolding on-moved leads-on
+  moved-deep at next long whole entry is = let sum = length-append on.leads.front (piece_of rest ∷ []) in omega (arith, sum)
 
   -- What is found so far.
   pub on-found : lookup world 0 (pieces key) ≡ look_in world (level map) (pieces rest)

@@ -195,3 +195,13 @@ order-pieces one two p q = order-pieces_within (length one) one two (omega arith
 pub pieces_same : (one two : List ℕ) → IsText one → IsText two → pieces one ≡ pieces two → one ≡ two
 pieces_same one two p q same =
     slice_cmp-IsAntisymmetric nat_cmp-IsAntisymmetric one two (sym (order-pieces one two p q) ∙ ap (λ others. byte_order others (pieces two)) same ∙ tied_itself nat_list_cmp_total (pieces two))
+
+-- ---- how long pieces are
+
+length-pieces_in : (count : ℕ) (bytes : List ℕ) → length (pieces_in count bytes) ≡ suc count
+length-pieces_in zero bytes = refl
+length-pieces_in (suc count) bytes = ap (λ n. suc n) (length-pieces_in count (drop 8 bytes))
+
+pub length-pieces : (bytes : List ℕ) → length (pieces bytes) ≡ suc (length bytes / 8)
+unfolding pieces
+length-pieces bytes = length-pieces_in (length bytes / 8) bytes

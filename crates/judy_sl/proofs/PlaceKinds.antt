@@ -1,17 +1,22 @@
 -- Places of levels and places of tails.
-use Rattle.std.proofs.Common.{◌≡◌, ◌≢◌, ℕ, suc, ◌%◌, ◌/◌, true, false, cond, List, Option, None, Some, IsSome, refl, sym, ap, subst, ◌∙◌, arith}
+use Rattle.std.proofs.Common.{◌≡◌, ◌≢◌, ℕ, suc, ◌%◌, ◌/◌, true, false, cond, set, List, Option, None, Some, IsSome, refl, sym, ap, subst, ◌∙◌, arith}
 use Rattle.std.proofs.lemmas.Bool.{eqb-true}
+use Rattle.std.proofs.lemmas.List.{set-get_or}
+use Rattle.std.proofs.lemmas.Option.{same_Some}
 use Rattle.std.specs.FinMap.{FinMap}
 use Rattle.slab.specs.Slab as slab
 use Rattle.judy_model.specs.Keys.{word_order}
 use Rattle.judy_model.specs.Arrays.{ArrayOf}
 use Rattle.judy_sl.specs.declared.arena.Arena.{Arena}
-use Rattle.judy_sl.specs.declared.child.Level.{Level as LevelParts}
+use Rattle.judy_sl.specs.declared.arena.Place.TheVariants.{Below}
+use Rattle.judy_word.specs.Writes.{with_value}
+use Rattle.judy_sl.specs.LevelLists.{LevelParts, keys_in, words_in, with_words}
 use Rattle.judy_tails.specs.Tails.{tail_at, Updates}
-use Rattle.judy_sl.specs.Children.{Child, Free, Tail, Level, is_level, level_child, tail_child, level_of, IsTaken, IsLevelChild}
+use Rattle.judy_sl.specs.Children.{Child, Free, Tail, Level, is_level, level_child, tail_child, child_with, keys_told, level_of, IsTaken, IsLevelChild}
 use Rattle.judy_sl.specs.World.{level}
 use Rattle.judy_sl.specs.Counted.{LevelTells}
 use Rattle.judy_sl.specs.Arenas.{world_of, node_of, child_at}
+use Rattle.judy_sl.specs.Places.{with_child, place_with}
 use Rattle.judy_sl.specs.Shrunk.{IsVacated}
 use Rattle.judy_sl.proofs.Linked.{CanHold}
 
@@ -25,9 +30,21 @@ some_tail : (slot : Option (List ℕ × ℕ)) → IsTaken (tail_child slot) → 
 some_tail None taken = absurd taken
 some_tail (Some rest) taken = refl
 
-level_from : (slot : Option LevelParts) (parts : LevelParts) → slot ≡ Some parts → Some parts ≡ level_of (level_child slot)
-level_from None parts is = absurd (cc)
-level_from (Some there) parts is = sym is
+level_from : (slot : Option LevelParts) → words_in slot ≡ level_of (level_child slot)
+level_from None = refl
+level_from (Some parts) = refl
+
+level_read : (slot : Option LevelParts) (words : ArrayOf word_order) → words_in slot ≡ Some words → level_child slot ≡ Level (keys_told (level_child slot)) words
+level_read None words is = absurd (cc)
+level_read (Some parts) words is = ap (λ (held : ArrayOf word_order). Level parts.keys held) (same_Some parts.words words is)
+
+words_back : (slot : Option LevelParts) (words : ArrayOf word_order) → words_in slot ≡ Some words → Some (record { keys = keys_in slot; words = words }) ≡ slot
+words_back None words is = absurd (cc)
+words_back (Some parts) words is = ap (λ (held : ArrayOf word_order). Some (record { keys = parts.keys; words = held })) (sym (same_Some parts.words words is))
+
+number_read : (slot : Option LevelParts) → keys_in slot ≡ keys_told (level_child slot)
+number_read None = refl
+number_read (Some parts) = refl
 
 level_taken : (slot : Option LevelParts) → IsTaken (level_child slot) → IsLevelChild (level_child slot)
 level_taken None taken = taken
@@ -59,11 +76,34 @@ module _ (arena : Arena) (at : ℕ) where
   pub taken-tail : is_level at ≡ false → IsTaken (child_at arena at) → IsSome (tail_at arena.tails at)
   taken-tail is taken = some_tail (tail_at arena.tails at) (subst IsTaken (child-tail is) taken)
 
-  pub level-stood : is_level at ≡ true → (parts : LevelParts) → slab.get arena.levels (at / 256) ≡ Some parts → Some parts ≡ level_of (child_at arena at)
-  level-stood is parts there = level_from (slab.get arena.levels (at / 256)) parts there ∙ ap level_of (sym (child-level is))
+  pub level-stood : is_level at ≡ true → (words : ArrayOf word_order) → words_in (slab.get arena.levels (at / 256)) ≡ Some words → Some words ≡ level_of (child_at arena at)
+  level-stood is words there = sym there ∙ level_from (slab.get arena.levels (at / 256)) ∙ ap level_of (sym (child-level is))
 
   pub no-level-stood : is_level at ≡ false → None ≡ level_of (child_at arena at)
   no-level-stood is = no_level (tail_at arena.tails at) ∙ ap level_of (sym (child-tail is))
+
+  -- The entries of a level that stands there are read, and its number.
+  pub level-read : is_level at ≡ true → (words : ArrayOf word_order) → words_in (slab.get arena.levels (at / 256)) ≡ Some words → child_at arena at ≡ Level (keys_told (child_at arena at)) words
+  level-read is words there =
+      child-level is
+      ∙ level_read (slab.get arena.levels (at / 256)) words there
+      ∙ ap (λ child. Level (keys_told child) words) (sym (child-level is))
+
+  pub number-read : is_level at ≡ true → keys_in (slab.get arena.levels (at / 256)) ≡ keys_told (child_at arena at)
+  number-read is = number_read (slab.get arena.levels (at / 256)) ∙ ap keys_told (sym (child-level is))
+
+  -- What is written into its entries is written at the place,
+  pub level-lent : is_level at ≡ true → (words : ArrayOf word_order) → words_in (slab.get arena.levels (at / 256)) ≡ Some words → (piece value : ℕ) → record arena { levels = with_words arena.levels (at / 256) (with_value words piece value) } ≡ place_with arena (Below at piece) value
+  level-lent is words there piece value =
+      let keys = number-read is in
+      (λ i. record arena { levels = slab.with_value arena.levels (at / 256) (record { keys = keys i; words = with_value words piece value }) })
+      ∙ sym (ap (λ child. with_child arena at (child_with child piece value)) (level-read is words there))
+
+  -- and where nothing is, all stays.
+  pub level-back : (words : ArrayOf word_order) → words_in (slab.get arena.levels (at / 256)) ≡ Some words → record arena { levels = with_words arena.levels (at / 256) words } ≡ arena
+  level-back words there =
+      ap (λ (slot : Option LevelParts). record arena { levels = record arena.levels { slots = set arena.levels.slots (at / 256) slot } }) (words_back (slab.get arena.levels (at / 256)) words there)
+      ∙ ap (λ (slots : List (Option LevelParts)). record arena { levels = record arena.levels { slots = slots } }) (set-get_or arena.levels.slots (at / 256) None)
 
   -- What is taken at a place of levels is a level,
   pub level-taken : is_level at ≡ true → IsTaken (child_at arena at) → IsLevelChild (child_at arena at)

@@ -9,7 +9,6 @@ use Rattle.judy_sl.specs.Children.{Child, Free, Tail, Level, level_of, IsTaken, 
 use Rattle.judy_sl.specs.declared.arena.Arena.{Arena}
 use Rattle.judy_sl.specs.declared.arena.Place.{Place}
 use Rattle.judy_sl.specs.declared.arena.Place.TheVariants.{Root, Below}
-use Rattle.judy_sl.specs.declared.child.Level.{Level as LevelParts}
 use Rattle.judy_sl.specs.declared.shrink.Cut.{Cut}
 use Rattle.judy_sl.specs.Pieces.{pieces, piece_of, IsText, ArePieces}
 use Rattle.judy_sl.specs.World.{World, Node, gone, tail, level, lookup, at_entry}
@@ -86,10 +85,10 @@ pub record IsClearing (before now : Arena) (at : ℕ) (rest : List ℕ) : Type 0
   pub left : IsLeft before now
 
 -- What stood there, by the level that it was.
-stood-level : (child : Child) (parts : LevelParts) → level_of child ≡ Some parts → node_of child ≡ level parts.words.map
-stood-level Free parts is = absurd (cc)
-stood-level (Tail rest) parts is = absurd (cc)
-stood-level (Level keys words) parts is = ap (λ (l : LevelParts). level l.words.map) (same_Some (record { keys = keys; words = words }) parts is)
+stood-level : (child : Child) (words : ArrayOf word_order) → level_of child ≡ Some words → node_of child ≡ level words.map
+stood-level Free words is = absurd (cc)
+stood-level (Tail rest) words is = absurd (cc)
+stood-level (Level keys held) words is = ap (λ (w : ArrayOf word_order). level w.map) (same_Some held words is)
 
 module _ (before now after : Arena) (at : ℕ) (rest : List ℕ) (is : IsClearing before now at rest) (vacated : IsVacated now after at) where
   after-world : world_of after ≡ freed (world_of now) at
@@ -124,21 +123,21 @@ module _ (before now after : Arena) (at : ℕ) (rest : List ℕ) (is : IsClearin
   pub cleared-tail : level_of (child_at now at) ≡ None → IsCleared before after
   cleared-tail none = cleared (no-level (child_at now at) refl none)
 
-  module _ (parts : LevelParts) (stood : level_of (child_at now at) ≡ Some parts) where
-    level-is : world_of now (suc at) ≡ level parts.words.map
-    level-is = stood-level (child_at now at) parts stood
+  module _ (words : ArrayOf word_order) (stood : level_of (child_at now at) ≡ Some words) where
+    level-is : world_of now (suc at) ≡ level words.map
+    level-is = stood-level (child_at now at) words stood
 
-    lone-is : (ps : List ℕ) → pieces rest ≡ piece_of rest ∷ ps → NodeLone (level parts.words.map) (piece_of rest) ps (λ found. IsLone (world_of now) found ps)
+    lone-is : (ps : List ℕ) → pieces rest ≡ piece_of rest ∷ ps → NodeLone (level words.map) (piece_of rest) ps (λ found. IsLone (world_of now) found ps)
     lone-is ps e = subst (λ n. NodeLone n (piece_of rest) ps (λ found. IsLone (world_of now) found ps)) level-is (subst (IsLone (world_of now) at) e is.loose.lone)
 
     -- A level under whose piece the key ends was the end.
     pub cleared-last : length rest < 8 → IsCleared before after
     cleared-last short =
         let lone = lone-is [] (pieces_short rest short) in
-        cleared (freed-last (world_of now) at (pieces rest) is.loose parts.words.map level-is (piece_of rest) lone.0 (piece-IsFinal rest is.text short))
+        cleared (freed-last (world_of now) at (pieces rest) is.loose words.map level-is (piece_of rest) lone.0 (piece-IsFinal rest is.text short))
 
     -- It goes on.
-    pub clearing-on : 8 ≤ length rest → (next : ℕ) → get parts.words.map (piece_of rest) ≡ Some next → IsClearing before after next (drop 8 rest)
+    pub clearing-on : 8 ≤ length rest → (next : ℕ) → get words.map (piece_of rest) ≡ Some next → IsClearing before after next (drop 8 rest)
     clearing-on long next entry =
         let h = pieces-head (drop 8 rest) in
         let lone = lone-is (piece_of (drop 8 rest) ∷ h.0) (pieces_long rest long ∙ ap (λ ps. piece_of rest ∷ ps) h.1) in
@@ -147,12 +146,12 @@ module _ (before now after : Arena) (at : ℕ) (rest : List ℕ) (is : IsClearin
         record {
           is_arena = after-arena;
           text = text;
-          loose = subst (λ w. IsLoose w next (pieces (drop 8 rest))) (sym after-world) (freed-on (world_of now) at (pieces rest) is.loose parts.words.map level-is (piece_of rest) lone.0 next (pieces (drop 8 rest)) entry (piece-IsInner rest is.text long) (pieces_are (drop 8 rest) text) (subst (IsLone (world_of now) next) (sym h.1) on));
+          loose = subst (λ w. IsLoose w next (pieces (drop 8 rest))) (sym after-world) (freed-on (world_of now) at (pieces rest) is.loose words.map level-is (piece_of rest) lone.0 next (pieces (drop 8 rest)) entry (piece-IsInner rest is.text long) (pieces_are (drop 8 rest) text) (subst (IsLone (world_of now) next) (sym h.1) on));
           same = after-same;
           left = after-left;
         }
 
-    pub clearing-some : 8 ≤ length rest → get parts.words.map (piece_of rest) ≡ None → ⊥
+    pub clearing-some : 8 ≤ length rest → get words.map (piece_of rest) ≡ None → ⊥
     clearing-some long none =
         let lone = lone-is (pieces (drop 8 rest)) (pieces_long rest long) in
         subst (λ o. EntryLone o (pieces (drop 8 rest)) (λ found. IsLone (world_of now) found (pieces (drop 8 rest)))) none lone.1

@@ -14,8 +14,8 @@ use Rattle.judy_sl.specs.World.{World, gone, tail, level, lookup}
 use Rattle.judy_sl.specs.Worlds.{AllLed}
 use Rattle.judy_sl.specs.Arenas.{world_of, node_of, child_at, IsArena, HasText}
 use Rattle.judy_sl.specs.Places.{place_value}
-use Rattle.judy_sl.specs.Ways.{IsFound, IsGap, IsClash, seat_of, piece_at, left_of}
-use Rattle.judy_sl.specs.Counted.{AreCounted}
+use Rattle.judy_sl.specs.Ways.{IsFound, IsGap, IsClash, seat_of, piece_at, left_of, levels_passed}
+use Rattle.judy_sl.specs.Counted.{AreCounted, AreCountedBut}
 use Rattle.judy_sl.specs.Branches.{IsBuilt}
 use Rattle.judy_sl.specs.Grown.{IsChange, IsAdded, IsSame, IsSound, AreHung, IsGraft, IsGrafted}
 use Rattle.judy_sl.proofs.PieceLemmas.{text_of_key, pieces_same}
@@ -117,7 +117,7 @@ module _ (arena : Arena) (is : IsArena arena) (led : AllLed (world_of arena)) (c
 
 -- ---- the key is there
 
-module _ (arena reserved after : Arena) (key : List ℕ) (same : IsSame arena reserved) (grafted : IsGrafted reserved after key) where
+module _ (arena reserved after : Arena) (key : List ℕ) (same : IsSame arena reserved) {left top : ℕ} (grafted : IsGrafted reserved after key left top) where
   split-some : lookup (world_of after) 0 (pieces key) ≡ None → ⊥
   split-some none = none-some 0 (sym none ∙ grafted.change.at_key)
 
@@ -134,3 +134,6 @@ module _ (arena reserved after : Arena) (key : List ℕ) (same : IsSame arena re
     change = subst (λ w. IsChange w (world_of after) (pieces key) (Some 0)) (world-same arena reserved same) grafted.change;
     found = found;
   }
+
+  pub split-counted : AreCountedBut after (levels_passed (world_of arena) key)
+  split-counted = subst (λ w. AreCountedBut after (levels_passed w key)) (world-same arena reserved same) grafted.counted

@@ -3,14 +3,14 @@ use Rattle.std.proofs.Common.{◌≡◌, ℕ, zero, suc, ◌≤◌, ◌/◌, Boo
 use Rattle.std.proofs.lemmas.Option.{none-some}
 use Rattle.std.specs.FinMap.{get}
 use Rattle.std.specs.Ordering.{eq_by_cmp}
-use Rattle.judy_model.specs.Keys.{IsWord, IsStringKey, byte_order}
-use Rattle.judy_model.specs.Arrays.{IsArrayOf, judysl, IsArray}
+use Rattle.judy_model.specs.Keys.{IsWord, IsStringKey, word_order, byte_order}
+use Rattle.judy_model.specs.Arrays.{ArrayOf, IsArrayOf, judysl, IsArray}
 use Rattle.judy_model.proofs.KeptLemmas.{holds-IsArrayOf, words_hold}
 use Rattle.judy_model.proofs.TableLemmas.{string_keys-all, byte_order_total, table_some}
 use Rattle.slab.specs.Slab as slab
 use Rattle.judy_tails.specs.Tails.{tail_at}
 use Rattle.judy_sl.specs.Children.{is_level, level_child, tail_child}
-use Rattle.judy_sl.specs.declared.child.Level.{Level as LevelParts}
+use Rattle.judy_sl.specs.LevelLists.{LevelParts, words_in}
 use Rattle.judy_sl.specs.declared.arena.Arena.{Arena}
 use Rattle.judy_sl.specs.Pieces.{pieces}
 use Rattle.judy_sl.specs.World.{World, Node, gone, tail, level, lookup, at_node, at_entry}
@@ -54,9 +54,9 @@ pub strings-kept : (limit count : ℕ) (arena : Arena) → IsStrings limit count
 strings-kept limit count arena is key value held = (table_some string_keys-all (λ k. lookup (world_of arena) 0 (pieces k)) key value held).0
 
 -- So each level,
-level-words : (found : Option LevelParts) → ((parts : LevelParts) → found ≡ Some parts → IsArrayOf IsWord parts.words) → HasWords (node_of (level_child found))
+level-words : (found : Option LevelParts) → ((words : ArrayOf word_order) → words_in found ≡ Some words → IsArrayOf IsWord words) → HasWords (node_of (level_child found))
 level-words None each = tt
-level-words (Some parts) each = λ piece value held. (words_hold parts.words piece value (each parts refl) held).1
+level-words (Some parts) each = λ piece value held. (words_hold parts.words piece value (each parts.words refl) held).1
 
 -- and each tail.
 tail-words : (found : Option (List ℕ × ℕ)) → ((rest : List ℕ × ℕ) → found ≡ Some rest → IsWord rest.1) → HasWords (node_of (tail_child found))
@@ -64,7 +64,7 @@ tail-words None each = tt
 tail-words (Some rest) each = each rest refl
 
 -- The first level, the others and the tails are all seats.
-pub seats-words : (arena : Arena) → IsArrayOf IsWord arena.root → ((key : ℕ) (parts : LevelParts) → slab.get arena.levels key ≡ Some parts → IsArrayOf IsWord parts.words) → ((place : ℕ) (rest : List ℕ × ℕ) → tail_at arena.tails place ≡ Some rest → IsWord rest.1) → (seat : ℕ) → HasWords (world_of arena seat)
+pub seats-words : (arena : Arena) → IsArrayOf IsWord arena.root → ((index : ℕ) (words : ArrayOf word_order) → words_in (slab.get arena.levels index) ≡ Some words → IsArrayOf IsWord words) → ((place : ℕ) (rest : List ℕ × ℕ) → tail_at arena.tails place ≡ Some rest → IsWord rest.1) → (seat : ℕ) → HasWords (world_of arena seat)
 seats-words arena root levels tails zero = λ piece value held. (words_hold arena.root piece value root held).1
 seats-words arena root levels tails (suc at) = by (is_level at)
   where

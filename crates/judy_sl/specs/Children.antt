@@ -1,10 +1,10 @@
 -- What stands at a place, and what it becomes.
-use Rattle.std.specs.Prelude.{◌≡◌, ℕ, ◌%◌, ◌/◌, ◌==◌, Bool, cond, IsFalse, List, Option, Some, None}
+use Rattle.std.specs.Prelude.{◌≡◌, ℕ, ◌%◌, ◌==◌, Bool, IsFalse, List, Option, Some, None}
 use Rattle.std.specs.FinMap.{get}
 use Rattle.judy_model.specs.Keys.{word_order}
 use Rattle.judy_model.specs.Arrays.{ArrayOf, is_full}
 use Rattle.judy_word.specs.Writes.{with_value}
-use Rattle.judy_sl.specs.declared.child.Level.{Level as LevelParts}
+use Rattle.judy_sl.specs.LevelLists.{LevelParts}
 use Rattle.judy_sl.specs.declared.child.ChildRef.{ChildRef}
 use Rattle.judy_sl.specs.declared.child.ChildRef.TheVariants as seen
 
@@ -28,10 +28,16 @@ abbrev pub tail_child : Option (List ℕ × ℕ) → Child
 tail_child None = Free
 tail_child (Some rest) = Tail rest
 
--- What is read is what stands there.
+-- The number that a level tells.
+abbrev pub keys_told : Child → ℕ
+keys_told Free = 0
+keys_told (Tail rest) = 0
+keys_told (Level keys words) = keys
+
+-- What is read is what stands there; of a level its entries are.
 abbrev pub IsRefTo : Child → ChildRef → Type 0
 IsRefTo child (seen.Tail tail) = child ≡ Tail tail
-IsRefTo child (seen.Level parts) = child ≡ Level parts.now.keys parts.now.words
+IsRefTo child (seen.Level words) = child ≡ Level (keys_told child) words.now
 
 -- The child with a value written at a piece of a level, or as the value of a tail.
 abbrev pub child_with : Child → ℕ → ℕ → Child
@@ -63,8 +69,8 @@ HasRoom Free piece = Unit {0}
 HasRoom (Tail rest) piece = Unit {0}
 HasRoom (Level keys words) piece = IsFalse (is_full words piece)
 
--- The level that stood there, where one did.
-abbrev pub level_of : Child → Option LevelParts
+-- The entries of the level that stood there, where one did.
+abbrev pub level_of : Child → Option (ArrayOf word_order)
 level_of Free = None
 level_of (Tail rest) = None
-level_of (Level keys words) = Some (record { keys = keys; words = words })
+level_of (Level keys words) = Some words

@@ -1,18 +1,18 @@
 -- How many keys stand behind each seat, and what levels tell of that.
-use Rattle.std.specs.Prelude.{◌≡◌, ◌≢◌, ℕ, suc, Bool, true, false, List, length}
+use Rattle.std.specs.Prelude.{◌≡◌, ◌≢◌, ℕ, suc, ◌⊎◌, Bool, true, false, List, [], ◌∷◌, length}
 use Rattle.std.specs.List.{flat_map}
 use Rattle.std.specs.declared.cmp.Ordering.{Ordering}
 use Rattle.std.specs.Ordering.{is_lt, is_le}
 use Rattle.std.specs.FinMap.{FinMap, len}
 use Rattle.judy_model.specs.Keys.{word_order, byte_order}
 use Rattle.judy_model.specs.Counts.{rank, count_up_to}
-use Rattle.judy_sl.specs.Children.{Child, Free, Tail, Level}
+use Rattle.judy_sl.specs.Children.{Child, Free, Tail, Level, IsLevelChild}
 use Rattle.judy_sl.specs.declared.arena.Arena.{Arena}
 use Rattle.judy_sl.specs.Pieces.{IsInner}
 use Rattle.judy_sl.specs.World.{World, gone, level}
 use Rattle.judy_sl.specs.Behind.{map_behind, entry_keys}
-use Rattle.judy_sl.specs.Arenas.{world_of, child_at}
-use Rattle.judy_sl.specs.Ways.{LeadsTo}
+use Rattle.judy_sl.specs.Arenas.{world_of, child_at, IsArena}
+use Rattle.judy_sl.specs.Stepped.{child_stepped, ChildCanStep}
 
 -- How many keys stand behind a seat.
 abbrev pub keys_behind : World → ℕ → ℕ
@@ -42,20 +42,12 @@ LevelTells is_to Free keys = Unit {0}
 LevelTells is_to (Tail rest) keys = Unit {0}
 LevelTells is_to (Level told words) keys = is_to told keys
 
--- Just as many; one less; and one more.
+-- Just as many; and one less.
 abbrev pub Same : ℕ → ℕ → Type 0
 Same told keys = told ≡ keys
 
 abbrev pub OneLess : ℕ → ℕ → Type 0
 OneLess told keys = suc told ≡ keys
-
-abbrev pub OneMore : ℕ → ℕ → Type 0
-OneMore told keys = told ≡ suc keys
-
--- One less where a key came in that isn't counted yet, and one more where a key went that still is.
-abbrev pub OffBy : Bool → ℕ → ℕ → Type 0
-OffBy true told keys = OneLess told keys
-OffBy false told keys = OneMore told keys
 
 -- Each level tells how many keys stand behind it.
 abbrev pub AreCounted : Arena → Type 0
@@ -67,11 +59,32 @@ pub record StandsWith (world : World) (words : FinMap word_order ℕ) (keys : �
   pub is_level : world seat ≡ level words
   pub told : keys ≡ keys_behind world seat
 
--- The way of a key comes to a seat.
-abbrev pub Passes : World → List ℕ → ℕ → Type 0
-Passes world key seat = (rest : List ℕ) × LeadsTo world key seat rest
+-- ---- levels that are counted by their places
 
--- Each level does but those on the way of a key, whose numbers are to those of their keys as a relation says.
-pub record AreCountedBut (is_to : ℕ → ℕ → Type 0) (arena : Arena) (key : List ℕ) : Type 0 where
-  pub passed : (at : ℕ) → Passes (world_of arena) key (suc at) → LevelTells is_to (child_at arena at) (keys_behind (world_of arena) (suc at))
-  pub others : (at : ℕ) → (Passes (world_of arena) key (suc at) → ⊥) → LevelTells Same (child_at arena at) (keys_behind (world_of arena) (suc at))
+-- A place is one of some.
+abbrev pub IsAmong : List ℕ → ℕ → Type 0
+IsAmong [] at = ⊥
+IsAmong (place ∷ places) at = (at ≡ place) ⊎ IsAmong places at
+
+-- None of some places comes twice.
+abbrev pub AreOnce : List ℕ → Type 0
+AreOnce [] = Unit {0}
+AreOnce (place ∷ places) = (IsAmong places place → ⊥) × AreOnce places
+
+-- Each level tells how many keys stand behind it, but those at some places one less.
+pub record AreCountedBut (arena : Arena) (places : List ℕ) : Type 0 where
+  pub once : AreOnce places
+  pub levels : (at : ℕ) → IsAmong places at → IsLevelChild (child_at arena at)
+  pub passed : (at : ℕ) → IsAmong places at → LevelTells OneLess (child_at arena at) (keys_behind (world_of arena) (suc at))
+  pub others : (at : ℕ) → (IsAmong places at → ⊥) → LevelTells Same (child_at arena at) (keys_behind (world_of arena) (suc at))
+
+-- At each of some places stands a level whose number can be stepped.
+abbrev pub CanStepAt : Bool → Arena → List ℕ → Type 0
+CanStepAt comes arena places = (at : ℕ) → IsAmong places at → IsLevelChild (child_at arena at) × ChildCanStep comes (child_at arena at)
+
+-- The numbers of the levels at some places are stepped, and all else stays.
+pub record AreStepped (comes : Bool) (before after : Arena) (places : List ℕ) : Type 0 where
+  pub is_arena : IsArena after
+  pub world : world_of after ≡ world_of before
+  pub passed : (at : ℕ) → IsAmong places at → child_at after at ≡ child_stepped comes (child_at before at)
+  pub others : (at : ℕ) → (IsAmong places at → ⊥) → child_at after at ≡ child_at before at

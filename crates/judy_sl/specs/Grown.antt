@@ -1,5 +1,5 @@
 -- What an arena becomes where it takes something new.
-use Rattle.std.specs.Prelude.{◌≡◌, ◌≢◌, ◌≤◌, ℕ, List, Option, None, Some, Result, Ok, Err, length, IsTrue}
+use Rattle.std.specs.Prelude.{◌≡◌, ◌≢◌, ◌≤◌, ℕ, suc, List, Option, None, Some, Result, Ok, Err, length, IsTrue}
 use Rattle.judy_sl.specs.Children.{Child, Tail}
 use Rattle.judy_sl.specs.declared.arena.Arena.{Arena}
 use Rattle.judy_sl.specs.declared.arena.Place.{Place}
@@ -8,15 +8,15 @@ use Rattle.judy_sl.specs.Pieces.{pieces, IsText, ArePieces}
 use Rattle.judy_sl.specs.World.{World, gone, lookup}
 use Rattle.judy_sl.specs.Worlds.{AllLed}
 use Rattle.judy_sl.specs.Arenas.{world_of, node_of, child_at, IsArena}
-use Rattle.std.specs.FinMap.{contains_key}
+use Rattle.std.specs.FinMap.{FinMap, contains_key}
 use Rattle.judy_model.specs.Keys.{word_order, IsStringKey}
 use Rattle.judy_model.specs.Arrays.{ArrayOf}
 use Rattle.judy_word.specs.Writes.{with_value}
 use Rattle.judy_sl.specs.declared.branches.Twig.{Twig}
 use Rattle.judy_sl.specs.declared.branches.Branch.{Branch}
 use Rattle.judy_sl.specs.Branches.{IsBuilt, AreSingle}
-use Rattle.judy_sl.specs.Ways.{IsFound, IsClash, left_of}
-use Rattle.judy_sl.specs.Counted.{OneLess, AreCounted, AreCountedBut}
+use Rattle.judy_sl.specs.Ways.{IsOnWay, IsFound, IsClash, left_of, levels_passed}
+use Rattle.judy_sl.specs.Counted.{AreCounted, AreCountedBut}
 
 -- Another thing is found under one key, and nothing else changes.
 pub record IsChange (world other : World) (key : List ℕ) (new : Option ℕ) : Type 0 where
@@ -94,9 +94,12 @@ pub record IsGraft (arena : Arena) (key : List ℕ) (from : Place) (at left : �
   pub held_is : clash.held ≡ pieces bytes
   pub built : IsBuilt bytes clash.value (left_of key left) branch
 
--- A key was added with the value 0, which no level counts yet.
-pub record IsGrafted (before after : Arena) (key : List ℕ) : Type 0 where
+-- A key was added with the value 0, which the levels that its way passed don't count yet. Of it so many bytes are left at the level at a place.
+pub record IsGrafted (before after : Arena) (key : List ℕ) (left top : ℕ) : Type 0 where
   pub is_arena : IsArena after
   pub led : AllLed (world_of after)
-  pub counted : AreCountedBut OneLess after key
+  pub counted : AreCountedBut after (levels_passed (world_of before) key)
   pub change : IsChange (world_of before) (world_of after) (pieces key) (Some 0)
+  pub within : left ≤ length key
+  pub map : FinMap word_order ℕ
+  pub on : IsOnWay (world_of after) key (suc top) map (left_of key left)

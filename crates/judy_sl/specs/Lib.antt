@@ -11,6 +11,8 @@ pub mod Grown
 pub mod Branches
 pub mod Lends
 pub mod Levels
+pub mod LevelLists
+pub mod LevelLends
 pub mod Words
 pub mod Behind
 pub mod Runs

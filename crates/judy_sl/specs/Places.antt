@@ -1,5 +1,5 @@
 -- What an arena becomes, for whatever is left in a slot of it.
-use Rattle.std.specs.Prelude.{◌≡◌, ℕ, ◌/◌, IsFalse, IsSome, Option, Some}
+use Rattle.std.specs.Prelude.{ℕ, ◌/◌, IsFalse, Option}
 use Rattle.std.specs.Borrow.{Lends, LendsIf, MutBor, Fml, u64}
 use Rattle.std.specs.FinMap.{get}
 use Rattle.judy_model.specs.Arrays.{is_full}

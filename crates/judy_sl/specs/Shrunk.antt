@@ -1,5 +1,5 @@
 -- What an arena becomes where it loses a key.
-use Rattle.std.specs.Prelude.{◌≡◌, ◌≢◌, ℕ, suc, ◌+◌, ◌≤◌, ◌⊎◌, List, [], ◌∷◌, length, Option, None, Some}
+use Rattle.std.specs.Prelude.{◌≡◌, ◌≢◌, ℕ, suc, ◌≤◌, ◌⊎◌, List, [], ◌∷◌, length, Option, None, Some}
 use Rattle.std.specs.FinMap.{FinMap, get, len}
 use Rattle.judy_model.specs.Keys.{word_order}
 use Rattle.judy_model.specs.Arrays.{ArrayOf, with_map, del}
@@ -76,6 +76,7 @@ IsCutChild world key map piece rest (Some at) left holds = (get map piece ≡ So
 pub record IsCutWhere (holds : Type 0) (world : World) (key : List ℕ) (cut : Cut) : Type 0 where
   pub rest : List ℕ
   pub leads : LeadsTo world key (seat_of cut.place) (piece_at cut.place ∷ rest)
+  pub deep : cut.depth ≡ length leads.front
   pub map : FinMap word_order ℕ
   pub is_level : world (seat_of cut.place) ≡ level map
   pub wide : IsWide (seat_of cut.place) map

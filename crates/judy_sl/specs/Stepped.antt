@@ -31,9 +31,3 @@ abbrev pub entry_under : Node → ℕ → Option ℕ
 entry_under gone piece = None
 entry_under (tail held value) piece = None
 entry_under (level map) piece = get map piece
-
--- A level stands there.
-abbrev pub IsLevelSeat : Node → Type 0
-IsLevelSeat gone = ⊥
-IsLevelSeat (tail held value) = ⊥
-IsLevelSeat (level map) = Unit {0}

@@ -10,6 +10,7 @@ use Rattle.judy_sl.specs.declared.arena.Way.TheVariants.{At, Gap, Clash}
 use Rattle.judy_sl.specs.Pieces.{pieces, piece_of, IsInner, IsFinal, IsText, AreInner}
 use Rattle.judy_sl.specs.World.{World, Node, gone, tail, level, walk}
 use Rattle.judy_sl.specs.Arenas.{world_of}
+use Rattle.judy_sl.specs.Stepped.{entry_under}
 
 -- The seat of a place: 0 for the first level, and else that of the child.
 abbrev pub seat_of : Place → ℕ
@@ -43,6 +44,26 @@ pub record LeadsTo (world : World) (key : List ℕ) (seat : ℕ) (rest : List �
   pub way : walk world 0 front ≡ Some seat
   pub parts : pieces key ≡ front ++ rest
 
+-- The places of the levels that a way passes from an entry on: none where no level stands there, nor where the key ends in it.
+abbrev pub passed_there : Node → ℕ → List ℕ → List ℕ
+passed_there gone at more = []
+passed_there (tail held value) at more = []
+passed_there (level map) at more = at ∷ more
+
+abbrev pub passed_under : Option ℕ → List ℕ → (ℕ → List ℕ) → List ℕ
+passed_under None rest go = []
+passed_under (Some at) [] go = []
+passed_under (Some at) (piece ∷ rest) go = go at
+
+-- The places of the levels that a way passes from a seat on along pieces, the first one first.
+abbrev pub passed_from : World → ℕ → List ℕ → List ℕ
+passed_from world seat [] = []
+passed_from world seat (piece ∷ rest) = passed_under (entry_under (world seat) piece) rest (λ at. passed_there (world (suc at)) at (passed_from world (suc at) rest))
+
+-- The places of the levels below the first that the way of a key passes.
+abbrev pub levels_passed : World → List ℕ → List ℕ
+levels_passed world key = passed_from world 0 (pieces key)
+
 -- The node has the value of a key there, of which these pieces are left: a tail of just these, or a level with an
 -- entry under the last.
 abbrev pub HasValue : Node → ℕ → List ℕ → ℕ → Type 0
@@ -60,6 +81,14 @@ pub record IsFound (world : World) (key : List ℕ) (place : Place) : Type 0 whe
 -- What is left of a key, so many bytes.
 abbrev pub left_of : List ℕ → ℕ → List ℕ
 left_of key left = drop (length key - left) key
+
+-- The way has come to a level, and this is left of the key.
+pub record IsOnWay (world : World) (key : List ℕ) (seat : ℕ) (map : FinMap word_order ℕ) (rest : List ℕ) : Type 0 where
+  pub leads : LeadsTo world key seat (pieces rest)
+  pub is_level : world seat ≡ level map
+  pub text : IsText key → IsText rest
+  pub is_left : rest ≡ left_of key (length rest)
+  pub within : length rest ≤ length key
 
 -- The level of the place has no entry under the next piece of the key, of which so many bytes are left.
 pub record IsGap (world : World) (key : List ℕ) (place : Place) (left : ℕ) : Type 0 where

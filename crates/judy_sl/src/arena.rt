@@ -1,26 +1,27 @@
 //! All levels and tails of an array: the first level, the others in a list, and the tails in records by their length.
 
-ghost use Rattle.std.specs.Prelude.{◌≡◌, [], Some, None, OnOk, IfErr, OnErr, IsSome};
+ghost use Rattle.std.specs.Prelude.{◌≡◌, ◌≤◌, [], length, Some, None, OnOk, IfErr, OnErr, IsSome};
 ghost use Rattle.std.specs.Borrow.{sem};
 ghost use Rattle.std.specs.Option.{option_copied_mut};
 ghost use Rattle.std.specs.FinMap as map;
 ghost use Rattle.judy_model.specs.Arrays.{empty_array};
 ghost use Rattle.judy_model.specs.Keys.{IsStringKey};
-ghost use Rattle.judy_sl.specs.Pieces.{IsText, EndsWell};
+ghost use Rattle.judy_sl.specs.Pieces.{pieces, IsText, EndsWell};
 ghost use Rattle.judy_sl.specs.Children.{IsRefTo, IsTaken};
-ghost use Rattle.judy_sl.specs.Arenas.{child_at, map_of, IsArena};
+ghost use Rattle.judy_sl.specs.Arenas.{world_of, child_at, map_of, IsArena};
 ghost use Rattle.judy_sl.specs.Places.{place_value, place_with, IsPlace, IsLevelPlace, PlaceHasRoom, LendsPlace, LendsHere};
 ghost use Rattle.judy_tails.specs.Tails.{no_tails};
 ghost use Rattle.judy_sl.specs.declared.error.SlError.TheVariants.{NoMemory};
 ghost use Rattle.judy_sl.specs.declared.arena.Way.TheVariants.{At};
-ghost use Rattle.judy_sl.specs.Ways.{is_below, place_in, ends_first, IsWay};
+ghost use Rattle.judy_sl.specs.Ways.{is_below, place_in, seat_in, left_of, ends_first, passed_from, levels_passed, IsOnWay, IsWay};
 
-use crate::child::{ChildRef, LEVEL, Level, is_level, put_in};
+use crate::child::{ChildRef, is_level, put_in};
 use crate::error::SlError;
+use crate::level_list::LevelList;
+use crate::passed::Notes;
 use crate::pieces::first_piece;
 use judy_tails::Tails;
 use judy_word::WordMap;
-use slab::Slab;
 use std::alloc::Global;
 
 // The value of a piece that isn't final is the place of its child. The lowest byte of a place tells whether a level stands
@@ -28,7 +29,7 @@ use std::alloc::Global;
 #[derive(Drop)]
 pub struct Arena {
     pub root: WordMap,
-    pub levels: Slab<Level>,
+    pub levels: LevelList,
     pub tails: Tails,
     pub alloc: Global,
 }
@@ -87,35 +88,61 @@ impl Arena {
     {
         Arena {
             root: WordMap::unbounded(alloc),
-            levels: Slab::new(alloc),
+            levels: LevelList::new(alloc),
             tails: Tails::new(alloc),
             alloc,
         }
     }
 
-    // What stands at a place. The list of levels isn't looked into for a tail, nor a record for a level.
+    // What stands at a place. The levels aren't looked into for a tail, nor a record for a level.
     pub fn child(&self, at: u64) -> ChildRef<'_>
         requires { IsTaken (child_at self.now at) }
         ensures { IsRefTo (child_at self.now at) result }
     {
         if is_level(at) {
-            ChildRef::Level(&self.levels[(at / 256) as usize])
+            ChildRef::Level(self.levels.words((at / 256) as usize))
         } else {
             ChildRef::Tail(self.tails.at(at))
         }
     }
 
     // The way of the key. Bytes that are no key have some way too, but never to a value: a whole piece with its lowest
-    // byte zero is found by its test, and others with a zero stand in no level and in no tail.
-    pub fn walk(&self, key: &[u8]) -> Way
+    // byte zero is found by its test, and others with a zero stand in no level and in no tail. The levels that it passes are told of.
+    pub fn walk<N: Notes>(&self, key: &[u8], notes: &mut N) -> Way
         requires is_arena { IsArena self.now }
         requires ends { EndsWell key.now }
+        requires begins { N.has notes.old [] }
         ensures way { IsText key.now → IsWay self.now key.now result }
+        ensures passed { IsText key.now
+            → N.has notes.new (levels_passed (world_of self.now) key.now) }
         ensures there { (place : Place) → result ≡ At place → IsStringKey key.now }
     {
-        let mut level = &self.root;
-        let mut child = None;
-        let mut rest = key;
+        self.walk_on(key, &self.root, None, key.len(), notes)
+    }
+
+    // The same from a level on, the first or that of a child, to which the key leads; so many bytes are left of it.
+    pub fn walk_on<'a, N: Notes>(
+        &'a self,
+        key: &[u8],
+        top: &'a WordMap,
+        under: Option<u64>,
+        left: usize,
+        notes: &mut N,
+    ) -> Way
+        requires is_arena { IsArena self.now }
+        requires ends { EndsWell key.now }
+        requires within { left ≤ length key.now }
+        requires on { IsOnWay (world_of self.now) key.now (seat_in under) top.now.map
+            (left_of key.now left) }
+        requires begins { N.has notes.old [] }
+        ensures way { IsText key.now → IsWay self.now key.now result }
+        ensures passed { IsText key.now → N.has notes.new
+            (passed_from (world_of self.now) (seat_in under) (pieces (left_of key.now left))) }
+        ensures there { (place : Place) → result ≡ At place → IsStringKey key.now }
+    {
+        let mut level = top;
+        let mut child = under;
+        let mut rest = &key[key.len() - left..];
         while rest.len() >= 8 {
             let piece = first_piece(rest);
             if piece % 256 == 0 {
@@ -127,7 +154,8 @@ impl Arena {
             rest = &rest[8..];
             match self.child(at) {
                 ChildRef::Level(next) => {
-                    level = &next.words;
+                    notes.note(at);
+                    level = next;
                     child = Some(at);
                 }
                 ChildRef::Tail(tail) => {
@@ -162,7 +190,7 @@ impl Arena {
             let at = level.get(piece)?;
             rest = &rest[8..];
             match self.child(at) {
-                ChildRef::Level(next) => level = &next.words,
+                ChildRef::Level(next) => level = next,
                 ChildRef::Tail(tail) => {
                     return if tail.is(rest) {
                         Some(tail.value())
@@ -185,10 +213,7 @@ impl Arena {
             Place::Root(piece) => self.root.slot(piece),
             Place::Below(at, piece) => {
                 if is_level(at) {
-                    match self.levels.get_mut((at / 256) as usize) {
-                        Some(level) => level.words.slot(piece),
-                        None => unreachable!(),
-                    }
+                    self.levels.words_mut((at / 256) as usize).slot(piece)
                 } else {
                     Some(self.tails.slot(at))
                 }
@@ -218,10 +243,9 @@ impl Arena {
     {
         match place {
             Place::Root(piece) => put_in(&mut self.root, piece, value),
-            Place::Below(at, piece) => match self.levels.get_mut((at / 256) as usize) {
-                Some(level) => put_in(&mut level.words, piece, value),
-                None => unreachable!(),
-            },
+            Place::Below(at, piece) => {
+                put_in(self.levels.words_mut((at / 256) as usize), piece, value)
+            }
         }
     }
 }

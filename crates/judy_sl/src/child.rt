@@ -10,23 +10,14 @@ use crate::error::SlError;
 use judy_tails::Tail;
 use judy_word::{InsertError, WordMap};
 
-// A level: its entries, and how many keys stand behind them.
-#[derive(Drop)]
-pub struct Level {
-    pub keys: u32,
-    pub words: WordMap,
-}
-
-const _: () = prove!(size_of::<Level>() == 48);
-
-// What stands at a place, as it is read: a tail, which is the rest of one key with the key's value; or a level.
+// What stands at a place, as it is read: a tail, which is the rest of one key with the key's value; or the entries of a level.
 #[derive(Drop)]
 pub enum ChildRef<'a> {
     Tail(Tail<'a>),
-    Level(&'a Level),
+    Level(&'a WordMap),
 }
 
-// The lowest byte of a level's place. That of a tail's is how many words its bytes take, at most 128.
+// The lowest byte of a level's place. That of a tail's is the number of its list, at most 128.
 pub const LEVEL: u64 = 255;
 
 // Whether a place is one for levels.

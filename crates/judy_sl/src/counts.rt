@@ -6,7 +6,7 @@ ghost use Rattle.judy_model.specs.Counts as counts;
 ghost use Rattle.judy_model.specs.Keys.{byte_order, IsStringKey};
 ghost use Rattle.judy_sums.specs.Levels.{keys_below, part_len};
 ghost use Rattle.judy_sl.specs.Pieces.{IsText};
-ghost use Rattle.judy_sl.specs.Children.{IsTaken};
+ghost use Rattle.judy_sl.specs.Children.{keys_told, IsTaken, IsLevelChild};
 ghost use Rattle.judy_sl.specs.Arenas.{world_of, child_at, map_of, IsArena};
 ghost use Rattle.judy_sl.specs.Behind.{map_behind, entry_keys};
 ghost use Rattle.judy_sl.specs.Counted.{LeadsOn, keys_behind, keys_behind_all, comes, ranked, AreCounted, StandsWith};
@@ -61,6 +61,14 @@ fn lesser_in(level: &WordMap, piece: u64) -> u64
 }
 
 impl Arena {
+    // How many keys stand behind the level at a place, as it tells.
+    pub fn keys_told(&self, at: u64) -> u32
+        requires { IsLevelChild (child_at self.now at) }
+        ensures { result ≡ keys_told (child_at self.now at) }
+    {
+        self.levels.keys((at / 256) as usize)
+    }
+
     // How many keys stand behind an entry of a level: one where its piece is final or it leads to a tail, for which nothing is read, and else
     // as many as its level tells.
     pub fn keys_at(&self, piece: u64, value: u64) -> u64
@@ -72,7 +80,7 @@ impl Arena {
         if piece % 256 == 0 || !is_level(value) {
             return 1;
         }
-        u64::from(self.levels[(value / 256) as usize].keys)
+        u64::from(self.keys_told(value))
     }
 
     // How many keys stand behind some entries of a level.
@@ -150,8 +158,8 @@ impl Arena {
             match self.child(at) {
                 ChildRef::Level(level) => {
                     let piece = first_piece(rest);
-                    lesser += self.keys_before(&level.words, level.keys, piece);
-                    let Some(next) = level.words.get(piece) else {
+                    lesser += self.keys_before(level, self.keys_told(at), piece);
+                    let Some(next) = level.get(piece) else {
                         return lesser;
                     };
                     if rest.len() < 8 {

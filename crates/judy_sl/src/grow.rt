@@ -5,7 +5,7 @@
 ghost use Rattle.std.specs.Prelude.{ℕ, List, [], ◌≡◌, ◌+◌, ◌≤◌, None, IfOk, IsOk, OnOk, IfErr, OnErr, IfSome, IsSome, IsTrue, length};
 ghost use Rattle.std.specs.FinMap as map;
 ghost use Rattle.judy_word.specs.Writes.{with_value};
-ghost use Rattle.judy_tails.specs.Tails.{next_place};
+ghost use Rattle.judy_tails.specs.Tails.{next_place, HasFree};
 ghost use Rattle.judy_model.specs.Keys.{IsStringKey};
 ghost use Rattle.judy_sl.specs.declared.error.SlError.TheVariants.{NoMemory};
 ghost use Rattle.judy_sl.specs.Pieces.{piece_of, IsText};
@@ -13,15 +13,15 @@ ghost use Rattle.judy_sl.specs.Children.{Tail, Level as LevelChild, IsTaken};
 ghost use Rattle.judy_sl.specs.Arenas.{world_of, child_at, map_of, IsArena, HasRoom};
 ghost use Rattle.judy_sl.specs.Places.{place_value, place_with};
 ghost use Rattle.judy_sl.specs.Branches.{AreSingle};
-ghost use Rattle.judy_sl.specs.Ways.{IsGap, IsClash, IsWay, IsNew, ends_at_first, ends_first};
+ghost use Rattle.judy_sl.specs.Ways.{levels_passed, IsGap, IsClash, IsWay, IsNew};
 ghost use Rattle.judy_sl.specs.Worlds.{AllLed};
-ghost use Rattle.judy_sl.specs.Counted.{AreCounted, AreCountedBut, OneLess};
+ghost use Rattle.judy_sl.specs.Counted.{AreCounted, AreCountedBut};
 ghost use Rattle.judy_sl.specs.Firsts.{beginning};
 ghost use Rattle.judy_sl.specs.Grown.{IsPut, IfShown, IsHung, AreHung, HasTwig, IsTwigText, IsSound, IsGraft, IsGrafted, IsAdded, IsSame};
 
 use crate::arena::{Arena, Place, Way};
 use crate::branches::{Branch, Twig, branch_of};
-use crate::child::{ChildRef, LEVEL, Level};
+use crate::child::{ChildRef, LEVEL};
 use crate::error::SlError;
 use crate::keys::{KeyBuf, is_key};
 use crate::pieces::first_piece;
@@ -43,40 +43,38 @@ fn link(level: &mut WordMap, piece: u64, place: u64)
 }
 
 impl Arena {
-    // Makes room for so many more levels. Those for which places are free need none. For the others the list grows by an eighth, and not to
-    // its double.
+    // Makes room for so many more levels. Those for which places are free need none.
     fn make_room(&mut self, more: usize) -> Result<(), AllocError>
         ensures same { IsSame self.old self.new }
         ensures tails { self.new.tails ≡ self.old.tails }
         ensures room { OnOk result (HasRoom self.new more) }
         ensures unasked { HasRoom self.old more → (self.new ≡ self.old) × IsOk result }
     {
-        let levels = self.levels.len();
-        if self.levels.capacity() - levels < more {
-            self.levels.reserve_exact(more.saturating_add(levels / 8))?;
-        }
+        self.levels.reserve(more)?;
         if self.levels.capacity() > MOST {
             return Err(AllocError);
         }
         Ok(())
     }
 
-    // Puts a level in, for which there is room, and answers its place. It tells one key, that of the tail in whose place it comes.
+    // Puts a level in, for which there is room, and answers its place. It tells two keys: that of the tail in whose place it comes, and the
+    // one that comes in.
     fn put_level(&mut self, words: WordMap) -> u64
         requires room { HasRoom self.old 1 }
-        ensures put { IsPut self.old self.new (LevelChild 1 words) result }
+        ensures put { IsPut self.old self.new (LevelChild 2 words) result }
         ensures room { (more : ℕ) → HasRoom self.old (more + 1) → HasRoom self.new more }
     {
-        let index = self.levels.insert_reserved(Level { keys: 1, words });
+        let index = self.levels.put(words, 2);
         index as u64 * 256 + LEVEL
     }
 
-    // Puts a tail in at the next place for its length, and answers that place.
+    // Puts a tail in at the next place for its length, and answers that place. Where one of that length is free, no memory is asked for.
     fn put_tail(&mut self, rest: &[u8], value: u64) -> Result<u64, SlError>
         requires text { IsText rest.now }
         requires short { length rest.now ≤ 1024 }
         ensures place { IfOk result (λ at. at ≡ next_place self.old.tails (length rest.now)) }
         ensures put { IfOk result (λ at. IsPut self.old self.new (Tail ((rest.now, value))) at) }
+        ensures unasked { HasFree self.old.tails (length rest.now) → IsOk result }
         ensures levels { self.new.levels ≡ self.old.levels }
         ensures refused { IfErr result (λ error. IsSame self.old self.new × (error ≡ NoMemory)) }
     {
@@ -89,6 +87,8 @@ impl Arena {
     // Tries a key as one whose first piece leads nowhere, and puts it in with the value 0 if so: one way down the first level shows that and
     // puts the piece in. Only then is more memory asked for, so that none is for a key that is there; where it is refused, the piece goes
     // again. Answers where the key stands, and `None` where it isn't to be tried or its piece leads somewhere: then it is to be looked up.
+    // Both lengths of lists that an insert may want call it, so it is told to be inlined: it is the whole of most inserts of new keys.
+    #[inline(always)]
     pub fn try_add(&mut self, key: &[u8], tries: bool) -> Result<Option<Place>, SlError>
         requires is_arena { IsArena self.old }
         requires counted { AreCounted self.old }
@@ -134,8 +134,8 @@ impl Arena {
         requires led { AllLed (world_of self.old) }
         requires few { map.len (map_of self.old) ≤ 4294967295 }
         ensures added { IfOk result (λ made. IsAdded self.old self.new key.now made) }
-        ensures counted { IfOk result (λ made. AreCountedBut OneLess self.new key.now) }
-        ensures first { IfOk result (λ made. IsTrue (ends_at_first place) → AreCounted self.new) }
+        ensures counted { IfOk result
+            (λ made. AreCountedBut self.new (levels_passed (world_of self.old) key.now)) }
         ensures refused { IfErr result (λ error. IsSame self.old self.new × (error ≡ NoMemory)) }
     {
         if left < 8 {
@@ -208,15 +208,15 @@ impl Arena {
     }
 
     // Puts the levels of a branch in whose tails are hung up, leads the entry at a place to the top one, and gives back the tail to which it led.
-    // None of this asks for memory.
-    fn graft(&mut self, from: Place, at: u64, branch: Branch)
+    // None of this asks for memory. Answers where the top one stands.
+    fn graft(&mut self, from: Place, at: u64, branch: Branch) -> u64
         requires room { HasRoom self.old (length branch.upper.items + 1) }
         requires taken { IsTaken (child_at self.old at) }
         requires entry { IsSome (place_value self.old from) }
         requires singles { AreSingle branch.upper.items }
         ensures { (before : Arena) (key : List ℕ) (left : ℕ) (made : Branch)
             → IsGraft before key from at left made → AreHung before self.old made branch.entry
-            → IsGrafted before self.new key }
+            → IsGrafted before self.new key left result }
     {
         let mut upper = branch.upper;
         let mut level = branch.fork;
@@ -228,6 +228,7 @@ impl Arena {
         let place = self.put_level(level);
         self.lead(from, place);
         self.vacate(at);
+        place
     }
 
     // Puts the bytes of the tail at a place into an empty buffer, and answers its value.
@@ -254,7 +255,8 @@ impl Arena {
         requires counted { AreCounted self.old }
         requires led { AllLed (world_of self.old) }
         ensures added { IfOk result (λ made. IsAdded self.old self.new key.now made) }
-        ensures counted { IfOk result (λ made. AreCountedBut OneLess self.new key.now) }
+        ensures counted { IfOk result
+            (λ made. AreCountedBut self.new (levels_passed (world_of self.old) key.now)) }
         ensures refused { IfErr result (λ error. IsSame self.old self.new × (error ≡ NoMemory)) }
     {
         let mut held = KeyBuf::new();
@@ -270,8 +272,12 @@ impl Arena {
         if let Err(error) = self.hang_both(&mut made) {
             return Err(error);
         }
-        self.graft(from, at, made);
-        match self.walk(key) {
+        let top = self.graft(from, at, made);
+        let level = match self.child(top) {
+            ChildRef::Level(level) => level,
+            ChildRef::Tail(_) => unreachable!(),
+        };
+        match self.walk_on(key, level, Some(top), left, &mut ()) {
             Way::At(place) => Ok(place),
             Way::Gap(_, _) => unreachable!(),
             Way::Clash(_, _, _) => unreachable!(),
@@ -288,8 +294,8 @@ impl Arena {
         requires new { IsNew way }
         requires few { map.len (map_of self.old) ≤ 4294967295 }
         ensures added { IfOk result (λ made. IsAdded self.old self.new key.now made) }
-        ensures counted { IfOk result (λ made. AreCountedBut OneLess self.new key.now) }
-        ensures first { IfOk result (λ made. IsTrue (ends_first way) → AreCounted self.new) }
+        ensures counted { IfOk result
+            (λ made. AreCountedBut self.new (levels_passed (world_of self.old) key.now)) }
         ensures refused { IfErr result (λ error. IsSame self.old self.new × (error ≡ NoMemory)) }
     {
         match way {

@@ -17,9 +17,7 @@ impl Arena {
     {
         self.root.is_array();
         self.tails.told();
-        for (_, level) in self.levels.iter() {
-            level.words.is_array();
-        }
+        self.levels.told();
     }
 }
 

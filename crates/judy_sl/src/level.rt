@@ -26,7 +26,7 @@ impl Arena {
             let place = level.get(first_piece(rest))?;
             rest = &rest[8..];
             match self.child(place) {
-                ChildRef::Level(next) => level = &next.words,
+                ChildRef::Level(next) => level = next,
                 ChildRef::Tail(_) => return None,
             }
         }

@@ -238,7 +238,7 @@ impl Arena {
         'down: loop {
             match self.child(at) {
                 ChildRef::Level(level) => {
-                    let spot = self.spot_at(&level.words, level.keys, left);
+                    let spot = self.spot_at(level, self.keys_told(at), left);
                     push_piece(key, spot.piece);
                     if spot.piece % 256 == 0 {
                         return Some(spot.value);

@@ -55,7 +55,7 @@ impl Arena {
             match self.child(at) {
                 ChildRef::Level(next) => {
                     above.push(Some(level));
-                    level = &next.words;
+                    level = next;
                 }
                 ChildRef::Tail(_) => unreachable!(),
             }
@@ -87,8 +87,8 @@ impl Arena {
             match self.child(value) {
                 ChildRef::Level(next) => {
                     above.push(Some(run.level));
-                    run.level = &next.words;
-                    run.entries = next.words.iter();
+                    run.level = next;
+                    run.entries = next.iter();
                     let first = run.entries.next()?;
                     piece = first.0;
                     value = first.1;

@@ -2,6 +2,7 @@
 //! that entry to the first key behind it.
 
 ghost use Rattle.std.specs.Prelude.{◌≡◌, ◌≢◌, ℕ, true, false, IsTrue, IfSome, All, unwrap_or};
+ghost use Rattle.std.specs.FinMap as map;
 ghost use Rattle.std.specs.FinMap.{contains_key};
 ghost use Rattle.judy_model.specs.Keys.{IsWord};
 ghost use Rattle.judy_model.specs.Neighbours as neighbours;
@@ -70,6 +71,18 @@ impl Side {
         match self {
             Side::Above => level.next_entry(piece),
             Side::Below => level.prev_entry(piece),
+        }
+    }
+
+    // The value of a piece in a level, and the entry that is met first beyond it: from above in one way down the level.
+    fn around(self, level: &WordMap, piece: u64) -> (Option<u64>, Option<(u64, u64)>)
+        ensures found { result.0 ≡ map.get level.now.map piece }
+        ensures nearest { IsNearestEntry self false level.now.map piece (piece_in result.1) }
+        ensures value { IsEntryOf level.now.map result.1 }
+    {
+        match self {
+            Side::Above => level.around(piece),
+            Side::Below => (level.get(piece), level.prev_entry(piece)),
         }
     }
 
@@ -193,14 +206,16 @@ impl Arena {
         ensures is_text { IsText key.now }
         ensures is_turn { IsTurn look (world_of self.now) key.now result }
     {
-        match self.last_turn(look, key) {
-            Some(turn) => Some(turn),
-            None => self.any_turn(look, key),
+        if let Side::Below = look.side {
+            if let Some(turn) = self.last_turn(look, key) {
+                return Some(turn);
+            }
         }
+        self.any_turn(look, key)
     }
 
     // The same, where the last level on its way has it: each level is asked once, and the last one once more where it
-    // leads to a tail that isn't met.
+    // leads to a tail that isn't met. To a look above a level tells both at once, so that it needs none of this.
     fn last_turn(&self, look: Look, key: &[u8]) -> Option<Turn>
         requires is_arena { IsArena self.now }
         requires without_zero { All (λ byte. byte ≢ 0) key.now }
@@ -218,28 +233,18 @@ impl Arena {
             };
             let apart = entry.0 != piece;
             if apart {
-                return Some(Turn {
-                    child,
-                    piece: entry.0,
-                    value: entry.1,
-                    depth,
-                });
+                return nearer(child, Some(entry), depth, None);
             }
             rest = &rest[8..];
             match self.child(entry.1) {
                 ChildRef::Level(next) => {
-                    level = &next.words;
+                    level = next;
                     child = Some(entry.1);
                 }
                 ChildRef::Tail(tail) => {
                     let met = look.meets(&tail, rest);
                     return if met {
-                        Some(Turn {
-                            child,
-                            piece,
-                            value: entry.1,
-                            depth,
-                        })
+                        nearer(child, Some(entry), depth, None)
                     } else {
                         nearer(child, look.side.beyond(level, piece), depth, None)
                     };
@@ -254,7 +259,7 @@ impl Arena {
         )
     }
 
-    // The same, on whichever level of its way it is: each is asked twice, for the piece and for what is beyond it.
+    // The same, on whichever level of its way it is: each is asked for the piece and for what is beyond it.
     fn any_turn(&self, look: Look, key: &[u8]) -> Option<Turn>
         requires is_arena { IsArena self.now }
         requires without_zero { All (λ byte. byte ≢ 0) key.now }
@@ -268,14 +273,15 @@ impl Arena {
         while rest.len() >= 8 {
             let piece = first_piece(rest);
             let depth = key.len() - rest.len();
-            turn = nearer(child, look.side.beyond(level, piece), depth, turn);
+            let (found, beyond) = look.side.around(level, piece);
+            turn = nearer(child, beyond, depth, turn);
             rest = &rest[8..];
-            let Some(at) = level.get(piece) else {
+            let Some(at) = found else {
                 return turn;
             };
             match self.child(at) {
                 ChildRef::Level(next) => {
-                    level = &next.words;
+                    level = next;
                     child = Some(at);
                 }
                 ChildRef::Tail(tail) => {
@@ -319,7 +325,7 @@ impl Arena {
             push_piece(key, piece);
             match self.child(value) {
                 ChildRef::Level(next) => {
-                    let entry = look.side.end(&next.words)?;
+                    let entry = look.side.end(next)?;
                     child = Some(value);
                     piece = entry.0;
                     value = entry.1;

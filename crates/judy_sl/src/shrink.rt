@@ -1,7 +1,7 @@
 //! How an arena loses a key: the entry at which its way leaves that of every other key is taken out, and what stands
 //! below it is given back. None of this asks for memory.
 
-ghost use Rattle.std.specs.Prelude.{◌≡◌, Some, None, is_some, IsSome, IfSome};
+ghost use Rattle.std.specs.Prelude.{◌≡◌, ◌+◌, ◌*◌, ◌<◌, ◌≤◌, [], length, is_some, IsSome, IfSome};
 ghost use Rattle.std.specs.FinMap.{get};
 ghost use Rattle.judy_model.specs.Keys.{IsStringKey};
 ghost use Rattle.judy_sl.specs.Pieces.{pieces, piece_of, IsText};
@@ -10,21 +10,25 @@ ghost use Rattle.judy_sl.specs.Worlds.{AllLed};
 ghost use Rattle.judy_sl.specs.Children.{level_of, IsTaken};
 ghost use Rattle.judy_sl.specs.Arenas.{world_of, child_at, IsArena};
 ghost use Rattle.judy_sl.specs.Places.{IsLevelPlace};
-ghost use Rattle.judy_sl.specs.Counted.{AreCounted, AreCountedBut, OneMore};
+ghost use Rattle.judy_sl.specs.Ways.{levels_passed};
+ghost use Rattle.judy_sl.specs.Counted.{AreCounted};
 ghost use Rattle.judy_sl.specs.Shrunk.{place_without, IsVacated, IsCut, IsDeeper, IsLoose, IsCleared, IsShrunk};
 
 use crate::arena::{Arena, Place, place_in};
-use crate::child::{ChildRef, Level, is_level};
+use crate::child::{ChildRef, is_level};
+use crate::passed::{FEW_PIECES, MOST_PIECES, Notes, Passed, are_few};
 use crate::pieces::first_piece;
 use judy_word::WordMap;
 
 // Where a key is cut off: at an entry of the last level on its way that has another one, or of the first level; the
-// child to which that leads, if the key goes on; and how many bytes of the key are left there.
+// child to which that leads, if the key goes on; how many bytes of the key are left there; and how many levels below the
+// first its way has passed.
 #[derive(Clone, Copy)]
 pub struct Cut {
     pub place: Place,
     pub below: Option<u64>,
     pub left: usize,
+    pub depth: usize,
 }
 
 // The cut that stands once the way has come to a level: the one there, where the level is the first or has another
@@ -39,11 +43,15 @@ fn deeper(before: Option<Cut>, level: &WordMap, here: Cut) -> Cut
 }
 
 impl Arena {
-    // Where the key is cut off, and `None` where it isn't there.
-    fn find_cut(&self, key: &[u8]) -> Option<Cut>
+    // Where the key is cut off, and `None` where it isn't there. The levels that its way passes are noted.
+    fn find_cut<const N: usize>(&self, key: &[u8], passed: &mut Passed<N>) -> Option<Cut>
         requires is_arena { IsArena self.now }
-        requires is_text { IsText key.now }
-        ensures { IsCut (world_of self.now) key.now result }
+        requires is_key { IsStringKey key.now }
+        requires few { length key.now < 8 * N + 8 }
+        requires begins { passed.old.items ≡ [] }
+        ensures cut { IsCut (world_of self.now) key.now result }
+        ensures passed { IsSome result
+            → passed.new.items ≡ levels_passed (world_of self.now) key.now }
     {
         let mut level = &self.root;
         let mut child = None;
@@ -57,11 +65,13 @@ impl Arena {
                 place: place_in(child, piece),
                 below: Some(at),
                 left: rest.len(),
+                depth: passed.len(),
             };
             cut = Some(deeper(cut, level, here));
             match self.child(at) {
                 ChildRef::Level(next) => {
-                    level = &next.words;
+                    passed.note(at);
+                    level = next;
                     child = Some(at);
                 }
                 ChildRef::Tail(tail) => return if tail.is(rest) { cut } else { None },
@@ -73,6 +83,7 @@ impl Arena {
             place: place_in(child, piece),
             below: None,
             left: 0,
+            depth: passed.len(),
         };
         Some(deeper(cut, level, here))
     }
@@ -86,17 +97,14 @@ impl Arena {
             Place::Root(piece) => {
                 self.root.del(piece);
             }
-            Place::Below(at, piece) => match self.levels.get_mut((at / 256) as usize) {
-                Some(level) => {
-                    level.words.del(piece);
-                }
-                None => unreachable!(),
-            },
+            Place::Below(at, piece) => {
+                self.levels.words_mut((at / 256) as usize).del(piece);
+            }
         }
     }
 
-    // Gives back what stands at a place, and answers the level that stood there, where it was one.
-    pub fn vacate(&mut self, at: u64) -> Option<Level>
+    // Gives back what stands at a place, and answers the entries of the level that stood there, where it was one.
+    pub fn vacate(&mut self, at: u64) -> Option<WordMap>
         requires taken { IsTaken (child_at self.old at) }
         ensures level { result ≡ level_of (child_at self.old at) }
         ensures vacated { IsVacated self.old self.new at }
@@ -125,7 +133,7 @@ impl Arena {
             if rest.len() < 8 {
                 return;
             }
-            match level.words.get(first_piece(rest)) {
+            match level.get(first_piece(rest)) {
                 Some(next) => at = next,
                 None => unreachable!(),
             }
@@ -134,7 +142,7 @@ impl Arena {
     }
 
     // Takes a key out, and answers whether others begin with its first piece; `None` where it wasn't there. No level is
-    // left empty but the first, and each place that becomes free is used again.
+    // left empty but the first, and each place that becomes free is used again. The levels that stay on its way count it no more.
     pub fn del(&mut self, key: &[u8]) -> Option<bool>
         requires is_arena { IsArena self.old }
         requires counted { AreCounted self.old }
@@ -144,12 +152,35 @@ impl Arena {
         ensures shrunk { IsShrunk self.old self.new key.now }
         ensures beside { IfSome result
             (λ beside. beside ≡ is_some (get self.new.root.map (piece_of key.now))) }
-        ensures counted { IsSome result → AreCountedBut OneMore self.new key.now }
-        ensures missed { result ≡ None → AreCounted self.new }
+        ensures counted { AreCounted self.new }
     {
-        let Some(cut) = self.find_cut(key) else {
+        if are_few(key) {
+            self.del_noted::<FEW_PIECES>(key)
+        } else {
+            self.del_noted::<MOST_PIECES>(key)
+        }
+    }
+
+    // The same, where so many levels at most are on the key's way.
+    fn del_noted<const N: usize>(&mut self, key: &[u8]) -> Option<bool>
+        requires most { N ≤ 128 }
+        requires is_arena { IsArena self.old }
+        requires counted { AreCounted self.old }
+        requires led { AllLed (world_of self.old) }
+        requires is_key { IsStringKey key.now }
+        requires few { length key.now < 8 * N + 8 }
+        ensures answer { is_some result ≡ is_some (lookup (world_of self.old) 0 (pieces key.now)) }
+        ensures shrunk { IsShrunk self.old self.new key.now }
+        ensures beside { IfSome result
+            (λ beside. beside ≡ is_some (get self.new.root.map (piece_of key.now))) }
+        ensures counted { AreCounted self.new }
+    {
+        let mut passed = Passed::<N>::new();
+        let Some(cut) = self.find_cut(key, &mut passed) else {
             return None;
         };
+        passed.truncate(cut.depth);
+        self.count_places(passed.as_slice(), false);
         let beside = cut.place.is_below();
         self.take_out(cut.place);
         if let Some(at) = cut.below {

@@ -1,17 +1,19 @@
 //! The array that maps keys without zero bytes to words.
 
-ghost use Rattle.std.specs.Prelude.{◌≡◌, ◌≤◌, ◌↔◌, Some, IfOk, OnOk, IfErr, IsTrue, IsFalse};
+ghost use Rattle.std.specs.Prelude.{◌≡◌, ◌+◌, ◌*◌, ◌<◌, ◌≤◌, ◌↔◌, length, Some, IfOk, OnOk, IfErr, IsTrue, IsFalse};
 ghost use Rattle.std.specs.Borrow.{sem};
 ghost use Rattle.std.specs.FinMap as map;
 ghost use Rattle.std.specs.Option.{option_copied_mut};
 ghost use Rattle.judy_model.specs.Arrays as array;
 ghost use Rattle.judy_model.specs.Keys.{IsStringKey};
+ghost use Rattle.judy_sl.specs.Pieces.{EndsWell};
 ghost use Rattle.judy_sl.specs.Lends.{LendsSlot, LendsIns, IsRefusal};
 
 use crate::arena::{Arena, Way};
 use crate::error::SlError;
 use crate::firsts;
 use crate::keys::is_key;
+use crate::passed::{FEW_PIECES, MOST_PIECES, Passed, are_few};
 use crate::pieces::ends_in_zero;
 use judy_sums::Sums;
 use std::alloc::Global;
@@ -80,38 +82,61 @@ impl JudySl {
             (IsStringKey key.now × IsFalse (array.is_full self.old key.now)) }
         ensures refused { IfErr result (IsRefusal self.old key.now) }
     {
-        let tries = self.adds & (self.count != self.limit);
         if ends_in_zero(key) {
             return Err(SlError::BadKey);
         }
+        if are_few(key) {
+            self.ins_noted::<FEW_PIECES>(key)
+        } else {
+            self.ins_noted::<MOST_PIECES>(key)
+        }
+    }
+
+    // The same for bytes of which the last isn't zero, where so many levels at most are on a key's way.
+    fn ins_noted<const N: usize>(&mut self, key: &[u8]) -> Result<&mut u64, SlError>
+        requires most { N ≤ 128 }
+        requires ends { EndsWell key.now }
+        requires few { IsStringKey key.now → length key.now < 8 * N + 8 }
+        ensures* writes_back { sem 𝓛 (LendsIns self.entry key.now result) }
+        ensures value { IfOk result
+            (λ slot. Some slot.now ≡ map.get (array.ins self.old.map key.now) key.now) }
+        ensures accepted { OnOk result
+            (IsStringKey key.now × IsFalse (array.is_full self.old key.now)) }
+        ensures refused { IfErr result (IsRefusal self.old key.now) }
+    {
+        let tries = self.adds & (self.count != self.limit);
         match self.arena.try_add(key, tries) {
             Ok(Some(place)) => {
                 self.count += 1;
                 Ok(self.arena.lend(place))
             }
             Err(error) => Err(error),
-            Ok(None) => match self.arena.walk(key) {
-                Way::At(place) => {
-                    self.adds = false;
-                    Ok(self.arena.lend(place))
-                }
-                way => {
-                    if !is_key(key) {
-                        return Err(SlError::BadKey);
+            Ok(None) => {
+                let mut passed = Passed::<N>::new();
+                match self.arena.walk(key, &mut passed) {
+                    Way::At(place) => {
+                        self.adds = false;
+                        Ok(self.arena.lend(place))
                     }
-                    if self.count == self.limit {
-                        return Err(SlError::Full);
-                    }
-                    match firsts::add(&mut self.arena, &mut self.firsts, key, way) {
-                        Ok(made) => {
-                            self.count += 1;
-                            self.adds = way.ends_first();
-                            Ok(self.arena.lend(made))
+                    way => {
+                        if !is_key(key) {
+                            return Err(SlError::BadKey);
                         }
-                        Err(error) => Err(error),
+                        if self.count == self.limit {
+                            return Err(SlError::Full);
+                        }
+                        let passed = passed.as_slice();
+                        match firsts::add(&mut self.arena, &mut self.firsts, key, way, passed) {
+                            Ok(made) => {
+                                self.count += 1;
+                                self.adds = way.ends_first();
+                                Ok(self.arena.lend(made))
+                            }
+                            Err(error) => Err(error),
+                        }
                     }
                 }
-            },
+            }
         }
     }
 
@@ -137,7 +162,7 @@ impl JudySl {
         if ends_in_zero(key) {
             return None;
         }
-        match arena.walk(key) {
+        match arena.walk(key, &mut ()) {
             Way::At(place) => self.arena.slot(place),
             Way::Gap(_, _) => None,
             Way::Clash(_, _, _) => None,

@@ -14,27 +14,27 @@ from_false (Some value) is = absurd (true≢false is)
 
 pub returns-in_default-clause-firsts : goal.returns-in_default-clause-firsts
 returns-in_default-clause-firsts c =
-    gone_nothing c.args.arena.now c.del_counted.new.self c.args.key.now c.requires.is_key c.del_counted.ensures.shrunk c.args.firsts.now c.requires.firsts c.in_default.ensures.answer
+    gone_nothing c.args.arena.now c.del.new.self c.args.key.now c.requires.is_key c.del.ensures.shrunk c.args.firsts.now c.requires.firsts c.in_default.ensures.answer
 
 pub lower-requires-clause-there : goal.lower-requires-clause-there
 lower-requires-clause-there c =
     let others = sym c.in-Some.ensures.beside ∙ c.if-beside.true in
     subst (λ word. IsSome (get c.args.firsts.now word)) (sym c.first_piece.ensures)
-    (gone_there c.args.arena.now c.del_counted.new.self c.args.key.now c.requires.is_key c.del_counted.ensures.shrunk c.args.firsts.now c.requires.firsts c.in-Some.ensures.answer others)
+    (gone_there c.args.arena.now c.del.new.self c.args.key.now c.requires.is_key c.del.ensures.shrunk c.args.firsts.now c.requires.firsts c.in-Some.ensures.answer others)
 
 pub lower-requires-clause-some : goal.lower-requires-clause-some
 lower-requires-clause-some c =
     let others = sym c.in-Some.ensures.beside ∙ c.if-beside.true in
     subst (λ word. 1 ≤ number_at c.args.firsts.now word) (sym c.first_piece.ensures)
-    (gone_some c.args.arena.now c.del_counted.new.self c.args.key.now c.requires.is_key c.del_counted.ensures.shrunk c.args.firsts.now c.requires.firsts c.in-Some.ensures.answer others)
+    (gone_some c.args.arena.now c.del.new.self c.args.key.now c.requires.is_key c.del.ensures.shrunk c.args.firsts.now c.requires.firsts c.in-Some.ensures.answer others)
 
 pub returns-then-beside-clause-firsts : goal.returns-then-beside-clause-firsts
 returns-then-beside-clause-firsts c =
     let others = sym c.in-Some.ensures.beside ∙ c.if-beside.true in
-    subst (AreFirsts (map_of c.del_counted.new.self)) (sym (c.lower.ensures ∙ ap (lowered c.args.firsts.now) c.first_piece.ensures))
-    (gone_less c.args.arena.now c.del_counted.new.self c.args.key.now c.requires.is_key c.del_counted.ensures.shrunk c.args.firsts.now c.requires.firsts c.in-Some.ensures.answer others)
+    subst (AreFirsts (map_of c.del.new.self)) (sym (c.lower.ensures ∙ ap (lowered c.args.firsts.now) c.first_piece.ensures))
+    (gone_less c.args.arena.now c.del.new.self c.args.key.now c.requires.is_key c.del.ensures.shrunk c.args.firsts.now c.requires.firsts c.in-Some.ensures.answer others)
 
 pub returns-else-beside-clause-firsts : goal.returns-else-beside-clause-firsts
 returns-else-beside-clause-firsts c =
-    let none = from_false (get c.del_counted.new.self.root.map (piece_of c.args.key.now)) (sym c.in-Some.ensures.beside ∙ c.if-beside.false) in
-    gone_last c.args.arena.now c.del_counted.new.self c.args.key.now c.requires.is_key c.del_counted.ensures.shrunk c.args.firsts.now c.requires.firsts c.in-Some.ensures.answer none
+    let none = from_false (get c.del.new.self.root.map (piece_of c.args.key.now)) (sym c.in-Some.ensures.beside ∙ c.if-beside.false) in
+    gone_last c.args.arena.now c.del.new.self c.args.key.now c.requires.is_key c.del.ensures.shrunk c.args.firsts.now c.requires.firsts c.in-Some.ensures.answer none

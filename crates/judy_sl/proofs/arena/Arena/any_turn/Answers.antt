@@ -19,17 +19,17 @@ pub returns-in_default-clause-is_turn : goal.returns-in_default-clause-is_turn
 returns-in_default-clause-is_turn c =
     let words = c.loop-rest.level.now.map in
     let on = c.loop-rest.invariant in
-    let nearest = subst (λ p. IsNearestEntry c.args.look.side false words p (piece_in c.beyond.result)) c.first_piece-piece.ensures c.beyond.ensures.nearest in
-    let absent = sym (ap (λ p. get words p) c.first_piece-piece.ensures) ∙ sym c.get.ensures ∙ c.in_default.is in
+    let nearest = subst (λ p. IsNearestEntry c.args.look.side false words p (piece_in c.around-found.result.1)) c.first_piece-piece.ensures c.around-found.ensures.nearest in
+    let absent = sym (ap (λ p. get words p) c.first_piece-piece.ensures) ∙ sym c.around-found.ensures.found ∙ c.in_default.is in
     let none = none_absent c.args.look (world_of c.args.self.now) (seat_in c.loop-rest.child) words on.scan.is_level (piece_of c.loop-rest.rest.now) (pieces (drop 8 c.loop-rest.rest.now)) absent in
     subst (IsTurn c.args.look (world_of c.args.self.now) c.args.key.now) (sym c.nearer-turn.ensures)
-    (on_left c.args.look (world_of c.args.self.now) c.args.key.now c.loop-rest.child words c.loop-rest.rest.now c.loop-rest.turn on c.loop-rest-test.true c.beyond.result nearest c.beyond.ensures.value none)
+    (on_left c.args.look (world_of c.args.self.now) c.args.key.now c.loop-rest.child words c.loop-rest.rest.now c.loop-rest.turn on c.loop-rest-test.true c.around-found.result.1 nearest c.around-found.ensures.value none)
 
 pub child-requires : goal.child-requires
 child-requires c =
     let words = c.loop-rest.level.now.map in
     let on = c.loop-rest.invariant.scan in
-    let entry = sym (ap (λ p. get words p) c.first_piece-piece.ensures) ∙ sym c.get.ensures ∙ c.in-Some.is in
+    let entry = sym (ap (λ p. get words p) c.first_piece-piece.ensures) ∙ sym c.around-found.ensures.found ∙ c.in-Some.is in
     taken_of c.args.self.now c.in-Some.at ((c.requires.is_arena.is_world.levels (seat_in c.loop-rest.child) words on.is_level).leads (piece_of c.loop-rest.rest.now) c.in-Some.at entry (piece-IsInner c.loop-rest.rest.now on.text c.loop-rest-test.true)).1
 
 pub meets-met-requires : goal.meets-met-requires
@@ -38,16 +38,16 @@ meets-met-requires c = rw take_rest (text-drop 8 c.loop-rest.rest.now c.loop-res
 pub loop-rest-preserved : goal.loop-rest-preserved
 loop-rest-preserved c =
     let words = c.loop-rest.level.now.map in
-    let nearest = subst (λ p. IsNearestEntry c.args.look.side false words p (piece_in c.beyond.result)) c.first_piece-piece.ensures c.beyond.ensures.nearest in
-    let entry = sym (ap (λ p. get words p) c.first_piece-piece.ensures) ∙ sym c.get.ensures ∙ c.in-Some.is in
+    let nearest = subst (λ p. IsNearestEntry c.args.look.side false words p (piece_in c.around-found.result.1)) c.first_piece-piece.ensures c.around-found.ensures.nearest in
+    let entry = sym (ap (λ p. get words p) c.first_piece-piece.ensures) ∙ sym c.around-found.ensures.found ∙ c.in-Some.is in
     let child = c.in-Level.ensures in
-    rw (take_rest, c.nearer-turn.ensures) (on_moved c.args.look (world_of c.args.self.now) c.args.key.now c.loop-rest.child words c.loop-rest.rest.now c.loop-rest.turn c.loop-rest.invariant c.loop-rest-test.true c.beyond.result c.in-Some.at c.in-Level.next.now.words.map nearest c.beyond.ensures.value entry (ap node_of child))
+    rw (take_rest, c.nearer-turn.ensures) (on_moved c.args.look (world_of c.args.self.now) c.args.key.now c.loop-rest.child words c.loop-rest.rest.now c.loop-rest.turn c.loop-rest.invariant c.loop-rest-test.true c.around-found.result.1 c.in-Some.at c.in-Level.next.now.map nearest c.around-found.ensures.value entry (ap node_of child))
 
 pub returns-then-met-clause-is_turn : goal.returns-then-met-clause-is_turn
 returns-then-met-clause-is_turn c =
     let words = c.loop-rest.level.now.map in
     let on = c.loop-rest.invariant in
-    let entry = sym (ap (λ p. get words p) c.first_piece-piece.ensures) ∙ sym c.get.ensures ∙ c.in-Some.is in
+    let entry = sym (ap (λ p. get words p) c.first_piece-piece.ensures) ∙ sym c.around-found.ensures.found ∙ c.in-Some.is in
     let held = c.in-Tail.tail.0 in
     let child = c.in-Tail.ensures in
     let text = subst HasText child (c.requires.is_arena.texts c.in-Some.at) in
@@ -61,7 +61,7 @@ pub returns-else-met-clause-is_turn : goal.returns-else-met-clause-is_turn
 returns-else-met-clause-is_turn c =
     let words = c.loop-rest.level.now.map in
     let on = c.loop-rest.invariant in
-    let entry = sym (ap (λ p. get words p) c.first_piece-piece.ensures) ∙ sym c.get.ensures ∙ c.in-Some.is in
+    let entry = sym (ap (λ p. get words p) c.first_piece-piece.ensures) ∙ sym c.around-found.ensures.found ∙ c.in-Some.is in
     let held = c.in-Tail.tail.0 in
     let child = c.in-Tail.ensures in
     let text = subst HasText child (c.requires.is_arena.texts c.in-Some.at) in
@@ -69,10 +69,10 @@ returns-else-met-clause-is_turn c =
     ap (is_beyond c.args.look.itself) (bytes_along c.args.look.side (drop 8 c.loop-rest.rest.now) held (text-drop 8 c.loop-rest.rest.now on.scan.text) text)
     ∙ (λ t. is_beyond c.args.look.itself (along_bytes c.args.look.side (sym (take_rest c.loop-rest.rest.now 8) t) held))
     ∙ sym c.meets-met.ensures in
-    let nearest = subst (λ p. IsNearestEntry c.args.look.side false words p (piece_in c.beyond.result)) c.first_piece-piece.ensures c.beyond.ensures.nearest in
+    let nearest = subst (λ p. IsNearestEntry c.args.look.side false words p (piece_in c.around-found.result.1)) c.first_piece-piece.ensures c.around-found.ensures.nearest in
     let none = none_child c.args.look (world_of c.args.self.now) (seat_in c.loop-rest.child) words on.scan.is_level (piece_of c.loop-rest.rest.now) c.in-Some.at (pieces (drop 8 c.loop-rest.rest.now)) entry (piece-IsInner c.loop-rest.rest.now on.scan.text c.loop-rest-test.true) (none_tail c.args.look (world_of c.args.self.now) (suc c.in-Some.at) (pieces (drop 8 c.loop-rest.rest.now)) (pieces held) c.in-Tail.tail.1 (ap node_of child) (met ∙ c.if-met.false)) in
     subst (IsTurn c.args.look (world_of c.args.self.now) c.args.key.now) (sym c.nearer-turn.ensures)
-    (on_left c.args.look (world_of c.args.self.now) c.args.key.now c.loop-rest.child words c.loop-rest.rest.now c.loop-rest.turn on c.loop-rest-test.true c.beyond.result nearest c.beyond.ensures.value none)
+    (on_left c.args.look (world_of c.args.self.now) c.args.key.now c.loop-rest.child words c.loop-rest.rest.now c.loop-rest.turn on c.loop-rest-test.true c.around-found.result.1 nearest c.around-found.ensures.value none)
 
 pub returns-clause-is_turn : goal.returns-clause-is_turn
 returns-clause-is_turn c =

@@ -1,4 +1,4 @@
-use Rattle.std.proofs.Common.{◌∙◌, true, sym, ap, arith, length, subst, refl}
+use Rattle.std.proofs.Common.{◌∙◌, sym, ap, arith, length, subst, refl}
 use Rattle.std.proofs.lemmas.List.{length-append}
 use Rattle.judy_sl.specs.Pieces.{piece_bytes}
 use Rattle.judy_sl.specs.Arenas.{world_of, node_of, HasText}
@@ -28,7 +28,7 @@ child-requires c = taken_of c.args.self.now c.loop-piece.value (follow_on c.requ
 pub push-requires : goal.push-requires
 push-requires c =
     let child = c.in-Level.ensures in
-    let room = climb_room c.requires.is_arena.is_world c.loop-piece.invariant c.in-Level.next.now.words.map c.loop-piece-test.true (ap node_of child) in
+    let room = climb_room c.requires.is_arena.is_world c.loop-piece.invariant c.in-Level.next.now.map c.loop-piece-test.true (ap node_of child) in
     omega (arith, room)
 
 pub push_piece-requires-2 : goal.push_piece-requires-2
@@ -43,17 +43,17 @@ returns-clause-stands c = rw c.push_piece-2.ensures (climb_last c.requires.is_ar
 pub returns-in_err-first-in-Level-clause-neighbour : goal.returns-in_err-first-in-Level-clause-neighbour
 returns-in_err-first-in-Level-clause-neighbour c =
     let child = c.in-Level.ensures in
-    absurd (follow_some c.requires.is_arena.is_world c.args.key.now.items c.loop-piece.run.level.now.map c.loop-piece.piece c.loop-piece.key.items c.loop-piece.invariant.on c.loop-piece.value c.loop-piece.invariant.entry c.loop-piece-test.true c.in-Level.next.now.words.map (ap node_of child) (none_of_all c.in-Level.next.now.words.map (sym c.iter-run.ensures ∙ c.in_err-first-in-Level.ensures.steps.0)))
+    absurd (follow_some c.requires.is_arena.is_world c.args.key.now.items c.loop-piece.run.level.now.map c.loop-piece.piece c.loop-piece.key.items c.loop-piece.invariant.on c.loop-piece.value c.loop-piece.invariant.entry c.loop-piece-test.true c.in-Level.next.now.map (ap node_of child) (none_of_all c.in-Level.next.now.map (sym c.iter-run.ensures ∙ c.in_err-first-in-Level.ensures.steps.0)))
 
 pub returns-in_err-first-in-Level-clause-stands : goal.returns-in_err-first-in-Level-clause-stands
 returns-in_err-first-in-Level-clause-stands c =
     let child = c.in-Level.ensures in
-    absurd (follow_some c.requires.is_arena.is_world c.args.key.now.items c.loop-piece.run.level.now.map c.loop-piece.piece c.loop-piece.key.items c.loop-piece.invariant.on c.loop-piece.value c.loop-piece.invariant.entry c.loop-piece-test.true c.in-Level.next.now.words.map (ap node_of child) (none_of_all c.in-Level.next.now.words.map (sym c.iter-run.ensures ∙ c.in_err-first-in-Level.ensures.steps.0)))
+    absurd (follow_some c.requires.is_arena.is_world c.args.key.now.items c.loop-piece.run.level.now.map c.loop-piece.piece c.loop-piece.key.items c.loop-piece.invariant.on c.loop-piece.value c.loop-piece.invariant.entry c.loop-piece-test.true c.in-Level.next.now.map (ap node_of child) (none_of_all c.in-Level.next.now.map (sym c.iter-run.ensures ∙ c.in_err-first-in-Level.ensures.steps.0)))
 
 pub loop-piece-preserved : goal.loop-piece-preserved
 loop-piece-preserved c =
     let child = c.in-Level.ensures in
-    rw (c.push.ensures.items, c.push_piece.ensures) (climb_down c.requires.is_arena.is_world c.loop-piece.invariant c.loop-piece.run.level refl c.in-Level.next.now.words.map c.loop-piece-test.true (ap node_of child) c.in_ok-first-in-Level.first c.next.new.self (sym c.iter-run.ensures ∙ c.in_ok-first-in-Level.ensures.steps))
+    rw (c.push.ensures.items, c.push_piece.ensures) (climb_down c.requires.is_arena.is_world c.loop-piece.invariant c.loop-piece.run.level refl c.in-Level.next.now.map c.loop-piece-test.true (ap node_of child) c.in_ok-first-in-Level.first c.next.new.self (sym c.iter-run.ensures ∙ c.in_ok-first-in-Level.ensures.steps))
 
 pub push_to-requires : goal.push_to-requires
 push_to-requires c =

@@ -3,7 +3,7 @@ use Rattle.std.proofs.lemmas.List.{drop-drop, take_rest}
 use Rattle.judy_sl.specs.Grown.{IsAdded}
 use Rattle.judy_sl.proofs.Filled.{fills-last}
 use Rattle.judy_sl.proofs.Tailed.{room-put, filled-tail}
-use Rattle.judy_sl.proofs.Growing.{grows-last, grows-tail, gap-counted, gap-first}
+use Rattle.judy_sl.proofs.Growing.{grows-last, grows-tail, gap-counted}
 use Rattle.judy_sl.proofs.Rooms.{room-gap}
 use Rattle.judy_sl.proofs.arena.Arena.fill.Goals as goal
 
@@ -20,10 +20,6 @@ pub returns-in-Ok-clause-counted : goal.returns-in-Ok-clause-counted
 returns-in-Ok-clause-counted c =
     gap-counted c.args.self.now c.requires.is_arena c.requires.led c.requires.counted c.args.key.now c.requires.is_key c.args.place c.args.left c.requires.gap _ c.args.place (returns-in-Ok-clause-added c) (grows-last c.args.self.now c.args.key.now c.args.place c.args.left c.requires.gap _ c.in-Ok.ensures.entered)
 
-pub returns-in-Ok-clause-first : goal.returns-in-Ok-clause-first
-returns-in-Ok-clause-first c =
-    gap-first c.args.self.now c.requires.is_arena c.requires.led c.requires.counted c.args.key.now c.requires.is_key c.args.place c.args.left c.requires.gap _ c.args.place (returns-in-Ok-clause-added c) (grows-last c.args.self.now c.args.key.now c.args.place c.args.left c.requires.gap _ c.in-Ok.ensures.entered)
-
 -- ---- a tail, and the entry that leads to it
 
 pub enter-requires-2-clause-room : goal.enter-requires-2-clause-room
@@ -39,9 +35,4 @@ returns-in-Ok-enter-clause-added c =
 pub returns-in-Ok-enter-clause-counted : goal.returns-in-Ok-enter-clause-counted
 returns-in-Ok-enter-clause-counted c =
     gap-counted c.args.self.now c.requires.is_arena c.requires.led c.requires.counted c.args.key.now c.requires.is_key c.args.place c.args.left c.requires.gap c.enter-2.new.self _ (returns-in-Ok-enter-clause-added c)
-    (grows-tail c.args.self.now c.args.key.now c.args.place c.args.left c.requires.gap c.put_tail.new.self c.enter-2.new.self c.in-Ok-put_tail.at _ c.in-Ok-put_tail.ensures.put c.in-Ok-enter.ensures.entered)
-
-pub returns-in-Ok-enter-clause-first : goal.returns-in-Ok-enter-clause-first
-returns-in-Ok-enter-clause-first c =
-    gap-first c.args.self.now c.requires.is_arena c.requires.led c.requires.counted c.args.key.now c.requires.is_key c.args.place c.args.left c.requires.gap c.enter-2.new.self _ (returns-in-Ok-enter-clause-added c)
     (grows-tail c.args.self.now c.args.key.now c.args.place c.args.left c.requires.gap c.put_tail.new.self c.enter-2.new.self c.in-Ok-put_tail.at _ c.in-Ok-put_tail.ensures.put c.in-Ok-enter.ensures.entered)

@@ -1,48 +1,74 @@
-use Rattle.std.proofs.Common.{◌∙◌, ℕ, List, Some, sym, ap, arith, length, drop, subst, true≢false}
-use Rattle.std.proofs.lemmas.List.{take_rest}
+use Rattle.std.proofs.Common.{◌≡◌, ◌+◌, ◌*◌, ◌<◌, ◌≤◌, [], ◌∷◌, ◌++◌, ◌∙◌, ℕ, suc, List, Some, refl, sym, ap, arith, length, drop, subst, true≢false}
+use Rattle.std.proofs.lemmas.List.{take_rest, length-append}
 use Rattle.std.specs.FinMap.{get}
+use Rattle.judy_sl.specs.World.{World}
 use Rattle.judy_sl.specs.Arenas.{world_of, node_of, HasText}
+use Rattle.judy_sl.specs.Ways.{levels_passed}
 use Rattle.judy_sl.specs.Shrunk.{IsCut, IsDeeper}
-use Rattle.judy_sl.proofs.PieceLemmas.{piece-IsInner, text-drop}
+use Rattle.judy_sl.proofs.PieceLemmas.{text_of_key, piece-IsInner, text-drop}
+use Rattle.judy_sl.proofs.PassedLevels.{passed-few, noted-on, noted-tail, noted-last}
 use Rattle.judy_sl.proofs.Exact.{ends-text}
-use Rattle.judy_sl.proofs.OnWay.{on-moved, found-clash, found-none, on-taken}
+use Rattle.judy_sl.proofs.OnWay.{on-start, start-deep, on-moved, moved-deep, found-clash, found-none, on-taken}
 use Rattle.judy_sl.proofs.Cuts.{cut-on, cut-last, cut-tail}
 use Rattle.judy_sl.proofs.arena.Arena.find_cut.Goals as goal
 
-pub returns-in_err-at : goal.returns-in_err-at
-returns-in_err-at c =
+pub loop-rest-init : goal.loop-rest-init
+loop-rest-init g c = record { on = on-start _ _ _ refl; so_far = tt; is_arena = c.requires.is_arena; noted = []; has = λ short. c.requires.begins; ahead = refl; deep = sym (start-deep _ _ _ _) }
+
+-- No more are noted than a key can pass.
+few : (world : World) (key : List ℕ) (n : ℕ) → length key < 8 * n + 8 → (noted ahead : List ℕ) → noted ++ ahead ≡ levels_passed world key → length noted ≤ n
+few world key n short noted ahead all =
+    let most = passed-few world key n short in
+    let long = ap (λ (places : List ℕ). length places) (sym all) in
+    let sum = length-append noted ahead in
+    omega (arith, most, long, sum)
+
+pub returns-in_err-at-clause-cut : goal.returns-in_err-at-clause-cut
+returns-in_err-at-clause-cut g c =
     subst (IsCut (world_of c.args.self.now) c.args.key.now) (sym c.from_residual.ensures) (found-none c.args.self.now c.requires.is_arena _ _ _ _ c.loop-rest.invariant.on (sym (ap (λ p. get c.loop-rest.level.now.map p) c.first_piece-piece.ensures) ∙ sym c.get.ensures ∙ c.in_err-at.was))
 
 pub child-requires : goal.child-requires
-child-requires c =
-    on-taken c.args.self.now c.requires.is_arena _ _ _ _ c.loop-rest.invariant.on (piece-IsInner c.loop-rest.rest.now (c.loop-rest.invariant.on.text c.requires.is_text) c.loop-rest-test.true) c.in_ok-at.at (sym (ap (λ p. get c.loop-rest.level.now.map p) c.first_piece-piece.ensures) ∙ sym c.get.ensures ∙ c.in_ok-at.was)
+child-requires g c =
+    on-taken c.args.self.now c.requires.is_arena _ _ _ _ c.loop-rest.invariant.on (piece-IsInner c.loop-rest.rest.now (c.loop-rest.invariant.on.text (text_of_key c.args.key.now c.requires.is_key)) c.loop-rest-test.true) c.in_ok-at.at (sym (ap (λ p. get c.loop-rest.level.now.map p) c.first_piece-piece.ensures) ∙ sym c.get.ensures ∙ c.in_ok-at.was)
 
 pub loop-rest-preserved : goal.loop-rest-preserved
-loop-rest-preserved c =
-    let deeper = subst (λ (xs : List ℕ). IsDeeper c.loop-rest.cut c.loop-rest.level.now.map (record { place = c.place_in.result; below = Some c.in_ok-at.at; left = length xs }) c.deeper.result) (take_rest c.loop-rest.rest.now 8) c.deeper.ensures in
+loop-rest-preserved g c =
+    let deeper = subst (λ (xs : List ℕ). IsDeeper c.loop-rest.cut c.loop-rest.level.now.map (record { place = c.place_in.result; below = Some c.in_ok-at.at; left = length xs; depth = c.len.result }) c.deeper.result) (take_rest c.loop-rest.rest.now 8) c.deeper.ensures in
     rw take_rest (record {
-      on = on-moved _ _ _ _ _ c.loop-rest.invariant.on c.in_ok-at.at c.in-Level.next.now.words.map c.loop-rest-test.true (piece-IsInner c.loop-rest.rest.now (c.loop-rest.invariant.on.text c.requires.is_text) c.loop-rest-test.true) (sym (ap (λ p. get c.loop-rest.level.now.map p) c.first_piece-piece.ensures) ∙ sym c.get.ensures ∙ c.in_ok-at.was) (ap node_of c.in-Level.ensures);
-      so_far = cut-on (world_of c.args.self.now) c.args.key.now c.loop-rest.child c.loop-rest.level.now.map c.loop-rest.rest.now c.loop-rest.invariant.on c.requires.is_text c.loop-rest.cut c.loop-rest.invariant.so_far c.first_piece-piece.result c.first_piece-piece.ensures c.place_in.result c.place_in.ensures c.in_ok-at.at c.deeper.result c.loop-rest-test.true (sym c.get.ensures ∙ c.in_ok-at.was) deeper;
+      on = on-moved _ _ _ _ _ c.loop-rest.invariant.on c.in_ok-at.at c.in-Level.next.now.map c.loop-rest-test.true (piece-IsInner c.loop-rest.rest.now (c.loop-rest.invariant.on.text (text_of_key c.args.key.now c.requires.is_key)) c.loop-rest-test.true) (sym (ap (λ p. get c.loop-rest.level.now.map p) c.first_piece-piece.ensures) ∙ sym c.get.ensures ∙ c.in_ok-at.was) (ap node_of c.in-Level.ensures);
+      so_far = cut-on (world_of c.args.self.now) c.args.key.now c.loop-rest.child c.loop-rest.level.now.map c.loop-rest.rest.now c.loop-rest.invariant.on (text_of_key c.args.key.now c.requires.is_key) c.loop-rest.cut c.loop-rest.invariant.so_far c.first_piece-piece.result c.first_piece-piece.ensures c.place_in.result c.place_in.ensures c.len.result (c.len.ensures.value ∙ ap (λ (places : List ℕ). length places) (c.loop-rest.invariant.has (few (world_of c.args.self.now) c.args.key.now g.row.N c.requires.few _ _ c.loop-rest.invariant.ahead)) ∙ c.loop-rest.invariant.deep) c.in_ok-at.at c.deeper.result c.loop-rest-test.true (sym c.get.ensures ∙ c.in_ok-at.was) deeper;
       is_arena = c.requires.is_arena;
+      noted = c.loop-rest.invariant.noted ++ c.in_ok-at.at ∷ [];
+      has = c.note.ensures c.loop-rest.invariant.noted c.loop-rest.invariant.has;
+      ahead = noted-on _ _ _ c.loop-rest.invariant.on.is_level _ c.loop-rest-test.true c.in_ok-at.at (sym (ap (λ p. get c.loop-rest.level.now.map p) c.first_piece-piece.ensures) ∙ sym c.get.ensures ∙ c.in_ok-at.was) c.in-Level.next.now.map (ap node_of c.in-Level.ensures) _ _ c.loop-rest.invariant.ahead;
+      deep = (let one : length (c.loop-rest.invariant.noted ++ c.in_ok-at.at ∷ []) ≡ suc (length c.loop-rest.invariant.noted) = (let sum = length-append c.loop-rest.invariant.noted (c.in_ok-at.at ∷ []) in omega (arith, sum)) in one ∙ ap (λ n. suc n) c.loop-rest.invariant.deep ∙ sym (moved-deep _ _ _ _ _ c.loop-rest.invariant.on _ _ _ _ _ _));
     })
 
 pub is-requires : goal.is-requires
-is-requires c = rw take_rest (ends-text (drop 8 c.loop-rest.rest.now) (text-drop 8 c.loop-rest.rest.now (c.loop-rest.invariant.on.text c.requires.is_text)))
+is-requires g c = rw take_rest (ends-text (drop 8 c.loop-rest.rest.now) (text-drop 8 c.loop-rest.rest.now (c.loop-rest.invariant.on.text (text_of_key c.args.key.now c.requires.is_key))))
 
-pub returns-then-is : goal.returns-then-is
-returns-then-is c =
-    let deeper = subst (λ (xs : List ℕ). IsDeeper c.loop-rest.cut c.loop-rest.level.now.map (record { place = c.place_in.result; below = Some c.in_ok-at.at; left = length xs }) c.deeper.result) (take_rest c.loop-rest.rest.now 8) c.deeper.ensures in
-    cut-tail (world_of c.args.self.now) c.args.key.now c.in_ok-at.at (drop 8 c.loop-rest.rest.now) c.in-Tail.tail.0 c.in-Tail.tail.1 c.deeper.result (ap node_of c.in-Tail.ensures) (c.is.ensures.0 c.if-is.true ∙ take_rest c.loop-rest.rest.now 8) (cut-on (world_of c.args.self.now) c.args.key.now c.loop-rest.child c.loop-rest.level.now.map c.loop-rest.rest.now c.loop-rest.invariant.on c.requires.is_text c.loop-rest.cut c.loop-rest.invariant.so_far c.first_piece-piece.result c.first_piece-piece.ensures c.place_in.result c.place_in.ensures c.in_ok-at.at c.deeper.result c.loop-rest-test.true (sym c.get.ensures ∙ c.in_ok-at.was) deeper)
+pub returns-then-is-clause-cut : goal.returns-then-is-clause-cut
+returns-then-is-clause-cut g c =
+    let deeper = subst (λ (xs : List ℕ). IsDeeper c.loop-rest.cut c.loop-rest.level.now.map (record { place = c.place_in.result; below = Some c.in_ok-at.at; left = length xs; depth = c.len.result }) c.deeper.result) (take_rest c.loop-rest.rest.now 8) c.deeper.ensures in
+    cut-tail (world_of c.args.self.now) c.args.key.now c.in_ok-at.at (drop 8 c.loop-rest.rest.now) c.in-Tail.tail.0 c.in-Tail.tail.1 c.deeper.result (ap node_of c.in-Tail.ensures) (c.is.ensures.0 c.if-is.true ∙ take_rest c.loop-rest.rest.now 8) (cut-on (world_of c.args.self.now) c.args.key.now c.loop-rest.child c.loop-rest.level.now.map c.loop-rest.rest.now c.loop-rest.invariant.on (text_of_key c.args.key.now c.requires.is_key) c.loop-rest.cut c.loop-rest.invariant.so_far c.first_piece-piece.result c.first_piece-piece.ensures c.place_in.result c.place_in.ensures c.len.result (c.len.ensures.value ∙ ap (λ (places : List ℕ). length places) (c.loop-rest.invariant.has (few (world_of c.args.self.now) c.args.key.now g.row.N c.requires.few _ _ c.loop-rest.invariant.ahead)) ∙ c.loop-rest.invariant.deep) c.in_ok-at.at c.deeper.result c.loop-rest-test.true (sym c.get.ensures ∙ c.in_ok-at.was) deeper)
 
-pub returns-else-is : goal.returns-else-is
-returns-else-is c =
+pub returns-else-is-clause-cut : goal.returns-else-is-clause-cut
+returns-else-is-clause-cut g c =
     let child = c.in-Tail.ensures in
-    found-clash _ _ _ _ _ c.loop-rest.invariant.on c.loop-rest-test.true (piece-IsInner c.loop-rest.rest.now (c.loop-rest.invariant.on.text c.requires.is_text) c.loop-rest-test.true) c.in_ok-at.at (sym (ap (λ p. get c.loop-rest.level.now.map p) c.first_piece-piece.ensures) ∙ sym c.get.ensures ∙ c.in_ok-at.was) c.in-Tail.tail.0 c.in-Tail.tail.1 (ap node_of child) (subst HasText child (c.requires.is_arena.texts c.in_ok-at.at)) (λ e. true≢false (sym (c.is.ensures.1 (e ∙ sym (take_rest c.loop-rest.rest.now 8))) ∙ c.if-is.false)) c.requires.is_text
+    found-clash _ _ _ _ _ c.loop-rest.invariant.on c.loop-rest-test.true (piece-IsInner c.loop-rest.rest.now (c.loop-rest.invariant.on.text (text_of_key c.args.key.now c.requires.is_key)) c.loop-rest-test.true) c.in_ok-at.at (sym (ap (λ p. get c.loop-rest.level.now.map p) c.first_piece-piece.ensures) ∙ sym c.get.ensures ∙ c.in_ok-at.was) c.in-Tail.tail.0 c.in-Tail.tail.1 (ap node_of child) (subst HasText child (c.requires.is_arena.texts c.in_ok-at.at)) (λ e. true≢false (sym (c.is.ensures.1 (e ∙ sym (take_rest c.loop-rest.rest.now 8))) ∙ c.if-is.false)) (text_of_key c.args.key.now c.requires.is_key)
 
-pub returns-in_err-get : goal.returns-in_err-get
-returns-in_err-get c =
+pub returns-in_err-get-clause-cut : goal.returns-in_err-get-clause-cut
+returns-in_err-get-clause-cut g c =
     subst (IsCut (world_of c.args.self.now) c.args.key.now) (sym c.from_residual-in_err-get.ensures) (found-none c.args.self.now c.requires.is_arena _ _ _ _ c.loop-rest.invariant.on (sym (ap (λ p. get c.loop-rest.level.now.map p) c.first_piece-piece-2.ensures) ∙ sym c.get-2.ensures ∙ c.in_err-get.was))
 
-pub returns : goal.returns
-returns c =
-    cut-last (world_of c.args.self.now) c.args.key.now c.loop-rest.child c.loop-rest.level.now.map c.loop-rest.rest.now c.loop-rest.invariant.on c.requires.is_text c.loop-rest.cut c.loop-rest.invariant.so_far c.first_piece-piece-2.result c.first_piece-piece-2.ensures c.place_in-2.result c.place_in-2.ensures c.in_ok-get.field-0 c.deeper-2.result (omega arith) (sym c.get-2.ensures ∙ c.in_ok-get.was) c.deeper-2.ensures
+pub returns-clause-cut : goal.returns-clause-cut
+returns-clause-cut g c =
+    cut-last (world_of c.args.self.now) c.args.key.now c.loop-rest.child c.loop-rest.level.now.map c.loop-rest.rest.now c.loop-rest.invariant.on (text_of_key c.args.key.now c.requires.is_key) c.loop-rest.cut c.loop-rest.invariant.so_far c.first_piece-piece-2.result c.first_piece-piece-2.ensures c.place_in-2.result c.place_in-2.ensures c.len-2.result (c.len-2.ensures.value ∙ ap (λ (places : List ℕ). length places) (c.loop-rest.invariant.has (few (world_of c.args.self.now) c.args.key.now g.row.N c.requires.few _ _ c.loop-rest.invariant.ahead)) ∙ c.loop-rest.invariant.deep) c.in_ok-get.field-0 c.deeper-2.result (omega arith) (sym c.get-2.ensures ∙ c.in_ok-get.was) c.deeper-2.ensures
+
+-- ---- the levels that the way passed
+
+pub returns-then-is-clause-passed : goal.returns-then-is-clause-passed
+returns-then-is-clause-passed g c = λ some. c.loop-rest.invariant.has (few (world_of c.args.self.now) c.args.key.now g.row.N c.requires.few _ _ c.loop-rest.invariant.ahead) ∙ noted-tail _ _ _ c.loop-rest.invariant.on.is_level _ c.loop-rest-test.true c.in_ok-at.at (sym (ap (λ p. get c.loop-rest.level.now.map p) c.first_piece-piece.ensures) ∙ sym c.get.ensures ∙ c.in_ok-at.was) _ _ (ap node_of c.in-Tail.ensures) _ _ c.loop-rest.invariant.ahead
+
+pub returns-clause-passed : goal.returns-clause-passed
+returns-clause-passed g c = λ some. c.loop-rest.invariant.has (few (world_of c.args.self.now) c.args.key.now g.row.N c.requires.few _ _ c.loop-rest.invariant.ahead) ∙ noted-last _ _ _ c.loop-rest.invariant.on.is_level _ (omega arith) _ _ c.loop-rest.invariant.ahead

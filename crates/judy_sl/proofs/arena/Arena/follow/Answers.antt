@@ -1,4 +1,4 @@
-use Rattle.std.proofs.Common.{ℕ, Option, ◌∙◌, true, ap, arith, length, subst, suc}
+use Rattle.std.proofs.Common.{ℕ, Option, ◌∙◌, ap, arith, length, subst, suc}
 use Rattle.std.proofs.lemmas.List.{length-append}
 use Rattle.judy_sl.specs.Pieces.{piece_bytes}
 use Rattle.judy_sl.specs.Arenas.{world_of, node_of, HasText}
@@ -20,12 +20,12 @@ child-requires c = taken_of c.args.self.now c.loop-piece.value (follow_on c.requ
 pub end-requires : goal.end-requires
 end-requires c =
     let child = c.in-Level.ensures in
-    level_words c.requires.is_arena.is_world (suc c.loop-piece.value) c.in-Level.next.now.words.map (ap node_of child)
+    level_words c.requires.is_arena.is_world (suc c.loop-piece.value) c.in-Level.next.now.map (ap node_of child)
 
 pub returns-in_err-entry-in-Level : goal.returns-in_err-entry-in-Level
 returns-in_err-entry-in-Level c =
     let child = c.in-Level.ensures in
-    absurd (follow_some c.requires.is_arena.is_world c.args.key.now.items c.loop-piece.invariant.map c.loop-piece.piece c.loop-piece.key.items c.loop-piece.invariant.on c.loop-piece.value c.loop-piece.invariant.entry c.loop-piece-test.true c.in-Level.next.now.words.map (ap node_of child) (subst (λ (entry : Option (ℕ × ℕ)). IsFirstEntry c.args.look.side c.in-Level.next.now.words.map (piece_in entry)) c.in_err-entry-in-Level.was c.end.ensures.first))
+    absurd (follow_some c.requires.is_arena.is_world c.args.key.now.items c.loop-piece.invariant.map c.loop-piece.piece c.loop-piece.key.items c.loop-piece.invariant.on c.loop-piece.value c.loop-piece.invariant.entry c.loop-piece-test.true c.in-Level.next.now.map (ap node_of child) (subst (λ (entry : Option (ℕ × ℕ)). IsFirstEntry c.args.look.side c.in-Level.next.now.map (piece_in entry)) c.in_err-entry-in-Level.was c.end.ensures.first))
 
 pub loop-piece-smaller : goal.loop-piece-smaller
 loop-piece-smaller c =
@@ -37,7 +37,7 @@ loop-piece-smaller c =
 pub loop-piece-preserved : goal.loop-piece-preserved
 loop-piece-preserved c =
     let child = c.in-Level.ensures in
-    rw c.push_piece.ensures (follow_down c.requires.is_arena.is_world c.args.key.now.items c.loop-piece.invariant.map c.loop-piece.piece c.loop-piece.key.items c.loop-piece.invariant.on c.loop-piece.value c.loop-piece.invariant.entry c.loop-piece-test.true c.in-Level.next.now.words.map (ap node_of child) c.in_ok-entry-in-Level.entry (subst (λ (entry : Option (ℕ × ℕ)). IsFirstEntry c.args.look.side c.in-Level.next.now.words.map (piece_in entry)) c.in_ok-entry-in-Level.was c.end.ensures.first) (subst (IsEntryOf c.in-Level.next.now.words.map) c.in_ok-entry-in-Level.was c.end.ensures.value))
+    rw c.push_piece.ensures (follow_down c.requires.is_arena.is_world c.args.key.now.items c.loop-piece.invariant.map c.loop-piece.piece c.loop-piece.key.items c.loop-piece.invariant.on c.loop-piece.value c.loop-piece.invariant.entry c.loop-piece-test.true c.in-Level.next.now.map (ap node_of child) c.in_ok-entry-in-Level.entry (subst (λ (entry : Option (ℕ × ℕ)). IsFirstEntry c.args.look.side c.in-Level.next.now.map (piece_in entry)) c.in_ok-entry-in-Level.was c.end.ensures.first) (subst (IsEntryOf c.in-Level.next.now.map) c.in_ok-entry-in-Level.was c.end.ensures.value))
 
 pub push_to-requires : goal.push_to-requires
 push_to-requires c =

@@ -28,7 +28,7 @@ pub loop-rest-preserved : goal.loop-rest-preserved
 loop-rest-preserved c =
     rw take_rest (record {
       seat = suc c.in_ok-at.at;
-      on = on-moved _ _ _ _ _ c.loop-rest.invariant.on c.in_ok-at.at c.in-Level.next.now.words.map c.loop-rest-test.true (subst IsInner c.first_piece-piece.ensures c.if-piece-eq0.false) (sym (ap (λ p. get c.loop-rest.level.now.map p) c.first_piece-piece.ensures) ∙ sym c.get.ensures ∙ c.in_ok-at.was) (ap node_of c.in-Level.ensures);
+      on = on-moved _ _ _ _ _ c.loop-rest.invariant.on c.in_ok-at.at c.in-Level.next.now.map c.loop-rest-test.true (subst IsInner c.first_piece-piece.ensures c.if-piece-eq0.false) (sym (ap (λ p. get c.loop-rest.level.now.map p) c.first_piece-piece.ensures) ∙ sym c.get.ensures ∙ c.in_ok-at.was) (ap node_of c.in-Level.ensures);
       is_arena = c.requires.is_arena;
       ends = c.requires.ends;
     })

@@ -1,7 +1,7 @@
 use Rattle.std.proofs.Common.{ℕ, length}
 use Rattle.judy_sl.specs.Pieces.{EndsWell}
+use Rattle.judy_sl.specs.Ways.{IsOnWay}
 use Rattle.judy_sl.specs.Arenas.{world_of, IsArena}
-use Rattle.judy_sl.proofs.OnWay.{IsOnWay}
 use Rattle.judy_sl.proofs.arena.Arena.get.Given as goal
 
 abbrev pub invariant-loop-rest : goal.invariant-loop-rest

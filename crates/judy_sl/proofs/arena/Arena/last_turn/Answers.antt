@@ -25,7 +25,7 @@ returns-then-apart-clause-is_turn c =
     let beyond = apart-beyond words (piece_of c.loop-rest.rest.now) c.in-Some.entry.0 apart c.args.look.side nearest in
     let absent = apart-absent words (piece_of c.loop-rest.rest.now) c.in-Some.entry.0 apart c.args.look.side nearest in
     let none = none_absent c.args.look (world_of c.args.self.now) (seat_in c.loop-rest.child) words on.is_level (piece_of c.loop-rest.rest.now) (pieces (drop 8 c.loop-rest.rest.now)) absent in
-    scan_left c.args.look (world_of c.args.self.now) c.args.key.now c.loop-rest.child words c.loop-rest.rest.now on c.loop-rest-test.true (Some c.in-Some.entry) beyond (subst (IsEntryOf words) c.in-Some.is c.from.ensures.value) none
+    rw c.nearer.ensures (scan_left c.args.look (world_of c.args.self.now) c.args.key.now c.loop-rest.child words c.loop-rest.rest.now on c.loop-rest-test.true (Some c.in-Some.entry) beyond (subst (IsEntryOf words) c.in-Some.is c.from.ensures.value) none)
 
 pub child-requires : goal.child-requires
 child-requires c =
@@ -44,7 +44,7 @@ loop-rest-preserved c =
     let held = subst (IsEntryOf words) c.in-Some.is c.from.ensures.value in
     let entry = ap (get words) (sym c.first_piece-piece.ensures ∙ sym c.if-apart.false) ∙ held in
     let child = c.in-Level.ensures in
-    rw take_rest (scan_moved c.args.look (world_of c.args.self.now) c.args.key.now c.loop-rest.child words c.loop-rest.rest.now c.loop-rest.invariant c.loop-rest-test.true c.in-Some.entry.1 c.in-Level.next.now.words.map entry (ap node_of child))
+    rw take_rest (scan_moved c.args.look (world_of c.args.self.now) c.args.key.now c.loop-rest.child words c.loop-rest.rest.now c.loop-rest.invariant c.loop-rest-test.true c.in-Some.entry.1 c.in-Level.next.now.map entry (ap node_of child))
 
 pub returns-then-met-clause-is_turn : goal.returns-then-met-clause-is_turn
 returns-then-met-clause-is_turn c =
@@ -59,7 +59,7 @@ returns-then-met-clause-is_turn c =
     ap (is_beyond c.args.look.itself) (bytes_along c.args.look.side (drop 8 c.loop-rest.rest.now) held (text-drop 8 c.loop-rest.rest.now on.text) text)
     ∙ (λ t. is_beyond c.args.look.itself (along_bytes c.args.look.side (sym (take_rest c.loop-rest.rest.now 8) t) held))
     ∙ sym c.meets-met.ensures in
-    rw c.first_piece-piece.ensures (scan_tail c.args.look (world_of c.args.self.now) c.args.key.now c.loop-rest.child words c.loop-rest.rest.now on c.loop-rest-test.true c.in-Some.entry.1 c.in-Tail.tail.1 (pieces held) entry (ap node_of child) (met ∙ c.if-met.true))
+    rw (c.nearer-then-met.ensures, c.if-apart.false ∙ c.first_piece-piece.ensures) (scan_tail c.args.look (world_of c.args.self.now) c.args.key.now c.loop-rest.child words c.loop-rest.rest.now on c.loop-rest-test.true c.in-Some.entry.1 c.in-Tail.tail.1 (pieces held) entry (ap node_of child) (met ∙ c.if-met.true))
 
 pub returns-else-met-clause-is_turn : goal.returns-else-met-clause-is_turn
 returns-else-met-clause-is_turn c =
@@ -76,7 +76,7 @@ returns-else-met-clause-is_turn c =
     ∙ sym c.meets-met.ensures in
     let nearest = subst (λ p. IsNearestEntry c.args.look.side false words p (piece_in c.beyond.result)) c.first_piece-piece.ensures c.beyond.ensures.nearest in
     let none = none_child c.args.look (world_of c.args.self.now) (seat_in c.loop-rest.child) words on.is_level (piece_of c.loop-rest.rest.now) c.in-Some.entry.1 (pieces (drop 8 c.loop-rest.rest.now)) entry (piece-IsInner c.loop-rest.rest.now on.text c.loop-rest-test.true) (none_tail c.args.look (world_of c.args.self.now) (suc c.in-Some.entry.1) (pieces (drop 8 c.loop-rest.rest.now)) (pieces held) c.in-Tail.tail.1 (ap node_of child) (met ∙ c.if-met.false)) in
-    rw c.nearer.ensures (scan_left c.args.look (world_of c.args.self.now) c.args.key.now c.loop-rest.child words c.loop-rest.rest.now on c.loop-rest-test.true c.beyond.result nearest c.beyond.ensures.value none)
+    rw c.nearer-else-met.ensures (scan_left c.args.look (world_of c.args.self.now) c.args.key.now c.loop-rest.child words c.loop-rest.rest.now on c.loop-rest-test.true c.beyond.result nearest c.beyond.ensures.value none)
 
 pub returns-clause-is_turn : goal.returns-clause-is_turn
 returns-clause-is_turn c =

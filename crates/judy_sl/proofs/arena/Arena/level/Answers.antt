@@ -22,7 +22,7 @@ child-requires c = level_taken c.args.self.now c.args.at.now c.requires.is_key c
 
 pub loop-rest-preserved : goal.loop-rest-preserved
 loop-rest-preserved c =
-    rw take_rest (level_moved c.args.self.now c.args.at.now c.requires.is_key c.loop-rest.level.now.map c.loop-rest.rest.now c.loop-rest.invariant c.loop-rest-test.true c.in_ok-place.place c.in-Level.next.now.words.map (sym (ap (λ p. get c.loop-rest.level.now.map p) c.first_piece.ensures) ∙ sym c.get.ensures ∙ c.in_ok-place.was) (ap node_of c.in-Level.ensures))
+    rw take_rest (level_moved c.args.self.now c.args.at.now c.requires.is_key c.loop-rest.level.now.map c.loop-rest.rest.now c.loop-rest.invariant c.loop-rest-test.true c.in_ok-place.place c.in-Level.next.now.map (sym (ap (λ p. get c.loop-rest.level.now.map p) c.first_piece.ensures) ∙ sym c.get.ensures ∙ c.in_ok-place.was) (ap node_of c.in-Level.ensures))
 
 pub returns-in-Tail-clause-there : goal.returns-in-Tail-clause-there
 returns-in-Tail-clause-there c = λ branch.

@@ -50,7 +50,7 @@ pub loop-rest-preserved : goal.loop-rest-preserved
 loop-rest-preserved c = λ target leads.
     let step = way_step (world_of c.args.self.now) leads.front leads.seat target (length c.args.key.now - c.args.depth) c.loop-rest.level.now.map c.loop-rest.rest.now c.loop-rest.above.items (c.loop-rest.invariant target leads) c.loop-rest-test.true in
     let child = c.in-Level.ensures in
-    rw (take_rest, c.push.ensures.items) (way_moved step c.in-Some.at (sym (ap (λ p. get c.loop-rest.level.now.map p) c.first_piece.ensures) ∙ sym c.get.ensures ∙ c.in-Some.is) c.loop-rest.level refl c.in-Level.next.now.words.map (ap node_of child))
+    rw (take_rest, c.push.ensures.items) (way_moved step c.in-Some.at (sym (ap (λ p. get c.loop-rest.level.now.map p) c.first_piece.ensures) ∙ sym c.get.ensures ∙ c.in-Some.is) c.loop-rest.level refl c.in-Level.next.now.map (ap node_of child))
 
 pub unreachable-requires-in-Tail : goal.unreachable-requires-in-Tail
 unreachable-requires-in-Tail c =

@@ -4,7 +4,7 @@ use Rattle.std.proofs.lemmas.List.{take_rest}
 use Rattle.judy_model.specs.Counts.{rank}
 use Rattle.judy_sums.specs.Pairs.{sum_below}
 use Rattle.judy_sl.specs.Pieces.{piece_of}
-use Rattle.judy_sl.specs.Arenas.{world_of, child_at, map_of}
+use Rattle.judy_sl.specs.Arenas.{world_of, map_of}
 use Rattle.judy_sl.specs.Behind.{map_behind}
 use Rattle.judy_sl.specs.Counted.{ranked}
 use Rattle.judy_sl.proofs.PieceLemmas.{text_of_key, text-drop, piece-IsInner}

@@ -5,10 +5,11 @@ use Rattle.judy_sums.specs.Levels.{keys_below, part_len}
 use Rattle.judy_sl.specs.Pieces.{piece_of}
 use Rattle.judy_sl.specs.Arenas.{world_of, child_at, node_of, HasText}
 use Rattle.judy_sl.specs.Behind.{map_behind, entry_keys}
-use Rattle.judy_sl.specs.Counted.{comes}
+use Rattle.judy_sl.specs.Children.{keys_told}
+use Rattle.judy_sl.specs.Counted.{comes, StandsWith}
 use Rattle.judy_sl.proofs.PieceLemmas.{text-drop, piece-IsInner}
 use Rattle.judy_sl.proofs.Linked.{taken_of}
-use Rattle.judy_sl.proofs.KeysTold.{level_stands}
+use Rattle.judy_sl.proofs.KeysTold.{level_stands, level_asked}
 use Rattle.judy_sl.proofs.LevelRanks.{one_if, one_told, ranked_most, rank_tail, level_most, rank_absent, rank_final, rank_inner}
 use Rattle.judy_sl.proofs.arena.Arena.rank_behind.Goals as goal
 
@@ -16,12 +17,16 @@ pub loop-level-init : goal.loop-level-init
 loop-level-init c = record { text = c.requires.is_text; there = c.requires.there; whole = omega arith }
 
 pub keys_before-lesser-requires-clause-told : goal.keys_before-lesser-requires-clause-told
-keys_before-lesser-requires-clause-told c = level_stands c.args.self.now c.requires.counted c.loop-level.at c.in-Level.level.now.keys c.in-Level.level.now.words c.in-Level.ensures
+keys_before-lesser-requires-clause-told c =
+    subst (StandsWith (world_of c.args.self.now) c.in-Level.level.now.map) (sym c.keys_told.ensures) (level_stands c.args.self.now c.requires.counted c.loop-level.at (keys_told (child_at c.args.self.now c.loop-level.at)) c.in-Level.level.now c.in-Level.ensures)
+
+pub keys_told-requires : goal.keys_told-requires
+keys_told-requires c = level_asked c.args.self.now c.loop-level.at (keys_told (child_at c.args.self.now c.loop-level.at)) c.in-Level.level.now c.in-Level.ensures
 
 pub overflow_add-lesser : goal.overflow_add-lesser
 overflow_add-lesser c =
-    let most = level_most c.args.itself c.loop-level.rest.now c.loop-level.invariant.text c.requires.is_arena.is_world (suc c.loop-level.at) c.in-Level.level.now.words.map (ap node_of c.in-Level.ensures) in
-    let before = c.keys_before-lesser.ensures ∙ ap (keys_below (part_len (entry_keys (world_of c.args.self.now))) (entries c.in-Level.level.now.words.map)) c.first_piece-piece.ensures in
+    let most = level_most c.args.itself c.loop-level.rest.now c.loop-level.invariant.text c.requires.is_arena.is_world (suc c.loop-level.at) c.in-Level.level.now.map (ap node_of c.in-Level.ensures) in
+    let before = c.keys_before-lesser.ensures ∙ ap (keys_below (part_len (entry_keys (world_of c.args.self.now))) (entries c.in-Level.level.now.map)) c.first_piece-piece.ensures in
     let whole = c.loop-level.invariant.whole in
     let all = ranked_most c.args.itself (map_behind (world_of c.args.self.now) (suc c.args.child)) c.args.key.now in
     let few = c.requires.few in
@@ -29,17 +34,17 @@ overflow_add-lesser c =
 
 pub returns-in_default : goal.returns-in_default
 returns-in_default c =
-    let none = ap (get c.in-Level.level.now.words.map) (sym c.first_piece-piece.ensures) ∙ sym c.get.ensures ∙ c.in_default.is in
-    let here = rank_absent c.args.itself c.loop-level.rest.now c.loop-level.invariant.text c.requires.is_arena.is_world (suc c.loop-level.at) c.in-Level.level.now.words.map (ap node_of c.in-Level.ensures) none in
-    let before = c.keys_before-lesser.ensures ∙ ap (keys_below (part_len (entry_keys (world_of c.args.self.now))) (entries c.in-Level.level.now.words.map)) c.first_piece-piece.ensures in
+    let none = ap (get c.in-Level.level.now.map) (sym c.first_piece-piece.ensures) ∙ sym c.get.ensures ∙ c.in_default.is in
+    let here = rank_absent c.args.itself c.loop-level.rest.now c.loop-level.invariant.text c.requires.is_arena.is_world (suc c.loop-level.at) c.in-Level.level.now.map (ap node_of c.in-Level.ensures) none in
+    let before = c.keys_before-lesser.ensures ∙ ap (keys_below (part_len (entry_keys (world_of c.args.self.now))) (entries c.in-Level.level.now.map)) c.first_piece-piece.ensures in
     let whole = c.loop-level.invariant.whole in
     omega arith
 
 pub overflow_add-result : goal.overflow_add-result
 overflow_add-result c =
-    let entry = ap (get c.in-Level.level.now.words.map) (sym c.first_piece-piece.ensures) ∙ sym c.get.ensures ∙ c.in-Some.is in
-    let here = rank_final c.args.itself c.loop-level.rest.now c.loop-level.invariant.text c.requires.is_arena.is_world (suc c.loop-level.at) c.in-Level.level.now.words.map (ap node_of c.in-Level.ensures) c.if-rest-lt8.true c.in-Some.next entry in
-    let before = c.keys_before-lesser.ensures ∙ ap (keys_below (part_len (entry_keys (world_of c.args.self.now))) (entries c.in-Level.level.now.words.map)) c.first_piece-piece.ensures in
+    let entry = ap (get c.in-Level.level.now.map) (sym c.first_piece-piece.ensures) ∙ sym c.get.ensures ∙ c.in-Some.is in
+    let here = rank_final c.args.itself c.loop-level.rest.now c.loop-level.invariant.text c.requires.is_arena.is_world (suc c.loop-level.at) c.in-Level.level.now.map (ap node_of c.in-Level.ensures) c.if-rest-lt8.true c.in-Some.next entry in
+    let before = c.keys_before-lesser.ensures ∙ ap (keys_below (part_len (entry_keys (world_of c.args.self.now))) (entries c.in-Level.level.now.map)) c.first_piece-piece.ensures in
     let whole = c.loop-level.invariant.whole in
     let all = ranked_most c.args.itself (map_behind (world_of c.args.self.now) (suc c.args.child)) c.args.key.now in
     let few = c.requires.few in
@@ -48,23 +53,23 @@ overflow_add-result c =
 
 pub returns-then-rest-lt8 : goal.returns-then-rest-lt8
 returns-then-rest-lt8 c =
-    let entry = ap (get c.in-Level.level.now.words.map) (sym c.first_piece-piece.ensures) ∙ sym c.get.ensures ∙ c.in-Some.is in
-    let here = rank_final c.args.itself c.loop-level.rest.now c.loop-level.invariant.text c.requires.is_arena.is_world (suc c.loop-level.at) c.in-Level.level.now.words.map (ap node_of c.in-Level.ensures) c.if-rest-lt8.true c.in-Some.next entry in
-    let before = c.keys_before-lesser.ensures ∙ ap (keys_below (part_len (entry_keys (world_of c.args.self.now))) (entries c.in-Level.level.now.words.map)) c.first_piece-piece.ensures in
+    let entry = ap (get c.in-Level.level.now.map) (sym c.first_piece-piece.ensures) ∙ sym c.get.ensures ∙ c.in-Some.is in
+    let here = rank_final c.args.itself c.loop-level.rest.now c.loop-level.invariant.text c.requires.is_arena.is_world (suc c.loop-level.at) c.in-Level.level.now.map (ap node_of c.in-Level.ensures) c.if-rest-lt8.true c.in-Some.next entry in
+    let before = c.keys_before-lesser.ensures ∙ ap (keys_below (part_len (entry_keys (world_of c.args.self.now))) (entries c.in-Level.level.now.map)) c.first_piece-piece.ensures in
     let whole = c.loop-level.invariant.whole in
     let one = c.from.ensures ∙ one_told c.args.itself in
     omega arith
 
 pub loop-level-preserved : goal.loop-level-preserved
 loop-level-preserved c =
-    let entry = ap (get c.in-Level.level.now.words.map) (sym c.first_piece-piece.ensures) ∙ sym c.get.ensures ∙ c.in-Some.is in
-    let here = rank_inner c.args.itself c.loop-level.rest.now c.loop-level.invariant.text c.requires.is_arena.is_world (suc c.loop-level.at) c.in-Level.level.now.words.map (ap node_of c.in-Level.ensures) c.if-rest-lt8.false c.in-Some.next entry in
-    let before = c.keys_before-lesser.ensures ∙ ap (keys_below (part_len (entry_keys (world_of c.args.self.now))) (entries c.in-Level.level.now.words.map)) c.first_piece-piece.ensures in
+    let entry = ap (get c.in-Level.level.now.map) (sym c.first_piece-piece.ensures) ∙ sym c.get.ensures ∙ c.in-Some.is in
+    let here = rank_inner c.args.itself c.loop-level.rest.now c.loop-level.invariant.text c.requires.is_arena.is_world (suc c.loop-level.at) c.in-Level.level.now.map (ap node_of c.in-Level.ensures) c.if-rest-lt8.false c.in-Some.next entry in
+    let before = c.keys_before-lesser.ensures ∙ ap (keys_below (part_len (entry_keys (world_of c.args.self.now))) (entries c.in-Level.level.now.map)) c.first_piece-piece.ensures in
     let whole = c.loop-level.invariant.whole in
     let inner = piece-IsInner c.loop-level.rest.now c.loop-level.invariant.text c.if-rest-lt8.false in
     rw take_rest (record {
       text = text-drop 8 c.loop-level.rest.now c.loop-level.invariant.text;
-      there = taken_of c.args.self.now c.in-Some.next (((c.requires.is_arena.is_world.levels (suc c.loop-level.at) c.in-Level.level.now.words.map (ap node_of c.in-Level.ensures)).leads (piece_of c.loop-level.rest.now) c.in-Some.next entry inner).1);
+      there = taken_of c.args.self.now c.in-Some.next (((c.requires.is_arena.is_world.levels (suc c.loop-level.at) c.in-Level.level.now.map (ap node_of c.in-Level.ensures)).leads (piece_of c.loop-level.rest.now) c.in-Some.next entry inner).1);
       whole = omega arith;
     })
 

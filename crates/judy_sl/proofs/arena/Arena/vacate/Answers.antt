@@ -9,8 +9,8 @@ pub returns-then-is_level : goal.returns-then-is_level
 returns-then-is_level c =
     let is = sym c.is_level.ensures ∙ c.if-is_level.true in
     record {
-      level = level-stood c.args.self.now c.args.at is c.remove.result c.remove.ensures.value;
-      vacated = level-vacated c.args.self.now _ c.args.at refl is c.remove.ensures.updates refl;
+      level = level-stood c.args.self.now c.args.at is c.remove.result c.remove.ensures.words;
+      vacated = level-vacated c.args.self.now _ c.args.at refl is c.remove.ensures.removed refl;
     }
 
 pub remove-requires-else-is_level : goal.remove-requires-else-is_level

@@ -11,14 +11,26 @@ use Rattle.judy_sl.proofs.FirstWays.{firsts_slot, firsts_same, added_first}
 use Rattle.judy_sl.proofs.CountedWrites.{counted_written}
 use Rattle.judy_sl.proofs.PieceLemmas.{text_of_key}
 use Rattle.judy_sl.proofs.Maps.{get-map}
+use Rattle.judy_sl.proofs.PassedLevels.{passed-few, list-fits}
 use Rattle.judy_sl.proofs.Keeping.{strings-written, array-written}
 use Rattle.judy_sl.proofs.Inserted.{is-new, way-none, there-not_full, there-value, absent-full, absent-room, tried-room, strings-added, array-added, added-value, strings-same, array-same}
-use Rattle.judy_sl.proofs.strings.JudySl.ins.Goals as goal
+use Rattle.judy_sl.proofs.strings.JudySl.ins_noted.Goals as goal
+
+-- ---- the list of places
+
+pub new-passed-requires : goal.new-passed-requires
+new-passed-requires g c = list-fits g.row.N c.requires.most
+
+pub walk-requires-room-N-Notes : goal.walk-requires-room-N-Notes
+walk-requires-room-N-Notes g c κs = list-fits g.row.N c.requires.most
+
+pub as_slice-passed-requires : goal.as_slice-passed-requires
+as_slice-passed-requires g c = list-fits g.row.N c.requires.most
 
 -- ---- put in by one way down
 
 pub invariant_of-self-lent : goal.invariant_of-self-lent
-invariant_of-self-lent c w =
+invariant_of-self-lent g c w =
     let key = rw c.in-Ok-Some.field-0-is at c.in-Ok-Some.ensures.key in
     let none = rw c.in-Ok-Some.field-0-is at c.in-Ok-Some.ensures.absent in
     let tried = rw c.in-Ok-Some.field-0-is at c.in-Ok-Some.ensures.tried in
@@ -33,7 +45,7 @@ invariant_of-self-lent c w =
     )
 
 pub returns-in-Ok-Some : goal.returns-in-Ok-Some
-returns-in-Ok-Some c =
+returns-in-Ok-Some g c =
     let key = rw c.in-Ok-Some.field-0-is at c.in-Ok-Some.ensures.key in
     let none = rw c.in-Ok-Some.field-0-is at c.in-Ok-Some.ensures.absent in
     let tried = rw c.in-Ok-Some.field-0-is at c.in-Ok-Some.ensures.tried in
@@ -49,7 +61,7 @@ returns-in-Ok-Some c =
     )
 
 pub invariant_of-self-in-Err-try_add : goal.invariant_of-self-in-Err-try_add
-invariant_of-self-in-Err-try_add c = (
+invariant_of-self-in-Err-try_add g c = (
   strings-same _ _ _ c.self.invariant.0 c.args.key.now c.in-Err.ensures.key c.try_add.new.self c.in-Err.ensures.refused.0,
   c.in-Err.ensures.counted,
   firsts_same c.self.inside.arena c.try_add.new.self c.in-Err.ensures.refused.0 c.self.inside.firsts c.self.invariant.2,
@@ -58,7 +70,7 @@ invariant_of-self-in-Err-try_add c = (
 -- ---- there
 
 pub invariant_of-self-lent-in-At : goal.invariant_of-self-lent-in-At
-invariant_of-self-lent-in-At c w =
+invariant_of-self-lent-in-At g c w =
     let same = c.in-Ok-None.ensures.open c.in-Ok-None.field-0-is in
     let is : IsStrings c.self.inside.limit c.self.inside.count c.try_add.new.self = subst (IsStrings c.self.inside.limit c.self.inside.count) (sym same) c.self.invariant.0 in
     let key = c.in-At.ensures.there c.in-At.place refl in
@@ -71,7 +83,7 @@ invariant_of-self-lent-in-At c w =
     )
 
 pub returns-in-At : goal.returns-in-At
-returns-in-At c =
+returns-in-At g c =
     let same = c.in-Ok-None.ensures.open c.in-Ok-None.field-0-is in
     let is : IsStrings c.self.inside.limit c.self.inside.count c.try_add.new.self = subst (IsStrings c.self.inside.limit c.self.inside.count) (sym same) c.self.invariant.0 in
     let view = ap (array_of c.self.inside.limit) same ∙ c.self.view_is in
@@ -89,7 +101,7 @@ returns-in-At c =
 -- ---- absent
 
 pub returns-then-self : goal.returns-then-self
-returns-then-self c =
+returns-then-self g c =
     let same = c.in-Ok-None.ensures.open c.in-Ok-None.field-0-is in
     let is : IsStrings c.self.inside.limit c.self.inside.count c.try_add.new.self = subst (IsStrings c.self.inside.limit c.self.inside.count) (sym same) c.self.invariant.0 in
     let view = ap (array_of c.self.inside.limit) same ∙ c.self.view_is in
@@ -98,13 +110,13 @@ returns-then-self c =
     (ap (λ a. inr a) view, rw (← view) (record { writes_back = tt; value = tt; accepted = tt; refused = (key, absent-full _ _ _ is c.args.key.now key none c.if-self.true) }))
 
 pub invariant_of-self-in-Err-1 : goal.invariant_of-self-in-Err-1
-invariant_of-self-in-Err-1 c =
+invariant_of-self-in-Err-1 g c =
     let same = c.in-Ok-None.ensures.open c.in-Ok-None.field-0-is in
     let is : IsStrings c.self.inside.limit c.self.inside.count c.try_add.new.self = subst (IsStrings c.self.inside.limit c.self.inside.count) (sym same) c.self.invariant.0 in
     (strings-same _ _ _ is c.args.key.now (c.is_key.ensures.0 c.if-not-is_key.false) c.add.new.arena c.in-Err-add.ensures.refused.0, c.add.ensures.counted, c.add.ensures.firsts)
 
 pub returns-in-Err-add : goal.returns-in-Err-add
-returns-in-Err-add c =
+returns-in-Err-add g c =
     let same = c.in-Ok-None.ensures.open c.in-Ok-None.field-0-is in
     let is : IsStrings c.self.inside.limit c.self.inside.count c.try_add.new.self = subst (IsStrings c.self.inside.limit c.self.inside.count) (sym same) c.self.invariant.0 in
     let view = ap (array_of c.self.inside.limit) same ∙ c.self.view_is in
@@ -115,7 +127,7 @@ returns-in-Err-add c =
     )
 
 pub invariant_of-self-lent-in-Ok : goal.invariant_of-self-lent-in-Ok
-invariant_of-self-lent-in-Ok c w =
+invariant_of-self-lent-in-Ok g c w =
     let same = c.in-Ok-None.ensures.open c.in-Ok-None.field-0-is in
     let is : IsStrings c.self.inside.limit c.self.inside.count c.try_add.new.self = subst (IsStrings c.self.inside.limit c.self.inside.count) (sym same) c.self.invariant.0 in
     let key = c.is_key.ensures.0 c.if-not-is_key.false in
@@ -127,7 +139,7 @@ invariant_of-self-lent-in-Ok c w =
     )
 
 pub returns-in-Ok : goal.returns-in-Ok
-returns-in-Ok c =
+returns-in-Ok g c =
     let same = c.in-Ok-None.ensures.open c.in-Ok-None.field-0-is in
     let is : IsStrings c.self.inside.limit c.self.inside.count c.try_add.new.self = subst (IsStrings c.self.inside.limit c.self.inside.count) (sym same) c.self.invariant.0 in
     let view = ap (array_of c.self.inside.limit) same ∙ c.self.view_is in
@@ -143,11 +155,17 @@ returns-in-Ok c =
     )
 
 pub add-requires-clause-firsts : goal.add-requires-clause-firsts
-add-requires-clause-firsts c =
+add-requires-clause-firsts g c =
     let same = c.in-Ok-None.ensures.open c.in-Ok-None.field-0-is in
     subst (λ (arena : Arena). AreFirsts (map_of arena) c.self.inside.firsts) (sym same) c.self.invariant.2
 
 pub add-requires-clause-led : goal.add-requires-clause-led
-add-requires-clause-led c =
+add-requires-clause-led g c =
     let same = c.in-Ok-None.ensures.open c.in-Ok-None.field-0-is in
     subst (λ (arena : Arena). AllLed (world_of arena)) (sym same) c.self.invariant.0.led
+
+-- The levels that the way passed are noted.
+pub add-requires-clause-passed : goal.add-requires-clause-passed
+add-requires-clause-passed g c =
+    let key = c.is_key.ensures.0 c.if-not-is_key.false in
+    c.as_slice-passed.ensures.value ∙ c.walk.ensures.passed (text_of_key _ key) (passed-few (world_of c.try_add.new.self) c.args.key.now g.row.N (c.requires.few key))
