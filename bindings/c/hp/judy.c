@@ -29,13 +29,13 @@ static PPvoid_t refuse_slot(PJError_t error, JU_Errno_t number) {
 typedef struct { int is_new; Word_t before; } change;
 
 static change begin(PPvoid_t array) {
-    sellumaq_hp_begin(*array);
-    return (change){!*array, sellumaq_hp_balance()};
+    sellumaq_hp_begins = !*array;
+    return (change){sellumaq_hp_begins, sellumaq_hp_balance};
 }
 
 /* Ends it: what the balance has grown by are bytes of the array's, which a change that moves no memory leaves as they were. */
 static void end(PPvoid_t array, change change) {
-    Word_t grown = sellumaq_hp_balance() - change.before;
+    Word_t grown = sellumaq_hp_balance - change.before;
     if (!*array || (!grown && !change.is_new)) return;
     Word_t *bytes = sellumaq_hp_bytes(*array);
     *bytes = (change.is_new ? 0 : *bytes) + grown;
@@ -49,9 +49,9 @@ static void end(PPvoid_t array, change change) {
         end(array, change); \
     } \
     static Word_t kind##_freed(PPvoid_t array) { \
-        Word_t before = sellumaq_hp_balance(); \
+        Word_t before = sellumaq_hp_balance; \
         sellumaq_##kind##_free((sellumaq_##kind *)array); \
-        return before - sellumaq_hp_balance(); \
+        return before - sellumaq_hp_balance; \
     }
 
 ENDS(judy1)

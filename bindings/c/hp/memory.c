@@ -5,7 +5,6 @@
 #include "memory.h"
 
 #include <malloc.h>
-#include <stdbool.h>
 #include <string.h>
 
 /* As the kit's: whether there is a block, and where. */
@@ -16,8 +15,8 @@ void rattle_dealloc(void *at);
 
 enum { WORD = sizeof(Word_t), HEAD = 16 };
 
-static _Thread_local Word_t balance;
-static _Thread_local bool begins;
+_Thread_local Word_t sellumaq_hp_balance;
+_Thread_local bool sellumaq_hp_begins;
 
 static Word_t own_malloc(Word_t words) { return (Word_t)malloc(words * WORD); }
 static void own_free(Pvoid_t block, Word_t words) {
@@ -44,13 +43,13 @@ static Word_t bytes_of(const void *block) { return is_own() ? malloc_usable_size
 static tried made(void *block) {
     static Word_t none[2];
     if (!block) return (tried){0, none};
-    balance += bytes_of(block);
+    sellumaq_hp_balance += bytes_of(block);
     return (tried){1, block};
 }
 
 tried rattle_alloc(size_t size, size_t alignment) {
-    Word_t words = ((size ? size : alignment) + WORD - 1) / WORD + begins;
-    begins = false;
+    Word_t words = ((size ? size : alignment) + WORD - 1) / WORD + sellumaq_hp_begins;
+    sellumaq_hp_begins = false;
     if (is_own()) return made((void *)JudyMalloc(words));
     Word_t block = JudyMalloc(words + HEAD / WORD);
     if (!block) return made(NULL);
@@ -62,7 +61,7 @@ tried rattle_realloc(void *at, size_t kept, size_t size, size_t alignment) {
     Word_t before = bytes_of(at);
     if (is_own()) {
         void *block = realloc(at, size ? size : alignment);
-        if (block) balance -= before;
+        if (block) sellumaq_hp_balance -= before;
         return made(block);
     }
     tried other = rattle_alloc(size, alignment);
@@ -74,13 +73,9 @@ tried rattle_realloc(void *at, size_t kept, size_t size, size_t alignment) {
 }
 
 void rattle_dealloc(void *at) {
-    balance -= bytes_of(at);
+    sellumaq_hp_balance -= bytes_of(at);
     if (is_own()) free(at);
     else JudyFree(head(at), *head(at));
 }
-
-Word_t sellumaq_hp_balance(void) { return balance; }
-
-void sellumaq_hp_begin(Pcvoid_t array) { begins = !array; }
 
 Word_t *sellumaq_hp_bytes(Pcvoid_t array) { return (Word_t *)((uintptr_t)array + bytes_of(array)) - 1; }
