@@ -54,14 +54,6 @@ no_level : (slot : Option (List ℕ × ℕ)) → None ≡ level_of (tail_child s
 no_level None = refl
 no_level (Some rest) = refl
 
-tells_all : (is_to : ℕ → ℕ → Type 0) (keys : ℕ) (slot : Option (List ℕ × ℕ)) → LevelTells is_to (tail_child slot) keys
-tells_all is_to keys None = tt
-tells_all is_to keys (Some rest) = tt
-
-not_level : (slot : Option (List ℕ × ℕ)) (map : FinMap word_order ℕ) → node_of (tail_child slot) ≢ level map
-not_level None map e = cc
-not_level (Some rest) map e = cc
-
 module _ (arena : Arena) (at : ℕ) where
   pub child-level : is_level at ≡ true → child_at arena at ≡ level_child (slab.get arena.levels (at / 256))
   child-level is = ap (λ b. cond b (level_child (slab.get arena.levels (at / 256))) (tail_child (tail_at arena.tails at))) is
@@ -108,13 +100,6 @@ module _ (arena : Arena) (at : ℕ) where
   -- What is taken at a place of levels is a level,
   pub level-taken : is_level at ≡ true → IsTaken (child_at arena at) → IsLevelChild (child_at arena at)
   level-taken is taken = subst IsLevelChild (sym (child-level is)) (level_taken (slab.get arena.levels (at / 256)) (subst IsTaken (child-level is) taken))
-
-  -- and at one of tails none, so nothing is told there.
-  pub tail-not_level : is_level at ≡ false → (map : FinMap word_order ℕ) → world_of arena (suc at) ≢ level map
-  tail-not_level is map e = not_level (tail_at arena.tails at) map (ap node_of (sym (child-tail is)) ∙ e)
-
-  pub tail-tells : is_level at ≡ false → (is_to : ℕ → ℕ → Type 0) (keys : ℕ) → LevelTells is_to (child_at arena at) keys
-  tail-tells is is_to keys = subst (λ child. LevelTells is_to child keys) (sym (child-tail is)) (tells_all is_to keys (tail_at arena.tails at))
 
 -- Where a level stands, another may.
 pub holds-level : (arena : Arena) (at : ℕ) (child : Child) → IsLevelChild child → IsLevelChild (child_at arena at) → CanHold arena at child

@@ -205,10 +205,6 @@ module _ (arena : Arena) (map : FinMap word_order ℕ) where
 -- ---- the whole
 
 module _ (arena : Arena) (is : IsArena arena) (all : AllLed (world_of arena)) (key : List ℕ) (cut : Cut) (cut_is : IsCutWhere (Unit {0}) (world_of arena) key cut) where
-  -- A level stands where the key is cut off.
-  pub cut-level : IsLevelPlace arena cut.place
-  cut-level = level-stands arena cut.place cut_is.map cut_is.is_level
-
   child-found : (piece : ℕ) (rest : List ℕ) (below : Option ℕ) → IsCutChild (world_of arena) key cut_is.map piece rest below cut.left (Unit {0}) → (value : ℕ) × (at_entry (get cut_is.map piece) rest (λ at. lookup (world_of arena) (suc at) rest) ≡ Some value)
   child-found piece rest None is = (is.2.0, ap (λ ps. at_entry (get cut_is.map piece) ps (λ at. lookup (world_of arena) (suc at) ps)) is.0 ∙ ap (λ o. at_entry o [] (λ at. lookup (world_of arena) (suc at) [])) is.2.1)
   child-found piece rest (Some at) is =
