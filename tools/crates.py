@@ -2,9 +2,10 @@
 side."""
 
 import concurrent.futures
+import importlib.machinery
+import importlib.util
 import os
 import subprocess
-import sys
 import time
 
 TOP = os.path.normpath(os.path.join(os.path.dirname(os.path.abspath(__file__)), ".."))
@@ -58,16 +59,21 @@ def count_jobs():
     return max(1, min(len(os.sched_getaffinity(0)), memory // ROOM))
 
 
+def load_rt():
+    """The kit's command `rt`, as a module, by which must-fail edits are tried as the kit tries them; its `rtlib` is what it stands on."""
+    kit = os.path.dirname(subprocess.run(["rt", "doc"], stdout=subprocess.PIPE, encoding="utf-8", check=True).stdout.strip())
+    loader = importlib.machinery.SourceFileLoader("rt", f"{kit}/bin/rt")
+    rt = importlib.util.module_from_spec(importlib.util.spec_from_loader("rt", loader))
+    loader.exec_module(rt)
+    # Its first call sets a signal's handler, which only the main thread may.
+    rt.rtlib.guarded()
+    return rt
+
+
 def load_kit():
     """The kit's own module behind `rt`. One `rt check` keeps every other out of all crates below its own, so crates are proved side by side
     by the calls that it makes itself."""
-    kit = os.path.dirname(subprocess.run(["rt", "doc"], stdout=subprocess.PIPE, encoding="utf-8", check=True).stdout.strip())
-    sys.path.insert(0, f"{kit}/bin")
-    import rtlib  # pylint: disable=import-outside-toplevel
-
-    # Its first call sets a signal's handler, which only the main thread may.
-    rtlib.guarded()
-    return rtlib
+    return load_rt().rtlib
 
 
 class Proof:

@@ -1,8 +1,4 @@
-"""What the files of must-fail edits and of their twins say."""
-
-import re
-
-FUNCTION = re.compile(r"\s*(?:pub(?:\([^)]*\))? )?(?:const )?(?:unsafe )?(?:extern \S+ )?fn (\w+)")
+"""What the files of must-fail edits and of their twins say, and which function each changes."""
 
 
 def pairs_of(edit):
@@ -39,28 +35,26 @@ def lines_of(folder, edit):
     return found
 
 
-def functions_of(folder, edit):
-    """The functions in which an edit changes something, each as its file, the number of its first line, and its name."""
-    found = set()
-    for file, at in lines_of(folder, edit):
-        lines = (folder / file).read_text(encoding="utf-8").split("\n")
-        begun = [(file, begin, name[1]) for begin in range(at + 1) if (name := FUNCTION.match(lines[begin]))]
-        found.add(begun[-1] if begun else (file, -1, ""))
-    return found
+def function_of(sources, folder, edit):
+    """The one function in whose body all that an edit changes stands; none where it changes something else, as a constant or a clause."""
+    found = {sources.around(file, at, new) for (file, at), new in lines_of(folder, edit).items()}
+    return found.pop() if len(found) == 1 else None
 
 
-def groups_of(folder, edits):
-    """The edits in as few lists as a first fit finds, in each of which no two change the same function: so each is refused or not by itself."""
+def groups_of(sources, folder, edits):
+    """The edits in as few lists as a first fit finds, in each of which no two change the same function, or functions of one cycle of calls: so
+    each is refused or not by itself. One that changes something outside of functions is a list of its own."""
     groups = []
     for edit in edits:
-        own = functions_of(folder, edit)
+        own = function_of(sources, folder, edit)
+        proof = own and own.proof
         for taken, group in groups:
-            if not taken & own:
-                taken |= own
+            if proof and proof not in taken and None not in taken:
+                taken.add(proof)
                 group.append(edit)
                 break
         else:
-            groups.append((own, [edit]))
+            groups.append(({proof}, [edit]))
     return [group for _, group in groups]
 
 
