@@ -115,13 +115,9 @@ impl Bytes for Bits256 {
     }
 
     fn answers(&self, byte: u8) -> [usize; 5] {
-        [
-            self.has(byte) as usize,
-            self.rank(byte),
-            self.place(byte).unwrap_or(NONE),
-            number(self.next_from(byte)),
-            number(self.prev_from(byte)),
-        ]
+        let place = self.place(byte).unwrap_or(NONE);
+        let (next, prev) = (number(self.next_from(byte)), number(self.prev_from(byte)));
+        [self.has(byte) as usize, self.rank(byte), place, next, prev]
     }
 
     fn member_at(&self, place: usize) -> usize {
@@ -135,13 +131,10 @@ impl Bytes for ByteSet {
     }
 
     fn answers(&self, byte: u8) -> [usize; 5] {
-        [
-            self.place(byte).is_some() as usize,
-            self.rank(byte),
-            self.place(byte).unwrap_or(NONE),
-            number(self.next_from(byte)),
-            number(self.prev_from(byte)),
-        ]
+        let has = self.place(byte).is_some() as usize;
+        let place = self.place(byte).unwrap_or(NONE);
+        let (next, prev) = (number(self.next_from(byte)), number(self.prev_from(byte)));
+        [has, self.rank(byte), place, next, prev]
     }
 
     fn member_at(&self, place: usize) -> usize {

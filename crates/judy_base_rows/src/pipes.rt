@@ -162,30 +162,10 @@ fn writes_meet_trouble_at_each_place(rt: HostRuntime) {
 
 fn expect_read_at(rt: &impl Abort, most: usize, size: usize, at: usize) {
     expect_read(rt, most, size, SourceTrouble::Fails { at }, at, 1);
-    expect_read(
-        rt,
-        most,
-        size,
-        SourceTrouble::Interrupts { at, times: 1 },
-        6,
-        0,
-    );
-    expect_read(
-        rt,
-        most,
-        size,
-        SourceTrouble::Interrupts { at, times: 999 },
-        6,
-        0,
-    );
-    expect_read(
-        rt,
-        most,
-        size,
-        SourceTrouble::Interrupts { at, times: 1000 },
-        at,
-        1,
-    );
+    for (times, given, failures) in [(1, 6, 0), (999, 6, 0), (1000, at, 1)] {
+        let trouble = SourceTrouble::Interrupts { at, times };
+        expect_read(rt, most, size, trouble, given, failures);
+    }
 }
 
 fn expect_read_by(rt: &impl Abort, most: usize, size: usize) {

@@ -88,11 +88,29 @@ impl<R: Source + Drop, const N: usize> BufferedSource<R, N> {
             (take result room.new) }
         ensures inner { self.new.inner ≡ self.old.inner }
     {
-        let count = room.len().min(self.end - self.next);
+        let wanted = room.len();
+        let kept = self.end - self.next;
+        if wanted <= kept {
+            self.fill(room);
+            return wanted;
+        }
+        self.fill(&mut room[..kept]);
+        kept
+    }
+
+    // Fills a room from what is kept, which is as much or more. Where the caller knows how long its room is, so does the copy.
+    #[inline(always)]
+    fn fill(&mut self, room: &mut [u8])
+        requires { length room.old ≤ self.old.end - self.old.next }
+        ensures len { length room.new ≡ length room.old }
+        ensures given { without (R.given self.new.inner) (self.new.end - self.new.next)
+            ≡ grown (without (R.given self.old.inner) (self.old.end - self.old.next)) room.new }
+        ensures inner { self.new.inner ≡ self.old.inner }
+    {
+        let count = room.len();
         let buffer = &self.buffer[..];
-        room[..count].copy_from_slice(&buffer[self.next..self.next + count]);
+        room.copy_from_slice(&buffer[self.next..self.next + count]);
         self.next += count;
-        count
     }
 }
 

@@ -118,16 +118,6 @@ module _ (first : Store) (fed : List ℕ) (before : Option (List ℕ)) (buffer :
       let front : whole_lines fed ≡ so_far.front = ap whole_lines so_far.split ∙ whole_lines-append so_far.front so_far.rest so_far.ended (lines_of-whole_lines so_far.front so_far.rest so_far.ended) so_far.goes_on in
       (flat_map output_of so_far.replies, so_far.written, (so_far.replies, rw front so_far.steps, refl))
 
-  -- no line goes on where the script ends
-  pub Ran-nothing_more : length so_far.rest ≡ 0 → Ran first fed before taken now
-  Ran-nothing_more none =
-      let whole : lines_of fed ≡ lines_of so_far.front = ap lines_of (so_far.split ∙ ap (λ bytes. so_far.front ++ bytes) (no_bytes so_far.rest none) ∙ append-nil so_far.front) in
-      (flat_map output_of so_far.replies, so_far.written, (so_far.replies, rw whole so_far.steps, refl))
-    where
-      no_bytes : (bytes : List ℕ) → length bytes ≡ 0 → bytes ≡ []
-      no_bytes [] h = refl
-      no_bytes (byte ∷ bytes) h = absurd (omega arith)
-
   abbrev pub last_line : Line
   last_line = record { bytes = so_far.rest; ended = false }
 

@@ -15,10 +15,12 @@ use Rattle.judy_model.specs.Fields.{Fault, truncated, bad_order, Part, field, fo
 use Rattle.judy_model.specs.DumpGrammar.{is_above, entry, entries, filled}
 use Rattle.judy_pipe.specs.Pipe.{grown}
 use Rattle.judy_pipe.proofs.Moves.{grown-grown}
-use Rattle.judy_shelf.specs.Reads.{Drawn, Cause, memory, OfFronts, ReadsValue, ReadsFault, Nowhere, AtSome}
+use Rattle.std.specs.Result.{IsErrAnd}
+use Rattle.judy_shelf.specs.declared.fault.LoadFault.{LoadFault}
+use Rattle.judy_shelf.specs.Reads.{Drawn, Cause, memory, cause_of, OfFronts, ReadsValue, ReadsFault, ReadsWanting, Nowhere, AtSome}
 use Rattle.judy_shelf.proofs.FrontLemmas.{no_fronts, fronts_of_both}
 use Rattle.judy_shelf.proofs.WriteLemmas.{grown_nothing}
-use Rattle.judy_shelf.proofs.ReadLemmas.{fault_first, fault_then, value_then, value_done, Reading, reading_fault}
+use Rattle.judy_shelf.proofs.ReadLemmas.{reads_err, fault_first, fault_then, value_then, value_done, Reading, reading_fault}
 
 nothing_more : {A : Type 0} (read : Result (A × List ℕ) Fault) → read ≡ followed_by read (λ value. done value)
 nothing_more (Ok given) = refl
@@ -65,26 +67,26 @@ module _ {K : Type 0} (order : K → K → Ordering) (key : Option K → Part K)
 
   module _ (last : Option K) (first : K) (before mid : Drawn) (read : ReadsValue (field (key last) ((is_above order last, bad_order) ∷ [])) first before mid) where
     -- A key and its value.
-    pub entry_read : (held : ℕ) (after : Drawn) → ReadsValue value held mid after → ReadsValue (entry order key value last) (first, held) before after
+    entry_read : (held : ℕ) (after : Drawn) → ReadsValue value held mid after → ReadsValue (entry order key value last) (first, held) before after
     entry_read held after next =
         value_then (field (key last) ((is_above order last, bad_order) ∷ [])) (λ first. value >>= λ held. done (first, held)) first before mid read (first, held) after
         (value_then value (λ held. done (first, held)) held mid after next (first, held) after (value_done (first, held) after))
 
     -- A key whose value couldn't be read.
-    pub entry_value_stopped : (cause : Cause) (after : Drawn) → ReadsFault Nowhere value cause mid after → ReadsFault Nowhere (entry order key value last) cause before after
+    entry_value_stopped : (cause : Cause) (after : Drawn) → ReadsFault Nowhere value cause mid after → ReadsFault Nowhere (entry order key value last) cause before after
     entry_value_stopped cause after next =
         fault_then (field (key last) ((is_above order last, bad_order) ∷ [])) (λ first. value >>= λ held. done (first, held)) first before mid read cause after
         (fault_first value (λ held. done (first, held)) cause mid after next)
 
   -- A key that couldn't be read.
-  pub entry_key_stopped : (last : Option K) (cause : Cause) (before after : Drawn) → ReadsFault Nowhere (field (key last) ((is_above order last, bad_order) ∷ [])) cause before after → ReadsFault Nowhere (entry order key value last) cause before after
+  entry_key_stopped : (last : Option K) (cause : Cause) (before after : Drawn) → ReadsFault Nowhere (field (key last) ((is_above order last, bad_order) ∷ [])) cause before after → ReadsFault Nowhere (entry order key value last) cause before after
   entry_key_stopped last cause before after next = fault_first (field (key last) ((is_above order last, bad_order) ∷ [])) (λ first. value >>= λ held. done (first, held)) cause before after next
 
   module _ {map_order : K → K → Ordering} (kind : ArrayOf map_order → ArrayValue) (limit : ℕ) (before after : Drawn) where
     pub filled_value : (held : List (K × ℕ)) → ReadsValue whole held before after → ReadsValue (filled kind limit whole) (kind (record { limit = limit; map = from_entries held })) before after
     filled_value held read = value_then whole (λ held. done (kind (record { limit = limit; map = from_entries held }))) held before after read _ after (value_done _ after)
 
-    pub filled_fault : {Also : List ℕ → Type 0} → (cause : Cause) → ReadsFault Nowhere whole cause before after → ReadsFault Also (filled kind limit whole) cause before after
+    filled_fault : {Also : List ℕ → Type 0} → (cause : Cause) → ReadsFault Nowhere whole cause before after → ReadsFault Also (filled kind limit whole) cause before after
     filled_fault cause read = fault_first whole (λ held. done (kind (record { limit = limit; map = from_entries held }))) cause before after read
 
 module _ {K : Type 0} (order : K → K → Ordering) (key : Option K → Part K) (value : Part ℕ) where
@@ -113,7 +115,7 @@ module _ {K : Type 0} (order : K → K → Ordering) (key : Option K → Part K)
     abbrev listing_reading : (left total : ℕ) → listed + left ≡ total → Reading (whole order key value total) (to_come order key value total last left held) before mid
     listing_reading left total is = record { input = far.input; given = far.given; bytes = far.bytes; failures = far.failures; goes = far.goes left total is; cut_before = far.cut_before total (omega (arith, is)) }
 
-    pub listing_next : (pair : K × ℕ) (after : Drawn) → ReadsValue (entry order key value last) pair mid after → Listing (listed + 1) (Some pair.0) (held ++ pair ∷ []) before after
+    listing_next : (pair : K × ℕ) (after : Drawn) → ReadsValue (entry order key value last) pair mid after → Listing (listed + 1) (Some pair.0) (held ++ pair ∷ []) before after
     listing_next pair after next = record {
       input = far.input ++ next.input;
       given = next.given ∙ ap (λ known. grown known next.input) far.given ∙ grown-grown before.given far.input next.input;
@@ -130,11 +132,28 @@ module _ {K : Type 0} (order : K → K → Ordering) (key : Option K → Part K)
           far.goes (suc left) total one front ∙ ap (λ r. followed_by (followed_by r (λ first. entries order key value (Some first.0) left >>= λ others. done (first ∷ others))) (λ others. done (held ++ others))) (next.cut_before front later byte is));
     }
 
-    pub listing_fault : (total : ℕ) → listed < total → (cause : Cause) (after : Drawn) → ReadsFault Nowhere (entry order key value last) cause mid after → ReadsFault Nowhere (whole order key value total) cause before after
+    listing_fault : (total : ℕ) → listed < total → (cause : Cause) (after : Drawn) → ReadsFault Nowhere (entry order key value last) cause mid after → ReadsFault Nowhere (whole order key value total) cause before after
     listing_fault total some cause after next =
         let n = total - (listed + 1) in
         let all : listed + suc n ≡ total = omega (arith, some) in
         entries_fault order key value total last (suc n) n refl held before mid after (listing_reading (suc n) total all) cause next
+
+    -- What is answered where an entry couldn't be read.
+    module _ {map_order : K → K → Ordering} {X : Type 0} (kind : ArrayOf map_order → ArrayValue) (view : X → ArrayValue) (limit count : ℕ) (some : listed < count) (after : Drawn) (fault : LoadFault) (result : Result X LoadFault) (is : IsErrAnd result (λ told. told ≡ fault)) where
+      entry_fault : ReadsFault Nowhere (entry order key value last) (cause_of fault) mid after → ReadsWanting (AtSome (λ n. filled kind limit (entries order key value None n)) count) view (filled kind limit (whole order key value count)) before result after
+      entry_fault next =
+          reads_err view (filled kind limit (whole order key value count)) before after fault result is
+          (filled_fault order key value count kind limit before after (cause_of fault) (listing_fault count some (cause_of fault) after next))
+
+      pub key_fault : ReadsFault Nowhere (field (key last) ((is_above order last, bad_order) ∷ [])) (cause_of fault) mid after → ReadsWanting (AtSome (λ n. filled kind limit (entries order key value None n)) count) view (filled kind limit (whole order key value count)) before result after
+      key_fault next = entry_fault (entry_key_stopped order key value count last (cause_of fault) mid after next)
+
+      pub value_fault : (first : K) (keyed : Drawn) → ReadsValue (field (key last) ((is_above order last, bad_order) ∷ [])) first mid keyed → ReadsFault Nowhere value (cause_of fault) keyed after → ReadsWanting (AtSome (λ n. filled kind limit (entries order key value None n)) count) view (filled kind limit (whole order key value count)) before result after
+      value_fault first keyed read next = entry_fault (entry_value_stopped order key value count last first mid keyed read (cause_of fault) after next)
+
+    -- One entry more, whose key and value were read.
+    pub listing_entry : (first : K) (keyed : Drawn) → ReadsValue (field (key last) ((is_above order last, bad_order) ∷ [])) first mid keyed → (word : ℕ) (after : Drawn) → ReadsValue value word keyed after → Listing (listed + 1) (Some first) (held ++ (first, word) ∷ []) before after
+    listing_entry first keyed read word after next = listing_next (first, word) after (entry_read order key value 0 last first mid keyed read word after next)
 
     listed_behind : (more : List ℕ) → whole order key value listed (far.input ++ more) ≡ Ok (held, more)
     listed_behind more =

@@ -5,6 +5,7 @@ pub mod WalkLemmas
 pub mod DumpParts
 pub mod FrontLemmas
 pub mod ReadLemmas
+pub mod PieceReads
 pub mod Rooms
 pub mod NumberLemmas
 pub mod HeadLemmas

@@ -1,10 +1,12 @@
 -- Numbers as std reads them from bytes, and as the definitions do.
-use Rattle.std.proofs.Common.{◌≡◌, ℕ, List, [], ◌∷◌, length, get_or, subst, arith}
+use Rattle.std.proofs.Common.{◌≡◌, ℕ, Result, List, [], ◌∷◌, length, get_or, subst, arith}
+use Rattle.std.specs.Result.{IsErrAnd}
 use Rattle.std.specs.Int.{w16, w32, w64, from_be_bytes}
 use Rattle.judy_model.specs.WordBytes.{number_of}
 use Rattle.judy_model.specs.Fields.{done, bytes, number}
-use Rattle.judy_shelf.specs.Reads.{Drawn, Cause, ReadsValue, ReadsFault, Nowhere}
-use Rattle.judy_shelf.proofs.ReadLemmas.{fault_first, value_then, value_done}
+use Rattle.judy_shelf.specs.declared.fault.LoadFault.{LoadFault}
+use Rattle.judy_shelf.specs.Reads.{Drawn, cause_of, ReadsValue, ReadsFault, Reads, Nowhere}
+use Rattle.judy_shelf.proofs.ReadLemmas.{reads_err, fault_first, value_then, value_done}
 
 pub from_1 : (read : List ℕ) → length read ≡ 1 → number_of read ≡ get_or read 0 0
 from_1 [] long = absurd (omega arith)
@@ -43,5 +45,6 @@ number_read width read value before after first is =
     value_then (bytes width) (λ spelled. done (number_of spelled)) read before after first value after (subst (λ n. ReadsValue (done (number_of read)) n after after) is (value_done (number_of read) after))
 
 -- A number whose bytes couldn't be read.
-pub number_stopped : (width : ℕ) (cause : Cause) (before after : Drawn) → ReadsFault Nowhere (bytes width) cause before after → ReadsFault Nowhere (number width) cause before after
-number_stopped width cause before after first = fault_first (bytes width) (λ spelled. done (number_of spelled)) cause before after first
+pub number_stopped : (width : ℕ) (before after : Drawn) (fault : LoadFault) (result : Result ℕ LoadFault) → IsErrAnd result (λ told. told ≡ fault) → ReadsFault Nowhere (bytes width) (cause_of fault) before after → Reads (λ n. n) (number width) before result after
+number_stopped width before after fault result is first =
+    reads_err (λ n. n) (number width) before after fault result is (fault_first (bytes width) (λ spelled. done (number_of spelled)) (cause_of fault) before after first)

@@ -169,6 +169,17 @@ module _ {B : Type 0} (whole : Part B) where
       stops = far_stops Wants Also next.input (also next.input) cause next.stops;
     }
 
+    -- What gives the rest gives the whole.
+    pub reading_value : (value : B) → ReadsValue rest value mid after → ReadsValue whole value before after
+    reading_value value next = record {
+      input = far.input ++ next.input;
+      given = next.given ∙ ap (λ known. grown known next.input) far.given ∙ grown-grown before.given far.input next.input;
+      bytes = All-append (λ byte. byte < 256) far.input next.input far.bytes next.bytes;
+      failures = next.failures ∙ far.failures;
+      gives = λ more. far_more next.input more ∙ next.gives more;
+      cut_before = fronts_of_both (λ front. whole front ≡ Err truncated) far.input next.input far.cut_before (λ front later byte is. far.goes front ∙ next.cut_before front later byte is);
+    }
+
 -- ---- two checks
 
 module _ {A : Type 0} (part : Part A) (value : A) (before after : Drawn) (read : ReadsValue part value before after) (one two : A → Bool) (fault other : Fault) (first : one value ≡ true) where

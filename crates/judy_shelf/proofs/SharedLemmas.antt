@@ -13,33 +13,12 @@ other_test n m apart = elim (n == m) as (λ b. n == m ≡ b → n == m ≡ false
   | false ↦ λ e. e
 ] refl
 
--- One byte more is shared.
-pub shared_on : (n : ℕ) (before key : List ℕ) → n < length before → n < length key → get_or before n 0 ≡ get_or key n 0 → shared_length (drop n before) (drop n key) ≡ suc (shared_length (drop (suc n) before) (drop (suc n) key))
-shared_on n [] key b k is = absurd (omega (arith, b))
-shared_on n (x ∷ before) [] b k is = absurd (omega (arith, k))
-shared_on zero (x ∷ before) (y ∷ key) b k is = ap (λ t. cond t (suc (shared_length before key)) 0) (eq-eqb x y is)
-shared_on (suc n) (x ∷ before) (y ∷ key) b k is = shared_on n before key (omega (arith, b)) (omega (arith, k)) is
-
--- None more, where a byte differs.
-pub shared_apart : (n : ℕ) (before key : List ℕ) → n < length before → n < length key → get_or before n 0 ≢ get_or key n 0 → shared_length (drop n before) (drop n key) ≡ 0
-shared_apart n [] key b k apart = absurd (omega (arith, b))
-shared_apart n (x ∷ before) [] b k apart = absurd (omega (arith, k))
-shared_apart zero (x ∷ before) (y ∷ key) b k apart = ap (λ t. cond t (suc (shared_length before key)) 0) (other_test x y apart)
-shared_apart (suc n) (x ∷ before) (y ∷ key) b k apart = shared_apart n before key (omega (arith, b)) (omega (arith, k)) apart
-
 -- With no byte nothing is shared.
 nothing_shared : (before : List ℕ) → shared_length before [] ≡ 0
 nothing_shared [] = refl
 nothing_shared (byte ∷ before) = refl
 
--- None more, where one of the two ends.
-pub shared_before_end : (n : ℕ) (before key : List ℕ) → length before ≤ n → shared_length (drop n before) (drop n key) ≡ 0
-shared_before_end zero [] key b = refl
-shared_before_end (suc n) [] key b = refl
-shared_before_end zero (x ∷ before) key b = absurd (omega (arith, b))
-shared_before_end (suc n) (x ∷ before) [] b = nothing_shared (drop n before)
-shared_before_end (suc n) (x ∷ before) (y ∷ key) b = shared_before_end n before key (omega (arith, b))
-
+-- None more, where the key ends.
 pub shared_key_end : (n : ℕ) (before key : List ℕ) → length key ≤ n → shared_length (drop n before) (drop n key) ≡ 0
 shared_key_end zero before [] k = nothing_shared before
 shared_key_end (suc n) before [] k = nothing_shared (drop (suc n) before)

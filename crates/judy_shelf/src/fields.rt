@@ -8,7 +8,29 @@ use crate::fault::LoadFault;
 use judy_pipe::{Source, read_some};
 
 // Reads as many bytes as fit into `room`, and none beyond.
+// Mostly one piece has all of them: how many are copied is known then where this is compiled into, and a number is one load.
+#[inline(always)]
 pub(crate) fn read_bytes<R: Source>(source: &mut R, room: &mut [u8]) -> Result<(), LoadFault>
+    requires { (R.tally source.old).failures < 2 ^ 64 - 1 }
+    ensures len { length room.new ≡ length room.old }
+    ensures read { Reads (λ _. room.new) (fields.bytes (length room.old))
+        (drawn (R.given source.old) (R.ended source.old) (R.tally source.old).failures) result
+        (drawn (R.given source.new) (R.ended source.new) (R.tally source.new).failures) }
+{
+    if room.is_empty() {
+        return Ok(());
+    }
+    match read_some(source, room) {
+        Ok(0) => Err(LoadFault::Truncated),
+        Ok(count) if count == room.len() => Ok(()),
+        Ok(count) => read_pieces(source, &mut room[count..]),
+        Err(_) => Err(LoadFault::Read),
+    }
+}
+
+// The same, piece by piece.
+#[inline(never)]
+fn read_pieces<R: Source>(source: &mut R, room: &mut [u8]) -> Result<(), LoadFault>
     requires { (R.tally source.old).failures < 2 ^ 64 - 1 }
     ensures len { length room.new ≡ length room.old }
     ensures read { Reads (λ _. room.new) (fields.bytes (length room.old))
@@ -63,6 +85,8 @@ pub(crate) fn read_u32<R: Source>(source: &mut R) -> Result<u32, LoadFault>
 }
 
 // Reads a number of eight bytes, the highest first.
+// Two of them are most of the entry of an array of words, so it is compiled into the caller.
+#[inline(always)]
 pub(crate) fn read_u64<R: Source>(source: &mut R) -> Result<u64, LoadFault>
     requires { (R.tally source.old).failures < 2 ^ 64 - 1 }
     ensures { Reads (λ number. number) (fields.number 8)

@@ -175,6 +175,8 @@ pub(crate) fn read_key_count<R: Source>(source: &mut R, limit: u64) -> Result<u6
 }
 
 // Reads a word that is greater than the one before, if there is one.
+// As `read_u64`.
+#[inline(always)]
 pub(crate) fn read_word_after<R: Source>(
     source: &mut R,
     before: Option<u64>,

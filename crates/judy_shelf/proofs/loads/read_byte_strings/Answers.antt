@@ -1,12 +1,11 @@
-use Rattle.std.proofs.Common.{◌≡◌, ◌+◌, ◌<◌, ◌≤◌, ◌∷◌, [], ◌++◌, Some, take, sym, ap, subst, ◌∙◌, arith}
+use Rattle.std.proofs.Common.{◌+◌, ◌∷◌, [], ◌++◌, Some, take, sym, ap, subst, ◌∙◌, arith}
 use Rattle.std.specs.FinMap.{insert}
 use Rattle.judy_model.specs.Arrays.{judyhs}
 use Rattle.judy_model.specs.DumpText.{length_order}
 use Rattle.judy_model.specs.DumpGrammar as grammar
-use Rattle.judy_shelf.specs.Reads.{drawn, cause_of}
+use Rattle.judy_shelf.specs.Reads.{drawn}
 use Rattle.judy_shelf.specs.LastKeys.{last_key}
-use Rattle.judy_shelf.proofs.ReadLemmas.{reads_err}
-use Rattle.judy_shelf.proofs.EntryReads.{bytes_keys, AreNew, Listing, whole, listing_none, listing_next, listing_fault, listing_memory, listing_filled, entry_read, entry_key_stopped, entry_value_stopped, filled_fault, new_none, new_more, made_more}
+use Rattle.judy_shelf.proofs.EntryReads.{bytes_keys, AreNew, Listing, listing_none, listing_entry, key_fault, value_fault, listing_memory, listing_filled, new_none, new_more, made_more}
 use Rattle.judy_shelf.proofs.loads.read_byte_strings.Goals as goal
 
 pub keys-init : goal.keys-init
@@ -21,66 +20,29 @@ keys-init g c =
 
 pub returns-in_err-len : goal.returns-in_err-len
 returns-in_err-len g c =
-    let before = drawn (g.R.Source.given c.args.source.now) (g.R.Source.ended c.args.source.now) (g.R.Source.tally c.args.source.now).failures in
-    let mid = drawn (g.R.Source.given c.keys.source) (g.R.Source.ended c.keys.source) (g.R.Source.tally c.keys.source).failures in
-    let after = drawn (g.R.Source.given c.read_bytes_after.new.source) (g.R.Source.ended c.read_bytes_after.new.source) (g.R.Source.tally c.read_bytes_after.new.source).failures in
-    let count = c.args.count in
-    let some : c.keys.counter < count = omega arith in
-    let held = c.keys.invariant.0 in
-    let last = last_key c.keys.last in
-    let fault = c.in_err-len.field-0.0 in
-    let stop = listing_fault length_order (λ before. grammar.string) grammar.word c.keys.counter last held before mid c.keys.invariant.4 count some (cause_of fault) after
-    (entry_key_stopped length_order (λ before. grammar.string) grammar.word count last (cause_of fault) mid after c.in_err-len.ensures.read) in
-    reads_err judyhs (grammar.filled judyhs c.args.limit (whole length_order (λ before. grammar.string) grammar.word count)) before after fault c.from_residual.result c.from_residual.ensures.1
-    (filled_fault length_order (λ before. grammar.string) grammar.word count judyhs c.args.limit before after (cause_of fault) stop)
+    key_fault length_order (λ before. grammar.string) grammar.word c.keys.counter (last_key c.keys.last) c.keys.invariant.0 _ _ c.keys.invariant.4 judyhs judyhs c.args.limit c.args.count (omega arith) _ c.in_err-len.field-0.0 c.from_residual.result c.from_residual.ensures.1
+    c.in_err-len.ensures.read
 
 pub returns-in_err-value : goal.returns-in_err-value
 returns-in_err-value g c =
-    let before = drawn (g.R.Source.given c.args.source.now) (g.R.Source.ended c.args.source.now) (g.R.Source.tally c.args.source.now).failures in
-    let mid = drawn (g.R.Source.given c.keys.source) (g.R.Source.ended c.keys.source) (g.R.Source.tally c.keys.source).failures in
-    let keyed = drawn (g.R.Source.given c.read_bytes_after.new.source) (g.R.Source.ended c.read_bytes_after.new.source) (g.R.Source.tally c.read_bytes_after.new.source).failures in
-    let after = drawn (g.R.Source.given c.read_u64.new.source) (g.R.Source.ended c.read_u64.new.source) (g.R.Source.tally c.read_u64.new.source).failures in
-    let count = c.args.count in
-    let some : c.keys.counter < count = omega arith in
-    let held = c.keys.invariant.0 in
-    let last = last_key c.keys.last in
-    let key = take c.in_ok-len.len c.read_bytes_after.new.room in
-    let fault = c.in_err-value.field-0.0 in
-    let stop = listing_fault length_order (λ before. grammar.string) grammar.word c.keys.counter last held before mid c.keys.invariant.4 count some (cause_of fault) after
-    (entry_value_stopped length_order (λ before. grammar.string) grammar.word count last key mid keyed c.in_ok-len.ensures.read (cause_of fault) after c.in_err-value.ensures) in
-    reads_err judyhs (grammar.filled judyhs c.args.limit (whole length_order (λ before. grammar.string) grammar.word count)) before after fault c.from_residual-in_err-value.result c.from_residual-in_err-value.ensures.1
-    (filled_fault length_order (λ before. grammar.string) grammar.word count judyhs c.args.limit before after (cause_of fault) stop)
+    value_fault length_order (λ before. grammar.string) grammar.word c.keys.counter (last_key c.keys.last) c.keys.invariant.0 _ _ c.keys.invariant.4 judyhs judyhs c.args.limit c.args.count (omega arith) _ c.in_err-value.field-0.0 c.from_residual-in_err-value.result c.from_residual-in_err-value.ensures.1
+    (take c.in_ok-len.len c.read_bytes_after.new.room) _ c.in_ok-len.ensures.read c.in_err-value.ensures
 
 pub returns-in-Err : goal.returns-in-Err
 returns-in-Err g c =
-    let before = drawn (g.R.Source.given c.args.source.now) (g.R.Source.ended c.args.source.now) (g.R.Source.tally c.args.source.now).failures in
-    let mid = drawn (g.R.Source.given c.keys.source) (g.R.Source.ended c.keys.source) (g.R.Source.tally c.keys.source).failures in
-    let keyed = drawn (g.R.Source.given c.read_bytes_after.new.source) (g.R.Source.ended c.read_bytes_after.new.source) (g.R.Source.tally c.read_bytes_after.new.source).failures in
-    let after = drawn (g.R.Source.given c.read_u64.new.source) (g.R.Source.ended c.read_u64.new.source) (g.R.Source.tally c.read_u64.new.source).failures in
-    let count = c.args.count in
-    let some : c.keys.counter + 1 ≤ count = omega arith in
-    let held = c.keys.invariant.0 in
-    let last = last_key c.keys.last in
-    let key = take c.in_ok-len.len c.read_bytes_after.new.room in
-    let value = c.in_ok-value.value in
-    let next = entry_read length_order (λ before. grammar.string) grammar.word count last key mid keyed c.in_ok-len.ensures.read value after c.in_ok-value.ensures in
-    let far = listing_next length_order (λ before. grammar.string) grammar.word c.keys.counter last held before mid c.keys.invariant.4 (key, value) after next in
-    listing_memory length_order (λ before. grammar.string) grammar.word (c.keys.counter + 1) (Some key) (held ++ (key, value) ∷ []) before after far judyhs c.args.limit count some
+    listing_memory length_order (λ before. grammar.string) grammar.word (c.keys.counter + 1) (Some (take c.in_ok-len.len c.read_bytes_after.new.room)) _ _ _ (listing_entry length_order (λ before. grammar.string) grammar.word c.keys.counter (last_key c.keys.last) c.keys.invariant.0 _ _ c.keys.invariant.4 (take c.in_ok-len.len c.read_bytes_after.new.room) _ c.in_ok-len.ensures.read c.in_ok-value.value _ c.in_ok-value.ensures) judyhs c.args.limit c.args.count (omega arith)
 
 pub keys-preserved : goal.keys-preserved
 keys-preserved g c =
     let before = drawn (g.R.Source.given c.args.source.now) (g.R.Source.ended c.args.source.now) (g.R.Source.tally c.args.source.now).failures in
-    let mid = drawn (g.R.Source.given c.keys.source) (g.R.Source.ended c.keys.source) (g.R.Source.tally c.keys.source).failures in
-    let keyed = drawn (g.R.Source.given c.read_bytes_after.new.source) (g.R.Source.ended c.read_bytes_after.new.source) (g.R.Source.tally c.read_bytes_after.new.source).failures in
     let after = drawn (g.R.Source.given c.read_u64.new.source) (g.R.Source.ended c.read_u64.new.source) (g.R.Source.tally c.read_u64.new.source).failures in
     let held = c.keys.invariant.0 in
+    let key = (take c.in_ok-len.len c.read_bytes_after.new.room) in
     let last = last_key c.keys.last in
-    let key = take c.in_ok-len.len c.read_bytes_after.new.room in
     let value = c.in_ok-value.value in
     let above = c.in_ok-len.ensures.above in
     let new = c.keys.invariant.3 in
-    let next = entry_read length_order (λ before. grammar.string) grammar.word c.args.count last key mid keyed c.in_ok-len.ensures.read value after c.in_ok-value.ensures in
-    let far = listing_next length_order (λ before. grammar.string) grammar.word c.keys.counter last held before mid c.keys.invariant.4 (key, value) after next in (
+    let far = listing_entry length_order (λ before. grammar.string) grammar.word c.keys.counter (last_key c.keys.last) c.keys.invariant.0 _ _ c.keys.invariant.4 (take c.in_ok-len.len c.read_bytes_after.new.room) _ c.in_ok-len.ensures.read c.in_ok-value.value _ c.in_ok-value.ensures in (
       held ++ (key, value) ∷ [],
       c.keys.invariant.1,
       ap (λ m. insert m key value) c.keys.invariant.2 ∙ sym (made_more bytes_keys last held new key value above),
@@ -89,8 +51,4 @@ keys-preserved g c =
     )
 
 pub returns : goal.returns
-returns g c =
-    let before = drawn (g.R.Source.given c.args.source.now) (g.R.Source.ended c.args.source.now) (g.R.Source.tally c.args.source.now).failures in
-    let now = drawn (g.R.Source.given c.keys.source) (g.R.Source.ended c.keys.source) (g.R.Source.tally c.keys.source).failures in
-    let all : c.keys.counter ≡ c.args.count = omega arith in
-    listing_filled length_order (λ before. grammar.string) grammar.word c.keys.counter (last_key c.keys.last) c.keys.invariant.0 before now c.keys.invariant.4 judyhs c.args.limit c.args.count c.keys.strings all c.keys.invariant.1 c.keys.invariant.2
+returns g c = listing_filled length_order (λ before. grammar.string) grammar.word c.keys.counter (last_key c.keys.last) c.keys.invariant.0 _ _ c.keys.invariant.4 judyhs c.args.limit c.args.count c.keys.strings (omega arith) c.keys.invariant.1 c.keys.invariant.2

@@ -1,7 +1,7 @@
 use Rattle.std.proofs.Common.{◌≡◌, ◌-◌, ◌≤◌, length, take}
 use Rattle.judy_model.specs.Keys.{IsByteString}
 use Rattle.judy_pipe.specs.Pipe.{grown}
-use Rattle.judy_shelf.proofs.fields.read_bytes.Given as goal
+use Rattle.judy_shelf.proofs.fields.read_pieces.Given as goal
 
 -- so far the first bytes of the room were given, and no failure was counted
 abbrev pub invariant-loop-filled : goal.invariant-loop-filled
