@@ -2,7 +2,7 @@
 
 ghost use Rattle.std.specs.Prelude.{◌≡◌, ◌+◌, ◌-◌, ◌<◌, ◌≤◌, ◌^◌, length, take, drop, replicate, ◌++◌, slice_index, slice_set, IfOk};
 ghost use Rattle.std.specs.Borrow.{sem};
-ghost use Rattle.std.specs.List.{insert};
+ghost use Rattle.std.specs.List.{insert, copy_within};
 ghost use Rattle.judy_block.specs.Contents.{Contents, empty_block, with_gap, without_gap};
 ghost use Rattle.judy_block.specs.Deeds.{IsDeedOf};
 ghost use Rattle.judy_block.specs.Layout.{used_of, capacity_of, tag_of, contents_of, IsBlock};
@@ -217,11 +217,19 @@ fn insert_words(words: &mut [u64], i: usize, word: u64, j: usize, other: u64)
     ensures { words.new
         ≡ insert (insert (take (length words.old - 2) words.old) i word) j other }
 {
-    let used = words.len() - 2;
-    words.copy_within(j - 1..used, j + 1);
+    move_up::<2>(&mut words[j - 1..]);
     words[j] = other;
-    words.copy_within(i..j - 1, i + 1);
+    move_up::<1>(&mut words[i..j]);
     words[i] = word;
+}
+
+// Moves words up by `N` places; the last `N` go. That the distance is a constant of a function of its own makes it one `memmove`.
+fn move_up<const N: usize>(words: &mut [u64])
+    requires { N ≤ length words.old }
+    ensures { words.new ≡ copy_within words.old 0 (length words.old - N) N }
+{
+    let rest = words.len() - N;
+    words.copy_within(0..rest, N);
 }
 
 // Makes the `n` words from `i` on zeros.

@@ -24,6 +24,8 @@ use std::mem;
 /// put in with the value. Nothing else changes, and where the key was there the form stays. It takes one way down. The error is want of
 /// memory, for an absent key alone; the tree is the old one then, its form included. A tree without keys is never refused a key, and
 /// a tight tree stays tight.
+// Compiled into its callers, as what calls it is: the answer of the root doesn't go through memory then.
+#[inline(always)]
 pub fn exchange<V: Words + Drop>(
     alloc: Global,
     node: &mut NodeOf<V>,

@@ -10,6 +10,7 @@ ghost use Rattle.judy_node.specs.Built.{IsBuilt};
 ghost use Rattle.judy_change.specs.Inserted.{IsInserted};
 
 use crate::gap::put_at;
+use crate::inserts::in_order;
 use judy_leaf::{ImmOf, Words};
 use judy_node::{Head, KindOf, imm_of, kind_of_sorted};
 use std::alloc::{AllocError, Global};
@@ -62,8 +63,34 @@ pub(crate) fn into_immediate<V: Words + Drop>(
     (keys_kind(imm), Ok(true))
 }
 
-// The leaf of a full immediate's keys and one more. The error is want of memory.
+// The leaf of a full immediate's keys and one more. The error is want of memory. Mostly the immediate has one key.
 fn past_immediate<V: Words + Drop>(
+    alloc: Global,
+    full: &ImmOf<V>,
+    width: u8,
+    key: u64,
+    value: u64,
+) -> Result<KindOf<V>, AllocError>
+    requires one { V.WORDS ≤ 1 }
+    requires full { length full.now.pairs ≡ imm_room V.WORDS width }
+    requires wide { full.now.width ≡ width }
+    requires map { IsMap V.WORDS 0 (256 ^ width) full.now.pairs }
+    requires absent { set.has (keys_of full.now.pairs) key ≡ false }
+    requires fits { key < 256 ^ width }
+    requires no_value { V.WORDS ≡ 0 → value ≡ 0 }
+    ensures level { IfOk result (λ kind. IsLevel V.WORDS kind) }
+    ensures built { IfOk result
+        (λ kind. IsBuilt V.WORDS width (with_pair key value full.now.pairs) (tree_of V.WORDS kind)) }
+{
+    if full.len() != 1 {
+        return past_few(alloc, full, width, key, value);
+    }
+    let both = in_order((full.key_at(0), full.value_at(0)), (key, value));
+    kind_of_sorted(alloc, width, &both)
+}
+
+// The same where there may be more keys than one.
+fn past_few<V: Words + Drop>(
     alloc: Global,
     full: &ImmOf<V>,
     width: u8,

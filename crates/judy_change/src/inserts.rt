@@ -112,7 +112,7 @@ pub(crate) fn beside_one<V: Words + Drop>(
 }
 
 // Two pairs by ascending key.
-fn in_order(one: (u64, u64), more: (u64, u64)) -> [(u64, u64); 2]
+pub(crate) fn in_order(one: (u64, u64), more: (u64, u64)) -> [(u64, u64); 2]
     requires { one.0 ≢ more.0 }
     ensures { result ≡ with_pair more.0 more.1 (one ∷ []) }
 {

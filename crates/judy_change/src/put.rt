@@ -1,6 +1,6 @@
 //! A child put into a branch.
 
-ghost use Rattle.std.specs.Prelude.{◌≡◌, ◌+◌, ◌-◌, ◌*◌, ◌^◌, ◌<◌, ◌≤◌, false, length, [], ◌∷◌, ◌%◌, vec_len, vec_capacity};
+ghost use Rattle.std.specs.Prelude.{◌≡◌, ◌+◌, ◌-◌, ◌*◌, ◌^◌, ◌<◌, ◌≤◌, false, List, length, [], ◌∷◌, ◌++◌, ◌%◌, vec_len, vec_capacity};
 ghost use Rattle.std.specs.List.{insert};
 ghost use Rattle.judy_model.specs.WordBytes.{number_of};
 ghost use Rattle.judy_model.specs.Forms.{loose_in};
@@ -26,7 +26,17 @@ pub(crate) fn one_key<V: Words + Drop>(width: u8, key: u64, value: u64) -> Child
     ChildOf::close(immediate_of_sorted(width, &[(key, value)]))
 }
 
-// Puts a child in at the place of its byte, which has none; there is room for it among the children.
+// Moves the last of some values to a place before it; those from there on move up by one, by one `memmove`.
+fn last_to<T>(items: &mut [T], place: usize)
+    requires { place < length items.old }
+    ensures { (front : List T) (last : T) → items.old ≡ front ++ last ∷ []
+        → items.new ≡ insert front place last }
+{
+    items[place..].rotate_right(1);
+}
+
+// Puts a child in at the place of its byte, which has none; there is room for it among the children. It is put behind them first, since
+// `Vec::insert` would move those behind its place one by one.
 pub(crate) fn add_child<V: Words + Drop>(
     branch: &mut BranchOf<V>,
     place: usize,
@@ -47,9 +57,8 @@ pub(crate) fn add_child<V: Words + Drop>(
     ensures capacity { vec_capacity branch.old.children ≤ vec_capacity branch.new.children }
 {
     branch.bytes.add(byte);
-    let Ok(()) = branch.children.insert(place, child) else {
-        unreachable!()
-    };
+    branch.children.push_reserved(child);
+    last_to(&mut branch.children, place);
 }
 
 // Puts the node of a key with its value in as the child of a byte, which has none; there is room for it among the children. The

@@ -18,3 +18,4 @@ pub mod SeatFacts
 pub mod Loans
 pub mod RootFacts
 pub mod SumFacts
+pub mod PresentFacts

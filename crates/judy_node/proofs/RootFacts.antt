@@ -1,5 +1,5 @@
 -- The root with another value of a key.
-use Rattle.std.proofs.Common.{◌≡◌, ℕ, ◌≤◌, not, true, false, cond, eqb, [], ◌∷◌, Some, None, sym, refl, subst, arith, true≢false}
+use Rattle.std.proofs.Common.{◌≡◌, ℕ, ◌≤◌, not, true, false, cond, eqb, [], ◌∷◌, Some, None, is_some, sym, refl, ap, ◌∙◌, subst, arith, true≢false}
 use Rattle.judy_model.specs.Forms.{immediate}
 use Rattle.judy_node.specs.Roots.{root_tree, one_tree, IsRoot}
 use Rattle.judy_node.specs.Slots.{value_of, with_value}
@@ -30,3 +30,11 @@ root-none (One other old) key misses =
       | false ↦ λ _. refl
     ] misses
 root-none (Many child) key misses = absurd (true≢false (sym misses))
+
+-- Of a key that is there it shows no such thing.
+pub root-there : {V : _} (kind : RootOf V) (key : ℕ) → is_some (value_of key (root_tree kind).pairs) ≡ true → root_misses kind key ≡ false
+root-there kind key some =
+    elim (root_misses kind key) as (λ b. root_misses kind key ≡ b → b ≡ false) [
+      | true ↦ λ misses. absurd (true≢false (sym some ∙ ap is_some (root-none kind key misses)))
+      | false ↦ λ _. refl
+    ] refl

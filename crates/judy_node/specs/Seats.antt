@@ -18,13 +18,17 @@ use Rattle.judy_node.specs.declared.node.RootPlaceOf.{RootPlaceOf}
 use Rattle.judy_node.specs.declared.node.RootOf.TheVariants.{Empty, One, Many}
 use Rattle.judy_node.specs.declared.child.KindOf.TheVariants.{Imm, Leaf, Bit, Branch}
 
+-- The value of a key stands below the child at a place of a branch, under what is left of the key.
+abbrev pub IsSeatBelow : {V : _} → BranchOf V → ℕ → ℕ → ℕ → Type 0
+IsSeatBelow branch key at rest = (byte : ℕ) × IsKeyOf (256 ^ branch.width) (number_of branch.skip * 256) key byte rest × (slice_get branch.bytes at ≡ Some byte)
+
 -- The value of a key stands in the immediate itself; at a place of a leaf's block, the key's place; four places behind that in a
--- bitmap leaf's block; below the child at a place, under what is left of the key.
+-- bitmap leaf's block; below a branch.
 abbrev pub IsSeat : {V : _} → ℕ → KindOf V → ℕ → ℕ → ℕ → Type 0
 IsSeat words (Imm head word) key at rest = key ≡ head
 IsSeat words (Leaf count block) key at rest = slice_get (keys_of (leaf_list words count block).pairs) at ≡ Some key
 IsSeat words (Bit skipped block) key at rest = (place : ℕ) × (low : ℕ) × (at ≡ 4 + place) × (key ≡ skipped * 256 + low) × (slice_get (keys_of (bit_list words block).pairs) place ≡ Some low)
-IsSeat words (Branch b) key at rest = (byte : ℕ) × IsKeyOf (256 ^ b.value.width) (number_of b.value.skip * 256) key byte rest × (slice_get b.value.bytes at ≡ Some byte)
+IsSeat words (Branch b) key at rest = IsSeatBelow b.value key at rest
 
 -- The place of a node of a kind.
 abbrev pub placed : {V : _} → KindOf V → PlaceOf V

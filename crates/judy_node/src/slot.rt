@@ -1,82 +1,32 @@
 //! The slot of a key's value, which is lent through the whole tree.
 //!
 //! A slot is lent from node to node down the tree. As no tree is deeper than eight nodes, the way down is unrolled: each level
-//! is a type, and lends by the one below it.
+//! is a type, and lends by the one below it. Which keys are sought is a type too (`Sought`).
 
-ghost use Rattle.std.specs.Prelude.{◌≡◌, ◌+◌, ◌*◌, ◌^◌, ◌<◌, ◌≤◌, length, ℕ, IfNone, IfSome, None, IsFalse};
-ghost use Rattle.judy_node.specs.Trees.{IsChild, IsBranch};
-ghost use Rattle.judy_node.specs.Kinds.{tree_of, IsLevel};
+ghost use Rattle.std.specs.Prelude.{◌≡◌, ◌+◌, ◌<◌, ◌≤◌, length, ℕ, Some, IsSome, IsFalse};
+ghost use Rattle.judy_node.specs.Trees.{IsChild};
 ghost use Rattle.judy_node.specs.Slots.{value_of, with_value};
-ghost use Rattle.judy_node.specs.Seats.{IsSeat, HasSeat, value_at, root_misses};
+ghost use Rattle.judy_node.specs.Seats.{HasSeat, value_at, root_misses};
 ghost use Rattle.judy_node.specs.Roots.{root_tree, IsRoot};
 ghost use Rattle.std.specs.Option.{option_copied_mut};
 
-use crate::child::{BranchOf, ChildOf, KindOf, imm_of};
+use crate::child::{BranchOf, ChildOf, KindOf};
 use crate::node::{NodeOf, RootOf};
-use crate::step::Step;
-use judy_leaf::{BitRef, LeafRef, Words};
+use crate::seat::{AnyKey, PresentKey, Sought};
+use judy_leaf::Words;
 use std::marker::PhantomData;
-
-// Where the value of a key stands in a node: the place of a word in the block of a leaf or a bitmap leaf; or the place of a
-// child, and what is left of the key there.
-#[derive(Clone, Copy)]
-pub struct Seat {
-    pub at: usize,
-    pub rest: u64,
-}
 
 impl<V: Words + Drop> KindOf<V> {
     ghost use Rattle.std.specs.Borrow.{sem, LendsIf, u64 as word};
     ghost use Rattle.judy_node.specs.contracts.child.KindOf.{the_row};
     ghost use Rattle.judy_node.specs.Seats.{kind_written};
 
-    // Where the value of a key stands, in a node whose keys have `width` bytes; none where an immediate or a leaf doesn't have the
-    // key, or a branch has no child for it.
-    #[inline(always)]
-    fn seat(&self, width: u8, key: u64) -> Option<Seat>
-        requires words { V.WORDS ≡ 1 }
-        requires level { IsLevel V.WORDS self.now }
-        requires child { IsChild V.WORDS width (tree_of V.WORDS self.now) }
-        ensures seat { IfSome result (λ seat. IsSeat V.WORDS self.now key seat.at seat.rest) }
-        ensures none { IfNone result (value_of key (tree_of V.WORDS self.now).pairs ≡ None) }
-    {
-        match self {
-            KindOf::Imm(head, _) => {
-                if head.number() == key {
-                    Some(Seat { at: 0, rest: 0 })
-                } else {
-                    None
-                }
-            }
-            KindOf::Leaf(count, block) => {
-                let at = LeafRef::<V>::new(*count, width, block).find(key)?;
-                Some(Seat { at, rest: 0 })
-            }
-            KindOf::Bit(head, block) => {
-                let front = head.number() * 256;
-                if key < front {
-                    return None;
-                }
-                let at = BitRef::<V>::new(block).find(key - front)?;
-                Some(Seat {
-                    at: 4 + at,
-                    rest: 0,
-                })
-            }
-            KindOf::Branch(branch) => match branch.step(key) {
-                Step::Child(_, at, rest) => Some(Seat { at, rest }),
-                Step::Missing(_, _, _) => None,
-                Step::Below => None,
-                Step::Above => None,
-            },
-        }
-    }
-
     // The slot at a place; below a branch, that of what is left of the key.
     #[inline(always)]
-    fn slot_at<L: Level>(&mut self, at: usize, rest: u64) -> Option<&mut u64>
+    fn slot_at<L: Level, K: Sought>(&mut self, at: usize, rest: u64) -> Option<&mut u64>
         requires words { V.WORDS ≡ 1 }
         requires seat { HasSeat V.WORDS L.DEPTH self.old at }
+        requires known { K.known (value_at self.old at rest) }
         ensures* changes { sem 𝓛
             (LendsIf (the_row V.row V.Words) word self.entry result
             (kind_written self.entry.now at rest) self.entry.now) }
@@ -86,7 +36,7 @@ impl<V: Words + Drop> KindOf<V> {
             KindOf::Imm(_, value) => Some(value),
             KindOf::Leaf(_, block) => Some(block.slot(at)),
             KindOf::Bit(_, block) => Some(block.slot(at)),
-            KindOf::Branch(branch) => branch.slot_at::<L>(at, rest),
+            KindOf::Branch(branch) => branch.slot_at::<L, K>(at, rest),
         }
     }
 
@@ -129,49 +79,52 @@ impl<V: Words + Drop> BranchOf<V> {
 
     // The slot of a key of the child at a place.
     #[inline(always)]
-    fn slot_at<L: Level>(&mut self, at: usize, rest: u64) -> Option<&mut u64>
+    fn slot_at<L: Level, K: Sought>(&mut self, at: usize, rest: u64) -> Option<&mut u64>
         requires words { V.WORDS ≡ 1 }
         requires inside { at < length self.old.children.items }
         requires child { IsChild V.WORDS self.old.width (child_at self.old at) }
         requires depth { self.old.width ≤ L.DEPTH }
+        requires known { K.known (value_of rest (child_at self.old at).pairs) }
         ensures* changes { sem 𝓛
             (LendsIf (the_row V.row V.Words) word self.entry result
             (branch_written self.entry.now at rest) self.entry.now) }
         ensures value { option_copied_mut result ≡ value_of rest (child_at self.old at).pairs }
     {
-        L::slot(self, at, rest)
+        L::slot::<V, K>(self, at, rest)
     }
 
     // The same where the children may be branches of a lower level.
     #[inline(always)]
-    fn slot_below<L: Level>(&mut self, at: usize, rest: u64) -> Option<&mut u64>
+    fn slot_below<L: Level, K: Sought>(&mut self, at: usize, rest: u64) -> Option<&mut u64>
         requires words { V.WORDS ≡ 1 }
         requires inside { at < length self.old.children.items }
         requires child { IsChild V.WORDS self.old.width (child_at self.old at) }
         requires depth { self.old.width ≤ L.DEPTH + 1 }
+        requires known { K.known (value_of rest (child_at self.old at).pairs) }
         ensures* changes { sem 𝓛
             (LendsIf (the_row V.row V.Words) word self.entry result
             (branch_written self.entry.now at rest) self.entry.now) }
         ensures value { option_copied_mut result ≡ value_of rest (child_at self.old at).pairs }
     {
         let width = self.width;
-        self.child_at(at).slot_at::<L>(width, rest)
+        self.child_at(at).slot_at::<L, K>(width, rest)
     }
 
     // The same where no child has a node below it.
     #[inline(always)]
-    fn slot_of_leaf(&mut self, at: usize, rest: u64) -> Option<&mut u64>
+    fn slot_of_leaf<K: Sought>(&mut self, at: usize, rest: u64) -> Option<&mut u64>
         requires words { V.WORDS ≡ 1 }
         requires inside { at < length self.old.children.items }
         requires child { IsChild V.WORDS self.old.width (child_at self.old at) }
         requires depth { self.old.width ≤ 1 }
+        requires known { K.known (value_of rest (child_at self.old at).pairs) }
         ensures* changes { sem 𝓛
             (LendsIf (the_row V.row V.Words) word self.entry result
             (branch_written self.entry.now at rest) self.entry.now) }
         ensures value { option_copied_mut result ≡ value_of rest (child_at self.old at).pairs }
     {
         let width = self.width;
-        self.child_at(at).slot_of_byte(width, rest)
+        self.child_at(at).slot_of_byte::<K>(width, rest)
     }
 }
 
@@ -181,33 +134,35 @@ impl<V: Words + Drop> ChildOf<V> {
 
     // The slot of a key of the node, whose keys have `width` bytes.
     #[inline(always)]
-    fn slot_at<L: Level>(&mut self, width: u8, key: u64) -> Option<&mut u64>
+    fn slot_at<L: Level, K: Sought>(&mut self, width: u8, key: u64) -> Option<&mut u64>
         requires words { V.WORDS ≡ 1 }
         requires child { IsChild V.WORDS width self.old }
         requires depth { width ≤ L.DEPTH + 1 }
+        requires known { K.known (value_of key self.old.pairs) }
         ensures* changes { sem 𝓛
             (LendsIf (the_row V.row V.Words) word self.entry result
             (with_value self.entry.now key) self.entry.now) }
         ensures value { option_copied_mut result ≡ value_of key self.old.pairs }
     {
         let kind = self.place.kind_mut();
-        let seat = kind.seat(width, key)?;
-        kind.slot_at::<L>(seat.at, seat.rest)
+        let seat = K::seat(kind, width, key)?;
+        kind.slot_at::<L, K>(seat.at, seat.rest)
     }
 
     // The same of a node whose keys have one byte, which has no node below it.
     #[inline(always)]
-    fn slot_of_byte(&mut self, width: u8, key: u64) -> Option<&mut u64>
+    fn slot_of_byte<K: Sought>(&mut self, width: u8, key: u64) -> Option<&mut u64>
         requires words { V.WORDS ≡ 1 }
         requires child { IsChild V.WORDS width self.old }
         requires depth { width ≤ 1 }
+        requires known { K.known (value_of key self.old.pairs) }
         ensures* changes { sem 𝓛
             (LendsIf (the_row V.row V.Words) word self.entry result
             (with_value self.entry.now key) self.entry.now) }
         ensures value { option_copied_mut result ≡ value_of key self.old.pairs }
     {
         let kind = self.place.kind_mut();
-        let seat = kind.seat(width, key)?;
+        let seat = K::seat(kind, width, key)?;
         kind.slot_in_leaf(seat.at, seat.rest)
     }
 }
@@ -221,11 +176,16 @@ pub trait Level {
     ghost use Rattle.judy_node.specs.Seats.{branch_written, child_at};
 
     // The slot of a key of the child at a place.
-    fn slot<V: Words + Drop>(branch: &mut BranchOf<V>, at: usize, rest: u64) -> Option<&mut u64>
+    fn slot<V: Words + Drop, K: Sought>(
+        branch: &mut BranchOf<V>,
+        at: usize,
+        rest: u64,
+    ) -> Option<&mut u64>
         requires words { V.WORDS ≡ 1 }
         requires inside { at < length branch.old.children.items }
         requires child { IsChild V.WORDS branch.old.width (child_at branch.old at) }
         requires depth { branch.old.width ≤ DEPTH }
+        requires known { K.known (value_of rest (child_at branch.old at).pairs) }
         ensures* changes { sem 𝓛
             (LendsIf (the_row V.row V.Words) word branch.entry result
             (branch_written branch.entry.now at rest) branch.entry.now) }
@@ -239,8 +199,12 @@ impl Level for Bottom {
     ghost DEPTH = { 1 };
 
     #[inline(always)]
-    fn slot<V: Words + Drop>(branch: &mut BranchOf<V>, at: usize, rest: u64) -> Option<&mut u64> {
-        branch.slot_of_leaf(at, rest)
+    fn slot<V: Words + Drop, K: Sought>(
+        branch: &mut BranchOf<V>,
+        at: usize,
+        rest: u64,
+    ) -> Option<&mut u64> {
+        branch.slot_of_leaf::<K>(at, rest)
     }
 }
 
@@ -251,8 +215,12 @@ impl<L: Level> Level for Above<L> {
     ghost DEPTH = { L.DEPTH + 1 };
 
     #[inline(always)]
-    fn slot<V: Words + Drop>(branch: &mut BranchOf<V>, at: usize, rest: u64) -> Option<&mut u64> {
-        branch.slot_below::<L>(at, rest)
+    fn slot<V: Words + Drop, K: Sought>(
+        branch: &mut BranchOf<V>,
+        at: usize,
+        rest: u64,
+    ) -> Option<&mut u64> {
+        branch.slot_below::<L, K>(at, rest)
     }
 }
 
@@ -278,10 +246,11 @@ impl<V: Words + Drop> RootOf<V> {
 
     // The slot of a key.
     #[inline(always)]
-    fn slot(&mut self, key: u64) -> Option<&mut u64>
+    fn slot<K: Sought>(&mut self, key: u64) -> Option<&mut u64>
         requires words { V.WORDS ≡ 1 }
         requires root { IsRoot V.WORDS self.old }
         requires holds { IsFalse (root_misses self.old key) }
+        requires known { K.known (value_of key (root_tree self.old).pairs) }
         ensures* changes { sem 𝓛
             (LendsIf (the_row V.row V.Words) word self.entry result
             (root_written self.entry.now key) self.entry.now) }
@@ -290,13 +259,13 @@ impl<V: Words + Drop> RootOf<V> {
         match self {
             RootOf::Empty => None,
             RootOf::One(_, value) => Some(value),
-            RootOf::Many(child) => child.slot_at::<Deepest>(8, key),
+            RootOf::Many(child) => child.slot_at::<Deepest, K>(8, key),
         }
     }
 }
 
 impl<V: Words + Drop> NodeOf<V> {
-    ghost use Rattle.std.specs.Borrow.{sem, LendsIf, u64 as word};
+    ghost use Rattle.std.specs.Borrow.{sem, Lends, LendsIf, u64 as word};
     ghost use Rattle.judy_node.specs.contracts.node.NodeOf.{the_row};
 
     /// Lends the value of a key, of a tree whose keys have values; none where the key is absent. The tree becomes the one with the
@@ -312,6 +281,35 @@ impl<V: Words + Drop> NodeOf<V> {
         if self.place.kind.misses(key) {
             return None;
         }
-        self.place.kind.slot(key)
+        self.place.kind.slot::<AnyKey>(key)
+    }
+
+    // The same of a key that is there.
+    #[inline(always)]
+    fn present_slot(&mut self, key: u64) -> Option<&mut u64>
+        requires words { V.WORDS ≡ 1 }
+        requires present { IsSome (value_of key self.old.pairs) }
+        ensures* changes { sem 𝓛
+            (LendsIf (the_row V.row V.Words) word self.entry result
+            (with_value self.entry.now key) self.entry.now) }
+        ensures value { option_copied_mut result ≡ value_of key self.old.pairs }
+    {
+        self.place.kind.slot::<PresentKey>(key)
+    }
+
+    /// Lends the value of a key that is there, as `slot`. The bytes that the nodes on its way skip aren't looked at.
+    #[inline(always)]
+    pub fn slot_of(&mut self, key: u64) -> &mut u64
+        requires words { V.WORDS ≡ 1 }
+        requires present { IsSome (value_of key self.old.pairs) }
+        ensures* changes { sem 𝓛
+            (Lends (the_row V.row V.Words) word self.entry result
+            (with_value self.entry.now key)) }
+        ensures value { Some result.now ≡ value_of key self.old.pairs }
+    {
+        match self.present_slot(key) {
+            Some(slot) => slot,
+            None => unreachable!(),
+        }
     }
 }

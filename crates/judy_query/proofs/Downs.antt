@@ -207,6 +207,10 @@ pub record IsStepped {V : _} (words : ℕ) (tree : Pairs) (view : ViewOf V) (key
   pub back_is : down.back ≡ back
   pub width_is : width_of view ≡ width
 
+-- The node that the way has come to is a branch.
+pub down_branch : {V : _} {words : ℕ} {tree : Pairs} {view : ViewOf V} {b : _} {key left : ℕ} → IsDown words tree view key left → view ≡ Branch b → IsDown words tree (Branch b) key left
+down_branch {words = words} {tree = tree} {key = key} {left = left} down is = subst (λ v. IsDown words tree v key left) is down
+
 module _ {V : _} {words : ℕ} {tree : Pairs} {b : _} {key left : ℕ} (down : IsDown {V = V} words tree (Branch b) key left) where
   pub branch_is : IsBranch words b.now.width b.now.skip b.now.bytes b.now.children.items b.now.population
   branch_is = down.shown.place.1

@@ -16,7 +16,7 @@ use Rattle.judy_query.specs.declared.sides.Side.TheVariants.{Up, Down}
 use Rattle.judy_query.specs.Maps.{map_of}
 use Rattle.judy_query.specs.Parts.{IsDown, IsShown, width_of}
 use Rattle.judy_query.specs.Rooms.{IsRun, IsWindow, HasRoom, IsFirstAbsent, IsLastAbsent, IsRoomFrom, IsRoomUpTo, nearer, low_of, high_of, end_of, IsAbsent, IsRoom, IsRoomPast, nearest_empty}
-use Rattle.judy_query.proofs.Downs.{view_width, is_shown}
+use Rattle.judy_query.proofs.Downs.{down_branch, view_width, is_shown}
 use Rattle.judy_query.proofs.Runs.{run-none, run-later, run-join, run-window, full-run, first-empty, last-empty}
 use Rattle.judy_query.proofs.RoomSteps.{room-window, room-behind, room-nearer, word-in, room-window-down, room-before, room-nearer-down, word-in-last, run-back, down_window, down_word, down_last, down_run_last, down_run, full_behind, full_before}
 
@@ -94,7 +94,7 @@ module _ {V : _} (words : ℕ) (tree : Pairs) (view : ViewOf V) (key left : ℕ)
 module _ {V : _} (words : ℕ) (tree : Pairs) (b : _) (key left : ℕ) (down : IsDown {V = V} words tree (Branch b) key left)
     (byte place rest : ℕ) (steps : IsStep (256 ^ b.now.width) (number_of b.now.skip * 256) b.now.bytes left (Child byte place rest)) where
   -- The nearest room past the child.
-  pub child_past : (side : Side) (room other : Room V)
+  child_past : (side : Side) (room other : Room V)
       → IsRoomPast side words (shift (key - left) (branch_pairs b.now.width b.now.skip b.now.bytes b.now.children.items)) (key - left) (key - left + 256 ^ (length b.now.skip + 1 + b.now.width)) (key - left + (number_of b.now.skip * 256 + byte) * 256 ^ b.now.width) (256 ^ b.now.width) room
       → IsRoomPast side words tree 0 (2 ^ 64) (key - left) (256 ^ (length b.now.skip + 1 + b.now.width)) other → IsRoomPast side words tree 0 (2 ^ 64) (key - rest) (256 ^ b.now.width) (nearer room other)
   child_past Up room other told past =
@@ -127,6 +127,17 @@ module _ {V : _} (words : ℕ) (tree : Pairs) (b : _) (key left : ℕ) (down : I
       → IsRoomPast side words tree 0 (2 ^ 64) (key - rest) (256 ^ b.now.width) room → IsRoom side words tree (low_of side key) (high_of side key (2 ^ 64)) room
   full_past Up kid room is full past = room-behind words tree key (key - rest + 256 ^ b.now.width) (2 ^ 64) room (full_behind words tree b key left down byte place rest steps kid is full) past
   full_past Down kid room is full past = room-before words tree 0 (key - rest) (key + 1) room (full_before words tree b key left down byte place rest steps kid is full) past
+
+-- The nearest room once a way has gone from a branch to a child: past that child, or else the one that was remembered.
+pub room_passed : {V : _} {words : ℕ} {tree : Pairs} {view : ViewOf V} {b : _} {key left : ℕ} (down : IsDown words tree view key left) (is : view ≡ Branch b)
+    (byte place rest : ℕ) (steps : IsStep (256 ^ b.now.width) (number_of b.now.skip * 256) b.now.bytes left (Child byte place rest)) (side : Side) (room other result : Room V)
+    → result ≡ nearer room other
+    → IsRoomPast side words (shift (key - left) (branch_pairs b.now.width b.now.skip b.now.bytes b.now.children.items)) (key - left) (key - left + 256 ^ (length b.now.skip + 1 + b.now.width)) (key - left + (number_of b.now.skip * 256 + byte) * 256 ^ b.now.width) (256 ^ b.now.width) room
+    → IsRoomPast side words tree 0 (2 ^ 64) (key - left) (256 ^ width_of view) other → IsRoomPast side words tree 0 (2 ^ 64) (key - rest) (256 ^ b.now.width) result
+room_passed {words = words} {tree = tree} {b = b} {key = key} {left = left} down is byte place rest steps side room other result or told past =
+    subst (IsRoomPast side words tree 0 (2 ^ 64) (key - rest) (256 ^ b.now.width)) (sym or)
+    (child_past words tree b key left (down_branch down is) byte place rest steps side room other told
+    (subst (λ v. IsRoomPast side words tree 0 (2 ^ 64) (key - left) (256 ^ width_of v) other) is past))
 
 -- ---- in a child with room
 

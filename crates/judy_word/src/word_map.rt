@@ -10,10 +10,13 @@ ghost use Rattle.judy_word.specs.Held.{with_new};
 ghost use Rattle.judy_word.specs.WordArrays.{array_of};
 ghost use Rattle.judy_word.specs.Refusals.{IsRefusal};
 ghost use Rattle.judy_word.specs.MapSlots.{LendsSlot, LendsIns};
+ghost use Rattle.judy_word.specs.Sorted.{IsSorted, IsFault};
+ghost use Rattle.judy_leaf.specs.KeyLists.{keys_of};
 
 use crate::error::InsertError;
 use crate::iter::Entries;
 use crate::judyl::JudyL;
+use crate::sorted::SortedError;
 use std::alloc::Global;
 use std::iter::IntoIterator;
 use std::marker::Model;
@@ -47,6 +50,17 @@ impl WordMap {
         WordMap {
             array: JudyL::unbounded(alloc),
         }
+    }
+
+    /// The map of these pairs of a key and its value, whose keys strictly ascend. Its nodes are made once each.
+    pub fn from_sorted(alloc: Global, pairs: &[(u64, u64)]) -> Result<WordMap, SortedError>
+        ensures pairs { IfOk result (λ words. map.entries words.map ≡ pairs.now) }
+        ensures limit { IfOk result (λ words. words.limit ≡ u64.MAX) }
+        ensures sorted { OnOk result (IsSorted u64.MAX (keys_of pairs.now)) }
+        ensures refused { IfErr result (IsFault u64.MAX (keys_of pairs.now)) }
+    {
+        let array = JudyL::from_sorted(alloc, u64::MAX, pairs)?;
+        Ok(WordMap { array })
     }
 
     /// The slot of a key, which is put in with the value 0 where it is absent.

@@ -39,10 +39,8 @@ impl<V: Words + Drop> TreeArray<V> {
             (Lends (the_row V.row V.Words) word self.entry result (with_value self.entry.now key)) }
         ensures value { Some result.now ≡ map.get (map_in self.old) key }
     {
-        match self.slot(key) {
-            Some(slot) => slot,
-            None => unreachable!(),
-        }
+        self.root.told();
+        self.root.slot_of(key)
     }
 
     /// Lends the value of the least key that isn't below a word, and tells that key; `None` where there is none, and then

@@ -16,6 +16,8 @@ impl<V: Words + Drop> TreeArray<V> {
     /// Gives a key a value, in an array whose keys have values, and answers the value that was there; `None` where the key was absent,
     /// and was put in. Where it was there, the nodes stay. Refused as `set` is, and then the array is as it was; never where the key is
     /// there.
+    // Compiled into its callers: the answer doesn't go through memory then.
+    #[inline(always)]
     pub fn insert(&mut self, key: u64, value: u64) -> Result<Option<u64>, InsertError>
         requires words { V.WORDS ≡ 1 }
         ensures answer { IfOk result (λ was. was ≡ map.get (map_in self.old) key) }

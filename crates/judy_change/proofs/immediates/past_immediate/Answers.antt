@@ -1,39 +1,51 @@
-use Rattle.std.proofs.Common.{◌+◌, ◌^◌, [], ◌∷◌, ◌++◌, take, drop, refl, sym, subst, arith, IfOk}
-use Rattle.judy_leaf.specs.KeyLists.{with_pair, low_pairs}
+use Rattle.std.proofs.Common.{◌≡◌, ℕ, ◌^◌, false, true≢false, ◌||◌, [], ◌∷◌, length, get_or, sym, ap, ◌∙◌, subst, arith, IfOk}
+use Rattle.std.proofs.lemmas.Bool.{eq-eqb}
+use Rattle.judy_bits.specs.ByteSets.{has}
+use Rattle.judy_leaf.specs.KeyLists.{keys_of, values_of, with_pair, low_pairs}
 use Rattle.judy_node.specs.Trees.{Pairs, IsMap}
 use Rattle.judy_node.specs.Kinds.{tree_of}
 use Rattle.judy_node.specs.Built.{IsBuilt}
 use Rattle.judy_node.proofs.MadeFacts.{low_pairs_same}
-use Rattle.judy_change.proofs.Added.{unit_fits, filled_front}
 use Rattle.judy_change.proofs.PairPlaces.{map-with_pair}
 use Rattle.judy_change.proofs.immediates.past_immediate.Goals as goal
 
-pub fill-requires-clause-fits : goal.fill-requires-clause-fits
-fill-requires-clause-fits g c =
-    let most = c.len-count.ensures.list.most in
-    let fits = unit_fits c.args.full.now.width most in
-    omega arith
+-- The only pair of a list, by its key and its value.
+only_pair : (pairs : Pairs) (key value : ℕ) → length pairs ≡ 1 → key ≡ get_or (keys_of pairs) 0 0 → value ≡ get_or (values_of pairs) 0 0 → pairs ≡ (key, value) ∷ []
+only_pair [] key value one first held = absurd (omega arith)
+only_pair (pair ∷ []) key value one first held = λ t. (sym first t, sym held t) ∷ []
+only_pair (pair ∷ more ∷ pairs) key value one first held = absurd (omega arith)
+
+-- Two pairs are those of the list and one more.
+both_are : (list both : Pairs) (key value only held : ℕ) → length list ≡ 1 → only ≡ get_or (keys_of list) 0 0 → held ≡ get_or (values_of list) 0 0 → both ≡ with_pair key value ((only, held) ∷ []) → both ≡ with_pair key value list
+both_are list both key value only held one first there put = put ∙ ap (with_pair key value) (sym (only_pair list only held one first there))
+
+-- A key that isn't the only one is another.
+apart : (pairs : Pairs) (only key : ℕ) → length pairs ≡ 1 → only ≡ get_or (keys_of pairs) 0 0 → has (keys_of pairs) key ≡ false → only ≡ key → ⊥
+apart [] only key one first absent same = absurd (omega arith)
+apart (pair ∷ pairs) only key one first absent same = true≢false (sym (ap (λ b. b || has (keys_of pairs) key) (eq-eqb pair.0 key (sym first ∙ same))) ∙ absent)
+
+pub in_order-both-requires : goal.in_order-both-requires
+in_order-both-requires g c =
+    let one = c.if-len-ne1.false in
+    let counted = c.len.ensures.count in
+    apart c.args.full.now.pairs c.key_at.result c.args.key (omega arith) c.key_at.ensures c.requires.absent
 
 pub kind_of_sorted-requires-clause-map : goal.kind_of_sorted-requires-clause-map
 kind_of_sorted-requires-clause-map g c =
     let list = c.args.full.now.pairs in
-    let spares : Pairs = (0, 0) ∷ (0, 0) ∷ (0, 0) ∷ (0, 0) ∷ (0, 0) ∷ (0, 0) ∷ (0, 0) ∷ (0, 0) ∷ (0, 0) ∷ [] in
-    let count = c.len-count.result in
-    let within = c.len-count.ensures.within in
-    let are = filled_front c.fill.new.out list spares (take (count + 1) (c.fill.new.out ++ drop count spares)) c.put_at.new.pairs (drop (count + 1) (c.fill.new.out ++ drop count spares)) c.args.key c.args.value c.rank.result count
-    c.fill.ensures c.len-count.ensures.count (omega arith) c.rank.ensures.value refl c.put_at.ensures in
+    let one = c.if-len-ne1.false in
+    let counted = c.len.ensures.count in
+    let both = both_are list c.in_order-both.result c.args.key c.args.value c.key_at.result c.value_at.result (omega arith) c.key_at.ensures c.value_at.ensures c.in_order-both.ensures in
     let words = g.V.Words.WORDS in
     let unit = 256 ^ c.args.width in
     let map = map-with_pair words 0 unit c.args.key c.args.value list c.requires.map (omega arith) c.requires.fits c.requires.absent c.requires.no_value in
-    subst (λ (ps : Pairs). IsMap words 0 unit (low_pairs unit ps)) (sym are)
+    subst (λ (ps : Pairs). IsMap words 0 unit (low_pairs unit ps)) (sym both)
     (subst (IsMap words 0 unit) (sym (low_pairs_same words 0 unit (with_pair c.args.key c.args.value list) map)) map)
 
 pub returns-clause-built : goal.returns-clause-built
 returns-clause-built g c =
     let list = c.args.full.now.pairs in
-    let spares : Pairs = (0, 0) ∷ (0, 0) ∷ (0, 0) ∷ (0, 0) ∷ (0, 0) ∷ (0, 0) ∷ (0, 0) ∷ (0, 0) ∷ (0, 0) ∷ [] in
-    let count = c.len-count.result in
-    let within = c.len-count.ensures.within in
-    let are = filled_front c.fill.new.out list spares (take (count + 1) (c.fill.new.out ++ drop count spares)) c.put_at.new.pairs (drop (count + 1) (c.fill.new.out ++ drop count spares)) c.args.key c.args.value c.rank.result count
-    c.fill.ensures c.len-count.ensures.count (omega arith) c.rank.ensures.value refl c.put_at.ensures in
-    subst (λ (ps : Pairs). IfOk c.kind_of_sorted.result (λ kind. IsBuilt g.V.Words.WORDS c.args.width ps (tree_of g.V.Words.WORDS kind))) are c.kind_of_sorted.ensures.built
+    let one = c.if-len-ne1.false in
+    let counted = c.len.ensures.count in
+    let both = both_are list c.in_order-both.result c.args.key c.args.value c.key_at.result c.value_at.result (omega arith) c.key_at.ensures c.value_at.ensures c.in_order-both.ensures in
+    subst (λ (ps : Pairs). IfOk c.kind_of_sorted.result (λ kind. IsBuilt g.V.Words.WORDS c.args.width ps (tree_of g.V.Words.WORDS kind))) both c.kind_of_sorted.ensures.built

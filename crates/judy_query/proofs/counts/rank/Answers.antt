@@ -1,7 +1,7 @@
 use Rattle.std.proofs.Common.{◌≡◌, ◌+◌, ◌-◌, ◌^◌, [], length, sym, refl, ap, ◌∙◌, subst, arith}
 use Rattle.judy_node.specs.Populations.{keys_before}
 use Rattle.judy_query.specs.Parts.{IsDown, width_of, passed}
-use Rattle.judy_query.proofs.Downs.{down_root, down_child, down_gap, child_inside, child_is, beside_is, branch_is, front_long, front_within, passed_few}
+use Rattle.judy_query.proofs.Downs.{down_branch, down_root, down_child, down_gap, child_inside, child_is, beside_is, branch_is, front_long, front_within, passed_few}
 use Rattle.judy_query.proofs.Links.{rank_is}
 use Rattle.judy_query.proofs.RankFacts.{part-rank, rank-le, rank-above}
 use Rattle.judy_query.proofs.counts.rank.Goals as goal
@@ -15,9 +15,8 @@ down-init g c =
 pub keys_before-below-requires-clause-place : goal.keys_before-below-requires-clause-place
 keys_before-below-requires-clause-place g c =
     let words = g.V.Words.WORDS in
-    let pairs = c.args.tree.now.pairs in
     let b = c.in-Branch.branch.now in
-    let down = subst (λ v. IsDown words pairs v c.args.key c.down.left) c.in-Branch.is c.down.invariant.0 in
+    let down = down_branch c.down.invariant.0 c.in-Branch.is in
     let few = passed_few words b.width b.skip b.bytes b.children.items b.population c.down.left c.step-step.result (branch_is down) c.step-step.ensures in
     let same = c.passed.ensures in
     omega arith
@@ -53,24 +52,18 @@ returns-in_default-step g c =
 
 pub index-requires : goal.index-requires
 index-requires g c =
-    let words = g.V.Words.WORDS in
-    let pairs = c.args.tree.now.pairs in
-    let down = subst (λ v. IsDown words pairs v c.args.key c.down.left) c.in-Branch.is c.down.invariant.0 in
+    let down = down_branch c.down.invariant.0 c.in-Branch.is in
     let inside = child_inside down c.in-Child.field-0 c.in-Child.place c.in-Child.rest c.in-Child.ensures in
     omega (arith, c.in-Branch.branch.now.children.ok.0)
 
 pub enter-view-requires-in-Branch : goal.enter-view-requires-in-Branch
 enter-view-requires-in-Branch g c =
-    let words = g.V.Words.WORDS in
-    let pairs = c.args.tree.now.pairs in
-    let down = subst (λ v. IsDown words pairs v c.args.key c.down.left) c.in-Branch.is c.down.invariant.0 in
+    let down = down_branch c.down.invariant.0 c.in-Branch.is in
     (omega arith, (omega (arith, c.down.invariant.2, c.enter-view.ensures.visits, c.requires), child_is down c.in-Child.field-0 c.in-Child.place c.in-Child.rest c.in-Child.ensures c.index.ensures))
 
 pub down-smaller : goal.down-smaller
 down-smaller g c =
-    let words = g.V.Words.WORDS in
-    let pairs = c.args.tree.now.pairs in
-    let down = subst (λ v. IsDown words pairs v c.args.key c.down.left) c.in-Branch.is c.down.invariant.0 in
+    let down = down_branch c.down.invariant.0 c.in-Branch.is in
     let next = down_child down c.in-Child.field-0 c.in-Child.place c.in-Child.rest c.in-Child.ensures c.index.ensures c.enter-view-in-Branch.ensures.view in
     let here = ap width_of c.in-Branch.is in
     let less = next.width_is in

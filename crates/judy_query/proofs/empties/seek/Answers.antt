@@ -1,12 +1,12 @@
 use Rattle.std.proofs.Common.{◌+◌, ◌-◌, ◌^◌, length, sym, ap, subst, refl, arith}
 use Rattle.judy_node.specs.Views.{view_pairs}
 use Rattle.judy_node.specs.declared.view.ViewOf.TheVariants.{Branch}
-use Rattle.judy_query.specs.Parts.{IsDown, width_of}
+use Rattle.judy_query.specs.Parts.{width_of}
 use Rattle.judy_query.specs.Rooms.{IsAbsent, IsRoomPast, low_of, high_of}
-use Rattle.judy_query.proofs.Downs.{down_root, down_child, child_inside, child_is, beside_is, view_width}
+use Rattle.judy_query.proofs.Downs.{down_branch, down_root, down_child, child_inside, child_is, beside_is, view_width}
 use Rattle.judy_query.proofs.BranchRooms.{beside_absent, not_full, all_full}
 use Rattle.judy_query.proofs.RoomSteps.{down_absent, child_room}
-use Rattle.judy_query.proofs.SideRooms.{high_within, absent_below, room_at, past_all, at_key, down_at, down_past, child_past, full_past}
+use Rattle.judy_query.proofs.SideRooms.{high_within, absent_below, room_at, past_all, at_key, down_at, down_past, room_passed, full_past}
 use Rattle.judy_query.proofs.empties.seek.Goals as goal
 
 pub down-init : goal.down-init
@@ -25,7 +25,7 @@ returns-in_default-step g c =
     let b = c.in-Branch.branch.now in
     let key = c.args.key in
     let left = c.down.left in
-    let down = subst (λ v. IsDown words all v key left) c.in-Branch.is c.down.invariant.0 in
+    let down = down_branch c.down.invariant.0 c.in-Branch.is in
     let absent = beside_absent words b.width b.skip b.bytes b.children.items b.population down.shown.place.1 c.step.result left (beside_is c.step.result c.in_default-step.not-Child) c.step.ensures down.inside in
     let some = c.down.invariant.0.shown.some in
     record {
@@ -36,31 +36,22 @@ returns-in_default-step g c =
 
 pub room_past-requires : goal.room_past-requires
 room_past-requires g c =
-    let down = subst (λ v. IsDown g.V.Words.WORDS c.args.tree.now.pairs v c.args.key c.down.left) c.in-Branch.is c.down.invariant.0 in
+    let down = down_branch c.down.invariant.0 c.in-Branch.is in
     record { branch = down.shown.place.1; child = c.in-Child.ensures.1; fits = omega (arith, down.part.fits) }
 
 pub index-child-requires : goal.index-child-requires
 index-child-requires g c =
-    let words = g.V.Words.WORDS in
-    let all = c.args.tree.now.pairs in
-    let down = subst (λ v. IsDown words all v c.args.key c.down.left) c.in-Branch.is c.down.invariant.0 in
+    let down = down_branch c.down.invariant.0 c.in-Branch.is in
     let inside = child_inside down c.in-Child.byte c.in-Child.place c.in-Child.rest c.in-Child.ensures in
     omega (arith, c.in-Branch.branch.now.children.ok.0)
 
 pub returns-then-is_full-clause-room : goal.returns-then-is_full-clause-room
 returns-then-is_full-clause-room g c =
-    let words = g.V.Words.WORDS in
-    let all = c.args.tree.now.pairs in
     let b = c.in-Branch.branch in
-    let key = c.args.key in
-    let left = c.down.left in
     let side = c.args.side in
-    let down = subst (λ v. IsDown words all v key left) c.in-Branch.is c.down.invariant.0 in
-    let past = subst (λ v. IsRoomPast side words all 0 (2 ^ 64) (key - left) (256 ^ width_of v) c.down.beside) c.in-Branch.is c.down.invariant.2 in
-    let room = child_past words all b key left down c.in-Child.byte c.in-Child.place c.in-Child.rest c.in-Child.ensures side c.room_past.result c.down.beside c.room_past.ensures past in
     let full = all_full (length c.index-child.result.now.pairs) (256 ^ b.now.width) c.is_full.result c.is_full.ensures c.if-is_full.true in
-    full_past words all b key left down c.in-Child.byte c.in-Child.place c.in-Child.rest c.in-Child.ensures side c.index-child.result.now c.or-beside.result c.index-child.ensures full
-    (subst (IsRoomPast side words all 0 (2 ^ 64) (key - c.in-Child.rest) (256 ^ b.now.width)) (sym c.or-beside.ensures) room)
+    full_past g.V.Words.WORDS c.args.tree.now.pairs b c.args.key c.down.left (down_branch c.down.invariant.0 c.in-Branch.is) c.in-Child.byte c.in-Child.place c.in-Child.rest c.in-Child.ensures side c.index-child.result.now c.or-beside.result c.index-child.ensures full
+    (room_passed c.down.invariant.0 c.in-Branch.is c.in-Child.byte c.in-Child.place c.in-Child.rest c.in-Child.ensures side c.room_past.result c.down.beside c.or-beside.result c.or-beside.ensures c.room_past.ensures c.down.invariant.2)
 
 pub enter-view-requires : goal.enter-view-requires
 enter-view-requires g c =
@@ -69,7 +60,7 @@ enter-view-requires g c =
     let b = c.in-Branch.branch in
     let key = c.args.key in
     let left = c.down.left in
-    let down = subst (λ v. IsDown words all v key left) c.in-Branch.is c.down.invariant.0 in
+    let down = down_branch c.down.invariant.0 c.in-Branch.is in
     let room = child_room words all b key left down c.in-Child.byte c.in-Child.place c.in-Child.rest c.in-Child.ensures c.index-child.result.now c.index-child.ensures (not_full (length c.index-child.result.now.pairs) (256 ^ b.now.width) c.is_full.result c.is_full.ensures c.if-is_full.false) in
     record {
       below = omega (arith, c.down.invariant.3, c.enter_root-view.ensures.visits, c.requires);
@@ -80,32 +71,22 @@ enter-view-requires g c =
 
 pub down-smaller : goal.down-smaller
 down-smaller g c =
-    let words = g.V.Words.WORDS in
-    let all = c.args.tree.now.pairs in
-    let down = subst (λ v. IsDown words all v c.args.key c.down.left) c.in-Branch.is c.down.invariant.0 in
+    let down = down_branch c.down.invariant.0 c.in-Branch.is in
     let next = down_child down c.in-Child.byte c.in-Child.place c.in-Child.rest c.in-Child.ensures c.index-child.ensures c.enter-view.ensures.view in
     omega (arith, ap width_of c.in-Branch.is, next.width_is)
 
 pub down-preserved : goal.down-preserved
 down-preserved g c =
-    let words = g.V.Words.WORDS in
-    let all = c.args.tree.now.pairs in
-    let b = c.in-Branch.branch in
-    let key = c.args.key in
-    let left = c.down.left in
     let side = c.args.side in
-    let down = subst (λ v. IsDown words all v key left) c.in-Branch.is c.down.invariant.0 in
-    let past = subst (λ v. IsRoomPast side words all 0 (2 ^ 64) (key - left) (256 ^ width_of v) c.down.beside) c.in-Branch.is c.down.invariant.2 in
-    let room = child_past words all b key left down c.in-Child.byte c.in-Child.place c.in-Child.rest c.in-Child.ensures side c.room_past.result c.down.beside c.room_past.ensures past in
-    let next = down_child down c.in-Child.byte c.in-Child.place c.in-Child.rest c.in-Child.ensures c.index-child.ensures c.enter-view.ensures.view in
+    let next = down_child (down_branch c.down.invariant.0 c.in-Branch.is) c.in-Child.byte c.in-Child.place c.in-Child.rest c.in-Child.ensures c.index-child.ensures c.enter-view.ensures.view in
     let here = ap width_of c.in-Branch.is in
     let less = next.width_is in
     let visits = c.enter-view.ensures.visits in
     let so_far = c.down.invariant.3 in (
       next.down,
       sym less,
-      subst (λ w. IsRoomPast side words all 0 (2 ^ 64) (key - c.in-Child.rest) (256 ^ w) c.or-beside.result) (sym less)
-          (subst (IsRoomPast side words all 0 (2 ^ 64) (key - c.in-Child.rest) (256 ^ b.now.width)) (sym c.or-beside.ensures) room),
+      subst (λ w. IsRoomPast side g.V.Words.WORDS c.args.tree.now.pairs 0 (2 ^ 64) (c.args.key - c.in-Child.rest) (256 ^ w) c.or-beside.result) (sym less)
+          (room_passed c.down.invariant.0 c.in-Branch.is c.in-Child.byte c.in-Child.place c.in-Child.rest c.in-Child.ensures side c.room_past.result c.down.beside c.or-beside.result c.or-beside.ensures c.room_past.ensures c.down.invariant.2),
       omega arith,
       omega (arith, visits, c.down.invariant.4),
     )

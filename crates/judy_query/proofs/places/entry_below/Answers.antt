@@ -2,7 +2,7 @@ use Rattle.std.proofs.Common.{◌≡◌, ◌+◌, ◌-◌, ◌^◌, length, Some
 use Rattle.std.proofs.lemmas.Option.{same_Some, slice_get-get_or, slice_get_within}
 use Rattle.judy_node.specs.Views.{view_pairs}
 use Rattle.judy_query.specs.Parts.{IsDown, raised, width_of}
-use Rattle.judy_query.proofs.Downs.{down_top, start_word, start_child, start_down}
+use Rattle.judy_query.proofs.Downs.{down_branch, down_top, start_word, start_child, start_down}
 use Rattle.judy_query.proofs.RankFacts.{part-at, at_below}
 use Rattle.judy_query.proofs.places.entry_below.Goals as goal
 
@@ -16,7 +16,7 @@ pub overflow_add-base : goal.overflow_add-base
 overflow_add-base g c =
     let words = g.V.Words.WORDS in
     let top = view_pairs c.args.top in
-    let down = subst (λ v. IsDown words top v c.down.base 0) c.in-Branch.is c.down.invariant.0 in
+    let down = down_branch c.down.invariant.0 c.in-Branch.is in
     let inside = slice_get_within c.in-Branch.branch.now.children.items c.holding-at.result.0 c.holding-at.ensures.0 c.holding-at.ensures.1.there in
     let word = start_word words top c.in-Branch.branch c.down.base down c.holding-at.result.0 c.start_of-base.result inside c.start_of-base.ensures in
     omega arith
@@ -30,7 +30,7 @@ pub enter-view-requires : goal.enter-view-requires
 enter-view-requires g c =
     let words = g.V.Words.WORDS in
     let top = view_pairs c.args.top in
-    let down = subst (λ v. IsDown words top v c.down.base 0) c.in-Branch.is c.down.invariant.0 in
+    let down = down_branch c.down.invariant.0 c.in-Branch.is in
     let inside = slice_get_within c.in-Branch.branch.now.children.items c.holding-at.result.0 c.holding-at.ensures.0 c.holding-at.ensures.1.there in
     let child = start_child words top c.in-Branch.branch c.down.base down c.holding-at.result.0 c.start_of-base.result inside c.start_of-base.ensures c.index.result.now c.index.ensures in
     let here = ap width_of c.in-Branch.is in
@@ -42,7 +42,7 @@ pub down-smaller : goal.down-smaller
 down-smaller g c =
     let words = g.V.Words.WORDS in
     let top = view_pairs c.args.top in
-    let down = subst (λ v. IsDown words top v c.down.base 0) c.in-Branch.is c.down.invariant.0 in
+    let down = down_branch c.down.invariant.0 c.in-Branch.is in
     let inside = slice_get_within c.in-Branch.branch.now.children.items c.holding-at.result.0 c.holding-at.ensures.0 c.holding-at.ensures.1.there in
     let next = start_down words top c.in-Branch.branch c.down.base down c.holding-at.result.0 c.start_of-base.result inside c.start_of-base.ensures c.index.result.now c.index.ensures c.enter-view.result c.enter-view.ensures.view in
     let here = ap width_of c.in-Branch.is in

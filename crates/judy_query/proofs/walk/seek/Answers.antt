@@ -8,7 +8,7 @@ use Rattle.judy_node.specs.Views.{view_pairs}
 use Rattle.judy_node.proofs.Maps.{length-keys_of}
 use Rattle.judy_query.specs.Parts.{IsDown, width_of, passed, reached}
 use Rattle.judy_query.specs.Walks.{waiting, AreTurns}
-use Rattle.judy_query.proofs.Downs.{down_root, down_child, down_gap, child_inside, child_is, beside_is, branch_is, passed_few, beside_reached}
+use Rattle.judy_query.proofs.Downs.{down_branch, down_root, down_child, down_gap, child_inside, child_is, beside_is, branch_is, passed_few, beside_reached}
 use Rattle.judy_query.proofs.LaterFacts.{reached_rank}
 use Rattle.judy_query.proofs.Splits.{rest_of}
 use Rattle.judy_query.proofs.WalkFacts.{part-rest, end_is}
@@ -24,17 +24,15 @@ down-init g c =
 pub reached-requires : goal.reached-requires
 reached-requires g c =
     let words = g.V.Words.WORDS in
-    let pairs = c.args.tree.now.pairs in
     let b = c.in-Branch.branch.now in
-    let down = subst (λ v. IsDown words pairs v c.args.key c.down.left) c.in-Branch.is c.down.invariant.0 in
+    let down = down_branch c.down.invariant.0 c.in-Branch.is in
     passed_few words b.width b.skip b.bytes b.children.items b.population c.down.left c.step-step.result (branch_is down) c.step-step.ensures
 
 pub keep-requires : goal.keep-requires
 keep-requires g c =
     let words = g.V.Words.WORDS in
-    let pairs = c.args.tree.now.pairs in
     let b = c.in-Branch.branch.now in
-    let down = subst (λ v. IsDown words pairs v c.args.key c.down.left) c.in-Branch.is c.down.invariant.0 in
+    let down = down_branch c.down.invariant.0 c.in-Branch.is in
     let is = branch_is down in
     let from = c.reached.ensures ∙ reached_rank words b.width b.skip b.bytes b.children.items b.population is c.down.left c.step-step.result c.step-step.ensures ∙ ap (rank b.bytes) (sym c.byte_behind.ensures) in
     let here = ap width_of c.in-Branch.is in
@@ -63,24 +61,18 @@ returns-in_default-step g c =
 
 pub index-requires : goal.index-requires
 index-requires g c =
-    let words = g.V.Words.WORDS in
-    let pairs = c.args.tree.now.pairs in
-    let down = subst (λ v. IsDown words pairs v c.args.key c.down.left) c.in-Branch.is c.down.invariant.0 in
+    let down = down_branch c.down.invariant.0 c.in-Branch.is in
     let inside = child_inside down c.in-Child.field-0 c.in-Child.place c.in-Child.rest c.in-Child.ensures in
     omega (arith, c.in-Branch.branch.now.children.ok.0)
 
 pub enter-view-requires-in-Branch : goal.enter-view-requires-in-Branch
 enter-view-requires-in-Branch g c =
-    let words = g.V.Words.WORDS in
-    let pairs = c.args.tree.now.pairs in
-    let down = subst (λ v. IsDown words pairs v c.args.key c.down.left) c.in-Branch.is c.down.invariant.0 in
+    let down = down_branch c.down.invariant.0 c.in-Branch.is in
     (omega arith, (omega (arith, c.down.invariant.4, c.requires.below), child_is down c.in-Child.field-0 c.in-Child.place c.in-Child.rest c.in-Child.ensures c.index.ensures))
 
 pub down-smaller : goal.down-smaller
 down-smaller g c =
-    let words = g.V.Words.WORDS in
-    let pairs = c.args.tree.now.pairs in
-    let down = subst (λ v. IsDown words pairs v c.args.key c.down.left) c.in-Branch.is c.down.invariant.0 in
+    let down = down_branch c.down.invariant.0 c.in-Branch.is in
     let next = down_child down c.in-Child.field-0 c.in-Child.place c.in-Child.rest c.in-Child.ensures c.index.ensures c.enter-view-in-Branch.ensures.view in
     let here = ap width_of c.in-Branch.is in
     let less = next.width_is in

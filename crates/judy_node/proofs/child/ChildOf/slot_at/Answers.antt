@@ -17,6 +17,19 @@ slot_at-requires-clause-seat g c =
     let wide = ap (λ k. (tree_of words k).width) is ∙ ap (λ s. s.width) c.self.view_is in
     kind-seat words g.L.Level.DEPTH kind c.args.key c.in_ok-seat.seat.at c.in_ok-seat.seat.rest c.requires.words level c.in_ok-seat.ensures.seat (omega arith)
 
+-- What is known of the value of the key is known of the value at its place.
+pub slot_at-requires-clause-known : goal.slot_at-requires-clause-known
+slot_at-requires-clause-known g c =
+    let words = g.V.Words.WORDS in
+    let kind = c.kind_mut-kind.result.now in
+    let is = ap kind_in c.kind_mut-kind.ensures.value in
+    let level = subst (λ k. IsLevel words k) (sym is) c.self.invariant.1 in
+    let seen = ap (tree_of words) is ∙ c.self.view_is in
+    subst (λ value. g.K.Sought.known value)
+    (sym (kind-value words kind c.args.key c.in_ok-seat.seat.at c.in_ok-seat.seat.rest c.requires.words level c.in_ok-seat.ensures.seat
+    ∙ ap (λ s. value_of c.args.key s.pairs) seen))
+    c.requires.known
+
 pub invariant_of-self-lent : goal.invariant_of-self-lent
 invariant_of-self-lent g c =
     let words = g.V.Words.WORDS in
