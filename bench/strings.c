@@ -21,9 +21,49 @@ static void begin_at(const text *it) {
     at.length = it->length;
 }
 
+/* The keys in ascending order, each once, and the same as a page, of which an array is made at once. They are made where they are first asked for. */
+static struct {
+    size_t count, used;
+    const text **keys;
+    uint8_t *bytes;
+    sellumaq_entry *entries;
+} sorted;
+
+static int by_bytes(const void *one, const void *other) {
+    return strcmp((const char *)(*(const text *const *)one)->bytes, (const char *)(*(const text *const *)other)->bytes);
+}
+
+static void sort_keys(const struct keys *keys) {
+    if (sorted.count) return;
+    sorted.keys = room(keys->n, sizeof(text *));
+    sorted.bytes = room(keys->n, LONGEST);
+    sorted.entries = room(keys->n, sizeof(sellumaq_entry));
+    for (size_t i = 0; i < keys->n; i++) sorted.keys[i] = &keys->in[i];
+    qsort(sorted.keys, keys->n, sizeof(text *), by_bytes);
+    for (size_t i = 0; i < keys->n; i++) {
+        const text *key = sorted.keys[i];
+        if (i && by_bytes(&sorted.keys[sorted.count - 1], &key) == 0) continue;
+        sorted.keys[sorted.count] = key;
+        sorted.entries[sorted.count++] = (sellumaq_entry){key->length, key->length};
+        memcpy(sorted.bytes + sorted.used, key->bytes, key->length);
+        sorted.used += key->length;
+    }
+}
+
+static void drop_all(struct keys *keys) {
+    free(sorted.keys);
+    free(sorted.bytes);
+    free(sorted.entries);
+    memset(&sorted, 0, sizeof sorted);
+    drop(keys);
+}
+
+/* An insert for each key in ascending order. */
+#define EACH_SORTED(PUT) for (size_t i = 0; i < sorted.count; i++) { const text *k = sorted.keys[i]; PUT; }
+
 /* One library's map: `A` is its variable, the other words are statements over it and a key `k`, or expressions; `NEXT_KEY` goes on to
- * the next key above `at`. A library without order has false for `ORDERED`. */
-#define MEASURE(NAME, A_TYPE, A_INIT, A_END, PUT, FIND, ORDERED, NEXT_KEY, TAKE) \
+ * the next key above `at`, and `BULK_PUT` makes the map anew of all keys. A library without order has false for `ORDERED`. */
+#define MEASURE(NAME, A_TYPE, A_INIT, A_END, PUT, FIND, ORDERED, NEXT_KEY, TAKE, BULK_PUT) \
     static void NAME(const struct keys *keys, double *told) { \
         word found = 0; \
         size_t held = mallinfo2().uordblks; \
@@ -40,6 +80,12 @@ static void begin_at(const text *it) {
             EACH(NEXT, begin_at(&keys->out[i]); if (NEXT_KEY) found += at.bytes[0]); \
         } \
         EACH(DELETE, const text *k = &keys->in[keys->order[i]]; TAKE); \
+        if (ORDERED) { \
+            sort_keys(keys); \
+            word begin = now(); \
+            BULK_PUT; \
+            took(told, BULK, begin, sorted.count); \
+        } \
         A_END; \
         sink += found; \
     }
@@ -72,17 +118,19 @@ static word judyhs_value(sellumaq_judyhs *map, const text *key) {
 static word behind(PPvoid_t slot) { return slot ? *(word *)slot : 0; }
 
 MEASURE(judysl_sellumaq, sellumaq_judysl, {0}, sellumaq_judysl_free(&a), judysl_put(&a, k), judysl_value(&a, k), true, judysl_go_on(&a),
-        sellumaq_judysl_del(&a, k->bytes, k->length))
+        sellumaq_judysl_del(&a, k->bytes, k->length),
+        found += sellumaq_judysl_from_sorted(&a, sorted.bytes, sorted.used, sorted.entries, sorted.count, &(size_t){0}))
 MEASURE(judyhs_sellumaq, sellumaq_judyhs, {0}, sellumaq_judyhs_free(&a), judyhs_put(&a, k), judyhs_value(&a, k), false, false,
-        sellumaq_judyhs_del(&a, k->bytes, k->length))
+        sellumaq_judyhs_del(&a, k->bytes, k->length), (void)0)
 
 /* By HP's names, one source for both libraries, whose names begin with `BY`. */
 #define MEASURE_STRINGS_BY(BY, NAME) \
     MEASURE(NAME, Pvoid_t, NULL, BY##JudySLFreeArray(&a, PJE0), *(word *)BY##JudySLIns(&a, k->bytes, PJE0) = k->length, \
-            behind(BY##JudySLGet(a, k->bytes, PJE0)), true, BY##JudySLNext(a, at.bytes, PJE0) != NULL, BY##JudySLDel(&a, k->bytes, PJE0))
+            behind(BY##JudySLGet(a, k->bytes, PJE0)), true, BY##JudySLNext(a, at.bytes, PJE0) != NULL, BY##JudySLDel(&a, k->bytes, PJE0), \
+            EACH_SORTED(*(word *)BY##JudySLIns(&a, k->bytes, PJE0) = k->length))
 #define MEASURE_BYTES_BY(BY, NAME) \
     MEASURE(NAME, Pvoid_t, NULL, BY##JudyHSFreeArray(&a, PJE0), *(word *)BY##JudyHSIns(&a, (void *)k->bytes, k->length, PJE0) = k->length, \
-            behind(BY##JudyHSGet(a, (void *)k->bytes, k->length)), false, false, BY##JudyHSDel(&a, (void *)k->bytes, k->length, PJE0))
+            behind(BY##JudyHSGet(a, (void *)k->bytes, k->length)), false, false, BY##JudyHSDel(&a, (void *)k->bytes, k->length, PJE0), (void)0)
 
 RELINKED(JudySLFreeArray);
 RELINKED(JudySLIns);
@@ -110,9 +158,10 @@ DECLARE(hash_text)
 bool btree_text_next(const void *map, uint8_t *key, size_t *length);
 
 MEASURE(judysl_std, void *, btree_text_new(), btree_text_free(a), btree_text_insert(a, k->bytes, k->length, k->length),
-        btree_text_value(a, k->bytes, k->length), true, btree_text_next(a, at.bytes, &at.length), btree_text_remove(a, k->bytes, k->length))
+        btree_text_value(a, k->bytes, k->length), true, btree_text_next(a, at.bytes, &at.length), btree_text_remove(a, k->bytes, k->length),
+        EACH_SORTED(btree_text_insert(a, k->bytes, k->length, k->length)))
 MEASURE(judyhs_std, void *, hash_text_new(), hash_text_free(a), hash_text_insert(a, k->bytes, k->length, k->length),
-        hash_text_value(a, k->bytes, k->length), false, false, hash_text_remove(a, k->bytes, k->length))
+        hash_text_value(a, k->bytes, k->length), false, false, hash_text_remove(a, k->bytes, k->length), (void)0)
 #endif
 
 static const struct array ARRAYS[] = {
@@ -131,8 +180,8 @@ static const char *dictionary_name(size_t pattern) { return name(USUAL_PATTERNS 
 static struct keys *make_dictionary(size_t n, size_t pattern) { return make(n, USUAL_PATTERNS + pattern); }
 
 int main(int count, char **words) {
-    struct program program = {ARRAYS, sizeof ARRAYS / sizeof *ARRAYS, USUAL_PATTERNS, name, make, drop};
-    struct program dictionary = {ARRAYS, sizeof ARRAYS / sizeof *ARRAYS, 1, dictionary_name, make_dictionary, drop};
+    struct program program = {ARRAYS, sizeof ARRAYS / sizeof *ARRAYS, USUAL_PATTERNS, name, make, drop_all};
+    struct program dictionary = {ARRAYS, sizeof ARRAYS / sizeof *ARRAYS, 1, dictionary_name, make_dictionary, drop_all};
     if (count > 1 && strcmp(words[1], "--dictionary") == 0) return measure_all(&dictionary, 2, (char *[]){words[0], "100000"});
     return measure_all(&program, count, words);
 }

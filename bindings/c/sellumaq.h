@@ -253,12 +253,22 @@ uint32_t sellumaq_judysl_prev_slot(const sellumaq_judysl *map, uint8_t *buffer, 
 size_t sellumaq_judysl_walk(const sellumaq_judysl *map, const uint8_t *from, size_t length, bool itself,
                             uint8_t *bytes, size_t room, sellumaq_entry *entries, size_t capacity);
 
+/* Makes the map one of `count` strings that strictly ascend, each with its value, in place of what it held, whose memory is given back:
+ * SELLUMAQ_ADDED. The strings stand one behind the other in the `room` bytes, and the length and the value of each in `entries`, as a walk
+ * writes them. Else the map is as it was: SELLUMAQ_BAD_KEY where one goes beyond the bytes, and `*place` is the place of the first such one,
+ * counted from 0; or where one is no key or isn't above the one before it, and `*place` is the place of the first such one; SELLUMAQ_FULL
+ * where they are keys that ascend, and more than 4,294,967,295; SELLUMAQ_NO_MEMORY where there is no memory for them. It takes 24 bytes more
+ * for each string while it is at work. */
+uint32_t sellumaq_judysl_from_sorted(sellumaq_judysl *map, const uint8_t *bytes, size_t room, const sellumaq_entry *entries, size_t count,
+                                     size_t *place);
+
 /* How many keys there are. */
 uint64_t sellumaq_judysl_len(const sellumaq_judysl *map);
 
 /* How many keys there are from one string to another, both included; 0 where the first is above the second, or where a map can't hold one of
- * the two. It takes two ways down the map, however many keys it counts; in each level but the first the entries on one side of the key's own
- * are read, on the side that has fewer. */
+ * the two. It takes at most two ways down the map, however many keys it counts. In the level where these part, if that isn't the first, the
+ * entries between the two strings are read, or the others where they are fewer; in each level below, those on one side of the key's own, on
+ * the side that has fewer. */
 uint64_t sellumaq_judysl_count(const sellumaq_judysl *map, const uint8_t *from, size_t from_length, const uint8_t *to, size_t to_length);
 
 /* The n-th key, counted from 1, told as those of the scans are: SELLUMAQ_FOUND, and the key is in the first `*length` bytes of the buffer,

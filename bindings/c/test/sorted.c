@@ -1,6 +1,8 @@
-/* Arrays made at once of keys that ascend, beside the same ones made key by key. */
+/* Arrays made at once of keys that ascend. */
 #include "../sellumaq.h"
 #include "check.h"
+
+#include <string.h>
 
 enum { KEYS = 5000 };
 
@@ -48,7 +50,76 @@ static void refuse(sellumaq_judy1 *set, sellumaq_judyl *map, size_t count) {
     compare(set, map, count);
 }
 
+enum { STRINGS = 800, BYTES = STRINGS * 40 };
+
+static uint8_t bytes[BYTES], told_bytes[BYTES];
+static sellumaq_entry entries[STRINGS], told_entries[STRINGS + 1];
+
+/* Strings that ascend: numbers of eight digits with some bytes before and behind them, of which many begin alike. The answer is how many
+ * bytes they have. */
+static size_t make_strings(int front, int behind) {
+    size_t used = 0;
+    for (size_t at = 0; at < STRINGS; at++) {
+        char text[64];
+        int length = snprintf(text, sizeof text, "%.*s%08zu%.*s", front, "the very same beginning", at * at + 1, behind, "and an end");
+        memcpy(bytes + used, text, (size_t)length);
+        entries[at] = (sellumaq_entry){ (size_t)length, any() };
+        used += (size_t)length;
+    }
+    return used;
+}
+
+/* Whether a map has the first strings, and nothing else. */
+static void compare_strings(const sellumaq_judysl *map, size_t count) {
+    size_t used = 0;
+    CHECK(sellumaq_judysl_len(map) == count);
+    CHECK(sellumaq_judysl_walk(map, bytes, 0, true, told_bytes, BYTES, told_entries, STRINGS + 1) == count);
+    for (size_t at = 0; at < count; at++) {
+        CHECK(told_entries[at].length == entries[at].length && told_entries[at].value == entries[at].value);
+        used += entries[at].length;
+    }
+    CHECK(memcmp(bytes, told_bytes, used) == 0);
+}
+
+/* Where a string begins. */
+static uint8_t *string_at(size_t place) {
+    uint8_t *begin = bytes;
+    for (size_t at = 0; at < place; at++) begin += entries[at].length;
+    return begin;
+}
+
+/* A string that doesn't fit is told by its place, and the map is as it was. */
+static void refuse_strings(sellumaq_judysl *map, size_t used) {
+    size_t place = 977, at = 1 + any() % (STRINGS - 1), length = entries[at].length;
+    CHECK(sellumaq_judysl_from_sorted(map, bytes, used - 1, entries, STRINGS, &place) == SELLUMAQ_BAD_KEY && place == STRINGS - 1);
+    uint8_t *string = string_at(at), kept[64];
+    memcpy(kept, string, length);
+    string[length - 1] = 0;
+    CHECK(sellumaq_judysl_from_sorted(map, bytes, used, entries, STRINGS, &place) == SELLUMAQ_BAD_KEY && place == at);
+    memcpy(string, string_at(at - 1), length);
+    CHECK(sellumaq_judysl_from_sorted(map, bytes, used, entries, STRINGS, &place) == SELLUMAQ_BAD_KEY && place == at);
+    memcpy(string, kept, length);
+    compare_strings(map, STRINGS);
+}
+
+static void try_strings(void) {
+    sellumaq_judysl map = {0};
+    for (int front = 0; front <= 20; front += 5) {
+        size_t used = make_strings(front, front / 2), place = 977, length = entries[STRINGS - 1].length;
+        for (size_t count = 0; count <= STRINGS; count = count < 10 ? count + 1 : count * 2) {
+            CHECK(sellumaq_judysl_from_sorted(&map, bytes, used, entries, count, &place) == SELLUMAQ_ADDED && place == 977);
+            compare_strings(&map, count);
+        }
+        CHECK(sellumaq_judysl_from_sorted(&map, bytes, used, entries, STRINGS, &place) == SELLUMAQ_ADDED);
+        CHECK(sellumaq_judysl_count(&map, bytes, 0, string_at(STRINGS - 1), length) == STRINGS);
+        refuse_strings(&map, used);
+        CHECK(sellumaq_judysl_del(&map, bytes, entries[0].length) && sellumaq_judysl_len(&map) == STRINGS - 1);
+    }
+    sellumaq_judysl_free(&map);
+}
+
 int main(void) {
+    try_strings();
     sellumaq_judy1 set = {0};
     sellumaq_judyl map = {0};
     for (unsigned spread = 0; spread < 44; spread++) {

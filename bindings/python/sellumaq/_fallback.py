@@ -21,6 +21,7 @@ _word = ctypes.c_uint64
 _slot = ctypes.POINTER(_word)
 _key = (ctypes.c_char_p, ctypes.c_size_t)
 _buffer = (*_key, ctypes.POINTER(ctypes.c_size_t), _slot)
+_sorted = (ctypes.c_void_p, ctypes.c_size_t, ctypes.POINTER(ctypes.c_size_t))
 
 # What calls answer that have more than yes and no to tell; a yes is 1 too.
 _FOUND, _NO_MEMORY, _FULL, _BAD_KEY = 1, 2, 3, 4
@@ -64,6 +65,20 @@ def _checked(number):
     return word
 
 
+def _bad_key(key):
+    return ValueError(f"more than {MAX_KEY} bytes, or with a zero byte: {key!r}")
+
+
+def _ascending(pairs):
+    """Pairs as they come, if each key is above the one before it."""
+    last = None
+    for place, (key, value) in enumerate(pairs):
+        if last is not None and key <= last:
+            raise ValueError(f"the key at place {place} isn't above the one before it")
+        last = key
+        yield key, value
+
+
 class _Array:
     """What all kinds have alike. `_passed` is what C is given for a key, or None where the object can't be one."""
 
@@ -85,6 +100,14 @@ class _Array:
     def clear(self):
         """Takes every key out and gives the memory back."""
         self._calls["free"](self._handle)
+
+    def _made(self, call, words, count, *strings):
+        """Makes the array one of so many keys, of which a list of words tells."""
+        told = self._calls[call](self._handle, *strings, (_word * len(words))(*words), count, ctypes.c_size_t())
+        if told == _FULL:
+            raise OverflowError("the dict is full")
+        if told not in _PUT:
+            raise MemoryError
 
     def _has(self, call, key, *more):
         """What a call answers for a key; what can be none isn't there."""
@@ -192,7 +215,10 @@ class _Words(_Array):
 
 
 class WordSet(_Words):
-    _kind = _word_calls("judy1", unset=(_word,), test=(_word,)) | {"set": _call("judy1_set", ctypes.c_uint32, _word)}
+    _kind = _word_calls("judy1", unset=(_word,), test=(_word,)) | {
+        "set": _call("judy1_set", ctypes.c_uint32, _word),
+        "from_keys": _call("judy1_from_sorted", ctypes.c_uint32, *_sorted),
+    }
 
     def __contains__(self, key):
         return self._has("test", key)
@@ -222,13 +248,18 @@ class WordSet(_Words):
         for key in keys:
             WordSet.add(self, key)
 
+    def _make(self, keys):
+        words = [key for key, _ in _ascending((_checked(key), None) for key in keys)]
+        self._made("from_keys", words, len(words))
+
 
 _ENTRY = (_word, _slot, _slot)
 
 
 class WordMap(_Words, _Map):
     _kind = _word_calls("judyl", get=(_word, _slot), remove=(_word, _slot), first_entry=_ENTRY, last_entry=_ENTRY) | {
-        "put": _call("judyl_put", ctypes.c_uint32, _word, _word)
+        "put": _call("judyl_put", ctypes.c_uint32, _word, _word),
+        "from_pairs": _call("judyl_from_sorted", ctypes.c_uint32, *_sorted),
     }
 
     def __setitem__(self, key, value):
@@ -242,6 +273,10 @@ class WordMap(_Words, _Map):
     def _fill(self, pairs):
         for key, value in pairs:
             WordMap.__setitem__(self, key, value)
+
+    def _make(self, pairs):
+        told = list(_ascending((_checked(key), _checked(value)) for key, value in pairs))
+        self._made("from_pairs", [word for pair in told for word in pair], len(told))
 
 
 class _Strings(_Map):
@@ -258,7 +293,7 @@ class _Strings(_Map):
         word, string = _checked(value), self._bytes(key)
         told = self._calls["put"](self._handle, string, len(string), word)
         if told == _BAD_KEY:
-            raise ValueError(f"more than {MAX_KEY} bytes, or with a zero byte: {key!r}")
+            raise _bad_key(key)
         if told == _FULL:
             raise OverflowError("the dict is full")
         if told not in _PUT:
@@ -298,7 +333,24 @@ class _OrderedStrings(_Strings):
     _kind = _string_calls("judysl", "first", "next", "last", "prev") | {
         "count": _call("judysl_count", _word, *_key, *_key),
         "by_count": _call("judysl_by_count", ctypes.c_uint32, _word, *_buffer),
+        "from_strings": _call("judysl_from_sorted", ctypes.c_uint32, *_key, *_sorted),
     }
+
+    def _begin(self, _):
+        # Others may see how far an update is, since they run between its steps.
+        return ()
+
+    def _read(self, pairs):
+        for key, value in pairs:
+            word, string = _checked(value), self._bytes(key)
+            if not _could_be_key(string)[1]:
+                raise _bad_key(key)
+            yield string, word
+
+    def _make(self, pairs):
+        told = list(_ascending(self._read(pairs)))
+        text = b"".join(string for string, _ in told)
+        self._made("from_strings", [word for string, value in told for word in (len(string), value)], len(told), text, len(text))
 
     def bisect_left(self, string):
         """How many keys there are below a string."""

@@ -2,10 +2,11 @@
 
 from __future__ import annotations
 
-from collections.abc import Iterator
+from collections.abc import Iterable, Iterator
 from typing import Any
 
 from . import _views
+from ._maps import pairs_of
 
 
 class Placed:
@@ -77,6 +78,18 @@ class Placed:
 
 class PlacedDict(Placed):
     """The same of dicts."""
+
+    @classmethod
+    def from_sorted(cls, pairs: Iterable[Any], /) -> Any:
+        """A dict of pairs whose keys strictly ascend, made at once; ValueError at the first key that isn't above the one before it.
+
+        >>> from sellumaq import JudyL, JudySL
+        >>> JudyL.from_sorted((n, n * n) for n in range(1, 4)), JudySL.from_sorted({"a": 1, "ab": 2})
+        (JudyL({1: 1, 2: 4, 3: 9}), JudySL({'a': 1, 'ab': 2}))
+        """
+        made = cls()
+        made._make(pairs_of(pairs))
+        return made
 
     def keys(self) -> _views.PlacedKeys:
         """The keys, with their places.

@@ -40,6 +40,11 @@ class _Strings(Dict):
 class _Ordered(PlacedDict, Copied, _Strings):
     """What both kinds of JudySL have alike. A bound may be any string, also one that can't be a key."""
 
+    def _fill(self, pairs: Iterable[Any]) -> None:
+        left = iter(pairs)
+        super()._fill(self._begin(left))
+        super()._fill(left)
+
     def __iter__(self) -> Iterator[Any]:
         return self._cursor(KEYS, None, None, False)
 

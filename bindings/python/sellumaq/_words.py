@@ -62,6 +62,17 @@ class Judy1(_core.WordSet, _Ordered, Placed, MutableSet, Sequence):
         self._fill(keys)
 
     @classmethod
+    def from_sorted(cls, keys: Iterable[SupportsIndex], /) -> Judy1:
+        """A set of keys that strictly ascend, made at once; ValueError at the first one that isn't above the one before it.
+
+        >>> Judy1.from_sorted(range(10, 40, 10))
+        Judy1([10, 20, 30])
+        """
+        made = cls()
+        made._make(keys)
+        return made
+
+    @classmethod
     def _from_iterable(cls, it: Iterable[SupportsIndex]) -> Judy1:
         return cls(it)
 

@@ -69,6 +69,25 @@ PyObject *make_part(enum part part, PyObject *key, uint64_t value);
 /* `get`'s and `pop`'s arguments: a key and perhaps a default. */
 bool has_default(const char *name, Py_ssize_t count, Py_ssize_t most);
 
+/* items.c */
+
+/* A pair, which is any iterable of two objects, as a tuple; ValueError where it has another number of them, as of dict. */
+PyObject *make_pair(PyObject *object);
+
+/* Whether an iterator is one of Python's own, or a cursor: a step of it runs no code of others, so nobody can see how far it is. A collection of
+ * garbage may run some, which may as well come before the first step. */
+bool is_plain_iterator(PyObject *each);
+
+/* A list with room for so many objects of a size, in the place of another, which may be NULL; NULL where there is no memory, and the list stays. */
+void *make_room(void *list, size_t *room, size_t needed, size_t size);
+
+/* ValueError for the key at this place. */
+void raise_not_ascending(size_t place);
+
+/* word_cursor.c and string_cursor.c */
+bool is_word_cursor(PyObject *object);
+bool is_string_cursor(PyObject *object);
+
 /* words.c, word_cursor.c, strings.c, string_cursor.c: each adds its types to the module; -1 with an error set. */
 int add_words(PyObject *module);
 int add_word_cursor(PyObject *module);

@@ -106,6 +106,8 @@ static PyObject *cursor_next(PyObject *object)
     return make_part(self->part, make_key(self->map, self->key, self->length), value);
 }
 
+bool is_string_cursor(PyObject *object) { return PyType_GetSlot(Py_TYPE(object), Py_tp_iternext) == (void *)cursor_next; }
+
 static int cursor_traverse(PyObject *object, visitproc visit, void *arg)
 {
     Py_VISIT((PyObject *)Py_TYPE(object));

@@ -23,14 +23,6 @@
 STRING_CALLS(judysl, strings)
 STRING_CALLS(judyhs, hashed)
 
-/* A key's bytes. Those of a bytes-like object are a copy, since what it lends may change below the call: in place where they are few. */
-typedef struct {
-    PyObject *owner; /* what keeps `bytes`, or NULL */
-    const uint8_t *bytes;
-    size_t length;
-    uint8_t copy[SELLUMAQ_KEY_BYTES];
-} Key;
-
 static bool set_key(Key *key, PyObject *bytes)
 {
     char *start;
@@ -74,8 +66,7 @@ static bool read_bytes(PyObject *object, Key *key)
     return read;
 }
 
-/* The bytes of a key that is to be stored: false with an error set where the object is of no such kind. */
-static bool read_string(const Strings *self, PyObject *object, Key *key)
+bool read_string(const Strings *self, PyObject *object, Key *key)
 {
     return self->is_text ? read_text(object, key) : read_bytes(object, key);
 }
@@ -100,6 +91,22 @@ static int find_value(Strings *self, PyObject *object, uint64_t *value, bool tak
     return found;
 }
 
+void raise_bad_key(PyObject *object)
+{
+    PyErr_Format(PyExc_ValueError, "more than %d bytes, or with a zero byte: %R", SELLUMAQ_KEY_BYTES, object);
+}
+
+bool is_put(uint32_t told)
+{
+    if (told == SELLUMAQ_PRESENT || told == SELLUMAQ_ADDED)
+        return true;
+    if (told == SELLUMAQ_FULL)
+        PyErr_SetString(PyExc_OverflowError, "the dict is full");
+    else
+        PyErr_NoMemory();
+    return false;
+}
+
 static bool put_value(Strings *self, PyObject *object, PyObject *value)
 {
     Key key;
@@ -108,20 +115,9 @@ static bool put_value(Strings *self, PyObject *object, PyObject *value)
         return false;
     uint32_t told = self->calls->put(&self->handle, key.bytes, key.length, number);
     Py_XDECREF(key.owner);
-    switch (told) {
-    case SELLUMAQ_PRESENT:
-    case SELLUMAQ_ADDED:
-        return true;
-    case SELLUMAQ_BAD_KEY:
-        PyErr_Format(PyExc_ValueError, "more than %d bytes, or with a zero byte: %R", SELLUMAQ_KEY_BYTES, object);
-        return false;
-    case SELLUMAQ_FULL:
-        PyErr_SetString(PyExc_OverflowError, "the dict is full");
-        return false;
-    default:
-        PyErr_NoMemory();
-        return false;
-    }
+    if (told == SELLUMAQ_BAD_KEY)
+        raise_bad_key(object);
+    return told != SELLUMAQ_BAD_KEY && is_put(told);
 }
 
 /* ---- Python's calls ---- */
@@ -190,6 +186,8 @@ static int strings_set_item(PyObject *object, PyObject *key, PyObject *value)
         raise_key_error(key);
     return found == 1 ? 0 : -1;
 }
+
+bool puts_itself(const Strings *map) { return PyType_GetSlot(Py_TYPE((PyObject *)map), Py_mp_ass_subscript) == (void *)strings_set_item; }
 
 static PyObject *strings_clear(PyObject *object, PyObject *Py_UNUSED(none))
 {
@@ -339,6 +337,8 @@ static PyMethodDef map_methods[] = {
      DOC("bisect_left($self, string, /)", "How many keys there are below a string.", IN_ORDER ">>> ages.bisect_left('Alan')\n1")},
     {"bisect_right", bisect_right, METH_O,
      DOC("bisect_right($self, string, /)", "How many keys there are up to a string.", IN_ORDER ">>> ages.bisect_right('Alan')\n2")},
+    {"_begin", strings_begin, METH_O, "Puts in at once what pairs begin with, as far as that can be done; answers the pair after these, or none."},
+    {"_make", strings_make, METH_O, "Makes the map one of the pairs of an iterable, whose keys must ascend."},
     {"_key_at", key_at, METH_O, "The key at a place."},
     {"_cursor", (PyCFunction)(void (*)(void))cursor, METH_METHOD | METH_FASTCALL | METH_KEYWORDS, "A walk between two strings."},
     {NULL, NULL, 0, NULL},

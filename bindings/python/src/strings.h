@@ -30,6 +30,26 @@ typedef struct {
     size_t begin; /* whose keys have so many bytes */
 } Strings;
 
+/* A key's bytes. Those of a bytes-like object are a copy, since what it lends may change below the call: in place where they are few. */
+typedef struct {
+    PyObject *owner; /* what keeps `bytes`, or NULL */
+    const uint8_t *bytes;
+    size_t length;
+    uint8_t copy[SELLUMAQ_KEY_BYTES];
+} Key;
+
+/* The bytes of a key that is to be stored: false with an error set where the object is of no such kind. */
+bool read_string(const Strings *self, PyObject *object, Key *key);
+
+/* ValueError for an object whose bytes are no key of a map in order. */
+void raise_bad_key(PyObject *object);
+
+/* Whether a call put its key in; else an error is set. The bytes are a key. */
+bool is_put(uint32_t told);
+
+/* Whether a map's `__setitem__` is the extension's own. */
+bool puts_itself(const Strings *map);
+
 /* How many bytes the longest beginning of a string has that can be a key in order. Where that isn't all of it no key lies between the two: the
  * string goes on with a zero, or has more bytes than a key. */
 size_t could_be_key(const uint8_t *bytes, size_t length);
@@ -46,6 +66,10 @@ PyObject *next_ahead(Strings *map);
 
 /* Gives the memory back of what was told ahead. */
 void forget_ahead(Strings *map);
+
+/* string_fill.c: of maps in order `_begin`, by which `_fill` begins, and `_make`, in which `from_sorted` ends. */
+PyObject *strings_begin(PyObject *object, PyObject *pairs);
+PyObject *strings_make(PyObject *object, PyObject *pairs);
 
 /* A cursor over the keys of a map in order. A bound is bytes, or NULL where there is none. */
 PyObject *new_string_cursor(PyTypeObject *type, Strings *map, enum part part, PyObject *low, PyObject *high, bool reverse);

@@ -132,6 +132,8 @@ static PyObject *cursor_next(PyObject *object)
     return self->part == KEYS ? make_word(told[0]) : self->part == VALUES ? make_word(told[1]) : make_part(ITEMS, make_word(told[0]), told[1]);
 }
 
+bool is_word_cursor(PyObject *object) { return PyType_GetSlot(Py_TYPE(object), Py_tp_iternext) == (void *)cursor_next; }
+
 static int cursor_traverse(PyObject *object, visitproc visit, void *arg)
 {
     Py_VISIT((PyObject *)Py_TYPE(object));

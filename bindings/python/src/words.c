@@ -24,10 +24,16 @@
     static const WordCalls kind##_calls = {                                                               \
         kind##_first,      kind##_next, kind##_last, kind##_prev,  kind##_first_empty, kind##_last_empty, \
         kind##_by_count,   kind##_has,  kind##_remove, kind##_len, kind##_count,       kind##_free,       \
+        kind##_put,        kind##_from_sorted,                                                            \
     };
 
 static bool judy1_has(Handle *handle, uint64_t key) { return sellumaq_judy1_test(&handle->set, key); }
 static bool judy1_remove(Handle *handle, uint64_t key) { return sellumaq_judy1_unset(&handle->set, key); }
+static uint32_t judy1_put(Handle *handle, const uint64_t *item) { return sellumaq_judy1_set(&handle->set, item[0]); }
+static uint32_t judy1_from_sorted(Handle *handle, const uint64_t *items, size_t count, size_t *place)
+{
+    return sellumaq_judy1_from_sorted(&handle->set, items, count, place);
+}
 WORD_CALLS(judy1, set)
 
 static bool judyl_has(Handle *handle, uint64_t key)
@@ -36,6 +42,11 @@ static bool judyl_has(Handle *handle, uint64_t key)
     return sellumaq_judyl_get(&handle->map, key, &value);
 }
 static bool judyl_remove(Handle *handle, uint64_t key) { return sellumaq_judyl_del(&handle->map, key); }
+static uint32_t judyl_put(Handle *handle, const uint64_t *item) { return sellumaq_judyl_put(&handle->map, item[0], item[1]); }
+static uint32_t judyl_from_sorted(Handle *handle, const uint64_t *items, size_t count, size_t *place)
+{
+    return sellumaq_judyl_from_sorted(&handle->map, (const sellumaq_pair *)items, count, place);
+}
 WORD_CALLS(judyl, map)
 
 /* ---- what sets and maps have alike ---- */
@@ -84,11 +95,22 @@ static int words_contains(PyObject *object, PyObject *key)
     return could_be == 1 ? self->calls->has(&self->handle, word) : could_be;
 }
 
-static void count_changes(Words *self, int keys, int values)
+void count_changes(Words *self, int keys, int values)
 {
     self->changes.keys += (uint64_t)keys;
     self->changes.all += (uint64_t)(keys + values);
 }
+
+/* Notes what a call changed that was to put a key in; false with an error set where there is no memory. */
+static bool note_put(Words *self, uint32_t told)
+{
+    count_changes(self, told == SELLUMAQ_ADDED, self->is_map && told == SELLUMAQ_PRESENT);
+    if (told == SELLUMAQ_NO_MEMORY)
+        PyErr_NoMemory();
+    return told != SELLUMAQ_NO_MEMORY;
+}
+
+bool put_words(Words *self, const uint64_t *item) { return note_put(self, self->calls->put(&self->handle, item)); }
 
 static PyObject *words_clear(PyObject *object, PyObject *Py_UNUSED(none))
 {
@@ -253,6 +275,8 @@ static PyObject *cursor(PyObject *self, PyTypeObject *defining, PyObject *const 
      DOC("bisect_left($self, number, /)", "How many keys there are below a number.", SOME ">>> some.bisect_left(20)\n1")}, \
     {"bisect_right", bisect_right, METH_O, \
      DOC("bisect_right($self, number, /)", "How many keys there are up to a number.", SOME ">>> some.bisect_right(20)\n2")}, \
+    {"_fill", words_fill, METH_O, "Puts the items of an iterable in."}, \
+    {"_make", words_make, METH_O, "Makes the array one of the items of an iterable, whose keys must ascend."}, \
     {"_at", item_at, METH_O, "The key at a place, or the list of those of a slice."}, \
     {"_cursor", (PyCFunction)(void (*)(void))cursor, METH_METHOD | METH_FASTCALL | METH_KEYWORDS, "A walk between two words."}
 
@@ -315,21 +339,11 @@ static PyObject *look_up_many(PyObject *object, PyObject *keys, Append *append_t
 
 /* ---- sets ---- */
 
-static bool put_key(Words *self, PyObject *key)
+static PyObject *set_add(PyObject *object, PyObject *key)
 {
+    Words *self = (Words *)object;
     uint64_t word;
-    if (!read_word(key, &word))
-        return false;
-    uint32_t told = sellumaq_judy1_set(&self->handle.set, word);
-    count_changes(self, told == SELLUMAQ_ADDED, 0);
-    if (told == SELLUMAQ_NO_MEMORY)
-        PyErr_NoMemory();
-    return told != SELLUMAQ_NO_MEMORY;
-}
-
-static PyObject *set_add(PyObject *self, PyObject *key)
-{
-    if (!put_key((Words *)self, key))
+    if (!read_word(key, &word) || !note_put(self, sellumaq_judy1_set(&self->handle.set, word)))
         return NULL;
     Py_RETURN_NONE;
 }
@@ -364,22 +378,6 @@ static bool append_whether(Words *self, const Group *group, PyObject *told)
 
 static PyObject *set_contains_many(PyObject *self, PyObject *keys) { return look_up_many(self, keys, append_whether); }
 
-static PyObject *set_fill(PyObject *self, PyObject *keys)
-{
-    PyObject *each = PyObject_GetIter(keys), *key;
-    if (!each)
-        return NULL;
-    bool put = true;
-    while (put && (key = PyIter_Next(each))) {
-        put = put_key((Words *)self, key);
-        Py_DECREF(key);
-    }
-    Py_DECREF(each);
-    if (PyErr_Occurred())
-        return NULL;
-    Py_RETURN_NONE;
-}
-
 static PyMethodDef set_methods[] = {
     WORD_METHODS,
     {"add", set_add, METH_O,
@@ -392,7 +390,6 @@ static PyMethodDef set_methods[] = {
     {"contains_many", set_contains_many, METH_O,
      DOC("contains_many($self, keys, /)", "Whether each of the keys of an iterable is there, in a list.",
          SOME ">>> some.contains_many([20, 15, 30])\n[True, False, True]")},
-    {"_fill", set_fill, METH_O, "Puts the keys of an iterable in."},
     {NULL, NULL, 0, NULL},
 };
 
@@ -419,13 +416,7 @@ static int find_value(Words *self, PyObject *key, uint64_t *word, uint64_t *valu
 static bool put_value(Words *self, PyObject *key, PyObject *value)
 {
     uint64_t word, number;
-    if (!read_word(key, &word) || !read_word(value, &number))
-        return false;
-    uint32_t told = sellumaq_judyl_put(&self->handle.map, word, number);
-    count_changes(self, told == SELLUMAQ_ADDED, told == SELLUMAQ_PRESENT);
-    if (told == SELLUMAQ_NO_MEMORY)
-        PyErr_NoMemory();
-    return told != SELLUMAQ_NO_MEMORY;
+    return read_word(key, &word) && read_word(value, &number) && note_put(self, sellumaq_judyl_put(&self->handle.map, word, number));
 }
 
 static PyObject *map_item(PyObject *self, PyObject *key)
@@ -494,37 +485,6 @@ static PyObject *map_pop(PyObject *object, PyObject *const *arguments, Py_ssize_
     return NULL;
 }
 
-/* Puts in a pair, which is any iterable of two objects; ValueError where it has another number of them, as of dict. */
-static bool put_pair(Words *self, PyObject *pair)
-{
-    PyObject *both = PySequence_Tuple(pair);
-    if (!both)
-        return false;
-    bool put = PyTuple_Size(both) == 2;
-    if (put)
-        put = put_value(self, PyTuple_GetItem(both, 0), PyTuple_GetItem(both, 1));
-    else
-        PyErr_Format(PyExc_ValueError, "a pair is needed, not %zd objects", PyTuple_Size(both));
-    Py_DECREF(both);
-    return put;
-}
-
-static PyObject *map_fill(PyObject *self, PyObject *pairs)
-{
-    PyObject *each = PyObject_GetIter(pairs), *pair;
-    if (!each)
-        return NULL;
-    bool put = true;
-    while (put && (pair = PyIter_Next(each))) {
-        put = put_pair((Words *)self, pair);
-        Py_DECREF(pair);
-    }
-    Py_DECREF(each);
-    if (PyErr_Occurred())
-        return NULL;
-    Py_RETURN_NONE;
-}
-
 static PyMethodDef map_methods[] = {
     WORD_METHODS,
     {"get", (PyCFunction)(void (*)(void))map_get, METH_FASTCALL,
@@ -536,7 +496,6 @@ static PyMethodDef map_methods[] = {
     {"pop", (PyCFunction)(void (*)(void))map_pop, METH_FASTCALL,
      DOC("pop($self, key, default=..., /)", "Takes a key out and answers its value, or the default; KeyError where there is neither.",
          ">>> from sellumaq import JudyL\n>>> squares = JudyL({2: 4})\n>>> squares.pop(2), squares.pop(2, 7)\n(4, 7)")},
-    {"_fill", map_fill, METH_O, "Puts the pairs of an iterable in."},
     {NULL, NULL, 0, NULL},
 };
 

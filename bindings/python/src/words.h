@@ -15,6 +15,9 @@ typedef struct {
     uint64_t (*len)(Handle *handle);
     uint64_t (*count)(Handle *handle, uint64_t from, uint64_t to);
     uint64_t (*free)(Handle *handle);
+    /* An item of a set is a key, one of a map a key and its value behind it. */
+    uint32_t (*put)(Handle *handle, const uint64_t *item);
+    uint32_t (*from_sorted)(Handle *handle, const uint64_t *items, size_t count, size_t *place);
 } WordCalls;
 
 typedef struct {
@@ -24,6 +27,16 @@ typedef struct {
     const WordCalls *calls;
     bool is_map;
 } Words;
+
+/* Notes that keys came or went, and that values were replaced. */
+void count_changes(Words *self, int keys, int values);
+
+/* Puts an item in; false with an error set where there is no memory. */
+bool put_words(Words *self, const uint64_t *item);
+
+/* word_fill.c: `_fill`, and `_make`, in which `from_sorted` ends. */
+PyObject *words_fill(PyObject *object, PyObject *items);
+PyObject *words_make(PyObject *object, PyObject *items);
 
 /* A cursor over the keys of `words` from one word to another, both included; it holds a reference to the array. */
 PyObject *new_word_cursor(PyTypeObject *type, Words *words, enum part part, uint64_t low, uint64_t high, bool reverse);

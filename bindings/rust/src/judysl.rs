@@ -14,6 +14,7 @@ use std::mem::{swap, take};
 use std::ops::{Bound, Index};
 use std::ptr::{null_mut, NonNull};
 
+mod sorted;
 mod way;
 
 use way::{Steps, Way};

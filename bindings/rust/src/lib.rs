@@ -52,7 +52,7 @@ pub use judyhs::JudyHs;
 pub use judyl::JudyL;
 pub use judysl::JudySl;
 pub use keyed::{InsertError, MAX_KEY};
-pub use sorted::NotAscending;
+pub use sorted::{FromSortedError, NotAscending};
 
 /// There was no memory for a new key; the array is as it was.
 ///

@@ -1,4 +1,4 @@
-//! Arrays of words that are made at once, of keys that ascend.
+//! Arrays that are made at once, of keys that ascend.
 use std::fmt;
 
 /// A key isn't above the one before it: its place among the keys, counted from 0.
@@ -20,6 +20,37 @@ impl fmt::Display for NotAscending {
 }
 
 impl std::error::Error for NotAscending {}
+
+/// Why no map was made of strings at once. A place is that of a key among the keys, counted from 0.
+///
+/// ```
+/// use sellumaq::{FromSortedError, JudySl};
+///
+/// let told = JudySl::from_sorted([("a", 1), ("b\0", 2)]);
+/// assert_eq!(told, Err(FromSortedError::BadKey(1)));
+/// assert_eq!(told.unwrap_err().to_string(), "the bytes at place 1 are no key");
+/// ```
+#[derive(Clone, Copy, PartialEq, Eq, Debug)]
+pub enum FromSortedError {
+    /// The bytes at this place are no key: they are more than [`MAX_KEY`](crate::MAX_KEY), or one of them is zero.
+    BadKey(usize),
+    /// The key at this place isn't above the one before it.
+    NotAscending(usize),
+    /// There are more than 4,294,967,295 keys.
+    Full,
+}
+
+impl fmt::Display for FromSortedError {
+    fn fmt(&self, to: &mut fmt::Formatter<'_>) -> fmt::Result {
+        match self {
+            FromSortedError::BadKey(place) => write!(to, "the bytes at place {place} are no key"),
+            FromSortedError::NotAscending(place) => NotAscending(*place).fmt(to),
+            FromSortedError::Full => to.write_str("more than 4,294,967,295 keys"),
+        }
+    }
+}
+
+impl std::error::Error for FromSortedError {}
 
 /// Writes how an array of words is made of many items at once, by the call `$from_sorted` over a list of `$told`.
 macro_rules! at_once {

@@ -16,3 +16,4 @@ pub mod SortedAnswers
 pub mod PairLemmas
 pub mod PageLemmas
 pub mod Storing
+pub mod SortedStrings

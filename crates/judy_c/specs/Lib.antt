@@ -21,3 +21,4 @@ pub mod Sorted
 pub mod KeyPuts
 pub mod KeyWalks
 pub mod Looks
+pub mod SortedStrings

@@ -10,7 +10,7 @@ use judy_word::{Judy1, JudyL};
 use std::alloc::Global;
 
 // How many keys an array of strings or of byte strings may hold: the most that it may be given as its limit.
-const MOST_KEYS: u64 = 4294967295;
+pub(crate) const MOST_KEYS: u64 = 4294967295;
 
 // An array that C holds by a handle.
 pub(crate) trait Array: Drop {

@@ -40,6 +40,7 @@ mod nearest_slots;
 mod scans;
 mod set;
 mod sorted;
+mod sorted_strings;
 mod string_counts;
 mod string_slots;
 mod strings;

@@ -19,7 +19,7 @@ use std::alloc::{AllocError, Global};
 const MOST_KEYS: u64 = u64::MAX;
 
 // The array is made.
-const MADE: u32 = 1;
+pub(crate) const MADE: u32 = 1;
 
 impl Keyed for Pair {
     ghost key_of = { λ pair. pair.key };

@@ -63,6 +63,7 @@ pub mod PageReads
 pub mod NthWays
 pub mod NthFirsts
 pub mod LoneKeys
+pub mod CountWays
 pub mod KeysFewer
 pub mod Stepping
 pub mod CountedLost
@@ -71,3 +72,7 @@ pub mod Beginnings
 pub mod FirstWays
 pub mod Beside
 pub mod CountedWrites
+pub mod SortedRuns
+pub mod PairMaps
+pub mod PlantedKeys
+pub mod Openers

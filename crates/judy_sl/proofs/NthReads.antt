@@ -1,15 +1,21 @@
 -- The entry of a level behind which the key at a place stands, as it is found among its entries.
-use Rattle.std.proofs.Common.{◌≡◌, ℕ, zero, suc, ◌-◌, ◌<◌, ◌≤◌, List, [], ◌∷◌, ◌++◌, length, slice_get, Some, refl, ap, ◌∙◌, subst, arith}
+use Rattle.std.proofs.Common.{◌≡◌, ℕ, zero, suc, ◌-◌, ◌<◌, ◌≤◌, List, [], ◌∷◌, ◌++◌, length, slice_get, map, Some, refl, sym, ap, ◌∙◌, subst, arith}
 use Rattle.std.specs.List.{flat_map, AllByRecursion}
 use Rattle.std.specs.Cmp.{nat_cmp_total}
-use Rattle.std.specs.FinMap.{FinMap, nat_cmp-IsAntisymmetric, entries, entries_sorted, get, get-entries}
+use Rattle.std.specs.FinMap.{FinMap, nat_cmp-IsAntisymmetric, entries, entries_sorted, get, get-entries, len, len-entries}
+use Rattle.std.proofs.lemmas.List.{length-append}
 use Rattle.std.proofs.lemmas.List.Concat.{flat_map-append}
+use Rattle.std.proofs.lemmas.Option.{same_Some}
 use Rattle.judy_model.specs.Keys.{word_order}
+use Rattle.judy_model.specs.Counts.{by_count}
+use Rattle.judy_model.proofs.RankLemmas.{nth-slice_get}
 use Rattle.judy_sums.proofs.Parts.{each_found}
 use Rattle.judy_sl.specs.declared.nth.Spot.{Spot}
 use Rattle.judy_sl.specs.World.{World}
 use Rattle.judy_sl.specs.Behind.{entry_keys}
+use Rattle.judy_sl.specs.Counted.{keys_behind_all}
 use Rattle.judy_sl.specs.Nth.{IsSpotIn, IsSpotOf}
+use Rattle.judy_sl.proofs.Nths.{place_at}
 
 -- What a list has at a place within its front, and behind it.
 pub slice_get-front : {X : Type 0} (front back : List X) (place : ℕ) → place < length front → slice_get (front ++ back) place ≡ slice_get front place
@@ -28,6 +34,15 @@ AreOf words pairs = AllByRecursion (λ (entry : ℕ × ℕ). get words entry.0 �
 
 pub all_of : (words : FinMap word_order ℕ) → AreOf words (entries words)
 all_of words = each_found word_order nat_cmp_total nat_cmp-IsAntisymmetric (λ (entry : ℕ × ℕ). get words entry.0 ≡ Some entry.1) (entries words) (entries_sorted words) (λ piece value found. get-entries words piece ∙ found)
+
+-- Where a level has one entry, it is the one that is found.
+only_one : (words : FinMap word_order ℕ) (piece value : ℕ) → get words piece ≡ Some value → (pairs : List (ℕ × ℕ)) → length pairs ≡ 1 → AreOf words pairs → slice_get (map (λ (pair : ℕ × ℕ). pair.0) pairs) 0 ≡ Some piece → pairs ≡ (piece, value) ∷ []
+only_one words piece value held [] one are at = absurd (let never : ⊥ = omega arith in never)
+only_one words piece value held (entry ∷ []) one are at =
+    let first : entry.0 ≡ piece = same_Some entry.0 piece at in
+    let second : entry.1 ≡ value = same_Some entry.1 value (sym are.0 ∙ ap (get words) first ∙ held) in
+    ap (λ word. (word, entry.1) ∷ []) first ∙ ap (λ place. (piece, place) ∷ []) second
+only_one words piece value held (entry ∷ next ∷ rest) one are at = absurd (let never : ⊥ = omega arith in never)
 
 -- An entry that stands among them is.
 one_of : (words : FinMap word_order ℕ) (front : List (ℕ × ℕ)) (entry : ℕ × ℕ) (back : List (ℕ × ℕ)) → AreOf words (front ++ entry ∷ back) → get words entry.0 ≡ Some entry.1
@@ -49,3 +64,16 @@ spot_of world words place spot is =
           ∙ ap (slice_get (flat_map keys (entry ∷ is.back))) (let passed = is.passed in let e : place - length (flat_map keys is.front) ≡ spot.place = omega arith in e)
           ∙ slice_get-front (keys entry) (flat_map keys is.back) spot.place within;
     }
+
+-- Where a level has one entry, each key stands behind it.
+pub only_spot : (world : World) (words : FinMap word_order ℕ) (place piece value : ℕ) → len words ≡ 1 → by_count words 1 ≡ Some piece → get words piece ≡ Some value → place < keys_behind_all world (entries words) → IsSpotOf world words place (record { piece = piece; value = value; place = place })
+only_spot world words place piece value one at held within =
+    let only = only_one words piece value held (entries words) (sym (len-entries words) ∙ one) (all_of words) (sym (nth-slice_get nat_cmp_total words 0) ∙ place_at words 0 piece at) in
+    let all = ap (keys_behind_all world) only ∙ length-append (entry_keys world (piece, value)) [] in
+    spot_of world words place (record { piece = piece; value = value; place = place }) (record {
+      front = [];
+      back = [];
+      split = only;
+      within = omega arith;
+      passed = omega arith;
+    })

@@ -1,11 +1,10 @@
 -- The keys behind the entries of a level, as these are read page by page.
-use Rattle.std.proofs.Common.{◌≡◌, ℕ, zero, suc, ◌+◌, ◌-◌, ◌<◌, ◌≤◌, min, ⊎_elim, List, [], ◌∷◌, ◌++◌, map, length, take, drop, get_or, All, sym, ap, ◌∙◌, arith}
+use Rattle.std.proofs.Common.{◌≡◌, ℕ, zero, suc, ◌+◌, ◌-◌, ◌<◌, ◌≤◌, List, [], ◌∷◌, ◌++◌, map, length, take, drop, get_or, All, sym, ap, ◌∙◌, arith}
 use Rattle.std.specs.List.{flat_map}
 use Rattle.std.specs.Cmp.{nat_cmp_total}
 use Rattle.std.specs.FinMap.{FinMap, nat_cmp-IsAntisymmetric, entries, entries_sorted, get-entries}
 use Rattle.std.proofs.Math.Seq.{take-add}
-use Rattle.std.proofs.lemmas.Bool.{cases_lt}
-use Rattle.std.proofs.lemmas.List.{map-id, take_at, take-take, take-append-drop, length-append, length-take-le, take_more}
+use Rattle.std.proofs.lemmas.List.{map-id, take_at, take_all, take-append-drop, length-append, length-take-le, take_more}
 use Rattle.std.proofs.lemmas.List.Concat.{flat_map-append}
 use Rattle.std.proofs.lemmas.List.Elements.{All-from_recursion}
 use Rattle.judy_model.specs.Keys.{word_order}
@@ -37,9 +36,9 @@ page_is left out page told within is =
     ap (take told) (is ∙ ap (λ (all : Pairs). take told all ++ drop told out) (map-id left))
     ∙ take_at (take told left) (drop told out) told (length-take-le told left within)
 
--- So are those of its front.
-pub page_front : (left page : Pairs) (told read : ℕ) → read ≤ told → take told page ≡ take told left → take read page ≡ take read left
-page_front left page told read less is = sym (take-take read told page less) ∙ ap (take read) is ∙ take-take read told left less
+-- Where they fill it, it is these.
+pub page_whole : (left out page : Pairs) (told : ℕ) → told ≤ length left → length page ≡ told → page ≡ take told (map (λ (entry : ℕ × ℕ). (entry.0, entry.1)) left) ++ drop told out → page ≡ take told left
+page_whole left out page told within whole is = sym (take_all told page (omega arith)) ∙ page_is left out page told within is
 
 module _ (world : World) where
   -- The keys behind some entries are those behind the front of them and those behind the rest.
@@ -71,20 +70,6 @@ module _ (world : World) where
       let both = length-append (flat_map (entry_keys world) (take place entries)) (flat_map (entry_keys world) (get_or entries place (0, 0) ∷ [])) in
       let one = length-append (entry_keys world (get_or entries place (0, 0))) [] in
       omega arith
-
-  -- Of the first entries a page is read, or all where they are fewer.
-  pub front_read : (entries : Pairs) (count room read told : ℕ) → count ≤ length entries → read ≡ min count room → told ≡ min room (length entries)
-      → keys_behind_all world (take count entries) ≡ keys_behind_all world (take read entries) + keys_behind_all world (take (count - read) (drop told entries))
-  front_read entries count room read told there least most = ⊎_elim
-      (λ (few : count < room).
-      let same = ap (λ n. keys_behind_all world (take n entries)) (let e : count ≡ read = omega arith in e) in
-      let none = ap (λ n. keys_behind_all world (take n (drop told entries))) (let e : count - read ≡ 0 = omega arith in e) in
-      omega arith)
-      (λ (full : room ≤ count).
-      let more = front_more entries read count (omega arith) in
-      let rest = ap (λ n. keys_behind_all world (take (count - read) (drop n entries))) (let e : read ≡ told = omega arith in e) in
-      omega arith)
-      (cases_lt count room)
 
   -- ---- below a piece
 

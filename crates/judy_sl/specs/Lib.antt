@@ -18,6 +18,9 @@ pub mod Behind
 pub mod Runs
 pub mod Cursors
 pub mod Counted
+pub mod Ranks
 pub mod Firsts
 pub mod Nth
 pub mod Stepped
+pub mod Sorted
+pub mod Planted

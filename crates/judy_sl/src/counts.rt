@@ -1,6 +1,6 @@
 //! How many keys stand where, by what the levels tell of the keys behind them.
 
-ghost use Rattle.std.specs.Prelude.{◌≡◌, ◌<◌, ◌≤◌, ◌^◌, suc, length, take, drop, All};
+ghost use Rattle.std.specs.Prelude.{◌≡◌, ◌+◌, ◌-◌, ◌<◌, ◌≤◌, ◌^◌, ℕ, Some, true, false, suc, length, take, drop, All};
 ghost use Rattle.std.specs.FinMap as map;
 ghost use Rattle.judy_model.specs.Counts as counts;
 ghost use Rattle.judy_model.specs.Keys.{byte_order, IsStringKey};
@@ -10,6 +10,7 @@ ghost use Rattle.judy_sl.specs.Children.{keys_told, IsTaken, IsLevelChild};
 ghost use Rattle.judy_sl.specs.Arenas.{world_of, child_at, map_of, IsArena};
 ghost use Rattle.judy_sl.specs.Behind.{map_behind, entry_keys};
 ghost use Rattle.judy_sl.specs.Counted.{LeadsOn, keys_behind, keys_behind_all, comes, ranked, AreCounted, StandsWith};
+ghost use Rattle.judy_sl.specs.Ranks.{ranked_own, ranked_in};
 ghost use Rattle.judy_sl.specs.Firsts.{AreFirsts};
 
 use crate::arena::Arena;
@@ -23,9 +24,10 @@ use std::cmp::Ordering;
 impl JudySl {
     /// How many keys there are from `from` to `to`, both included; 0 where `from` is above `to` (this project's own).
     /// Each of the two is a string that may be a key, and needn't be one of the array's. It asks for no memory. It takes
-    /// two ways down the array; in each level below the first it reads the entries on one side of the key's own, on the side that
-    /// has fewer, unless one key stands behind each of that level's entries. (This project's own; the manual has counts of words
-    /// alone.)
+    /// one way down the array as long as both begin with the same bytes, eight at a time, and then two. In the level where they part, if that
+    /// isn't the first, it reads the entries between the two, or all others where these are fewer; in each level below, the entries on one
+    /// side of the key's own, on the side that has fewer. It reads none where one key stands behind each of a level's entries. (This
+    /// project's own; the manual has counts of words alone.)
     ///
     /// Of the keys `a`, `ab` and `c`, `count(b"a", b"b")` is 2.
     pub fn count(&self, from: &[u8], to: &[u8]) -> u64
@@ -33,14 +35,12 @@ impl JudySl {
         requires to { IsStringKey to.now }
         ensures { result ≡ counts.count self.now.map from.now to.now }
     {
-        let up_to = self.arena.rank(&self.firsts, true, to);
-        let below = self.arena.rank(&self.firsts, false, from);
-        up_to.saturating_sub(below)
+        self.arena.count(&self.firsts, from, to)
     }
 }
 
 // How many entries of a level are read at a time: what stands behind them is looked up at once then, not each after the step to it.
-pub const PAGE: usize = 32;
+const PAGE: usize = 64;
 
 // Whether what compares so to a key counts: what is less does, and where the key itself counts, so does what is the same.
 fn comes(itself: bool, order: Ordering) -> bool
@@ -84,7 +84,7 @@ impl Arena {
     }
 
     // How many keys stand behind some entries of a level.
-    fn page_keys(&self, page: &[(u64, u64)]) -> u64
+    pub fn page_keys(&self, page: &[(u64, u64)]) -> u64
         requires is_arena { IsArena self.now }
         requires counted { AreCounted self.now }
         requires leads { All (LeadsOn (world_of self.now)) page.now }
@@ -99,7 +99,7 @@ impl Arena {
     }
 
     // How many keys stand behind the first so many of the entries that are to come, as these are read page by page.
-    pub fn read_keys(&self, mut entries: Entries<'_>, count: u64) -> u64
+    fn read_keys(&self, mut entries: Entries<'_>, count: u64) -> u64
         requires is_arena { IsArena self.now }
         requires counted { AreCounted self.now }
         requires leads { All (LeadsOn (world_of self.now)) entries }
@@ -111,35 +111,74 @@ impl Arena {
         let mut left = count as usize;
         let mut keys = 0;
         'pages: while left > 0 {
-            entries.fill(&mut page);
             let read = left.min(PAGE);
-            keys += self.page_keys(&page[..read]);
+            let next = &mut page[..read];
+            entries.fill(next);
+            keys += self.page_keys(next);
             left -= read;
         }
         keys
     }
 
-    // How many keys stand behind the entries of a level whose pieces are less than a piece. The level tells how many stand behind it:
-    // where they are as many as its entries, each entry has one, and none is read. Else the entries are read from the level's nearer
-    // end, and what stands from the piece on is taken from all.
-    fn keys_before(&self, level: &WordMap, keys: u32, piece: u64) -> u64
+    // How many keys stand behind so many entries of a level, the first of those whose pieces aren't less than one.
+    fn keys_from(&self, level: &WordMap, piece: u64, count: u64) -> u64
+        requires is_arena { IsArena self.now }
+        requires counted { AreCounted self.now }
+        requires leads { All (LeadsOn (world_of self.now)) (map.entries level.now.map) }
+        requires there { counts.rank level.now.map piece + count ≤ map.len level.now.map }
+        requires fits { keys_behind_all (world_of self.now) (take count
+            (drop (counts.rank level.now.map piece) (map.entries level.now.map))) < 2 ^ 64 }
+        ensures { result ≡ keys_behind_all (world_of self.now) (take count
+            (drop (counts.rank level.now.map piece) (map.entries level.now.map))) }
+    {
+        if count == 0 {
+            return 0;
+        }
+        self.read_keys(level.array().iter_from(piece), count)
+    }
+
+    // How many keys stand behind the entries of a level from one piece up to another. The level tells how many stand behind it: where they are
+    // as many as its entries, each entry has one, and none is read. Else those between are read, or, where they are fewer, the others, which
+    // are taken from all.
+    fn keys_between(&self, level: &WordMap, keys: u32, low: u64, high: u64) -> u64
         requires is_arena { IsArena self.now }
         requires counted { AreCounted self.now }
         requires told { StandsWith (world_of self.now) level.now.map keys }
+        requires rising { low ≤ high }
+        ensures { keys_below (part_len (entry_keys (world_of self.now)))
+            (map.entries level.now.map) low + result
+            ≡ keys_below (part_len (entry_keys (world_of self.now)))
+            (map.entries level.now.map) high }
+    {
+        let all = u64::from(keys);
+        let entries = level.len();
+        let before = lesser_in(level, low);
+        let between = lesser_in(level, high) - before;
+        if all == entries {
+            between
+        } else if between <= entries / 2 {
+            self.keys_from(level, low, between)
+        } else {
+            let outside = self.keys_from(level, 0, before);
+            all - outside - self.keys_from(level, high, entries - before - between)
+        }
+    }
+
+    // How many keys stand behind the entries of a level before a piece, of which the level may have an entry itself: none, where that is the
+    // only one.
+    fn keys_before(&self, level: &WordMap, keys: u32, piece: u64, found: Option<u64>) -> u64
+        requires is_arena { IsArena self.now }
+        requires counted { AreCounted self.now }
+        requires told { StandsWith (world_of self.now) level.now.map keys }
+        requires found { found ≡ map.get level.now.map piece }
         ensures { result
             ≡ keys_below (part_len (entry_keys (world_of self.now)))
             (map.entries level.now.map) piece }
     {
-        let all = u64::from(keys);
-        let entries = level.len();
-        let lesser = lesser_in(level, piece);
-        if all == entries {
-            lesser
-        } else if lesser <= entries / 2 {
-            self.read_keys(level.iter(), lesser)
-        } else {
-            all - self.read_keys(level.array().iter_from(piece), entries - lesser)
+        if level.len() == 1 && found.is_some() {
+            return 0;
         }
+        self.keys_between(level, keys, 0, piece)
     }
 
     // How many keys behind a child are less than the rest of a key, or, where that itself counts, not above it.
@@ -158,8 +197,9 @@ impl Arena {
             match self.child(at) {
                 ChildRef::Level(level) => {
                     let piece = first_piece(rest);
-                    lesser += self.keys_before(level, self.keys_told(at), piece);
-                    let Some(next) = level.get(piece) else {
+                    let found = level.get(piece);
+                    lesser += self.keys_before(level, self.keys_told(at), piece, found);
+                    let Some(next) = found else {
                         return lesser;
                     };
                     if rest.len() < 8 {
@@ -171,6 +211,25 @@ impl Arena {
                 ChildRef::Tail(tail) => return lesser + u64::from(comes(itself, tail.order(rest))),
             }
         }
+    }
+
+    // How many keys behind the entry of a key's first piece are less than the key, or, where that itself counts, not above it; none where
+    // there is no such entry.
+    fn rank_own(&self, itself: bool, entry: Option<u64>, key: &[u8]) -> u64
+        requires is_arena { IsArena self.now }
+        requires counted { AreCounted self.now }
+        requires is_text { IsText key.now }
+        requires leads { (at : ℕ) → entry ≡ Some at → 8 ≤ length key.now → IsTaken
+            (child_at self.now at) × (keys_behind (world_of self.now) (suc at) ≤ 4294967295) }
+        ensures { result ≡ ranked_own (world_of self.now) itself entry key.now }
+    {
+        let Some(at) = entry else {
+            return 0;
+        };
+        if key.len() < 8 {
+            return u64::from(itself);
+        }
+        self.rank_behind(itself, at, &key[8..])
     }
 
     // How many keys are less than a key, or, where that itself counts, not above it: those whose first pieces are less, by the list of
@@ -185,12 +244,94 @@ impl Arena {
     {
         let piece = first_piece(key);
         let lesser = lesser_in(&self.root, piece) + firsts.below(piece);
-        let Some(at) = self.root.get(piece) else {
-            return lesser;
-        };
-        if key.len() < 8 {
-            return lesser + u64::from(itself);
+        lesser + self.rank_own(itself, self.root.get(piece), key)
+    }
+
+    // How many keys there are from one to another behind a level, by what is left of both; so many keys stand behind it.
+    fn count_in(&self, level: &WordMap, keys: u32, from: &[u8], to: &[u8]) -> u64
+        requires is_arena { IsArena self.now }
+        requires counted { AreCounted self.now }
+        requires told { StandsWith (world_of self.now) level.now.map keys }
+        requires from { IsText from.now }
+        requires to { IsText to.now }
+        ensures { result ≡ ranked_in (world_of self.now) true level.now.map to.now
+            - ranked_in (world_of self.now) false level.now.map from.now }
+    {
+        let low = first_piece(from);
+        let high = first_piece(to);
+        if high < low {
+            return 0;
         }
-        lesser + self.rank_behind(itself, at, &key[8..])
+        let between = self.keys_between(level, keys, low, high);
+        let up_to = self.rank_own(true, level.get(high), to);
+        let below = self.rank_own(false, level.get(low), from);
+        (between + up_to).saturating_sub(below)
+    }
+
+    // The same behind a child. As long as both go on by one piece, what is counted stands behind its entry.
+    fn count_behind(&self, child: u64, from: &[u8], to: &[u8]) -> u64
+        requires is_arena { IsArena self.now }
+        requires counted { AreCounted self.now }
+        requires there { IsTaken (child_at self.now child) }
+        requires from { IsText from.now }
+        requires to { IsText to.now }
+        ensures { result ≡ ranked true (map_behind (world_of self.now) (suc child)) to.now
+            - ranked false (map_behind (world_of self.now) (suc child)) from.now }
+    {
+        let mut at = child;
+        let mut low = from;
+        let mut high = to;
+        'down: loop {
+            match self.child(at) {
+                ChildRef::Level(level) => {
+                    let piece = first_piece(low);
+                    if piece != first_piece(high) {
+                        return self.count_in(level, self.keys_told(at), low, high);
+                    }
+                    let found = level.get(piece);
+                    if low.len() < 8 {
+                        return u64::from(found.is_some());
+                    }
+                    let Some(next) = found else {
+                        return 0;
+                    };
+                    at = next;
+                    low = &low[8..];
+                    high = &high[8..];
+                }
+                ChildRef::Tail(tail) => {
+                    let up_to = u64::from(comes(true, tail.order(high)));
+                    let below = u64::from(comes(false, tail.order(low)));
+                    return up_to.saturating_sub(below);
+                }
+            }
+        }
+    }
+
+    // How many keys there are from one to another: where both begin with the same piece, those behind its entry.
+    fn count(&self, firsts: &Sums, from: &[u8], to: &[u8]) -> u64
+        requires is_arena { IsArena self.now }
+        requires counted { AreCounted self.now }
+        requires firsts { AreFirsts (map_of self.now) firsts.now }
+        requires from { IsStringKey from.now }
+        requires to { IsStringKey to.now }
+        requires few { map.len (map_of self.now) ≤ 4294967295 }
+        ensures { result ≡ ranked true (map_of self.now) to.now
+            - ranked false (map_of self.now) from.now }
+    {
+        let piece = first_piece(from);
+        if piece != first_piece(to) {
+            let up_to = self.rank(firsts, true, to);
+            let below = self.rank(firsts, false, from);
+            return up_to.saturating_sub(below);
+        }
+        let found = self.root.get(piece);
+        if from.len() < 8 {
+            return u64::from(found.is_some());
+        }
+        match found {
+            None => 0,
+            Some(at) => self.count_behind(at, &from[8..], &to[8..]),
+        }
     }
 }

@@ -69,7 +69,7 @@ impl Arena {
     }
 
     // Puts a tail in at the next place for its length, and answers that place. Where one of that length is free, no memory is asked for.
-    fn put_tail(&mut self, rest: &[u8], value: u64) -> Result<u64, SlError>
+    pub fn put_tail(&mut self, rest: &[u8], value: u64) -> Result<u64, SlError>
         requires text { IsText rest.now }
         requires short { length rest.now ≤ 1024 }
         ensures place { IfOk result (λ at. at ≡ next_place self.old.tails (length rest.now)) }

@@ -12,7 +12,6 @@ ghost use Rattle.judy_sl.specs.Scans.{value_found};
 
 use crate::arena::Arena;
 use crate::child::ChildRef;
-use crate::counts::PAGE;
 use crate::keys::KeyBuf;
 use crate::pieces::push_piece;
 use crate::strings::JudySl;
@@ -37,6 +36,9 @@ impl JudySl {
         self.arena.nth(&self.firsts, n - 1, key)
     }
 }
+
+// How many entries of a level are read at a time. It isn't known how many will be needed.
+const PAGE: usize = 32;
 
 // A place among the entries of the first level, and what stands before the entry there.
 #[derive(Clone, Copy)]
@@ -118,6 +120,24 @@ fn chosen(level: &WordMap, firsts: &Sums, most: u64) -> Mark
     low
 }
 
+// The entry at a place of a level, and a place among the keys behind it.
+fn entry_spot(level: &WordMap, entry: u64, place: u64) -> Spot
+    requires within { entry < map.len level.now.map }
+    requires fits { entry + 1 < 2 ^ 64 }
+    ensures at { counts.by_count level.now.map (entry + 1) ≡ Some result.piece }
+    ensures held { map.get level.now.map result.piece ≡ Some result.value }
+    ensures place { result.place ≡ place }
+{
+    let Some((piece, value)) = level.array().by_count_entry(entry + 1) else {
+        unreachable!()
+    };
+    Spot {
+        piece,
+        value,
+        place,
+    }
+}
+
 // The entries of a level from a place on.
 fn entries_at(level: &WordMap, place: u64) -> Entries<'_>
     requires within { place < map.len level.now.map }
@@ -183,21 +203,29 @@ impl Arena {
         requires within { place < keys }
         ensures { IsSpotIn (world_of self.now) (map.entries level.now.map) place result }
     {
+        let mut page = [(0, 0); PAGE];
         let mut end = level.len();
         let mut before = keys;
         'pages: loop {
             let start = end.saturating_sub(PAGE as u64);
-            before -= self.read_keys(entries_at(level, start), end - start);
+            let read = (end - start) as usize;
+            let next = &mut page[..read];
+            let mut entries = entries_at(level, start);
+            entries.fill(next);
+            before -= self.page_keys(next);
             if before <= place {
-                return self.read_spot(entries_at(level, start), place - before);
+                let Ok(spot) = self.page_spot(next, place - before) else {
+                    unreachable!()
+                };
+                return spot;
             }
             end = start;
         }
     }
 
     // The entry of a level behind which the key at a place stands. The level tells how many keys stand behind it: where they are as many
-    // as its entries, each entry has one, and the place is the entry's own. Else the entries are read, from the end where the place is in
-    // the upper half of the keys, unless they are one page.
+    // as its entries, each entry has one, and the place is the entry's own. Where there is one entry, all stand behind it. Else the entries are
+    // read, from the end where the place is in the upper half of the keys, unless they are one page.
     fn spot_at(&self, level: &WordMap, keys: u32, place: u64) -> Spot
         requires is_arena { IsArena self.now }
         requires counted { AreCounted self.now }
@@ -208,14 +236,10 @@ impl Arena {
         let entries = level.len();
         let keys = u64::from(keys);
         if keys == entries {
-            let Some((piece, value)) = level.array().by_count_entry(place + 1) else {
-                unreachable!()
-            };
-            return Spot {
-                piece,
-                value,
-                place: 0,
-            };
+            return entry_spot(level, place, 0);
+        }
+        if entries == 1 {
+            return entry_spot(level, 0, place);
         }
         if entries <= PAGE as u64 || place < keys / 2 {
             self.read_spot(level.iter(), place)

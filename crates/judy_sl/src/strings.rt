@@ -52,6 +52,10 @@ impl Model for JudySl {
 }
 
 impl JudySl {
+    ghost use Rattle.judy_sl.specs.Arenas.{array_of, map_of, IsStrings};
+    ghost use Rattle.judy_sl.specs.Counted.{AreCounted};
+    ghost use Rattle.judy_sl.specs.Firsts.{AreFirsts};
+
     /// The empty array that holds at most `limit` keys, from 1 to 4,294,967,295 (limit: this project's own).
     /// It asks for no memory before the first insert.
     pub fn new(alloc: Global, limit: u64) -> JudySl
@@ -64,6 +68,23 @@ impl JudySl {
             count: 0,
             arena: Arena::new(alloc),
             firsts: Sums::new(alloc),
+            adds: true,
+        }
+    }
+
+    // The array of an arena in which no two keys begin with the same piece.
+    pub(crate) fn of(limit: u64, count: u64, arena: Arena) -> JudySl
+        requires strings { IsStrings limit count arena }
+        requires counted { AreCounted arena }
+        requires firsts { AreFirsts (map_of arena) map.empty }
+        ensures { result ≡ array_of limit arena }
+    {
+        let firsts = Sums::new(arena.alloc);
+        JudySl {
+            limit,
+            count,
+            arena,
+            firsts,
             adds: true,
         }
     }

@@ -359,6 +359,14 @@ extern "C" {
         entries: *mut sellumaq_entry,
         capacity: usize,
     ) -> usize;
+    pub fn sellumaq_judysl_from_sorted(
+        map: *mut sellumaq_judysl,
+        bytes: *const u8,
+        room: usize,
+        entries: *const sellumaq_entry,
+        count: usize,
+        place: *mut usize,
+    ) -> u32;
     pub fn sellumaq_judysl_len(map: *const sellumaq_judysl) -> u64;
     pub fn sellumaq_judysl_free(map: *mut sellumaq_judysl) -> u64;
 }

@@ -34,7 +34,7 @@ overflow_add-lesser c =
 
 pub returns-in_default : goal.returns-in_default
 returns-in_default c =
-    let none = ap (get c.in-Level.level.now.map) (sym c.first_piece-piece.ensures) ∙ sym c.get.ensures ∙ c.in_default.is in
+    let none = ap (get c.in-Level.level.now.map) (sym c.first_piece-piece.ensures) ∙ sym c.get-found.ensures ∙ c.in_default.is in
     let here = rank_absent c.args.itself c.loop-level.rest.now c.loop-level.invariant.text c.requires.is_arena.is_world (suc c.loop-level.at) c.in-Level.level.now.map (ap node_of c.in-Level.ensures) none in
     let before = c.keys_before-lesser.ensures ∙ ap (keys_below (part_len (entry_keys (world_of c.args.self.now))) (entries c.in-Level.level.now.map)) c.first_piece-piece.ensures in
     let whole = c.loop-level.invariant.whole in
@@ -42,7 +42,7 @@ returns-in_default c =
 
 pub overflow_add-result : goal.overflow_add-result
 overflow_add-result c =
-    let entry = ap (get c.in-Level.level.now.map) (sym c.first_piece-piece.ensures) ∙ sym c.get.ensures ∙ c.in-Some.is in
+    let entry = ap (get c.in-Level.level.now.map) (sym c.first_piece-piece.ensures) ∙ sym c.get-found.ensures ∙ c.in-Some.is in
     let here = rank_final c.args.itself c.loop-level.rest.now c.loop-level.invariant.text c.requires.is_arena.is_world (suc c.loop-level.at) c.in-Level.level.now.map (ap node_of c.in-Level.ensures) c.if-rest-lt8.true c.in-Some.next entry in
     let before = c.keys_before-lesser.ensures ∙ ap (keys_below (part_len (entry_keys (world_of c.args.self.now))) (entries c.in-Level.level.now.map)) c.first_piece-piece.ensures in
     let whole = c.loop-level.invariant.whole in
@@ -53,7 +53,7 @@ overflow_add-result c =
 
 pub returns-then-rest-lt8 : goal.returns-then-rest-lt8
 returns-then-rest-lt8 c =
-    let entry = ap (get c.in-Level.level.now.map) (sym c.first_piece-piece.ensures) ∙ sym c.get.ensures ∙ c.in-Some.is in
+    let entry = ap (get c.in-Level.level.now.map) (sym c.first_piece-piece.ensures) ∙ sym c.get-found.ensures ∙ c.in-Some.is in
     let here = rank_final c.args.itself c.loop-level.rest.now c.loop-level.invariant.text c.requires.is_arena.is_world (suc c.loop-level.at) c.in-Level.level.now.map (ap node_of c.in-Level.ensures) c.if-rest-lt8.true c.in-Some.next entry in
     let before = c.keys_before-lesser.ensures ∙ ap (keys_below (part_len (entry_keys (world_of c.args.self.now))) (entries c.in-Level.level.now.map)) c.first_piece-piece.ensures in
     let whole = c.loop-level.invariant.whole in
@@ -62,7 +62,7 @@ returns-then-rest-lt8 c =
 
 pub loop-level-preserved : goal.loop-level-preserved
 loop-level-preserved c =
-    let entry = ap (get c.in-Level.level.now.map) (sym c.first_piece-piece.ensures) ∙ sym c.get.ensures ∙ c.in-Some.is in
+    let entry = ap (get c.in-Level.level.now.map) (sym c.first_piece-piece.ensures) ∙ sym c.get-found.ensures ∙ c.in-Some.is in
     let here = rank_inner c.args.itself c.loop-level.rest.now c.loop-level.invariant.text c.requires.is_arena.is_world (suc c.loop-level.at) c.in-Level.level.now.map (ap node_of c.in-Level.ensures) c.if-rest-lt8.false c.in-Some.next entry in
     let before = c.keys_before-lesser.ensures ∙ ap (keys_below (part_len (entry_keys (world_of c.args.self.now))) (entries c.in-Level.level.now.map)) c.first_piece-piece.ensures in
     let whole = c.loop-level.invariant.whole in

@@ -6,7 +6,7 @@ use Rattle.judy_sl.proofs.arena.Arena.read_keys.Given as goal
 
 abbrev pub invariant-pages : goal.invariant-pages
 invariant-pages l = record {
-  room : length l.page ≡ 32;
+  room : length l.page ≡ 64;
   leads : All (LeadsOn (world_of l.self)) l.entries;
   there : l.left ≤ length l.entries;
   whole : l.keys + keys_behind_all (world_of l.self) (take l.left l.entries) ≡ keys_behind_all (world_of l.self) (take l.count l.fn.entries);

@@ -1,18 +1,25 @@
-use Rattle.std.proofs.Common.{◌∙◌, sym, ap, arith, ℕ, ◌+◌, ◌<◌, subst, List, All}
-use Rattle.std.specs.FinMap.{FinMap, get}
-use Rattle.judy_model.specs.Keys.{word_order}
-use Rattle.judy_model.specs.Counts.{by_count}
+use Rattle.std.proofs.Common.{◌∙◌, sym, arith, ℕ, ◌<◌, subst, List, All}
 use Rattle.judy_sl.specs.Arenas.{world_of}
 use Rattle.judy_sl.specs.Counted.{LeadsOn, keys_behind_all}
-use Rattle.judy_sl.specs.Nth.{IsSpotIn}
+use Rattle.judy_sl.specs.Nth.{IsSpotIn, IsSpotOf}
 use Rattle.judy_sl.proofs.LoneKeys.{level_keys, lone_spot}
 use Rattle.judy_sl.proofs.PageCounts.{entries_lead}
-use Rattle.judy_sl.proofs.Nths.{place_some}
-use Rattle.judy_sl.proofs.NthReads.{spot_of}
+use Rattle.judy_sl.proofs.NthReads.{spot_of, only_spot}
 use Rattle.judy_sl.proofs.arena.Arena.spot_at.Goals as goal
 
-pub overflow_add-place : goal.overflow_add-place
-overflow_add-place c =
+pub entry_spot-requires-clause-within : goal.entry_spot-requires-clause-within
+entry_spot-requires-clause-within c =
+    let stands = c.requires.told in
+    let all = level_keys c.requires.is_arena.is_world stands.seat c.args.level.now.map stands.is_level in
+    let told = stands.told in
+    let within = c.requires.within in
+    let same = c.from-keys.ensures in
+    let alone = c.if-keys-entries.true in
+    let count = c.len-entries.ensures.count in
+    omega arith
+
+pub entry_spot-requires-clause-fits : goal.entry_spot-requires-clause-fits
+entry_spot-requires-clause-fits c =
     let stands = c.requires.told in
     let all = level_keys c.requires.is_arena.is_world stands.seat c.args.level.now.map stands.is_level in
     let told = stands.told in
@@ -20,22 +27,26 @@ overflow_add-place c =
     let fits = c.ranges.keys.fits in
     omega arith
 
-pub unreachable-requires : goal.unreachable-requires
-unreachable-requires c =
-    let stands = c.requires.told in
-    let all = level_keys c.requires.is_arena.is_world stands.seat c.args.level.now.map stands.is_level in
-    let told = stands.told in
-    let within = c.requires.within in
-    let alone = sym c.from-keys.ensures ∙ c.if-keys-entries.true ∙ c.len-entries.ensures.count in
-    place_some c.args.level.now.map c.args.place (omega arith) (ap (λ (words : FinMap word_order ℕ). by_count words (c.args.place + 1)) (sym c.array.ensures.map) ∙ sym c.in_default.ensures.key)
-
 pub returns-then-keys-entries : goal.returns-then-keys-entries
 returns-then-keys-entries c =
     let stands = c.requires.told in
     let alone = sym stands.told ∙ sym c.from-keys.ensures ∙ c.if-keys-entries.true ∙ c.len-entries.ensures.count in
-    let at = ap (λ (words : FinMap word_order ℕ). by_count words (c.args.place + 1)) (sym c.array.ensures.map) ∙ sym c.in-Some.ensures.key in
-    let held = ap (λ (words : FinMap word_order ℕ). get words c.in-Some.piece) (sym c.array.ensures.map) ∙ c.in-Some.ensures.value in
-    lone_spot c.requires.is_arena.is_world stands.seat c.args.level.now.map stands.is_level alone c.args.place c.in-Some.piece c.in-Some.value at held
+    let spot = c.entry_spot.result in
+    subst (λ left. IsSpotOf (world_of c.args.self.now) c.args.level.now.map c.args.place (record { piece = spot.piece; value = spot.value; place = left })) (sym c.entry_spot.ensures.place)
+    (lone_spot c.requires.is_arena.is_world stands.seat c.args.level.now.map stands.is_level alone c.args.place spot.piece spot.value c.entry_spot.ensures.at c.entry_spot.ensures.held)
+
+pub entry_spot-requires-then-entries-eq1-clause-within : goal.entry_spot-requires-then-entries-eq1-clause-within
+entry_spot-requires-then-entries-eq1-clause-within c =
+    let one = c.if-entries-eq1.true in
+    let count = c.len-entries.ensures.count in
+    omega arith
+
+pub returns-then-entries-eq1 : goal.returns-then-entries-eq1
+returns-then-entries-eq1 c =
+    let one = sym c.len-entries.ensures.count ∙ c.if-entries-eq1.true in
+    let spot = c.entry_spot-then-entries-eq1.result in
+    subst (λ left. IsSpotOf (world_of c.args.self.now) c.args.level.now.map c.args.place (record { piece = spot.piece; value = spot.value; place = left })) (sym c.entry_spot-then-entries-eq1.ensures.place)
+    (only_spot (world_of c.args.self.now) c.args.level.now.map c.args.place spot.piece spot.value one c.entry_spot-then-entries-eq1.ensures.at c.entry_spot-then-entries-eq1.ensures.held c.requires.within)
 
 pub read_spot-requires-clause-leads : goal.read_spot-requires-clause-leads
 read_spot-requires-clause-leads c =

@@ -11,7 +11,5 @@ pub returns : goal.returns
 returns c =
     let same = ap (λ (array : ArrayOf byte_order). count array.map c.args.from.now c.args.to.now) c.self.view_is in
     let all = count-sub byte_order_total (map_of c.self.inside.arena) c.args.from.now c.args.to.now in
-    let up_to = c.rank-up_to.ensures in
-    let below = c.rank-below.ensures in
-    let left = c.saturating_sub.ensures in
+    let between = c.count.ensures in
     omega arith

@@ -1,0 +1,155 @@
+/* Arrays of words that are filled by the items of an iterable: keys of a set, or pairs of a map. */
+#include "words.h"
+
+/* Items whose keys ascend: the words of each behind those of the one before it. */
+typedef struct {
+    uint64_t *words;
+    size_t count;
+    size_t room; /* for so many items */
+} Gathered;
+
+static size_t width_of(const Words *self) { return self->is_map ? 2 : 1; }
+
+static bool is_empty(Words *self) { return self->calls->len(&self->handle) == 0; }
+
+/* Whether a key is above all that were gathered. */
+static bool is_next(const Words *self, const Gathered *gathered, uint64_t key)
+{
+    return gathered->count == 0 || key > gathered->words[(gathered->count - 1) * width_of(self)];
+}
+
+/* Puts an item behind the others; false where there is no memory. */
+static bool gather(const Words *self, Gathered *gathered, const uint64_t *item)
+{
+    size_t width = width_of(self);
+    uint64_t *words = make_room(gathered->words, &gathered->room, gathered->count + 1, width * sizeof *words);
+    if (!words)
+        return false;
+    gathered->words = words;
+    for (size_t n = 0; n < width; n++)
+        words[gathered->count * width + n] = item[n];
+    gathered->count++;
+    return true;
+}
+
+/* Makes the array one of what was gathered; false where there is no memory, and then it is as it was. */
+static bool make(Words *self, const Gathered *gathered)
+{
+    static const uint64_t none;
+    size_t place;
+    bool made = self->calls->from_sorted(&self->handle, gathered->words ? gathered->words : &none, gathered->count, &place) == SELLUMAQ_ADDED;
+    count_changes(self, made, 0);
+    return made;
+}
+
+/* Reads a key, or a key and its value; false with an error set. */
+static bool read_item(const Words *self, PyObject *object, uint64_t *item)
+{
+    if (!self->is_map)
+        return read_word(object, &item[0]);
+    PyObject *pair = make_pair(object);
+    bool read = pair && read_word(PyTuple_GetItem(pair, 0), &item[0]) && read_word(PyTuple_GetItem(pair, 1), &item[1]);
+    Py_XDECREF(pair);
+    return read;
+}
+
+/* ---- from_sorted ---- */
+
+static bool gather_object(const Words *self, Gathered *gathered, PyObject *object)
+{
+    uint64_t item[2];
+    if (!read_item(self, object, item))
+        return false;
+    bool ascends = is_next(self, gathered, item[0]);
+    if (ascends && gather(self, gathered, item))
+        return true;
+    if (ascends)
+        PyErr_NoMemory();
+    else
+        raise_not_ascending(gathered->count);
+    return false;
+}
+
+PyObject *words_make(PyObject *self, PyObject *items)
+{
+    PyObject *each = PyObject_GetIter(items), *object;
+    if (!each)
+        return NULL;
+    Gathered gathered = {NULL, 0, 0};
+    bool well = true;
+    while (well && (object = PyIter_Next(each))) {
+        well = gather_object((Words *)self, &gathered, object);
+        Py_DECREF(object);
+    }
+    Py_DECREF(each);
+    if (!PyErr_Occurred() && !make((Words *)self, &gathered))
+        PyErr_NoMemory();
+    PyMem_Free(gathered.words);
+    if (PyErr_Occurred())
+        return NULL;
+    Py_RETURN_NONE;
+}
+
+/* ---- the constructors and update ---- */
+
+/* Gathers an item that may be the next one; false where it can't be read without a call of others' code, or is none. */
+static bool gather_plain(const Words *self, Gathered *gathered, PyObject *object)
+{
+    uint64_t item[2];
+    bool is_plain = self->is_map ? PyTuple_CheckExact(object) && PyTuple_Size(object) == 2 && PyLong_CheckExact(PyTuple_GetItem(object, 0)) &&
+                                       PyLong_CheckExact(PyTuple_GetItem(object, 1))
+                                 : PyLong_CheckExact(object);
+    if (!is_plain)
+        return false;
+    if (read_item(self, object, item))
+        return is_next(self, gathered, item[0]) && gather(self, gathered, item);
+    PyErr_Clear();
+    return false;
+}
+
+/* Puts in what was gathered: at once into an empty array, if there is memory for that, else one by one, up to an item that there is none for.
+ * False with an error set then. */
+static bool put_gathered(Words *self, const Gathered *gathered)
+{
+    if (gathered->count == 0 || (is_empty(self) && make(self, gathered)))
+        return true;
+    bool put = true;
+    for (size_t n = 0; put && n < gathered->count; n++)
+        put = put_words(self, &gathered->words[n * width_of(self)]);
+    return put;
+}
+
+/* Puts the items that an iterator begins with into an empty array at once, as far as they ascend. Nobody can tell: no code but our own and
+ * Python's runs from the first to the last. Answers the next item; NULL where none is left, or with an error set. */
+static PyObject *begin(Words *self, PyObject *each)
+{
+    Gathered gathered = {NULL, 0, 0};
+    PyObject *item = PyIter_Next(each);
+    bool gathers = is_empty(self) && is_plain_iterator(each);
+    while (gathers && item && gather_plain(self, &gathered, item)) {
+        Py_DECREF(item);
+        item = PyIter_Next(each);
+    }
+    if (!put_gathered(self, &gathered))
+        Py_CLEAR(item);
+    PyMem_Free(gathered.words);
+    return item;
+}
+
+PyObject *words_fill(PyObject *object, PyObject *items)
+{
+    Words *self = (Words *)object;
+    PyObject *each = PyObject_GetIter(items);
+    if (!each)
+        return NULL;
+    bool put = true;
+    for (PyObject *item = begin(self, each); item; item = put ? PyIter_Next(each) : NULL) {
+        uint64_t words[2];
+        put = read_item(self, item, words) && put_words(self, words);
+        Py_DECREF(item);
+    }
+    Py_DECREF(each);
+    if (PyErr_Occurred())
+        return NULL;
+    Py_RETURN_NONE;
+}

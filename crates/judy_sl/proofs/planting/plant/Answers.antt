@@ -1,0 +1,25 @@
+use Rattle.std.proofs.Common.{ℕ, List, [], ◌∷◌, ◌++◌, sym, ap, subst, ◌∙◌}
+use Rattle.std.proofs.lemmas.List.{take_rest}
+use Rattle.judy_sl.specs.Arenas.{map_of}
+use Rattle.judy_sl.specs.Pieces.{IsText}
+use Rattle.judy_sl.specs.Places.{place_with}
+use Rattle.judy_sl.specs.declared.arena.Place.TheVariants.{Below}
+use Rattle.judy_sl.specs.Planted.{planted, IsPlanted}
+use Rattle.judy_sl.proofs.PieceLemmas.{text_of_key, text-drop}
+use Rattle.judy_sl.proofs.PlantedKeys.{planted-map, planted-more}
+use Rattle.judy_sl.proofs.planting.plant.Goals as goal
+
+pub put_tail-requires-clause-text : goal.put_tail-requires-clause-text
+put_tail-requires-clause-text c = subst IsText (sym (take_rest c.args.key.now 8)) (text-drop 8 c.args.key.now (text_of_key c.args.key.now c.requires.is_key))
+
+pub returns-in-Ok-push-clause-planted : goal.returns-in-Ok-push-clause-planted
+returns-in-Ok-push-clause-planted c =
+    let items = c.in-Ok-push.ensures.items ∙ ap (λ (piece : ℕ). c.args.entries.now.items ++ (piece, c.in-Ok.at) ∷ []) c.first_piece.ensures in
+    subst (IsPlanted (place_with c.put_tail.new.self (Below c.in-Ok.at 0) c.args.value)) (sym items)
+    (planted-more c.args.arena.now c.args.entries.now.items c.requires.planted c.args.key.now c.requires.is_key c.requires.long c.requires.above c.put_tail.new.self c.in-Ok.at _ (take_rest c.args.key.now 8) c.in-Ok.ensures.put c.args.value)
+
+pub returns-in-Ok-push-clause-map : goal.returns-in-Ok-push-clause-map
+returns-in-Ok-push-clause-map c =
+    let items = c.in-Ok-push.ensures.items ∙ ap (λ (piece : ℕ). c.args.entries.now.items ++ (piece, c.in-Ok.at) ∷ []) c.first_piece.ensures in
+    ap (λ (entries : List (ℕ × ℕ)). map_of (planted (place_with c.put_tail.new.self (Below c.in-Ok.at 0) c.args.value) entries)) items
+    ∙ planted-map c.args.arena.now c.args.entries.now.items c.requires.planted c.args.key.now c.requires.is_key c.requires.long c.requires.above c.put_tail.new.self c.in-Ok.at _ (take_rest c.args.key.now 8) c.in-Ok.ensures.put c.args.value

@@ -1,0 +1,12 @@
+use Rattle.std.proofs.Common.{◌≤◌, None}
+use Rattle.std.specs.Option.{option_copied}
+use Rattle.judy_sl.specs.Sorted.{strings_in}
+use Rattle.judy_sl.proofs.SortedRuns.{Run}
+use Rattle.judy_sl.proofs.sorted.check_sorted.Given as goal
+
+-- as many as were read are keys that ascend up to the last one, and no more than the limit
+abbrev pub invariant-pairs : goal.invariant-pairs
+invariant-pairs l = record {
+  within : l.at ≤ l.limit;
+  run : Run None (strings_in l.pairs) l.at (option_copied l.last);
+}

@@ -1,0 +1,120 @@
+//! Arrays made at once of strings that ascend.
+
+ghost use Rattle.std.specs.Prelude.{◌≡◌, ◌≤◌, IfOk, IfErr, OnOk};
+ghost use Rattle.std.specs.FinMap as finmap;
+ghost use Rattle.std.specs.Option.{option_copied};
+ghost use Rattle.judy_model.specs.Arrays.{with_map};
+ghost use Rattle.judy_model.specs.DumpGrammar.{is_above};
+ghost use Rattle.judy_model.specs.Keys.{byte_order};
+ghost use Rattle.judy_sl.specs.Planted.{followers};
+ghost use Rattle.judy_sl.specs.Sorted.{pairs_in, strings_in, with_pairs, IsSorted, IsFault};
+
+use crate::error::SlError;
+use crate::keys::is_key;
+use crate::pieces::first_piece;
+use crate::planting::opens;
+use crate::strings::JudySl;
+use std::alloc::Global;
+use thiserror::Error;
+
+/// Why no array was made of a list of strings: what is wrong with the first that doesn't fit, or want of memory.
+#[derive(Clone, Copy, Debug, PartialEq, Eq, Error)]
+pub enum SlSortedError {
+    /// The string at this place, counted from 0, is no key: it has more than 1,024 bytes, or one of them is zero.
+    #[error("the string at place {0} is no key")]
+    BadKey(usize),
+    /// The string at this place, counted from 0, isn't above the one before it.
+    #[error("the string at place {0} isn't above the one before it")]
+    NotAscending(usize),
+    /// The string at this place, counted from 0, is one more than the limit allows.
+    #[error("the array is full before the string at place {0}")]
+    Full(usize),
+    /// The strings fit, and there is no memory for them.
+    #[error("out of memory")]
+    NoMemory,
+}
+
+// Whether a string is above the one before it, if there is one.
+fn comes_after(before: Option<&[u8]>, key: &[u8]) -> bool
+    ensures { result ≡ is_above byte_order (option_copied before.entry) key.now }
+{
+    match before {
+        None => true,
+        Some(before) => before.cmp(key).is_lt(),
+    }
+}
+
+/// Whether the strings of a list are keys that strictly ascend, and are no more than a limit; else what is wrong with the first that doesn't
+/// fit, as `from_sorted` tells it. It asks for no memory.
+///
+///     check_sorted(9, &[(b"pear", 1), (b"fig", 2)])        // Err(SlSortedError::NotAscending(1))
+pub fn check_sorted(limit: u64, pairs: &[(&[u8], u64)]) -> Result<(), SlSortedError>
+    ensures sorted { OnOk result (IsSorted limit (strings_in pairs.now)) }
+    ensures refused { IfErr result (IsFault limit (strings_in pairs.now)) }
+{
+    let mut last = None;
+    'pairs: for (at, pair) in pairs.iter().enumerate() {
+        let key = pair.0;
+        if !is_key(key) {
+            return Err(SlSortedError::BadKey(at));
+        }
+        if !comes_after(last, key) {
+            return Err(SlSortedError::NotAscending(at));
+        }
+        if at as u64 == limit {
+            return Err(SlSortedError::Full(at));
+        }
+        last = Some(key);
+    }
+    Ok(())
+}
+
+// Gives those keys their values that aren't the first of all which begin with the same whole piece, one after the other.
+fn put_followers(array: &mut JudySl, pairs: &[(&[u8], u64)]) -> Result<(), SlError>
+    ensures { OnOk result (array.new
+        ≡ with_map array.old (with_pairs array.old.map (followers 0 (pairs_in pairs.now)))) }
+{
+    let mut low = 0;
+    'pairs: for pair in pairs {
+        if opens(low, pair.0) {
+            low = first_piece(pair.0);
+        } else {
+            match array.ins(pair.0) {
+                Ok(slot) => *slot = pair.1,
+                Err(error) => return Err(error),
+            }
+        }
+    }
+    Ok(())
+}
+
+impl JudySl {
+    /// The array with a limit, from 1 to 4,294,967,295, that has these pairs of a string and its value, whose strings are keys that strictly
+    /// ascend. (This project's own.)
+    ///
+    /// The error tells the first string that is no key, isn't above the one before it, or is one more than the limit, by its place; `NoMemory`
+    /// only where there is none. Nothing is kept then.
+    ///
+    ///     let prices = JudySl::from_sorted(alloc, 100, &[(b"apple", 30), (b"fig", 45)])?;
+    pub fn from_sorted(
+        alloc: Global,
+        limit: u64,
+        pairs: &[(&[u8], u64)],
+    ) -> Result<JudySl, SlSortedError>
+        requires some { 1 ≤ limit }
+        requires most { limit ≤ 4294967295 }
+        ensures pairs { IfOk result (λ a. finmap.entries a.map ≡ pairs_in pairs.now) }
+        ensures limit { IfOk result (λ a. a.limit ≡ limit) }
+        ensures sorted { OnOk result (IsSorted limit (strings_in pairs.now)) }
+        ensures refused { IfErr result (IsFault limit (strings_in pairs.now)) }
+    {
+        check_sorted(limit, pairs)?;
+        let Ok(mut array) = JudySl::of_openers(alloc, limit, pairs) else {
+            return Err(SlSortedError::NoMemory);
+        };
+        match put_followers(&mut array, pairs) {
+            Ok(()) => Ok(array),
+            Err(_) => Err(SlSortedError::NoMemory),
+        }
+    }
+}
