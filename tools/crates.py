@@ -70,15 +70,12 @@ def load_rt():
     return rt
 
 
-def load_kit():
-    """The kit's own module behind `rt`. One `rt check` keeps every other out of all crates below its own, so crates are proved side by side
-    by the calls that it makes itself."""
-    return load_rt().rtlib
-
-
 class Proof:
     """A proof of some crates and of all that they stand on: as many side by side as may be, those first on which the longest chain of others
-    waits. A library is built as it is proved. It tells each crate that is done, and how much is left."""
+    waits. A library is built as it is proved. It tells each crate that is done, and how much is left.
+
+    One `rt check` keeps every other out of all crates below its own, so crates are proved side by side by the calls that it makes itself. Where
+    it begins with what clones on the machine kept, and keeps for them, so does this."""
 
     def __init__(self, goals, jobs):
         stands_on = read_needs()
@@ -125,9 +122,11 @@ class Proof:
     def go(self):
         """Proves all, or as many as can be before one fails. Answers whether none did."""
         os.makedirs(f"{TOP}/{LOGS}", exist_ok=True)
-        kit = load_kit()
-        kit_crates = {crate.name: crate for crate in kit.crates_below(TOP) if crate.name in self.left}
-        held = kit.lock(list(kit_crates.values()))
+        rt = load_rt()
+        if hasattr(rt, "share_work"):
+            rt.share_work(is_alone=True)
+        kit_crates = {crate.name: crate for crate in rt.rtlib.crates_below(TOP) if crate.name in self.left}
+        held = rt.rtlib.lock(list(kit_crates.values()))
         with concurrent.futures.ThreadPoolExecutor(self.jobs) as pool:
             while self.running or (self.left and not self.failed):
                 if not self.failed:
