@@ -59,6 +59,16 @@ def count_jobs():
     return max(1, min(len(os.sched_getaffinity(0)), memory // ROOM))
 
 
+def wait_for_room():
+    """Waits until there is memory for one more proof, ten minutes at most."""
+    for _ in range(600):
+        with open("/proc/meminfo", encoding="utf-8") as told:
+            free = next((int(line.split()[1]) * 1024 for line in told if line.startswith("MemAvailable:")), ROOM)
+        if free >= ROOM:
+            break
+        time.sleep(1)
+
+
 def load_rt():
     """The kit's command `rt`, as a module, by which must-fail edits are tried as the kit tries them; its `rtlib` is what it stands on."""
     kit = os.path.dirname(subprocess.run(["rt", "doc"], stdout=subprocess.PIPE, encoding="utf-8", check=True).stdout.strip())

@@ -1,13 +1,20 @@
 #!/usr/bin/env python3
-"""Tests of what the tools read: the functions of a source, an edit, and the prover's lines on an edited crate. They need no kit."""
+"""Tests of what the tools read: the functions of a source, an edit, the prover's lines on an edited crate, and what a kit says of an edit and of a
+crate. They need no kit."""
 
+import contextlib
+import importlib.machinery
+import importlib.util
+import io
 import pathlib
 import tempfile
+import types
 import unittest
 
 import edits
 import functions
 import prover
+import trial
 
 SKIP = """\
 const MOST: usize = 8;
@@ -155,6 +162,29 @@ class Reading(unittest.TestCase):
         cycle = "proofs/+down/Answers.antt:3"
         self.assertEqual(places, {"new": "proofs/skip/Skip/new/Answers.antt:6", "len": "src/skip.rt:15", "below": cycle, "beside": cycle})
         self.assertEqual([name for name in ("new", "len", "front") if self.check.waits(f"low::skip::Skip::{name}")], ["new", "front"])
+
+    def test_edit_alone(self):
+        crate = types.SimpleNamespace(name="low", folder=str(self.folder))
+        for what in (True, False, "refused", "limit", "bad", "unsure", "missed"):
+            rt = types.SimpleNamespace(must_fail=lambda *_, what=what: (what, "as the kit says"))
+            told = trial.Trial(rt, crate, None).try_alone(self.folder / "one.edit", None)
+            self.assertEqual(told, (what in (True, "refused", "limit"), "as the kit says"))
+
+
+class Gate(unittest.TestCase):
+    """What the gate takes from the lines of `rt ci`."""
+
+    def test_proved(self):
+        loader = importlib.machinery.SourceFileLoader("gate", str(pathlib.Path(__file__).with_name("gate")))
+        gate = importlib.util.module_from_spec(importlib.util.spec_from_loader("gate", loader))
+        loader.exec_module(gate)
+        progress = gate.Progress(2)
+        said = ["proved", "is kept: an earlier run on this machine proved it", "NOT PROVED", "ran, and wrote what its file stdout has"]
+        lines = [*(f"rt: judy_{at} {each}" for at, each in enumerate(said)), "rt: judy_4: its tests are proved", "rt: judy_4: its tests passed"]
+        with contextlib.redirect_stdout(io.StringIO()):
+            found = [progress.take(line) for line in lines]
+        self.assertEqual(found, ["judy_0", "judy_1", None, None, None, None])
+        self.assertEqual(progress.proved, ["judy_0", "judy_1"])
 
 
 if __name__ == "__main__":
