@@ -1,12 +1,12 @@
 //! Arrays that are filled by keys that ascend, as a dump lists them.
 
-ghost use Rattle.std.specs.Prelude.{◌≡◌, ◌≤◌, ◌^◌, false, [], ◌∷◌, ◌++◌, IfOk, OnOk, IsTrue, IsFalse};
+ghost use Rattle.std.specs.Prelude.{◌≡◌, ◌≤◌, ◌^◌, false, [], ◌∷◌, ◌++◌, IfOk, OnOk, IsTrue};
 ghost use Rattle.std.specs.FinMap as map;
 ghost use Rattle.judy_model.specs.Arrays as array;
 ghost use Rattle.judy_model.specs.Shapes.{AllBelow};
 ghost use Rattle.judy_leaf.specs.KeyLists.{keys_of};
 ghost use Rattle.judy_node.specs.Trees.{IsMap};
-ghost use Rattle.judy_word.specs.Held.{map_in, array_in, with_new};
+ghost use Rattle.judy_word.specs.Held.{map_in, array_in, with_new, with_all, IsFilling};
 ghost use Rattle.judy_word.specs.WordArrays.{array_of};
 
 use crate::error::InsertError;
@@ -65,21 +65,45 @@ fn is_above<V: Words + Drop>(pairs: &[(u64, u64)], key: u64) -> bool
     true
 }
 
-// Puts a key with its value behind sorted pairs, where it is above them and there is room for it. Whether it did.
-fn push_above<V: Words + Drop>(kept: &mut Vec<(u64, u64)>, key: u64, value: u64) -> bool
+// Sees to it that a key may be kept behind those that are: where it isn't above them, or as many are kept as may be, these are put in and none
+// is kept. Refused as an insert of one of them.
+fn make_way<V: Words + Drop>(
+    tree: &mut TreeArray<V>,
+    kept: &mut Vec<(u64, u64)>,
+    key: u64,
+) -> Result<(), InsertError>
+    requires one { V.WORDS ≤ 1 }
+    requires filling { IsFilling V.WORDS tree.old kept.old.items }
+    ensures filling { IsFilling V.WORDS tree.new kept.new.items }
+    ensures above { IfOk result (λ _. AllBelow key (keys_of kept.new.items)) }
+    ensures limit { OnOk result (tree.new.limit ≡ tree.old.limit) }
+    ensures same { OnOk result (with_all (map_in tree.new) kept.new.items
+        ≡ with_all (map_in tree.old) kept.old.items) }
+{
+    if kept.len() < MOST_KEPT && is_above::<V>(kept, key) {
+        return Ok(());
+    }
+    set_all(tree, kept)?;
+    kept.clear();
+    Ok(())
+}
+
+// Keeps a key with its value behind sorted pairs, which it is above.
+fn push_last<V: Words + Drop>(
+    kept: &mut Vec<(u64, u64)>,
+    key: u64,
+    value: u64,
+) -> Result<(), InsertError>
     requires no_value { V.WORDS ≡ 0 → value ≡ 0 }
     requires map { IsMap V.WORDS 0 (256 ^ 8) kept.old.items }
+    requires above { AllBelow key (keys_of kept.old.items) }
     ensures map { IsMap V.WORDS 0 (256 ^ 8) kept.new.items }
-    ensures pushed { IsTrue result → kept.new.items ≡ kept.old.items ++ (key, value) ∷ [] }
-    ensures same { IsFalse result → kept.new.items ≡ kept.old.items }
+    ensures pushed { OnOk result (kept.new.items ≡ kept.old.items ++ (key, value) ∷ []) }
 {
-    if kept.len() == MOST_KEPT || !is_above::<V>(kept, key) {
-        return false;
+    match kept.push((key, value)) {
+        Ok(()) => Ok(()),
+        Err(_) => Err(InsertError::NoMemory),
     }
-    if kept.push((key, value)).is_err() {
-        return false;
-    }
-    true
 }
 
 impl<V: Words + Drop> Filling<V> {
@@ -104,38 +128,9 @@ impl<V: Words + Drop> Filling<V> {
         ensures { OnOk result
             (self.new ≡ array.with_map self.old (with_new self.old.map key value)) }
     {
-        if !self.has_room() {
-            return Err(InsertError::NoMemory);
-        }
-        if self.keep(key, value) {
-            return Ok(());
-        }
-        set_all(&mut self.tree, &self.kept)?;
-        self.kept.clear();
-        if self.kept.push((key, value)).is_err() {
-            self.tree.set_with(key, value)?;
-        }
+        make_way(&mut self.tree, &mut self.kept, key)?;
+        push_last::<V>(&mut self.kept, key, value)?;
         Ok(())
-    }
-
-    // Makes room to keep one more key, unless as many are kept as may be. Whether there is memory for it.
-    fn has_room(&mut self) -> bool
-        ensures { self.new ≡ self.old }
-    {
-        if self.kept.len() == MOST_KEPT {
-            return true;
-        }
-        self.kept.reserve(1).is_ok()
-    }
-
-    // Keeps a key with its value, where it is above those that are kept and there is room for it. Whether it did.
-    fn keep(&mut self, key: u64, value: u64) -> bool
-        requires no_value { V.WORDS ≡ 0 → value ≡ 0 }
-        ensures kept { IsTrue result
-            → self.new ≡ array.with_map self.old (with_new self.old.map key value) }
-        ensures same { IsFalse result → self.new ≡ self.old }
-    {
-        push_above::<V>(&mut self.kept, key, value)
     }
 
     // What it is made of, when all keys are put in.
