@@ -3,14 +3,14 @@ use Rattle.std.proofs.Common.{◌≡◌, ◌≢◌, ℕ, Bool, true, false, cond
 use Rattle.std.specs.Prelude.{ok_or, nat_eq, codes}
 use Rattle.std.specs.List.{starts_with}
 use Rattle.std.proofs.lemmas.Bool.{eqb-true}
-use Rattle.judy_model.specs.Arrays.{ArrayValue}
+use Rattle.judy_model.specs.Arrays.{ArrayValue, len_of}
 use Rattle.judy_model.specs.Lines.{Line, text_of}
 use Rattle.judy_model.specs.Tokens.{tokens_of}
-use Rattle.judy_model.specs.Stores.{Store}
-use Rattle.judy_model.specs.Replies.{Refusal, line_too_long, unknown_command, argument_count, bad_name, no_such_array, silent}
+use Rattle.judy_model.specs.Stores.{Store, without_array}
+use Rattle.judy_model.specs.Replies.{Refusal, line_too_long, unknown_command, argument_count, bad_name, no_such_array, silent, freed}
 use Rattle.judy_model.specs.CommandWords as command
 use Rattle.judy_model.specs.CommandWords.{Command, KeyCommand, PairCommand, command_named}
-use Rattle.judy_model.specs.Commands.{Outcome, ◌>>=◌, unchanged, name_at, array_at, carried_out}
+use Rattle.judy_model.specs.Commands.{Outcome, ◌>>=◌, unchanged, name_at, array_at, carried_out, freed_whole, within, on_key, on_pair}
 use Rattle.judy_model.specs.Steps.{step, settled, carried_out_by_word, outcome_of_tokens}
 use Rattle.judy_model.specs.CommandLaws.{Says, RefusesItsArguments, RefusesABadName, RefusesAMissingArray}
 use Rattle.judy_model.proofs.CommandLemmas.{Names, step-said}
@@ -34,7 +34,7 @@ plain : (word : List ℕ) (command : Command) → command_named word ≡ Some co
 plain [] command named = refl
 plain (byte ∷ rest) command named = ap (λ b. b && true) (semicolon byte rest command named (59 == byte) refl)
 
-pub names-by : (word : List ℕ) (command : Command) → command_named word ≡ Some command → Names word command
+names-by : (word : List ℕ) (command : Command) → command_named word ≡ Some command → Names word command
 names-by word command named = record { plain = plain word command named; named = named }
 
 -- The number of the arguments.
@@ -94,18 +94,56 @@ key-arguments which word arguments named other = counted word (command.on_key wh
 pub pair-arguments : (which : PairCommand) (word : List ℕ) (arguments : List (List ℕ)) → command_named word ≡ Some (command.on_pair which) → length arguments ≢ 3 → RefusesItsArguments word arguments
 pair-arguments which word arguments named other = counted word (command.on_pair which) (names-by word (command.on_pair which) named) arguments (pair-takes which arguments other)
 
+-- The commands that name an array, each with what it does with it.
+pub record OfArray (word : List ℕ) (arguments : List (List ℕ)) : Type 0 where
+  which : Command
+  names : Names word which
+  rest : Store → List ℕ → ArrayValue → Result (Outcome Store) Refusal
+  does : (store : Store) (name : List ℕ) → carried_out store which (name ∷ arguments) ≡ (name_at name >>= (λ name. array_at store name >>= rest store name))
+
+pub drop-of : OfArray (codes "drop") []
+drop-of = record {
+  which = command.drop;
+  names = names-by (codes "drop") command.drop refl;
+  rest = λ store name array. Ok (record { answer = freed (len_of array); after = without_array store name; grows = false });
+  does = λ _ _. refl;
+}
+
+pub free-of : OfArray (codes "free") []
+free-of = record {
+  which = command.free;
+  names = names-by (codes "free") command.free refl;
+  rest = λ store name array. freed_whole array >>= (λ outcome. Ok (within store name outcome));
+  does = λ _ _. refl;
+}
+
+pub key-of : (which : KeyCommand) (word token : List ℕ) → command_named word ≡ Some (command.on_key which) → OfArray word (token ∷ [])
+key-of which word token named = record {
+  which = command.on_key which;
+  names = names-by word (command.on_key which) named;
+  rest = λ store name array. on_key which token array >>= (λ outcome. Ok (within store name outcome));
+  does = λ _ _. refl;
+}
+
+pub pair-of : (which : PairCommand) (word first second : List ℕ) → command_named word ≡ Some (command.on_pair which) → OfArray word (first ∷ second ∷ [])
+pair-of which word first second named = record {
+  which = command.on_pair which;
+  names = names-by word (command.on_pair which) named;
+  rest = λ store name array. on_pair which first second array >>= (λ outcome. Ok (within store name outcome));
+  does = λ _ _. refl;
+}
+
 -- The name, and the array of that name.
-module _ (word : List ℕ) (command : Command) (names : Names word command) (arguments : List (List ℕ)) (rest : Store → List ℕ → ArrayValue → Result (Outcome Store) Refusal)
-    (does : (store : Store) (name : List ℕ) → carried_out store command (name ∷ arguments) ≡ (name_at name >>= (λ name. array_at store name >>= rest store name))) where
+module _ {word : List ℕ} {arguments : List (List ℕ)} (it : OfArray word arguments) where
   pub bad_named : RefusesABadName word arguments
   bad_named store name line bad says =
-      step-said store line word command (name ∷ arguments) names says
-      ∙ ap (settled store) (does store name)
-      ∙ ap (λ b. settled store (ok_or (cond b (Some name) None) bad_name >>= (λ name. array_at store name >>= rest store name))) bad
+      step-said store line word it.which (name ∷ arguments) it.names says
+      ∙ ap (settled store) (it.does store name)
+      ∙ ap (λ b. settled store (ok_or (cond b (Some name) None) bad_name >>= (λ name. array_at store name >>= it.rest store name))) bad
 
   pub missing : RefusesAMissingArray word arguments
   missing store name line good none says =
-      step-said store line word command (name ∷ arguments) names says
-      ∙ ap (settled store) (does store name)
-      ∙ ap (λ b. settled store (ok_or (cond b (Some name) None) bad_name >>= (λ name. array_at store name >>= rest store name))) good
-      ∙ ap (λ found. settled store (ok_or found no_such_array >>= rest store name)) none
+      step-said store line word it.which (name ∷ arguments) it.names says
+      ∙ ap (settled store) (it.does store name)
+      ∙ ap (λ b. settled store (ok_or (cond b (Some name) None) bad_name >>= (λ name. array_at store name >>= it.rest store name))) good
+      ∙ ap (λ found. settled store (ok_or found no_such_array >>= it.rest store name)) none
