@@ -1,5 +1,5 @@
 -- Entries in the order of their keys: what is read of them is spelled so, and what is spelled so is read.
-use Rattle.std.proofs.Common.{◌≡◌, ℕ, zero, suc, Bool, true, false, ◌&&◌, T, IsTrue, IfSome, List, [], ◌∷◌, ◌++◌, length, Option, Some, None, Ok, refl, sym, ap, subst, ◌∙◌, append_assoc, arith, All, Less, Equal, Greater}
+use Rattle.std.proofs.Common.{◌≡◌, ℕ, zero, suc, T, IsTrue, IfSome, List, [], ◌∷◌, ◌++◌, length, Option, Some, None, Ok, refl, sym, ap, subst, ◌∙◌, append_assoc, arith, All, Less}
 use Rattle.std.specs.declared.cmp.Ordering.{Ordering}
 use Rattle.std.specs.Ordering.{is_lt}
 use Rattle.std.specs.List.{flat_map}
@@ -11,33 +11,9 @@ use Rattle.judy_model.specs.Keys.{IsByteString}
 use Rattle.judy_model.specs.Fields.{bad_order, Part, ◌>>=◌, done, field}
 use Rattle.judy_model.specs.DumpGrammar.{is_above, entry, entries}
 use Rattle.judy_model.proofs.FieldLemmas.{IsSpelled, followed_ok, done_ok, field-IsSpelled}
+use Rattle.judy_model.proofs.Tests.{both, left_of, right_of, is_Less, test_holds, holds_test}
 
 -- ---- keys that ascend
-
-both : (a b : Bool) → T a → T b → T (a && b)
-both true b h k = k
-both false b h k = absurd h
-
-left_of : (a b : Bool) → T (a && b) → T a
-left_of true b h = tt
-left_of false b h = h
-
-right_of : (a b : Bool) → T (a && b) → T b
-right_of true b h = h
-right_of false b h = absurd h
-
-is_Less : (r : Ordering) → T (is_lt r) → r ≡ Less
-is_Less Less h = refl
-is_Less Equal h = absurd h
-is_Less Greater h = absurd h
-
-test_holds : (b : Bool) → b ≡ true → T b
-test_holds true e = tt
-test_holds false e = absurd cc
-
-holds_test : (b : Bool) → T b → b ≡ true
-holds_test true h = refl
-holds_test false h = absurd h
 
 module _ {K : Type 0} (order : K → K → Ordering) where
   -- Each key is greater than the one before.

@@ -24,6 +24,7 @@ use Rattle.judy_model.proofs.Orders.{same_from_tie}
 use Rattle.judy_model.proofs.Pairs.{find-at}
 use Rattle.judy_model.proofs.ValuesLemmas.{value_from_All}
 use Rattle.judy_model.proofs.WordLemmas.{word_of-decimal}
+use Rattle.judy_model.proofs.Tests.{both_true}
 
 -- ---- arrays
 
@@ -126,15 +127,11 @@ made_if-true : (limit : ℕ) → made_if limit true ≡ Ok (record { answer = do
 unfolding made_if
 made_if-true limit = refl
 
-both : (a b : Bool) → a ≡ true → b ≡ true → (a && b) ≡ true
-both true b h k = k
-both false b h k = h
-
 pub regular_limit : (limit : ℕ) → 1 ≤ limit → IsWord limit → IsRegular (one_array limit) ↔ (carried_out [] make (codes "a" ∷ codes "judyl" ∷ decimal limit ∷ []) ≡ Ok (record { answer = done; after = one_array limit; grows = true }))
 regular_limit limit some small = (
   λ regular.
       let most = All-head (λ array. limit_of array ≤ 4294967295) (judyl (record { limit = limit; map = _ })) [] regular in
-      let holds : (nat_lt 0 limit && nat_le limit 4294967295) ≡ true = both _ _ (lt-ltb 0 limit (omega arith)) (le-leb limit 4294967295 most) in
+      let holds : (nat_lt 0 limit && nat_le limit 4294967295) ≡ true = both_true _ _ (lt-ltb 0 limit (omega arith)) (le-leb limit 4294967295 most) in
       made_by_limit limit small ∙ ap (made_if limit) holds ∙ made_if-true limit,
   λ made.
       let holds = made_if-holds limit (nat_lt 0 limit && nat_le limit 4294967295) (sym (made_by_limit limit small) ∙ made) in

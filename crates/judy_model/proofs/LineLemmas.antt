@@ -6,6 +6,7 @@ use Rattle.judy_model.specs.Lines.{Line, lines_of, onto_first_line}
 use Rattle.std.specs.Prelude.{filter}
 use Rattle.std.proofs.lemmas.List.Elements.{filter-append}
 use Rattle.judy_model.specs.LineLists.{whole_lines, script_of, are_lines}
+use Rattle.judy_model.proofs.Tests.{first_true, second_true}
 
 -- a byte that is no LF
 abbrev pub is_inner : ℕ → Bool
@@ -49,14 +50,6 @@ are_lines-lines_of (byte ∷ script) =
       | false ↦ λ h. are_lines-onto_first_line byte (lines_of script) h (are_lines-lines_of script)
     ] refl
 
-both_first : (a b : Bool) → (a && b) ≡ true → a ≡ true
-both_first true b h = refl
-both_first false b h = h
-
-pub both_second : (a b : Bool) → (a && b) ≡ true → b ≡ true
-both_second true b h = h
-both_second false b h = cc
-
 inner : (byte : ℕ) → is_inner byte ≡ true → (byte == 10) ≡ false
 inner byte = elim (byte == 10) as (λ b. not b ≡ true → b ≡ false) [ true ↦ λ h. sym h | false ↦ λ h. refl ]
 
@@ -64,14 +57,14 @@ inner byte = elim (byte == 10) as (λ b. not b ≡ true → b ≡ false) [ true 
 pub lines_of-ended : (bytes rest : List ℕ) → list_all is_inner bytes ≡ true → lines_of (bytes ++ 10 ∷ rest) ≡ record { bytes = bytes; ended = true } ∷ lines_of rest
 lines_of-ended [] rest h = refl
 lines_of-ended (byte ∷ bytes) rest h =
-    rw (inner byte (both_first _ _ h)) (ap (onto_first_line byte) (lines_of-ended bytes rest (both_second _ _ h)))
+    rw (inner byte (first_true _ _ h)) (ap (onto_first_line byte) (lines_of-ended bytes rest (second_true _ _ h)))
 
 -- bytes without an LF, at least one, are a line that the script's end ends
 pub lines_of-unended : (bytes : List ℕ) → list_all is_inner bytes ≡ true → 0 < length bytes → lines_of bytes ≡ record { bytes = bytes; ended = false } ∷ []
 lines_of-unended [] h some = absurd (omega arith)
-lines_of-unended (byte ∷ []) h some = rw (inner byte (both_first _ _ h)) refl
+lines_of-unended (byte ∷ []) h some = rw (inner byte (first_true _ _ h)) refl
 lines_of-unended (byte ∷ other ∷ bytes) h some =
-    rw (inner byte (both_first _ _ h)) (ap (onto_first_line byte) (lines_of-unended (other ∷ bytes) (both_second _ _ h) (omega arith)))
+    rw (inner byte (first_true _ _ h)) (ap (onto_first_line byte) (lines_of-unended (other ∷ bytes) (second_true _ _ h) (omega arith)))
 
 pub no_lines : (lines : List Line) → nat_lt (length lines) 1 ≡ true → lines ≡ []
 no_lines [] h = refl
@@ -79,16 +72,16 @@ no_lines (line ∷ lines) h = absurd (search rules)
 
 pub lines_of-script_of : (lines : List Line) → are_lines lines ≡ true → lines_of (script_of lines) ≡ lines
 lines_of-script_of [] h = refl
-lines_of-script_of (line ∷ lines) h = cases line.bytes line.ended (lines_of-script_of lines (both_second _ _ h)) h
+lines_of-script_of (line ∷ lines) h = cases line.bytes line.ended (lines_of-script_of lines (second_true _ _ h)) h
   where
     cases : (bytes : List ℕ) (ended : Bool) → lines_of (script_of lines) ≡ lines → are_lines (record { bytes = bytes; ended = ended } ∷ lines) ≡ true → lines_of ((bytes ++ cond ended (10 ∷ []) []) ++ script_of lines) ≡ record { bytes = bytes; ended = ended } ∷ lines
-    cases bytes true same g = rw (append_assoc bytes (10 ∷ []) (script_of lines)) (lines_of-ended bytes (script_of lines) (both_first _ _ (both_first _ _ g)) ∙ ap (λ more. record { bytes = bytes; ended = true } ∷ more) same)
+    cases bytes true same g = rw (append_assoc bytes (10 ∷ []) (script_of lines)) (lines_of-ended bytes (script_of lines) (first_true _ _ (first_true _ _ g)) ∙ ap (λ more. record { bytes = bytes; ended = true } ∷ more) same)
     cases bytes false same g =
-        let last : (nat_lt (length lines) 1 && nat_lt 0 (length bytes)) ≡ true = both_second _ _ (both_first _ _ g) in
-        let none : lines ≡ [] = no_lines lines (both_first _ _ last) in
-        let is_some : nat_lt 0 (length bytes) ≡ true = both_second (nat_lt (length lines) 1) _ last in
+        let last : (nat_lt (length lines) 1 && nat_lt 0 (length bytes)) ≡ true = second_true _ _ (first_true _ _ g) in
+        let none : lines ≡ [] = no_lines lines (first_true _ _ last) in
+        let is_some : nat_lt 0 (length bytes) ≡ true = second_true (nat_lt (length lines) 1) _ last in
         let some : 0 < length bytes = ltb-true 0 (length bytes) is_some in
-        rw none (rw (append-nil (bytes ++ []), append-nil bytes) (lines_of-unended bytes (both_first _ _ (both_first _ _ g)) some))
+        rw none (rw (append-nil (bytes ++ []), append-nil bytes) (lines_of-unended bytes (first_true _ _ (first_true _ _ g)) some))
 
 -- whether an LF ended each of the lines
 abbrev pub all_ended : List Line → Bool
@@ -97,20 +90,20 @@ all_ended = list_all (λ line. line.ended)
 filter-all_ended : (lines : List Line) → all_ended lines ≡ true → filter (λ line. line.ended) lines ≡ lines
 filter-all_ended [] h = refl
 filter-all_ended (line ∷ lines) h =
-    let first : line.ended ≡ true = both_first line.ended (all_ended lines) h in
+    let first : line.ended ≡ true = first_true line.ended (all_ended lines) h in
     ap (λ b. cond b (line ∷ filter (λ line. line.ended) lines) (filter (λ line. line.ended) lines)) first
-    ∙ ap (λ rest. line ∷ rest) (filter-all_ended lines (both_second line.ended (all_ended lines) h))
+    ∙ ap (λ rest. line ∷ rest) (filter-all_ended lines (second_true line.ended (all_ended lines) h))
 
 -- the lines of whole lines and more are those of both
 lines_of-script_of_ended : (lines : List Line) (more : List ℕ) → are_lines lines ≡ true → all_ended lines ≡ true → lines_of (script_of lines ++ more) ≡ lines ++ lines_of more
 lines_of-script_of_ended [] more h k = refl
 lines_of-script_of_ended (line ∷ lines) more h k =
-    cases line.bytes line.ended (lines_of-script_of_ended lines more (both_second _ _ h) (both_second line.ended (all_ended lines) k)) h (both_first line.ended (all_ended lines) k)
+    cases line.bytes line.ended (lines_of-script_of_ended lines more (second_true _ _ h) (second_true line.ended (all_ended lines) k)) h (first_true line.ended (all_ended lines) k)
   where
     cases : (bytes : List ℕ) (ended : Bool) → lines_of (script_of lines ++ more) ≡ lines ++ lines_of more → are_lines (record { bytes = bytes; ended = ended } ∷ lines) ≡ true → ended ≡ true → lines_of (((bytes ++ cond ended (10 ∷ []) []) ++ script_of lines) ++ more) ≡ record { bytes = bytes; ended = ended } ∷ (lines ++ lines_of more)
     cases bytes true same g is =
         ap lines_of (append_assoc (bytes ++ 10 ∷ []) (script_of lines) more ∙ append_assoc bytes (10 ∷ []) (script_of lines ++ more))
-        ∙ lines_of-ended bytes (script_of lines ++ more) (both_first _ _ (both_first _ _ g)) ∙ ap (λ rest. record { bytes = bytes; ended = true } ∷ rest) same
+        ∙ lines_of-ended bytes (script_of lines ++ more) (first_true _ _ (first_true _ _ g)) ∙ ap (λ rest. record { bytes = bytes; ended = true } ∷ rest) same
     cases bytes false same g is = absurd (cc)
 
 pub lines_of-whole_lines : (front more : List ℕ) → all_ended (lines_of front) ≡ true → lines_of (front ++ more) ≡ lines_of front ++ lines_of more

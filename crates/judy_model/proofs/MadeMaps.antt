@@ -1,19 +1,12 @@
 -- Maps that are made of a list of entries, and the entries of a map in another order of the keys.
-use Rattle.std.proofs.Common.{◌≡◌, ℕ, suc, ◌+◌, Bool, true, false, cond, ◌&&◌, T, List, [], ◌∷◌, length, Some, None, is_some, refl, sym, ap, subst, ◌∙◌, arith, All, Less, Equal, Greater}
+use Rattle.std.proofs.Common.{◌≡◌, ℕ, suc, ◌+◌, Bool, true, false, cond, T, List, [], ◌∷◌, length, Some, None, is_some, refl, sym, ap, subst, ◌∙◌, arith, All, Less, Equal, Greater}
 use Rattle.std.specs.declared.cmp.Ordering.{Ordering}
 use Rattle.std.specs.Ordering.{is_lt, is_eq, eq_by_cmp}
 use Rattle.std.specs.Cmp.{IsTotalOrder, tied_itself}
 use Rattle.std.specs.FinMap.{FinMap, IsAntisymmetric, find, put, is_sorted, empty, from_sorted, from_entries, entries, get, len, get-entries, get-from_entries, get-from_sorted, entries-from_sorted, entries-insert, len-entries, len-empty, len-insert, same_map}
 use Rattle.std.specs.FinMap.Entries.{below_all, by_order}
 use Rattle.std.proofs.lemmas.List.Elements.{All-nil, All-cons, All-head, All-tail}
-
-first_part : (a b : Bool) → T (a && b) → T a
-first_part true b h = tt
-first_part false b h = h
-
-second_part : (a b : Bool) → T (a && b) → T b
-second_part true b h = h
-second_part false b h = absurd h
+use Rattle.judy_model.proofs.Tests.{left_of, right_of}
 
 apart : (r : Ordering) → T (is_lt r) → is_eq r ≡ false
 apart Less h = refl
@@ -52,14 +45,14 @@ module _ {K : Type 0} (one other : K → K → Ordering) (one_total : IsTotalOrd
   find-below : (key : K) (pairs : List (K × ℕ)) → T (below_all one key pairs) → find other key pairs ≡ None
   find-below key [] below = refl
   find-below key (pair ∷ pairs) below =
-      sym (ap (λ b. cond b (Some pair.1) (find other key pairs)) (same_ties key pair.0)) ∙ ap (λ b. cond b (Some pair.1) (find other key pairs)) (apart (one key pair.0) (first_part _ _ below)) ∙ find-below key pairs (second_part _ _ below)
+      sym (ap (λ b. cond b (Some pair.1) (find other key pairs)) (same_ties key pair.0)) ∙ ap (λ b. cond b (Some pair.1) (find other key pairs)) (apart (one key pair.0) (left_of _ _ below)) ∙ find-below key pairs (right_of _ _ below)
 
   -- A map has as many keys as the list in order that it is made of.
   pub len-from_entries : (pairs : List (K × ℕ)) → T (is_sorted one pairs) → len (from_entries {R = other} pairs) ≡ length pairs
   len-from_entries [] sorted = len-empty other ℕ
   len-from_entries (pair ∷ pairs) sorted =
-      let rest : len (from_entries {R = other} pairs) ≡ length pairs = len-from_entries pairs (second_part _ _ sorted) in
-      let new : get (from_entries {R = other} pairs) pair.0 ≡ None = get-from_entries other_total pairs pair.0 ∙ find-below pair.0 pairs (first_part _ _ sorted) in
+      let rest : len (from_entries {R = other} pairs) ≡ length pairs = len-from_entries pairs (right_of _ _ sorted) in
+      let new : get (from_entries {R = other} pairs) pair.0 ≡ None = get-from_entries other_total pairs pair.0 ∙ find-below pair.0 pairs (left_of _ _ sorted) in
       len-insert other_total (from_entries pairs) pair.0 pair.1
       ∙ ap (λ found. cond (is_some found) (len (from_entries {R = other} pairs)) (len (from_entries {R = other} pairs) + 1)) new
       ∙ more_by_one rest

@@ -128,7 +128,8 @@ arrays_left version (suc earlier) (suc count) before input made few is next =
 
 -- ---- the whole
 
-begun : {A : Type 0} (read : Result (A × List ℕ) Fault) (Holds : A → List ℕ → Type 0) → Behind read Holds → (first : A × List ℕ) × (read ≡ Ok first) × Holds first.0 first.1
+-- A part that begins bytes, and what holds behind it.
+pub begun : {A : Type 0} (read : Result (A × List ℕ) Fault) (Holds : A → List ℕ → Type 0) → Behind read Holds → (first : A × List ℕ) × (read ≡ Ok first) × Holds first.0 first.1
 begun (Ok first) Holds holds = (first, refl, holds)
 begun (Err fault) Holds holds = absurd holds
 

@@ -13,7 +13,8 @@ use Rattle.judy_model.specs.AmpleRuns.{ample_replies, ample_store, ample_output,
 use Rattle.judy_model.specs.Remaining.{wants_memory, remaining_lines, remaining_replies, remaining_script}
 use Rattle.judy_model.proofs.StepLemmas.{Step-no_memory}
 use Rattle.judy_model.proofs.RunLaws.{Step-ample}
-use Rattle.judy_model.proofs.LineLemmas.{is_inner, both_second, are_lines-lines_of, lines_of-script_of}
+use Rattle.judy_model.proofs.LineLemmas.{is_inner, are_lines-lines_of, lines_of-script_of}
+use Rattle.judy_model.proofs.Tests.{second_true}
 
 -- ---- what drops out
 
@@ -109,7 +110,7 @@ are_lines-remaining : (lines : List Line) (replies : List Reply) → are_lines l
 are_lines-remaining [] replies are = refl
 are_lines-remaining (line ∷ lines) [] are = refl
 are_lines-remaining (line ∷ lines) (reply ∷ replies) are =
-    let rest = are_lines-remaining lines replies (both_second _ (are_lines lines) are) in
+    let rest = are_lines-remaining lines replies (second_true _ (are_lines lines) are) in
     elim (wants_memory reply) as (λ wants. wants_memory reply ≡ wants → are_lines (remaining_lines (line ∷ lines) (reply ∷ replies)) ≡ true) [
       | true ↦ λ is. ap are_lines (drops line lines replies reply is).0 ∙ rest
       | false ↦ λ is. ap are_lines (remains line lines replies reply is).0

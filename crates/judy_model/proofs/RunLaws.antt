@@ -16,6 +16,7 @@ use Rattle.judy_model.specs.Runs.{Steps, Run, CutOff}
 use Rattle.judy_model.specs.AmpleRuns.{ample_replies, ample_store, ample_output, store_after}
 use Rattle.judy_model.specs.CutRuns.{Begins, RanInto}
 use Rattle.judy_model.proofs.LineLemmas.{is_inner, all_ended, no_lines, script_of-lines_of, are_lines-lines_of, lines_of-script_of, lines_of-whole_lines}
+use Rattle.judy_model.proofs.Tests.{first_true, second_true, both_true}
 
 -- ---- lines after lines
 
@@ -139,18 +140,6 @@ Run-determined before after script output run have =
 
 -- ---- runs that are cut off
 
-both_first : (a b : Bool) → (a && b) ≡ true → a ≡ true
-both_first true b h = refl
-both_first false b h = h
-
-both_second : (a b : Bool) → (a && b) ≡ true → b ≡ true
-both_second true b h = h
-both_second false b h = cc
-
-both : (a b : Bool) → a ≡ true → b ≡ true → (a && b) ≡ true
-both true b h k = k
-both false b h k = h
-
 -- lines before a line of a script are lines, each ended by an LF
 record AreBefore (earlier : List Line) (line : Line) (later : List Line) : Type 0 where
   pub lines : are_lines earlier ≡ true
@@ -169,15 +158,15 @@ more_than_none n some = false_from_ne_true (nat_lt n 1) (λ none. let below = lt
 are_before : (earlier : List Line) (line : Line) (later : List Line) → are_lines (earlier ++ line ∷ later) ≡ true → AreBefore earlier line later
 are_before [] line later are = record { lines = refl; ended = refl; rest = are }
 are_before (first ∷ earlier) line later are =
-    let here = both_first _ (are_lines (earlier ++ line ∷ later)) are in
+    let here = first_true _ (are_lines (earlier ++ line ∷ later)) are in
     let long = length-append earlier (line ∷ later) in
     let some : 0 < length (earlier ++ line ∷ later) = omega arith in
     let many : nat_lt (length (earlier ++ line ∷ later)) 1 ≡ false = more_than_none (length (earlier ++ line ∷ later)) some in
-    let others : AreBefore earlier line later = are_before earlier line later (both_second _ _ are) in
-    let ended : first.ended ≡ true = not_last first.ended _ _ many (both_second (list_all is_inner first.bytes) _ here) in
+    let others : AreBefore earlier line later = are_before earlier line later (second_true _ _ are) in
+    let ended : first.ended ≡ true = not_last first.ended _ _ many (second_true (list_all is_inner first.bytes) _ here) in
     record {
-      lines = both _ _ (both _ _ (both_first _ _ here) (ap (λ b. b || nat_lt (length earlier) 1 && nat_lt 0 (length first.bytes)) ended)) others.lines;
-      ended = both _ _ ended others.ended;
+      lines = both_true _ _ (both_true _ _ (first_true _ _ here) (ap (λ b. b || nat_lt (length earlier) 1 && nat_lt 0 (length first.bytes)) ended)) others.lines;
+      ended = both_true _ _ ended others.ended;
       rest = others.rest;
     }
 
@@ -214,9 +203,9 @@ module _ (before : Store) (script output : List ℕ) (after : Store) where
         whole = ap all_ended front_lines ∙ are.ended;
         one_line = ap length own_lines;
         line_end = ⊎_elim
-            (λ ended. inl (ap all_ended own_lines ∙ both _ _ ended refl))
+            (λ ended. inl (ap all_ended own_lines ∙ both_true _ _ ended refl))
             (λ last. inr (ap script_of (no_lines cut.later last)))
-            (ended_or_last cut.line.ended _ _ (both_second (list_all is_inner cut.line.bytes) _ (both_first _ (are_lines cut.later) are.rest)));
+            (ended_or_last cut.line.ended _ _ (second_true (list_all is_inner cut.line.bytes) _ (first_true _ (are_lines cut.later) are.rest)));
         between = cut.between;
         answers = flat_map output_of cut.replies;
         ran = (cut.replies, subst (λ lines. Steps before lines cut.replies cut.between) (sym front_lines) cut.steps, refl);

@@ -1,17 +1,17 @@
 -- The nodes on the way of a word in the rule's form: one holds 33 keys exactly where 33 keys are the same as the word but for some number of
 -- lowest bytes.
-use Rattle.std.proofs.Common.{◌≡◌, ◌≢◌, ℕ, zero, suc, ◌+◌, ◌-◌, ◌*◌, ◌/◌, ◌%◌, ◌^◌, ◌<◌, ◌≤◌, ◌⊎◌, ◌↔◌, inl, inr, ⊎_elim, List, [], ◌∷◌, ◌++◌, length, sym, refl, ap, ◌∙◌, subst, arith, append_assoc, length-append}
+use Rattle.std.proofs.Common.{◌≡◌, ℕ, zero, suc, ◌+◌, ◌-◌, ◌*◌, ◌/◌, ◌^◌, ◌<◌, ◌≤◌, ◌⊎◌, ◌↔◌, inl, inr, ⊎_elim, List, [], ◌∷◌, ◌++◌, length, sym, refl, ap, ◌∙◌, subst, arith, append_assoc, length-append}
 use Rattle.std.proofs.Math.Nat.{add-mul, mul_assoc, pow-succ', mul-div_cancel, zero-div}
 use Rattle.std.proofs.lemmas.Nat.{pow-add}
 use Rattle.std.proofs.lemmas.List.{append-nil}
 use Rattle.std.proofs.lemmas.Bool.{cases_lt}
 use Rattle.judy_model.specs.WordBytes.{number_of}
-use Rattle.judy_model.specs.Forms.{bitmap_leaf, branch, Form, Place, raise, places_of}
-use Rattle.judy_model.specs.Shapes.{Group, groups_of, bytes_of, forms_of, split_by, by_number, form_behind, form_of, AllBelow}
+use Rattle.judy_model.specs.Forms.{bitmap_leaf, Form, Place, raise, places_of}
+use Rattle.judy_model.specs.Shapes.{Group, groups_of, bytes_of, forms_of, split_by, form_behind, form_of, AllBelow}
 use Rattle.judy_model.specs.Ways.{LeadsTo, HoldsAt, HoldsOnWay, alike, AreAlike, Ascends}
 use Rattle.judy_model.proofs.ByteLemmas.{unit_pos}
-use Rattle.judy_model.proofs.FormLemmas.{immediate_limit_small, by_number-cases, raise-zero, length-raise, joined, AllSome, AllSome-groups_of, joined-groups_of, number_of-push}
-use Rattle.judy_model.proofs.AlikeLemmas.{InBlock, FromBlock, alike-append, alike-most, alike-all, pow-split, alike_within, alike_whole, one_of_two, InBlock-raise, Ascends-raise, alike_alone}
+use Rattle.judy_model.proofs.FormLemmas.{immediate_limit_small, by_number-cases, raise-zero, length-raise, joined, joined-groups_of, number_of-push}
+use Rattle.judy_model.proofs.AlikeLemmas.{InBlock, FromBlock, alike-append, alike-most, alike-all, alike_within, alike_whole, one_of_two, InBlock-raise, Ascends-raise, alike_alone}
 use Rattle.judy_model.proofs.GroupChains.{AreChained, chain-groups_of, start-block, FromBlock-joined}
 
 -- 33 keys that are alike.
@@ -64,25 +64,18 @@ part_way width block word front behind bytes within either sum =
     (λ (none : alike (256 ^ bytes) word front ≡ 0). inr (bytes, within, (let e : alike (256 ^ bytes) word behind ≡ 33 = omega arith in e)))
     either
 
-whole_front : (width word : ℕ) (front behind : List ℕ) (bytes : ℕ) → bytes ≤ width
+-- And 33 of one part, where none stands in the other, are those of both.
+joined_way : (width word : ℕ) (front behind : List ℕ) (bytes : ℕ) → bytes ≤ width
     → (alike (256 ^ bytes) word behind ≡ 0) ⊎ (alike (256 ^ bytes) word front ≡ 0)
-    → alike (256 ^ bytes) word front ≡ 33 → Has width word (front ++ behind)
-whole_front width word front behind bytes within either here =
-    let both = alike-append (256 ^ bytes) word front behind in
-    ⊎_elim
-    (λ (none : alike (256 ^ bytes) word behind ≡ 0). (bytes, within, (let e : alike (256 ^ bytes) word (front ++ behind) ≡ 33 = omega arith in e)))
-    (λ (none : alike (256 ^ bytes) word front ≡ 0). let never : ⊥ = omega arith in absurd never)
-    either
-
-whole_behind : (width word : ℕ) (front behind : List ℕ) (bytes : ℕ) → bytes ≤ width
-    → (alike (256 ^ bytes) word behind ≡ 0) ⊎ (alike (256 ^ bytes) word front ≡ 0)
-    → alike (256 ^ bytes) word behind ≡ 33 → Has width word (front ++ behind)
-whole_behind width word front behind bytes within either here =
-    let both = alike-append (256 ^ bytes) word front behind in
-    ⊎_elim
-    (λ (none : alike (256 ^ bytes) word behind ≡ 0). let never : ⊥ = omega arith in absurd never)
-    (λ (none : alike (256 ^ bytes) word front ≡ 0). (bytes, within, (let e : alike (256 ^ bytes) word (front ++ behind) ≡ 33 = omega arith in e)))
-    either
+    → (alike (256 ^ bytes) word front ≡ 33) ⊎ (alike (256 ^ bytes) word behind ≡ 33) → Has width word (front ++ behind)
+joined_way width word front behind bytes within either here =
+    (bytes, within, both_ways (alike (256 ^ bytes) word front) (alike (256 ^ bytes) word behind) either here (alike-append (256 ^ bytes) word front behind))
+  where
+    both_ways : (one other : ℕ) → (other ≡ 0) ⊎ (one ≡ 0) → (one ≡ 33) ⊎ (other ≡ 33) → {sum : ℕ} → sum ≡ one + other → sum ≡ 33
+    both_ways one other (inl none) (inl here) is = omega arith
+    both_ways one other (inl none) (inr here) is = absurd (omega arith)
+    both_ways one other (inr none) (inl here) is = absurd (omega arith)
+    both_ways one other (inr none) (inr here) is = omega arith
 
 groups_way : (form : List ℕ → List ℕ → Form) (width from whole block low word : ℕ) (groups : List Group) (places : List Place) (nodes : Form)
     → TellsWay form width → from ≡ whole * 256 ^ width → AreChained (256 ^ width) low groups
@@ -106,9 +99,9 @@ groups_way form width from whole block low word (group ∷ groups) places nodes 
     let assoc = append_assoc (form [] group.1) (forms_of (form []) groups) nodes in
     let sides = λ (bytes : ℕ) (fewer : bytes ≤ width). one_of_two bytes width (whole + (block + group.0)) word front behind fewer within later in (
       λ one. ⊎_elim
-          (λ (h : Has width word front). inl (whole_front width word front behind h.0 h.1 (sides h.0 h.1) h.2))
+          (λ (h : Has width word front). inl (joined_way width word front behind h.0 h.1 (sides h.0 h.1) (inl h.2)))
           (λ further. ⊎_elim
-          (λ (h : Has width word behind). inl (whole_behind width word front behind h.0 h.1 (sides h.0 h.1) h.2))
+          (λ (h : Has width word behind). inl (joined_way width word front behind h.0 h.1 (sides h.0 h.1) (inr h.2)))
           (λ last. inr last)
           (rest.0 further))
           (here.0 (subst (λ form. HoldsAt 33 word ((start, width) ∷ other_places) form) assoc one)),

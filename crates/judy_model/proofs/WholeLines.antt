@@ -8,10 +8,7 @@ use Rattle.std.proofs.lemmas.List.Sums.{AllPass-from_list_all, list_all-from_All
 use Rattle.judy_model.specs.Lines.{Line, lines_of, onto_first_line}
 use Rattle.judy_model.specs.LineLists.{are_whole_lines, whole_lines}
 use Rattle.judy_model.proofs.LineLemmas.{is_inner, all_ended, lines_of-ended, lines_of-unended, lines_of-whole_lines, whole_lines-append}
-
-both : (a b : Bool) → a ≡ true → b ≡ true → (a && b) ≡ true
-both true b h k = k
-both false b h k = h
+use Rattle.judy_model.proofs.Tests.{both_true}
 
 pub record IsCut (script : List ℕ) : Type 0 where
   pub front : List ℕ
@@ -50,7 +47,7 @@ cut_with byte front rest whole inner =
     ] refl
   where
     inside : (front : List ℕ) → are_whole_lines front ≡ true → (byte == 10) ≡ false → IsCut (byte ∷ (front ++ rest))
-    inside [] whole other = record { front = []; rest = byte ∷ rest; split = refl; whole = refl; inner = both _ _ (ap not other) inner }
+    inside [] whole other = record { front = []; rest = byte ∷ rest; split = refl; whole = refl; inner = both_true _ _ (ap not other) inner }
     inside (first ∷ front) whole other = record {
       front = byte ∷ first ∷ front;
       rest = rest;
@@ -97,7 +94,7 @@ pub ended-are_whole_lines : (bytes : List ℕ) → are_whole_lines (bytes ++ 10 
 ended-are_whole_lines bytes =
     let is = cut bytes in
     ap all_ended (lines_with bytes is (10 ∷ []) ∙ ap (λ lines. lines_of is.front ++ lines) (lines_of-ended is.rest [] is.inner))
-    ∙ list_all-append (λ line. line.ended) (lines_of is.front) (record { bytes = is.rest; ended = true } ∷ []) ∙ both _ _ is.whole refl
+    ∙ list_all-append (λ line. line.ended) (lines_of is.front) (record { bytes = is.rest; ended = true } ∷ []) ∙ both_true _ _ is.whole refl
 
 and_false : (b : Bool) → (b && false) ≡ false
 and_false true = refl
@@ -106,6 +103,6 @@ and_false false = refl
 pub unended-are_whole_lines : (bytes : List ℕ) (byte : ℕ) → byte ≢ 10 → are_whole_lines (bytes ++ byte ∷ []) ≡ false
 unended-are_whole_lines bytes byte other =
     let is = cut bytes in
-    let inner = list_all-append is_inner is.rest (byte ∷ []) ∙ both _ _ is.inner (both _ _ (inner_byte byte other) refl) in
+    let inner = list_all-append is_inner is.rest (byte ∷ []) ∙ both_true _ _ is.inner (both_true _ _ (inner_byte byte other) refl) in
     ap all_ended (lines_with bytes is (byte ∷ []) ∙ ap (λ lines. lines_of is.front ++ lines) (lines_of-unended (is.rest ++ byte ∷ []) inner (omega (arith, length_push is.rest byte))))
     ∙ list_all-append (λ line. line.ended) (lines_of is.front) (record { bytes = is.rest ++ byte ∷ []; ended = false } ∷ []) ∙ and_false (all_ended (lines_of is.front))

@@ -1,5 +1,5 @@
 -- Words as they are read and printed.
-use Rattle.std.proofs.Common.{◌≡◌, ℕ, ◌+◌, ◌<◌, ◌≤◌, ◌%◌, ◌^◌, Bool, true, false, cond, ◌&&◌, nat_lt, nat_le, List, [], ◌∷◌, length, Some, None, refl, arith}
+use Rattle.std.proofs.Common.{◌≡◌, ℕ, ◌+◌, ◌<◌, ◌≤◌, ◌%◌, ◌^◌, true, false, cond, nat_lt, nat_le, List, [], ◌∷◌, length, Some, None, refl, arith}
 use Rattle.std.specs.Prelude.{decimal, IfSome}
 use Rattle.std.specs.List.{list_all}
 use Rattle.std.specs.Char.{is_ascii_digit}
@@ -9,6 +9,7 @@ use Rattle.std.proofs.lemmas.Bool.{ltb-true, lt-ltb, le-leb}
 use Rattle.std.proofs.lemmas.List.Folds.{list_all-append}
 use Rattle.judy_model.specs.Keys.{IsWord}
 use Rattle.judy_model.specs.Tokens.{word_of, is_word_token}
+use Rattle.judy_model.proofs.Tests.{second_true}
 
 a_digit : (n : ℕ) → n < 10 → is_ascii_digit (48 + n) ≡ true
 a_digit n h = rw (le-leb 48 (48 + n) (omega arith)) (le-leb (48 + n) 57 (omega arith))
@@ -28,12 +29,8 @@ word_of-decimal word h =
     let small : nat_lt word (2 ^ 64) ≡ true = lt-ltb _ _ h in
     rw (numeral.1, some, short, all_digits word h, small) refl
 
-second : (a b : Bool) → (a && b) ≡ true → b ≡ true
-second true b h = h
-second false b h = cc
-
 pub word_of-IsWord : (token : List ℕ) → IfSome (word_of token) IsWord
 word_of-IsWord token = elim (is_word_token token) as (λ b. is_word_token token ≡ b → IfSome (cond b (Some (digits_value 10 token)) None) IsWord) [
-  | true ↦ λ h. ltb-true _ _ (second _ _ h)
+  | true ↦ λ h. ltb-true _ _ (second_true _ _ h)
   | false ↦ λ _. tt
 ] refl
