@@ -20,11 +20,15 @@ chunk-is (suc i) (suc count) bytes inside =
     chunk-is i count (drop 8 bytes) (omega arith) ∙ ap (take 8) (drop-drop (8 * i) 8 bytes ∙ ap (λ n. drop n bytes) e)
 
 -- The word that it spells.
-pub chunk-word : (i count : ℕ) (bytes chunk : List ℕ) → i < count → 8 * count ≤ length bytes → chunk ≡ get_or (first_chunks 8 count bytes) i [] → from_be_bytes w64 chunk ≡ first_word (drop (8 * i) bytes)
+chunk-word : (i count : ℕ) (bytes chunk : List ℕ) → i < count → 8 * count ≤ length bytes → chunk ≡ get_or (first_chunks 8 count bytes) i [] → from_be_bytes w64 chunk ≡ first_word (drop (8 * i) bytes)
 unfolding first_word
 chunk-word i count bytes chunk inside within is =
     let left = length-drop (8 * i) bytes in
     ap (from_be_bytes w64) (is ∙ chunk-is i count bytes inside) ∙ from_be_bytes-spelled (drop (8 * i) bytes) (omega (arith, left))
+
+-- The word of a chunk that is read.
+pub read-word : (i : ℕ) (bytes : List ℕ) (chunks : List (List ℕ)) (word : ℕ) → i < length bytes / 8 → chunks ≡ first_chunks 8 (length bytes / 8) bytes → word ≡ from_be_bytes w64 (get_or chunks i []) → word ≡ first_word (drop (8 * i) bytes)
+read-word i bytes chunks word inside are read = read ∙ chunk-word i (length bytes / 8) bytes (get_or chunks i []) inside (omega arith) (ap (λ chunks. get_or chunks i []) are)
 
 -- ---- the shorter word behind them
 

@@ -4,11 +4,11 @@ use Rattle.std.specs.Vec.{with_item}
 use Rattle.std.proofs.lemmas.Bool.{eq-eqb, cases_lt}
 use Rattle.std.proofs.lemmas.Nat.{mul-le}
 use Rattle.std.proofs.lemmas.Bool.Decides.{eqb_tells}
-use Rattle.std.proofs.lemmas.List.{get_or-drop, drop-drop, length-set, length-map, length-append, length-drop, length-take-le, take_all}
+use Rattle.std.proofs.lemmas.List.{get_or_read_under, get_or-drop, drop-drop, length-set, length-map, length-append, length-drop, length-take-le, take_all}
 use Rattle.judy_places.specs.Places.{NoneLost, free_places}
 use Rattle.judy_records.specs.declared.records.Records.TheInside.{Inside}
 use Rattle.judy_records.specs.Texts.{words_for, words_in, words_of}
-use Rattle.judy_records.specs.Spots.{Spot, free, held, spot_at, IsHeld, value_of, text_of, link_of, links_of, empty_list, with_spot, with_value, HasRoom, free_or, next_place, put_by, put_in, taken_out, removed}
+use Rattle.judy_records.specs.Spots.{Spot, RecordList, free, held, spot_at, IsHeld, value_of, text_of, link_of, links_of, empty_list, with_spot, with_value, HasRoom, free_or, next_place, put_by, put_in, taken_out, removed}
 use Rattle.judy_records.specs.Inside.{first_spot, spots_in, freed, list_of, AreRecords, AreChained}
 use Rattle.judy_records.proofs.SpotLemmas.{length-spots, place-within, get-spots, spots-value, spots-push, spots-place, before, behind}
 use Rattle.judy_records.proofs.TextLemmas.{length-words}
@@ -129,6 +129,21 @@ module _ (list : Inside) (are : AreRecords list) (place : ℕ) (is : IsHeld (spo
     | inl same ↦ absurd (other (ap (λ n. n + 1) (sym (links-counted list are)) ∙ same.1 ∙ spots-long list are))
     | inr apart ↦ ap (λ b. cond b (empty_list list.size) (taken_out (list_of list) place)) apart.0
   ]
+
+-- The same of a list as callers see it.
+module _ (list : Inside) (are : AreRecords list) {seen : RecordList} (view_is : list_of list ≡ seen) (place : ℕ) (is : IsHeld (spot_at seen place)) where
+  pub seen-held : IsHeld (spot_at (list_of list) place)
+  seen-held = subst (λ list. IsHeld (spot_at list place)) (sym view_is) is
+
+  pub seen-inside : place * (list.size + 1) + (list.size + 1) ≤ length list.words.items
+  seen-inside = word-inside list are place seen-held
+
+  pub seen-value : {value : ℕ} → value ≡ get_or list.words.items (place * (list.size + 1)) value → value ≡ value_of (spot_at seen place)
+  seen-value read =
+      let inside = seen-inside in
+      get_or_read_under list.words.items _ _ _ 0 read (omega (arith, inside, list.words.ok)) list.words.ok.0
+      ∙ sym (word-value list are place seen-held)
+      ∙ ap (λ list. value_of (spot_at list place)) view_is
 
 -- ---- room
 

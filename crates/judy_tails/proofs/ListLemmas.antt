@@ -6,7 +6,7 @@ use Rattle.std.specs.Prelude.{Contains}
 use Rattle.std.specs.List.{IsDistinct}
 use Rattle.std.proofs.lemmas.Bool.{cases_lt, cases_order}
 use Rattle.std.proofs.lemmas.Bool.Decides.{eqb_tells}
-use Rattle.std.proofs.lemmas.List.{length-set, length-append, length-map, get_or-set_same, get_or-set_other, get_or_past, get_or_read, get_or_append_left, get_or-append_right, map-set, map-append}
+use Rattle.std.proofs.lemmas.List.{length-set, length-append, length-map, get_or-set_same, get_or-set_other, get_or_past, get_or_read, get_or-append_right, map-set}
 use Rattle.std.proofs.lemmas.Grind.{get_or_head}
 use Rattle.std.proofs.lemmas.List as seq
 use Rattle.judy_model.specs.Keys.{IsWord}
@@ -238,6 +238,59 @@ module _ (lists : List RecordList) (place : ℕ) (some : IsSome (tail_at (lists_
       let list = list_at lists (place % 256) in
       let is = is-held lists place some in
       set-updates lists place (is-inside lists place some) (removed list (place / 256)) None (removed-here list (place / 256) is) (removed-other list (place / 256) is)
+
+-- ---- the same of the list that was read, by lists as callers see them
+
+module _ (lists : List RecordList) {seen : TailLists} (view_is : lists_of lists ≡ seen) (place : ℕ) (some : IsSome (tail_at seen place)) where
+  seen-some : IsSome (tail_at (lists_of lists) place)
+  seen-some = subst (λ (all : TailLists). IsSome (tail_at all place)) (sym view_is) some
+
+  pub seen-inside : place % 256 < length lists
+  seen-inside = is-inside lists place seen-some
+
+  module _ (list : RecordList) (read : list ≡ get_or lists (place % 256) list) where
+    list-is : list ≡ list_at lists (place % 256)
+    list-is = is-read lists place seen-some list read
+
+    pub list-held : IsHeld (spot_at list (place / 256))
+    list-held = subst (λ (list : RecordList). IsHeld (spot_at list (place / 256))) (sym list-is) (is-held lists place seen-some)
+
+    pub list-whole : AreTails lists → IsWhole (spot_at list (place / 256))
+    list-whole are = subst (λ (list : RecordList). IsWhole (spot_at list (place / 256))) (sym list-is) (is-whole lists place seen-some are)
+
+    pub list-tail : tail_at seen place ≡ Some (text_in (text_of (spot_at list (place / 256))), value_of (spot_at list (place / 256)))
+    list-tail =
+        ap (λ (all : TailLists). tail_at all place) (sym view_is)
+        ∙ is-tail lists place seen-some
+        ∙ ap (λ (list : RecordList). Some (text_in (text_of (spot_at list (place / 256))), value_of (spot_at list (place / 256)))) (sym list-is)
+
+    -- Its value is lent.
+    pub lent-are : AreTails lists → (value : ℕ) → AreTails (set lists (place % 256) (with_value list (place / 256) value))
+    lent-are are value = subst (λ (list : RecordList). AreTails (set lists (place % 256) (with_value list (place / 256) value))) (sym list-is) (value-all lists place seen-some value are)
+
+    pub lent-lists : (value : ℕ) → lists_of (set lists (place % 256) (with_value list (place / 256) value)) ≡ tails.with_value seen place value
+    lent-lists value =
+        ap (λ (list : RecordList). lists_of (set lists (place % 256) (with_value list (place / 256) value))) list-is
+        ∙ value-lists lists place seen-some value
+        ∙ ap (λ (all : TailLists). tails.with_value all place value) view_is
+
+    pub lent-value : {value : ℕ} → value ≡ value_of (spot_at list (place / 256)) → tail_at seen place ≡ Some (tails.text_of (tail_at seen place), value)
+    lent-value {value} is =
+        subst (λ (all : TailLists). tail_at all place ≡ Some (tails.text_of (tail_at all place), value)) view_is
+        (is-valued lists place seen-some ∙ ap (λ value. Some (tails.text_of (tail_at (lists_of lists) place), value)) (sym (is ∙ ap (λ (list : RecordList). value_of (spot_at list (place / 256))) list-is)))
+
+    -- The record goes.
+    module _ (after : RecordList) (goes : after ≡ removed list (place / 256)) where
+      gone-is : after ≡ removed (list_at lists (place % 256)) (place / 256)
+      gone-is = goes ∙ ap (λ (list : RecordList). removed list (place / 256)) list-is
+
+      pub gone-are : AreTails lists → AreTails (set lists (place % 256) after)
+      gone-are are = subst (λ (list : RecordList). AreTails (set lists (place % 256) list)) (sym gone-is) (without-are lists place seen-some are)
+
+      pub gone-updates : Updates seen (lists_of (set lists (place % 256) after)) place None
+      gone-updates =
+          subst (λ (all : TailLists). Updates all (lists_of (set lists (place % 256) after)) place None) view_is
+          (subst (λ (list : RecordList). Updates (lists_of lists) (lists_of (set lists (place % 256) list)) place None) (sym gone-is) (without-updates lists place seen-some))
 
 -- ---- a record that comes
 

@@ -2,14 +2,6 @@ use Rattle.std.proofs.Common.{refl}
 use Rattle.judy_records.specs.Texts.{first_word}
 use Rattle.judy_records.proofs.laws.some_texts_in_words.Goals as goal
 
-pub returns-clause-short : goal.returns-clause-short
+pub returns : goal.returns
 unfolding first_word
-returns-clause-short c = refl
-
-pub returns-clause-zeros : goal.returns-clause-zeros
-unfolding first_word
-returns-clause-zeros c = refl
-
-pub returns-clause-long : goal.returns-clause-long
-unfolding first_word
-returns-clause-long c = refl
+returns c = record { empty = refl; short = refl; zeros = refl; back = refl; back_with_zeros = refl; back_long = refl; long = refl }

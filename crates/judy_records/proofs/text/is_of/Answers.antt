@@ -1,8 +1,8 @@
-use Rattle.std.proofs.Common.{◌≡◌, ◌*◌, ◌/◌, [], length, drop, get_or, refl, sym, ap, ◌∙◌, arith}
+use Rattle.std.proofs.Common.{◌*◌, [], length, drop, get_or, refl, sym, ap, ◌∙◌, arith}
 use Rattle.std.proofs.lemmas.Bool.{false≢true}
-use Rattle.judy_records.specs.Texts.{first_word, words_for}
+use Rattle.judy_records.specs.Texts.{words_for}
 use Rattle.judy_records.proofs.TextLemmas.{length-words, same-more, both-true}
-use Rattle.judy_records.proofs.ChunkLemmas.{chunk-word, last-same}
+use Rattle.judy_records.proofs.ChunkLemmas.{read-word, last-same}
 use Rattle.judy_records.proofs.text.is_of.Goals as goal
 
 pub returns-then-text-words_for : goal.returns-then-text-words_for
@@ -13,8 +13,7 @@ pub loop-i-preserved : goal.loop-i-preserved
 loop-i-preserved c =
     let bytes = c.args.bytes.now in
     let i = c.loop-i.i in
-    let word : c.from_be_bytes.result ≡ first_word (drop (8 * i) bytes) =
-    c.from_be_bytes.ensures ∙ chunk-word i (length bytes / 8) bytes (get_or c.as_chunks.result.0.now i []) (omega (arith, c.loop-i-test.true)) (omega arith) (ap (λ chunks. get_or chunks i []) c.as_chunks.ensures.front) in
+    let word = read-word i bytes c.as_chunks.result.0.now c.from_be_bytes.result (omega (arith, c.loop-i-test.true)) c.as_chunks.ensures.front c.from_be_bytes.ensures in
     let both = both-true c.loop-i.same (get_or c.args.text.now i 0) c.from_be_bytes.result in
     let more = same-more c.args.text.now bytes (drop (8 * i) bytes) i (omega (arith, c.loop-i-test.true, c.if-text-words_for.false)) refl in (
       λ is. let parts = both.0 is in more.0 (c.loop-i.invariant.0 parts.0, parts.1 ∙ word),

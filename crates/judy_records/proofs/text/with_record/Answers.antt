@@ -1,7 +1,7 @@
-use Rattle.std.proofs.Common.{◌≡◌, ◌*◌, ◌/◌, ◌%◌, ◌<◌, ◌∷◌, ◌++◌, [], length, drop, get_or, refl, ap, ◌∙◌, arith}
-use Rattle.judy_records.specs.Texts.{first_word, words_in}
+use Rattle.std.proofs.Common.{◌*◌, ◌%◌, ◌<◌, ◌∷◌, ◌++◌, [], length, drop, refl, ap, ◌∙◌, arith}
+use Rattle.judy_records.specs.Texts.{words_in}
 use Rattle.judy_records.proofs.TextLemmas.{words-pushed, length-pushed, length-words}
-use Rattle.judy_records.proofs.ChunkLemmas.{chunk-word, last-pushed}
+use Rattle.judy_records.proofs.ChunkLemmas.{read-word, last-pushed}
 use Rattle.judy_records.proofs.text.with_record.Goals as goal
 
 pub push_reserved-requires-in-loop-i : goal.push_reserved-requires-in-loop-i
@@ -14,8 +14,7 @@ pub loop-i-preserved : goal.loop-i-preserved
 loop-i-preserved c =
     let bytes = c.args.bytes.now in
     let i = c.loop-i.i in
-    let word : c.from_be_bytes.result ≡ first_word (drop (8 * i) bytes) =
-    c.from_be_bytes.ensures ∙ chunk-word i (length bytes / 8) bytes (get_or c.as_chunks.result.0.now i []) (omega (arith, c.loop-i-test.true)) (omega arith) (ap (λ chunks. get_or chunks i []) c.as_chunks.ensures.front) in
+    let word = read-word i bytes c.as_chunks.result.0.now c.from_be_bytes.result (omega (arith, c.loop-i-test.true)) c.as_chunks.ensures.front c.from_be_bytes.ensures in
     record {
       pushed =
           c.push_reserved-in-loop-i.ensures.items ∙ ap (λ word. c.loop-i.words.items ++ word ∷ []) word

@@ -1,15 +1,13 @@
-use Rattle.std.proofs.Common.{◌≡◌, ◌*◌, ◌/◌, [], length, drop, get_or, set, refl, ap, ◌∙◌, arith}
-use Rattle.judy_records.specs.Texts.{first_word}
+use Rattle.std.proofs.Common.{◌*◌, [], length, drop, set, refl, ap, ◌∙◌, arith}
 use Rattle.judy_records.proofs.TextLemmas.{words-written}
-use Rattle.judy_records.proofs.ChunkLemmas.{chunk-word, last-written}
+use Rattle.judy_records.proofs.ChunkLemmas.{read-word, last-written}
 use Rattle.judy_records.proofs.text.write.Goals as goal
 
 pub loop-i-preserved : goal.loop-i-preserved
 loop-i-preserved c =
     let bytes = c.args.bytes.now in
     let i = c.loop-i.i in
-    let word : c.from_be_bytes.result ≡ first_word (drop (8 * i) bytes) =
-    c.from_be_bytes.ensures ∙ chunk-word i (length bytes / 8) bytes (get_or c.as_chunks.result.0.now i []) (omega (arith, c.loop-i-test.true)) (omega arith) (ap (λ chunks. get_or chunks i []) c.as_chunks.ensures.front) in
+    let word = read-word i bytes c.as_chunks.result.0.now c.from_be_bytes.result (omega (arith, c.loop-i-test.true)) c.as_chunks.ensures.front c.from_be_bytes.ensures in
     ap (λ word. set c.loop-i.text i word) word
     ∙ words-written c.args.text.now c.loop-i.text bytes (drop (8 * i) bytes) i (omega (arith, c.loop-i-test.true)) c.loop-i.invariant refl
 

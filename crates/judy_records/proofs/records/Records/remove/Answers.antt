@@ -1,19 +1,19 @@
-use Rattle.std.proofs.Common.{ap, sym, ◌∙◌, arith, subst, []}
-use Rattle.judy_records.specs.Spots.{IsHeld, spot_at, removed, taken_out}
-use Rattle.judy_records.proofs.RecordLemmas.{removed-last, removed-other, spare-fits}
+use Rattle.std.proofs.Common.{ap, sym, ◌∙◌, arith, []}
+use Rattle.judy_records.specs.Spots.{removed, taken_out}
+use Rattle.judy_records.proofs.RecordLemmas.{removed-last, removed-other, spare-fits, seen-held}
 use Rattle.judy_records.proofs.records.Records.remove.Goals as goal
 
 pub returns-then-self : goal.returns-then-self
 returns-then-self c =
     (λ i. record { size = c.self.inside.size; spots = []; first = 0; capacity = c.new.ensures.capacity i })
-    ∙ sym (removed-last c.self.inside c.self.invariant c.args.place (subst (λ list. IsHeld (spot_at list c.args.place)) (sym c.self.view_is) c.requires) c.if-self.true)
+    ∙ sym (removed-last c.self.inside c.self.invariant c.args.place (seen-held c.self.inside c.self.invariant c.self.view_is c.args.place c.requires) c.if-self.true)
     ∙ ap (λ list. removed list c.args.place) c.self.view_is
 
 pub returns-else-self : goal.returns-else-self
 returns-else-self c =
     c.take_out.ensures
     ∙ ap (λ list. taken_out list c.args.place) (sym c.self.view_is)
-    ∙ sym (removed-other c.self.inside c.self.invariant c.args.place (subst (λ list. IsHeld (spot_at list c.args.place)) (sym c.self.view_is) c.requires) c.if-self.false)
+    ∙ sym (removed-other c.self.inside c.self.invariant c.args.place (seen-held c.self.inside c.self.invariant c.self.view_is c.args.place c.requires) c.if-self.false)
     ∙ ap (λ list. removed list c.args.place) c.self.view_is
 
 pub overflow_add-self-inside : goal.overflow_add-self-inside

@@ -1,26 +1,22 @@
 use Rattle.std.proofs.Common.{ap, sym, ◌∙◌, arith, subst, length}
 use Rattle.judy_records.specs.Texts.{words_of}
-use Rattle.judy_records.specs.Spots.{IsHeld, spot_at, held, with_spot}
+use Rattle.judy_records.specs.Spots.{held, with_spot}
 use Rattle.judy_records.specs.Inside.{spots_in, freed, AreChained}
-use Rattle.judy_records.proofs.RecordLemmas.{word-inside, held-within, placed-long, set-list, set-chained}
+use Rattle.judy_records.proofs.RecordLemmas.{held-within, placed-long, set-list, set-chained, seen-held, seen-inside}
 use Rattle.judy_records.proofs.records.Records.set.Goals as goal
 
 pub overflow_mul-start : goal.overflow_mul-start
-overflow_mul-start c =
-    let inside = word-inside c.self.inside c.self.invariant c.args.place (subst (λ list. IsHeld (spot_at list c.args.place)) (sym c.self.view_is) c.requires.is_held) in
-    omega (arith, inside, c.self.inside.words.ok, c.self.inside.words.small)
+overflow_mul-start c = omega (arith, seen-inside c.self.inside c.self.invariant c.self.view_is c.args.place c.requires.is_held, c.self.inside.words.ok, c.self.inside.words.small)
 
 pub write_record-requires-clause-within : goal.write_record-requires-clause-within
-write_record-requires-clause-within c =
-    let inside = word-inside c.self.inside c.self.invariant c.args.place (subst (λ list. IsHeld (spot_at list c.args.place)) (sym c.self.view_is) c.requires.is_held) in
-    omega (arith, inside, c.self.inside.words.ok)
+write_record-requires-clause-within c = omega (arith, seen-inside c.self.inside c.self.invariant c.self.view_is c.args.place c.requires.is_held, c.self.inside.words.ok)
 
 pub write_record-requires-clause-fits : goal.write_record-requires-clause-fits
 write_record-requires-clause-fits c = c.requires.fits ∙ ap (λ list. list.size) (sym c.self.view_is)
 
 pub invariant_of-self : goal.invariant_of-self
 invariant_of-self c =
-    let is = subst (λ list. IsHeld (spot_at list c.args.place)) (sym c.self.view_is) c.requires.is_held in
+    let is = seen-held c.self.inside c.self.invariant c.self.view_is c.args.place c.requires.is_held in
     let size = c.requires.fits ∙ ap (λ list. list.size) (sym c.self.view_is) in
     record {
       long = ap length c.write_record.ensures.words ∙ placed-long c.self.inside c.self.invariant c.args.value c.args.bytes.now size c.args.place (held-within c.self.inside c.self.invariant c.args.place is);
@@ -31,7 +27,7 @@ invariant_of-self c =
 
 pub returns : goal.returns
 returns c =
-    let is = subst (λ list. IsHeld (spot_at list c.args.place)) (sym c.self.view_is) c.requires.is_held in
+    let is = seen-held c.self.inside c.self.invariant c.self.view_is c.args.place c.requires.is_held in
     let size = c.requires.fits ∙ ap (λ list. list.size) (sym c.self.view_is) in
     (λ i. record {
       size = c.self.inside.size;
