@@ -143,6 +143,7 @@ pub(crate) fn previous(width: u8, count: usize, word: u64, number: u64) -> Optio
 }
 
 // The nearest number at or above another that is no key, among those that a key of the width could be; none where all these are keys.
+#[tactic(auto, using(crate::proofs::AbsentRuns::first_at))]
 pub(crate) fn absent_from(width: u8, count: usize, word: u64, number: u64) -> Option<u64>
     requires packed { IsPacked width count (word ∷ []) }
     requires ascending { IsStrictlySortedBy word_order (keys_in width count (word ∷ [])) }
@@ -162,6 +163,7 @@ pub(crate) fn absent_from(width: u8, count: usize, word: u64, number: u64) -> Op
 }
 
 // The nearest number at or below another that is no key, among those that a key of the width could be; none where all these are keys.
+#[tactic(auto, using(crate::proofs::AbsentRuns::last_at))]
 pub(crate) fn absent_up_to(width: u8, count: usize, word: u64, number: u64) -> Option<u64>
     requires packed { IsPacked width count (word ∷ []) }
     requires ascending { IsStrictlySortedBy word_order (keys_in width count (word ∷ [])) }
