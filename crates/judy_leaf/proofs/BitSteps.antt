@@ -1,5 +1,5 @@
 -- What a pair more or less in its block makes of a bitmap leaf.
-use Rattle.std.proofs.Common.{◌≡◌, ℕ, zero, suc, ◌+◌, ◌-◌, ◌*◌, ◌/◌, ◌%◌, ◌^◌, ◌<◌, ◌≤◌, false, cond, List, [], ◌∷◌, length, take, drop, get_or, set, slice_get, Some, bit_and, bit_or, refl, ap, sym, ◌∙◌, arith, get_or-take}
+use Rattle.std.proofs.Common.{◌≡◌, ◌≢◌, ℕ, zero, suc, ◌+◌, ◌-◌, ◌*◌, ◌/◌, ◌%◌, ◌^◌, ◌<◌, ◌≤◌, false, cond, List, [], ◌∷◌, length, take, drop, get_or, set, slice_get, Some, bit_and, bit_or, refl, ap, sym, ◌∙◌, arith, get_or-take}
 use Rattle.std.specs.List.{insert, remove}
 use Rattle.std.proofs.lemmas.List.{drop-set-lt, length-set, length-take-le, length-drop}
 use Rattle.std.proofs.Math.Seq.{take-set-lt}
@@ -18,6 +18,10 @@ use Rattle.judy_leaf.specs.PairChanges.{HasRoom}
 use Rattle.judy_leaf.proofs.LowPairs.{length-low, low_at, first_rank, first_absent, with_next}
 use Rattle.judy_leaf.proofs.BitLists.{bit_keys_are, bit_length}
 use Rattle.judy_leaf.proofs.PairLists.{pairs-insert, pairs-insert_none, pairs-remove, pairs-remove_none}
+
+-- Without a word of its own each key has none.
+pub no_word : {words read : ℕ} → read ≡ words → words ≤ 1 → read ≢ 1 → words ≡ 0
+no_word is most apart = omega arith
 
 -- ---- the bits
 

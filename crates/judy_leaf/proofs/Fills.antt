@@ -1,11 +1,11 @@
 -- What is written of pairs, one after another.
-use Rattle.std.proofs.Common.{◌≡◌, ℕ, zero, suc, ◌+◌, ◌<◌, List, [], ◌∷◌, ◌++◌, length, take, drop, get_or, refl, ap, sym, ◌∙◌, arith}
-use Rattle.std.proofs.lemmas.List.{take_all}
+use Rattle.std.proofs.Common.{◌≡◌, ℕ, zero, suc, ◌+◌, ◌<◌, List, [], ◌∷◌, ◌++◌, length, take, drop, get_or, set, refl, ap, sym, ◌∙◌, arith}
+use Rattle.std.proofs.lemmas.List.{take_all, take_more_set}
 use Rattle.judy_leaf.specs.KeyLists.{keys_of, values_of, shift}
 use Rattle.judy_leaf.specs.Fills.{made_of}
 
 -- The next one.
-pub made_more : {E : Type 0} (made : ℕ → ℕ → E) (by : ℕ) (pairs : List (ℕ × ℕ)) (at place n : ℕ) → n ≡ at + place → n < length pairs
+made_more : {E : Type 0} (made : ℕ → ℕ → E) (by : ℕ) (pairs : List (ℕ × ℕ)) (at place n : ℕ) → n ≡ at + place → n < length pairs
     → take place (made_of made (shift by (drop at pairs))) ++ made (by + get_or (keys_of pairs) n 0) (get_or (values_of pairs) n 0) ∷ [] ≡ take (place + 1) (made_of made (shift by (drop at pairs)))
 made_more made by pairs at place n sum inside = more made by pairs at place n sum inside ∙ ap (λ n. take n (made_of made (shift by (drop at pairs)))) (let e : suc place ≡ place + 1 = omega arith in e)
   where
@@ -18,6 +18,13 @@ made_more made by pairs at place n sum inside = more made by pairs at place n su
     more made by (pair ∷ pairs) zero (suc place) (suc n) sum inside = ap (λ rest. made (by + pair.0) pair.1 ∷ rest) (more made by pairs zero place n (omega arith) (omega arith))
     more made by (pair ∷ pairs) (suc at) place zero sum inside = let never : ⊥ = omega arith in absurd never
     more made by (pair ∷ pairs) (suc at) place (suc n) sum inside = more made by pairs at place n (omega arith) (omega arith)
+
+-- It is written behind those that are.
+pub written_more : {E : Type 0} (made : ℕ → ℕ → E) (by : ℕ) (pairs : List (ℕ × ℕ)) (at place : ℕ) (out : List E) (one : E) → place < length out → at + place < length pairs
+    → one ≡ made (by + get_or (keys_of pairs) (at + place) 0) (get_or (values_of pairs) (at + place) 0)
+    → take place out ≡ take place (made_of made (shift by (drop at pairs))) → take (place + 1) (set out place one) ≡ take (place + 1) (made_of made (shift by (drop at pairs)))
+written_more made by pairs at place out one inside here is so_far =
+    take_more_set out place one inside ∙ (λ t. so_far t ++ is t ∷ []) ∙ made_more made by pairs at place (at + place) refl here
 
 take-made : {E : Type 0} (made : ℕ → ℕ → E) (by n : ℕ) (pairs : List (ℕ × ℕ)) → take n (made_of made (shift by pairs)) ≡ made_of made (shift by (take n pairs))
 take-made made by zero pairs = refl

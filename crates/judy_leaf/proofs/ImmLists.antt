@@ -11,7 +11,7 @@ use Rattle.judy_leaf.specs.Immediates.{imm_list, imm_room, count_in, keys_part, 
 use Rattle.judy_leaf.proofs.Placed.{per_pos, length-places_of}
 use Rattle.judy_leaf.proofs.KeysIn.{keys_below_unit}
 use Rattle.judy_leaf.proofs.KeyEdits.{packed_more}
-use Rattle.judy_leaf.proofs.LeafLists.{keys_of-pairs_of, length-pairs_of, length-keys_of, no_value, value_of, rank_within}
+use Rattle.judy_leaf.proofs.LeafLists.{Stands, keys_of-pairs_of, length-pairs_of, length-keys_of, no_value, value_of, rank_within}
 use Rattle.judy_leaf.proofs.PairLists.{pairs-insert_none, pairs-remove, pairs-remove_none, ascending-insert, ascending-remove}
 
 -- No keys, whatever the value.
@@ -86,6 +86,9 @@ module _ (words width count keys value : ℕ) (is : IsImm words width count keys
 
   pub imm_ascending : IsStrictlySortedBy word_order (keys_of list.pairs)
   imm_ascending = subst (IsStrictlySortedBy word_order) own_keys is.ascending
+
+  pub imm_stands : (n : ℕ) → n ≡ count → Stands list.pairs (keys_in width n (keys ∷ []))
+  imm_stands n e = record { same = imm_keys n e; ascending = imm_ascending }
 
   -- The list of an immediate is a list of keys of its width.
   pub imm_list_is : IsKeyList list

@@ -166,13 +166,21 @@ module _ (width : ℕ) (is : IsWidth width) where
       }
 
   -- A key taken out: the words are still those of all.
-  pub key_taken : (start count at : ℕ) (before mid : Contents) → at ≤ count → AreKeysFrom width (count + 1) start before → IsEdit width start (pulled at 0) before mid
+  key_taken : (start count at : ℕ) (before mid : Contents) → at ≤ count → AreKeysFrom width (count + 1) start before → IsEdit width start (pulled at 0) before mid
       → IsPacked width count (drop start mid.words) × (keys_from width count start mid ≡ remove (keys_from width (count + 1) start before) at)
   key_taken start count at before mid place keys edit =
       let long = edit.long in
       let old = length-drop start before.words in
       let new = length-drop start mid.words in
       packed_without count (drop start before.words) keys.packed at (drop start mid.words) place (omega arith) edit.changed edit.tight
+
+  -- The same by how many there were.
+  pub key_less : (start count at : ℕ) (before mid : Contents) → at < count → AreKeysFrom width count start before → IsEdit width start (pulled at 0) before mid
+      → IsPacked width (count - 1) (drop start mid.words) × (keys_from width (count - 1) start mid ≡ remove (keys_from width count start before) at)
+  key_less start count at before mid inside keys edit =
+      let e : count ≡ count - 1 + 1 = omega arith in
+      let taken = key_taken start (count - 1) at before mid (omega arith) (subst (λ n. AreKeysFrom width n start before) e keys) edit in
+      (taken.0, taken.1 ∙ ap (λ n. remove (keys_from width n start before) at) (sym e))
 
   -- And without the word that isn't needed.
   pub word_dropped : (start count : ℕ) (block : Contents) (words : List ℕ) → count < 32 → IsPacked width count (drop start block.words) → length block.words ≡ start + words_for width (count + 1)

@@ -1,5 +1,5 @@
 -- What a pair more or less in its block makes of a leaf.
-use Rattle.std.proofs.Common.{◌≡◌, ℕ, ◌+◌, ◌*◌, ◌≤◌, false, take, drop, ap, sym, ◌∙◌, subst, arith}
+use Rattle.std.proofs.Common.{◌≡◌, ℕ, ◌+◌, ◌-◌, ◌*◌, ◌<◌, ◌≤◌, false, length, take, drop, ap, sym, ◌∙◌, subst, arith}
 use Rattle.std.specs.List.{insert, remove}
 use Rattle.std.specs.List.Sorted.{IsStrictlySortedBy}
 use Rattle.judy_block.specs.Contents.{Contents}
@@ -9,7 +9,7 @@ use Rattle.judy_leaf.specs.Packing.{keys_in}
 use Rattle.judy_leaf.specs.KeyLists.{KeyList, keys_of, pairs_of, with_pair}
 use Rattle.judy_leaf.specs.Leaves.{keys_from, leaf_list, AreKeysFrom, IsLeafParts}
 use Rattle.judy_leaf.specs.PairChanges.{IsPairPut, IsPairTaken, HasRoom}
-use Rattle.judy_leaf.proofs.LeafLists.{leaf_keys, length-keys_from}
+use Rattle.judy_leaf.proofs.LeafLists.{leaf_keys, length-keys_from, read_length}
 use Rattle.judy_leaf.proofs.PairLists.{ascending-insert, ascending-remove}
 
 -- The same leaf in another block.
@@ -37,7 +37,7 @@ leaf_put words count needed at key value before room after list is seen has put 
     )
 
 -- A pair taken out.
-pub leaf_taken : (words left at : ℕ) (before after : Contents) (list : KeyList) → IsLeafParts words (left + 1) before → leaf_list words (left + 1) before ≡ list → IsPairTaken words left at before after → at ≤ left
+leaf_taken : (words left at : ℕ) (before after : Contents) (list : KeyList) → IsLeafParts words (left + 1) before → leaf_list words (left + 1) before ≡ list → IsPairTaken words left at before after → at ≤ left
     → IsLeafParts words left after × (leaf_list words left after ≡ record list { pairs = remove list.pairs at })
 leaf_taken words left at before after list is seen taken place =
     let long = length-keys_from before.tag (left + 1) (words * (left + 1)) before is.keys in
@@ -50,3 +50,12 @@ leaf_taken words left at before after list is seen taken place =
       },
       (λ t. record { width = (taken.tag ∙ ap (λ l. l.width) seen) t; pairs = (taken.pairs ∙ ap (λ l. remove l.pairs at) seen) t }),
     )
+
+-- The same by how many there were.
+pub leaf_less : (words count at : ℕ) (before after : Contents) (list : KeyList) → IsLeafParts words count before → leaf_list words count before ≡ list → at < length list.pairs → {read : ℕ} → read ≡ count
+    → IsPairTaken words (read - 1) at before after → IsLeafParts words (count - 1) after × (leaf_list words (count - 1) after ≡ record list { pairs = remove list.pairs at })
+leaf_less words count at before after list is seen inside read taken =
+    let long = read_length words count before is list seen in
+    let e : count ≡ count - 1 + 1 = omega arith in
+    leaf_taken words (count - 1) at before after list (subst (λ n. IsLeafParts words n before) e is) (ap (λ n. leaf_list words n before) (sym e) ∙ seen)
+    (subst (λ n. IsPairTaken words (n - 1) at before after) read taken) (omega arith)

@@ -77,6 +77,11 @@ module _ (words count : ℕ) (block : Contents) (is : IsLeafParts words count bl
 
 -- ---- a leaf that is read
 
+-- Keys as they stand are those of the pairs, and ascend.
+pub record Stands (pairs : List (ℕ × ℕ)) (keys : List ℕ) : Type 0 where
+  pub same : keys ≡ keys_of pairs
+  pub ascending : IsStrictlySortedBy word_order (keys_of pairs)
+
 module _ (words count : ℕ) (block : Contents) (is : IsLeafParts words count block) (list : KeyList) (seen : leaf_list words count block ≡ list) where
   pub read_length : length list.pairs ≡ count
   read_length = ap (λ l. length l.pairs) (sym seen) ∙ leaf_length words count block is
@@ -87,6 +92,9 @@ module _ (words count : ℕ) (block : Contents) (is : IsLeafParts words count bl
 
   pub read_ascending : IsStrictlySortedBy word_order (keys_of list.pairs)
   read_ascending = subst (IsStrictlySortedBy word_order) (sym (leaf_keys words count block is) ∙ ap (λ l. keys_of l.pairs) seen) is.ascending
+
+  pub read_stands : (width : ℕ) → block.tag ≡ width → (w n s : ℕ) → w ≡ width → n ≡ count → s ≡ words → Stands list.pairs (keys_from w n (s * n) block)
+  read_stands width tagged w n s p q r = record { same = read_keys width tagged w n s p q r; ascending = read_ascending }
 
   -- The list of a leaf is a list of keys of its width.
   pub read_list : IsKeyList list

@@ -14,7 +14,7 @@ use Rattle.judy_bits.specs.ByteSets as set
 use Rattle.judy_bits.proofs.SetLemmas.{has_at, has-among, slice_get-rank}
 use Rattle.judy_leaf.specs.KeyLists.{keys_of, values_of}
 use Rattle.judy_leaf.specs.Nearby.{pair_from, pair_up_to, IsKeyAt, IsNextAt, IsPreviousAt}
-use Rattle.judy_leaf.proofs.LeafLists.{length-keys_of}
+use Rattle.judy_leaf.proofs.LeafLists.{length-keys_of, Stands}
 
 -- ---- as many up to a number as below the next one
 
@@ -178,23 +178,23 @@ module _ (pairs : List (ℕ × ℕ)) (ascending : IsStrictlySortedBy word_order 
 
 -- ---- the same from the keys as they stand
 
-module _ (pairs : List (ℕ × ℕ)) (keys : List ℕ) (same : keys ≡ keys_of pairs) (ascending : IsStrictlySortedBy word_order (keys_of pairs)) (number : ℕ) where
+module _ {pairs : List (ℕ × ℕ)} {keys : List ℕ} (stand : Stands pairs keys) (number : ℕ) where
   many : length keys ≡ length pairs
-  many = ap length same ∙ length-keys_of pairs
+  many = ap length stand.same ∙ length-keys_of pairs
 
   pub place_inside : (found : ℕ × ℕ) → IsKeyAt keys found → found.0 < length pairs
   place_inside found there = subst (λ n. found.0 < n) many there.inside
 
   pub next_is : (found : ℕ × ℕ) (value : ℕ) → IsNextAt keys number found → value ≡ get_or (values_of pairs) found.0 0 → Some (found.1, value) ≡ pair_from pairs number
   next_is found value is is_value =
-      next_found pairs ascending number found.0 found.1 value (is.place ∙ ap (λ ks. set.rank ks number) same) (place_inside found is.key) (is.key.there ∙ ap (λ ks. get_or ks found.0 0) same) is_value
+      next_found pairs stand.ascending number found.0 found.1 value (is.place ∙ ap (λ ks. set.rank ks number) stand.same) (place_inside found is.key) (is.key.there ∙ ap (λ ks. get_or ks found.0 0) stand.same) is_value
 
-  pub next_is_none : (count : ℕ) → set.rank keys number ≡ count → count ≡ length keys → None ≡ pair_from pairs number
-  next_is_none count all is_all = next_none pairs ascending number (ap (λ ks. set.rank ks number) (sym same) ∙ all ∙ is_all ∙ many)
+  pub next_is_none : (count : ℕ) → set.rank keys number ≡ count → count ≡ length pairs → None ≡ pair_from pairs number
+  next_is_none count all is_all = next_none pairs stand.ascending number (ap (λ ks. set.rank ks number) (sym stand.same) ∙ all ∙ is_all)
 
   pub previous_is : (found : ℕ × ℕ) (value : ℕ) → IsPreviousAt keys number found → value ≡ get_or (values_of pairs) found.0 0 → Some (found.1, value) ≡ pair_up_to pairs number
   previous_is found value is is_value =
-      previous_found pairs ascending number found.0 found.1 value (is.place ∙ ap (λ ks. set.count_up_to ks number) same) (place_inside found is.key) (is.key.there ∙ ap (λ ks. get_or ks found.0 0) same) is_value
+      previous_found pairs stand.ascending number found.0 found.1 value (is.place ∙ ap (λ ks. set.count_up_to ks number) stand.same) (place_inside found is.key) (is.key.there ∙ ap (λ ks. get_or ks found.0 0) stand.same) is_value
 
   pub previous_is_none : set.count_up_to keys number ≡ 0 → None ≡ pair_up_to pairs number
-  previous_is_none none = previous_none pairs ascending number (ap (λ ks. set.count_up_to ks number) (sym same) ∙ none)
+  previous_is_none none = previous_none pairs stand.ascending number (ap (λ ks. set.count_up_to ks number) (sym stand.same) ∙ none)

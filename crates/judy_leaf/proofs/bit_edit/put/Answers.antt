@@ -1,7 +1,7 @@
-use Rattle.std.proofs.Common.{◌≡◌, ◌+◌, ◌≤◌, length, ap, sym, subst, ◌∙◌, arith}
+use Rattle.std.proofs.Common.{◌+◌, ◌≤◌, length, ap, sym, subst, ◌∙◌}
 use Rattle.std.specs.List.{insert}
 use Rattle.judy_block.specs.Contents.{Contents}
-use Rattle.judy_leaf.proofs.BitSteps.{value_place, put_with_value, put_without}
+use Rattle.judy_leaf.proofs.BitSteps.{no_word, value_place, put_with_value, put_without}
 use Rattle.judy_leaf.proofs.bit_edit.put.Goals as goal
 
 pub insert_value-requires-clause-few : goal.insert_value-requires-clause-few
@@ -21,9 +21,6 @@ returns-then-WORDS-eq1 g c =
 
 pub returns-else-WORDS-eq1 : goal.returns-else-WORDS-eq1
 returns-else-WORDS-eq1 g c =
-    let is = c.WORDS.ensures in
-    let most = c.requires.parts.one in
-    let apart = c.if-WORDS-eq1.false in
-    let none : g.V.Words.WORDS ≡ 0 = omega arith in
+    let none = no_word c.WORDS.ensures c.requires.parts.one c.if-WORDS-eq1.false in
     put_without g.V.Words.WORDS c.args.at c.args.key c.args.value (c.tag.result + 1) c.args.block.now c.set_bit.new.block c.set_tag.new.self c.requires.parts c.ranges.key.fits c.requires.absent c.requires.place c.set_bit.ensures (ap (λ n. n + 1) c.tag.ensures.tag)
     none (c.requires.no_value none) c.set_tag.ensures

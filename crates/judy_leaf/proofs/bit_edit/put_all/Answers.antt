@@ -1,5 +1,6 @@
-use Rattle.std.proofs.Common.{◌≡◌, ◌+◌, ◌++◌, length, ap, sym, ◌∙◌, arith}
+use Rattle.std.proofs.Common.{◌+◌, ◌++◌, length, ap, sym, ◌∙◌, arith}
 use Rattle.judy_leaf.specs.KeyLists.{values_of}
+use Rattle.judy_leaf.proofs.BitSteps.{no_word}
 use Rattle.judy_leaf.proofs.BitsPut.{few_bytes, bits_front, bits_and_values, bits_alone}
 use Rattle.judy_leaf.proofs.bit_edit.put_all.Goals as goal
 
@@ -29,10 +30,7 @@ returns-then-WORDS-eq1 g c =
 
 pub returns-else-WORDS-eq1 : goal.returns-else-WORDS-eq1
 returns-else-WORDS-eq1 g c =
-    let is = c.WORDS.ensures in
-    let most = c.requires.parts.one in
-    let apart = c.if-WORDS-eq1.false in
-    let none : g.V.Words.WORDS ≡ 0 = omega arith in
+    let none = no_word c.WORDS.ensures c.requires.parts.one c.if-WORDS-eq1.false in
     let done = bits_alone g.V.Words.WORDS c.args.pairs.now c.args.block.now c.set_bits.new.block c.set_tag.new.self c.requires.parts c.requires.empty (few_bytes c.args.pairs.now c.requires.list) c.set_bits.ensures
     (ap (λ b. b.tag) c.set_tag.ensures ∙ ap (λ n. n + length c.args.pairs.now) c.tag.ensures.tag) none (c.requires.no_values none) (ap (λ b. b.words) c.set_tag.ensures) in
     record { parts = done.0; list = done.1 }

@@ -1,7 +1,7 @@
-use Rattle.std.proofs.Common.{◌≡◌, ◌+◌, ◌-◌, ap, sym, ◌∙◌, arith}
+use Rattle.std.proofs.Common.{◌+◌, ◌-◌, ap, sym, ◌∙◌}
 use Rattle.judy_block.specs.Contents.{Contents, without_gap}
 use Rattle.judy_leaf.proofs.ValueSteps.{without_is}
-use Rattle.judy_leaf.proofs.BitSteps.{take_with_value, take_without}
+use Rattle.judy_leaf.proofs.BitSteps.{no_word, take_with_value, take_without}
 use Rattle.judy_leaf.proofs.bit_edit.take.Goals as goal
 
 pub returns-then-WORDS-eq1 : goal.returns-then-WORDS-eq1
@@ -12,8 +12,5 @@ returns-then-WORDS-eq1 g c =
 
 pub returns-else-WORDS-eq1 : goal.returns-else-WORDS-eq1
 returns-else-WORDS-eq1 g c =
-    let is = c.WORDS.ensures in
-    let most = c.requires.parts.one in
-    let apart = c.if-WORDS-eq1.false in
-    let none : g.V.Words.WORDS ≡ 0 = omega arith in
+    let none = no_word c.WORDS.ensures c.requires.parts.one c.if-WORDS-eq1.false in
     take_without g.V.Words.WORDS c.args.at c.args.key (c.tag.result - 1) c.args.block.now c.clear_bit.new.block c.set_tag.new.self c.requires.parts c.requires.there c.clear_bit.ensures (ap (λ n. n - 1) c.tag.ensures.tag) none c.set_tag.ensures

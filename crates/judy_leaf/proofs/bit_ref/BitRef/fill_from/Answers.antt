@@ -1,12 +1,11 @@
-use Rattle.std.proofs.Common.{◌≡◌, ◌+◌, ◌<◌, ◌++◌, [], ◌∷◌, length, get_or, refl, sym, ap, ◌∙◌, arith}
+use Rattle.std.proofs.Common.{◌+◌, ◌<◌, [], length, get_or, refl, sym, ap, ◌∙◌, arith}
 use Rattle.std.proofs.lemmas.Bool.Decides.{nat_tests}
-use Rattle.std.proofs.lemmas.List.{take_more_set}
 use Rattle.std.proofs.lemmas.Option.{slice_get-get_or}
 use Rattle.judy_bits.specs.ByteSets.{rank, next_from}
 use Rattle.judy_bits.proofs.SetLemmas.{rank_at}
 use Rattle.judy_leaf.specs.KeyLists.{keys_of}
 use Rattle.judy_leaf.proofs.LeafLists.{length-keys_of}
-use Rattle.judy_leaf.proofs.Fills.{made_more, all_made}
+use Rattle.judy_leaf.proofs.Fills.{written_more, all_made}
 use Rattle.judy_leaf.proofs.NextKeys.{rank_behind, next_there, next_key, key_there}
 use Rattle.judy_leaf.proofs.bit_ref.BitRef.fill_from.Goals as goal
 
@@ -35,7 +34,6 @@ loop-place-preserved g c =
     let room = c.requires.inside in
     let long = c.loop-place.auto.out in
     let n = c.args.at + c.loop-place.place in
-    let made = g.E.FromPair.made in
     let pairs = c.args.self.now.pairs in
     let left = c.loop-place.invariant.left in
     let ranked = left.2 in
@@ -44,9 +42,8 @@ loop-place-preserved g c =
     let there = next_key pairs ascending left.0 (omega arith) c.take_next-key.result (ap (λ keys. next_from keys left.0) (sym c.bit_words-words.ensures.keys) ∙ told.0) in
     let key = key_there pairs n (rank (keys_of pairs) left.0) c.take_next-key.result ranked (omega arith) there in
     record {
-      written = take_more_set c.loop-place.out c.loop-place.place c.from_pair.result (omega arith)
-          ∙ (λ t. c.loop-place.invariant.written t ++ (c.from_pair.ensures ∙ (λ t. made (c.args.base + key t) (c.value_at.ensures t))) t ∷ [])
-          ∙ made_more made c.args.base pairs c.args.at c.loop-place.place n refl (omega arith);
+      written = written_more g.E.FromPair.made c.args.base pairs c.args.at c.loop-place.place c.loop-place.out c.from_pair.result (omega arith) (omega arith)
+          (c.from_pair.ensures ∙ (λ t. g.E.FromPair.made (c.args.base + key t) (c.value_at.ensures t))) c.loop-place.invariant.written;
       left = (c.take_next-key.result + 1, told.1, rank_behind (keys_of pairs) (rank (keys_of pairs) left.0) c.take_next-key.result ascending there ∙ ap (λ n. n + 1) ranked ∙ omega arith);
     }
 

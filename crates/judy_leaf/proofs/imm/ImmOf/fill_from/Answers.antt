@@ -1,7 +1,6 @@
-use Rattle.std.proofs.Common.{◌+◌, ◌^◌, ◌++◌, [], ◌∷◌, length, refl, ◌∙◌, arith}
-use Rattle.std.proofs.lemmas.List.{take_more_set}
+use Rattle.std.proofs.Common.{◌+◌, ◌^◌, [], length, ◌∙◌, arith}
 use Rattle.judy_leaf.proofs.Bounds.{key_below}
-use Rattle.judy_leaf.proofs.Fills.{made_more, all_made}
+use Rattle.judy_leaf.proofs.Fills.{written_more, all_made}
 use Rattle.judy_leaf.proofs.imm.ImmOf.fill_from.Goals as goal
 
 pub overflow_add-base : goal.overflow_add-base
@@ -16,13 +15,9 @@ overflow_add-base g c =
 pub loop-place-preserved : goal.loop-place-preserved
 loop-place-preserved g c =
     let inside = c.loop-place-test.true in
-    let room = c.requires.inside in
     let long = c.loop-place.auto.out in
-    let n = c.args.at + c.loop-place.place in
-    let made = g.E.FromPair.made in
-    take_more_set c.loop-place.out c.loop-place.place c.from_pair.result (omega arith)
-    ∙ (λ t. c.loop-place.invariant t ++ (c.from_pair.ensures ∙ (λ t. made (c.args.base + c.key_at.ensures t) (c.value_at.ensures t))) t ∷ [])
-    ∙ made_more made c.args.base c.args.self.now.pairs c.args.at c.loop-place.place n refl (omega arith)
+    written_more g.E.FromPair.made c.args.base c.args.self.now.pairs c.args.at c.loop-place.place c.loop-place.out c.from_pair.result (omega arith) (omega (arith, c.requires.inside))
+    (c.from_pair.ensures ∙ (λ t. g.E.FromPair.made (c.args.base + c.key_at.ensures t) (c.value_at.ensures t))) c.loop-place.invariant
 
 pub returns : goal.returns
 returns g c =

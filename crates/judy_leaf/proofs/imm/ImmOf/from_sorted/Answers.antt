@@ -1,4 +1,4 @@
-use Rattle.std.proofs.Common.{◌≡◌, ◌%◌, ◌^◌, ◌<◌, get_or, refl, ap, sym, subst, ◌∙◌, arith}
+use Rattle.std.proofs.Common.{◌%◌, ◌^◌, ◌<◌, get_or, refl, ap, sym, subst, ◌∙◌}
 use Rattle.std.proofs.lemmas.Nat.{mod_below}
 use Rattle.judy_model.proofs.ByteLemmas.{unit_pos}
 use Rattle.judy_leaf.proofs.OneKey.{one_low, first_none}
