@@ -34,6 +34,7 @@ pub(crate) fn value_in<V: Words + Drop>(view: &ViewOf<'_, V>, key: u64) -> Optio
 }
 
 /// The value of a key of an immediate.
+#[tactic(auto, using(crate::proofs::Finds::place_inside, crate::proofs::Finds::place_value, crate::proofs::Finds::place_none))]
 pub(crate) fn value_in_imm<V: Words + Drop>(list: &ImmOf<V>, key: u64) -> Option<u64>
     ensures { result ≡ value_of list.now.pairs key }
 {
@@ -43,6 +44,7 @@ pub(crate) fn value_in_imm<V: Words + Drop>(list: &ImmOf<V>, key: u64) -> Option
 }
 
 // The value of a key of a leaf.
+#[tactic(auto, using(crate::proofs::Finds::place_inside, crate::proofs::Finds::place_value, crate::proofs::Finds::place_none))]
 fn value_in_leaf<V: Words + Drop>(list: &LeafRef<'_, V>, key: u64) -> Option<u64>
     ensures { result ≡ value_of list.now.pairs key }
 {
@@ -52,6 +54,7 @@ fn value_in_leaf<V: Words + Drop>(list: &LeafRef<'_, V>, key: u64) -> Option<u64
 }
 
 // The value of a last byte of a bitmap leaf.
+#[tactic(auto, using(crate::proofs::Finds::place_inside, crate::proofs::Finds::place_value, crate::proofs::Finds::place_none))]
 fn value_in_bits<V: Words + Drop>(list: &BitRef<'_, V>, key: u64) -> Option<u64>
     ensures { result ≡ value_of list.now.pairs key }
 {

@@ -12,11 +12,8 @@ use Rattle.judy_query.proofs.turns.later_turn.Goals as goal
 pub returns-then-place-len : goal.returns-then-place-len
 returns-then-place-len g c =
     let b = c.args.branch.now in
-    let held = b.children.ok.0 in
-    let len = c.len.ensures in
     let place = c.reached-place.ensures in
-    let below = c.if-place-len.true in
-    let inside : c.reached-place.result < length b.children.items = omega arith in
+    let inside : c.reached-place.result < length b.children.items = omega (arith, b.children.ok.0, c.len.ensures, c.if-place-len.true) in
     record {
       turn = (record { branch = c.requires.branch; inside = inside; fits = c.requires.fits }, place ∙ c.requires.step ∙ ap (rank b.bytes) (sym c.byte_behind.ensures));
       pair = sym (turn_later_there g.V.Words.WORDS b.width b.skip b.bytes b.children.items b.population c.requires.branch c.reached-place.result c.args.base inside _)
@@ -26,11 +23,7 @@ returns-then-place-len g c =
 pub returns-else-place-len : goal.returns-else-place-len
 returns-else-place-len g c =
     let b = c.args.branch.now in
-    let held = b.children.ok.0 in
-    let len = c.len.ensures in
-    let place = c.reached-place.ensures in
-    let past = c.if-place-len.false in
     record {
       turn = c.requires.before;
-      pair = sym (turn_none g.V.Words.WORDS b.width b.skip b.bytes b.children.items b.population c.requires.branch (reached (length b.children.items) c.args.step) c.args.base (omega arith) _);
+      pair = sym (turn_none g.V.Words.WORDS b.width b.skip b.bytes b.children.items b.population c.requires.branch (reached (length b.children.items) c.args.step) c.args.base (omega (arith, b.children.ok.0, c.len.ensures, c.reached-place.ensures, c.if-place-len.false)) _);
     }

@@ -77,9 +77,7 @@ enter-requires g c =
 pub down-smaller : goal.down-smaller
 down-smaller g c =
     let next = down_child c.down.invariant.0 c.in-Child.field-0 c.in-Child.place c.in-Child.rest c.in-Child.ensures c.index.ensures c.enter.ensures.view in
-    let here = ap width_of c.in-Branch.is in
-    let less = next.width_is in
-    omega arith
+    omega (arith, ap width_of c.in-Branch.is, next.width_is)
 
 pub down-preserved : goal.down-preserved
 down-preserved g c =

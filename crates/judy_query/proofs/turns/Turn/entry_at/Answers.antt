@@ -18,9 +18,7 @@ overflow_add-base g c =
     let turn = c.args.self.now in
     let b = turn.branch.now in
     let room = start_room g.V.Words.WORDS b.width b.skip b.bytes b.children.items b.population turn.place c.args.start c.requires.turn.branch c.requires.turn.inside c.requires.start in
-    let fits = c.requires.turn.fits in
-    let some = unit_pos b.width in
-    omega arith
+    omega (arith, room, c.requires.turn.fits, unit_pos b.width)
 
 pub entry_below-key-requires-clause-inside : goal.entry_below-key-requires-clause-inside
 entry_below-key-requires-clause-inside g c =
@@ -34,9 +32,8 @@ overflow_add-result g c =
     let turn = c.args.self.now in
     let b = turn.branch.now in
     let room = start_room g.V.Words.WORDS b.width b.skip b.bytes b.children.items b.population turn.place c.args.start c.requires.turn.branch c.requires.turn.inside c.requires.start in
-    let fits = c.requires.turn.fits in
     let below = at_below g.V.Words.WORDS 0 (256 ^ b.width) (view_pairs c.enter-view.result) c.args.place c.entry_below-key.result.0 c.entry_below-key.result.1 c.enter-view.ensures.view.map c.entry_below-key.ensures.entry in
-    omega arith
+    omega (arith, room, below, c.requires.turn.fits)
 
 pub returns-clause-entry : goal.returns-clause-entry
 returns-clause-entry g c =
