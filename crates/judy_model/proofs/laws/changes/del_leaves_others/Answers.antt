@@ -4,8 +4,5 @@ use Rattle.std.specs.FinMap.{nat_cmp-IsAntisymmetric, slice_cmp-IsAntisymmetric}
 use Rattle.judy_model.proofs.ChangesLemmas.{get-del_other}
 use Rattle.judy_model.proofs.laws.changes.del_leaves_others.Goals as goal
 
-pub returns-clause-words : goal.returns-clause-words
-returns-clause-words c = λ map key. get-del_other nat_cmp_total map key nat_cmp-IsAntisymmetric
-
-pub returns-clause-byte_strings : goal.returns-clause-byte_strings
-returns-clause-byte_strings c = λ map key. get-del_other nat_list_cmp_total map key (slice_cmp-IsAntisymmetric nat_cmp-IsAntisymmetric)
+pub returns : goal.returns
+returns c = record { words = λ map key. get-del_other nat_cmp_total map key nat_cmp-IsAntisymmetric; byte_strings = λ map key. get-del_other nat_list_cmp_total map key (slice_cmp-IsAntisymmetric nat_cmp-IsAntisymmetric) }

@@ -3,8 +3,5 @@ use Rattle.std.specs.Cmp.Lexicographic.{nat_list_cmp_total}
 use Rattle.judy_model.proofs.ChangesLemmas.{len-del}
 use Rattle.judy_model.proofs.laws.changes.del_takes_one.Goals as goal
 
-pub returns-clause-words : goal.returns-clause-words
-returns-clause-words c = len-del nat_cmp_total
-
-pub returns-clause-byte_strings : goal.returns-clause-byte_strings
-returns-clause-byte_strings c = len-del nat_list_cmp_total
+pub returns : goal.returns
+returns c = record { words = len-del nat_cmp_total; byte_strings = len-del nat_list_cmp_total }

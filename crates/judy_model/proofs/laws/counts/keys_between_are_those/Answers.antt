@@ -4,8 +4,5 @@ use Rattle.std.specs.FinMap.{nat_cmp-IsAntisymmetric, slice_cmp-IsAntisymmetric}
 use Rattle.judy_model.proofs.CountsLemmas.{Contains-keys_between}
 use Rattle.judy_model.proofs.laws.counts.keys_between_are_those.Goals as goal
 
-pub returns-clause-words : goal.returns-clause-words
-returns-clause-words c = Contains-keys_between nat_cmp_total nat_cmp-IsAntisymmetric
-
-pub returns-clause-byte_strings : goal.returns-clause-byte_strings
-returns-clause-byte_strings c = Contains-keys_between nat_list_cmp_total (slice_cmp-IsAntisymmetric nat_cmp-IsAntisymmetric)
+pub returns : goal.returns
+returns c = record { words = Contains-keys_between nat_cmp_total nat_cmp-IsAntisymmetric; byte_strings = Contains-keys_between nat_list_cmp_total (slice_cmp-IsAntisymmetric nat_cmp-IsAntisymmetric) }

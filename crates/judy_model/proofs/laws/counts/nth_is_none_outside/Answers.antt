@@ -4,8 +4,5 @@ use Rattle.std.specs.FinMap.{nat_cmp-IsAntisymmetric, slice_cmp-IsAntisymmetric}
 use Rattle.judy_model.proofs.CountsLemmas.{by_count_none}
 use Rattle.judy_model.proofs.laws.counts.nth_is_none_outside.Goals as goal
 
-pub returns-clause-words : goal.returns-clause-words
-returns-clause-words c = by_count_none nat_cmp_total nat_cmp-IsAntisymmetric
-
-pub returns-clause-byte_strings : goal.returns-clause-byte_strings
-returns-clause-byte_strings c = by_count_none nat_list_cmp_total (slice_cmp-IsAntisymmetric nat_cmp-IsAntisymmetric)
+pub returns : goal.returns
+returns c = record { words = by_count_none nat_cmp_total nat_cmp-IsAntisymmetric; byte_strings = by_count_none nat_list_cmp_total (slice_cmp-IsAntisymmetric nat_cmp-IsAntisymmetric) }

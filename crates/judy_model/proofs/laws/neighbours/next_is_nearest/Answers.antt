@@ -4,8 +4,5 @@ use Rattle.std.specs.FinMap.{nat_cmp-IsAntisymmetric, slice_cmp-IsAntisymmetric}
 use Rattle.judy_model.proofs.NearestLemmas.{next-IsNext}
 use Rattle.judy_model.proofs.laws.neighbours.next_is_nearest.Goals as goal
 
-pub returns-clause-words : goal.returns-clause-words
-returns-clause-words c = next-IsNext nat_cmp_total nat_cmp-IsAntisymmetric
-
-pub returns-clause-byte_strings : goal.returns-clause-byte_strings
-returns-clause-byte_strings c = next-IsNext nat_list_cmp_total (slice_cmp-IsAntisymmetric nat_cmp-IsAntisymmetric)
+pub returns : goal.returns
+returns c = record { words = next-IsNext nat_cmp_total nat_cmp-IsAntisymmetric; byte_strings = next-IsNext nat_list_cmp_total (slice_cmp-IsAntisymmetric nat_cmp-IsAntisymmetric) }

@@ -5,8 +5,5 @@ use Rattle.judy_model.specs.Keys.{byte_order}
 use Rattle.judy_model.proofs.WordOrder.{less_word}
 use Rattle.judy_model.proofs.laws.orders.the_shorter_key_comes_first.Goals as goal
 
-pub returns-clause-shorter : goal.returns-clause-shorter
-returns-clause-shorter c = λ left right below. ap (λ first. ordering_then first (byte_order left right)) (less_word (length left) (length right) below)
-
-pub returns-clause-alike : goal.returns-clause-alike
-returns-clause-alike c = λ left right same. ap (λ first. ordering_then first (byte_order left right)) (sym (nat_cmp_is (length left) (length right) Equal same))
+pub returns : goal.returns
+returns c = record { shorter = λ left right below. ap (λ first. ordering_then first (byte_order left right)) (less_word (length left) (length right) below); alike = λ left right same. ap (λ first. ordering_then first (byte_order left right)) (sym (nat_cmp_is (length left) (length right) Equal same)) }

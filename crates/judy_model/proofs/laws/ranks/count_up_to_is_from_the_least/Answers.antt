@@ -5,8 +5,5 @@ use Rattle.judy_model.proofs.RankLemmas.{count_from_least}
 use Rattle.judy_model.proofs.CountsLemmas.{zero_is_least, empty_string_is_least}
 use Rattle.judy_model.proofs.laws.ranks.count_up_to_is_from_the_least.Goals as goal
 
-pub returns-clause-words : goal.returns-clause-words
-returns-clause-words c = λ map key. sym (count_from_least nat_cmp_total map 0 zero_is_least key)
-
-pub returns-clause-byte_strings : goal.returns-clause-byte_strings
-returns-clause-byte_strings c = λ map key. sym (count_from_least nat_list_cmp_total map [] empty_string_is_least key)
+pub returns : goal.returns
+returns c = record { words = λ map key. sym (count_from_least nat_cmp_total map 0 zero_is_least key); byte_strings = λ map key. sym (count_from_least nat_list_cmp_total map [] empty_string_is_least key) }

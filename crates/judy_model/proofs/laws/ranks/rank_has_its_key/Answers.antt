@@ -4,8 +4,5 @@ use Rattle.std.specs.FinMap.{nat_cmp-IsAntisymmetric, slice_cmp-IsAntisymmetric}
 use Rattle.judy_model.proofs.RankLaws.{rank-nth}
 use Rattle.judy_model.proofs.laws.ranks.rank_has_its_key.Goals as goal
 
-pub returns-clause-words : goal.returns-clause-words
-returns-clause-words c = rank-nth nat_cmp_total nat_cmp-IsAntisymmetric
-
-pub returns-clause-byte_strings : goal.returns-clause-byte_strings
-returns-clause-byte_strings c = rank-nth nat_list_cmp_total (slice_cmp-IsAntisymmetric nat_cmp-IsAntisymmetric)
+pub returns : goal.returns
+returns c = record { words = rank-nth nat_cmp_total nat_cmp-IsAntisymmetric; byte_strings = rank-nth nat_list_cmp_total (slice_cmp-IsAntisymmetric nat_cmp-IsAntisymmetric) }

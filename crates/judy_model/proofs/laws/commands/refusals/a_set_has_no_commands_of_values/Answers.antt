@@ -4,14 +4,5 @@ use Rattle.judy_model.specs.Arrays.{judy1}
 use Rattle.judy_model.proofs.RefusedCommands.{lacks_one, lacks_two}
 use Rattle.judy_model.proofs.laws.commands.refusals.a_set_has_no_commands_of_values.Goals as goal
 
-pub returns-clause-get : goal.returns-clause-get
-returns-clause-get c = lacks_one judy1 (codes "get") command.get (record { plain = refl; named = refl }) (λ _ _. refl)
-
-pub returns-clause-del : goal.returns-clause-del
-returns-clause-del c = lacks_one judy1 (codes "del") command.del (record { plain = refl; named = refl }) (λ _ _. refl)
-
-pub returns-clause-put : goal.returns-clause-put
-returns-clause-put c = lacks_two judy1 (codes "put") command.put (record { plain = refl; named = refl }) (λ _ _ _. refl)
-
-pub returns-clause-ins : goal.returns-clause-ins
-returns-clause-ins c = lacks_two judy1 (codes "ins") command.ins (record { plain = refl; named = refl }) (λ _ _ _. refl)
+pub returns : goal.returns
+returns c = record { get = lacks_one judy1 (codes "get") command.get (record { plain = refl; named = refl }) (λ _ _. refl); del = lacks_one judy1 (codes "del") command.del (record { plain = refl; named = refl }) (λ _ _. refl); put = lacks_two judy1 (codes "put") command.put (record { plain = refl; named = refl }) (λ _ _ _. refl); ins = lacks_two judy1 (codes "ins") command.ins (record { plain = refl; named = refl }) (λ _ _ _. refl) }

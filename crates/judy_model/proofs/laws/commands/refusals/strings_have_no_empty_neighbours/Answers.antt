@@ -4,14 +4,5 @@ use Rattle.judy_model.specs.Arrays.{judysl}
 use Rattle.judy_model.proofs.RefusedCommands.{lacks_one}
 use Rattle.judy_model.proofs.laws.commands.refusals.strings_have_no_empty_neighbours.Goals as goal
 
-pub returns-clause-first : goal.returns-clause-first
-returns-clause-first c = lacks_one judysl (codes "fe") (command.empty command.first) (record { plain = refl; named = refl }) (λ _ _. refl)
-
-pub returns-clause-next : goal.returns-clause-next
-returns-clause-next c = lacks_one judysl (codes "ne") (command.empty command.next) (record { plain = refl; named = refl }) (λ _ _. refl)
-
-pub returns-clause-last : goal.returns-clause-last
-returns-clause-last c = lacks_one judysl (codes "le") (command.empty command.last) (record { plain = refl; named = refl }) (λ _ _. refl)
-
-pub returns-clause-prev : goal.returns-clause-prev
-returns-clause-prev c = lacks_one judysl (codes "pe") (command.empty command.prev) (record { plain = refl; named = refl }) (λ _ _. refl)
+pub returns : goal.returns
+returns c = record { first = lacks_one judysl (codes "fe") (command.empty command.first) (record { plain = refl; named = refl }) (λ _ _. refl); next = lacks_one judysl (codes "ne") (command.empty command.next) (record { plain = refl; named = refl }) (λ _ _. refl); last = lacks_one judysl (codes "le") (command.empty command.last) (record { plain = refl; named = refl }) (λ _ _. refl); prev = lacks_one judysl (codes "pe") (command.empty command.prev) (record { plain = refl; named = refl }) (λ _ _. refl) }

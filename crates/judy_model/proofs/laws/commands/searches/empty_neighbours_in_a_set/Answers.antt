@@ -3,14 +3,5 @@ use Rattle.judy_model.specs.CommandWords as command
 use Rattle.judy_model.proofs.SearchCommands.{beside_set}
 use Rattle.judy_model.proofs.laws.commands.searches.empty_neighbours_in_a_set.Goals as goal
 
-pub returns-clause-first : goal.returns-clause-first
-returns-clause-first c = beside_set (codes "fe") command.first (record { plain = refl; named = refl })
-
-pub returns-clause-next : goal.returns-clause-next
-returns-clause-next c = beside_set (codes "ne") command.next (record { plain = refl; named = refl })
-
-pub returns-clause-last : goal.returns-clause-last
-returns-clause-last c = beside_set (codes "le") command.last (record { plain = refl; named = refl })
-
-pub returns-clause-prev : goal.returns-clause-prev
-returns-clause-prev c = beside_set (codes "pe") command.prev (record { plain = refl; named = refl })
+pub returns : goal.returns
+returns c = record { first = beside_set (codes "fe") command.first (record { plain = refl; named = refl }); next = beside_set (codes "ne") command.next (record { plain = refl; named = refl }); last = beside_set (codes "le") command.last (record { plain = refl; named = refl }); prev = beside_set (codes "pe") command.prev (record { plain = refl; named = refl }) }

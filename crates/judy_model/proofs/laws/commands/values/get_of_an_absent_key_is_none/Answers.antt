@@ -1,11 +1,5 @@
 use Rattle.judy_model.proofs.ValueCommands.{of_bytes, of_strings, of_words}
 use Rattle.judy_model.proofs.laws.commands.values.get_of_an_absent_key_is_none.Goals as goal
 
-pub returns-clause-words : goal.returns-clause-words
-returns-clause-words c = of_words.get_absent
-
-pub returns-clause-strings : goal.returns-clause-strings
-returns-clause-strings c = of_strings.get_absent
-
-pub returns-clause-bytes : goal.returns-clause-bytes
-returns-clause-bytes c = of_bytes.get_absent
+pub returns : goal.returns
+returns c = record { words = of_words.get_absent; strings = of_strings.get_absent; bytes = of_bytes.get_absent }

@@ -1,11 +1,5 @@
 use Rattle.judy_model.proofs.ValueCommands.{of_bytes, of_strings, of_words}
 use Rattle.judy_model.proofs.laws.commands.values.put_writes_a_present_key.Goals as goal
 
-pub returns-clause-words : goal.returns-clause-words
-returns-clause-words c = of_words.put_present
-
-pub returns-clause-strings : goal.returns-clause-strings
-returns-clause-strings c = of_strings.put_present
-
-pub returns-clause-bytes : goal.returns-clause-bytes
-returns-clause-bytes c = of_bytes.put_present
+pub returns : goal.returns
+returns c = record { words = of_words.put_present; strings = of_strings.put_present; bytes = of_bytes.put_present }
