@@ -1,5 +1,5 @@
 -- The chunks of a list: what stands before and behind one, and what a change of one makes of the list.
-use Rattle.std.proofs.Common.{◌≡◌, ℕ, zero, suc, ◌+◌, ◌<◌, ◌≤◌, ◌^◌, ◌/◌, ◌⊎◌, inl, inr, cond, true, false, Bool, not, List, [], ◌∷◌, ◌++◌, length, take, drop, get_or, set, insert, remove, unwrap_or, Some, None, IsSome, Less, Equal, Greater, refl, sym, ap, ◌∙◌, subst, arith, append_assoc, add-zero, add-one, is_some, T, ◌&&◌}
+use Rattle.std.proofs.Common.{◌≡◌, ℕ, zero, suc, ◌+◌, ◌<◌, ◌≤◌, ◌^◌, ◌/◌, ◌⊎◌, inl, inr, cond, true, false, not, List, [], ◌∷◌, ◌++◌, length, take, drop, get_or, set, insert, remove, unwrap_or, Some, None, IsSome, Less, Equal, Greater, refl, sym, ap, ◌∙◌, subst, arith, append_assoc, add-zero, add-one, is_some, T}
 use Rattle.std.specs.Ordering.{is_eq, is_lt, eq_by_cmp}
 use Rattle.std.specs.Cmp.{ranked, nat_cmp_total}
 use Rattle.std.specs.FinMap.{find, put, is_sorted}
@@ -10,6 +10,7 @@ use Rattle.std.proofs.lemmas.List.Concat.{flat_map-append}
 use Rattle.std.proofs.lemmas.List.Sums.{sum_by-cons, sum_by-append}
 use Rattle.judy_model.specs.Keys.{word_order}
 use Rattle.judy_model.proofs.Pairs.{first_below, rest_sorted}
+use Rattle.judy_model.proofs.Tests.{left_of, right_of, both}
 use Rattle.judy_sums.specs.Pairs.{Pairs, sum_of, sum_below, part_below, number_in, without}
 use Rattle.judy_sums.specs.Chunks.{AllBelow, AllFrom, Ascends, AllFilled, AreChunks, BelongsTo, BeginsBy, BeginsAbove, joined}
 use Rattle.judy_sums.proofs.PairLemmas.{tail_ascends, below_more, from_less, before_pair, from_first, find_none, find_front, find_behind, put_front, put_behind, without_front, without_behind, sum_front, sum_behind}
@@ -83,32 +84,20 @@ belongs chunks word at are within by above = record {
 
 -- ---- what such a chunk says of the whole list
 
-left_part : (a b : Bool) → T (a && b) → T a
-left_part true b h = tt
-left_part false b h = h
-
-right_part : (a b : Bool) → T (a && b) → T b
-right_part true b h = h
-right_part false b h = absurd h
-
-join_parts : (a b : Bool) → T a → T b → T (a && b)
-join_parts true b h k = k
-join_parts false b h k = absurd h
-
 pub rest_from : (word : ℕ) (pair : ℕ × ℕ) (rest : Pairs) → AllFrom (pair ∷ rest) word → AllFrom rest word
 rest_from word pair rest all = all.1
 
 below_front : (word : ℕ) (front back : Pairs) → T (below_all word_order word (front ++ back)) → T (below_all word_order word front)
 below_front word [] back all = tt
 below_front word (pair ∷ rest) back all =
-    join_parts (is_lt (word_order word pair.0)) (below_all word_order word rest)
-    (left_part (is_lt (word_order word pair.0)) (below_all word_order word (rest ++ back)) all)
-    (below_front word rest back (right_part (is_lt (word_order word pair.0)) (below_all word_order word (rest ++ back)) all))
+    both (is_lt (word_order word pair.0)) (below_all word_order word rest)
+    (left_of (is_lt (word_order word pair.0)) (below_all word_order word (rest ++ back)) all)
+    (below_front word rest back (right_of (is_lt (word_order word pair.0)) (below_all word_order word (rest ++ back)) all))
 
 ascends_front : (front back : Pairs) → Ascends (front ++ back) → Ascends front
 ascends_front [] back ascend = tt
 ascends_front (pair ∷ rest) back ascend =
-    join_parts (below_all word_order pair.0 rest) (is_sorted word_order rest)
+    both (below_all word_order pair.0 rest) (is_sorted word_order rest)
     (below_front pair.0 rest back (first_below word_order pair (rest ++ back) ascend))
     (ascends_front rest back (rest_sorted word_order pair (rest ++ back) ascend))
 
@@ -276,7 +265,7 @@ parted_cut (chunk ∷ rest) zero lower upper within = refl
 parted_cut (chunk ∷ rest) (suc at) lower upper within = ap (λ all. chunk ∷ all) (parted_cut rest at lower upper (omega arith))
 
 -- As the code has it: the halves of the chunk that was lent.
-pub parted_seen : (chunks : List Pairs) (at : ℕ) → at < length chunks → (lent lower upper : Pairs) → lent ≡ get_or chunks at lent → lower ≡ take (length lent / 2) lent → upper ≡ drop (length lent / 2) lent
+parted_seen : (chunks : List Pairs) (at : ℕ) → at < length chunks → (lent lower upper : Pairs) → lent ≡ get_or chunks at lent → lower ≡ take (length lent / 2) lent → upper ≡ drop (length lent / 2) lent
     → insert (set chunks at lower) (at + 1) upper ≡ take at chunks ++ take (length (get_or chunks at []) / 2) (get_or chunks at []) ∷ drop (length (get_or chunks at []) / 2) (get_or chunks at []) ∷ drop (suc at) chunks
 parted_seen chunks at within lent lower upper is_lent is_lower is_upper =
     let chunk : Pairs = get_or chunks at [] in
@@ -286,6 +275,13 @@ parted_seen chunks at within lent lower upper is_lent is_lower is_upper =
     ap (λ n. insert (set chunks at lower) n upper) (add-one at)
     ∙ parted_cut chunks at lower upper within
     ∙ (λ t. take at chunks ++ lowers t ∷ uppers t ∷ drop (suc at) chunks)
+
+pub parted_all : (chunks : List Pairs) (at : ℕ) → at < length chunks → {reserved all : List Pairs} → reserved ≡ chunks → (lent lower upper : Pairs) → lent ≡ get_or reserved at lent
+    → lower ≡ take (length lent / 2) lent → upper ≡ drop (length lent / 2) lent → all ≡ insert (set reserved at lower) (at + 1) upper
+    → all ≡ take at chunks ++ take (length (get_or chunks at []) / 2) (get_or chunks at []) ∷ drop (length (get_or chunks at []) / 2) (get_or chunks at []) ∷ drop (suc at) chunks
+parted_all chunks at within same lent lower upper is_lent is_lower is_upper is =
+    is ∙ ap (λ (chunks : List Pairs). insert (set chunks at lower) (at + 1) upper) same
+    ∙ parted_seen chunks at within lent lower upper (is_lent ∙ ap (λ (chunks : List Pairs). get_or chunks at lent) same) is_lower is_upper
 
 -- ---- a chunk that is lent and changed
 

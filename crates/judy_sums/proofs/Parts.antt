@@ -1,5 +1,5 @@
 -- Keys in parts, one after the other: each entry of a level has a part, and each key of a part tells the entry's word.
-use Rattle.std.proofs.Common.{◌≡◌, ◌≢◌, ℕ, zero, suc, ◌+◌, ◌<◌, ◌≤◌, Bool, true, false, cond, nat_lt, ◌&&◌, T, List, [], ◌∷◌, ◌++◌, length, filter, slice_get, Option, Some, None, Less, Equal, Greater, refl, sym, ap, ◌∙◌, subst, arith, ⊎_elim}
+use Rattle.std.proofs.Common.{◌≡◌, ◌≢◌, ℕ, zero, suc, ◌+◌, ◌<◌, ◌≤◌, Bool, true, false, cond, nat_lt, T, List, [], ◌∷◌, ◌++◌, length, filter, slice_get, Option, Some, None, Less, refl, sym, ap, ◌∙◌, subst, arith, ⊎_elim}
 use Rattle.std.specs.declared.cmp.Ordering.{Ordering}
 use Rattle.std.specs.Ordering.{is_lt, is_eq, eq_by_cmp}
 use Rattle.std.specs.List.{flat_map, AllByRecursion}
@@ -15,6 +15,7 @@ use Rattle.std.proofs.lemmas.Option.{none-some}
 use Rattle.judy_model.specs.Keys.{word_order}
 use Rattle.judy_model.proofs.Orders.{same_from_tie}
 use Rattle.judy_model.proofs.Pairs.{first_below, rest_sorted}
+use Rattle.judy_model.proofs.Tests.{both, left_of, right_of, is_Less}
 use Rattle.judy_sums.specs.Pairs.{Pairs}
 use Rattle.judy_sums.specs.Chunks.{AllFrom, Ascends}
 use Rattle.judy_sums.specs.Levels.{keys_below, part_of, part_len, ArePartedBy}
@@ -38,23 +39,6 @@ behind_first : (word : ℕ) (entry : ℕ × ℕ) (rest : Pairs) → Ascends (ent
 behind_first word entry rest ascend most = from_less rest (suc word) (suc entry.0) (omega arith) (head_from entry rest ascend)
 
 -- ---- pairs one after the other
-
-both : (a b : Bool) → T a → T b → T (a && b)
-both true b h k = k
-both false b h k = absurd h
-
-left_of : (a b : Bool) → T (a && b) → T a
-left_of true b h = tt
-left_of false b h = absurd h
-
-right_of : (a b : Bool) → T (a && b) → T b
-right_of true b h = h
-right_of false b h = absurd h
-
-is_Less : (r : Ordering) → T (is_lt r) → r ≡ Less
-is_Less Less h = refl
-is_Less Equal h = absurd h
-is_Less Greater h = absurd h
 
 or_none : {X : Type 0} (found : Option X) → option_or found None ≡ found
 or_none None = refl

@@ -160,6 +160,14 @@ module _ (chunks : List Pairs) (word at place : ℕ) (are : AreChunks chunks) (s
       put_there (λ n. n - 1)
       ∙ sym (ap (λ b. cond b (without word (joined chunks)) (put word_order word (number_in (joined chunks) word - 1) (joined chunks))) (ne_eqb (number_in (joined chunks) word) 1 more))
 
+-- The same of the list that was read, which is this one.
+module _ (chunks : List Pairs) (word at place : ℕ) (are : AreChunks chunks) {shown : List Pairs} (same : shown ≡ chunks) (found : StandsAt shown word at place) where
+  pub here : StandsAt chunks word at place
+  here = subst (λ (all : List Pairs). StandsAt all word at place) same found
+
+  pub read_number : {number : ℕ} {again : List Pairs} → again ≡ chunks → number ≡ (pair_at again at place).1 → number_in (joined chunks) word ≡ number
+  read_number is read = its_number chunks word at place are here ∙ sym (read ∙ ap (λ (all : List Pairs). (pair_at all at place).1) is)
+
 -- ---- the place that a word has, or would have
 
 module _ (chunks : List Pairs) (word at place : ℕ) (are : AreChunks chunks) (spot : IsSpot chunks word at place) where
