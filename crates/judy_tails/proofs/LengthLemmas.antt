@@ -1,21 +1,21 @@
 -- Which list is for texts of so many words, and that there is one at most.
-use Rattle.std.proofs.Common.{◌≡◌, ◌≢◌, ◌+◌, ◌-◌, ◌<◌, ◌≤◌, ℕ, zero, suc, List, [], ◌∷◌, ◌++◌, length, map, slice_get, get_or, Some, ◌⊎◌, inl, inr, ⊎_elim, true, false, not, ◌||◌, eqb, cond, sym, refl, ap, ◌∙◌, subst, arith}
+use Rattle.std.proofs.Common.{◌≡◌, ◌≢◌, ◌+◌, ◌-◌, ◌<◌, ◌≤◌, ◌*◌, ◌^◌, ℕ, zero, suc, List, [], ◌∷◌, ◌++◌, length, map, nat_lt, slice_get, get_or, Some, ◌⊎◌, inl, inr, ⊎_elim, true, false, not, ◌||◌, eqb, cond, sym, refl, ap, ◌∙◌, subst, arith}
 use Rattle.std.proofs.Math.ListN.{get_or-map}
 use Rattle.std.specs.Prelude.{◌==◌}
 use Rattle.std.specs.List.{IsDistinct, list_any, position_or_len}
-use Rattle.std.proofs.lemmas.Bool.{cases_order, eqb-true, eq-eqb}
+use Rattle.std.proofs.lemmas.Bool.{cases_order, eqb-true, eq-eqb, ltb-true}
 use Rattle.std.proofs.lemmas.Bool.Decides.{eqb_tells}
 use Rattle.std.proofs.lemmas.Cmp.{nat_eq_equiv}
 use Rattle.std.proofs.lemmas.Grind.{get_or_head}
-use Rattle.std.proofs.lemmas.List.{length-map, map-append, get_or_past, get_or-append_right}
+use Rattle.std.proofs.lemmas.List.{length-map, map-append, get_or_past, get_or_read, get_or-append_right}
 use Rattle.std.proofs.lemmas.List.Sums.{passes_at_first, position_or_len_is, prefix_len-le-length}
 use Rattle.std.proofs.lemmas.Map.Keys.{IsDistinct-push}
 use Rattle.std.proofs.lemmas.Map.Steps.{length-le_from_distinct_below}
 use Rattle.std.proofs.lemmas.Option.{slice_get-get_or, slice_get_within, get_or_from_slice_get}
-use Rattle.judy_records.specs.Spots.{RecordList, empty_list}
+use Rattle.judy_records.specs.Spots.{RecordList, empty_list, next_place}
 use Rattle.judy_tails.specs.Tails.{TailLists}
 use Rattle.judy_tails.specs.Inside.{size_of, lists_of, IsTailList, AreTails}
-use Rattle.judy_tails.proofs.ListLemmas.{list_at, pushed-other}
+use Rattle.judy_tails.proofs.ListLemmas.{list_at, pushed-other, next-within}
 
 -- ---- how many there are
 
@@ -37,6 +37,14 @@ are-few lists are =
     let few = length-le_from_distinct_below (map size_of lists) 129 are.apart (words-short lists (λ number. (are.each number).short)) in
     let long = length-map lists size_of in
     omega (arith, few, long)
+
+-- The place behind a list that was read is a number that fits.
+pub next-read : (lists : List RecordList) → AreTails lists → (number : ℕ) {shown : List RecordList} → shown ≡ lists → (found : RecordList) → nat_lt number (length shown) ≡ true → found ≡ get_or shown number found
+    → (place : ℕ) → place ≡ next_place found → (place ≡ next_place (list_at lists number)) × (place * 256 + number < 2 ^ 64)
+next-read lists are number same found inside read place next =
+    let within : number < length lists = subst (λ (shown : List RecordList). number < length shown) same (ltb-true number _ inside) in
+    let is = next ∙ ap (λ (list : RecordList). next_place list) (get_or_read lists number found within (subst (λ (shown : List RecordList). found ≡ get_or shown number found) same read) (empty_list 0)) in
+    (is, (let most = next-within (list_at lists number) in let long = (are.each number).long in let few = are-few lists are in omega (arith, is, most, long, few, within)))
 
 -- ---- the list for texts of so many words
 

@@ -1,4 +1,4 @@
-use Rattle.std.proofs.Common.{◌≡◌, ◌<◌, ◌+◌, ◌*◌, ℕ, List, [], Some, None, Contains, ⊎_elim, is_ok, Result, Ok, Err, OnErr, length, get_or, set, ap, sym, ◌∙◌, arith, subst}
+use Rattle.std.proofs.Common.{◌≡◌, ◌<◌, ◌+◌, ◌*◌, ℕ, List, [], Some, None, Contains, ⊎_elim, is_ok, Result, Ok, Err, OnErr, length, get_or, set, slice_get, ap, sym, ◌∙◌, arith, subst}
 use Rattle.std.proofs.Math.ListN.{get_or-map}
 use Rattle.std.proofs.lemmas.Bool.{cases_lt, false≢true}
 use Rattle.std.proofs.lemmas.List.{get_or_read, get_or_past}
@@ -6,13 +6,24 @@ use Rattle.judy_records.specs.Texts.{words_of, words_for}
 use Rattle.judy_records.specs.Spots.{RecordList, held, empty_list, next_place, with_capacity, put_in}
 use Rattle.judy_tails.specs.Tails.{TailLists, tail_at, list_for, HasFree, Updates, SameTails}
 use Rattle.judy_tails.specs.Inside.{IsTailList, AreTails, AreSame, tails_in, lists_of}
-use Rattle.judy_tails.proofs.ListLemmas.{roomy, roomy-lists, roomy-are, put-are, put-free, put-updates, next-at, set-are, tail-same, updates-same, free-room, free-next}
+use Rattle.judy_tails.proofs.ListLemmas.{list_at, roomy, roomy-lists, roomy-are, put-are, put-free, put-updates, next-at, set-are, tail-same, updates-same, free-room, free-next}
 use Rattle.judy_tails.proofs.LengthLemmas.{are-few, is-one}
 use Rattle.judy_tails.proofs.tails.Tails.put.Goals as goal
 
 -- The list is read, and has memory for one more text then.
 room-is : (lists : List RecordList) (number : ℕ) (found after : RecordList) → number < length lists → found ≡ get_or lists number found → after ≡ with_capacity found after.capacity → after ≡ roomy lists number after.capacity
 room-is lists number found after inside read made = made ∙ ap (λ (list : RecordList). with_capacity list after.capacity) (get_or_read lists number found inside read (empty_list 0))
+
+-- The list that was read, with memory for one more text.
+record IsRoomy (lists : List RecordList) (number words : ℕ) (after : RecordList) : Type 0 where
+  inside : number < length lists
+  size : (list_at lists number).size ≡ words
+  made : after ≡ roomy lists number after.capacity
+
+roomy-read : (lists : List RecordList) {reached : TailLists} → lists_of lists ≡ reached → (number words : ℕ) → slice_get reached.words number ≡ Some words → (found after : RecordList) → found ≡ get_or lists number found → after ≡ with_capacity found after.capacity → IsRoomy lists number words after
+roomy-read lists is number words told found after read made =
+    let one = is-one lists _ number words is told in
+    record { inside = one.0; size = one.1; made = room-is lists number found after one.0 read made }
 
 -- Where nothing more happens, all places have what they had.
 still-same : (before : TailLists) (lists : List RecordList) (number : ℕ) (list : RecordList) → AreSame before (lists_of lists) → list ≡ roomy lists number list.capacity → SameTails before (lists_of (set lists number list))
@@ -43,25 +54,22 @@ pub returns-in_err-reserve-clause-refused : goal.returns-in_err-reserve-clause-r
 returns-in_err-reserve-clause-refused c =
     let lists = c.self.inside.lists.items in
     let number = c.in_ok-number.number in
-    let one = is-one lists c.reach.new.self number (words_for (length c.args.text.now)) c.self.view_is c.in_ok-number.ensures.reached in
-    let made = room-is lists number c.index_mut-list.result.now c.reserve.new.self one.0 c.index_mut-list.ensures.value c.reserve.ensures.same in
-    on-err c.from_residual-in_err-reserve.result (still-same c.args.self.now lists number c.reserve.new.self (subst (AreSame c.args.self.now) (sym c.self.view_is) c.reach.ensures.same) made)
+    let read = roomy-read lists c.self.view_is number (words_for (length c.args.text.now)) c.in_ok-number.ensures.reached c.index_mut-list.result.now c.reserve.new.self c.index_mut-list.ensures.value c.reserve.ensures.same in
+    on-err c.from_residual-in_err-reserve.result (still-same c.args.self.now lists number c.reserve.new.self (subst (AreSame c.args.self.now) (sym c.self.view_is) c.reach.ensures.same) read.made)
 
 pub returns-then-place-ge-MOST-clause-refused : goal.returns-then-place-ge-MOST-clause-refused
 returns-then-place-ge-MOST-clause-refused c =
     let lists = c.self.inside.lists.items in
     let number = c.in_ok-number.number in
-    let one = is-one lists c.reach.new.self number (words_for (length c.args.text.now)) c.self.view_is c.in_ok-number.ensures.reached in
-    let made = room-is lists number c.index_mut-list.result.now c.reserve.new.self one.0 c.index_mut-list.ensures.value c.reserve.ensures.same in
-    still-same c.args.self.now lists number c.reserve.new.self (subst (AreSame c.args.self.now) (sym c.self.view_is) c.reach.ensures.same) made
+    let read = roomy-read lists c.self.view_is number (words_for (length c.args.text.now)) c.in_ok-number.ensures.reached c.index_mut-list.result.now c.reserve.new.self c.index_mut-list.ensures.value c.reserve.ensures.same in
+    still-same c.args.self.now lists number c.reserve.new.self (subst (AreSame c.args.self.now) (sym c.self.view_is) c.reach.ensures.same) read.made
 
 pub invariant_of-self-then-place-ge-MOST : goal.invariant_of-self-then-place-ge-MOST
 invariant_of-self-then-place-ge-MOST c =
     let lists = c.self.inside.lists.items in
     let number = c.in_ok-number.number in
-    let one = is-one lists c.reach.new.self number (words_for (length c.args.text.now)) c.self.view_is c.in_ok-number.ensures.reached in
-    let made = room-is lists number c.index_mut-list.result.now c.reserve.new.self one.0 c.index_mut-list.ensures.value c.reserve.ensures.same in
-    set-are lists number one.0 c.reserve.new.self c.self.invariant (ap (λ (list : RecordList). list.size) made) (subst IsTailList (sym made) (roomy-are lists number c.reserve.new.self.capacity c.self.invariant))
+    let read = roomy-read lists c.self.view_is number (words_for (length c.args.text.now)) c.in_ok-number.ensures.reached c.index_mut-list.result.now c.reserve.new.self c.index_mut-list.ensures.value c.reserve.ensures.same in
+    set-are lists number read.inside c.reserve.new.self c.self.invariant (ap (λ (list : RecordList). list.size) read.made) (subst IsTailList (sym read.made) (roomy-are lists number c.reserve.new.self.capacity c.self.invariant))
 
 pub overflow_add-result : goal.overflow_add-result
 overflow_add-result c =
@@ -74,35 +82,31 @@ pub put-requires-clause-fits : goal.put-requires-clause-fits
 put-requires-clause-fits c =
     let lists = c.self.inside.lists.items in
     let number = c.in_ok-number.number in
-    let one = is-one lists c.reach.new.self number (words_for (length c.args.text.now)) c.self.view_is c.in_ok-number.ensures.reached in
-    let made = room-is lists number c.index_mut-list.result.now c.reserve.new.self one.0 c.index_mut-list.ensures.value c.reserve.ensures.same in
-    sym (ap (λ (list : RecordList). list.size) made ∙ one.1)
+    let read = roomy-read lists c.self.view_is number (words_for (length c.args.text.now)) c.in_ok-number.ensures.reached c.index_mut-list.result.now c.reserve.new.self c.index_mut-list.ensures.value c.reserve.ensures.same in
+    sym (ap (λ (list : RecordList). list.size) read.made ∙ read.size)
 
 pub invariant_of-self : goal.invariant_of-self
 invariant_of-self c =
     let lists = c.self.inside.lists.items in
     let number = c.in_ok-number.number in
-    let one = is-one lists c.reach.new.self number (words_for (length c.args.text.now)) c.self.view_is c.in_ok-number.ensures.reached in
-    let made = room-is lists number c.index_mut-list.result.now c.reserve.new.self one.0 c.index_mut-list.ensures.value c.reserve.ensures.same in
-    set-are lists number one.0 c.reserve.new.self c.self.invariant (ap (λ (list : RecordList). list.size) made) (subst IsTailList (sym made) (roomy-are lists number c.reserve.new.self.capacity c.self.invariant))
+    let read = roomy-read lists c.self.view_is number (words_for (length c.args.text.now)) c.in_ok-number.ensures.reached c.index_mut-list.result.now c.reserve.new.self c.index_mut-list.ensures.value c.reserve.ensures.same in
+    set-are lists number read.inside c.reserve.new.self c.self.invariant (ap (λ (list : RecordList). list.size) read.made) (subst IsTailList (sym read.made) (roomy-are lists number c.reserve.new.self.capacity c.self.invariant))
 
 pub invariant_of-self-2 : goal.invariant_of-self-2
 invariant_of-self-2 c =
     let lists = c.self.inside.lists.items in
     let number = c.in_ok-number.number in
-    let one = is-one lists c.reach.new.self number (words_for (length c.args.text.now)) c.self.view_is c.in_ok-number.ensures.reached in
-    let made = room-is lists number c.index_mut-list.result.now c.reserve.new.self one.0 c.index_mut-list.ensures.value c.reserve.ensures.same in
-    let next = c.next_place-place.ensures ∙ ap (λ (list : RecordList). next_place list) made in
-    subst (λ (list : RecordList). AreTails (set lists number list)) (sym (c.put.ensures.put ∙ ap (λ (list : RecordList). put_in list (held c.args.value (words_of c.args.text.now))) made))
-    (put-are lists number c.reserve.new.self.capacity c.self.invariant one.0 c.args.value c.args.text.now c.requires.text (omega (arith, next, c.if-place-ge-MOST.false)))
+    let read = roomy-read lists c.self.view_is number (words_for (length c.args.text.now)) c.in_ok-number.ensures.reached c.index_mut-list.result.now c.reserve.new.self c.index_mut-list.ensures.value c.reserve.ensures.same in
+    let next = c.next_place-place.ensures ∙ ap (λ (list : RecordList). next_place list) read.made in
+    subst (λ (list : RecordList). AreTails (set lists number list)) (sym (c.put.ensures.put ∙ ap (λ (list : RecordList). put_in list (held c.args.value (words_of c.args.text.now))) read.made))
+    (put-are lists number c.reserve.new.self.capacity c.self.invariant read.inside c.args.value c.args.text.now c.requires.text (omega (arith, next, c.if-place-ge-MOST.false)))
 
 pub returns-clause-place : goal.returns-clause-place
 returns-clause-place c =
     let lists = c.self.inside.lists.items in
     let number = c.in_ok-number.number in
-    let one = is-one lists c.reach.new.self number (words_for (length c.args.text.now)) c.self.view_is c.in_ok-number.ensures.reached in
-    let made = room-is lists number c.index_mut-list.result.now c.reserve.new.self one.0 c.index_mut-list.ensures.value c.reserve.ensures.same in
-    let next = c.next_place-place.ensures ∙ ap (λ (list : RecordList). next_place list) made ∙ sym (next-at lists number) ∙ ap (λ (all : TailLists). get_or all.next number 0) c.self.view_is ∙ c.reach.ensures.same.next number in
+    let read = roomy-read lists c.self.view_is number (words_for (length c.args.text.now)) c.in_ok-number.ensures.reached c.index_mut-list.result.now c.reserve.new.self c.index_mut-list.ensures.value c.reserve.ensures.same in
+    let next = c.next_place-place.ensures ∙ ap (λ (list : RecordList). next_place list) read.made ∙ sym (next-at lists number) ∙ ap (λ (all : TailLists). get_or all.next number 0) c.self.view_is ∙ c.reach.ensures.same.next number in
     (λ i. next i * 256 + number) ∙ ap (λ n. get_or c.args.self.now.next n 0 * 256 + n) c.in_ok-number.ensures.number
 
 pub returns-clause-kind : goal.returns-clause-kind
@@ -117,26 +121,24 @@ pub returns-clause-free : goal.returns-clause-free
 returns-clause-free c =
     let lists = c.self.inside.lists.items in
     let number = c.in_ok-number.number in
-    let one = is-one lists c.reach.new.self number (words_for (length c.args.text.now)) c.self.view_is c.in_ok-number.ensures.reached in
-    let made = room-is lists number c.index_mut-list.result.now c.reserve.new.self one.0 c.index_mut-list.ensures.value c.reserve.ensures.same in
-    let next = c.next_place-place.ensures ∙ ap (λ (list : RecordList). next_place list) made in
+    let read = roomy-read lists c.self.view_is number (words_for (length c.args.text.now)) c.in_ok-number.ensures.reached c.index_mut-list.result.now c.reserve.new.self c.index_mut-list.ensures.value c.reserve.ensures.same in
+    let next = c.next_place-place.ensures ∙ ap (λ (list : RecordList). next_place list) read.made in
     let place = c.next_place-place.result * 256 + number in
     let few = are-few lists c.self.invariant in
     sym (tail-same c.args.self.now (lists_of lists) (subst (AreSame c.args.self.now) (sym c.self.view_is) c.reach.ensures.same) place)
-    ∙ put-free lists number c.reserve.new.self.capacity c.self.invariant one.0 c.args.value c.args.text.now c.requires.text place (omega (arith, one.0, few)) (omega (arith, one.0, few, next))
+    ∙ put-free lists number c.reserve.new.self.capacity c.self.invariant read.inside c.args.value c.args.text.now c.requires.text place (omega (arith, read.inside, few)) (omega (arith, read.inside, few, next))
 
 pub returns-clause-put : goal.returns-clause-put
 returns-clause-put c =
     let lists = c.self.inside.lists.items in
     let number = c.in_ok-number.number in
-    let one = is-one lists c.reach.new.self number (words_for (length c.args.text.now)) c.self.view_is c.in_ok-number.ensures.reached in
-    let made = room-is lists number c.index_mut-list.result.now c.reserve.new.self one.0 c.index_mut-list.ensures.value c.reserve.ensures.same in
-    let next = c.next_place-place.ensures ∙ ap (λ (list : RecordList). next_place list) made in
+    let read = roomy-read lists c.self.view_is number (words_for (length c.args.text.now)) c.in_ok-number.ensures.reached c.index_mut-list.result.now c.reserve.new.self c.index_mut-list.ensures.value c.reserve.ensures.same in
+    let next = c.next_place-place.ensures ∙ ap (λ (list : RecordList). next_place list) read.made in
     let place = c.next_place-place.result * 256 + number in
     let few = are-few lists c.self.invariant in
     updates-same c.args.self.now (lists_of lists) (subst (AreSame c.args.self.now) (sym c.self.view_is) c.reach.ensures.same) (lists_of (set lists number c.put.new.self)) place (Some (c.args.text.now, c.args.value))
-    (subst (λ (list : RecordList). Updates (lists_of lists) (lists_of (set lists number list)) place (Some (c.args.text.now, c.args.value))) (sym (c.put.ensures.put ∙ ap (λ (list : RecordList). put_in list (held c.args.value (words_of c.args.text.now))) made))
-    (put-updates lists number c.reserve.new.self.capacity c.self.invariant one.0 c.args.value c.args.text.now c.requires.text place (omega (arith, one.0, few)) (omega (arith, one.0, few, next))))
+    (subst (λ (list : RecordList). Updates (lists_of lists) (lists_of (set lists number list)) place (Some (c.args.text.now, c.args.value))) (sym (c.put.ensures.put ∙ ap (λ (list : RecordList). put_in list (held c.args.value (words_of c.args.text.now))) read.made))
+    (put-updates lists number c.reserve.new.self.capacity c.self.invariant read.inside c.args.value c.args.text.now c.requires.text place (omega (arith, read.inside, few)) (omega (arith, read.inside, few, next))))
 
 pub returns-in_err-number-clause-unasked : goal.returns-in_err-number-clause-unasked
 returns-in_err-number-clause-unasked c = λ some. absurd (false≢true (sym (ap is_ok c.in_err-number.was) ∙ c.reach.ensures.found (free-inside c.args.self.now (length c.args.text.now) some)))
