@@ -1,12 +1,12 @@
 -- Words of bytes that are read eight at a time, and the shorter word behind them.
 use Rattle.std.proofs.Common.{◌≡◌, ◌↔◌, ℕ, zero, suc, ◌+◌, ◌-◌, ◌*◌, ◌/◌, ◌%◌, ◌^◌, ◌<◌, ◌≤◌, List, [], ◌∷◌, ◌++◌, length, take, drop, get_or, set, refl, sym, ap, ◌∙◌, arith, Bool, ◌&&◌, nat_eq, IsTrue}
-use Rattle.std.specs.Int.{from_be_bytes, w64}
+use Rattle.std.specs.Int.{from_be_bytes, w16, w32, w64}
 use Rattle.std.specs.Simd.{first_chunks}
-use Rattle.std.proofs.lemmas.List.{length-drop, drop-drop, drop_all, take_all, get_or-drop, append-nil}
-use Rattle.std.proofs.lemmas.Nat.{pow-add, mod-mul-add}
+use Rattle.std.proofs.lemmas.List.{length-drop, length-take-le, drop-drop, drop_all, take_all, get_or-drop, append-nil}
+use Rattle.std.proofs.lemmas.Nat.{pow-add, mod-pow-add, mod-mul-add, mod_below, pow_pos}
 use Rattle.std.proofs.Math.Nat.{pow-succ'}
 use Rattle.judy_records.specs.Texts.{spelled, first_word, words_for, words_in, words_of}
-use Rattle.judy_records.proofs.Spelling.{spelled-below, from_be_bytes-spelled}
+use Rattle.judy_records.proofs.Spelling.{spelled-below, spelled-take, from_be_bytes-spelled, four-spelled, two-spelled}
 use Rattle.judy_records.proofs.TextLemmas.{words-written, words-pushed, same-more, both-true}
 
 -- ---- whole words
@@ -138,3 +138,76 @@ module _ (bytes : List ℕ) (i at word : ℕ) (ended : i ≡ length bytes / 8) (
         λ t. let parts = both.0 t in sym whole ∙ more.0 (so_far.0 parts.0, sym place ∙ parts.1 ∙ is-first) ∙ all-words,
         λ e. let parts = more.1 (whole ∙ e ∙ sym all-words) in both.1 (so_far.1 parts.0) (place ∙ parts.1 ∙ sym is-first),
       )
+
+-- ---- fewer than eight bytes
+
+-- Bytes that are read as the first of them and the last: where both reads have a byte it is shifted out of the second one.
+both-ends : (part : ℕ) (bytes : List ℕ) (first last shift : ℕ) → ((k : ℕ) → get_or bytes k 0 < 256) → part ≤ length bytes → length bytes ≤ 2 * part → length bytes ≤ 8
+    → first ≡ spelled part bytes → last ≡ spelled part (drop (length bytes - part) bytes) → shift ≡ 256 ^ (8 - length bytes)
+    → first * 256 ^ (8 - part) + last * shift % 256 ^ (8 - part) ≡ spelled 8 bytes
+both-ends part bytes first last shift below enough few most is-first is-last is-shift =
+    let n = length bytes in
+    let ending = drop (n - part) bytes in
+    let both = spelled (2 * part - n) ending in
+    let behind = drop part bytes in
+    let own = spelled (n - part) behind in
+    let left = length-drop part bytes in
+    let halves : (2 * part - n) + (n - part) ≡ part = omega arith in
+    let there : n - part + (2 * part - n) ≡ part = omega arith in
+    let same : drop (2 * part - n) ending ≡ behind = drop-drop (2 * part - n) (n - part) bytes ∙ ap (λ k. drop k bytes) there in
+    let split : last ≡ both * 256 ^ (n - part) + own =
+    is-last ∙ ap (λ k. spelled k ending) (sym halves) ∙ spelled-parts (2 * part - n) (n - part) ending ∙ ap (λ bs. both * 256 ^ (n - part) + spelled (n - part) bs) same in
+    let unit : 256 ^ (n - part) * 256 ^ (8 - n) ≡ 256 ^ (8 - part) = sym (pow-add 256 (n - part) (8 - n)) ∙ ap (λ k. 256 ^ k) (omega arith) in
+    let none : spelled (8 - n) (drop (n - part) behind) ≡ 0 = ap (spelled (8 - n)) (drop_all (n - part) behind (omega (arith, left))) ∙ spelled-none (8 - n) in
+    let padded : spelled (8 - part) behind ≡ own * 256 ^ (8 - n) =
+    (let e : n - part + (8 - n) ≡ 8 - part = omega arith in
+    let s = ap (λ k. spelled k behind) (sym e) ∙ spelled-parts (n - part) (8 - n) behind in omega (arith, s, none)) in
+    let moved : last * shift ≡ both * 256 ^ (8 - part) + spelled (8 - part) behind =
+    (λ i. split i * is-shift i) ∙ spread both (256 ^ (n - part)) own (256 ^ (8 - n)) ∙ (λ i. both * unit i + sym padded i) in
+    let rest : last * shift % 256 ^ (8 - part) ≡ spelled (8 - part) behind =
+    ap (λ k. k % 256 ^ (8 - part)) moved ∙ mod-mul-add both (256 ^ (8 - part)) (spelled (8 - part) behind) (spelled-below (8 - part) behind (below-drop part bytes below)) in
+    let whole : part + (8 - part) ≡ 8 = omega arith in
+    (λ i. is-first i * 256 ^ (8 - part) + rest i) ∙ sym (spelled-parts part (8 - part) bytes) ∙ ap (λ k. spelled k bytes) whole
+  where
+    spread : (f p b q : ℕ) → (f * p + b) * q ≡ f * (p * q) + b * q
+    spread f p b q = grind arith
+
+-- What is cut to fewer bits twice.
+cut-twice : (upper lower n : ℕ) → n % 2 ^ (upper + lower) % 2 ^ lower ≡ n % 2 ^ lower
+cut-twice upper lower n =
+    ap (λ k. k % 2 ^ lower) (mod-pow-add n upper lower)
+    ∙ mod-mul-add (n / 2 ^ lower % 2 ^ upper) (2 ^ lower) (n % 2 ^ lower) (mod_below n (2 ^ lower) (pow_pos lower))
+
+-- Both reads are of four bytes, or of two.
+pub short-four : (bytes first last : List ℕ) → ((k : ℕ) → get_or bytes k 0 < 256) → 4 ≤ length bytes → length bytes < 8
+    → first ≡ take 4 bytes → last ≡ drop (length bytes - 4) bytes
+    → from_be_bytes w32 first * 4294967296 + from_be_bytes w32 last * 2 ^ (64 - 8 * length bytes) % 18446744073709551616 % 4294967296 ≡ first_word bytes
+unfolding first_word
+short-four bytes first last below enough few is-first is-last =
+    let left = length-drop (length bytes - 4) bytes in
+    let bits : 64 - 8 * length bytes ≡ 8 * (8 - length bytes) = omega arith in
+    ap (λ n. from_be_bytes w32 first * 4294967296 + n) (cut-twice 32 32 (from_be_bytes w32 last * 2 ^ (64 - 8 * length bytes)))
+    ∙ both-ends 4 bytes (from_be_bytes w32 first) (from_be_bytes w32 last) (2 ^ (64 - 8 * length bytes)) below enough (omega arith) (omega arith)
+    (ap (from_be_bytes w32) is-first ∙ four-spelled (take 4 bytes) (length-take-le 4 bytes enough) ∙ spelled-take 4 bytes)
+    (ap (from_be_bytes w32) is-last ∙ four-spelled (drop (length bytes - 4) bytes) (omega (arith, left)))
+    (ap (λ n. 2 ^ n) bits ∙ bits-of (8 - length bytes))
+
+pub short-two : (bytes first last : List ℕ) → ((k : ℕ) → get_or bytes k 0 < 256) → 2 ≤ length bytes → length bytes < 4
+    → first ≡ take 2 bytes → last ≡ drop (length bytes - 2) bytes
+    → from_be_bytes w16 first * 281474976710656 + from_be_bytes w16 last * 2 ^ (64 - 8 * length bytes) % 18446744073709551616 % 281474976710656 ≡ first_word bytes
+unfolding first_word
+short-two bytes first last below enough few is-first is-last =
+    let left = length-drop (length bytes - 2) bytes in
+    let bits : 64 - 8 * length bytes ≡ 8 * (8 - length bytes) = omega arith in
+    ap (λ n. from_be_bytes w16 first * 281474976710656 + n) (cut-twice 16 48 (from_be_bytes w16 last * 2 ^ (64 - 8 * length bytes)))
+    ∙ both-ends 2 bytes (from_be_bytes w16 first) (from_be_bytes w16 last) (2 ^ (64 - 8 * length bytes)) below enough (omega arith) (omega arith)
+    (ap (from_be_bytes w16) is-first ∙ two-spelled (take 2 bytes) (length-take-le 2 bytes enough) ∙ spelled-take 2 bytes)
+    (ap (from_be_bytes w16) is-last ∙ two-spelled (drop (length bytes - 2) bytes) (omega (arith, left)))
+    (ap (λ n. 2 ^ n) bits ∙ bits-of (8 - length bytes))
+
+-- One byte, or none.
+pub short-one : (bytes : List ℕ) → length bytes < 2 → get_or bytes 0 0 < 256 → get_or bytes 0 0 * 72057594037927936 % 18446744073709551616 ≡ first_word bytes
+unfolding first_word
+short-one [] few below = refl
+short-one (a ∷ []) few below = omega (arith, below)
+short-one (a ∷ b ∷ rest) few below = absurd (omega (arith, few))

@@ -1,6 +1,6 @@
 -- How bytes spell a word.
 use Rattle.std.proofs.Common.{◌≡◌, ℕ, zero, suc, ◌+◌, ◌*◌, ◌^◌, ◌<◌, ◌≤◌, List, [], ◌∷◌, length, take, get_or, refl, ap, arith}
-use Rattle.std.specs.Int.{from_be_bytes, w64}
+use Rattle.std.specs.Int.{from_be_bytes, w16, w32, w64}
 use Rattle.judy_records.specs.Texts.{spelled}
 use Rattle.std.proofs.Math.Nat.{pow-succ'}
 
@@ -32,14 +32,23 @@ from_be_bytes-spelled (a ∷ b ∷ c ∷ d ∷ e ∷ []) enough = absurd (omega 
 from_be_bytes-spelled (a ∷ b ∷ c ∷ d ∷ e ∷ f ∷ []) enough = absurd (omega arith)
 from_be_bytes-spelled (a ∷ b ∷ c ∷ d ∷ e ∷ f ∷ g ∷ []) enough = absurd (omega arith)
 
--- Powers below the eighth.
-pub within_seven : (i : ℕ) → i < 8 → 256 ^ i ≤ 256 ^ 7
-within_seven zero h = omega arith
-within_seven (suc zero) h = omega arith
-within_seven (suc (suc zero)) h = omega arith
-within_seven (suc (suc (suc zero))) h = omega arith
-within_seven (suc (suc (suc (suc zero)))) h = omega arith
-within_seven (suc (suc (suc (suc (suc zero))))) h = omega arith
-within_seven (suc (suc (suc (suc (suc (suc zero)))))) h = omega arith
-within_seven (suc (suc (suc (suc (suc (suc (suc zero))))))) h = omega arith
-within_seven (suc (suc (suc (suc (suc (suc (suc (suc i)))))))) h = absurd (omega arith)
+-- Four bytes that are read at once, and two.
+pub four-spelled : (bytes : List ℕ) → length bytes ≡ 4 → from_be_bytes w32 bytes ≡ spelled 4 bytes
+four-spelled (a ∷ b ∷ c ∷ d ∷ []) long = omega arith
+four-spelled [] long = absurd (omega arith)
+four-spelled (a ∷ []) long = absurd (omega arith)
+four-spelled (a ∷ b ∷ []) long = absurd (omega arith)
+four-spelled (a ∷ b ∷ c ∷ []) long = absurd (omega arith)
+four-spelled (a ∷ b ∷ c ∷ d ∷ e ∷ rest) long = absurd (omega arith)
+
+pub two-spelled : (bytes : List ℕ) → length bytes ≡ 2 → from_be_bytes w16 bytes ≡ spelled 2 bytes
+two-spelled (a ∷ b ∷ []) long = omega arith
+two-spelled [] long = absurd (omega arith)
+two-spelled (a ∷ []) long = absurd (omega arith)
+two-spelled (a ∷ b ∷ c ∷ rest) long = absurd (omega arith)
+
+-- So many bytes spell what the first so many spell.
+pub spelled-take : (width : ℕ) (bytes : List ℕ) → spelled width (take width bytes) ≡ spelled width bytes
+spelled-take zero bytes = refl
+spelled-take (suc width) [] = refl
+spelled-take (suc width) (byte ∷ bytes) = ap (λ n. byte * 256 ^ width + n) (spelled-take width bytes)

@@ -6,6 +6,11 @@ ghost use Rattle.judy_records.specs.Texts.{first_word, words_for, bytes_in};
 
 use std::alloc::{AllocError, Global};
 
+// How many numbers four bytes spell, and six.
+const FOUR_BYTES: u64 = 4_294_967_296;
+
+const SIX_BYTES: u64 = 281_474_976_710_656;
+
 // The word with which the bytes begin: the first eight, the first of them the highest, zeros where bytes are missing.
 pub fn first_word(bytes: &[u8]) -> u64
     ensures { result ≡ first_word bytes.now }
@@ -16,17 +21,42 @@ pub fn first_word(bytes: &[u8]) -> u64
     }
 }
 
-// The same for fewer than eight bytes. It stands apart, so that what reads eight at once is inlined.
-#[inline(never)]
+// The same for fewer than eight bytes. The first four and the last four of them are read at once, and what both have is shifted out of the latter.
 fn short_word(bytes: &[u8]) -> u64
     requires { length bytes.now < 8 }
     ensures { result ≡ first_word bytes.now }
 {
-    let mut word: u64 = 0;
-    for i in 0..8 {
-        word = word * 256 + u64::from(byte_or_zero(bytes, i));
-    }
-    word
+    let Some(last) = bytes.last_chunk::<4>() else {
+        return fewer_word(bytes);
+    };
+    let Some(first) = bytes.first_chunk::<4>() else {
+        unreachable!()
+    };
+    let last = u64::from(u32::from_be_bytes(*last)) << (64 - 8 * bytes.len());
+    u64::from(u32::from_be_bytes(*first)) * FOUR_BYTES + last % FOUR_BYTES
+}
+
+// The same for fewer than four bytes, by the first two and the last two.
+fn fewer_word(bytes: &[u8]) -> u64
+    requires { length bytes.now < 4 }
+    ensures { result ≡ first_word bytes.now }
+{
+    let Some(last) = bytes.last_chunk::<2>() else {
+        return byte_word(bytes);
+    };
+    let Some(first) = bytes.first_chunk::<2>() else {
+        unreachable!()
+    };
+    let last = u64::from(u16::from_be_bytes(*last)) << (64 - 8 * bytes.len());
+    u64::from(u16::from_be_bytes(*first)) * SIX_BYTES + last % SIX_BYTES
+}
+
+// The same for one byte or none.
+fn byte_word(bytes: &[u8]) -> u64
+    requires { length bytes.now < 2 }
+    ensures { result ≡ first_word bytes.now }
+{
+    u64::from(byte_or_zero(bytes, 0)) << 56
 }
 
 // The byte at a place, zero past the end.

@@ -1,26 +1,9 @@
-use Rattle.std.proofs.Common.{◌≡◌, ap, ◌∙◌, arith, add-one}
-use Rattle.judy_records.specs.Texts.{first_word, spelled}
-use Rattle.judy_records.proofs.Spelling.{spelled-more, spelled-below, within_seven}
+use Rattle.std.proofs.Common.{◌*◌, ◌+◌, ◌-◌, ◌^◌, ◌%◌, length, ◌∙◌, arith}
+use Rattle.judy_records.proofs.ChunkLemmas.{short-four}
 use Rattle.judy_records.proofs.words.short_word.Goals as goal
 
-pub overflow_mul-word : goal.overflow_mul-word
-overflow_mul-word c =
-    let below = spelled-below c.loop-i.i c.args.bytes.now (λ k. omega (arith, c.type_inv.bytes k)) in
-    let most = within_seven c.loop-i.i c.loop-i-test.true in
-    omega (arith, below, most, c.loop-i.invariant)
-
-pub overflow_add-word : goal.overflow_add-word
-overflow_add-word c =
-    let below = spelled-below c.loop-i.i c.args.bytes.now (λ k. omega (arith, c.type_inv.bytes k)) in
-    let most = within_seven c.loop-i.i c.loop-i-test.true in
-    omega (arith, below, most, c.loop-i.invariant, c.from.ensures, c.byte_or_zero.ensures, c.type_inv.bytes c.loop-i.i)
-
-pub loop-i-preserved : goal.loop-i-preserved
-loop-i-preserved c =
-    rw (add-one, spelled-more c.loop-i.i c.args.bytes.now) (omega (arith, c.loop-i.invariant, c.from.ensures, c.byte_or_zero.ensures))
-
 pub returns : goal.returns
-unfolding first_word
 returns c =
-    let e : c.loop-i.i ≡ 8 = omega arith in
-    c.loop-i.invariant ∙ ap (λ n. spelled n c.args.bytes.now) e
+    let bytes = c.args.bytes.now in
+    (λ i. (c.from-2.ensures ∙ c.from_be_bytes-2.ensures) i * 4294967296 + (c.from.ensures ∙ c.from_be_bytes.ensures) i * 2 ^ (64 - 8 * length bytes) % 18446744073709551616 % 4294967296)
+    ∙ short-four bytes c.in-Some-first_chunk.first.now c.in-Some.last.now (λ k. omega (arith, c.type_inv.bytes k)) c.in-Some.ensures.cases.0 c.requires c.in-Some-first_chunk.ensures.cases.same c.in-Some.ensures.cases.1.same
