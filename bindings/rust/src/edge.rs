@@ -4,10 +4,10 @@ use sellumaq_sys as sys;
 use std::ops::{Bound, RangeBounds};
 use std::ops::{Range, RangeFrom, RangeFull, RangeInclusive, RangeTo, RangeToInclusive};
 
-/// A scan of C from the string in a buffer of the capacity given, whose length and the value of the key found stand
-/// behind pointers.
-pub type Scan =
-    unsafe extern "C" fn(*const sys::sellumaq_judysl, *mut u8, usize, *mut usize, *mut u64) -> u32;
+/// A scan of C from the string in a buffer of the capacity given, whose length and what is told of the key found, its value or
+/// its slot, stand behind pointers.
+pub type Scan<T> =
+    unsafe extern "C" fn(*const sys::sellumaq_judysl, *mut u8, usize, *mut usize, *mut T) -> u32;
 
 /// A range of strings, whose ends are anything that has bytes: `..`, `"a"..`, `.."b"`, `"a"..="b"` and so on, or a pair of
 /// [`Bound`]s.
@@ -116,25 +116,25 @@ impl Edge {
         self.included
     }
 
-    /// Goes on to the next key, by a scan that begins with the edge's string and one that begins behind it, and answers its value. Where
-    /// there is none the edge stays.
+    /// Goes on to the next key, by a scan that begins with the edge's string and one that begins behind it, which tell of the key found.
+    /// Where there is none the edge stays, and false is answered.
     ///
     /// # Safety
     ///
     /// The handle is an array's that isn't changed meanwhile, and both are scans of `sellumaq_sys`.
-    pub unsafe fn step(
+    pub unsafe fn step<T>(
         &mut self,
         handle: sys::sellumaq_judysl,
-        [from, past]: [Scan; 2],
-    ) -> Option<u64> {
+        [from, past]: [Scan<T>; 2],
+        told: &mut T,
+    ) -> bool {
         let scan = if self.included { from } else { past };
-        let mut value = 0;
         let buffer = self.bytes.as_mut_ptr();
         // SAFETY: the handle is as the caller says; the buffer has the bytes that it is said to have, the string is no
-        // longer, and all that the call writes to is this function's or the edge's, which is lent.
-        let told = unsafe { scan(&handle, buffer, MAX_KEY, &mut self.length, &mut value) };
-        self.included &= told != sys::SELLUMAQ_FOUND;
-        (told == sys::SELLUMAQ_FOUND).then_some(value)
+        // longer, and all that the call writes to is the caller's or the edge's, which is lent.
+        let found = unsafe { scan(&handle, buffer, MAX_KEY, &mut self.length, told) };
+        self.included &= found != sys::SELLUMAQ_FOUND;
+        found == sys::SELLUMAQ_FOUND
     }
 
     /// Whether a key lies above this edge, or is it.

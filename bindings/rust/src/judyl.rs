@@ -45,7 +45,7 @@ at_once!(
 
 walks!(JudyL through Way<sys::sellumaq_pair>; (u64, u64));
 
-slot_walks!(JudyL through Steps; u64);
+slot_walks!(JudyL through SlotSteps; u64);
 
 ordered_map!(
     JudyL; u64, Borrow<u64>;
@@ -108,23 +108,19 @@ impl Walked for Lending<'_> {
     }
 }
 
-/// A way through a map that lends slots. What it tells of values is of no use: they may have changed since they were read.
+/// A way from slot to slot. What is told of values on it is of no use: they may have changed since they were read.
 #[derive(Clone)]
-struct Steps(Way<sys::sellumaq_pair>);
+struct SlotSteps(Way<sys::sellumaq_pair>);
 
-impl Steps {
-    fn next(&mut self, map: &JudyL) -> Option<(u64, u64)> {
-        self.0.next(&Lending(map))
+impl SlotSteps {
+    fn next(&mut self, map: &JudyL) -> Option<(u64, NonNull<u64>)> {
+        let (key, _) = self.0.next(&Lending(map))?;
+        Some((key, map.find_slot(&key)?))
     }
 
-    fn next_back(&mut self, map: &JudyL) -> Option<(u64, u64)> {
-        self.0.next_back(&Lending(map))
-    }
-}
-
-impl From<Way<sys::sellumaq_pair>> for Steps {
-    fn from(way: Way<sys::sellumaq_pair>) -> Self {
-        Steps(way)
+    fn next_back(&mut self, map: &JudyL) -> Option<(u64, NonNull<u64>)> {
+        let (key, _) = self.0.next_back(&Lending(map))?;
+        Some((key, map.find_slot(&key)?))
     }
 }
 
@@ -399,7 +395,7 @@ impl JudyL {
     /// assert!(map.values().eq([30, 71]));
     /// ```
     pub fn range_mut(&mut self, range: impl RangeBounds<u64>) -> RangeMut<'_> {
-        RangeMut::of(self, Steps(Way::of(Span::of(range))))
+        RangeMut::of(self, SlotSteps(Way::of(Span::of(range))))
     }
 
     /// Takes out each key that isn't to be kept, by ascending key; `keep` may change the values. Where it panics, the keys

@@ -17,7 +17,7 @@ use std::ptr::{null_mut, NonNull};
 mod sorted;
 mod way;
 
-use way::{Steps, Way};
+use way::{SlotSteps, Steps, Way};
 
 pub use crate::edge::StringRange;
 
@@ -41,7 +41,7 @@ keyed_map!(
 
 walks!(JudySl through Way; (Vec<u8>, u64));
 
-slot_walks!(JudySl through Steps; Vec<u8>);
+slot_walks!(JudySl through SlotSteps; Vec<u8>);
 
 ordered_map!(
     JudySl; Vec<u8>, AsRef<[u8]>;
@@ -166,7 +166,8 @@ impl JudySl {
     /// assert_eq!(map["b"], 21);
     /// ```
     pub fn range_mut(&mut self, range: impl StringRange) -> RangeMut<'_> {
-        RangeMut::of(self, Steps::of(&range))
+        let way = SlotSteps::of(self, &range);
+        RangeMut::of(self, way)
     }
 
     /// How many keys an upper end lets through.
@@ -185,6 +186,10 @@ impl JudySl {
     /// assert_eq!((map.count("b"..), map.count("a".."b"), map.count("c".."a")), (2, 1, 0));
     /// ```
     pub fn count(&self, range: impl StringRange) -> usize {
+        self.count_within(&range)
+    }
+
+    fn count_within(&self, range: &impl StringRange) -> usize {
         let (from, to) = range.bounds();
         let (before, end) = (Edge::before(from), Edge::upper(to));
         self.count_up_to(&end)

@@ -15,12 +15,11 @@ macro_rules! slot_walks {
                 RangeMut { map, way, lent: std::marker::PhantomData }
             }
 
-            fn lend(&self, (key, _): ($key, u64)) -> Option<($key, &'a mut u64)> {
-                let slot = self.map.find_slot(&key)?;
+            fn lend((key, slot): ($key, std::ptr::NonNull<u64>)) -> ($key, &'a mut u64) {
                 // SAFETY: the map is borrowed to be changed for as long as the slot is lent, and isn't changed meanwhile,
-                // so the slot stays. No key comes twice, so no slot is lent twice. To find the next slot the library
-                // decides by keys alone, and the values that are lent are none of its concern.
-                Some((key, unsafe { &mut *slot.as_ptr() }))
+                // so the slot stays. No key comes twice, so no slot is lent twice. On the way to the next slot no value is
+                // read that may be lent.
+                (key, unsafe { &mut *slot.as_ptr() })
             }
         }
 
@@ -28,8 +27,7 @@ macro_rules! slot_walks {
             type Item = ($key, &'a mut u64);
 
             fn next(&mut self) -> Option<Self::Item> {
-                let pair = self.way.next(self.map)?;
-                self.lend(pair)
+                self.way.next(self.map).map(Self::lend)
             }
 
             fn last(mut self) -> Option<Self::Item> {
@@ -39,8 +37,7 @@ macro_rules! slot_walks {
 
         impl DoubleEndedIterator for RangeMut<'_> {
             fn next_back(&mut self) -> Option<Self::Item> {
-                let pair = self.way.next_back(self.map)?;
-                self.lend(pair)
+                self.way.next_back(self.map).map(Self::lend)
             }
         }
 
@@ -95,8 +92,8 @@ macro_rules! slot_walks {
 
         impl $map {
             fn all_mut(&mut self) -> IterMut<'_> {
-                let (left, way) = (self.len(), self.iter().range.way);
-                IterMut { range: RangeMut::of(self, way.into()), left }
+                let left = self.len();
+                IterMut { range: self.range_mut(..), left }
             }
         }
 

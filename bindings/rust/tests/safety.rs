@@ -132,6 +132,29 @@ fn slots_of_one_iterator_stand_side_by_side() {
 }
 
 #[test]
+fn ways_from_both_ends_read_no_slot_that_was_lent() {
+    let (mut words, mut texts) = (map(), strings());
+    // behind the last key left is one whose slot a thread writes to; a run under helgrind sees whether that is read
+    thread::scope(|scope| {
+        let mut range = texts.range_mut("key 0100".."key 0104");
+        for (_, slot) in [range.next(), range.next_back()].into_iter().flatten() {
+            scope.spawn(move || *slot += 1);
+        }
+        assert_eq!(range.by_ref().map(|(_, slot)| *slot).sum::<u64>(), 203);
+        assert!(range.next().is_none() && range.next_back().is_none());
+        let mut range = words.range_mut(300..=309);
+        for (_, slot) in [range.next_back(), range.next()].into_iter().flatten() {
+            scope.spawn(move || *slot += 1);
+        }
+        let between = range.by_ref().rev();
+        assert_eq!(between.map(|(_, slot)| *slot).sum::<u64>(), 203);
+        assert!(range.next().is_none() && range.next_back().is_none());
+    });
+    assert_eq!((texts["key 0100"], texts["key 0103"]), (101, 104));
+    assert_eq!((words[300], words[309]), (101, 104));
+}
+
+#[test]
 fn threads_read_one_array() {
     let (words, texts, set) = (map(), strings(), (0..1000).collect::<Judy1>());
     let bytes: JudyHs = texts.iter().collect();

@@ -5,15 +5,24 @@ use crate::keyed::MAX_KEY;
 use sellumaq_sys as sys;
 use std::iter::from_fn;
 use std::ops::Range;
+use std::ptr::{null_mut, NonNull};
 
-const UP: [Scan; 2] = [sys::sellumaq_judysl_first, sys::sellumaq_judysl_next];
-const DOWN: [Scan; 2] = [sys::sellumaq_judysl_last, sys::sellumaq_judysl_prev];
+const UP: [Scan<u64>; 2] = [sys::sellumaq_judysl_first, sys::sellumaq_judysl_next];
+const DOWN: [Scan<u64>; 2] = [sys::sellumaq_judysl_last, sys::sellumaq_judysl_prev];
+const UP_TO_SLOTS: [Scan<*mut u64>; 2] = [
+    sys::sellumaq_judysl_first_slot,
+    sys::sellumaq_judysl_next_slot,
+];
+const DOWN_TO_SLOTS: [Scan<*mut u64>; 2] = [
+    sys::sellumaq_judysl_last_slot,
+    sys::sellumaq_judysl_prev_slot,
+];
 
 /// How many keys a call of C brings at most, and how many bytes these have.
 const MOST: usize = 64;
 const ROOM: usize = 2 * MAX_KEY;
 
-/// A way of which each step is one way down the map, and reads no value but that of the key found.
+/// A way of which each step is one way down the map.
 #[derive(Clone)]
 pub struct Steps {
     front: Edge,
@@ -29,25 +38,61 @@ impl Steps {
         }
     }
 
-    pub fn next(&mut self, map: &JudySl) -> Option<(Vec<u8>, u64)> {
+    // Goes a step up, and answers the key where one is left, of which the scans tell.
+    fn up<T>(&mut self, map: &JudySl, scans: [Scan<T>; 2], told: &mut T) -> Option<Vec<u8>> {
         // SAFETY: the map is borrowed, and the scans are this kind's.
-        let value = unsafe { self.front.step(map.handle, UP) }?;
+        let found = unsafe { self.front.step(map.handle, scans, told) };
         let key = self.front.key();
-        self.back.lets_below(key).then(|| (key.to_vec(), value))
+        (found && self.back.lets_below(key)).then(|| key.to_vec())
+    }
+
+    // The same down.
+    fn down<T>(&mut self, map: &JudySl, scans: [Scan<T>; 2], told: &mut T) -> Option<Vec<u8>> {
+        // SAFETY: as in `up`.
+        let found = unsafe { self.back.step(map.handle, scans, told) };
+        let key = self.back.key();
+        (found && self.front.lets_above(key)).then(|| key.to_vec())
+    }
+
+    pub fn next(&mut self, map: &JudySl) -> Option<(Vec<u8>, u64)> {
+        let mut value = 0;
+        self.up(map, UP, &mut value).map(|key| (key, value))
     }
 
     pub fn next_back(&mut self, map: &JudySl) -> Option<(Vec<u8>, u64)> {
-        // SAFETY: as in `next`.
-        let value = unsafe { self.back.step(map.handle, DOWN) }?;
-        let key = self.back.key();
-        self.front.lets_above(key).then(|| (key.to_vec(), value))
+        let mut value = 0;
+        self.down(map, DOWN, &mut value).map(|key| (key, value))
     }
 }
 
-impl From<Way> for Steps {
-    /// The steps of a way that has brought nothing.
-    fn from(way: Way) -> Steps {
-        way.ends
+/// The same way from slot to slot. It knows how many keys are left, and so asks for none beyond the last one: the library would
+/// read that key's value, which may be lent already.
+#[derive(Clone)]
+pub struct SlotSteps {
+    steps: Steps,
+    left: usize,
+}
+
+impl SlotSteps {
+    pub fn of(map: &JudySl, range: &impl StringRange) -> SlotSteps {
+        SlotSteps {
+            steps: Steps::of(range),
+            left: map.count_within(range),
+        }
+    }
+
+    pub fn next(&mut self, map: &JudySl) -> Option<(Vec<u8>, NonNull<u64>)> {
+        self.left = self.left.checked_sub(1)?;
+        let mut slot = null_mut();
+        let key = self.steps.up(map, UP_TO_SLOTS, &mut slot)?;
+        Some((key, NonNull::new(slot)?))
+    }
+
+    pub fn next_back(&mut self, map: &JudySl) -> Option<(Vec<u8>, NonNull<u64>)> {
+        self.left = self.left.checked_sub(1)?;
+        let mut slot = null_mut();
+        let key = self.steps.down(map, DOWN_TO_SLOTS, &mut slot)?;
+        Some((key, NonNull::new(slot)?))
     }
 }
 
@@ -143,14 +188,15 @@ impl Way {
     }
 
     pub fn next_back_entry(&mut self, map: &JudySl) -> Option<(&[u8], u64)> {
+        let mut value = 0;
         // SAFETY: the map is borrowed, and the scans are this kind's.
-        let value = unsafe { self.ends.back.step(map.handle, DOWN) }?;
+        let found = unsafe { self.ends.back.step(map.handle, DOWN, &mut value) };
         let key = self.ends.back.key();
         let is_left = match self.page.last() {
             Some(given) => key > given,
             None => self.ends.front.lets_above(key),
         };
-        is_left.then_some((key, value))
+        (found && is_left).then_some((key, value))
     }
 
     pub fn next(&mut self, map: &JudySl) -> Option<(Vec<u8>, u64)> {
