@@ -41,6 +41,7 @@ pub fn exchange<V: Words + Drop>(
 }
 
 // In a root, which is changed where it stands.
+#[inline(always)]
 fn in_root<V: Words + Drop>(
     alloc: Global,
     root: &mut RootOf<V>,
@@ -65,7 +66,7 @@ fn in_root<V: Words + Drop>(
             *root = new;
             answer
         }
-        RootOf::Many(child) => exchange_in(alloc, child, 8, key, value),
+        RootOf::Many(child) => in_many(alloc, child, key, value),
     }
 }
 
@@ -88,6 +89,27 @@ fn in_one<V: Words + Drop>(
     match done {
         Ok(_) => (root, Ok(None)),
         Err(refused) => (root, Err(refused)),
+    }
+}
+
+// In the node below a root. In small arrays that is a leaf, and here the width of its keys is known when this is compiled.
+#[inline(always)]
+fn in_many<V: Words + Drop>(
+    alloc: Global,
+    child: &mut ChildOf<V>,
+    key: u64,
+    value: u64,
+) -> Result<Option<u64>, AllocError>
+    requires words { V.WORDS ≡ 1 }
+    requires child { IsChild V.WORDS 8 child.old }
+    requires room { has_key key child.old ≡ false → length child.old.pairs < 2 ^ 64 - 1 }
+    ensures child { IsChild V.WORDS 8 child.new }
+    ensures exchanged { IsExchanged key value child.old child.new result }
+{
+    let kind = child.place.kind_mut();
+    match kind {
+        KindOf::Leaf(_, _) => in_childless(alloc, kind, 8, key, value),
+        _ => in_kind(alloc, kind, 8, key, value),
     }
 }
 
@@ -149,6 +171,7 @@ fn in_kind<V: Words + Drop>(
 }
 
 // The same for a node without children.
+#[inline(always)]
 fn in_childless<V: Words + Drop>(
     alloc: Global,
     kind: &mut KindOf<V>,

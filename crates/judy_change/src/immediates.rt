@@ -12,7 +12,7 @@ ghost use Rattle.judy_change.specs.Inserted.{IsInserted};
 use crate::gap::put_at;
 use crate::inserts::in_order;
 use judy_leaf::{ImmOf, Words};
-use judy_node::{Head, KindOf, imm_of, kind_of_sorted};
+use judy_node::{Head, KindOf, imm_of, kind_of_sorted, leaf_of_sorted};
 use std::alloc::{AllocError, Global};
 
 // The node of an immediate whose keys have no values.
@@ -86,7 +86,7 @@ fn past_immediate<V: Words + Drop>(
         return past_few(alloc, full, width, key, value);
     }
     let both = in_order((full.key_at(0), full.value_at(0)), (key, value));
-    kind_of_sorted(alloc, width, &both)
+    leaf_of_sorted(alloc, width, &both)
 }
 
 // The same where there may be more keys than one.

@@ -4,14 +4,15 @@ ghost use Rattle.std.specs.Prelude.{◌≡◌, ◌≢◌, ◌-◌, ◌^◌, ◌<
 ghost use Rattle.std.specs.Borrow.{sem, LendsIf, u64 as word};
 ghost use Rattle.std.specs.Option.{option_copied_mut};
 ghost use Rattle.judy_leaf.specs.KeyLists.{with_pair};
+ghost use Rattle.judy_node.specs.Trees.{IsChild};
 ghost use Rattle.judy_node.specs.Roots.{root_tree, one_tree, IsRoot};
 ghost use Rattle.judy_node.specs.Slots.{value_of, with_value};
 ghost use Rattle.judy_node.specs.contracts.node.NodeOf.{the_row};
 ghost use Rattle.judy_change.specs.Inserted.{has_key, IsInserted};
 
-use crate::way_down::insert_in;
+use crate::way_down::{into_childless, into_kind};
 use judy_leaf::Words;
-use judy_node::{ChildOf, NodeOf, RootOf, kind_of_sorted};
+use judy_node::{ChildOf, KindOf, NodeOf, RootOf, kind_of_sorted};
 use std::alloc::{AllocError, Global};
 
 /// Puts a key into a tree. True: it was absent, and stands there with the value 0. False: it was there, with its value, and
@@ -31,6 +32,8 @@ pub fn insert<V: Words + Drop>(
 }
 
 /// The same with the value that an absent key is to have, 0 where keys have no values. A key that is there keeps its value.
+// Compiled into its callers, as `exchange` is.
+#[inline(always)]
 pub fn insert_with<V: Words + Drop>(
     alloc: Global,
     node: &mut NodeOf<V>,
@@ -59,6 +62,7 @@ pub fn slot<V: Words + Drop>(node: &mut NodeOf<V>, key: u64) -> Option<&mut u64>
 }
 
 // Into a root, which is changed where it stands.
+#[inline(always)]
 fn into_root<V: Words + Drop>(
     alloc: Global,
     root: &mut RootOf<V>,
@@ -84,7 +88,29 @@ fn into_root<V: Words + Drop>(
             *root = new;
             answer
         }
-        RootOf::Many(child) => insert_in(alloc, child, 8, key, value),
+        RootOf::Many(child) => into_many(alloc, child, key, value),
+    }
+}
+
+// Into the node below a root. In small arrays that is a leaf, and here the width of its keys is known when this is compiled.
+#[inline(always)]
+fn into_many<V: Words + Drop>(
+    alloc: Global,
+    child: &mut ChildOf<V>,
+    key: u64,
+    value: u64,
+) -> Result<bool, AllocError>
+    requires one { V.WORDS ≤ 1 }
+    requires child { IsChild V.WORDS 8 child.old }
+    requires no_value { V.WORDS ≡ 0 → value ≡ 0 }
+    requires room { has_key key child.old ≡ false → length child.old.pairs < 2 ^ 64 - 1 }
+    ensures child { IsChild V.WORDS 8 child.new }
+    ensures inserted { IsInserted key value child.old child.new result }
+{
+    let kind = child.place.kind_mut();
+    match kind {
+        KindOf::Leaf(_, _) => into_childless(alloc, kind, 8, key, value),
+        _ => into_kind(alloc, kind, 8, key, value),
     }
 }
 

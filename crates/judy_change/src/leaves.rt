@@ -27,6 +27,7 @@ pub(crate) fn leaf_kind<V: Words + Drop>(leaf: LeafOf<V>) -> KindOf<V>
 }
 
 // Puts a key with its value into a leaf that isn't full, where the leaf stands. The error is want of memory; the leaf is unchanged then.
+#[inline(always)]
 pub(crate) fn into_leaf<V: Words + Drop>(
     alloc: Global,
     count: &mut u8,

@@ -23,7 +23,7 @@ use std::mem;
 
 // Puts a key with its value into a node below the root, whose keys have `width` bytes. The answer is that of `insert`.
 #[cycle(insert)]
-pub(crate) fn insert_in<V: Words + Drop>(
+fn insert_in<V: Words + Drop>(
     alloc: Global,
     child: &mut ChildOf<V>,
     width: u8,
@@ -43,7 +43,7 @@ pub(crate) fn insert_in<V: Words + Drop>(
 
 // The same by the node's kind. A branch on the key's way and a leaf that stays a leaf are changed where they stand.
 #[cycle(insert)]
-fn into_kind<V: Words + Drop>(
+pub(crate) fn into_kind<V: Words + Drop>(
     alloc: Global,
     kind: &mut KindOf<V>,
     width: u8,
@@ -73,6 +73,7 @@ fn into_kind<V: Words + Drop>(
 }
 
 // The same for a node without children.
+#[inline(always)]
 pub(crate) fn into_childless<V: Words + Drop>(
     alloc: Global,
     kind: &mut KindOf<V>,

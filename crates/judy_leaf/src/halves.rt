@@ -46,6 +46,7 @@ fn narrowed_to<const N: usize>(words: &[u64], key: u64, window: (usize, usize)) 
 }
 
 // How many of ascending words are below a key.
+#[inline(always)]
 pub(crate) fn rank_of(words: &[u64], key: u64) -> usize
     requires ascending { IsStrictlySortedBy word_order words.now }
     requires few { length words.now ≤ 32 }

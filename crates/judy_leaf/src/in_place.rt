@@ -17,6 +17,7 @@ use std::alloc::{AllocError, Global};
 /// Puts an absent key in with its value, which is 0 where keys have no value, into a leaf of fewer than 32 keys of `width` bytes: the
 /// number of its keys, and its block. The place is the number of keys below the key. The error is want of memory; the leaf is
 /// unchanged then.
+#[inline(always)]
 pub fn put_in_leaf<V: Words + Drop>(
     alloc: Global,
     count: &mut u8,

@@ -85,6 +85,7 @@ pub(crate) fn find(
 }
 
 // The place of the nearest key at or above a number, and that key.
+#[inline(always)]
 pub(crate) fn next(
     width: usize,
     block: &Block,
@@ -276,6 +277,7 @@ fn insert_in<const W: usize>(block: &mut Block, start: usize, count: usize, at: 
 }
 
 // Puts a key in at a place. There are fewer than 32, and the block has room for one more.
+#[inline(always)]
 pub(crate) fn insert(
     width: usize,
     block: &mut Block,
@@ -306,6 +308,7 @@ pub(crate) fn insert(
 }
 
 // Puts the keys of pairs in behind the words of a block, by their lowest bytes.
+#[inline(always)]
 fn append_in<const W: usize>(block: &mut Block, start: usize, pairs: &[(u64, u64)])
     requires width { IsWidth W }
     requires start { start ≤ 32 }
@@ -323,6 +326,7 @@ fn append_in<const W: usize>(block: &mut Block, start: usize, pairs: &[(u64, u64
 }
 
 // The same where a word has one key: the words are made at once.
+#[inline(always)]
 fn append_words<const W: usize>(block: &mut Block, start: usize, pairs: &[(u64, u64)])
     requires width { IsWidth W }
     requires one { 8 / W ≡ 1 }
@@ -355,6 +359,7 @@ fn append_packed<const W: usize>(block: &mut Block, start: usize, pairs: &[(u64,
 }
 
 // Puts the keys of at most 32 pairs in behind the words of a block, by their lowest bytes. The block has room for them.
+#[inline(always)]
 pub(crate) fn append(width: usize, block: &mut Block, start: usize, pairs: &[(u64, u64)])
     requires width { IsWidth width }
     requires start { start ≤ 32 }
@@ -438,6 +443,7 @@ pub(crate) fn remove(width: usize, block: &mut Block, start: usize, count: usize
 }
 
 // How many words so many keys take.
+#[inline(always)]
 pub(crate) fn words_of(width: usize, count: usize) -> usize
     requires width { IsWidth width }
     requires few { count ≤ 33 }

@@ -125,6 +125,7 @@ impl<V: Words + Drop> LeafOf<V> {
 
     /// The leaf of at most 32 pairs. Of each key the lowest `width` bytes count, 1 to 8; by these the keys strictly ascend. Where
     /// keys have no value, each value is 0. The error is want of memory; nothing is kept then.
+    #[inline(always)]
     pub fn from_sorted(
         alloc: Global,
         width: u8,
@@ -161,6 +162,7 @@ impl<V: Words + Drop> LeafOf<V> {
     }
 
     // How many words of a block the pairs take.
+    #[inline(always)]
     fn words_needed(width: u8, pairs: &[(u64, u64)]) -> usize
         requires words { V.WORDS ≤ 1 }
         requires width { IsWidth width }
@@ -172,6 +174,7 @@ impl<V: Words + Drop> LeafOf<V> {
     }
 
     // The same in a block of a capacity, into which they fit.
+    #[inline(always)]
     fn filled(
         alloc: Global,
         width: u8,

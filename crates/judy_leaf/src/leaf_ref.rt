@@ -124,6 +124,7 @@ impl<'a, V: Words + Drop> LeafRef<'a, V> {
     }
 
     /// The place of a key, as `Ok`; or, where the word isn't one of the keys, the place that it would have, as `Err`.
+    #[inline(always)]
     pub fn search(&self, key: u64) -> Result<usize, usize>
         ensures { IsSearched (keys_of self.now.pairs) key result }
     {

@@ -65,6 +65,7 @@ fn count_below<const W: usize>(words: &[u64], key: u64) -> usize
 }
 
 // How many of the keys are below a key.
+#[inline(always)]
 pub(crate) fn rank_in<const W: usize>(count: usize, words: &[u64], key: u64) -> usize
     requires packed { IsPacked W count words.now }
     requires ascending { IsStrictlySortedBy word_order (keys_in W count words.now) }
@@ -119,6 +120,7 @@ pub(crate) fn find_in<const W: usize>(count: usize, words: &[u64], key: u64) -> 
 }
 
 // The place of the nearest key at or above a number, and that key.
+#[inline(always)]
 pub(crate) fn next_in<const W: usize>(
     count: usize,
     words: &[u64],

@@ -12,6 +12,7 @@ use judy_block::Block;
 use std::alloc::{AllocError, Global};
 
 // Sees to it that a block has room for so many words: by a block of the larger capacity where it hasn't.
+#[inline(always)]
 pub(crate) fn give_room(
     block: &mut Block,
     alloc: Global,
@@ -25,14 +26,26 @@ pub(crate) fn give_room(
     ensures unchanged { OnErr result (block.new ≡ block.old) }
 {
     if block.capacity() < needed {
-        let mut larger = Block::new(alloc, capacity)?;
-        larger.copy_from(block);
-        *block = larger;
+        grow(block, alloc, capacity)?;
     }
     Ok(())
 }
 
+// Puts a block of a larger capacity in the place of a block, with its words and its tag. It stands apart, since most keys find room.
+fn grow(block: &mut Block, alloc: Global, capacity: usize) -> Result<(), AllocError>
+    requires fits { length block.old.words ≤ capacity }
+    requires within { (1 ≤ capacity) × (capacity ≤ 65535) }
+    ensures room { OnOk result (HasRoom capacity block.old block.new) }
+    ensures unchanged { OnErr result (block.new ≡ block.old) }
+{
+    let mut larger = Block::new(alloc, capacity)?;
+    larger.copy_from(block);
+    *block = larger;
+    Ok(())
+}
+
 // Puts a key in at a place, with its value.
+#[inline(always)]
 pub(crate) fn put<V: Words + Drop>(
     block: &mut Block,
     width: usize,
@@ -59,6 +72,7 @@ pub(crate) fn put<V: Words + Drop>(
 }
 
 // The same where keys have values. Where a word has one key, each word is moved once for both.
+#[inline(always)]
 fn put_with_value(block: &mut Block, width: usize, count: usize, at: usize, key: u64, value: u64)
     requires tag { block.old.tag ≡ width }
     requires keys { AreKeysFrom width count count block.old }
@@ -93,6 +107,7 @@ pub(crate) fn take<V: Words + Drop>(block: &mut Block, width: usize, count: usiz
 }
 
 // Puts pairs, whose keys' lowest bytes ascend, into a block without words, whose tag is the width.
+#[inline(always)]
 pub(crate) fn put_all<V: Words + Drop>(block: &mut Block, width: usize, pairs: &[(u64, u64)])
     requires one { V.WORDS ≤ 1 }
     requires tag { block.old.tag ≡ width }

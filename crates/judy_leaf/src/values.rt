@@ -33,6 +33,7 @@ pub(crate) fn remove(block: &mut Block, count: usize, at: usize)
 }
 
 // Puts the values of pairs behind the words of a block, which has room for them.
+#[inline(always)]
 pub(crate) fn append(block: &mut Block, pairs: &[(u64, u64)])
     requires front { length block.old.words ≤ 4 }
     requires few { length pairs.now ≤ 256 }

@@ -80,6 +80,7 @@ impl<V: Words + Drop> BranchOf<V> {
     }
 
     /// The sums of the children as they are: none where there aren't 256, or where there is no memory for them.
+    #[inline(always)]
     pub fn sums_of_children(&self, alloc: Global) -> Sums
         requires { IsWholeBranch V.WORDS self.now }
         ensures { AreSums result self.now.children.items }

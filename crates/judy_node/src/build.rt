@@ -107,6 +107,7 @@ pub fn immediate_of_sorted<V: Words + Drop>(width: u8, pairs: &[(u64, u64)]) -> 
 
 /// The leaf of sorted pairs, more than an immediate holds and at most 32, whose keys are read by their lowest bytes, `width` of them.
 /// The error is want of memory; nothing is kept then.
+#[inline(always)]
 pub fn leaf_of_sorted<V: Words + Drop>(
     alloc: Global,
     width: u8,

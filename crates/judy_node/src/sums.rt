@@ -26,6 +26,7 @@ impl Sums {
     }
 
     /// The sums of children; none where there aren't 256, and where there is no memory for them.
+    #[inline(always)]
     pub(crate) fn of<V: Words + Drop>(alloc: Global, children: &[ChildOf<V>]) -> Sums
         requires { population children.now < 2 ^ 64 }
         ensures { AreSums result children.now }

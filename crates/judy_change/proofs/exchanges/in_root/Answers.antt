@@ -8,5 +8,5 @@ pub returns-in-Many-clause-root : goal.returns-in-Many-clause-root
 returns-in-Many-clause-root g c =
     let root = subst (IsRoot g.V.Words.WORDS) c.in-Many.is c.requires.root in
     let many = root.1 in
-    let kept = no_fewer AllocError c.args.key c.args.value c.in-Many.child c.exchange_in.new.child c.exchange_in.result c.exchange_in.ensures.exchanged in
-    (c.exchange_in.ensures.child, omega arith)
+    let kept = no_fewer AllocError c.args.key c.args.value c.in-Many.child c.in_many.new.child c.in_many.result c.in_many.ensures.exchanged in
+    (c.in_many.ensures.child, omega arith)

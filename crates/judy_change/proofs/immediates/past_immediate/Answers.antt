@@ -30,8 +30,8 @@ in_order-both-requires g c =
     let counted = c.len.ensures.count in
     apart c.args.full.now.pairs c.key_at.result c.args.key (omega arith) c.key_at.ensures c.requires.absent
 
-pub kind_of_sorted-requires-clause-map : goal.kind_of_sorted-requires-clause-map
-kind_of_sorted-requires-clause-map g c =
+pub leaf_of_sorted-requires-clause-map : goal.leaf_of_sorted-requires-clause-map
+leaf_of_sorted-requires-clause-map g c =
     let list = c.args.full.now.pairs in
     let one = c.if-len-ne1.false in
     let counted = c.len.ensures.count in
@@ -48,4 +48,4 @@ returns-clause-built g c =
     let one = c.if-len-ne1.false in
     let counted = c.len.ensures.count in
     let both = both_are list c.in_order-both.result c.args.key c.args.value c.key_at.result c.value_at.result (omega arith) c.key_at.ensures c.value_at.ensures c.in_order-both.ensures in
-    subst (λ (ps : Pairs). IfOk c.kind_of_sorted.result (λ kind. IsBuilt g.V.Words.WORDS c.args.width ps (tree_of g.V.Words.WORDS kind))) both c.kind_of_sorted.ensures.built
+    subst (λ (ps : Pairs). IfOk c.leaf_of_sorted.result (λ kind. IsBuilt g.V.Words.WORDS c.args.width ps (tree_of g.V.Words.WORDS kind))) both c.leaf_of_sorted.ensures.built
