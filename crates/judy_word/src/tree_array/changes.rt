@@ -46,6 +46,7 @@ impl<V: Words + Drop> TreeArray<V> {
     }
 
     /// The same with the value that an absent key is to have, 0 where keys have no values; a key that is there keeps its own.
+    #[inline(always)]
     pub fn set_with(&mut self, key: u64, value: u64) -> Result<bool, InsertError>
         requires one { V.WORDS ≤ 1 }
         requires no_value { V.WORDS ≡ 0 → value ≡ 0 }
@@ -73,6 +74,7 @@ impl<V: Words + Drop> TreeArray<V> {
 
     /// Gives a key a value, in an array whose keys have values, and answers whether it was absent. Refused as `set` is, and then the
     /// array is as it was; never where the key is there: then its value alone changes, and the nodes stay.
+    #[inline(always)]
     pub fn put(&mut self, key: u64, value: u64) -> Result<bool, InsertError>
         requires words { V.WORDS ≡ 1 }
         ensures answer { IfOk result
