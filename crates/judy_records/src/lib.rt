@@ -11,4 +11,4 @@ mod text;
 mod words;
 
 pub use records::Records;
-pub use words::words_for;
+pub use words::{first_word, words_for};

@@ -11,7 +11,7 @@ const FOUR_BYTES: u64 = 4_294_967_296;
 
 const SIX_BYTES: u64 = 281_474_976_710_656;
 
-// The word with which the bytes begin: the first eight, the first of them the highest, zeros where bytes are missing.
+/// The word with which the bytes begin: the first eight, the first of them the highest, zeros where bytes are missing.
 pub fn first_word(bytes: &[u8]) -> u64
     ensures { result ≡ first_word bytes.now }
 {

@@ -1,9 +1,8 @@
 -- Places of levels and places of tails.
-use Rattle.std.proofs.Common.{◌≡◌, ◌≢◌, ℕ, suc, ◌%◌, ◌/◌, true, false, cond, set, List, Option, None, Some, IsSome, refl, sym, ap, subst, ◌∙◌, arith}
+use Rattle.std.proofs.Common.{◌≡◌, ◌≢◌, ℕ, ◌%◌, ◌/◌, true, false, cond, set, List, Option, None, Some, IsSome, refl, sym, ap, subst, ◌∙◌, arith}
 use Rattle.std.proofs.lemmas.Bool.{eqb-true}
 use Rattle.std.proofs.lemmas.List.{set-get_or}
 use Rattle.std.proofs.lemmas.Option.{same_Some}
-use Rattle.std.specs.FinMap.{FinMap}
 use Rattle.slab.specs.Slab as slab
 use Rattle.judy_model.specs.Keys.{word_order}
 use Rattle.judy_model.specs.Arrays.{ArrayOf}
@@ -13,9 +12,7 @@ use Rattle.judy_word.specs.Writes.{with_value}
 use Rattle.judy_sl.specs.LevelLists.{LevelParts, keys_in, words_in, with_words}
 use Rattle.judy_tails.specs.Tails.{tail_at, Updates}
 use Rattle.judy_sl.specs.Children.{Child, Free, Tail, Level, is_level, level_child, tail_child, child_with, keys_told, level_of, IsTaken, IsLevelChild}
-use Rattle.judy_sl.specs.World.{level}
-use Rattle.judy_sl.specs.Counted.{LevelTells}
-use Rattle.judy_sl.specs.Arenas.{world_of, node_of, child_at}
+use Rattle.judy_sl.specs.Arenas.{child_at}
 use Rattle.judy_sl.specs.Places.{with_child, place_with}
 use Rattle.judy_sl.specs.Shrunk.{IsVacated}
 use Rattle.judy_sl.proofs.Linked.{CanHold}

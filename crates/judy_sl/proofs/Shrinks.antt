@@ -14,7 +14,6 @@ use Rattle.judy_sl.specs.Pieces.{pieces, piece_of, IsText, ArePieces}
 use Rattle.judy_sl.specs.World.{World, Node, gone, tail, level, lookup, at_entry}
 use Rattle.judy_sl.specs.Worlds.{IsWorld, FitsBehind, AllLed}
 use Rattle.judy_sl.specs.Arenas.{world_of, node_of, child_at, IsArena, HasText, HasLimit}
-use Rattle.judy_sl.specs.Places.{IsLevelPlace}
 use Rattle.judy_sl.specs.Ways.{seat_of, piece_at, left_of}
 use Rattle.judy_sl.specs.Grown.{IsChange}
 use Rattle.judy_sl.specs.Shrunk.{without, child_without, place_without, IsVacated, EntryLone, NodeLone, IsLone, IsCutChild, IsCutWhere, IsLoose, IsLeft, IsCleared, IsShrunk}

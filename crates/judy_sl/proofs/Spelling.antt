@@ -1,6 +1,6 @@
 -- How bytes spell a piece.
-use Rattle.std.proofs.Common.{◌≡◌, ℕ, zero, suc, ◌+◌, ◌*◌, ◌^◌, ◌<◌, ◌≤◌, List, [], ◌∷◌, length, take, get_or, refl, ap, arith}
-use Rattle.std.specs.Int.{from_be_bytes, w64}
+use Rattle.std.proofs.Common.{◌≡◌, ℕ, zero, suc, ◌+◌, ◌*◌, ◌^◌, ◌<◌, List, [], ◌∷◌, get_or, refl, ap, arith}
+use Rattle.judy_records.specs.Texts as words
 use Rattle.judy_sl.specs.Pieces.{spelled}
 use Rattle.std.proofs.Math.Nat.{pow-succ'}
 
@@ -20,26 +20,8 @@ spelled-below (suc width) bytes below =
     let e : 256 ^ suc width ≡ 256 * 256 ^ width = pow-succ' 256 width in
     omega (arith, e, spelled-more width bytes, spelled-below width bytes below, below width)
 
--- Eight bytes that are read at once.
-pub from_be_bytes-spelled : (bytes : List ℕ) → 8 ≤ length bytes → from_be_bytes w64 (take 8 bytes) ≡ spelled 8 bytes
-from_be_bytes-spelled (a ∷ b ∷ c ∷ d ∷ e ∷ f ∷ g ∷ h ∷ rest) enough = omega arith
-from_be_bytes-spelled [] enough = absurd (omega arith)
-from_be_bytes-spelled (a ∷ []) enough = absurd (omega arith)
-from_be_bytes-spelled (a ∷ b ∷ []) enough = absurd (omega arith)
-from_be_bytes-spelled (a ∷ b ∷ c ∷ []) enough = absurd (omega arith)
-from_be_bytes-spelled (a ∷ b ∷ c ∷ d ∷ []) enough = absurd (omega arith)
-from_be_bytes-spelled (a ∷ b ∷ c ∷ d ∷ e ∷ []) enough = absurd (omega arith)
-from_be_bytes-spelled (a ∷ b ∷ c ∷ d ∷ e ∷ f ∷ []) enough = absurd (omega arith)
-from_be_bytes-spelled (a ∷ b ∷ c ∷ d ∷ e ∷ f ∷ g ∷ []) enough = absurd (omega arith)
-
--- Powers below the eighth.
-pub within_seven : (i : ℕ) → i < 8 → 256 ^ i ≤ 256 ^ 7
-within_seven zero h = omega arith
-within_seven (suc zero) h = omega arith
-within_seven (suc (suc zero)) h = omega arith
-within_seven (suc (suc (suc zero))) h = omega arith
-within_seven (suc (suc (suc (suc zero)))) h = omega arith
-within_seven (suc (suc (suc (suc (suc zero))))) h = omega arith
-within_seven (suc (suc (suc (suc (suc (suc zero)))))) h = omega arith
-within_seven (suc (suc (suc (suc (suc (suc (suc zero))))))) h = omega arith
-within_seven (suc (suc (suc (suc (suc (suc (suc (suc i)))))))) h = absurd (omega arith)
+-- What texts in words spell is defined apart (judy_records), and is the same.
+pub same-spelled : (width : ℕ) (bytes : List ℕ) → words.spelled width bytes ≡ spelled width bytes
+same-spelled zero bytes = refl
+same-spelled (suc width) [] = refl
+same-spelled (suc width) (byte ∷ bytes) = ap (λ n. byte * 256 ^ width + n) (same-spelled width bytes)

@@ -1,11 +1,13 @@
 //! Arrays made at once of strings that ascend.
 
-ghost use Rattle.std.specs.Prelude.{◌≡◌, ◌≤◌, IfOk, IfErr, OnOk};
+ghost use Rattle.std.specs.Prelude.{◌≡◌, ◌≤◌, IfOk, IfErr, OnOk, IfSome};
 ghost use Rattle.std.specs.FinMap as finmap;
 ghost use Rattle.std.specs.Option.{option_copied};
+ghost use Rattle.std.specs.Ordering.{is_lt};
 ghost use Rattle.judy_model.specs.Arrays.{with_map};
 ghost use Rattle.judy_model.specs.DumpGrammar.{is_above};
 ghost use Rattle.judy_model.specs.Keys.{byte_order};
+ghost use Rattle.judy_sl.specs.Pieces.{IsText};
 ghost use Rattle.judy_sl.specs.Planted.{followers};
 ghost use Rattle.judy_sl.specs.Sorted.{pairs_in, strings_in, with_pairs, IsSorted, IsFault};
 
@@ -34,13 +36,40 @@ pub enum SlSortedError {
     NoMemory,
 }
 
+// Whether a string is below another one. They are compared piece by piece, and of most the first pieces decide.
+fn is_below(one: &[u8], other: &[u8]) -> bool
+    requires one { IsText one.now }
+    requires other { IsText other.now }
+    ensures { result ≡ is_lt (byte_order one.now other.now) }
+{
+    let mut left = one;
+    let mut right = other;
+    'pieces: loop {
+        let piece = first_piece(left);
+        let beside = first_piece(right);
+        if piece != beside {
+            return piece < beside;
+        }
+        if left.len() <= 8 {
+            return right.len() > 8;
+        }
+        if right.len() <= 8 {
+            return false;
+        }
+        left = &left[8..];
+        right = &right[8..];
+    }
+}
+
 // Whether a string is above the one before it, if there is one.
 fn comes_after(before: Option<&[u8]>, key: &[u8]) -> bool
+    requires before { IfSome (option_copied before) IsText }
+    requires key { IsText key.now }
     ensures { result ≡ is_above byte_order (option_copied before.entry) key.now }
 {
     match before {
         None => true,
-        Some(before) => before.cmp(key).is_lt(),
+        Some(before) => is_below(before, key),
     }
 }
 

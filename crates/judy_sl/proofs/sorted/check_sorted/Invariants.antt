@@ -1,5 +1,6 @@
-use Rattle.std.proofs.Common.{◌≤◌, None}
+use Rattle.std.proofs.Common.{◌≤◌, None, IfSome}
 use Rattle.std.specs.Option.{option_copied}
+use Rattle.judy_sl.specs.Pieces.{IsText}
 use Rattle.judy_sl.specs.Sorted.{strings_in}
 use Rattle.judy_sl.proofs.SortedRuns.{Run}
 use Rattle.judy_sl.proofs.sorted.check_sorted.Given as goal
@@ -8,5 +9,6 @@ use Rattle.judy_sl.proofs.sorted.check_sorted.Given as goal
 abbrev pub invariant-pairs : goal.invariant-pairs
 invariant-pairs l = record {
   within : l.at ≤ l.limit;
+  text : IfSome (option_copied l.last) IsText;
   run : Run None (strings_in l.pairs) l.at (option_copied l.last);
 }
