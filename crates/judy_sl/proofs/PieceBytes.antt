@@ -1,6 +1,7 @@
 -- The bytes of pieces: the pieces of a text spell it.
-use Rattle.std.proofs.Common.{◌≡◌, ◌≢◌, ℕ, zero, suc, ◌+◌, ◌*◌, ◌/◌, ◌%◌, ◌^◌, ◌<◌, cond, nat_lt, inl, inr, List, [], ◌∷◌, ◌++◌, length, take, drop, filter, sym, refl, ap, ◌∙◌, arith, lt-ltb}
+use Rattle.std.proofs.Common.{◌≡◌, ◌≢◌, ◌==◌, Bool, ◌&&◌, not, true, false, ℕ, zero, suc, ◌+◌, ◌*◌, ◌/◌, ◌%◌, ◌^◌, ◌<◌, cond, nat_lt, inl, inr, List, [], ◌∷◌, ◌++◌, length, take, drop, filter, sym, refl, ap, ◌∙◌, arith, lt-ltb}
 use Rattle.std.specs.Int.{to_be_bytes, w64}
+use Rattle.std.specs.List.{list_all}
 use Rattle.std.proofs.Math.Nat.{mod-eq_of_lt}
 use Rattle.std.proofs.lemmas.Nat.{div-mul-add}
 use Rattle.std.proofs.lemmas.List.{length-drop, take_all, take-append-drop, append-nil, append_assoc}
@@ -70,3 +71,18 @@ inner_bytes piece inner = some_length (filter (λ byte. nat_lt 0 byte) (low_byte
 pub piece_bytes-be : (piece : ℕ) → piece_bytes piece ≡ filter (λ byte. nat_lt 0 byte) (to_be_bytes w64 piece)
 unfolding piece_bytes
 piece_bytes-be piece = let lowest : piece / 1 ≡ piece = omega arith in ap (λ low. filter (λ byte. nat_lt 0 byte) (piece / 72057594037927936 % 256 ∷ piece / 281474976710656 % 256 ∷ piece / 1099511627776 % 256 ∷ piece / 4294967296 % 256 ∷ piece / 16777216 % 256 ∷ piece / 65536 % 256 ∷ piece / 256 % 256 ∷ low % 256 ∷ [])) lowest
+
+both-right : (a b : Bool) → (a && b) ≡ true → b ≡ true
+both-right true b are = are
+both-right false b are = cc
+
+-- Where none of its bytes is zero, a piece spells all of them.
+all-kept : (bytes : List ℕ) → list_all (λ byte. not (byte == 0)) bytes ≡ true → filter (λ byte. nat_lt 0 byte) bytes ≡ bytes
+all-kept [] are = refl
+all-kept (zero ∷ bytes) are = cc
+all-kept (suc byte ∷ bytes) are =
+    ap (λ passes. cond passes (suc byte ∷ filter (λ b. nat_lt 0 b) bytes) (filter (λ b. nat_lt 0 b) bytes)) (lt-ltb 0 (suc byte) (omega arith))
+    ∙ ap (λ rest. suc byte ∷ rest) (all-kept bytes (both-right (not (suc byte == 0)) (list_all (λ b. not (b == 0)) bytes) are))
+
+pub whole_bytes : (piece : ℕ) (bytes : List ℕ) → bytes ≡ to_be_bytes w64 piece → list_all (λ byte. not (byte == 0)) bytes ≡ true → piece_bytes piece ≡ bytes
+whole_bytes piece bytes is are = piece_bytes-be piece ∙ ap (filter (λ byte. nat_lt 0 byte)) (sym is) ∙ all-kept bytes are

@@ -18,7 +18,7 @@ pub fn is_key(bytes: &[u8]) -> bool
 }
 
 // Whether no byte is zero. It leaves at no byte, so that many are tested at once.
-fn are_nonzero(bytes: &[u8]) -> bool
+pub fn are_nonzero(bytes: &[u8]) -> bool
     ensures { result ≡ list_all (λ byte. not (byte == 0)) bytes.now }
 {
     let mut are = true;

@@ -3,7 +3,7 @@
 ghost use Rattle.std.specs.Prelude.{◌≡◌, ◌↔◌, ◌+◌, ◌≤◌, ◌++◌, IsFalse, length};
 ghost use Rattle.judy_sl.specs.Pieces.{piece_of, piece_bytes, EndsWell};
 
-use crate::keys::KeyBuf;
+use crate::keys::{KeyBuf, are_nonzero};
 use judy_records::first_word;
 
 // The piece with which the bytes begin: the first eight, the first of them the highest, zeros where bytes are missing.
@@ -13,8 +13,23 @@ pub fn first_piece(bytes: &[u8]) -> u64
     first_word(bytes)
 }
 
-// Puts the bytes of a piece behind those of the buffer: the ones that aren't zero.
+// Puts the bytes of a piece behind those of the buffer: the ones that aren't zero. Mostly none is, and then all eight are put there at once.
 pub fn push_piece(key: &mut KeyBuf, piece: u64)
+    requires { length key.old.items + length (piece_bytes piece) ≤ 1024 }
+    ensures { key.new.items ≡ key.old.items ++ piece_bytes piece }
+{
+    let bytes = piece.to_be_bytes();
+    if are_nonzero(&bytes) {
+        match key.try_extend_from_slice(&bytes) {
+            Ok(_) => return,
+            Err(_) => unreachable!(),
+        }
+    }
+    push_each(key, piece);
+}
+
+// The same byte by byte.
+fn push_each(key: &mut KeyBuf, piece: u64)
     requires { length key.old.items + length (piece_bytes piece) ≤ 1024 }
     ensures { key.new.items ≡ key.old.items ++ piece_bytes piece }
 {
