@@ -3,6 +3,7 @@
 from __future__ import annotations
 
 from collections.abc import Iterable, Iterator
+from operator import index as whole
 from typing import Any
 
 from . import _core, _views
@@ -88,16 +89,17 @@ class _Ordered(PlacedDict, Copied, _Strings):
         return (key for key in keys if key not in out) if out else keys
 
     def _at(self, place: Any) -> Any:
+        if isinstance(place, slice):
+            places = range(*place.indices(len(self)))
+            if not places or abs(places.step) > 1:
+                return [self._key_at(each) for each in places]
+            return list(self.irange(self._key_at(min(places)), self._key_at(max(places)), reverse=places.step < 0))
+        place = whole(place)
         if place in (0, -1):
             # No key is counted for these.
             for key in self if place == 0 else reversed(self):
                 return key
-        if not isinstance(place, slice):
-            return self._key_at(place)
-        places = range(*place.indices(len(self)))
-        if not places or abs(places.step) > 1:
-            return [self._key_at(each) for each in places]
-        return list(self.irange(self._key_at(min(places)), self._key_at(max(places)), reverse=places.step < 0))
+        return self._key_at(place)
 
 
 class JudySL(_core.TextMap, _Text, _Ordered):

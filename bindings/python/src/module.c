@@ -1,6 +1,15 @@
 /* The module `sellumaq._native`: the types that the package's own stand on. */
 #include "native.h"
 
+Module *state_of(PyTypeObject *type)
+{
+    Module *state = PyType_GetModuleState(type);
+    if (state && state->word_cursor && state->string_cursor)
+        return state;
+    PyErr_SetString(PyExc_RuntimeError, "the module sellumaq._native is gone");
+    return NULL;
+}
+
 static int begin_module(PyObject *module)
 {
     return add_word_cursor(module) < 0 || add_string_cursor(module) < 0 || add_words(module) < 0 || add_strings(module) < 0 ? -1 : 0;

@@ -40,6 +40,12 @@ typedef struct {
     PyTypeObject *string_cursor;
 } Module;
 
+/* module.c */
+
+/* The state of a type's module; NULL with an error set where a collection of garbage has taken that away, which may be before it frees the
+ * last method of the type. */
+Module *state_of(PyTypeObject *type);
+
 /* convert.c */
 
 /* Where a whole number lies beside the words. */

@@ -248,8 +248,8 @@ static PyObject *cursor(PyObject *self, PyTypeObject *defining, PyObject *const 
         PyErr_SetString(PyExc_ValueError, "no such part");
         return NULL;
     }
-    Module *state = PyType_GetModuleState(defining);
-    return new_string_cursor(state->string_cursor, (Strings *)self, (enum part)part, bounds[0], bounds[1], reverse);
+    Module *state = state_of(defining);
+    return !state ? NULL : new_string_cursor(state->string_cursor, (Strings *)self, (enum part)part, bounds[0], bounds[1], reverse);
 }
 
 /* How many keys there are below a string, or up to it. */

@@ -252,8 +252,8 @@ static PyObject *cursor(PyObject *self, PyTypeObject *defining, PyObject *const 
         PyErr_SetString(PyExc_ValueError, "no such part");
         return NULL;
     }
-    Module *state = PyType_GetModuleState(defining);
-    return new_word_cursor(state->word_cursor, (Words *)self, (enum part)part, low, high, reverse);
+    Module *state = state_of(defining);
+    return !state ? NULL : new_word_cursor(state->word_cursor, (Words *)self, (enum part)part, low, high, reverse);
 }
 
 #define SOME ">>> from sellumaq import Judy1\n>>> some = Judy1([10, 20, 30])\n"

@@ -84,6 +84,14 @@ class Words(unittest.TestCase):
         with self.assertRaises(IndexError):
             array.nth(len(plain))
 
+    def test_a_place_is_a_whole_number(self):
+        for array in (JudyL({1: 2}), JudySL(a=1), JudySLBytes({b"a": 1})):
+            for place in (0.0, -1.0, 5.0, "a", None):
+                self.assertRaises(TypeError, lambda: array.keys()[place])
+                self.assertRaises(TypeError, array.peekitem, place)
+            self.assertEqual(array.keys()[False], next(iter(array)))
+            self.assertRaises(IndexError, lambda: array.keys()[True])
+
     def test_a_copy_is_another_array(self):
         for array in (Judy1({5}), JudyL({5: 6}), JudySL(five=6), JudyHS(five=6)):
             for other in (array.copy(), copy.copy(array), copy.deepcopy(array)):

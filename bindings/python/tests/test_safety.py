@@ -247,6 +247,35 @@ class ReEntry(unittest.TestCase):
         self.assertEqual(array == dict.fromkeys(range(1000), Clears()), True)
         self.assertEqual(len(array), 0)
 
+    @unittest.skipUnless(BINDING == "extension", "ctypes has no module whose state is taken away")
+    def test_a_walk_that_begins_while_the_module_is_taken_away(self):
+        # A collection of garbage takes the module's state first, then frees the function, whose code's end is told; the method is still there.
+        program = (
+            "import gc, sys, weakref\n"
+            "told = []\n"
+            "def walk(_):\n"
+            "    for each in gc.get_objects():\n"
+            "        if type(each).__name__ == 'builtin_method' and each.__name__ == '_cursor':\n"
+            "            try: each(0, *bounds, False)\n"
+            "            except RuntimeError as error: told.append(str(error))\n"
+            "def make(kind):\n"
+            "    import sellumaq\n"
+            "    gc.collect()\n"
+            "    array = getattr(sellumaq, kind)()\n"
+            "    exec('def function(): pass', globals(), made := {})\n"
+            "    held = [(array._cursor,), made['function']]\n"
+            "    held.append(held)\n"
+            "    for name in [name for name in sys.modules if name.startswith('sellumaq')]:\n"
+            "        del sys.modules[name]\n"
+            "    return weakref.ref(made['function'].__code__, walk)\n"
+            "for kind, bounds in (('Judy1', (0, 5)), ('JudyL', (0, 5)), ('JudySL', (None, None))):\n"
+            "    kept = make(kind)\n"
+            "    gc.collect()\n"
+            "print(len(told), set(told))\n"
+        )
+        ran = subprocess.run([sys.executable, "-c", program], stdout=subprocess.PIPE, encoding="utf-8", timeout=60)
+        self.assertEqual((ran.returncode, ran.stdout), (0, "3 {'the module sellumaq._native is gone'}\n"))
+
     def test_an_interrupted_program_ends_by_its_interrupt(self):
         program = (
             "import _thread, signal, threading, sellumaq\n"
