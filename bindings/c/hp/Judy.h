@@ -164,13 +164,15 @@ extern const char *JudyLMallocSizes;
 /* Sets a variable of the program's that it needn't read: no compiler calls it unused. */
 #define SELLUMAQ_J_SET(variable, value) ((void)(((variable) = (value)) ? 1 : 0))
 
-/* A slot is a pointer of any type to the program. */
+/* A slot is a pointer of any type to the program, which may include this header within its own `extern "C"`. */
 #ifdef __cplusplus
+extern "C++" {
 struct sellumaq_j_pointer {
     void *at;
     template <class Type> operator Type *() const { return static_cast<Type *>(at); }
 };
 static inline sellumaq_j_pointer sellumaq_j_pointed(PPvoid_t slot) { sellumaq_j_pointer pointer = {slot}; return pointer; }
+}
 #define SELLUMAQ_J_POINTER(slot) sellumaq_j_pointed(slot)
 #else
 #define SELLUMAQ_J_POINTER(slot) ((Pvoid_t)(slot))

@@ -1,11 +1,17 @@
-/* Includes both headers as programs of any C and C++ do, and uses each form of a short form. */
+/* Includes both headers as programs of any C and C++ do, those too that wrap all headers of C, and uses each form of a short form. */
 #ifdef OWN
 static void told(const char *name, int number);
 #define JUDYERROR(file, line, name, number, place) { told(name, (int)(number)); (void)(file); (void)(line); (void)(place); }
 #endif
 
+#if defined WRAPPED && defined __cplusplus
+extern "C" {
+#endif
 #include <Judy.h>
 #include <sellumaq.h>
+#if defined WRAPPED && defined __cplusplus
+}
+#endif
 
 #ifdef OWN
 static void told(const char *name, int number) { fprintf(stderr, "%s: %d\n", name, number); }
