@@ -70,11 +70,18 @@ pub value-there : {value : ℕ} {found : Option ℕ} → Some value ≡ found �
 value-there some = ap is_some (sym some)
 
 -- Two loans that may be none are equal where they end alike for each value that may be left.
-pub lent_if : {D : Type 0} (result : Option (MutBor ℕ)) (first second : ℕ → D) (none : D) → ((before : ℕ) → option_copied_mut result ≡ Some before → (left : ℕ) → first left ≡ second left) → read_of (ghost_name_of result) first none ≡ read_of (ghost_name_of result) second none
+lent_if : {D : Type 0} (result : Option (MutBor ℕ)) (first second : ℕ → D) (none : D) → ((before : ℕ) → option_copied_mut result ≡ Some before → (left : ℕ) → first left ≡ second left) → read_of (ghost_name_of result) first none ≡ read_of (ghost_name_of result) second none
 lent_if None first second none same = refl
 lent_if (Some slot) first second none same = λ t. read_of (ghost_name_of (Some slot)) (λ left. same slot.now refl left t) none
 
 -- A key that was found, and has a value, is there.
-pub found_there : (map : FinMap word_order ℕ) (found : Option ℕ) (other key value : ℕ) → key ≡ unwrap_or found other → option_and_then (get map) found ≡ Some value → contains_key map key ≡ true
+found_there : (map : FinMap word_order ℕ) (found : Option ℕ) (other key value : ℕ) → key ≡ unwrap_or found other → option_and_then (get map) found ≡ Some value → contains_key map key ≡ true
 found_there map None other key value same is = cc
 found_there map (Some at) other key value same is = ap is_some (ap (get map) same ∙ is)
+
+-- The slot of a key that was found lends the array as it lends the tree.
+pub lent_slot : (array : Held) (is : IsHeld 1 array) (result : Option (MutBor ℕ)) (found : Option ℕ) (other key : ℕ)
+    → key ≡ unwrap_or found other → option_copied_mut result ≡ option_and_then (get (map_in array)) found
+    → read_of (ghost_name_of result) (λ left. seen_as (held.with_value array key left)) (seen_as array) ≡ read_of (ghost_name_of result) (with_value (seen_as array) key) (seen_as array)
+lent_slot array is result found other key is_key is_value =
+    lent_if result _ _ _ (λ before some. array-written array is key (found_there (map_in array) found other key before is_key (sym is_value ∙ some)))

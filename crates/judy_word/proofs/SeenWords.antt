@@ -1,5 +1,5 @@
 -- What an array keeps that was read from key to key.
-use Rattle.std.proofs.Common.{◌≡◌, ℕ, ◌-◌, ◌^◌, ◌<◌, ◌≤◌, Bool, true, false, ◌&&◌, Option, Some, None, is_some, sym, ap, subst, ◌∙◌, ⊎_elim, arith, true≢false, lt-ltb, le-leb}
+use Rattle.std.proofs.Common.{◌≡◌, ℕ, ◌-◌, ◌^◌, ◌<◌, ◌≤◌, Bool, true, false, Option, Some, None, is_some, sym, ap, subst, ◌∙◌, ⊎_elim, arith, true≢false, lt-ltb, le-leb}
 use Rattle.std.specs.Cmp.{nat_cmp_total}
 use Rattle.std.specs.FinMap.{FinMap, get, contains_key, len, nat_cmp-IsAntisymmetric}
 use Rattle.std.proofs.lemmas.Bool.{cases_lt, ltb-true}
@@ -10,6 +10,7 @@ use Rattle.judy_model.specs.Neighbours.{first, next}
 use Rattle.judy_model.proofs.NearestLemmas.{first-IsFirst, next-IsNext}
 use Rattle.judy_model.proofs.KeptLemmas.{holds-IsArrayOf}
 use Rattle.judy_model.proofs.WordOrder.{is_ge_word, is_gt_word, le_from_word}
+use Rattle.judy_model.proofs.Tests.{both_true, second_true}
 
 -- the keys below the one that comes next, or all of them, were read as words, and their values
 abbrev pub Seen : FinMap word_order ℕ → Option ℕ → Type 0
@@ -21,14 +22,6 @@ abbrev pub left_from : Option ℕ → ℕ
 left_from None = 0
 left_from (Some key) = 2 ^ 64 - key
 
-both : (a b : Bool) → a ≡ true → b ≡ true → (a && b) ≡ true
-both true b h k = k
-both false b h k = h
-
-second : (a b : Bool) → (a && b) ≡ true → b ≡ true
-second true b h = h
-second false b h = cc
-
 never : {A : Type 0} (test : Bool) → test ≡ true → test ≡ false → A
 never test so not = absurd (true≢false (sym so ∙ not))
 
@@ -38,9 +31,9 @@ module _ (map : FinMap word_order ℕ) where
 
   -- nothing is before the first key
   start_by : (found : Option ℕ) → IsFirst word_order (contains_key map) 0 found → Seen map found
-  start_by None none = λ key value is. never _ (both _ _ (held key value is) (is_ge_word key 0 ∙ le-leb 0 key (omega arith))) (none key)
+  start_by None none = λ key value is. never _ (both_true _ _ (held key value is) (is_ge_word key 0 ∙ le-leb 0 key (omega arith))) (none key)
   start_by (Some following) least = λ key value below is.
-      let above = le_from_word following key (least.1 key (both _ _ (held key value is) (is_ge_word key 0 ∙ le-leb 0 key (omega arith)))) in
+      let above = le_from_word following key (least.1 key (both_true _ _ (held key value is) (is_ge_word key 0 ∙ le-leb 0 key (omega arith)))) in
       absurd (omega arith)
 
   pub Seen-start : Seen map (first map 0)
@@ -56,14 +49,14 @@ module _ (map : FinMap word_order ℕ) where
     step_by None none = λ other found is. ⊎_elim
         (λ below. seen other found below is)
         (λ above. ⊎_elim
-        (λ beyond. never _ (both _ _ (held other found is) (is_gt_word other key ∙ lt-ltb key other beyond)) (none other))
+        (λ beyond. never _ (both_true _ _ (held other found is) (is_gt_word other key ∙ lt-ltb key other beyond)) (none other))
         (λ at_most. here other found (omega arith) is)
         (cases_lt key other))
         (cases_lt other key)
     step_by (Some following) least = λ other found short is. ⊎_elim
         (λ below. seen other found below is)
         (λ above. ⊎_elim
-        (λ beyond. let past = le_from_word following other (least.1 other (both _ _ (held other found is) (is_gt_word other key ∙ lt-ltb key other beyond))) in absurd (omega arith))
+        (λ beyond. let past = le_from_word following other (least.1 other (both_true _ _ (held other found is) (is_gt_word other key ∙ lt-ltb key other beyond))) in absurd (omega arith))
         (λ at_most. here other found (omega arith) is)
         (cases_lt key other))
         (cases_lt other key)
@@ -74,7 +67,7 @@ module _ (map : FinMap word_order ℕ) where
   falls_by : (key : ℕ) → IsWord key → (following : Option ℕ) → IsNext word_order (contains_key map) key following → left_from following < 2 ^ 64 - key
   falls_by key small None none = omega arith
   falls_by key small (Some following) least =
-      let above = ltb-true key following (sym (is_gt_word following key) ∙ second (contains_key map following) _ least.0) in omega arith
+      let above = ltb-true key following (sym (is_gt_word following key) ∙ second_true (contains_key map following) _ least.0) in omega arith
 
   -- the next key is nearer to the end
   pub falls : (key : ℕ) → IsWord key → left_from (next map key) < 2 ^ 64 - key

@@ -1,11 +1,11 @@
-use Rattle.std.proofs.Common.{ap, sym, is_some, ◌∙◌}
-use Rattle.judy_word.proofs.ArrayFacts.{array-written, lent_if}
+use Rattle.std.proofs.Common.{Some, refl}
+use Rattle.judy_word.proofs.ArrayFacts.{lent_slot}
 use Rattle.judy_word.proofs.judyl.JudyL.slot.Goals as goal
 
 pub returns : goal.returns
 returns c =
     rw (← c.self.view_is) (
-      lent_if c.slot.result _ _ _ (λ before is. array-written c.self.inside.tree c.told.ensures c.args.i (ap is_some (sym c.slot.ensures.value ∙ is))),
+      lent_slot c.self.inside.tree c.told.ensures c.slot.result (Some c.args.i) 0 c.args.i refl c.slot.ensures.value,
       record {
         writes_back = tt;
         value = c.slot.ensures.value;
