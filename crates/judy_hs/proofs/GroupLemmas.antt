@@ -182,3 +182,11 @@ module _ (places : List GroupPlace) (free : ℕ) (lost : NoneLost (links_of plac
     groups-tried (Added inside) part key new some added same = groups-set some new (λ gone. key-some (group_of held) part key inside some (sym added ∙ gone))
     groups-tried Refused part key new some added same = subst (λ (one : GroupPlace). NoneLost (links_of (set places at one)) free) (sym same) groups-back
     groups-tried Open part key new some added same = subst (λ (one : GroupPlace). NoneLost (links_of (set places at one)) free) (sym same) groups-back
+
+-- Where a key was tried in a group that can take it, the places are what they were, but for that group.
+pub groups-added : {E : Type 0} (lengths : ArrayOf word_order) (places : List GroupPlace) (free : ℕ) (lost : NoneLost (links_of places) free) (at : ℕ) (found : GroupPlace) → found ≡ get_or places at found → (part : ℕ) (key : List ℕ) → CanTakeKey (get_or (groups_of places) at none) part
+    → (result : Result Inside E) (new : GroupPlace) → IfOk result (λ inside. group_of new ≡ group_with_key (group_of found) part key inside) → OnErr result (group_of new ≡ group_of found) → NoneLost (links_of (set places at new)) free
+groups-added lengths places free lost at found read part key can result new added unchanged =
+    let held = held-is lengths places at found (used-within places at part can) read in
+    let some : group_of found ≢ none = (λ gone. can-some _ part can (sym held ∙ gone)) in
+    groups-set places free lost at found read some new (added-some result part key _ _ added unchanged some)

@@ -1,5 +1,5 @@
 -- The list of one group: its keys by their bytes, each with its value.
-use Rattle.std.proofs.Common.{◌≡◌, ℕ, zero, suc, ◌/◌, ◌*◌, ◌+◌, ◌%◌, ◌^◌, ◌<◌, Bool, true, false, ◌&&◌, T, List, [], ◌∷◌, map, length, Option, Some, None, refl, sym, ap, subst, ◌∙◌, inl, inr, arith, ⊎_elim}
+use Rattle.std.proofs.Common.{◌≡◌, ℕ, zero, suc, ◌/◌, ◌*◌, ◌+◌, ◌%◌, ◌^◌, ◌<◌, T, List, [], ◌∷◌, map, length, Option, Some, None, refl, sym, ap, subst, ◌∙◌, inl, inr, arith, ⊎_elim}
 use Rattle.std.specs.Ordering.{is_lt}
 use Rattle.std.specs.List.{AllByRecursion}
 use Rattle.std.specs.Cmp.{nat_cmp_total}
@@ -12,6 +12,7 @@ use Rattle.judy_model.specs.Keys.{word_order, byte_order, IsByteString}
 use Rattle.judy_model.specs.WordBytes.{low_bytes, number_of}
 use Rattle.judy_model.specs.Arrays.{ArrayOf}
 use Rattle.judy_model.proofs.ByteLemmas.{length-low_bytes, number_of-low_bytes, low_bytes-number_of, order-low_bytes}
+use Rattle.judy_model.proofs.Tests.{left_of, right_of, both}
 use Rattle.judy_hs.specs.Chains.{Pairs, value_in, AreApart}
 use Rattle.judy_hs.specs.LongGroups.{Long, chain_at, in_long, in_chain}
 use Rattle.judy_hs.specs.Groups.{Group, none, short, long, in_group}
@@ -32,18 +33,6 @@ pub record IsListed (hash_of : List ℕ → ℕ) (key_length : ℕ) (group : Gro
   pub answers : (key : List ℕ) → IsByteString key → length key ≡ key_length → value_in pairs key ≡ in_group group (part_of hash_of key) key
 
 -- ---- short keys
-
-left_of : (a b : Bool) → T (a && b) → T a
-left_of true b h = tt
-left_of false b h = h
-
-right_of : (a b : Bool) → T (a && b) → T b
-right_of true b h = h
-right_of false b h = absurd h
-
-both : (a b : Bool) → T a → T b → T (a && b)
-both true b h k = k
-both false b h k = absurd h
 
 mod_small : (word unit : ℕ) → word < unit → word % unit ≡ word
 mod_small word unit below = let same : 0 * unit + word ≡ word = omega arith in ap (λ n. n % unit) (sym same) ∙ mod-mul-add 0 unit word below

@@ -1,6 +1,6 @@
 -- Sorted entries: what a sort of the last ones of a list leaves, and that what it makes of keys that differ is the list of
 -- a map.
-use Rattle.std.proofs.Common.{◌≡◌, ℕ, ◌+◌, ◌-◌, ◌≤◌, Bool, true, false, cond, ◌&&◌, T, List, [], ◌∷◌, ◌++◌, map, length, get_or, take, drop, Option, Some, None, Less, Equal, Greater, bytes_eq, refl, sym, ap, subst, ◌∙◌, inl, inr, arith, true≢false}
+use Rattle.std.proofs.Common.{◌≡◌, ℕ, ◌+◌, ◌-◌, ◌≤◌, false, cond, T, List, [], ◌∷◌, ◌++◌, map, length, get_or, take, drop, Option, Some, None, Less, Equal, Greater, bytes_eq, refl, sym, ap, subst, ◌∙◌, inl, inr, arith, true≢false}
 use Rattle.std.specs.declared.cmp.Ordering.{Ordering}
 use Rattle.std.specs.Ordering.{is_lt, is_eq, eq_by_cmp}
 use Rattle.std.specs.List.{AllByRecursion, IsDistinct}
@@ -19,6 +19,7 @@ use Rattle.judy_model.proofs.MadeMaps.{entries-made}
 use Rattle.judy_model.proofs.Orders.{same_from_tie}
 use Rattle.judy_model.proofs.Pairs.{turned_Greater}
 use Rattle.judy_model.proofs.TableLemmas.{byte_order_total, byte_order_same}
+use Rattle.judy_model.proofs.Tests.{both}
 use Rattle.judy_hs.specs.Chains.{Pairs, value_in, AreApart}
 use Rattle.judy_hs.specs.Listed.{key_bytes, entries_in, is_before}
 use Rattle.judy_hs.specs.declared.entry.HsEntry.{HsEntry}
@@ -26,10 +27,6 @@ use Rattle.judy_hs.proofs.ChainLemmas.{bytes_cases, bytes_apart, bytes_itself, v
 use borrow.Rule.Slice.PartMut.{put_mid, post_of}
 
 -- ---- tests and options
-
-both : (a b : Bool) → T a → T b → T (a && b)
-both true b h k = k
-both false b h k = absurd h
 
 some_is : (left right : ℕ) → ◌≡◌ {A = Option ℕ} (Some left) (Some right) → left ≡ right
 some_is left right e = cc
