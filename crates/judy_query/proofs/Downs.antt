@@ -379,39 +379,36 @@ down_top words view is =
 
 -- ---- the way to the child at a place
 
+-- The child at a place stands at a byte, and its keys fit those of the branch.
+start_told : (words width : ℕ) (skipped bytes : List ℕ) (kids : List Tree) (count place start : ℕ) → IsBranch words width skipped bytes kids count → place < length kids
+    → (from : IsStart (256 ^ width) (number_of skipped * 256) bytes place start) → (from.0 < 256) × (start + 256 ^ width ≤ 256 ^ (length skipped + 1 + width))
+start_told words width skipped bytes kids count place start is inside from =
+    let byte = from.0 in
+    let block = number_of skipped * 256 in
+    let unit = 256 ^ width in
+    let default : Tree = record { width = 0; pairs = []; form = [] } in
+    let split = split-at words width 0 block bytes kids byte place (get_or kids place default) (omega arith) is.parts.children from.1 (slice_get-get_or kids place default inside) in
+    let small = split.high_byte in
+    let room = blocks_within skipped width is.parts.skipped_bytes in
+    let next = next_unit block byte unit in
+    let last : (block + (byte + 1)) * unit ≤ (block + 256) * unit = mul-le (block + (byte + 1)) unit (block + 256) unit (omega arith) (omega arith) in
+    let is_start = from.2 in
+    (small, omega arith)
+
 -- The first key of the child at a place steps to it.
 pub start_steps : (words width : ℕ) (skipped bytes : List ℕ) (kids : List Tree) (count place start : ℕ) → IsBranch words width skipped bytes kids count → place < length kids
     → (from : IsStart (256 ^ width) (number_of skipped * 256) bytes place start)
     → IsStep (256 ^ width) (number_of skipped * 256) bytes start (Child from.0 place 0) × (start < 256 ^ (length skipped + 1 + width))
 start_steps words width skipped bytes kids count place start is inside from =
-    let byte = from.0 in
-    let block = number_of skipped * 256 in
-    let unit = 256 ^ width in
-    let default : Tree = record { width = 0; pairs = []; form = [] } in
-    let split = split-at words width 0 block bytes kids byte place (get_or kids place default) (omega arith) is.parts.children from.1 (slice_get-get_or kids place default inside) in
-    let small = split.high_byte in
+    let told = start_told words width skipped bytes kids count place start is inside from in
     let some = unit_pos width in
-    let room = blocks_within skipped width is.parts.skipped_bytes in
-    let next = next_unit block byte unit in
-    let last : (block + (byte + 1)) * unit ≤ (block + 256) * unit = mul-le (block + (byte + 1)) unit (block + 256) unit (omega arith) (omega arith) in
     let is_start = from.2 in
-    ((record { byte_is = small; rest_is = some; key_is = omega arith }, from.1), omega arith)
+    ((record { byte_is = told.0; rest_is = some; key_is = omega arith }, from.1), omega (arith, told.1))
 
 -- The keys of the child at a place fit those of the branch.
 pub start_room : (words width : ℕ) (skipped bytes : List ℕ) (kids : List Tree) (count place start : ℕ) → IsBranch words width skipped bytes kids count → place < length kids
     → IsStart (256 ^ width) (number_of skipped * 256) bytes place start → start + 256 ^ width ≤ 256 ^ (length skipped + 1 + width)
-start_room words width skipped bytes kids count place start is inside from =
-    let byte = from.0 in
-    let block = number_of skipped * 256 in
-    let unit = 256 ^ width in
-    let default : Tree = record { width = 0; pairs = []; form = [] } in
-    let split = split-at words width 0 block bytes kids byte place (get_or kids place default) (omega arith) is.parts.children from.1 (slice_get-get_or kids place default inside) in
-    let small = split.high_byte in
-    let room = blocks_within skipped width is.parts.skipped_bytes in
-    let next = next_unit block byte unit in
-    let last : (block + (byte + 1)) * unit ≤ (block + 256) * unit = mul-le (block + (byte + 1)) unit (block + 256) unit (omega arith) (omega arith) in
-    let is_start = from.2 in
-    omega arith
+start_room words width skipped bytes kids count place start is inside from = (start_told words width skipped bytes kids count place start is inside from).1
 
 module _ {V : _} (words : ℕ) (tree : Pairs) (b : _) (base : ℕ) (down : IsDown {V = V} words tree (Branch b) base 0) (place start : ℕ) (inside : place < length b.now.children.items)
     (from : IsStart (256 ^ b.now.width) (number_of b.now.skip * 256) b.now.bytes place start) where

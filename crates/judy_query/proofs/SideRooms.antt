@@ -82,9 +82,14 @@ at_key V Down words all key top small absent = (omega arith, run-none all (key +
 
 module _ {V : _} (words : ℕ) (tree : Pairs) (view : ViewOf V) (key left : ℕ) (down : IsDown words tree view key left) where
   -- What a node without children tells.
-  pub down_at : (side : Side) (word : ℕ) → IsAbsent side (view_pairs view) (low_of side left) (high_of side left (256 ^ width_of view)) (Some word) → IsAbsent side tree (low_of side key) (high_of side key (2 ^ 64)) (Some (key - left + word))
+  down_at : (side : Side) (word : ℕ) → IsAbsent side (view_pairs view) (low_of side left) (high_of side left (256 ^ width_of view)) (Some word) → IsAbsent side tree (low_of side key) (high_of side key (2 ^ 64)) (Some (key - left + word))
   down_at Up word told = down_word words tree view key left down word told
   down_at Down word told = down_last words tree view key left down word told
+
+  -- As it was searched, with its width.
+  pub down_told : (side : Side) (word : ℕ) {wide : ℕ} {found : Option ℕ} → wide ≡ width_of view → found ≡ Some word → IsAbsent side (view_pairs view) (low_of side left) (high_of side left (256 ^ wide)) found → IsAbsent side tree (low_of side key) (high_of side key (2 ^ 64)) (Some (key - left + word))
+  down_told side word {wide} {found} same is told =
+      down_at side word (subst (IsAbsent side (view_pairs view) (low_of side left) (high_of side left (256 ^ width_of view))) is (subst (λ w. IsAbsent side (view_pairs view) (low_of side left) (high_of side left (256 ^ w)) found) same told))
 
   pub down_past : (side : Side) (room : Room V) → IsAbsent side (view_pairs view) (low_of side left) (high_of side left (256 ^ width_of view)) None
       → IsRoomPast side words tree 0 (2 ^ 64) (key - left) (256 ^ width_of view) room → IsRoom side words tree (low_of side key) (high_of side key (2 ^ 64)) room

@@ -4,16 +4,10 @@ use Rattle.judy_leaf.proofs.NextBits.{next_word, word_behind, bit_inside, next_t
 use Rattle.judy_leaf.proofs.next_bits.take_next.Goals as goal
 
 pub overflow_add-word : goal.overflow_add-word
-overflow_add-word c =
-    let is = c.loop-left.invariant c.requires.some.0 c.requires.some.1 in
-    let inside = is.inside in
-    omega arith
+overflow_add-word c = omega (arith, (c.loop-left.invariant c.requires.some.0 c.requires.some.1).inside)
 
 pub offset_bounds-words-word : goal.offset_bounds-words-word
-offset_bounds-words-word c =
-    let is = c.loop-left.invariant c.requires.some.0 c.requires.some.1 in
-    let inside = is.inside in
-    omega arith
+offset_bounds-words-word c = omega (arith, (c.loop-left.invariant c.requires.some.0 c.requires.some.1).inside)
 
 pub bounds-words-word : goal.bounds-words-word
 bounds-words-word c =
@@ -24,10 +18,7 @@ bounds-words-word c =
     omega arith
 
 pub loop-left-smaller : goal.loop-left-smaller
-loop-left-smaller c =
-    let is = c.loop-left.invariant c.requires.some.0 c.requires.some.1 in
-    let inside = is.inside in
-    omega arith
+loop-left-smaller c = omega (arith, (c.loop-left.invariant c.requires.some.0 c.requires.some.1).inside)
 
 pub loop-left-preserved : goal.loop-left-preserved
 loop-left-preserved c =
@@ -37,10 +28,7 @@ loop-left-preserved c =
     λ byte all. next_word words c.loop-left.word c.loop-left.left byte (c.loop-left.invariant byte all) c.loop-left-test.true more (c.type_inv.words (c.loop-left.word + 1)).fits
 
 pub overflow_mul-result : goal.overflow_mul-result
-overflow_mul-result c =
-    let is = c.loop-left.invariant c.requires.some.0 c.requires.some.1 in
-    let inside = is.inside in
-    omega arith
+overflow_mul-result c = omega (arith, (c.loop-left.invariant c.requires.some.0 c.requires.some.1).inside)
 
 pub overflow_add-result : goal.overflow_add-result
 overflow_add-result c =

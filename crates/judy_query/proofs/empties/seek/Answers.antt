@@ -6,7 +6,7 @@ use Rattle.judy_query.specs.Rooms.{IsAbsent, IsRoomPast, low_of, high_of}
 use Rattle.judy_query.proofs.Downs.{down_branch, down_root, down_child, child_inside, child_is, beside_is, view_width}
 use Rattle.judy_query.proofs.BranchRooms.{beside_absent, not_full, all_full}
 use Rattle.judy_query.proofs.RoomSteps.{down_absent, child_room}
-use Rattle.judy_query.proofs.SideRooms.{high_within, absent_below, room_at, past_all, at_key, down_at, down_past, room_passed, full_past}
+use Rattle.judy_query.proofs.SideRooms.{high_within, absent_below, room_at, past_all, at_key, down_told, down_past, room_passed, full_past}
 use Rattle.judy_query.proofs.empties.seek.Goals as goal
 
 pub down-init : goal.down-init
@@ -93,29 +93,21 @@ down-preserved g c =
 
 pub overflow_add-result : goal.overflow_add-result
 overflow_add-result g c =
-    let words = g.V.Words.WORDS in
     let all = c.args.tree.now.pairs in
     let key = c.args.key in
-    let left = c.down.left in
     let side = c.args.side in
-    let view = c.down.view in
-    let told = subst (λ w. IsAbsent side (view_pairs view) (low_of side left) (high_of side left (256 ^ w)) c.absent.result) c.down.invariant.1 c.absent.ensures in
-    let word = down_at words all view key left c.down.invariant.0 side c.in-Some.word (subst (IsAbsent side (view_pairs view) (low_of side left) (high_of side left (256 ^ width_of view))) c.in-Some.is told) in
-    omega (arith, absent_below side all (low_of side key) (high_of side key (2 ^ 64)) (key - left + c.in-Some.word) word, high_within side key (2 ^ 64) (omega (arith, c.ranges.key)))
+    let word = down_told g.V.Words.WORDS all c.down.view key c.down.left c.down.invariant.0 side c.in-Some.word c.down.invariant.1 c.in-Some.is c.absent.ensures in
+    omega (arith, absent_below side all (low_of side key) (high_of side key (2 ^ 64)) (key - c.down.left + c.in-Some.word) word, high_within side key (2 ^ 64) (omega (arith, c.ranges.key)))
 
 pub returns-in-Some : goal.returns-in-Some
 returns-in-Some g c =
-    let words = g.V.Words.WORDS in
     let all = c.args.tree.now.pairs in
     let key = c.args.key in
-    let left = c.down.left in
     let side = c.args.side in
-    let view = c.down.view in
-    let told = subst (λ w. IsAbsent side (view_pairs view) (low_of side left) (high_of side left (256 ^ w)) c.absent.result) c.down.invariant.1 c.absent.ensures in
-    let word = down_at words all view key left c.down.invariant.0 side c.in-Some.word (subst (IsAbsent side (view_pairs view) (low_of side left) (high_of side left (256 ^ width_of view))) c.in-Some.is told) in
+    let word = down_told g.V.Words.WORDS all c.down.view key c.down.left c.down.invariant.0 side c.in-Some.word c.down.invariant.1 c.in-Some.is c.absent.ensures in
     let some = c.down.invariant.0.shown.some in
     record {
-      room = room_at _ side words all (low_of side key) (high_of side key (2 ^ 64)) (key - left + c.in-Some.word) word;
+      room = room_at _ side g.V.Words.WORDS all (low_of side key) (high_of side key (2 ^ 64)) (key - c.down.left + c.in-Some.word) word;
       no_fewer = omega (arith, c.down.invariant.4, c.enter_root-view.ensures.visits);
       visits = omega (arith, c.down.invariant.3, c.enter_root-view.ensures.visits);
     }

@@ -7,10 +7,8 @@ pub overflow_add-base : goal.overflow_add-base
 overflow_add-base g c =
     let inside = c.loop-place-test.true in
     let room = c.requires.inside in
-    let fits = c.requires.fits in
     let below = key_below (256 ^ c.args.self.now.width) c.args.self.now.pairs (c.args.at + c.loop-place.place) c.len-count.ensures.list.below (omega arith) in
-    let is = c.key_at.ensures in
-    omega arith
+    omega (arith, c.requires.fits, below, c.key_at.ensures)
 
 pub loop-place-preserved : goal.loop-place-preserved
 loop-place-preserved g c =

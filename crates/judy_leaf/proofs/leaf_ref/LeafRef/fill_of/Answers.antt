@@ -9,10 +9,8 @@ pub overflow_add-base : goal.overflow_add-base
 overflow_add-base g c =
     let inside = c.loop-place-test.true in
     let room = c.requires.inside in
-    let fits = c.requires.fits in
     let below = key_below (256 ^ g.row.W) c.args.self.now.pairs (c.args.at + c.loop-place.place) (subst (λ w. AllByRecursion (λ key. key < 256 ^ w) (keys_of c.args.self.now.pairs)) c.requires.width c.len-count.ensures.list.below) (omega arith) in
-    let is = c.key_of-key.ensures in
-    omega arith
+    omega (arith, c.requires.fits, below, c.key_of-key.ensures)
 
 pub loop-place-preserved : goal.loop-place-preserved
 loop-place-preserved g c =
