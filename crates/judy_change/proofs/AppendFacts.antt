@@ -69,16 +69,6 @@ key_parts width bytes key block byte rest first is low =
 
 -- ---- none, and all
 
--- Nothing put behind.
-pub longer_none : (width : ℕ) (pairs : Pairs) (old new : Tree) → new ≡ old → IsLonger width 0 pairs old new
-longer_none width pairs old new same = record {
-  within = omega arith;
-  alike = tt;
-  longer = ap (λ (tree : Tree). tree.pairs) same ∙ sym (append-nil old.pairs);
-  tight = λ tight. subst IsTight (sym same) tight;
-  none = λ _. same;
-}
-
 -- What is put behind in the one node below a root.
 pub appended_root : (words count : ℕ) (pairs : Pairs) (old new : Tree) → IsMap words 0 (256 ^ 8) pairs → IsLonger 8 count pairs old new → IsAppended count pairs (record old { width = 8 }) (record new { width = 8 })
 appended_root words count pairs old new map put = record {

@@ -53,17 +53,6 @@ there_valued key (pair ∷ pairs) held none =
       | false ↦ λ rest without. there_valued key pairs rest without
     ] held none
 
--- An immediate with a value has its key alone.
-pub immediate_there : (words head word key : ℕ) → words ≡ 1 → has (keys_of (imm_pairs words head word)) key ≡ true → key ≡ head
-immediate_there zero head word key one held = let never : ⊥ = omega arith in absurd never
-immediate_there (suc words) head word key one held = ⊎_elim
-    (λ same. sym same)
-    (λ apart.
-    let differ : head ≡ key → ⊥ = λ e. ⊎_elim (λ less. omega arith) (λ more. omega arith) apart in
-    let never : false ≡ true = sym (ap (λ b. b || false) (ne_eqb head key differ)) ∙ held in
-    cc)
-    (cases_order head key)
-
 -- A key of a bitmap leaf isn't below those that begin with the bytes that it skips.
 pub bit_front : (words skipped key : ℕ) (block : Contents) → has_key key (bit_tree words skipped block) ≡ true → skipped * 256 ≤ key
 bit_front words skipped key block held = ⊎_elim
@@ -82,18 +71,6 @@ leaf_spot words kind count block key at is level found =
 pub bit_spot : {V : _} (words : ℕ) (kind : KindOf V) (skipped : ℕ) (block : Contents) (key low at : ℕ) → kind ≡ Bit skipped block → key ≡ skipped * 256 + low → Some at ≡ place (keys_of (bit_list words block).pairs) low → IsSeat words kind key (4 + at) 0
 bit_spot words kind skipped block key low at is key_is found =
     subst (λ k. IsSeat words k key (4 + at) 0) (sym is) (at, low, refl, key_is, (bit-seat words low at block found).0)
-
--- A node that is the same tree as one without children has none.
-pub childless_same : {V : _} (words : ℕ) (old new : KindOf V) → tree_of words new ≡ tree_of words old → IsChildless old → IsChildless new
-childless_same words old (Imm head word) same is = tt
-childless_same words old (Leaf count block) same is = tt
-childless_same words old (Bit skipped block) same is = tt
-childless_same words (Imm head word) (Branch b) same is = let never = ap (λ (tree : Tree). tree.form) same in cc
-childless_same words (Leaf count block) (Branch b) same is = let never = ap (λ (tree : Tree). tree.form) same in cc
-childless_same words (Bit skipped block) (Branch b) same is = let never = ap (λ (tree : Tree). tree.form) same in cc
-childless_same words (Branch old) (Branch b) same is = is
-
--- ---- branches
 
 module _ {words width : ℕ} {skipped bytes : List ℕ} {kids : List Tree} {count byte rest at : ℕ} {kid : Tree} (it : IsKid words width skipped bytes kids count byte rest at kid) where
   abbrev whole_key : ℕ

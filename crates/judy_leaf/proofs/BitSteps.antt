@@ -321,15 +321,6 @@ grown zero low high one up = omega arith
 grown (suc zero) low high one up = omega arith
 grown (suc (suc k)) low high one up = let never : ⊥ = omega arith in absurd never
 
--- The next of pairs has room, where all have.
-pub room_for_next : (words at : ℕ) (pairs : List (ℕ × ℕ)) (block : Contents) (width : ℕ) → IsBitParts words block → bit_list words block ≡ record { width = width; pairs = take at pairs } → at < length pairs → (room n : ℕ) → n ≡ length pairs → 4 + words * n ≤ room
-    → length block.words + words ≤ room
-room_for_next words at pairs block width is seen inside room n all enough =
-    let so_far : at ≡ length (take at pairs) = sym (length-take-le at pairs (omega arith)) in
-    let needed = bit_needed words block is (record { width = width; pairs = take at pairs }) seen at words so_far refl in
-    let up = grown words (at + 1) n is.one (omega arith) in
-    omega arith
-
 -- Four words of 0 have no keys.
 pub no_bits : (words width : ℕ) (block : Contents) → words ≤ 1 → 1 ≤ width → width ≤ 8 → block.words ≡ 0 ∷ 0 ∷ 0 ∷ 0 ∷ [] → block.tag ≡ 65536 * width → IsBitParts words block × (bit_keys block ≡ [])
 no_bits words width block one some most zeros tagged =
@@ -355,12 +346,6 @@ module _ (words at width : ℕ) (pairs : List (ℕ × ℕ)) (block : Contents) (
 
   next_key : (get_or pairs at (0, 0)).0 % 256 ≡ (get_or (low_pairs 256 pairs) at (0, 0)).0
   next_key = sym (ap (λ pair. pair.0) (low_at 256 pairs at (0, 0) inside))
-
-  pub next_is_absent : set.has (bit_keys block) ((get_or pairs at (0, 0)).0 % 256) ≡ false
-  next_is_absent = (λ t. set.has (first_keys t) (next_key t)) ∙ first_absent (low_pairs 256 pairs) at list.ascending within
-
-  pub next_rank : at ≡ set.rank (bit_keys block) ((get_or pairs at (0, 0)).0 % 256)
-  next_rank = sym ((λ t. set.rank (first_keys t) (next_key t)) ∙ first_rank (low_pairs 256 pairs) at list.ascending within)
 
   pub next_pair : with_pair ((get_or pairs at (0, 0)).0 % 256) (get_or pairs at (0, 0)).1 (take at (low_pairs 256 pairs)) ≡ take (at + 1) (low_pairs 256 pairs)
   next_pair = ap (λ pair. with_pair pair.0 pair.1 (take at (low_pairs 256 pairs))) (sym (low_at 256 pairs at (0, 0) inside)) ∙ with_next (low_pairs 256 pairs) at list.ascending within

@@ -35,15 +35,6 @@ key-has key pairs some =
 pub member-place : (members : List ℕ) (byte : ℕ) → has members byte ≡ true → place members byte ≡ Some (rank members byte)
 member-place members byte held = ap (λ b. cond b (Some (rank members byte)) None) held
 
-pub imm-there : (words head word key : ℕ) → words ≡ 1 → is_some (value_of key (imm_tree words head word).pairs) ≡ true → key ≡ head
-imm-there zero head word key one some = let never : ⊥ = omega arith in absurd never
-imm-there (suc words) head word key one some = ⊎_elim
-    (λ same. sym same)
-    (λ apart.
-    let differ : head ≡ key → ⊥ = λ e. ⊎_elim (λ less. omega arith) (λ more. omega arith) apart in
-    absurd (true≢false (sym some ∙ ap (λ b. is_some (cond b (Some word) None)) (ne_eqb head key differ))))
-    (cases_order head key)
-
 -- In a leaf a key stands at its rank.
 pub leaf-there : (words count key : ℕ) (block : Contents) → IsLeaf words count block → is_some (value_of key (leaf_tree words count block).pairs) ≡ true
     → slice_get (keys_of (leaf_list words count block).pairs) (rank (keys_of (leaf_list words count block).pairs) key) ≡ Some key
