@@ -305,7 +305,8 @@ class _Text:
     def _bytes(key):
         if not isinstance(key, str):
             raise TypeError(f"not a str: {key!r}")
-        return key.encode("utf-8", "surrogatepass")
+        # As str does it: C is told how many bytes these are, and a subclass might answer others.
+        return str.encode(key, "utf-8", "surrogatepass")
 
     @staticmethod
     def _object(key):
@@ -410,10 +411,10 @@ class _Hash(_Strings):
 
     def popitem(self):
         """Takes out a pair, which may be any, and answers it; KeyError where the dict is empty. Keys are listed an eighth of them at a time."""
-        while len(self):
+        while count := _Array.__len__(self):
             key = next(getattr(self, "_ahead", _NONE), _MISSING)
             if key is _MISSING:
-                self._ahead = iter(self._told(KEYS, min(len(self), len(self) // 8 + 64)))
+                self._ahead = iter(self._told(KEYS, min(count, count // 8 + 64)))
                 continue
             value = _Hash.pop(self, key, None)
             if value is not None:
@@ -421,7 +422,7 @@ class _Hash(_Strings):
         raise KeyError("popitem(): dictionary is empty")
 
     def _list(self, part):
-        return self._told(part, len(self))
+        return self._told(part, _Array.__len__(self))
 
     def _told(self, part, most):
         """The first keys of a walk. They are told by one call, so that none comes or goes meanwhile."""
@@ -430,7 +431,7 @@ class _Hash(_Strings):
             keys, entries = ctypes.create_string_buffer(room), (_Entry * (most + 1))()
             if not self._calls["walk"](self._handle, 0, keys, room, entries, most, count):
                 raise MemoryError
-            if count.value == min(most, len(self)):
+            if count.value == min(most, _Array.__len__(self)):
                 break
             room *= 4
         text, at = keys.raw, 0

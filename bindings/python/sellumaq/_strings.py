@@ -19,7 +19,7 @@ class _Text:
     def _encoded(key: str) -> bytes:
         if not isinstance(key, str):
             raise TypeError(f"not a str: {key!r}")
-        return key.encode("utf-8", "surrogatepass")
+        return str.encode(key, "utf-8", "surrogatepass")
 
 
 class _Bytes:

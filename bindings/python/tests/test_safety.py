@@ -223,6 +223,27 @@ class ReEntry(unittest.TestCase):
                 except Exception:  # any is good that leaves the program running
                     pass
 
+    def test_a_text_that_encodes_itself_and_a_length_that_lies(self):
+        # In another process, which may crash.
+        program = (
+            "from sellumaq import JudyHS, JudySL\n"
+            "class Long(bytes):\n"
+            "    def __len__(self): return 10**10\n"
+            "class Text(str):\n"
+            "    def encode(self, *_): return Long(b'x')\n"
+            "class Many(JudyHS):\n"
+            "    def __len__(self): return 1000\n"
+            "for kind in (JudySL, JudyHS, Many):\n"
+            "    array = kind(a=5)\n"
+            "    array[Text('b')] = 6\n"
+            "    print(array.get(Text('a')), dict(array), array.popitem())\n"
+            "array = JudySL.from_sorted([(Text('a'), 1), (Text('b'), 2)])\n"
+            "print(array.bisect_right(Text('a')), array.at_or_after(Text('b')))\n"
+        )
+        ran = subprocess.run([sys.executable, "-c", program], stdout=subprocess.PIPE, encoding="utf-8", timeout=60)
+        told = "5 {'a': 5, 'b': 6} ('b', 6)\n" + 2 * "5 {'a': 5, 'b': 6} ('a', 5)\n" + "1 b\n"
+        self.assertEqual((ran.returncode, ran.stdout), (0, told))
+
     def test_a_finalizer_that_brings_its_array_back(self):
         kept = []
 
