@@ -1,5 +1,5 @@
 //! The worked rows that cross crates, as tests by the rows' names: scripts with the answers that the
-//! specification gives, run over memory, dumps, and arrays over strings and byte strings; and some tests beside them.
+//! specification gives, run over memory, and dumps; and some tests beside them.
 //!
 //! The crate stands on top of those that it tries, and has no code of its own.
 #![tactic(auto)]
@@ -9,11 +9,7 @@ mod arrays;
 #[cfg(test)]
 mod bad_pairs;
 #[cfg(test)]
-mod bytes;
-#[cfg(test)]
 mod check;
-#[cfg(test)]
-mod cursors;
 #[cfg(test)]
 mod dumps;
 #[cfg(test)]
@@ -28,5 +24,3 @@ mod refusals;
 mod scripts;
 #[cfg(test)]
 mod second_format;
-#[cfg(test)]
-mod strings;

@@ -1,0 +1,11 @@
+//! The worked rows of arrays over strings and byte strings, by their own calls, as tests by the rows' names.
+//!
+//! The crate stands on the arrays alone, so it is proved beside the program and not behind it. It has no code of its own.
+#![tactic(auto)]
+
+#[cfg(test)]
+mod bytes;
+#[cfg(test)]
+mod cursors;
+#[cfg(test)]
+mod strings;
