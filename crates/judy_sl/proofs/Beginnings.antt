@@ -208,16 +208,19 @@ module _ (all : FinMap byte_order ℕ) (firsts : FinMap word_order ℕ) (are : A
   firsts_len = let most = len_within firsts are.some in let sum = firsts_sum in omega arith
 
 module _ (all : FinMap byte_order ℕ) (key : List ℕ) (value : ℕ) (none : get all key ≡ None) (firsts : FinMap word_order ℕ) where
-  -- The first key that begins with its piece leaves the list,
+  -- The first key that begins with a piece isn't told.
+  none_told : beginning all (piece_of key) ≡ 0 → (piece : ℕ) → beginning (insert all key value) piece - 1 ≡ beginning all piece - 1
+  none_told nothing piece =
+      let new = beginning_new all key value none piece in
+      ⊎_elim
+      (λ same. let one = ap (λ word. one_if (piece_of key == word)) same ∙ one_itself (piece_of key) in let was = ap (beginning all) same in omega arith)
+      (λ apart. let one = one_apart (piece_of key) piece apart in omega arith)
+      (cases_eq piece (piece_of key))
+
+  -- It leaves the list,
   pub firsts_first : beginning all (piece_of key) ≡ 0 → AreFirsts all firsts → AreFirsts (insert all key value) firsts
   firsts_first nothing are = record {
-    numbers = λ piece.
-        let is = are.numbers piece in
-        let new = beginning_new all key value none piece in
-        ⊎_elim
-        (λ same. let one = ap (λ word. one_if (piece_of key == word)) same ∙ one_itself (piece_of key) in let was = ap (beginning all) same in omega arith)
-        (λ apart. let one = one_apart (piece_of key) piece apart in omega arith)
-        (cases_eq piece (piece_of key));
+    numbers = λ piece. are.numbers piece ∙ sym (none_told nothing piece);
     some = are.some;
   }
 
@@ -242,13 +245,7 @@ module _ (all : FinMap byte_order ℕ) (key : List ℕ) (value : ℕ) (none : ge
   -- Where it goes again the list stays,
   pub firsts_last : beginning all (piece_of key) ≡ 0 → AreFirsts (insert all key value) firsts → AreFirsts all firsts
   firsts_last nothing are = record {
-    numbers = λ piece.
-        let is = are.numbers piece in
-        let new = beginning_new all key value none piece in
-        ⊎_elim
-        (λ same. let one = ap (λ word. one_if (piece_of key == word)) same ∙ one_itself (piece_of key) in let was = ap (beginning all) same in omega arith)
-        (λ apart. let one = one_apart (piece_of key) piece apart in omega arith)
-        (cases_eq piece (piece_of key));
+    numbers = λ piece. are.numbers piece ∙ none_told nothing piece;
     some = are.some;
   }
 

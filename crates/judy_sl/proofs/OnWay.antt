@@ -156,29 +156,27 @@ module _ (world : World) (key : List ℕ) (seat : ℕ) (map : FinMap word_order 
       }
 
   -- What is found there.
-  pub found-tail : held ≡ drop 8 rest → lookup world 0 (pieces key) ≡ Some value
-  found-tail e =
+  found-there : lookup world 0 (pieces key) ≡ look_in world (world (suc at)) (pieces (drop 8 rest))
+  found-there =
       ap (lookup world 0) (leads-on world key seat map rest on at long whole entry).parts
       ∙ (let h = pieces-head (drop 8 rest) in
       let to = leads-on world key seat map rest on at long whole entry in
       ap (λ ps. lookup world 0 (to.front ++ ps)) h.1
       ∙ lookup-walk world 0 to.front (suc at) (piece_of (drop 8 rest)) h.0 to.way
       ∙ lookup-in world (suc at) (piece_of (drop 8 rest) ∷ h.0)
-      ∙ ap (look_in world (world (suc at))) (sym h.1)
+      ∙ ap (look_in world (world (suc at))) (sym h.1))
+
+  pub found-tail : held ≡ drop 8 rest → lookup world 0 (pieces key) ≡ Some value
+  found-tail e =
+      found-there
       ∙ ap (λ node. look_in world node (pieces (drop 8 rest))) (is ∙ ap (λ l. tail (pieces l) value) e)
-      ∙ tail-same world (pieces (drop 8 rest)) value (pieces-some (drop 8 rest)))
+      ∙ tail-same world (pieces (drop 8 rest)) value (pieces-some (drop 8 rest))
 
   pub found-clash : IsText held → held ≢ drop 8 rest → IsText key → lookup world 0 (pieces key) ≡ None
   found-clash text ne is_text =
-      ap (lookup world 0) (leads-on world key seat map rest on at long whole entry).parts
-      ∙ (let h = pieces-head (drop 8 rest) in
-      let to = leads-on world key seat map rest on at long whole entry in
-      ap (λ ps. lookup world 0 (to.front ++ ps)) h.1
-      ∙ lookup-walk world 0 to.front (suc at) (piece_of (drop 8 rest)) h.0 to.way
-      ∙ lookup-in world (suc at) (piece_of (drop 8 rest) ∷ h.0)
-      ∙ ap (look_in world (world (suc at))) (sym h.1)
+      found-there
       ∙ ap (λ node. look_in world node (pieces (drop 8 rest))) is
-      ∙ tail-other world (pieces held) (pieces (drop 8 rest)) value (λ e. ne (pieces_same held (drop 8 rest) text (text-drop 8 rest (on.text is_text)) e)))
+      ∙ tail-other world (pieces held) (pieces (drop 8 rest)) value (λ e. ne (pieces_same held (drop 8 rest) text (text-drop 8 rest (on.text is_text)) e))
 
 module _ (arena : Arena) (is : IsArena arena) (key : List ℕ) (seat : ℕ) (map : FinMap word_order ℕ) (rest : List ℕ) (on : IsOnWay (world_of arena) key seat map rest) where
   -- Something stands where an entry leads.

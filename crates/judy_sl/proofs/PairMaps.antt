@@ -1,5 +1,5 @@
 -- The map in which pairs are written, one after the other, whatever their order.
-use Rattle.std.proofs.Common.{◌≡◌, ℕ, Bool, true, false, cond, ◌&&◌, T, List, [], ◌∷◌, Option, None, Some, ◌⊎◌, inl, inr, ⊎_elim, refl, sym, ap, ◌∙◌, Less}
+use Rattle.std.proofs.Common.{◌≡◌, ℕ, true, false, cond, T, List, [], ◌∷◌, Option, None, Some, ◌⊎◌, inl, inr, ⊎_elim, refl, sym, ap, ◌∙◌, Less}
 use Rattle.std.specs.Ordering.{is_lt, is_eq, eq_by_cmp, ordering_reverse}
 use Rattle.std.specs.Cmp.{tied_itself}
 use Rattle.std.specs.FinMap.{FinMap, empty, insert, get, entries, from_sorted, find, is_sorted, get-empty, get-insert, get-from_sorted, entries-from_sorted, same_map}
@@ -10,19 +10,8 @@ use Rattle.judy_model.proofs.Ascending.{Among}
 use Rattle.judy_model.proofs.Inserts.{get-insert_itself}
 use Rattle.judy_model.proofs.Orders.{same_from_tie, less_is}
 use Rattle.judy_model.proofs.TableLemmas.{byte_order_total, byte_order_same}
+use Rattle.judy_model.proofs.Tests.{left_of, right_of, holds_test}
 use Rattle.judy_sl.specs.Sorted.{with_pairs}
-
-left_of : (a b : Bool) → T (a && b) → T a
-left_of true b h = tt
-left_of false b h = h
-
-right_of : (a b : Bool) → T (a && b) → T b
-right_of true b h = h
-right_of false b h = absurd h
-
-holds_test : (b : Bool) → T b → b ≡ true
-holds_test true h = refl
-holds_test false h = absurd h
 
 -- ---- pairs in order
 

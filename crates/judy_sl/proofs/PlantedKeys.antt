@@ -1,5 +1,5 @@
 -- A key that comes into an array of which the first level is a list of entries yet.
-use Rattle.std.proofs.Common.{◌≡◌, ℕ, ◌+◌, ◌<◌, ◌≤◌, Bool, true, false, cond, ◌&&◌, T, List, [], ◌∷◌, ◌++◌, length, drop, None, Some, refl, sym, ap, subst, ◌∙◌}
+use Rattle.std.proofs.Common.{◌≡◌, ℕ, ◌+◌, ◌<◌, ◌≤◌, cond, T, List, [], ◌∷◌, ◌++◌, length, drop, None, Some, refl, sym, ap, subst, ◌∙◌}
 use Rattle.std.proofs.lemmas.List.{length_push}
 use Rattle.std.specs.Ordering.{is_lt, is_eq, eq_by_cmp, ordering_reverse}
 use Rattle.std.specs.Cmp.{nat_cmp_total}
@@ -10,6 +10,7 @@ use Rattle.judy_model.specs.Keys.{word_order, byte_order, IsStringKey}
 use Rattle.judy_model.specs.Arrays.{ArrayOf, empty_array, with_map}
 use Rattle.judy_model.proofs.SortedMaps.{from_sorted-nil}
 use Rattle.judy_model.proofs.WordOrder.{less_word}
+use Rattle.judy_model.proofs.Tests.{both, left_of, right_of}
 use Rattle.judy_tails.specs.Tails.{no_tails}
 use Rattle.judy_sl.specs.declared.arena.Arena.{Arena}
 use Rattle.judy_sl.specs.declared.arena.Place.TheVariants.{Below}
@@ -31,18 +32,6 @@ use Rattle.judy_sl.proofs.Beginnings.{firsts_written}
 use Rattle.judy_sl.proofs.FirstWays.{unrooted, added_first, firsts_new}
 
 -- ---- entries in order
-
-both : (a b : Bool) → T a → T b → T (a && b)
-both true b h k = k
-both false b h k = absurd h
-
-left_of : (a b : Bool) → T (a && b) → T a
-left_of true b h = tt
-left_of false b h = h
-
-right_of : (a b : Bool) → T (a && b) → T b
-right_of true b h = h
-right_of false b h = absurd h
 
 below-push : (word : ℕ) (entries : List (ℕ × ℕ)) (piece at : ℕ) → word < piece → T (below_all word_order word entries) → T (below_all word_order word (entries ++ (piece, at) ∷ []))
 below-push word [] piece at less below = both _ _ (subst (λ r. T (is_lt r)) (sym (less_word word piece less)) tt) tt
