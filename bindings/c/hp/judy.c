@@ -33,10 +33,11 @@ static change begin(PPvoid_t array) {
     return (change){sellumaq_hp_begins, sellumaq_hp_balance};
 }
 
-/* Ends it: what the balance has grown by are bytes of the array's, which a change that moves no memory leaves as they were. */
+/* Ends it: what the balance has grown by are bytes of the array's, which a change that moves no memory leaves as they were. An array that
+ * was made has grown by its own block. */
 static void end(PPvoid_t array, change change) {
     Word_t grown = sellumaq_hp_balance - change.before;
-    if (!*array || (!grown && !change.is_new)) return;
+    if (!grown || !*array) return;
     Word_t *bytes = sellumaq_hp_bytes(*array);
     *bytes = (change.is_new ? 0 : *bytes) + grown;
 }
