@@ -48,9 +48,29 @@ pub fn entry_nth<V: Words + Drop>(
 }
 
 /// The pair at a place in a node that was entered, whose keys have so many bytes: the ways to it enter one node less at most.
-// Inside its callers the node needn't be put together in memory.
+// Inside its callers the node needn't be put together in memory. Where it isn't a branch its kind, which was just told, isn't told again.
 #[inline(always)]
 pub(crate) fn entry_below<V: Words + Drop>(
+    top: ViewOf<'_, V>,
+    place: u64,
+    meter: &mut Meter,
+) -> (u64, u64)
+    requires shown { IsShown V.WORDS top }
+    requires inside { place < length (view_pairs top) }
+    requires room { meter.old ≤ 2 ^ 64 - 8 }
+    ensures entry { slice_get (view_pairs top.entry) place ≡ Some result }
+    ensures no_fewer { meter.old ≤ meter.new }
+    ensures visits { meter.new + 1 ≤ meter.old + width_of top.entry }
+{
+    if let ViewOf::Branch(_) = &top {
+        return entry_further_down(top, place, meter);
+    }
+    entry_in(&top, place)
+}
+
+// The same by a loop over branches.
+#[inline(always)]
+fn entry_further_down<V: Words + Drop>(
     top: ViewOf<'_, V>,
     place: u64,
     meter: &mut Meter,

@@ -157,11 +157,27 @@ pub(crate) fn pair_behind<V: Words + Drop>(
         };
         least(Some(turn), meter)
     } else {
-        least_before(before, meter)
+        pair_further_up(before, meter)
     }
 }
 
-// As `least`, for a turn further up, which is rare.
+// The pair of a turn further up, which is rare.
+// Within its caller, but a function: what the call is given and answers through memory is written there only where it is made.
+#[inline(always)]
+fn pair_further_up<V: Words + Drop>(
+    turn: Option<Turn<'_, V>>,
+    meter: &mut Meter,
+) -> Option<(u64, u64)>
+    requires turn { IsLater V.WORDS turn }
+    requires room { meter.old ≤ 2 ^ 64 - 9 }
+    ensures entry { result ≡ later_pair turn.entry }
+    ensures no_fewer { meter.old ≤ meter.new }
+    ensures visits { meter.new ≤ meter.old + most_visits_below }
+{
+    least_before(turn, meter)
+}
+
+// As `least`, by a call.
 #[cold]
 #[inline(never)]
 fn least_before<V: Words + Drop>(turn: Option<Turn<'_, V>>, meter: &mut Meter) -> Option<(u64, u64)>

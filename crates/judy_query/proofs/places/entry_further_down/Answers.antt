@@ -4,7 +4,7 @@ use Rattle.judy_node.specs.Views.{view_pairs}
 use Rattle.judy_query.specs.Parts.{IsDown, raised, width_of}
 use Rattle.judy_query.proofs.Downs.{down_branch, down_top, start_word, start_child, start_down}
 use Rattle.judy_query.proofs.RankFacts.{part-at, at_below}
-use Rattle.judy_query.proofs.places.entry_below.Goals as goal
+use Rattle.judy_query.proofs.places.entry_further_down.Goals as goal
 
 pub down-init : goal.down-init
 down-init g c = (down_top g.V.Words.WORDS c.args.top c.requires.shown, omega arith, c.requires.inside, omega arith, omega arith)
