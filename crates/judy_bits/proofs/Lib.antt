@@ -11,3 +11,4 @@ pub mod ShiftLemmas
 pub mod SkipLemmas
 pub mod LaneLemmas
 pub mod TopLemmas
+pub mod FrontLemmas

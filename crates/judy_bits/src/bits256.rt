@@ -1,11 +1,11 @@
 //! A set of bytes as 256 bits in four words.
 
-ghost use Rattle.std.specs.Prelude.{◌≡◌, ℕ, ◌≤◌, List, [], length};
+ghost use Rattle.std.specs.Prelude.{◌≡◌, ℕ, ◌*◌, ◌/◌, ◌<◌, ◌≤◌, List, [], length};
 ghost use Rattle.judy_bits.specs.ByteSets as set;
 ghost use Rattle.judy_bits.specs.ByteSets.{IsByteSet};
 ghost use Rattle.judy_bits.specs.BitWords.{members_of};
 
-use crate::bits::count;
+use crate::bits::{count, ones_below_one};
 use crate::bits_ref::BitsRef;
 use std::marker::Model;
 
@@ -96,12 +96,24 @@ impl Bits256 {
     }
 
     /// The place of a member, which is its rank; none where the byte isn't a member.
-    // As a set's: a call would cost as much as the count.
-    #[inline(always)]
     pub fn place(&self, byte: u8) -> Option<usize>
         ensures { result ≡ set.place self.now byte }
     {
         self.by_ref().place(byte)
+    }
+
+    /// The place of a member, where it is known how many members are below its word's first byte; none where the byte isn't a member.
+    // As a set's: a call would cost as much as the count.
+    #[inline(always)]
+    pub(crate) fn place_behind(&self, byte: u8, front: usize) -> Option<usize>
+        requires front { front ≡ set.rank self.now (64 * (byte / 64)) }
+        requires small { front < 256 }
+        ensures { result ≡ set.place self.now byte }
+    {
+        match ones_below_one(self.words[(byte / 64) as usize], byte % 64) {
+            Some(here) => Some(front + here as usize),
+            None => None,
+        }
     }
 
     /// The member at a place, counted from 0; none from the number of members on.

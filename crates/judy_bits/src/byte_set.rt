@@ -9,14 +9,15 @@ ghost use Rattle.judy_bits.specs.KeptMembers.{members_in, IsInForm};
 use crate::bits256::Bits256;
 use crate::few_bytes::FewBytes;
 use crate::form::Form;
+use crate::fronts::Fronts;
 use std::marker::Model;
 
-/// The members, in one of the three forms.
+/// The members, in one of the three forms. Beside bits stand the counts by which a place is found.
 #[derive(Clone, Debug, Drop)]
 enum Members {
     Linear(FewBytes),
-    Bitmap(Bits256),
-    Full(Bits256),
+    Bitmap(Fronts, Bits256),
+    Full(Fronts, Bits256),
 }
 
 /// A set of bytes. Its form follows from the number of its members alone, so a set that grew and shrank is the
@@ -67,8 +68,8 @@ impl ByteSet {
     {
         match &self.members {
             Members::Linear(few) => few.len(),
-            Members::Bitmap(bits) => bits.len(),
-            Members::Full(bits) => bits.len(),
+            Members::Bitmap(_, bits) => bits.len(),
+            Members::Full(_, bits) => bits.len(),
         }
     }
 
@@ -78,8 +79,8 @@ impl ByteSet {
     {
         match &self.members {
             Members::Linear(_) => Form::Linear,
-            Members::Bitmap(_) => Form::Bitmap,
-            Members::Full(_) => Form::Full,
+            Members::Bitmap(_, _) => Form::Bitmap,
+            Members::Full(_, _) => Form::Full,
         }
     }
 
@@ -91,7 +92,7 @@ impl ByteSet {
     {
         match &self.members {
             Members::Linear(few) => few.place(byte),
-            Members::Bitmap(bits) | Members::Full(bits) => bits.place(byte),
+            Members::Bitmap(fronts, bits) | Members::Full(fronts, bits) => fronts.place(bits, byte),
         }
     }
 
@@ -101,8 +102,8 @@ impl ByteSet {
     {
         match &self.members {
             Members::Linear(few) => few.rank(byte),
-            Members::Bitmap(bits) => bits.rank(byte),
-            Members::Full(bits) => bits.rank(byte),
+            Members::Bitmap(_, bits) => bits.rank(byte),
+            Members::Full(_, bits) => bits.rank(byte),
         }
     }
 
@@ -112,8 +113,8 @@ impl ByteSet {
     {
         match &self.members {
             Members::Linear(few) => bits_of(few).next_absent(byte),
-            Members::Bitmap(bits) => bits.next_absent(byte),
-            Members::Full(bits) => bits.next_absent(byte),
+            Members::Bitmap(_, bits) => bits.next_absent(byte),
+            Members::Full(_, bits) => bits.next_absent(byte),
         }
     }
 
@@ -123,8 +124,8 @@ impl ByteSet {
     {
         match &self.members {
             Members::Linear(few) => bits_of(few).prev_absent(byte),
-            Members::Bitmap(bits) => bits.prev_absent(byte),
-            Members::Full(bits) => bits.prev_absent(byte),
+            Members::Bitmap(_, bits) => bits.prev_absent(byte),
+            Members::Full(_, bits) => bits.prev_absent(byte),
         }
     }
 
@@ -134,8 +135,8 @@ impl ByteSet {
     {
         match &self.members {
             Members::Linear(few) => few.next_from(byte),
-            Members::Bitmap(bits) => bits.next_from(byte),
-            Members::Full(bits) => bits.next_from(byte),
+            Members::Bitmap(_, bits) => bits.next_from(byte),
+            Members::Full(_, bits) => bits.next_from(byte),
         }
     }
 
@@ -145,8 +146,8 @@ impl ByteSet {
     {
         match &self.members {
             Members::Linear(few) => few.prev_from(byte),
-            Members::Bitmap(bits) => bits.prev_from(byte),
-            Members::Full(bits) => bits.prev_from(byte),
+            Members::Bitmap(_, bits) => bits.prev_from(byte),
+            Members::Full(_, bits) => bits.prev_from(byte),
         }
     }
 
@@ -156,8 +157,8 @@ impl ByteSet {
     {
         match &self.members {
             Members::Linear(few) => few.nth(at),
-            Members::Bitmap(bits) => bits.nth(at),
-            Members::Full(bits) => bits.nth(at),
+            Members::Bitmap(_, bits) => bits.nth(at),
+            Members::Full(_, bits) => bits.nth(at),
         }
     }
 
@@ -190,16 +191,18 @@ fn add_to(members: &mut Members, byte: u8)
                 *members = bits_with(bits_of(few), byte);
             }
         }
-        Members::Bitmap(bits) => {
+        Members::Bitmap(fronts, bits) => {
             if bits.len() < 127 {
                 bits.add(byte);
+                *fronts = Fronts::of(bits);
             } else {
                 *members = bits_with(Bits256::of_words(bits.words()), byte);
             }
         }
-        Members::Full(bits) => {
+        Members::Full(fronts, bits) => {
             bits.told();
             bits.add(byte);
+            *fronts = Fronts::of(bits);
         }
     }
 }
@@ -212,16 +215,18 @@ fn take_from(members: &mut Members, byte: u8)
 {
     match members {
         Members::Linear(few) => few.take(byte),
-        Members::Bitmap(bits) => {
+        Members::Bitmap(fronts, bits) => {
             if bits.len() > 8 {
                 bits.take(byte);
+                *fronts = Fronts::of(bits);
             } else {
                 *members = bits_without(Bits256::of_words(bits.words()), byte);
             }
         }
-        Members::Full(bits) => {
+        Members::Full(fronts, bits) => {
             if bits.len() > 128 {
                 bits.take(byte);
+                *fronts = Fronts::of(bits);
             } else {
                 *members = bits_without(Bits256::of_words(bits.words()), byte);
             }
@@ -256,9 +261,9 @@ fn in_form(bits: Bits256) -> Members
     if count <= 7 {
         Members::Linear(few_of(&bits))
     } else if count <= 127 {
-        Members::Bitmap(bits)
+        Members::Bitmap(Fronts::of(&bits), bits)
     } else {
-        Members::Full(bits)
+        Members::Full(Fronts::of(&bits), bits)
     }
 }
 

@@ -19,6 +19,7 @@ mod bits_ref;
 mod byte_set;
 mod few_bytes;
 mod form;
+mod fronts;
 pub mod laws;
 mod meter;
 mod skip;

@@ -12,14 +12,14 @@ returns-in-Linear-clause-in_form c =
 
 pub returns-then-len-gt8-clause-in_form : goal.returns-then-len-gt8-clause-in_form
 returns-then-len-gt8-clause-in_form c =
-    let form : (8 ≤ length c.in-Bitmap.bits) × (length c.in-Bitmap.bits ≤ 127) = subst IsInForm c.in-Bitmap.is c.requires in
-    let few = form.1 in
+    let form = subst IsInForm c.in-Bitmap.is c.requires in
+    let few : length c.in-Bitmap.bits ≤ 127 = form.1 in
     let taken = ap length c.take-then-len-gt8.ensures in
     let least = length-without_byte-ge c.in-Bitmap.bits c.args.byte c.len.ensures.is_set.ascending in
     let most = length-without_byte-le c.in-Bitmap.bits c.args.byte in
     let count = c.len.ensures.count in
     let more = c.if-len-gt8.true in
-    (omega arith, omega arith)
+    (omega arith, omega arith, c.of.ensures)
 
 pub returns-then-len-gt128-clause-in_form : goal.returns-then-len-gt128-clause-in_form
 returns-then-len-gt128-clause-in_form c =
@@ -27,4 +27,4 @@ returns-then-len-gt128-clause-in_form c =
     let least = length-without_byte-ge c.in-Full.bits c.args.byte c.len-in-Full.ensures.is_set.ascending in
     let count = c.len-in-Full.ensures.count in
     let more = c.if-len-gt128.true in
-    omega arith
+    (omega arith, c.of-then-len-gt128.ensures)
