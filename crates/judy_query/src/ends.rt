@@ -11,6 +11,8 @@ use judy_leaf::{BitRef, ImmOf, LeafRef, Words};
 use judy_node::ViewOf;
 
 /// The value of a key, 0 where keys have no value; none where the key is absent.
+// Inside a look-up the node at the way's end stays in registers, and its kind, where that was just told, isn't told again.
+#[inline(always)]
 pub(crate) fn value_in<V: Words + Drop>(view: &ViewOf<'_, V>, key: u64) -> Option<u64>
     requires end { IsEnd view.now }
     requires shown { IsShown V.WORDS view.now }
@@ -64,6 +66,8 @@ fn value_in_bits<V: Words + Drop>(list: &BitRef<'_, V>, key: u64) -> Option<u64>
 }
 
 /// How many keys are below a word.
+// As `value_in`.
+#[inline(always)]
 pub(crate) fn rank_in<V: Words + Drop>(view: &ViewOf<'_, V>, key: u64) -> u64
     requires end { IsEnd view.now }
     requires shown { IsShown V.WORDS view.now }
