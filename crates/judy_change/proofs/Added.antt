@@ -78,17 +78,23 @@ filled_front out list spares slice pairs rest key value at count is long room th
     let all = ap length whole in
     take_at pairs rest (count + 1) (omega arith) ∙ whole
 
--- Sorted pairs, one of them new, and the node made of them.
-module _ (words width key value : ℕ) (old : Tree) (is : IsChild words width old) (absent : has (keys_of old.pairs) key ≡ false) (fits : key < 256 ^ width) (free : words ≡ 0 → value ≡ 0) (pairs : Pairs)
-    (are : pairs ≡ with_pair key value old.pairs) where
+-- Sorted pairs, one of them new.
+module _ (words width key value : ℕ) (old : Pairs) (map : IsMap words 0 (256 ^ width) old) (absent : has (keys_of old) key ≡ false) (fits : key < 256 ^ width) (free : words ≡ 0 → value ≡ 0) (pairs : Pairs)
+    (are : pairs ≡ with_pair key value old) where
   pub more-map : IsMap words 0 (256 ^ width) pairs
-  more-map = subst (IsMap words 0 (256 ^ width)) (sym are) (map-with_pair words 0 (256 ^ width) key value old.pairs is.map (omega arith) fits absent free)
+  more-map = subst (IsMap words 0 (256 ^ width)) (sym are) (map-with_pair words 0 (256 ^ width) key value old map (omega arith) fits absent free)
 
   pub more-low : IsMap words 0 (256 ^ width) (low_pairs (256 ^ width) pairs)
   more-low = subst (IsMap words 0 (256 ^ width)) (sym (low_pairs_same words 0 (256 ^ width) pairs more-map)) more-map
 
-  pub more-added : (tree : Tree) → IsBuilt words width pairs tree → IsAdded key value old tree
-  more-added tree built = record { absent = absent; pairs = built.same ∙ low_pairs_same words 0 (256 ^ width) pairs more-map ∙ are; tight = λ _. built.tight }
+-- The node made of them.
+pub more-added : (words width key value : ℕ) (old : Tree) → IsChild words width old → has (keys_of old.pairs) key ≡ false → key < 256 ^ width → (words ≡ 0 → value ≡ 0) → (pairs : Pairs) → pairs ≡ with_pair key value old.pairs
+    → (tree : Tree) → IsBuilt words width pairs tree → IsAdded key value old tree
+more-added words width key value old is absent fits free pairs are tree built = record {
+  absent = absent;
+  pairs = built.same ∙ low_pairs_same words 0 (256 ^ width) pairs (more-map words width key value old.pairs is.map absent fits free pairs are) ∙ are;
+  tight = λ _. built.tight;
+}
 
 pub present-find : (members : List ℕ) (key : ℕ) (found : Option ℕ) → found ≡ place members key → is_some found ≡ true → has members key ≡ true
 present-find members key found is some = from (has members key) (ap is_some (sym is) ∙ some)

@@ -1,6 +1,6 @@
 -- A key that is given another value: in a node without children, and below a branch.
-use Rattle.std.proofs.Common.{◌≡◌, ℕ, zero, suc, ◌+◌, ◌*◌, ◌^◌, ◌<◌, ◌≤◌, ◌||◌, Bool, true, false, cond, eqb, List, [], ◌∷◌, length, set, get_or, Some, None, Option, Result, Ok, Err, refl, sym, ap, ◌∙◌, subst, ⊎_elim, arith}
-use Rattle.std.proofs.lemmas.Bool.{cases_order, ne_eqb}
+use Rattle.std.proofs.Common.{◌≡◌, ℕ, ◌+◌, ◌*◌, ◌^◌, ◌<◌, ◌≤◌, ◌||◌, Bool, true, false, cond, eqb, List, [], ◌∷◌, length, set, get_or, Some, None, Option, Result, Ok, Err, refl, sym, ap, ◌∙◌, subst, ⊎_elim, arith}
+use Rattle.std.proofs.lemmas.Bool.{cases_order}
 use Rattle.judy_model.specs.WordBytes.{number_of}
 use Rattle.judy_model.specs.Forms.{branch}
 use Rattle.judy_bits.specs.ByteSets.{has, place}
@@ -10,18 +10,17 @@ use Rattle.judy_leaf.specs.Leaves.{leaf_list}
 use Rattle.judy_leaf.specs.BitLeaves.{bit_list}
 use Rattle.judy_node.specs.Trees.{Pairs, Tree, IsBranch, AreChildren, branch_pairs, branch_tree, forms_in, join}
 use Rattle.judy_node.specs.Populations.{AreSums}
-use Rattle.judy_node.specs.Kinds.{tree_of, imm_pairs, bit_tree, IsLevel}
+use Rattle.judy_node.specs.Kinds.{bit_tree, IsLevel}
 use Rattle.judy_node.specs.Slots.{value_of, with_value}
 use Rattle.judy_node.specs.Seats.{IsSeat}
 use Rattle.judy_node.specs.declared.sums.Sums.{Sums}
 use Rattle.judy_node.specs.declared.child.KindOf.{KindOf}
-use Rattle.judy_node.specs.declared.child.KindOf.TheVariants.{Imm, Leaf, Bit, Branch}
+use Rattle.judy_node.specs.declared.child.KindOf.TheVariants.{Leaf, Bit}
 use Rattle.judy_node.proofs.SumFacts.{sums-same}
 use Rattle.judy_node.proofs.SeatFacts.{bit-below, leaf-seat, bit-seat}
 use Rattle.judy_node.proofs.SlotFacts.{written-length, join-value, join-written, children-written, forms-written}
 use Rattle.judy_change.specs.Inserted.{has_key, IsAdded, IsInserted}
 use Rattle.judy_change.specs.Exchanged.{IsExchanged}
-use Rattle.judy_change.specs.Removals.{IsChildless}
 use Rattle.judy_change.proofs.KidInserts.{IsKid, kid_within}
 use Rattle.judy_change.proofs.PairPlaces.{length-with_pair}
 

@@ -1,7 +1,9 @@
 -- A root from which a key is taken out.
 use Rattle.std.proofs.Common.{◌≡◌, ◌≢◌, ℕ, ◌^◌, ◌<◌, ◌≤◌, Bool, true, false, true≢false, Some, None, [], ◌∷◌, length, get_or, sym, refl, ap, ◌∙◌, subst, arith}
+use Rattle.judy_leaf.specs.KeyLists.{shift}
 use Rattle.judy_node.specs.Trees.{Pairs, Tree, IsTight, IsMap, IsChild}
 use Rattle.judy_node.specs.Roots.{empty_tree, one_tree}
+use Rattle.judy_node.proofs.Maps.{shift-zero}
 use Rattle.judy_change.specs.declared.removed.Removed.{Removed}
 use Rattle.judy_change.specs.Removals.{value_in, without, IsRemoved, IsGone}
 use Rattle.judy_change.proofs.Without.{value-same, value-apart, without-same, without-apart, without-absent, length-without}
@@ -59,6 +61,10 @@ two_pairs [] two = let never : ⊥ = omega arith in absurd never
 two_pairs (first ∷ []) two = let never : ⊥ = omega arith in absurd never
 two_pairs (first ∷ second ∷ []) two = refl
 two_pairs (first ∷ second ∷ third ∷ pairs) two = let never : ⊥ = omega arith in absurd never
+
+-- The same of pairs that were written into a slice.
+pub two_filled : (out pairs : Pairs) → out ≡ shift 0 pairs → length pairs ≡ 2 → pairs ≡ get_or out 0 (0, 0) ∷ get_or out 1 (0, 0) ∷ []
+two_filled out pairs filled two = let is = filled ∙ shift-zero 0 pairs refl in sym is ∙ two_pairs out (ap length is ∙ two)
 
 -- ---- a root of two pairs
 

@@ -15,7 +15,7 @@ ghost use Rattle.judy_change.specs.Exchanged.{IsExchanged};
 use crate::inserts::beside_one;
 use crate::put::put_child;
 use crate::way_down::{into_childless, replaced};
-use judy_leaf::{BitRef, LeafRef, Words};
+use judy_leaf::{BIT_WORDS, BitRef, LeafRef, Words};
 use judy_node::{BranchOf, ChildOf, KindOf, NodeOf, RootOf, Step};
 use std::alloc::{AllocError, Global};
 use std::mem;
@@ -222,7 +222,7 @@ fn overwrite<V: Words + Drop>(kind: &mut KindOf<V>, width: u8, key: u64, value: 
             let Some(at) = BitRef::<V>::new(block).find(low) else {
                 unreachable!()
             };
-            mem::replace(block.slot(4 + at), value)
+            mem::replace(block.slot(BIT_WORDS + at), value)
         }
         KindOf::Branch(_) => unreachable!(),
     }

@@ -26,7 +26,7 @@ pub(crate) fn keys_kind<V: Words + Drop>(imm: ImmOf<V>) -> KindOf<V>
 {
     let width = imm.width();
     let (count, keys) = imm.into_parts();
-    KindOf::Imm(Head::new(count + 256 * u64::from(width)), keys)
+    KindOf::Imm(Head::of_keys(count, width), keys)
 }
 
 // Puts a key with its value into an immediate; where it is full, a leaf takes its place. The error is want of memory for that; the

@@ -12,7 +12,7 @@ ghost use Rattle.judy_change.specs.Inserted.{IsInserted};
 
 use crate::gap::put_at;
 use judy_block::Block;
-use judy_leaf::{LeafOf, LeafRef, Words, put_in_leaf};
+use judy_leaf::{LEAF_ROOM, LeafOf, LeafRef, Words, put_in_leaf};
 use judy_node::{KindOf, kind_of_sorted};
 use std::alloc::{AllocError, Global};
 
@@ -87,6 +87,9 @@ pub(crate) fn into_full_leaf<V: Words + Drop>(
     }
 }
 
+// One key more than a leaf holds.
+const ONE_MORE: usize = LEAF_ROOM + 1;
+
 // The node of a full leaf's pairs and one more, whose key's place is given. The error is want of memory.
 fn past_leaf<V: Words + Drop>(
     alloc: Global,
@@ -108,8 +111,8 @@ fn past_leaf<V: Words + Drop>(
         (λ kind. IsBuilt V.WORDS width (with_pair key value full.entry.pairs)
         (tree_of V.WORDS kind)) }
 {
-    let mut pairs = [(0, 0); 33];
-    full.fill(0, &mut pairs[..32]);
+    let mut pairs = [(0, 0); ONE_MORE];
+    full.fill(0, &mut pairs[..LEAF_ROOM]);
     put_at(&mut pairs, at, (key, value));
     kind_of_sorted(alloc, width, &pairs)
 }

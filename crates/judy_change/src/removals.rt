@@ -15,7 +15,7 @@ use crate::remove_leaf::{
 };
 use crate::removed::{Removed, Taken};
 use crate::settle::settle;
-use judy_leaf::{BitRef, Words};
+use judy_leaf::{BitRef, LEAF_ROOM, Words};
 use judy_node::{BranchOf, ChildOf, Head, KindOf, NodeOf, RootOf, Step, Sums, most_in_immediate};
 use judy_unmetered::UNMETERED;
 use std::alloc::Global;
@@ -168,7 +168,7 @@ fn remove_childless<V: Words + Drop>(
             }
         }
         KindOf::Bit(head, block) => {
-            if BitRef::<V>::new(block).len() > 33 {
+            if BitRef::<V>::new(block).len() > LEAF_ROOM + 1 {
                 remove_from_bitmap::<V>(head, block, width, key)
             } else {
                 replaced(alloc, width, kind, key)

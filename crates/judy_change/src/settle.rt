@@ -7,7 +7,7 @@ ghost use Rattle.judy_node.specs.Populations.{AreSums};
 ghost use Rattle.judy_node.specs.Kinds.{tree_of, IsLevel, IsDeep, behind};
 ghost use Rattle.judy_change.specs.Removals.{IsTightOf, IsSettled, IsParent, IsNeeded, pairs_below, loose_below, loose_under, width_of};
 
-use judy_leaf::Words;
+use judy_leaf::{LEAF_ROOM, Words};
 use judy_node::{
     BranchOf, ChildOf, Head, KindOf, immediate_of_sorted, leaf_of_sorted, most_in_immediate,
 };
@@ -50,7 +50,7 @@ fn lessened<V: Words + Drop>(
     requires two { width ≡ 8 → 2 ≤ length child.now.pairs }
     ensures { IfOk result (λ small. IsTightOf V.WORDS width child.now.pairs small) }
 {
-    let mut pairs = [(0, 0); 32];
+    let mut pairs = [(0, 0); LEAF_ROOM];
     let count = child.pop() as usize;
     child.fill(UNMETERED, width, 0, &mut pairs[..count]);
     small_node(alloc, width, &pairs[..count])
@@ -141,7 +141,8 @@ fn is_needed<V: Words + Drop>(kind: &KindOf<V>) -> bool
     ensures { IsNeeded kind.now result }
 {
     match kind {
-        KindOf::Branch(branch) => branch.population > 32 && branch.children.len() != 1,
+        KindOf::Branch(branch) => branch.population > LEAF_ROOM as u64
+            && branch.children.len() != 1,
         _ => unreachable!(),
     }
 }
@@ -161,7 +162,7 @@ fn smaller<V: Words + Drop>(
     ensures { IsSettled V.WORDS width (pairs_below branch.value)
         (loose_below branch.value) result.0 result.1 }
 {
-    if branch.population <= 32 {
+    if branch.population <= LEAF_ROOM as u64 {
         return lessen(alloc, width, ChildOf::close(KindOf::Branch(branch)));
     }
     (merged(&mut branch), true)

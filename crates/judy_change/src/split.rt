@@ -10,7 +10,7 @@ ghost use Rattle.judy_change.specs.Inserted.{has_key, IsInserted};
 
 use crate::put::{add_child, put_key};
 use judy_bits::{ByteSet, Skip, low_part, without_low};
-use judy_leaf::Words;
+use judy_leaf::{Words, set_bit_width};
 use judy_node::{BranchOf, ChildOf, Head, KindOf, Sums};
 use std::alloc::{AllocError, Global};
 use std::marker::PhantomData;
@@ -64,7 +64,7 @@ fn shortened<V: Words + Drop>(kind: KindOf<V>, skipped: Skipped, left: u8) -> Ki
     let rest = low_part(skipped.number, usize::from(left));
     match kind {
         KindOf::Bit(_, mut block) => {
-            block.set_tag(block.tag() % 65_536 + 65_536 * (u32::from(left) + 1));
+            set_bit_width(&mut block, u32::from(left) + 1);
             KindOf::Bit(Head::new(rest), block)
         }
         KindOf::Branch(mut branch) => {

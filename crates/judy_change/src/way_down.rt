@@ -16,7 +16,7 @@ use crate::put::put_child;
 use crate::split::{Skipped, split};
 use judy_bits::without_low;
 use judy_block::Block;
-use judy_leaf::Words;
+use judy_leaf::{LEAF_ROOM, Words};
 use judy_node::{BranchOf, ChildOf, Head, KindOf, Step};
 use std::alloc::{AllocError, Global};
 use std::mem;
@@ -96,7 +96,7 @@ pub(crate) fn into_childless<V: Words + Drop>(
 {
     match kind {
         KindOf::Leaf(count, block) => {
-            if *count < 32 {
+            if usize::from(*count) < LEAF_ROOM {
                 into_leaf::<V>(alloc, count, block, width, key, value)
             } else {
                 replaced(alloc, kind, width, key, value)

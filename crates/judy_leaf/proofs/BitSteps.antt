@@ -15,7 +15,7 @@ use Rattle.judy_leaf.specs.BitChanges.{IsBitChange, IsBitEdit}
 use Rattle.judy_leaf.proofs.ValueSteps.{length-insert, length-remove}
 use Rattle.judy_leaf.proofs.LeafLists.{keys_of-pairs_of, rank_within}
 use Rattle.judy_leaf.specs.PairChanges.{HasRoom}
-use Rattle.judy_leaf.proofs.LowPairs.{length-low, low_at, first_rank, first_absent, with_next}
+use Rattle.judy_leaf.proofs.LowPairs.{length-low, low_at, with_next}
 use Rattle.judy_leaf.proofs.BitLists.{bit_keys_are, bit_length}
 use Rattle.judy_leaf.proofs.PairLists.{pairs-insert, pairs-insert_none, pairs-remove, pairs-remove_none}
 
@@ -291,17 +291,17 @@ module _ (words at key tag : ℕ) (before bits after : Contents) (is : IsBitPart
 
 module _ (words : ℕ) (block : Contents) (is : IsBitParts words block) (list : KeyList) (seen : bit_list words block ≡ list) where
   -- What an absent byte takes with its value is one of at most 256.
-  pub bit_fits : (n key : ℕ) → n ≡ length list.pairs → key < 256 → set.has (keys_of list.pairs) key ≡ false → n + 1 ≤ 256
+  pub bit_fits : (n key : ℕ) → n ≡ block.tag % 65536 → key < 256 → set.has (keys_of list.pairs) key ≡ false → n + 1 ≤ 256
   bit_fits n key counted small absent =
       let full = is.full in
       let room = bit_room block.words key (omega arith) small (ap (λ keys. set.has keys key) (bit_keys_are words block is list seen) ∙ absent) in
-      let long = bit_length words block is list seen in
+      let count = is.count in
       omega arith
 
-  pub bit_needed : (n w : ℕ) → n ≡ length list.pairs → w ≡ words → length block.words + words ≡ 4 + w * (n + 1)
+  pub bit_needed : (n w : ℕ) → n ≡ block.tag % 65536 → w ≡ words → length block.words + words ≡ 4 + w * (n + 1)
   bit_needed n w counted is_words =
       let full = is.full in
-      let many : n ≡ length (bit_keys block) = counted ∙ bit_length words block is list seen in
+      let many : n ≡ length (bit_keys block) = counted ∙ is.count in
       let each : w * (n + 1) ≡ words * length (bit_keys block) + words = (λ t. is_words t * (many t + 1)) ∙ one_more words (length (bit_keys block)) is.one in
       omega arith
 

@@ -7,6 +7,7 @@ use Rattle.std.proofs.lemmas.Nat.{div-add-mod'}
 use Rattle.judy_block.specs.Contents.{Contents}
 use Rattle.judy_leaf.specs.Packing.{places, places_of, pushed, pulled, IsTight, IsWidth}
 use Rattle.judy_leaf.specs.Edits.{IsEdit, IsFirstPlace}
+use Rattle.judy_leaf.proofs.KeysIn.{all_take, all_append}
 use Rattle.judy_leaf.proofs.Placed.{per_pos, length-places, length-places_of, places_of-append}
 
 -- ---- lists
@@ -99,6 +100,11 @@ module _ (width : ℕ) (is_width : IsWidth width) where
   pub not_yet : (at word : ℕ) (change : List ℕ → List ℕ) (before mid : Contents) → IsEdit width at change before mid → word < at → get_or mid.words word 0 ≡ get_or before.words word 0
   not_yet at word change before mid edit below = sym (get_or-take at mid.words word 0 below) ∙ ap (λ l. get_or l word 0) edit.front ∙ get_or-take at before.words word 0 below
 
+  -- Nor are its keys packed otherwise.
+  pub tight_still : (at word start : ℕ) (change : List ℕ → List ℕ) (before mid : Contents) → IsEdit width at change before mid → word < at → start ≤ word → word < length before.words
+      → AllByRecursion (IsTight width) (drop start before.words) → IsTight width (get_or mid.words word 0)
+  tight_still at word start change before mid edit below from inside tight = subst (IsTight width) (sym (not_yet at word change before mid edit below)) (tight_at before.words start word from inside tight)
+
   -- Keys that go up by a place: one word more.
   pub push_one : (word key : ℕ) (before mid : Contents) (at new : ℕ) → word < length before.words → at < 8 / width
       → IsEdit width (word + 1) (pushed zero (get_or (places width (get_or before.words word 0)) (8 / width - 1) 0)) before mid
@@ -121,15 +127,6 @@ module _ (width : ℕ) (is_width : IsWidth width) where
       let long = length-places width is_width (get_or before.words word 0) in
       one_word word (pulled zero 0) (pulled at 0) before mid new inside edit tight
       (ap (λ l. l ++ pulled zero 0 rest) (is ∙ ap (λ n. pulled at n here) is_first) ∙ pulled-append at here rest (omega arith))
-
-  all_take : (P : ℕ → Type 0) (count : ℕ) (xs : List ℕ) → AllByRecursion P xs → AllByRecursion P (take count xs)
-  all_take P zero xs all = tt
-  all_take P (suc count) [] all = tt
-  all_take P (suc count) (x ∷ xs) all = (all.0, all_take P count xs all.1)
-
-  all_append : (P : ℕ → Type 0) (xs ys : List ℕ) → AllByRecursion P xs → AllByRecursion P ys → AllByRecursion P (xs ++ ys)
-  all_append P [] ys first second = second
-  all_append P (x ∷ xs) ys first second = (first.0, all_append P xs ys first.1 second)
 
   in_two : (words : List ℕ) (start more : ℕ) → drop start words ≡ take more (drop start words) ++ drop (start + more) words
   in_two words start more = sym (take-append-drop more (drop start words)) ∙ ap (λ rest. take more (drop start words) ++ rest) (drop-drop more start words)

@@ -10,6 +10,7 @@ use Rattle.judy_leaf.specs.Leaves.{words_for, keys_from, AreKeysFrom}
 use Rattle.judy_leaf.specs.KeyChanges.{IsKeyChange, HasPlace}
 use Rattle.judy_leaf.proofs.Digits.{power_pos}
 use Rattle.judy_leaf.proofs.WordSteps.{base_pos}
+use Rattle.judy_leaf.proofs.KeysIn.{all_append}
 use Rattle.judy_leaf.proofs.Placed.{length-places_of, places_of-append}
 use Rattle.judy_leaf.proofs.ListEdits.{take-pushed, drop-pushed, take-pulled, drop-pulled, front_of_zeros}
 use Rattle.judy_leaf.proofs.WordsFor.{enough, words_grow, words_by_one}
@@ -17,10 +18,6 @@ use Rattle.judy_leaf.proofs.WordsFor.{enough, words_grow, words_by_one}
 replicate-add : (first second x : ℕ) → replicate first x ++ replicate second x ≡ replicate (first + second) x
 replicate-add zero second x = ap (λ n. replicate n x) (let e : second ≡ 0 + second = omega arith in e)
 replicate-add (suc first) second x = ap (λ rest. x ∷ rest) (replicate-add first second x) ∙ ap (λ n. replicate n x) (let e : suc (first + second) ≡ suc first + second = omega arith in e)
-
-all_append : (P : ℕ → Type 0) (xs ys : List ℕ) → AllByRecursion P xs → AllByRecursion P ys → AllByRecursion P (xs ++ ys)
-all_append P [] ys first second = second
-all_append P (x ∷ xs) ys first second = (first.0, all_append P xs ys first.1 second)
 
 all_front : (P : ℕ → Type 0) (xs ys : List ℕ) → AllByRecursion P (xs ++ ys) → AllByRecursion P xs
 all_front P [] ys all = tt

@@ -14,12 +14,12 @@ use Rattle.judy_leaf.proofs.Placed.{length-places_of}
 
 -- ---- a key fits its width
 
-all_take : (P : ℕ → Type 0) (count : ℕ) (xs : List ℕ) → AllByRecursion P xs → AllByRecursion P (take count xs)
+pub all_take : (P : ℕ → Type 0) (count : ℕ) (xs : List ℕ) → AllByRecursion P xs → AllByRecursion P (take count xs)
 all_take P zero xs all = tt
 all_take P (suc count) [] all = tt
 all_take P (suc count) (x ∷ xs) all = (all.0, all_take P count xs all.1)
 
-all_append : (P : ℕ → Type 0) (xs ys : List ℕ) → AllByRecursion P xs → AllByRecursion P ys → AllByRecursion P (xs ++ ys)
+pub all_append : (P : ℕ → Type 0) (xs ys : List ℕ) → AllByRecursion P xs → AllByRecursion P ys → AllByRecursion P (xs ++ ys)
 all_append P [] ys first second = second
 all_append P (x ∷ xs) ys first second = (first.0, all_append P xs ys first.1 second)
 

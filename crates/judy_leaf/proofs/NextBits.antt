@@ -1,5 +1,5 @@
 -- The lowest bit of a word is taken away.
-use Rattle.std.proofs.Common.{◌≡◌, ℕ, suc, ◌+◌, ◌-◌, ◌*◌, ◌/◌, ◌%◌, ◌^◌, ◌<◌, ◌≤◌, false, List, slice_index, Some, None, sym, refl, ap, ◌∙◌, subst, arith, ⊎_elim, bit_and}
+use Rattle.std.proofs.Common.{◌≡◌, ℕ, suc, ◌+◌, ◌-◌, ◌*◌, ◌/◌, ◌%◌, ◌^◌, ◌<◌, ◌≤◌, false, List, slice_index, Some, sym, refl, ap, ◌∙◌, arith, ⊎_elim, bit_and}
 use Rattle.std.specs.Int.{w64, bit_at, trailing_zeros}
 use Rattle.std.proofs.lemmas.Bool.{cases_lt}
 use Rattle.std.proofs.lemmas.Nat.{pow_pos, mod_below, and_le_l}
@@ -8,7 +8,7 @@ use Rattle.std.proofs.lemmas.Option.{none-some}
 use Rattle.std.proofs.Math.Nat.{pow-suc, mod-eq_of_lt}
 use Rattle.std.proofs.Math.Pow.{pow_mono}
 use Rattle.judy_bits.specs.ByteSets.{next_from}
-use Rattle.judy_bits.specs.BitWords.{is_set, members_of, IsLowestFrom}
+use Rattle.judy_bits.specs.BitWords.{is_set, members_of}
 use Rattle.judy_bits.proofs.BitLemmas.{unset_from_bit}
 use Rattle.judy_bits.proofs.MemberLemmas.{next_in_word, next_in_none}
 use Rattle.judy_leaf.specs.NextBits.{AreLeft}
@@ -112,6 +112,10 @@ module _ (words : List ℕ) (word left byte : ℕ) (is : AreLeft words word left
           one = sym (is.same place inside here) ∙ lowest.1;
           lowest = λ at from before. sym (is.same at (omega arith) (omega arith)) ∙ lowest.2 at before;
         })
+
+    -- It is a byte's.
+    pub next_below : 64 * word + trailing_zeros w64 left < 256
+    next_below = let inside = is.inside in let bit = bit_inside in omega arith
 
     -- Without it the others are left.
     pub left_behind : AreLeft words word (bit_and left (left - 1)) (64 * word + trailing_zeros w64 left + 1)

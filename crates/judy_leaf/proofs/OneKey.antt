@@ -9,7 +9,7 @@ use Rattle.judy_bits.proofs.SetLemmas.{not_less}
 use Rattle.judy_model.specs.Keys.{word_order}
 use Rattle.judy_bits.specs.ByteSets as set
 use Rattle.judy_leaf.specs.Packing.{digits, keys_in, IsPacked, IsWidth}
-use Rattle.judy_leaf.specs.KeyLists.{KeyList, low_pairs, pairs_of}
+use Rattle.judy_leaf.specs.KeyLists.{low_pairs, pairs_of}
 use Rattle.judy_leaf.specs.Immediates.{imm_list, IsImm}
 use Rattle.judy_leaf.specs.Nearby.{IsNextAt}
 use Rattle.judy_leaf.proofs.Digits.{number, number-digits}

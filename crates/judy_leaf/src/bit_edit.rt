@@ -7,6 +7,7 @@ ghost use Rattle.judy_leaf.specs.KeyLists.{keys_of, with_pair, low_pairs, IsKeyL
 ghost use Rattle.judy_leaf.specs.BitLeaves.{bit_keys, bit_list, IsBitParts};
 ghost use Rattle.judy_leaf.specs.BitChanges.{IsBitChange, IsBitEdit};
 
+use crate::layout::BIT_WORDS;
 use crate::values;
 use crate::words::Words;
 use judy_block::Block;
@@ -36,8 +37,8 @@ fn insert_value(block: &mut Block, at: usize, value: u64)
     requires room { length block.old.words + 1 ≤ block.old.capacity }
     ensures { block.new ≡ record block.old { words = insert block.old.words (4 + at) value } }
 {
-    block.open_gap(4 + at, 1);
-    block.put(4 + at, value);
+    block.open_gap(BIT_WORDS + at, 1);
+    block.put(BIT_WORDS + at, value);
 }
 
 // Puts an absent key in, which has `at` keys below it, with its value.
@@ -65,7 +66,7 @@ pub(crate) fn take<V: Words + Drop>(block: &mut Block, at: usize, key: u8)
     clear_bit(block, key);
     block.set_tag(block.tag() - 1);
     if V::WORDS == 1 {
-        block.close_gap(4 + at, 1);
+        block.close_gap(BIT_WORDS + at, 1);
     }
 }
 

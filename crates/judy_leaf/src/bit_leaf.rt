@@ -10,6 +10,7 @@ ghost use Rattle.judy_leaf.specs.BitLeaves.{IsBitParts, bit_list};
 use crate::bit_edit;
 use crate::bit_ref::BitRef;
 use crate::in_place::put_in_bit_leaf;
+use crate::layout::{BIT_WORDS, set_bit_width};
 use crate::words::{Width, Words};
 use judy_block::Block;
 use std::alloc::{AllocError, Global};
@@ -50,9 +51,9 @@ pub(crate) fn capacity_for<V: Words + Drop>(count: usize) -> usize
     ensures most { result ≤ 260 }
 {
     if V::WORDS == 1 {
-        4 + ((count + (count / 2).max(16)) / 4 * 4).min(256)
+        BIT_WORDS + ((count + (count / 2).max(16)) / 4 * 4).min(256)
     } else {
-        4
+        BIT_WORDS
     }
 }
 
@@ -137,8 +138,8 @@ impl<V: Words + Drop> BitLeafOf<V> {
             (λ leaf. leaf ≡ record { width = width; pairs = low_pairs 256 pairs.now }) }
     {
         let mut block = Block::new(alloc, capacity_for::<V>(pairs.len()))?;
-        block.open_gap(0, 4);
-        block.set_tag(65_536 * u32::from(width));
+        block.open_gap(0, BIT_WORDS);
+        set_bit_width(&mut block, u32::from(width));
         bit_edit::put_all::<V>(&mut block, pairs);
         Ok(BitLeafOf {
             block,
@@ -154,6 +155,6 @@ impl<V: Words + Drop> BitLeafOf<V> {
             (Lends (the_row V.row V.Words) word self.entry result (with_value_at at self.entry.now)) }
         ensures value { result.now ≡ slice_index (values_of self.old.pairs) at }
     {
-        self.block.slot(4 + at)
+        self.block.slot(BIT_WORDS + at)
     }
 }

@@ -12,6 +12,7 @@ ghost use Rattle.judy_leaf.specs.BitLeaves.{IsBitParts, bit_list};
 ghost use Rattle.judy_leaf.specs.Nearby.{pair_from, pair_up_to, is_absent};
 ghost use Rattle.judy_leaf.specs.Searches.{IsSearched};
 
+use crate::layout::{BIT_WORDS, bit_count, bit_width};
 use crate::words::{Width, Words};
 use judy_bits::BitsRef;
 use judy_block::Block;
@@ -64,7 +65,7 @@ impl<'a, V: Words + Drop> BitRef<'a, V> {
         ensures keys { members_of result.now ≡ keys_of self.now.pairs }
         ensures is_set { IsByteSet (keys_of self.now.pairs) }
     {
-        &self.block.words()[..4]
+        &self.block.words()[..BIT_WORDS]
     }
 
     /// A law, told by a call that does nothing: the keys are a set of bytes.
@@ -89,7 +90,7 @@ impl<'a, V: Words + Drop> BitRef<'a, V> {
         ensures is_set { IsByteSet (keys_of self.now.pairs) }
         ensures list { IsKeyList self.now }
     {
-        (self.block.tag() % 65_536) as usize
+        bit_count(self.block) as usize
     }
 
     /// How many bytes the keys of the node have, 1 to 8, of which all but the last are left out here.
@@ -97,7 +98,7 @@ impl<'a, V: Words + Drop> BitRef<'a, V> {
         ensures value { result ≡ self.now.width }
         ensures within { (1 ≤ result) × (result ≤ 8) }
     {
-        (self.block.tag() / 65_536) as u8
+        bit_width(self.block) as u8
     }
 
     /// How many keys are below a word.
@@ -170,7 +171,7 @@ impl<'a, V: Words + Drop> BitRef<'a, V> {
         ensures { result ≡ slice_index (values_of self.now.pairs) at }
     {
         if V::WORDS == 1 {
-            self.block.get(4 + at)
+            self.block.get(BIT_WORDS + at)
         } else {
             0
         }

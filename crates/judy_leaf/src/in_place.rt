@@ -9,6 +9,7 @@ ghost use Rattle.judy_leaf.specs.Leaves.{IsLeafParts, leaf_list};
 ghost use Rattle.judy_leaf.specs.BitLeaves.{IsBitParts, bit_list};
 
 use crate::bit_leaf::capacity_for;
+use crate::layout::{BIT_WORDS, bit_count};
 use crate::words::Words;
 use crate::{bit_edit, keys, pairs};
 use judy_block::Block;
@@ -89,8 +90,13 @@ pub fn put_in_bit_leaf<V: Words + Drop>(
         }) }
     ensures unchanged { OnErr result (block.new ≡ block.old) }
 {
-    let count = (block.tag() % 65_536) as usize + 1;
-    pairs::give_room(block, alloc, 4 + V::WORDS * count, capacity_for::<V>(count))?;
+    let count = bit_count(block) as usize + 1;
+    pairs::give_room(
+        block,
+        alloc,
+        BIT_WORDS + V::WORDS * count,
+        capacity_for::<V>(count),
+    )?;
     bit_edit::put::<V>(block, at, byte, value);
     Ok(())
 }

@@ -16,6 +16,7 @@ ghost use Rattle.judy_leaf.specs.KeyChanges.{IsKeyChange, HasPlace, HasPlaceFor}
 use crate::edit::{pull_key, push_key};
 use crate::gaps::{absent_from_in, absent_up_to_in};
 use crate::packed::{find_in, key_of, next_in, previous_in, rank_in};
+use crate::widths::{at_width, call};
 use judy_bits::low_part;
 use judy_block::Block;
 
@@ -40,6 +41,13 @@ fn words_from<const W: usize>(block: &Block, start: usize, count: usize) -> &[u6
     &block.words()[start..start + words_for::<W>(count)]
 }
 
+// A search in the words of the keys, by a function for a width.
+macro_rules! search {
+    ($width:literal, $function:ident, $block:expr, $start:expr, $count:expr, $number:expr) => {
+        $function::<$width>($count, words_from::<$width>($block, $start, $count), $number)
+    };
+}
+
 // How many keys are below a key.
 pub(crate) fn rank(width: usize, block: &Block, start: usize, count: usize, key: u64) -> usize
     requires start { start ≤ 32 }
@@ -47,16 +55,7 @@ pub(crate) fn rank(width: usize, block: &Block, start: usize, count: usize, key:
     requires ascending { IsStrictlySortedBy word_order (keys_from width count start block.now) }
     ensures { result ≡ set.rank (keys_from width count start block.now) key }
 {
-    match width {
-        1 => rank_in::<1>(count, words_from::<1>(block, start, count), key),
-        2 => rank_in::<2>(count, words_from::<2>(block, start, count), key),
-        3 => rank_in::<3>(count, words_from::<3>(block, start, count), key),
-        4 => rank_in::<4>(count, words_from::<4>(block, start, count), key),
-        5 => rank_in::<5>(count, words_from::<5>(block, start, count), key),
-        6 => rank_in::<6>(count, words_from::<6>(block, start, count), key),
-        7 => rank_in::<7>(count, words_from::<7>(block, start, count), key),
-        _ => rank_in::<8>(count, words_from::<8>(block, start, count), key),
-    }
+    at_width!(width, search, rank_in, block, start, count, key)
 }
 
 // The place of a key, where it is among the keys.
@@ -72,16 +71,7 @@ pub(crate) fn find(
     requires ascending { IsStrictlySortedBy word_order (keys_from width count start block.now) }
     ensures { result ≡ set.place (keys_from width count start block.now) key }
 {
-    match width {
-        1 => find_in::<1>(count, words_from::<1>(block, start, count), key),
-        2 => find_in::<2>(count, words_from::<2>(block, start, count), key),
-        3 => find_in::<3>(count, words_from::<3>(block, start, count), key),
-        4 => find_in::<4>(count, words_from::<4>(block, start, count), key),
-        5 => find_in::<5>(count, words_from::<5>(block, start, count), key),
-        6 => find_in::<6>(count, words_from::<6>(block, start, count), key),
-        7 => find_in::<7>(count, words_from::<7>(block, start, count), key),
-        _ => find_in::<8>(count, words_from::<8>(block, start, count), key),
-    }
+    at_width!(width, search, find_in, block, start, count, key)
 }
 
 // The place of the nearest key at or above a number, and that key.
@@ -99,16 +89,7 @@ pub(crate) fn next(
     ensures { MatchOption result (set.rank (keys_from width count start block.now) number ≡ count)
         (λ found. IsNextAt (keys_from width count start block.now) number found) }
 {
-    match width {
-        1 => next_in::<1>(count, words_from::<1>(block, start, count), number),
-        2 => next_in::<2>(count, words_from::<2>(block, start, count), number),
-        3 => next_in::<3>(count, words_from::<3>(block, start, count), number),
-        4 => next_in::<4>(count, words_from::<4>(block, start, count), number),
-        5 => next_in::<5>(count, words_from::<5>(block, start, count), number),
-        6 => next_in::<6>(count, words_from::<6>(block, start, count), number),
-        7 => next_in::<7>(count, words_from::<7>(block, start, count), number),
-        _ => next_in::<8>(count, words_from::<8>(block, start, count), number),
-    }
+    at_width!(width, search, next_in, block, start, count, number)
 }
 
 // The place of the nearest key at or below a number, and that key.
@@ -126,16 +107,7 @@ pub(crate) fn previous(
         (set.count_up_to (keys_from width count start block.now) number ≡ 0)
         (λ found. IsPreviousAt (keys_from width count start block.now) number found) }
 {
-    match width {
-        1 => previous_in::<1>(count, words_from::<1>(block, start, count), number),
-        2 => previous_in::<2>(count, words_from::<2>(block, start, count), number),
-        3 => previous_in::<3>(count, words_from::<3>(block, start, count), number),
-        4 => previous_in::<4>(count, words_from::<4>(block, start, count), number),
-        5 => previous_in::<5>(count, words_from::<5>(block, start, count), number),
-        6 => previous_in::<6>(count, words_from::<6>(block, start, count), number),
-        7 => previous_in::<7>(count, words_from::<7>(block, start, count), number),
-        _ => previous_in::<8>(count, words_from::<8>(block, start, count), number),
-    }
+    at_width!(width, search, previous_in, block, start, count, number)
 }
 
 // The nearest number at or above another that is no key, among those that a key of the width could be; none where all these are keys.
@@ -152,16 +124,7 @@ pub(crate) fn absent_from(
     ensures { IsFirst word_order
         (is_absent (256 ^ width) (keys_from width count start block.now)) number result }
 {
-    match width {
-        1 => absent_from_in::<1>(count, words_from::<1>(block, start, count), number),
-        2 => absent_from_in::<2>(count, words_from::<2>(block, start, count), number),
-        3 => absent_from_in::<3>(count, words_from::<3>(block, start, count), number),
-        4 => absent_from_in::<4>(count, words_from::<4>(block, start, count), number),
-        5 => absent_from_in::<5>(count, words_from::<5>(block, start, count), number),
-        6 => absent_from_in::<6>(count, words_from::<6>(block, start, count), number),
-        7 => absent_from_in::<7>(count, words_from::<7>(block, start, count), number),
-        _ => absent_from_in::<8>(count, words_from::<8>(block, start, count), number),
-    }
+    at_width!(width, search, absent_from_in, block, start, count, number)
 }
 
 // The nearest number at or below another that is no key, among those that a key of the width could be; none where all these are keys.
@@ -178,16 +141,7 @@ pub(crate) fn absent_up_to(
     ensures { IsLast word_order
         (is_absent (256 ^ width) (keys_from width count start block.now)) number result }
 {
-    match width {
-        1 => absent_up_to_in::<1>(count, words_from::<1>(block, start, count), number),
-        2 => absent_up_to_in::<2>(count, words_from::<2>(block, start, count), number),
-        3 => absent_up_to_in::<3>(count, words_from::<3>(block, start, count), number),
-        4 => absent_up_to_in::<4>(count, words_from::<4>(block, start, count), number),
-        5 => absent_up_to_in::<5>(count, words_from::<5>(block, start, count), number),
-        6 => absent_up_to_in::<6>(count, words_from::<6>(block, start, count), number),
-        7 => absent_up_to_in::<7>(count, words_from::<7>(block, start, count), number),
-        _ => absent_up_to_in::<8>(count, words_from::<8>(block, start, count), number),
-    }
+    at_width!(width, search, absent_up_to_in, block, start, count, number)
 }
 
 // The key at a place.
@@ -213,16 +167,7 @@ pub(crate) fn key_at(width: usize, block: &Block, start: usize, count: usize, at
     requires inside { at < count }
     ensures { result ≡ slice_index (keys_from width count start block.now) at }
 {
-    match width {
-        1 => key_in_block::<1>(block, start, count, at),
-        2 => key_in_block::<2>(block, start, count, at),
-        3 => key_in_block::<3>(block, start, count, at),
-        4 => key_in_block::<4>(block, start, count, at),
-        5 => key_in_block::<5>(block, start, count, at),
-        6 => key_in_block::<6>(block, start, count, at),
-        7 => key_in_block::<7>(block, start, count, at),
-        _ => key_in_block::<8>(block, start, count, at),
-    }
+    at_width!(width, call, key_in_block, block, start, count, at)
 }
 
 // One word more, of zeros, where the words of so many keys have no place for another.
@@ -295,16 +240,7 @@ pub(crate) fn insert(
     ensures { IsKeyChange width start count (count + 1)
         (λ keys. insert keys at key) block.old block.new }
 {
-    match width {
-        1 => insert_in::<1>(block, start, count, at, key),
-        2 => insert_in::<2>(block, start, count, at, key),
-        3 => insert_in::<3>(block, start, count, at, key),
-        4 => insert_in::<4>(block, start, count, at, key),
-        5 => insert_in::<5>(block, start, count, at, key),
-        6 => insert_in::<6>(block, start, count, at, key),
-        7 => insert_in::<7>(block, start, count, at, key),
-        _ => insert_in::<8>(block, start, count, at, key),
-    }
+    at_width!(width, call, insert_in, block, start, count, at, key)
 }
 
 // Puts the keys of pairs in behind the words of a block, by their lowest bytes.
@@ -369,16 +305,7 @@ pub(crate) fn append(width: usize, block: &mut Block, start: usize, pairs: &[(u6
     ensures { IsKeyChange width start 0 (length pairs.now)
         (λ _. keys_of (low_pairs (256 ^ width) pairs.now)) block.old block.new }
 {
-    match width {
-        1 => append_in::<1>(block, start, pairs),
-        2 => append_in::<2>(block, start, pairs),
-        3 => append_in::<3>(block, start, pairs),
-        4 => append_in::<4>(block, start, pairs),
-        5 => append_in::<5>(block, start, pairs),
-        6 => append_in::<6>(block, start, pairs),
-        7 => append_in::<7>(block, start, pairs),
-        _ => append_in::<8>(block, start, pairs),
-    }
+    at_width!(width, call, append_in, block, start, pairs)
 }
 
 // Lets the last word go where the words of one key fewer don't need it.
@@ -430,16 +357,7 @@ pub(crate) fn remove(width: usize, block: &mut Block, start: usize, count: usize
     ensures { IsKeyChange width start count (count - 1)
         (λ keys. remove keys at) block.old block.new }
 {
-    match width {
-        1 => remove_in::<1>(block, start, count, at),
-        2 => remove_in::<2>(block, start, count, at),
-        3 => remove_in::<3>(block, start, count, at),
-        4 => remove_in::<4>(block, start, count, at),
-        5 => remove_in::<5>(block, start, count, at),
-        6 => remove_in::<6>(block, start, count, at),
-        7 => remove_in::<7>(block, start, count, at),
-        _ => remove_in::<8>(block, start, count, at),
-    }
+    at_width!(width, call, remove_in, block, start, count, at)
 }
 
 // How many words so many keys take.
@@ -450,14 +368,5 @@ pub(crate) fn words_of(width: usize, count: usize) -> usize
     ensures value { result ≡ words_for width count }
     ensures within { result ≤ 33 }
 {
-    match width {
-        1 => words_for::<1>(count),
-        2 => words_for::<2>(count),
-        3 => words_for::<3>(count),
-        4 => words_for::<4>(count),
-        5 => words_for::<5>(count),
-        6 => words_for::<6>(count),
-        7 => words_for::<7>(count),
-        _ => words_for::<8>(count),
-    }
+    at_width!(width, call, words_for, count)
 }

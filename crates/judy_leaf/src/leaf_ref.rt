@@ -2,15 +2,17 @@
 
 ghost use Rattle.std.specs.Prelude.{◌≡◌, ◌+◌, ◌*◌, ◌<◌, ◌≤◌, ◌^◌, ◌==◌, length, slice_index};
 ghost use Rattle.std.specs.List.{AllByRecursion};
+ghost use Rattle.std.specs.List.Sorted.{IsStrictlySortedBy};
 ghost use Rattle.judy_model.specs.Keys.{word_order};
 ghost use Rattle.judy_model.specs.Nearest.{IsFirst, IsLast};
 ghost use Rattle.judy_bits.specs.ByteSets as set;
 ghost use Rattle.judy_leaf.specs.KeyLists.{KeyList, keys_of, values_of, IsKeyList};
-ghost use Rattle.judy_leaf.specs.Leaves.{IsLeafParts, leaf_list};
+ghost use Rattle.judy_leaf.specs.Leaves.{AreKeysFrom, IsLeafParts, keys_from, leaf_list};
 ghost use Rattle.judy_leaf.specs.Nearby.{pair_from, pair_up_to, is_absent};
 ghost use Rattle.judy_leaf.specs.Searches.{IsSearched};
 
 use crate::keys;
+use crate::layout::LEAF_ROOM;
 use crate::words::{Width, Words};
 use judy_block::Block;
 use std::marker::{Model, PhantomData};
@@ -83,7 +85,7 @@ impl<'a, V: Words + Drop> LeafRef<'a, V> {
     pub fn is_full(&self) -> bool
         ensures { result ≡ (length self.now.pairs == 32) }
     {
-        self.len() == 32
+        self.len() == LEAF_ROOM
     }
 
     /// How many bytes a key has, 1 to 8.
@@ -94,33 +96,36 @@ impl<'a, V: Words + Drop> LeafRef<'a, V> {
         self.width
     }
 
+    // Its keys as `keys` takes them: their width, the block, the word that they begin at, and how many they are.
+    #[inline(always)]
+    fn keys(&self) -> (usize, &'a Block, usize, usize)
+        ensures start { result.2 ≤ 32 }
+        ensures stand { AreKeysFrom result.0 result.3 result.2 result.1.now }
+        ensures ascending { IsStrictlySortedBy word_order
+            (keys_from result.0 result.3 result.2 result.1.now) }
+        ensures same { keys_from result.0 result.3 result.2 result.1.now ≡ keys_of self.now.pairs }
+        ensures width { result.0 ≡ self.now.width }
+        ensures count { result.3 ≡ length self.now.pairs }
+    {
+        let count = usize::from(self.count);
+        (usize::from(self.width), self.block, V::WORDS * count, count)
+    }
+
     /// How many keys are below a word.
     pub fn rank(&self, key: u64) -> usize
         ensures value { result ≡ set.rank (keys_of self.now.pairs) key }
         ensures within { result ≤ length self.now.pairs }
     {
-        let count = usize::from(self.count);
-        keys::rank(
-            usize::from(self.width),
-            self.block,
-            V::WORDS * count,
-            count,
-            key,
-        )
+        let (width, block, start, count) = self.keys();
+        keys::rank(width, block, start, count, key)
     }
 
     /// The place of a key; none where the word isn't one of the keys.
     pub fn find(&self, key: u64) -> Option<usize>
         ensures { result ≡ set.place (keys_of self.now.pairs) key }
     {
-        let count = usize::from(self.count);
-        keys::find(
-            usize::from(self.width),
-            self.block,
-            V::WORDS * count,
-            count,
-            key,
-        )
+        let (width, block, start, count) = self.keys();
+        keys::find(width, block, start, count, key)
     }
 
     /// The place of a key, as `Ok`; or, where the word isn't one of the keys, the place that it would have, as `Err`.
@@ -128,9 +133,8 @@ impl<'a, V: Words + Drop> LeafRef<'a, V> {
     pub fn search(&self, key: u64) -> Result<usize, usize>
         ensures { IsSearched (keys_of self.now.pairs) key result }
     {
-        let count = usize::from(self.count);
-        let width = usize::from(self.width);
-        match keys::next(width, self.block, V::WORDS * count, count, key) {
+        let (width, block, start, count) = self.keys();
+        match keys::next(width, block, start, count, key) {
             Some((at, found)) => { if found == key { Ok(at) } else { Err(at) } }
             None => Err(count),
         }
@@ -143,14 +147,8 @@ impl<'a, V: Words + Drop> LeafRef<'a, V> {
         requires { at < length self.now.pairs }
         ensures { result ≡ slice_index (keys_of self.now.pairs) at }
     {
-        let count = usize::from(self.count);
-        keys::key_at(
-            usize::from(self.width),
-            self.block,
-            V::WORDS * count,
-            count,
-            at,
-        )
+        let (width, block, start, count) = self.keys();
+        keys::key_at(width, block, start, count, at)
     }
 
     // The same of a leaf whose keys have `W` bytes.
@@ -159,8 +157,8 @@ impl<'a, V: Words + Drop> LeafRef<'a, V> {
         requires inside { at < length self.now.pairs }
         ensures { result ≡ slice_index (keys_of self.now.pairs) at }
     {
-        let count = usize::from(self.count);
-        keys::key_in_block::<W>(self.block, V::WORDS * count, count, at)
+        let (_, block, start, count) = self.keys();
+        keys::key_in_block::<W>(block, start, count, at)
     }
 
     /// The value at such a place, 0 where keys have no value.
@@ -177,9 +175,8 @@ impl<'a, V: Words + Drop> LeafRef<'a, V> {
     pub fn at_or_after(&self, number: u64) -> Option<(u64, u64)>
         ensures { result ≡ pair_from self.now.pairs number }
     {
-        let count = usize::from(self.count);
-        let width = usize::from(self.width);
-        match keys::next(width, self.block, V::WORDS * count, count, number) {
+        let (width, block, start, count) = self.keys();
+        match keys::next(width, block, start, count, number) {
             Some((at, key)) => Some((key, self.value_at(at))),
             None => None,
         }
@@ -191,9 +188,8 @@ impl<'a, V: Words + Drop> LeafRef<'a, V> {
     pub fn at_or_before(&self, number: u64) -> Option<(u64, u64)>
         ensures { result ≡ pair_up_to self.now.pairs number }
     {
-        let count = usize::from(self.count);
-        let width = usize::from(self.width);
-        match keys::previous(width, self.block, V::WORDS * count, count, number) {
+        let (width, block, start, count) = self.keys();
+        match keys::previous(width, block, start, count, number) {
             Some((at, key)) => Some((key, self.value_at(at))),
             None => None,
         }
@@ -205,9 +201,8 @@ impl<'a, V: Words + Drop> LeafRef<'a, V> {
         ensures { IsFirst word_order
             (is_absent (256 ^ self.now.width) (keys_of self.now.pairs)) number result }
     {
-        let count = usize::from(self.count);
-        let width = usize::from(self.width);
-        keys::absent_from(width, self.block, V::WORDS * count, count, number)
+        let (width, block, start, count) = self.keys();
+        keys::absent_from(width, block, start, count, number)
     }
 
     /// The nearest number at or below another that is no key, among those that a key of this width could be; none where all these
@@ -216,8 +211,7 @@ impl<'a, V: Words + Drop> LeafRef<'a, V> {
         ensures { IsLast word_order
             (is_absent (256 ^ self.now.width) (keys_of self.now.pairs)) number result }
     {
-        let count = usize::from(self.count);
-        let width = usize::from(self.width);
-        keys::absent_up_to(width, self.block, V::WORDS * count, count, number)
+        let (width, block, start, count) = self.keys();
+        keys::absent_up_to(width, block, start, count, number)
     }
 }

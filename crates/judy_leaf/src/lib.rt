@@ -14,7 +14,8 @@
 //! leaf.rt, bit_leaf.rt and imm.rt have the three, leaf_ref.rt and bit_ref.rt the reading, words.rt the number of value words as a
 //! type. place.rt has the places of one word, for a width that is known when a program is compiled; packed.rt searches words, by lanes.rt
 //! where keys have one byte or two and by halves.rt where they have eight, gaps.rt follows keys that are neighbours to a number that is no key, and edit.rt changes the words
-//! of a block, place by place. keys.rt and one_word.rt know the width at run time and hand on to these. values.rt and pairs.rt put
+//! of a block, place by place. keys.rt and one_word.rt know the width at run time and hand on to these by the macros of widths.rt. layout.rt tells how many keys
+//! a leaf holds, and how a bitmap leaf's block is laid out. values.rt and pairs.rt put
 //! values beside the keys, fill.rt writes pairs into a slice, or what from_pair.rt makes of them, in_place.rt changes leaves whose parts stand in a node, convert.rt
 //! makes an immediate of a leaf's pairs and a leaf of an immediate's, next_bits.rt has the bits of a bitmap leaf in turn, and bit_edit.rt
 //! changes its block. The crate
@@ -34,6 +35,7 @@ mod imm;
 mod in_place;
 mod keys;
 mod lanes;
+mod layout;
 mod leaf;
 mod leaf_ref;
 mod next_bits;
@@ -42,6 +44,7 @@ mod packed;
 mod pairs;
 mod place;
 mod values;
+mod widths;
 mod words;
 
 pub use bit_leaf::{BitLeaf, BitLeafOf};
@@ -49,6 +52,7 @@ pub use bit_ref::BitRef;
 pub use from_pair::FromPair;
 pub use imm::{Imm, ImmOf};
 pub use in_place::{put_in_bit_leaf, put_in_leaf, take_from_bit_leaf, take_from_leaf};
+pub use layout::{BIT_WORDS, LEAF_ROOM, bit_count, bit_width, set_bit_width, widen_bits};
 pub use leaf::{Leaf, LeafOf};
 pub use leaf_ref::LeafRef;
 pub use words::{Width, Words};

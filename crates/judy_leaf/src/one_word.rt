@@ -16,6 +16,7 @@ ghost use Rattle.judy_leaf.specs.Immediates.{IsWordChange};
 use crate::gaps::{absent_from_in, absent_up_to_in};
 use crate::packed::{find_in, key_of, next_in, previous_in, rank_in};
 use crate::place;
+use crate::widths::{at_width, call};
 
 // How many keys a word holds.
 pub(crate) fn room(width: u8) -> u8
@@ -45,16 +46,7 @@ fn rank_among(width: u8, count: usize, word: u64, key: u64) -> usize
     requires ascending { IsStrictlySortedBy word_order (keys_in width count (word ∷ [])) }
     ensures { result ≡ set.rank (keys_in width count (word ∷ [])) key }
 {
-    match width {
-        1 => rank_in::<1>(count, &[word], key),
-        2 => rank_in::<2>(count, &[word], key),
-        3 => rank_in::<3>(count, &[word], key),
-        4 => rank_in::<4>(count, &[word], key),
-        5 => rank_in::<5>(count, &[word], key),
-        6 => rank_in::<6>(count, &[word], key),
-        7 => rank_in::<7>(count, &[word], key),
-        _ => rank_in::<8>(count, &[word], key),
-    }
+    at_width!(width, call, rank_in, count, &[word], key)
 }
 
 // The place of a key, where it is among the keys.
@@ -77,16 +69,7 @@ fn find_among(width: u8, count: usize, word: u64, key: u64) -> Option<usize>
     requires ascending { IsStrictlySortedBy word_order (keys_in width count (word ∷ [])) }
     ensures { result ≡ set.place (keys_in width count (word ∷ [])) key }
 {
-    match width {
-        1 => find_in::<1>(count, &[word], key),
-        2 => find_in::<2>(count, &[word], key),
-        3 => find_in::<3>(count, &[word], key),
-        4 => find_in::<4>(count, &[word], key),
-        5 => find_in::<5>(count, &[word], key),
-        6 => find_in::<6>(count, &[word], key),
-        7 => find_in::<7>(count, &[word], key),
-        _ => find_in::<8>(count, &[word], key),
-    }
+    at_width!(width, call, find_in, count, &[word], key)
 }
 
 // The place of the nearest key at or above a number, and that key.
@@ -111,16 +94,7 @@ fn next_among(width: u8, count: usize, word: u64, number: u64) -> Option<(usize,
     ensures { MatchOption result (set.rank (keys_in width count (word ∷ [])) number ≡ count)
         (λ found. IsNextAt (keys_in width count (word ∷ [])) number found) }
 {
-    match width {
-        1 => next_in::<1>(count, &[word], number),
-        2 => next_in::<2>(count, &[word], number),
-        3 => next_in::<3>(count, &[word], number),
-        4 => next_in::<4>(count, &[word], number),
-        5 => next_in::<5>(count, &[word], number),
-        6 => next_in::<6>(count, &[word], number),
-        7 => next_in::<7>(count, &[word], number),
-        _ => next_in::<8>(count, &[word], number),
-    }
+    at_width!(width, call, next_in, count, &[word], number)
 }
 
 // The place of the nearest key at or below a number, and that key.
@@ -130,16 +104,7 @@ pub(crate) fn previous(width: u8, count: usize, word: u64, number: u64) -> Optio
     ensures { MatchOption result (set.count_up_to (keys_in width count (word ∷ [])) number ≡ 0)
         (λ found. IsPreviousAt (keys_in width count (word ∷ [])) number found) }
 {
-    match width {
-        1 => previous_in::<1>(count, &[word], number),
-        2 => previous_in::<2>(count, &[word], number),
-        3 => previous_in::<3>(count, &[word], number),
-        4 => previous_in::<4>(count, &[word], number),
-        5 => previous_in::<5>(count, &[word], number),
-        6 => previous_in::<6>(count, &[word], number),
-        7 => previous_in::<7>(count, &[word], number),
-        _ => previous_in::<8>(count, &[word], number),
-    }
+    at_width!(width, call, previous_in, count, &[word], number)
 }
 
 // The nearest number at or above another that is no key, among those that a key of the width could be; none where all these are keys.
@@ -150,16 +115,7 @@ pub(crate) fn absent_from(width: u8, count: usize, word: u64, number: u64) -> Op
     ensures { IsFirst word_order
         (is_absent (256 ^ width) (keys_in width count (word ∷ []))) number result }
 {
-    match width {
-        1 => absent_from_in::<1>(count, &[word], number),
-        2 => absent_from_in::<2>(count, &[word], number),
-        3 => absent_from_in::<3>(count, &[word], number),
-        4 => absent_from_in::<4>(count, &[word], number),
-        5 => absent_from_in::<5>(count, &[word], number),
-        6 => absent_from_in::<6>(count, &[word], number),
-        7 => absent_from_in::<7>(count, &[word], number),
-        _ => absent_from_in::<8>(count, &[word], number),
-    }
+    at_width!(width, call, absent_from_in, count, &[word], number)
 }
 
 // The nearest number at or below another that is no key, among those that a key of the width could be; none where all these are keys.
@@ -170,16 +126,7 @@ pub(crate) fn absent_up_to(width: u8, count: usize, word: u64, number: u64) -> O
     ensures { IsLast word_order
         (is_absent (256 ^ width) (keys_in width count (word ∷ []))) number result }
 {
-    match width {
-        1 => absent_up_to_in::<1>(count, &[word], number),
-        2 => absent_up_to_in::<2>(count, &[word], number),
-        3 => absent_up_to_in::<3>(count, &[word], number),
-        4 => absent_up_to_in::<4>(count, &[word], number),
-        5 => absent_up_to_in::<5>(count, &[word], number),
-        6 => absent_up_to_in::<6>(count, &[word], number),
-        7 => absent_up_to_in::<7>(count, &[word], number),
-        _ => absent_up_to_in::<8>(count, &[word], number),
-    }
+    at_width!(width, call, absent_up_to_in, count, &[word], number)
 }
 
 // The key at a place.
@@ -211,16 +158,7 @@ fn key_among(width: u8, count: usize, word: u64, at: usize) -> u64
     requires inside { at < count }
     ensures { result ≡ slice_index (keys_in width count (word ∷ [])) at }
 {
-    match width {
-        1 => key_in::<1>(count, word, at),
-        2 => key_in::<2>(count, word, at),
-        3 => key_in::<3>(count, word, at),
-        4 => key_in::<4>(count, word, at),
-        5 => key_in::<5>(count, word, at),
-        6 => key_in::<6>(count, word, at),
-        7 => key_in::<7>(count, word, at),
-        _ => key_in::<8>(count, word, at),
-    }
+    at_width!(width, call, key_in, count, word, at)
 }
 
 // The word with a key put in at a place.
@@ -242,16 +180,7 @@ pub(crate) fn with_key(width: u8, count: usize, word: u64, at: usize, key: u64) 
     requires below { key < 256 ^ width }
     ensures { IsWordChange width count (count + 1) (λ keys. insert keys at key) word result }
 {
-    match width {
-        1 => put_in::<1>(count, word, at, key),
-        2 => put_in::<2>(count, word, at, key),
-        3 => put_in::<3>(count, word, at, key),
-        4 => put_in::<4>(count, word, at, key),
-        5 => put_in::<5>(count, word, at, key),
-        6 => put_in::<6>(count, word, at, key),
-        7 => put_in::<7>(count, word, at, key),
-        _ => put_in::<8>(count, word, at, key),
-    }
+    at_width!(width, call, put_in, count, word, at, key)
 }
 
 // The word without the key at a place.
@@ -269,14 +198,5 @@ pub(crate) fn without_key(width: u8, count: usize, word: u64, at: usize) -> u64
     requires inside { at < count }
     ensures { IsWordChange width count (count - 1) (λ keys. remove keys at) word result }
 {
-    match width {
-        1 => take_out::<1>(count, word, at),
-        2 => take_out::<2>(count, word, at),
-        3 => take_out::<3>(count, word, at),
-        4 => take_out::<4>(count, word, at),
-        5 => take_out::<5>(count, word, at),
-        6 => take_out::<6>(count, word, at),
-        7 => take_out::<7>(count, word, at),
-        _ => take_out::<8>(count, word, at),
-    }
+    at_width!(width, call, take_out, count, word, at)
 }

@@ -1,5 +1,5 @@
 -- Populations of children.
-use Rattle.std.proofs.Common.{◌≡◌, ℕ, ◌+◌, ◌-◌, ◌*◌, ◌^◌, ◌<◌, ◌≤◌, List, [], ◌∷◌, ◌++◌, length, take, drop, get_or, Some, slice_get, sym, refl, ap, ◌∙◌, arith, length-append, length-drop}
+use Rattle.std.proofs.Common.{◌≡◌, ℕ, ◌+◌, ◌-◌, ◌*◌, ◌^◌, ◌<◌, ◌≤◌, List, [], ◌∷◌, ◌++◌, length, take, drop, get_or, Some, slice_get, sym, refl, ap, ◌∙◌, subst, arith, length-append, length-drop}
 use Rattle.std.proofs.lemmas.List.{take_more, take-append-drop, take_all}
 use Rattle.judy_leaf.specs.KeyLists.{shift}
 use Rattle.judy_node.specs.Trees.{Tree, join, AreChildren, IsBranch}
@@ -34,6 +34,10 @@ population-take kids at = sym (population-append (take at kids) (drop at kids)) 
 
 pub population-step : (kids : List Tree) (at : ℕ) (kid : Tree) → at < length kids → kid ≡ get_or kids at kid → population (take (at + 1) kids) ≡ population (take at kids) + length kid.pairs
 population-step kids at kid within is = population-more kids at kid within ∙ ap (λ k. population (take at kids) + length k.pairs) (sym is)
+
+-- The same of the child before a place.
+pub population-last : (kids : List Tree) (place : ℕ) (kid : Tree) → 1 ≤ place → place ≤ length kids → kid ≡ get_or kids (place - 1) kid → population (take place kids) ≡ population (take (place - 1) kids) + length kid.pairs
+population-last kids place kid some within is = subst (λ p. population (take p kids) ≡ population (take (place - 1) kids) + length kid.pairs) (omega arith) (population-step kids (place - 1) kid (omega arith) is)
 
 -- A child's keys are among all.
 pub population-within : (kids : List Tree) (at : ℕ) (kid : Tree) → at < length kids → kid ≡ get_or kids at kid → population (take at kids) + length kid.pairs ≤ population kids

@@ -1,5 +1,5 @@
 -- The pairs of a branch, child by child.
-use Rattle.std.proofs.Common.{◌≡◌, ℕ, zero, suc, ◌+◌, ◌*◌, ◌^◌, ◌<◌, ◌≤◌, List, [], ◌∷◌, ◌++◌, length, take, get_or, Some, slice_get, sym, refl, ap, ◌∙◌, subst, arith}
+use Rattle.std.proofs.Common.{◌≡◌, ℕ, zero, suc, ◌+◌, ◌*◌, ◌^◌, ◌<◌, ◌≤◌, List, [], ◌∷◌, ◌++◌, length, take, get_or, Option, Some, slice_get, sym, refl, ap, ◌∙◌, subst, arith}
 use Rattle.std.proofs.Math.Nat.{add-mul, pow-le-pow_right}
 use Rattle.std.proofs.lemmas.Nat.{mul-le, pow-add}
 use Rattle.std.proofs.lemmas.List.{append_assoc}
@@ -49,41 +49,53 @@ word_below base start width fits = let some = unit_pos width in omega arith
 pub branch_long : (words width : ℕ) (skipped bytes : List ℕ) (kids : List Tree) (count : ℕ) → IsBranch words width skipped bytes kids count → population kids ≡ count
 branch_long words width skipped bytes kids count is = sym (branch_population words width skipped bytes kids count is)
 
-module _ (words width : ℕ) (skipped bytes : List ℕ) (kids : List Tree) (count : ℕ) (is : IsBranch words width skipped bytes kids count) (at : ℕ) (kid : Tree) (byte : ℕ) (inside : at < length kids) (there : kid ≡ get_or kids at kid)
-    (told : Some byte ≡ slice_get bytes at) where
+-- The child at a place of a branch, and its byte.
+pub record IsKid (words width : ℕ) (skipped bytes : List ℕ) (kids : List Tree) (count at : ℕ) (kid : Tree) (byte : ℕ) : Type 0 where
+  pub level : IsBranch words width skipped bytes kids count
+  pub inside : at < length kids
+  pub there : kid ≡ get_or kids at kid
+  pub told : Some byte ≡ slice_get bytes at
+
+-- It as it is read: the children are lent, and a call tells the byte.
+pub kid_here : {words width : ℕ} {skipped bytes : List ℕ} {kids lent : List Tree} {count at : ℕ} {kid : Tree} {byte : ℕ} {found : Option ℕ}
+    → IsBranch words width skipped bytes kids count → lent ≡ kids → at < length lent → kid ≡ get_or lent at kid → found ≡ Some byte → found ≡ slice_get bytes at → IsKid words width skipped bytes lent count at kid byte
+kid_here {words} {width} {skipped} {bytes} {count = count} level same inside there is found =
+    record { level = subst (λ ks. IsBranch words width skipped bytes ks count) (sym same) level; inside = inside; there = there; told = sym is ∙ found }
+
+module _ {words width : ℕ} {skipped bytes : List ℕ} {kids : List Tree} {count at : ℕ} {kid : Tree} {byte : ℕ} (here : IsKid words width skipped bytes kids count at kid byte) where
   byte_is : byte ≡ get_or bytes at 0
   byte_is =
-      let long = children-length words width 0 bytes kids is.parts.children in
-      same_Some byte (get_or bytes at 0) (told ∙ slice_get-get_or bytes at 0 (omega arith))
+      let long = children-length words width 0 bytes kids here.level.parts.children in
+      same_Some byte (get_or bytes at 0) (here.told ∙ slice_get-get_or bytes at 0 (omega arith))
 
   pub kid_is : IsChild words width kid
-  kid_is = (child_at words width 0 bytes kids at kid is.parts.children inside there).1
+  kid_is = (child_at words width 0 bytes kids at kid here.level.parts.children here.inside here.there).1
 
   pub start_fits : (number_of skipped * 256 + byte) * 256 ^ width + 256 ^ width ≤ 256 ^ (length skipped + 1 + width)
   start_fits =
-      let below : byte < 256 = subst (λ b. b < 256) (sym byte_is) (child_at words width 0 bytes kids at kid is.parts.children inside there).0 in
+      let below : byte < 256 = subst (λ b. b < 256) (sym byte_is) (child_at words width 0 bytes kids at kid here.level.parts.children here.inside here.there).0 in
       let block = number_of skipped * 256 + byte in
-      let less = block_below skipped byte (number_of-lt skipped is.parts.skipped_bytes) below in
+      let less = block_below skipped byte (number_of-lt skipped here.level.parts.skipped_bytes) below in
       let top : suc block * 256 ^ width ≤ 256 ^ (length skipped + 1) * 256 ^ width = mul-le (suc block) (256 ^ width) (256 ^ (length skipped + 1)) (256 ^ width) less (omega arith) in
       let whole = pow-add 256 (length skipped + 1) width in
       let step : suc block * 256 ^ width ≡ block * 256 ^ width + 256 ^ width = ap (λ n. n * 256 ^ width) (let e : suc block ≡ block + 1 = omega arith in e) ∙ add-mul block 1 (256 ^ width) ∙ (let e : block * 256 ^ width + 1 * 256 ^ width ≡ block * 256 ^ width + 256 ^ width = omega arith in e) in
       omega arith
 
   pub kids_within : population (take at kids) + length kid.pairs ≤ count
-  kids_within = let all = branch_population words width skipped bytes kids count is in let most = population-within kids at kid inside there in omega arith
+  kids_within = let all = branch_population words width skipped bytes kids count here.level in let most = population-within kids at kid here.inside here.there in omega arith
 
   pub next_pairs : (n : ℕ) → n ≡ at + 1 → join (256 ^ width) (number_of skipped * 256) (take at bytes) (take at kids) ++ shift ((number_of skipped * 256 + byte) * 256 ^ width) kid.pairs
       ≡ join (256 ^ width) (number_of skipped * 256) (take n bytes) (take n kids)
   next_pairs n e =
       ap (λ b. join (256 ^ width) (number_of skipped * 256) (take at bytes) (take at kids) ++ shift ((number_of skipped * 256 + b) * 256 ^ width) kid.pairs) byte_is
-      ∙ sym (join_more words width 0 (256 ^ width) (number_of skipped * 256) bytes kids at kid is.parts.children inside there)
+      ∙ sym (join_more words width 0 (256 ^ width) (number_of skipped * 256) bytes kids at kid here.level.parts.children here.inside here.there)
       ∙ ap (λ m. join (256 ^ width) (number_of skipped * 256) (take m bytes) (take m kids)) (let f : suc at ≡ n = omega arith in f)
 
   pub front_fits : length skipped + 1 + width ≤ 8 → number_of skipped * 256 + byte < 2 ^ 64
   front_fits room =
-      let below : byte < 256 = subst (λ b. b < 256) (sym byte_is) (child_at words width 0 bytes kids at kid is.parts.children inside there).0 in
-      let some = is.parts.some_width in
-      let front = number_of-lt skipped is.parts.skipped_bytes in
+      let below : byte < 256 = subst (λ b. b < 256) (sym byte_is) (child_at words width 0 bytes kids at kid here.level.parts.children here.inside here.there).0 in
+      let some = here.level.parts.some_width in
+      let front = number_of-lt skipped here.level.parts.skipped_bytes in
       let short : length skipped ≤ 6 = omega arith in
       let most : 256 ^ length skipped ≤ 256 ^ 6 = pow-le-pow_right {n = 256} (omega arith) short in
       omega arith

@@ -17,7 +17,8 @@ use Rattle.judy_leaf.specs.Immediates.{parts_list, IsImmParts}
 use Rattle.judy_leaf.proofs.Digits.{power_pos}
 use Rattle.judy_leaf.proofs.Placed.{per_pos}
 use Rattle.judy_leaf.proofs.LeafLists.{leaf_keys, keys_of-pairs_of}
-use Rattle.judy_leaf.proofs.Bounds.{keys_in-below, bit_keys-below}
+use Rattle.judy_leaf.proofs.Bounds.{bit_keys-below}
+use Rattle.judy_leaf.proofs.KeysIn.{keys_below_unit}
 use Rattle.judy_leaf.proofs.LeafLists as leaves
 use Rattle.judy_leaf.proofs.BitLists as bits
 use Rattle.judy_leaf.proofs.ImmLists as imms
@@ -70,7 +71,7 @@ no_values words count values none = ap (λ n. take n values) (ap (λ w. w * coun
 pub leaf_map : (words count : ℕ) (block : Contents) → IsLeafParts words count block → IsMap words 0 (256 ^ block.tag) (leaf_list words count block).pairs
 leaf_map words count block is =
     pairs_map words (256 ^ block.tag) (keys_from block.tag count (words * count) block) (take (words * count) block.words) is.ascending
-    (keys_in-below block.tag count (drop (words * count) block.words)) (no_values words count block.words)
+    (keys_below_unit block.tag count (drop (words * count) block.words)) (no_values words count block.words)
 
 pub leaf_width : (words count : ℕ) (block : Contents) → IsLeafParts words count block → (1 ≤ block.tag) × (block.tag ≤ 8)
 leaf_width words count block is = (is.keys.packed.is_width.some, is.keys.packed.is_width.most)
@@ -106,7 +107,7 @@ bit_parts-wider words block is room =
 -- An immediate without values.
 pub imm_map : (width count word : ℕ) → IsImmParts 0 width count word → IsMap 0 0 (256 ^ width) (parts_list 0 width count word).pairs
 imm_map width count word is =
-    pairs_map 0 (256 ^ width) (keys_in width count (word ∷ [])) (take (0 * count) (0 ∷ [])) is.imm.ascending (keys_in-below width count (word ∷ [])) (no_values 0 count (0 ∷ []))
+    pairs_map 0 (256 ^ width) (keys_in width count (word ∷ [])) (take (0 * count) (0 ∷ [])) is.imm.ascending (keys_below_unit width count (word ∷ [])) (no_values 0 count (0 ∷ []))
 
 pub imm_length : (width count word : ℕ) → IsImmParts 0 width count word → length (parts_list 0 width count word).pairs ≡ count
 imm_length width count word is = imms.imm_length 0 width count word 0 is.imm (parts_list 0 width count word) refl

@@ -1,5 +1,5 @@
 -- Where a key that is there stands in a node of each kind, without a look at the bytes that the node skips.
-use Rattle.std.proofs.Common.{◌≡◌, ℕ, zero, suc, ◌+◌, ◌-◌, ◌*◌, ◌/◌, ◌%◌, ◌^◌, ◌<◌, ◌≤◌, true, false, cond, List, [], ◌∷◌, length, is_some, slice_get, Some, None, sym, refl, ap, ◌∙◌, ⊎_elim, arith, true≢false, ne_eqb}
+use Rattle.std.proofs.Common.{◌≡◌, ℕ, zero, suc, ◌+◌, ◌-◌, ◌*◌, ◌/◌, ◌%◌, ◌^◌, ◌<◌, ◌≤◌, true, false, cond, List, [], ◌∷◌, length, is_some, slice_get, Some, None, sym, refl, ap, ◌∙◌, ⊎_elim, arith, true≢false}
 use Rattle.std.proofs.lemmas.Bool.{cases_order}
 use Rattle.std.proofs.lemmas.Nat.{div-add-mod', mul-le}
 use Rattle.std.proofs.lemmas.Option.{same_Some, slice_get_within}
@@ -12,7 +12,7 @@ use Rattle.judy_leaf.specs.KeyLists.{keys_of, shift}
 use Rattle.judy_leaf.specs.Leaves.{leaf_list}
 use Rattle.judy_leaf.specs.BitLeaves.{bit_list}
 use Rattle.judy_node.specs.Trees.{Pairs, Tree, IsMap, IsBranch, branch_pairs}
-use Rattle.judy_node.specs.Kinds.{imm_tree, leaf_tree, IsLeaf, bit_tree}
+use Rattle.judy_node.specs.Kinds.{leaf_tree, IsLeaf, bit_tree}
 use Rattle.judy_node.specs.Steps.{IsKeyOf}
 use Rattle.judy_node.specs.Slots.{value_of}
 use Rattle.judy_node.proofs.Maps.{map-length, length-keys_of}

@@ -14,12 +14,13 @@ use Rattle.judy_leaf.proofs.BitLists.{bit_value, bit_value_inside}
 use Rattle.judy_leaf.proofs.SlotSteps.{leaf_valued, bit_valued, bit_written}
 use Rattle.judy_node.specs.Trees.{Tree, IsChild, IsBranch, branch_pairs}
 use Rattle.judy_node.specs.Roots.{empty_tree}
-use Rattle.judy_node.specs.Kinds.{leaf_tree, IsLeaf, bit_width, bit_tree, IsBit, tree_of, IsLevel}
+use Rattle.judy_node.specs.Kinds.{kind_in, leaf_tree, IsLeaf, bit_width, bit_tree, IsBit, tree_of, IsLevel}
 use Rattle.judy_node.specs.Steps.{IsStep}
 use Rattle.judy_node.specs.Slots.{value_of, written, with_value}
-use Rattle.judy_node.specs.Seats.{IsSeat, kind_written, value_at, HasSeat}
+use Rattle.judy_node.specs.Seats.{placed, IsSeat, kind_written, value_at, HasSeat}
 use Rattle.judy_node.specs.declared.step.Step.TheVariants.{Missing, Below, Above}
 use Rattle.judy_node.specs.declared.child.KindOf.{KindOf}
+use Rattle.judy_node.specs.declared.child.PlaceOf.{PlaceOf}
 use Rattle.judy_node.specs.declared.child.KindOf.TheVariants.{Imm, Leaf, Bit, Branch}
 use Rattle.judy_node.proofs.SumFacts.{sums-same}
 use Rattle.judy_node.proofs.Maps.{map-shift, map-length, join-map, length-keys_of}
@@ -201,3 +202,7 @@ bit-seat words low at block found =
     let inside = bit_within words low at block there in
     let most = map-length words 0 256 (bit_list words block).pairs (omega arith) (bit_map words block) in
     (there, omega arith)
+
+-- What a node keeps is kept by its kind that is lent.
+pub lent_kind : {V : _} (words : ℕ) {place : PlaceOf V} {kind : KindOf V} {tree : Tree} → placed kind ≡ place → IsLevel words (kind_in place) → tree_of words (kind_in place) ≡ tree → IsLevel words kind × (tree_of words kind ≡ tree)
+lent_kind words same level seen = let is = ap kind_in same in (subst (IsLevel words) (sym is) level, ap (tree_of words) is ∙ seen)

@@ -8,7 +8,7 @@ use Rattle.std.specs.List.{AllByRecursion}
 use Rattle.std.specs.List.Sorted.{IsStrictlySortedBy}
 use Rattle.judy_model.specs.Keys.{IsByteString, word_order}
 use Rattle.judy_model.specs.WordBytes.{number_of}
-use Rattle.judy_model.proofs.ByteLemmas.{number_of-lt}
+use Rattle.judy_model.proofs.ByteLemmas.{unit_pos, number_of-lt}
 use Rattle.judy_model.proofs.WordOrder.{less_word}
 use Rattle.judy_bits.specs.ByteSets.{IsByteSet, place, has, rank}
 use Rattle.judy_bits.proofs.SetLaws.{place-nth}
@@ -95,6 +95,13 @@ key_of unit front key byte rest block some is_block is_rest above is_byte below 
     let split = div-add-mod' key unit in
     let sum : front + byte ≡ key / unit = omega arith in
     record { byte_is = below; rest_is = subst (λ n. n < unit) (sym is_rest) (mod_below key unit some); key_is = sym split ∙ (λ t. sym sum t * unit + sym is_rest t) }
+
+-- The same of what a call reads on its way.
+pub key_read : (width number key block : ℕ) {w front rest : ℕ} → front ≡ number → w ≡ width → block ≡ key / 256 ^ w → rest ≡ key % 256 ^ w → front * 256 ≤ block → block - front * 256 < 256
+    → IsKeyOf (256 ^ width) (number * 256) key (block - front * 256) rest
+key_read width number key block is_front is_width is_block is_rest above below =
+    let front = ap (λ n. n * 256) is_front in
+    key_of (256 ^ width) (number * 256) key _ _ _ (unit_pos width) (is_block ∙ ap (λ w. key / 256 ^ w) is_width) (is_rest ∙ ap (λ w. key % 256 ^ w) is_width) (omega arith) (ap (λ n. block - n) front) below
 
 pub absent_place : (members : List ℕ) (byte : ℕ) → place members byte ≡ None → IsFalse (has members byte)
 absent_place members byte none =

@@ -51,6 +51,17 @@ module _ (sums : List ℕ) (kids : List Tree) (are : AreGroups sums kids) where
       let many = are.all in
       ap sum (sym (take_all 16 sums (omega arith))) ∙ are.each 16 (omega arith) ∙ ap population (take_all 256 kids (omega arith))
 
+  -- The keys before a place, by those before a group and those between the two.
+  pub behind_group : (group place : ℕ) → group ≤ 16 → 16 * group ≤ place → keys_before place kids ≡ sum (take group sums) + population (take (place - 16 * group) (drop (16 * group) kids))
+  behind_group group place few past =
+      let same : place ≡ 16 * group + (place - 16 * group) = omega arith in
+      ap (λ n. keys_before n kids) same ∙ population-span kids (16 * group) (place - 16 * group) ∙ ap (λ n. n + population (take (place - 16 * group) (drop (16 * group) kids))) (sym (are.each group few))
+
+  pub before_group : (group place : ℕ) → group ≤ 16 → place ≤ 16 * group → sum (take group sums) ≡ keys_before place kids + population (take (16 * group - place) (drop place kids))
+  before_group group place few past =
+      let same : 16 * group ≡ place + (16 * group - place) = omega arith in
+      are.each group few ∙ ap (λ n. keys_before n kids) same ∙ population-span kids place (16 * group - place)
+
   -- Each sum is that of its children.
   pub group-population : (group : ℕ) → group < 16 → get_or sums group 0 ≡ population (take 16 (drop (16 * group) kids))
   group-population group within =

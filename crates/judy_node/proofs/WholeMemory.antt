@@ -1,18 +1,18 @@
 -- A `Whole` in memory is its one value, and back. The proof by hand of its loan stands on this. Assumes `Logic`.
-use mathlib.Core.Path.{◌≡◌, refl, sym, ap, subst, ◌∙◌}
+use mathlib.Core.Path.{◌≡◌, refl, sym}
 use Prim.Native.Nat.{ℕ, zero, ◌+◌}
 use mathlib.Core.List.{List, [], ◌∷◌}
 use lib.ListN.{length}
 use native.Mathlib.Omega.{arith}
 use seplogic.Ra.Ura.{Ura}
 use mir.Syntax.{Ty, Args, a_type, ty_array, ty_struct}
-use base.Logic.{SProp, ent, sep, ex, guard}
+use base.Logic.{SProp, ent, sep, guard}
 use base.Fraction.{full_share}
 use base.Fml.{Fml, ftrue, fsep, feq}
 use prog.Memory.{align, up}
 use types.Logic.{Logic, sem}
 use types.SemTy.{cells}
-use types.Kit.{‵, ◌⊛◌, raw, given, ◌$◌, ◌∵◌, !, qed, move, drop, split, fsplit, fjoin, use1, use2, done, learn, rewrite, feq_l, feq_i, check}
+use types.Kit.{‵, ◌⊛◌, raw, ◌$◌, ◌∵◌, !, qed, move, drop, split, fsplit, fjoin, use1, use2, done, rewrite, feq_l, feq_i, check}
 use denote.Array.{Array}
 use denote.ArrayMemory.{Array-apart, Array-whole}
 use denote.Index.{row, whole_in, whole_out}

@@ -11,7 +11,7 @@ use crate::child::{BranchOf, ChildOf, KindOf};
 use crate::head::Head;
 use crate::sums::Sums;
 use judy_bits::{Bits256, ByteSet, Skip, low_part, moved_up, without_tail};
-use judy_leaf::{BitLeafOf, ImmOf, LeafOf, Words};
+use judy_leaf::{BitLeafOf, ImmOf, LEAF_ROOM, LeafOf, Words, bit_width, widen_bits};
 use std::alloc::{AllocError, Global};
 use std::marker::PhantomData;
 
@@ -98,7 +98,7 @@ pub fn immediate_of_sorted<V: Words + Drop>(width: u8, pairs: &[(u64, u64)]) -> 
 {
     if V::WORDS == 0 {
         let (count, keys) = ImmOf::<V>::from_sorted(width, pairs).into_parts();
-        KindOf::Imm(Head::new(count + 256 * u64::from(width)), keys)
+        KindOf::Imm(Head::of_keys(count, width), keys)
     } else {
         let (key, value) = pairs[0];
         KindOf::Imm(Head::new(low_part(key, usize::from(width))), value)
@@ -212,7 +212,7 @@ pub fn child_of_sorted<V: Words + Drop>(
     if fits_immediate::<V>(pairs.len(), width) {
         return Ok(ChildOf::close(immediate_of_sorted(width, pairs)));
     }
-    if pairs.len() <= 32 {
+    if pairs.len() <= LEAF_ROOM {
         let leaf = snug_leaf(alloc, width, pairs)?;
         return Ok(ChildOf::close(leaf));
     }
@@ -234,7 +234,7 @@ pub fn kind_of_sorted<V: Words + Drop>(
     ensures level { IfOk result (λ kind. IsLevel V.WORDS kind) }
     ensures built { IfOk result (λ kind. IsBuilt V.WORDS width pairs.now (tree_of V.WORDS kind)) }
 {
-    if pairs.len() <= 32 {
+    if pairs.len() <= LEAF_ROOM {
         return leaf_of_sorted(alloc, width, pairs);
     }
     let kind = many(alloc, width, pairs)?;
@@ -324,9 +324,9 @@ impl<V: Words + Drop> KindOf<V> {
     {
         match self {
             KindOf::Bit(head, mut block) => {
-                let front = moved_up(u64::from(byte), (block.tag() / 65_536 - 1) as usize);
+                let front = moved_up(u64::from(byte), bit_width(&block) as usize - 1);
                 let head = Head::new(front + head.number());
-                block.set_tag(block.tag() + 65_536);
+                widen_bits(&mut block);
                 KindOf::Bit(head, block)
             }
             KindOf::Branch(mut branch) => {

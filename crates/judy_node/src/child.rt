@@ -10,13 +10,13 @@ ghost use Rattle.judy_node.specs.Trees.{IsChild};
 ghost use Rattle.judy_node.specs.Kinds.{tree_of, IsLevel, IsImm, imm_tree, imm_pairs};
 ghost use Rattle.judy_node.specs.Views.{IsView};
 
-use crate::head::Head;
+use crate::head::{Head, keys_told};
 use crate::sums::Sums;
 use crate::view::ViewOf;
 use crate::whole::Whole;
 use judy_bits::{ByteSet, Meter, Skip};
 use judy_block::Block;
-use judy_leaf::{BitRef, ImmOf, LeafRef, Width, Words};
+use judy_leaf::{BitRef, ImmOf, LeafRef, Width, Words, bit_count};
 use std::marker::{Model, PhantomData};
 
 /// A node below the root, which has keys, in 16 bytes.
@@ -111,7 +111,7 @@ impl<V: Words + Drop> ChildOf<V> {
         match self.kind() {
             KindOf::Imm(head, _) => imm_len::<V>(head),
             KindOf::Leaf(count, _) => u64::from(*count),
-            KindOf::Bit(_, block) => u64::from(block.tag() % 65_536),
+            KindOf::Bit(_, block) => u64::from(bit_count(block)),
             KindOf::Branch(branch) => branch.population,
         }
     }
@@ -178,7 +178,7 @@ pub fn imm_of<V: Words + Drop>(width: u8, head: u64, word: u64) -> ImmOf<V>
     ensures { result ≡ record { width = width; pairs = imm_pairs V.WORDS head word } }
 {
     if V::WORDS == 0 {
-        ImmOf::of_parts(width, head % 256, word)
+        ImmOf::of_parts(width, keys_told(head), word)
     } else {
         ImmOf::of_parts(width, head, word)
     }
@@ -189,7 +189,7 @@ fn imm_len<V: Words + Drop>(head: &Head) -> u64
     ensures { result ≡ (if V.WORDS == 0 then head.now % 256 else 1) }
 {
     if V::WORDS == 0 {
-        head.number() % 256
+        keys_told(head.number())
     } else {
         1
     }

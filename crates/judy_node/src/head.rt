@@ -1,6 +1,6 @@
 //! The seven bytes that stand beside a node's word.
 
-ghost use Rattle.std.specs.Prelude.{◌≡◌, ◌^◌, ◌<◌};
+ghost use Rattle.std.specs.Prelude.{◌≡◌, ◌+◌, ◌*◌, ◌%◌, ◌^◌, ◌<◌};
 
 use std::marker::Model;
 
@@ -26,7 +26,27 @@ impl Model for Head {
     ghost view = { λ h. from_le_bytes w32 h.low + 4294967296 * (from_le_bytes w16 h.middle + 65536 * h.high) };
 }
 
+// One byte of a key in the head of an immediate whose keys have no values. What is below is the number of its keys.
+const BYTE: u64 = 256;
+
+/// How many keys such a head tells, by its number.
+#[inline(always)]
+pub(crate) fn keys_told(head: u64) -> u64
+    ensures { result ≡ head % 256 }
+{
+    head % BYTE
+}
+
 impl Head {
+    /// The head of an immediate of `count` keys of `width` bytes that have no values.
+    #[inline(always)]
+    pub fn of_keys(count: u64, width: u8) -> Head
+        requires { count < 256 }
+        ensures { result ≡ count + 256 * width }
+    {
+        Head::new(count + BYTE * u64::from(width))
+    }
+
     /// The bytes of a number below 2^56.
     pub fn new(n: u64) -> Head
         requires { n < 2 ^ 56 }

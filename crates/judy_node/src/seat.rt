@@ -18,7 +18,7 @@ use crate::child::{BranchOf, KindOf};
 use crate::step::Step;
 use judy_bits::{tail, without_tail};
 use judy_block::Block;
-use judy_leaf::{BitRef, LeafRef, Words};
+use judy_leaf::{BIT_WORDS, BitRef, LeafRef, Words};
 
 // Where the value of a key stands in a node: the place of a word in the block of a leaf or a bitmap leaf; or the place of a
 // child, and what is left of the key there.
@@ -99,7 +99,7 @@ impl<V: Words + Drop> KindOf<V> {
                 }
                 let at = BitRef::<V>::new(block).find(key - front)?;
                 Some(Seat {
-                    at: 4 + at,
+                    at: BIT_WORDS + at,
                     rest: 0,
                 })
             }
@@ -128,7 +128,7 @@ impl<V: Words + Drop> KindOf<V> {
                 Seat { at, rest: 0 }
             }
             KindOf::Bit(_, block) => Seat {
-                at: 4 + place_in_bits::<V>(block, key % 256),
+                at: BIT_WORDS + place_in_bits::<V>(block, key % 256),
                 rest: 0,
             },
             KindOf::Branch(branch) => branch.seat_of(key),

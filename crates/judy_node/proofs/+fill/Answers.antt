@@ -12,7 +12,7 @@ use Rattle.judy_node.specs.Populations.{population}
 use Rattle.judy_node.proofs.Maps.{length-shift, shift-shift, shift-append, children-length}
 use Rattle.judy_node.proofs.Counts.{population-step}
 use Rattle.judy_node.proofs.StepFacts.{block_fits}
-use Rattle.judy_node.proofs.FillFacts.{kid_is, front_fits, start_word, word_below, kids_within, next_pairs, branch_long}
+use Rattle.judy_node.proofs.FillFacts.{kid_here, kid_is, front_fits, start_word, word_below, kids_within, next_pairs, branch_long}
 use Rattle.judy_node.proofs.+fill.Goals as goal
 
 pub child::ChildOf::fill-fill-requires-in-Bit-clause-room :
@@ -50,12 +50,8 @@ fill::fill_branch-unreachable-requires g t c =
 
 pub fill::fill_branch-overflow_add-front : goal.fill::fill_branch-overflow_add-front
 fill::fill_branch-overflow_add-front g t c =
-    let words = g.V.Words.WORDS in
-    let branch = c.args.branch.now in
-    let kids = c.deref-child-items.result.now in
-    let level = subst (λ ks. IsBranch words branch.width branch.skip branch.bytes ks branch.population) (sym c.deref-child-items.ensures.value) c.requires.level in
-    let told = sym c.in-Some.is ∙ c.nth.ensures in
-    let front = front_fits words branch.width branch.skip branch.bytes kids branch.population level c.loop-place.place c.child-item.result c.in-Some.byte c.loop-place-test.true c.child-item.is told c.requires.level.parts.within in
+    let here = kid_here c.requires.level c.deref-child-items.ensures.value c.loop-place-test.true c.child-item.is c.in-Some.is c.nth.ensures in
+    let front = front_fits here c.requires.level.parts.within in
     let same = c.number-front.ensures in
     let byte = c.from.ensures in
     omega arith
@@ -63,22 +59,15 @@ fill::fill_branch-overflow_add-front g t c =
 pub fill::fill_branch-moved_up-start-requires-clause-within :
     goal.fill::fill_branch-moved_up-start-requires-clause-within
 fill::fill_branch-moved_up-start-requires-clause-within g t c =
-    let words = g.V.Words.WORDS in
     let branch = c.args.branch.now in
-    let kids = c.deref-child-items.result.now in
-    let level = subst (λ ks. IsBranch words branch.width branch.skip branch.bytes ks branch.population) (sym c.deref-child-items.ensures.value) c.requires.level in
-    let told = sym c.in-Some.is ∙ c.nth.ensures in
-    let word = start_word words branch.width branch.skip branch.bytes kids branch.population level c.loop-place.place c.child-item.result c.in-Some.byte c.loop-place-test.true c.child-item.is told c.args.base c.requires.fits in
+    let here = kid_here c.requires.level c.deref-child-items.ensures.value c.loop-place-test.true c.child-item.is c.in-Some.is c.nth.ensures in
+    let word = start_word here c.args.base c.requires.fits in
     subst (λ n. n < 2 ^ 64) (sym (λ j. (c.number-front.ensures j * 256 + c.from.ensures j) * 256 ^ c.from-in-loop-place.ensures j)) (word_below c.args.base _ branch.width word)
 
 pub fill::fill_branch-overflow_add-end : goal.fill::fill_branch-overflow_add-end
 fill::fill_branch-overflow_add-end g t c =
-    let words = g.V.Words.WORDS in
-    let branch = c.args.branch.now in
-    let kids = c.deref-child-items.result.now in
-    let level = subst (λ ks. IsBranch words branch.width branch.skip branch.bytes ks branch.population) (sym c.deref-child-items.ensures.value) c.requires.level in
-    let told = sym c.in-Some.is ∙ c.nth.ensures in
-    let within = kids_within words branch.width branch.skip branch.bytes kids branch.population level c.loop-place.place c.child-item.result c.in-Some.byte c.loop-place-test.true c.child-item.is told in
+    let here = kid_here c.requires.level c.deref-child-items.ensures.value c.loop-place-test.true c.child-item.is c.in-Some.is c.nth.ensures in
+    let within = kids_within here in
     let so_far = c.loop-place.invariant.0 in
     let count = c.pop.ensures in
     let room = c.requires.room in
@@ -87,12 +76,8 @@ fill::fill_branch-overflow_add-end g t c =
 pub fill::fill_branch-prove-unreachable-requires :
     goal.fill::fill_branch-prove-unreachable-requires
 fill::fill_branch-prove-unreachable-requires g t c =
-    let words = g.V.Words.WORDS in
-    let branch = c.args.branch.now in
-    let kids = c.deref-child-items.result.now in
-    let level = subst (λ ks. IsBranch words branch.width branch.skip branch.bytes ks branch.population) (sym c.deref-child-items.ensures.value) c.requires.level in
-    let told = sym c.in-Some.is ∙ c.nth.ensures in
-    let within = kids_within words branch.width branch.skip branch.bytes kids branch.population level c.loop-place.place c.child-item.result c.in-Some.byte c.loop-place-test.true c.child-item.is told in
+    let here = kid_here c.requires.level c.deref-child-items.ensures.value c.loop-place-test.true c.child-item.is c.in-Some.is c.nth.ensures in
+    let within = kids_within here in
     let so_far = c.loop-place.invariant.0 in
     let count = c.pop.ensures in
     let room = c.requires.room in
@@ -101,47 +86,38 @@ fill::fill_branch-prove-unreachable-requires g t c =
 
 pub fill::fill_branch-overflow_add-base : goal.fill::fill_branch-overflow_add-base
 fill::fill_branch-overflow_add-base g t c =
-    let words = g.V.Words.WORDS in
     let branch = c.args.branch.now in
-    let kids = c.deref-child-items.result.now in
-    let level = subst (λ ks. IsBranch words branch.width branch.skip branch.bytes ks branch.population) (sym c.deref-child-items.ensures.value) c.requires.level in
-    let told = sym c.in-Some.is ∙ c.nth.ensures in
-    let word = start_word words branch.width branch.skip branch.bytes kids branch.population level c.loop-place.place c.child-item.result c.in-Some.byte c.loop-place-test.true c.child-item.is told c.args.base c.requires.fits in
+    let here = kid_here c.requires.level c.deref-child-items.ensures.value c.loop-place-test.true c.child-item.is c.in-Some.is c.nth.ensures in
+    let word = start_word here c.args.base c.requires.fits in
     let some = unit_pos branch.width in
     let start = c.moved_up-start.ensures ∙ (λ j. (c.number-front.ensures j * 256 + c.from.ensures j) * 256 ^ c.from-in-loop-place.ensures j) in
     omega arith
 
 pub fill::fill_branch-fill-requires : goal.fill::fill_branch-fill-requires
 fill::fill_branch-fill-requires g t c κs within =
-    let words = g.V.Words.WORDS in
-    let branch = c.args.branch.now in
-    let kids = c.deref-child-items.result.now in
-    let level = subst (λ ks. IsBranch words branch.width branch.skip branch.bytes ks branch.population) (sym c.deref-child-items.ensures.value) c.requires.level in
-    let told = sym c.in-Some.is ∙ c.nth.ensures in
-    let word = start_word words branch.width branch.skip branch.bytes kids branch.population level c.loop-place.place c.child-item.result c.in-Some.byte c.loop-place-test.true c.child-item.is told c.args.base c.requires.fits in
+    let here = kid_here c.requires.level c.deref-child-items.ensures.value c.loop-place-test.true c.child-item.is c.in-Some.is c.nth.ensures in
+    let word = start_word here c.args.base c.requires.fits in
     let start = c.moved_up-start.ensures ∙ (λ j. (c.number-front.ensures j * 256 + c.from.ensures j) * 256 ^ c.from-in-loop-place.ensures j) in
     let falls = c.decreases in
-    let held = kids_within words branch.width branch.skip branch.bytes kids branch.population level c.loop-place.place c.child-item.result c.in-Some.byte c.loop-place-test.true c.child-item.is told in
+    let held = kids_within here in
     let so_far = c.loop-place.invariant.0 in
     let count = c.pop.ensures in
     let room = c.requires.room in
     let long = c.loop-place.auto.out in
     let rest = length-drop c.loop-place.at c.loop-place.out in
     let part = length-take-le (c.loop-place.at + c.pop.result - c.loop-place.at) (drop c.loop-place.at c.loop-place.out) (omega arith) in
-    (omega arith, (within, (omega arith, (kid_is words branch.width branch.skip branch.bytes kids branch.population level c.loop-place.place c.child-item.result c.in-Some.byte c.loop-place-test.true c.child-item.is told, (omega arith, omega arith)))))
+    (omega arith, (within, (omega arith, (kid_is here, (omega arith, omega arith)))))
 
 pub fill::fill_branch-loop-place-preserved : goal.fill::fill_branch-loop-place-preserved
 fill::fill_branch-loop-place-preserved g t c =
-    let words = g.V.Words.WORDS in
     let branch = c.args.branch.now in
     let kids = c.deref-child-items.result.now in
-    let level = subst (λ ks. IsBranch words branch.width branch.skip branch.bytes ks branch.population) (sym c.deref-child-items.ensures.value) c.requires.level in
-    let told = sym c.in-Some.is ∙ c.nth.ensures in
+    let here = kid_here c.requires.level c.deref-child-items.ensures.value c.loop-place-test.true c.child-item.is c.in-Some.is c.nth.ensures in
     let place = c.loop-place.place in
     let at = c.loop-place.at in
     let so_far = c.loop-place.invariant in
     let count = c.pop.ensures in
-    let held = kids_within words branch.width branch.skip branch.bytes kids branch.population level c.loop-place.place c.child-item.result c.in-Some.byte c.loop-place-test.true c.child-item.is told in
+    let held = kids_within here in
     let room = c.requires.room in
     let long = c.loop-place.auto.out in
     let step = population-step kids place c.child-item.result c.loop-place-test.true c.child-item.is in
@@ -155,7 +131,7 @@ fill::fill_branch-loop-place-preserved g t c =
       take-put_mid at (at + c.pop.result - at) c.loop-place.out c.fill.new.out (at + c.pop.result) (omega arith) (omega arith)
           ∙ (λ j. so_far.1 j ++ filled j)
           ∙ sym (shift-append c.args.base (join (256 ^ branch.width) (number_of branch.skip * 256) (take place branch.bytes) (take place kids)) (shift ((number_of branch.skip * 256 + c.in-Some.byte) * 256 ^ branch.width) c.child-item.result.pairs))
-          ∙ ap (shift c.args.base) (next_pairs words branch.width branch.skip branch.bytes kids branch.population level c.loop-place.place c.child-item.result c.in-Some.byte c.loop-place-test.true c.child-item.is told (place + 1) refl),
+          ∙ ap (shift c.args.base) (next_pairs here (place + 1) refl),
     )
 
 pub fill::fill_branch-returns : goal.fill::fill_branch-returns

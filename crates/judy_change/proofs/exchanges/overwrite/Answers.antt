@@ -16,26 +16,18 @@ slot-requires g c =
     let narrow = child-narrow words c.args.width (tree_of words c.args.kind.now) c.requires.child in
     subst (λ k. HasSeat words c.args.width k c.in-Some.at) c.in-Leaf.is (kind-seat words c.args.width c.args.kind.now c.args.key c.in-Some.at 0 c.requires.words c.requires.level spot (omega arith))
 
-pub returns-in-Some-clause-level : goal.returns-in-Some-clause-level
-returns-in-Some-clause-level g c =
+pub returns-in-Some : goal.returns-in-Some
+returns-in-Some g c =
     let words = g.V.Words.WORDS in
     let spot = leaf_spot words c.args.kind.now c.in-Leaf.count c.in-Leaf.block c.args.key c.in-Some.at c.in-Leaf.is c.requires.level (sym c.in-Some.is ∙ c.find.ensures ∙ ap (λ l. place (keys_of l.pairs) c.args.key) c.new.ensures) in
-    subst (λ k. IsLevel words (kind_written k c.in-Some.at 0 c.replace-in-Leaf.new.dest)) c.in-Leaf.is (kind-level words c.args.kind.now c.args.key c.in-Some.at 0 c.replace-in-Leaf.new.dest c.requires.words c.requires.level spot)
-
-pub returns-in-Some-clause-was : goal.returns-in-Some-clause-was
-returns-in-Some-clause-was g c =
-    let words = g.V.Words.WORDS in
-    let spot = leaf_spot words c.args.kind.now c.in-Leaf.count c.in-Leaf.block c.args.key c.in-Some.at c.in-Leaf.is c.requires.level (sym c.in-Some.is ∙ c.find.ensures ∙ ap (λ l. place (keys_of l.pairs) c.args.key) c.new.ensures) in
-    sym (kind-value words c.args.kind.now c.args.key c.in-Some.at 0 c.requires.words c.requires.level spot)
-    ∙ ap (λ k. value_at k c.in-Some.at 0) c.in-Leaf.is ∙ ap Some (sym (c.replace-in-Leaf.ensures.value ∙ c.slot.ensures.word))
-
-pub returns-in-Some-clause-written : goal.returns-in-Some-clause-written
-returns-in-Some-clause-written g c =
-    let words = g.V.Words.WORDS in
-    let spot = leaf_spot words c.args.kind.now c.in-Leaf.count c.in-Leaf.block c.args.key c.in-Some.at c.in-Leaf.is c.requires.level (sym c.in-Some.is ∙ c.find.ensures ∙ ap (λ l. place (keys_of l.pairs) c.args.key) c.new.ensures) in
-    sym (ap (λ k. tree_of words (kind_written k c.in-Some.at 0 c.replace-in-Leaf.new.dest)) c.in-Leaf.is)
-    ∙ kind-tree words c.args.kind.now c.args.key c.in-Some.at 0 c.replace-in-Leaf.new.dest c.requires.words c.requires.level spot
-    ∙ ap (λ v. with_value (tree_of words c.args.kind.now) c.args.key v) c.replace-in-Leaf.ensures.after
+    record {
+      level = subst (λ k. IsLevel words (kind_written k c.in-Some.at 0 c.replace-in-Leaf.new.dest)) c.in-Leaf.is (kind-level words c.args.kind.now c.args.key c.in-Some.at 0 c.replace-in-Leaf.new.dest c.requires.words c.requires.level spot);
+      was = sym (kind-value words c.args.kind.now c.args.key c.in-Some.at 0 c.requires.words c.requires.level spot)
+          ∙ ap (λ k. value_at k c.in-Some.at 0) c.in-Leaf.is ∙ ap Some (sym (c.replace-in-Leaf.ensures.value ∙ c.slot.ensures.word));
+      written = sym (ap (λ k. tree_of words (kind_written k c.in-Some.at 0 c.replace-in-Leaf.new.dest)) c.in-Leaf.is)
+          ∙ kind-tree words c.args.kind.now c.args.key c.in-Some.at 0 c.replace-in-Leaf.new.dest c.requires.words c.requires.level spot
+          ∙ ap (λ v. with_value (tree_of words c.args.kind.now) c.args.key v) c.replace-in-Leaf.ensures.after;
+    }
 
 pub overflow_sub-low : goal.overflow_sub-low
 overflow_sub-low g c =

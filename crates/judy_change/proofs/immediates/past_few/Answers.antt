@@ -1,11 +1,8 @@
-use Rattle.std.proofs.Common.{◌+◌, ◌^◌, [], ◌∷◌, ◌++◌, take, drop, refl, sym, subst, arith, IfOk}
-use Rattle.judy_leaf.specs.KeyLists.{with_pair, low_pairs}
-use Rattle.judy_node.specs.Trees.{Pairs, IsMap}
+use Rattle.std.proofs.Common.{◌+◌, [], ◌∷◌, ◌++◌, take, drop, refl, subst, arith, IfOk}
+use Rattle.judy_node.specs.Trees.{Pairs}
 use Rattle.judy_node.specs.Kinds.{tree_of}
 use Rattle.judy_node.specs.Built.{IsBuilt}
-use Rattle.judy_node.proofs.MadeFacts.{low_pairs_same}
-use Rattle.judy_change.proofs.Added.{unit_fits, filled_front}
-use Rattle.judy_change.proofs.PairPlaces.{map-with_pair}
+use Rattle.judy_change.proofs.Added.{unit_fits, filled_front, more-low}
 use Rattle.judy_change.proofs.immediates.past_few.Goals as goal
 
 pub fill-requires-clause-fits : goal.fill-requires-clause-fits
@@ -22,11 +19,7 @@ kind_of_sorted-requires-clause-map g c =
     let within = c.len-count.ensures.within in
     let are = filled_front c.fill.new.out list spares (take (count + 1) (c.fill.new.out ++ drop count spares)) c.put_at.new.pairs (drop (count + 1) (c.fill.new.out ++ drop count spares)) c.args.key c.args.value c.rank.result count
     c.fill.ensures c.len-count.ensures.count (omega arith) c.rank.ensures.value refl c.put_at.ensures in
-    let words = g.V.Words.WORDS in
-    let unit = 256 ^ c.args.width in
-    let map = map-with_pair words 0 unit c.args.key c.args.value list c.requires.map (omega arith) c.requires.fits c.requires.absent c.requires.no_value in
-    subst (λ (ps : Pairs). IsMap words 0 unit (low_pairs unit ps)) (sym are)
-    (subst (IsMap words 0 unit) (sym (low_pairs_same words 0 unit (with_pair c.args.key c.args.value list) map)) map)
+    more-low g.V.Words.WORDS c.args.width c.args.key c.args.value list c.requires.map c.requires.absent c.requires.fits c.requires.no_value _ are
 
 pub returns-clause-built : goal.returns-clause-built
 returns-clause-built g c =

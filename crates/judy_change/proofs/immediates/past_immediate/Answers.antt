@@ -1,12 +1,11 @@
-use Rattle.std.proofs.Common.{◌≡◌, ℕ, ◌^◌, false, true≢false, ◌||◌, [], ◌∷◌, length, get_or, sym, ap, ◌∙◌, subst, arith, IfOk}
+use Rattle.std.proofs.Common.{◌≡◌, ℕ, false, true≢false, ◌||◌, [], ◌∷◌, length, get_or, sym, ap, ◌∙◌, subst, arith, IfOk}
 use Rattle.std.proofs.lemmas.Bool.{eq-eqb}
 use Rattle.judy_bits.specs.ByteSets.{has}
-use Rattle.judy_leaf.specs.KeyLists.{keys_of, values_of, with_pair, low_pairs}
-use Rattle.judy_node.specs.Trees.{Pairs, IsMap}
+use Rattle.judy_leaf.specs.KeyLists.{keys_of, values_of, with_pair}
+use Rattle.judy_node.specs.Trees.{Pairs}
 use Rattle.judy_node.specs.Kinds.{tree_of}
 use Rattle.judy_node.specs.Built.{IsBuilt}
-use Rattle.judy_node.proofs.MadeFacts.{low_pairs_same}
-use Rattle.judy_change.proofs.PairPlaces.{map-with_pair}
+use Rattle.judy_change.proofs.Added.{more-low}
 use Rattle.judy_change.proofs.immediates.past_immediate.Goals as goal
 
 -- The only pair of a list, by its key and its value.
@@ -36,11 +35,7 @@ leaf_of_sorted-requires-clause-map g c =
     let one = c.if-len-ne1.false in
     let counted = c.len.ensures.count in
     let both = both_are list c.in_order-both.result c.args.key c.args.value c.key_at.result c.value_at.result (omega arith) c.key_at.ensures c.value_at.ensures c.in_order-both.ensures in
-    let words = g.V.Words.WORDS in
-    let unit = 256 ^ c.args.width in
-    let map = map-with_pair words 0 unit c.args.key c.args.value list c.requires.map (omega arith) c.requires.fits c.requires.absent c.requires.no_value in
-    subst (λ (ps : Pairs). IsMap words 0 unit (low_pairs unit ps)) (sym both)
-    (subst (IsMap words 0 unit) (sym (low_pairs_same words 0 unit (with_pair c.args.key c.args.value list) map)) map)
+    more-low g.V.Words.WORDS c.args.width c.args.key c.args.value list c.requires.map c.requires.absent c.requires.fits c.requires.no_value c.in_order-both.result both
 
 pub returns-clause-built : goal.returns-clause-built
 returns-clause-built g c =

@@ -5,7 +5,6 @@ use Rattle.judy_node.specs.Trees.{Pairs}
 use Rattle.judy_node.specs.Kinds.{tree_of}
 use Rattle.judy_node.specs.Built.{IsBuilt}
 use Rattle.judy_node.proofs.Maps.{length-shift}
-use Rattle.judy_change.specs.LeafTrees.{one_leaf}
 use Rattle.judy_change.proofs.Added.{unit_fits, filled, more-low}
 use Rattle.judy_change.proofs.PairPlaces.{rank-most}
 use Rattle.judy_change.proofs.leaves.past_leaf.Goals as goal
@@ -30,7 +29,7 @@ put_at-requires g c =
 -- The pairs that the new node is made of.
 pub kind_of_sorted-requires-clause-map : goal.kind_of_sorted-requires-clause-map
 kind_of_sorted-requires-clause-map g c =
-    more-low g.V.Words.WORDS c.args.width c.args.key c.args.value (one_leaf c.args.full) c.requires.child c.requires.absent c.requires.fits c.requires.no_value c.put_at.new.pairs
+    more-low g.V.Words.WORDS c.args.width c.args.key c.args.value c.args.full.pairs c.requires.child.map c.requires.absent c.requires.fits c.requires.no_value c.put_at.new.pairs
     (filled c.fill.new.out c.args.full.pairs c.put_at.new.pairs c.args.key c.args.value c.args.at (0, 0) c.fill.ensures c.requires.place c.put_at.ensures)
 
 pub returns-clause-built : goal.returns-clause-built

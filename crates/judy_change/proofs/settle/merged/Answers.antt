@@ -37,23 +37,10 @@ behind_bytes-requires-clause-width g c =
     let within = c.requires.branch.parts.within in
     omega arith
 
-pub returns-clause-child : goal.returns-clause-child
-returns-clause-child g c =
+pub returns : goal.returns
+returns g c =
     let branch = c.args.branch.now in
-    (kid_merged g.V.Words.WORDS branch.width branch.skip branch.bytes branch.children.items c.pop.new.self.items branch.population c.in-Some.byte c.in-Some-pop.child c.open.result
+    let is = (kid_merged g.V.Words.WORDS branch.width branch.skip branch.bytes branch.children.items c.pop.new.self.items branch.population c.in-Some.byte c.in-Some-pop.child c.open.result
     c.requires.branch c.requires.many c.requires.one (sym c.nth.ensures ∙ c.in-Some.is) (c.pop.ensures.items ∙ ap (λ r. c.pop.new.self.items ++ option_to_list r) c.in-Some-pop.is) c.open.ensures.tree c.open.ensures.level
-    c.behind_bytes.result c.close.result c.behind_bytes.ensures.level (c.behind_bytes.ensures.tree ∙ (λ t. behind (c.bytes.ensures.value t) (c.behind.ensures.tree t))) c.close.ensures).child
-
-pub returns-clause-same : goal.returns-clause-same
-returns-clause-same g c =
-    let branch = c.args.branch.now in
-    (kid_merged g.V.Words.WORDS branch.width branch.skip branch.bytes branch.children.items c.pop.new.self.items branch.population c.in-Some.byte c.in-Some-pop.child c.open.result
-    c.requires.branch c.requires.many c.requires.one (sym c.nth.ensures ∙ c.in-Some.is) (c.pop.ensures.items ∙ ap (λ r. c.pop.new.self.items ++ option_to_list r) c.in-Some-pop.is) c.open.ensures.tree c.open.ensures.level
-    c.behind_bytes.result c.close.result c.behind_bytes.ensures.level (c.behind_bytes.ensures.tree ∙ (λ t. behind (c.bytes.ensures.value t) (c.behind.ensures.tree t))) c.close.ensures).same
-
-pub returns-clause-tight : goal.returns-clause-tight
-returns-clause-tight g c =
-    let branch = c.args.branch.now in
-    (kid_merged g.V.Words.WORDS branch.width branch.skip branch.bytes branch.children.items c.pop.new.self.items branch.population c.in-Some.byte c.in-Some-pop.child c.open.result
-    c.requires.branch c.requires.many c.requires.one (sym c.nth.ensures ∙ c.in-Some.is) (c.pop.ensures.items ∙ ap (λ r. c.pop.new.self.items ++ option_to_list r) c.in-Some-pop.is) c.open.ensures.tree c.open.ensures.level
-    c.behind_bytes.result c.close.result c.behind_bytes.ensures.level (c.behind_bytes.ensures.tree ∙ (λ t. behind (c.bytes.ensures.value t) (c.behind.ensures.tree t))) c.close.ensures).tight
+    c.behind_bytes.result c.close.result c.behind_bytes.ensures.level (c.behind_bytes.ensures.tree ∙ (λ t. behind (c.bytes.ensures.value t) (c.behind.ensures.tree t))) c.close.ensures) in
+    record { child = is.child; same = is.same; tight = is.tight }

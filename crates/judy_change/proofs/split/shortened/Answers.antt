@@ -32,13 +32,13 @@ returns-in-Bit g c =
     let block = c.in-Bit.block in
     let level = subst (λ kind. IsLevel words kind) c.in-Bit.is c.requires.level in
     let skips = subst (λ kind. IsSkipping number c.args.skipped.count c.args.skipped.tail kind) c.in-Bit.is c.requires.skips in
-    let next = c.tag.result % 65536 + 65536 * (c.from-in-Bit.result + 1) in
-    let next_is : next ≡ block.tag % 65536 + 65536 * (c.args.left + 1) = λ t. c.tag.ensures.tag t % 65536 + 65536 * (c.from-in-Bit.ensures t + 1) in
+    let next = block.tag % 65536 + 65536 * (c.from-in-Bit.result + 1) in
+    let next_is : next ≡ block.tag % 65536 + 65536 * (c.args.left + 1) = ap (λ n. block.tag % 65536 + 65536 * (n + 1)) c.from-in-Bit.ensures in
     let rest_is : c.new.result ≡ number % 256 ^ c.args.left = c.new.ensures ∙ c.low_part-rest.ensures ∙ ap (λ n. number % 256 ^ n) c.from.ensures in
     record {
-      level = subst (λ (b : Contents). IsBit words c.new.result b) (sym c.set_tag.ensures) (bit_shorter words number c.args.skipped.count c.args.skipped.tail c.args.left c.in-Bit.field-0 c.new.result next block level skips.0 skips.1 skips.2 c.requires.left rest_is next_is);
-      child = subst (λ (b : Contents). IsChild words (c.args.left + c.args.skipped.tail) (bit_tree words c.new.result b)) (sym c.set_tag.ensures) (bit_shorter_child words number c.args.skipped.count c.args.skipped.tail c.args.left c.in-Bit.field-0 c.new.result next block level skips.0 skips.1 skips.2 c.requires.left rest_is next_is);
-      shorter = subst (λ (b : Contents). IsShorter number c.args.left c.args.skipped.tail (tree_of words c.args.kind) (bit_tree words c.new.result b)) (sym c.set_tag.ensures)
+      level = subst (λ (b : Contents). IsBit words c.new.result b) (sym c.set_bit_width.ensures) (bit_shorter words number c.args.skipped.count c.args.skipped.tail c.args.left c.in-Bit.field-0 c.new.result next block level skips.0 skips.1 skips.2 c.requires.left rest_is next_is);
+      child = subst (λ (b : Contents). IsChild words (c.args.left + c.args.skipped.tail) (bit_tree words c.new.result b)) (sym c.set_bit_width.ensures) (bit_shorter_child words number c.args.skipped.count c.args.skipped.tail c.args.left c.in-Bit.field-0 c.new.result next block level skips.0 skips.1 skips.2 c.requires.left rest_is next_is);
+      shorter = subst (λ (b : Contents). IsShorter number c.args.left c.args.skipped.tail (tree_of words c.args.kind) (bit_tree words c.new.result b)) (sym c.set_bit_width.ensures)
           (subst (λ kind. IsShorter number c.args.left c.args.skipped.tail (tree_of words kind) (bit_tree words c.new.result (record block { tag = next }))) (sym c.in-Bit.is)
           (bit_shorter_tree words number c.args.skipped.count c.args.skipped.tail c.args.left c.in-Bit.field-0 c.new.result next block level skips.0 skips.1 skips.2 c.requires.left rest_is next_is));
     }

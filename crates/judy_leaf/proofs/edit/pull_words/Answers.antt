@@ -3,7 +3,7 @@ use Rattle.judy_leaf.specs.Packing.{places, pulled, IsTight}
 use Rattle.judy_leaf.specs.Edits.{IsEdit, IsFirstPlace}
 use Rattle.judy_leaf.proofs.Placed.{per_pos}
 use Rattle.judy_leaf.proofs.WordSteps.{base_pos}
-use Rattle.judy_leaf.proofs.EditSteps.{pull_one, tight_at, not_yet, no_word, first_here, first_none}
+use Rattle.judy_leaf.proofs.EditSteps.{pull_one, tight_still, not_yet, no_word, first_here, first_none}
 use Rattle.judy_leaf.proofs.edit.pull_words.Goals as goal
 
 pub loop-at-init : goal.loop-at-init
@@ -18,12 +18,8 @@ loop-at-init g c =
 
 pub without_key-requires-clause-tight : goal.without_key-requires-clause-tight
 without_key-requires-clause-tight g c =
-    let word = c.loop-at.at - 1 in
-    let edit = c.loop-at.invariant.0 in
-    let start = c.loop-at.invariant.3 in
-    let end = c.loop-at.invariant.4 in
-    subst (IsTight g.row.W) (sym (c.get-here.ensures ∙ not_yet g.row.W c.requires.width c.loop-at.at word (pulled zero 0) c.args.block.now c.loop-at.block edit (omega arith)))
-    (tight_at g.row.W c.requires.width c.args.block.now.words c.args.word word (omega arith) (omega arith) c.requires.tight)
+    subst (IsTight g.row.W) (sym c.get-here.ensures) (tight_still g.row.W c.requires.width c.loop-at.at (c.loop-at.at - 1) c.args.word (pulled zero 0) c.args.block.now c.loop-at.block c.loop-at.invariant.0
+    (omega (arith, c.loop-at.invariant.3)) (omega (arith, c.loop-at.invariant.3)) (omega (arith, c.loop-at.invariant.3, c.loop-at.invariant.4)) c.requires.tight)
 
 pub loop-at-preserved : goal.loop-at-preserved
 loop-at-preserved g c =

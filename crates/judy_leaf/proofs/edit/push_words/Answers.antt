@@ -2,17 +2,13 @@ use Rattle.std.proofs.Common.{◌≡◌, ℕ, zero, ◌+◌, ◌-◌, ◌/◌, s
 use Rattle.judy_leaf.specs.Packing.{places, pushed, IsTight}
 use Rattle.judy_leaf.specs.Edits.{IsEdit}
 use Rattle.judy_leaf.proofs.Placed.{per_pos}
-use Rattle.judy_leaf.proofs.EditSteps.{push_one, tight_at, not_yet}
+use Rattle.judy_leaf.proofs.EditSteps.{push_one, tight_still, not_yet}
 use Rattle.judy_leaf.proofs.edit.push_words.Goals as goal
 
 pub with_key-here-requires-clause-tight : goal.with_key-here-requires-clause-tight
 with_key-here-requires-clause-tight g c =
-    let word = c.loop-at.at - 1 in
-    let edit = c.loop-at.invariant.0 in
-    let start = c.loop-at.invariant.1 in
-    let end = c.loop-at.invariant.2 in
-    subst (IsTight g.row.W) (sym (c.get-in-loop-at.ensures ∙ not_yet g.row.W c.requires.width c.loop-at.at word _ c.args.block.now c.loop-at.block edit (omega arith)))
-    (tight_at g.row.W c.requires.width c.args.block.now.words c.args.word word (omega arith) (omega arith) c.requires.tight)
+    subst (IsTight g.row.W) (sym c.get-in-loop-at.ensures) (tight_still g.row.W c.requires.width c.loop-at.at (c.loop-at.at - 1) c.args.word _ c.args.block.now c.loop-at.block c.loop-at.invariant.0
+    (omega (arith, c.loop-at.invariant.1)) (omega (arith, c.loop-at.invariant.1)) (omega (arith, c.loop-at.invariant.1, c.loop-at.invariant.2)) c.requires.tight)
 
 pub loop-at-preserved : goal.loop-at-preserved
 loop-at-preserved g c =

@@ -1,4 +1,4 @@
-use Rattle.std.proofs.Common.{◌≡◌, drop, arith}
+use Rattle.std.proofs.Common.{drop, arith}
 use Rattle.judy_leaf.proofs.AbsentRuns.{last_at}
 use Rattle.judy_leaf.proofs.keys.absent_up_to.Goals as goal
 
@@ -25,9 +25,5 @@ returns-in-7 c = last_at c.args.width 7 c.args.count c.words_from-in-7.result.no
 
 pub returns-in_default : goal.returns-in_default
 returns-in_default c =
-    let is = c.requires.keys.packed.is_width in
-    let some = is.some in
-    let most = is.most in
-    let other = c.in_default in
-    let eight : c.args.width ≡ 8 = omega arith in
-    last_at c.args.width 8 c.args.count c.words_from-in_default.result.now (drop c.args.start c.args.block.now.words) c.args.number c.absent_up_to_in-in_default.result eight c.words_from-in_default.ensures.words c.absent_up_to_in-in_default.ensures
+    last_at c.args.width 8 c.args.count c.words_from-in_default.result.now (drop c.args.start c.args.block.now.words) c.args.number c.absent_up_to_in-in_default.result
+    (omega (arith, c.requires.keys.packed.is_width.some, c.requires.keys.packed.is_width.most, c.in_default)) c.words_from-in_default.ensures.words c.absent_up_to_in-in_default.ensures

@@ -1,6 +1,6 @@
-use Rattle.std.proofs.Common.{◌≡◌, ◌+◌, ◌-◌, ◌*◌, ◌<◌, Some, sym, ap, ◌∙◌, subst, arith, bit_and}
+use Rattle.std.proofs.Common.{◌+◌, ◌-◌, ◌*◌, ◌<◌, Some, sym, ap, ◌∙◌, subst, arith, bit_and}
 use Rattle.judy_leaf.specs.NextBits.{AreLeft}
-use Rattle.judy_leaf.proofs.NextBits.{next_word, word_behind, bit_inside, next_told, left_behind}
+use Rattle.judy_leaf.proofs.NextBits.{next_word, word_behind, next_below, next_told, left_behind}
 use Rattle.judy_leaf.proofs.next_bits.take_next.Goals as goal
 
 pub overflow_add-word : goal.overflow_add-word
@@ -32,10 +32,7 @@ overflow_mul-result c = omega (arith, (c.loop-left.invariant c.requires.some.0 c
 
 pub overflow_add-result : goal.overflow_add-result
 overflow_add-result c =
-    let is = c.loop-left.invariant c.requires.some.0 c.requires.some.1 in
-    let inside = is.inside in
-    let some : 0 < c.loop-left.left = let apart = c.loop-left-test.false in omega arith in
-    let bit = bit_inside c.args.words.now c.loop-left.word c.loop-left.left c.requires.some.0 is some in
+    let below = next_below c.args.words.now c.loop-left.word c.loop-left.left c.requires.some.0 (c.loop-left.invariant c.requires.some.0 c.requires.some.1) (omega (arith, c.loop-left-test.false)) in
     let same = c.from-bit.ensures in
     omega arith
 
@@ -50,9 +47,6 @@ returns-clause-next c = λ byte all.
 
 pub returns-clause-below : goal.returns-clause-below
 returns-clause-below c =
-    let is = c.loop-left.invariant c.requires.some.0 c.requires.some.1 in
-    let inside = is.inside in
-    let some : 0 < c.loop-left.left = let apart = c.loop-left-test.false in omega arith in
-    let bit = bit_inside c.args.words.now c.loop-left.word c.loop-left.left c.requires.some.0 is some in
+    let below = next_below c.args.words.now c.loop-left.word c.loop-left.left c.requires.some.0 (c.loop-left.invariant c.requires.some.0 c.requires.some.1) (omega (arith, c.loop-left-test.false)) in
     let same = c.from-bit.ensures in
     omega arith

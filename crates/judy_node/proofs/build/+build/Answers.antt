@@ -76,7 +76,7 @@ child_of_sorted-kind_of_sorted-requires g t c κs within =
 
 pub kind_of_sorted-many-requires : goal.kind_of_sorted-many-requires
 kind_of_sorted-many-requires g t c κs within =
-    let many = c.if-pairs-le32.false in
+    let many = c.if-pairs-le-LEAF_ROOM.false in
     let falls = c.decreases in
     (omega arith, (within, (c.requires.one, (c.requires.width, (omega arith, c.requires.map)))))
 

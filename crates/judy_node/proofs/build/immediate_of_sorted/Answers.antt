@@ -1,4 +1,4 @@
-use Rattle.std.proofs.Common.{◌+◌, ◌*◌, ◌%◌, ◌^◌, length, get_or, sym, ap, refl, ◌∙◌, subst, arith}
+use Rattle.std.proofs.Common.{◌%◌, ◌^◌, length, get_or, sym, ap, refl, ◌∙◌, subst, arith}
 use Rattle.std.proofs.lemmas.Nat.{mod_below}
 use Rattle.std.proofs.Math.Nat.{pow-le-pow_right}
 use Rattle.judy_model.proofs.ByteLemmas.{unit_pos}
@@ -24,12 +24,12 @@ into_parts-count-requires g c =
     let is = ap (λ l. length l.pairs) c.from_sorted.ensures in
     omega arith
 
-pub new-requires-else-WORDS-eq0 : goal.new-requires-else-WORDS-eq0
-new-requires-else-WORDS-eq0 g c =
+pub new-requires : goal.new-requires
+new-requires g c =
     let within = c.requires.width.1 in
     let most = pow-le-pow_right {n = 256} (omega arith) within in
     let below = mod_below (get_or c.args.pairs.now 0 (0, 0)).0 (256 ^ c.args.width) (unit_pos c.args.width) in
-    let low = c.low_part.ensures ∙ ap (λ w. (get_or c.args.pairs.now 0 (0, 0)).0 % 256 ^ w) c.from-else-WORDS-eq0.ensures in
+    let low = c.low_part.ensures ∙ ap (λ w. (get_or c.args.pairs.now 0 (0, 0)).0 % 256 ^ w) c.from.ensures in
     omega arith
 
 pub returns-then-WORDS-eq0-clause-built : goal.returns-then-WORDS-eq0-clause-built
@@ -40,14 +40,14 @@ returns-then-WORDS-eq0-clause-built g c =
     let keys = c.into_parts-count.result.1 in
     let wide = ap (λ l. l.width) c.from_sorted.ensures in
     let made = c.into_parts-count.ensures in
-    (few_done words c.args.width count keys c.new.result c.args.pairs.now (sym c.WORDS.ensures ∙ c.if-WORDS-eq0.true)
+    (few_done words c.args.width count keys c.of_keys.result c.args.pairs.now (sym c.WORDS.ensures ∙ c.if-WORDS-eq0.true)
     (subst (λ w. IsImmParts words w count keys) wide made.parts)
     (ap (λ w. parts_list words w count keys) (sym wide) ∙ made.list ∙ c.from_sorted.ensures)
-    (c.new.ensures ∙ ap (λ w. count + 256 * w) c.from.ensures) c.requires.width.0 (omega arith) c.requires.map).1
+    c.of_keys.ensures c.requires.width.0 (omega arith) c.requires.map).1
 
 pub returns-else-WORDS-eq0-clause-built : goal.returns-else-WORDS-eq0-clause-built
 returns-else-WORDS-eq0-clause-built g c =
     let high = c.requires.width.1 in
-    let low = c.low_part.ensures ∙ ap (λ w. (get_or c.args.pairs.now 0 (0, 0)).0 % 256 ^ w) c.from-else-WORDS-eq0.ensures in
-    one_done g.V.Words.WORDS c.args.width c.new-else-WORDS-eq0.result (get_or c.args.pairs.now 0 (0, 0)).1 c.args.pairs.now c.requires.one (λ none. c.if-WORDS-eq0.false (c.WORDS.ensures ∙ none)) c.requires.some c.requires.within
-    (c.new-else-WORDS-eq0.ensures ∙ low) refl c.requires.width.0 (omega arith) c.requires.map
+    let low = c.low_part.ensures ∙ ap (λ w. (get_or c.args.pairs.now 0 (0, 0)).0 % 256 ^ w) c.from.ensures in
+    one_done g.V.Words.WORDS c.args.width c.new.result (get_or c.args.pairs.now 0 (0, 0)).1 c.args.pairs.now c.requires.one (λ none. c.if-WORDS-eq0.false (c.WORDS.ensures ∙ none)) c.requires.some c.requires.within
+    (c.new.ensures ∙ low) refl c.requires.width.0 (omega arith) c.requires.map

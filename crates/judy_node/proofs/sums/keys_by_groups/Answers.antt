@@ -1,6 +1,5 @@
-use Rattle.std.proofs.Common.{◌≡◌, ◌+◌, ◌-◌, ◌*◌, ◌/◌, ◌∙◌, sym, ap, arith}
-use Rattle.judy_node.specs.Populations.{keys_before}
-use Rattle.judy_node.proofs.SumFacts.{groups-all, population-span, span-le}
+use Rattle.std.proofs.Common.{◌+◌, ◌-◌, ◌*◌, ◌/◌, ◌∙◌, sym, arith}
+use Rattle.judy_node.proofs.SumFacts.{groups-all, behind_group, before_group, span-le}
 use Rattle.judy_node.proofs.sums.keys_by_groups.Goals as goal
 
 pub keys_before_group-before-requires-clause-all : goal.keys_before_group-before-requires-clause-all
@@ -36,39 +35,21 @@ population_of-requires-else-border-place g c =
 
 pub overflow_sub-result : goal.overflow_sub-result
 overflow_sub-result g c =
-    let group = (c.args.place + 8) / 16 in
-    let many = c.requires.groups.all in
-    let place = c.requires.place in
-    let border = 16 * group in
-    let past = c.if-border-place.false in
-    let before = c.keys_before_group-before.ensures ∙ c.requires.groups.each group (omega arith) in
-    let same : c.args.place + (border - c.args.place) ≡ border = omega arith in
-    let span = ap (λ n. keys_before n c.args.children.now) (sym same) ∙ population-span c.args.children.now c.args.place (border - c.args.place) in
+    let parts = before_group c.args.groups.now c.args.children.now c.requires.groups ((c.args.place + 8) / 16) c.args.place (omega (arith, c.requires.groups.all, c.requires.place)) (omega (arith, c.if-border-place.false)) in
+    let before = c.keys_before_group-before.ensures in
     let own = c.population_of-else-border-place.ensures in
     omega arith
 
 pub returns-then-border-place : goal.returns-then-border-place
 returns-then-border-place g c =
-    let group = (c.args.place + 8) / 16 in
-    let many = c.requires.groups.all in
-    let place = c.requires.place in
-    let border = 16 * group in
-    let past = c.if-border-place.true in
-    let before = c.keys_before_group-before.ensures ∙ c.requires.groups.each group (omega arith) in
-    let same : border + (c.args.place - border) ≡ c.args.place = omega arith in
-    let span = ap (λ n. keys_before n c.args.children.now) (sym same) ∙ population-span c.args.children.now border (c.args.place - border) in
+    let parts = behind_group c.args.groups.now c.args.children.now c.requires.groups ((c.args.place + 8) / 16) c.args.place (omega (arith, c.requires.groups.all, c.requires.place)) (omega (arith, c.if-border-place.true)) in
+    let before = c.keys_before_group-before.ensures in
     let own = c.population_of.ensures in
     omega arith
 
 pub returns-else-border-place : goal.returns-else-border-place
 returns-else-border-place g c =
-    let group = (c.args.place + 8) / 16 in
-    let many = c.requires.groups.all in
-    let place = c.requires.place in
-    let border = 16 * group in
-    let past = c.if-border-place.false in
-    let before = c.keys_before_group-before.ensures ∙ c.requires.groups.each group (omega arith) in
-    let same : c.args.place + (border - c.args.place) ≡ border = omega arith in
-    let span = ap (λ n. keys_before n c.args.children.now) (sym same) ∙ population-span c.args.children.now c.args.place (border - c.args.place) in
+    let parts = before_group c.args.groups.now c.args.children.now c.requires.groups ((c.args.place + 8) / 16) c.args.place (omega (arith, c.requires.groups.all, c.requires.place)) (omega (arith, c.if-border-place.false)) in
+    let before = c.keys_before_group-before.ensures in
     let own = c.population_of-else-border-place.ensures in
     omega arith

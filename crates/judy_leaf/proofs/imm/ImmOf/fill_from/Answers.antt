@@ -1,4 +1,4 @@
-use Rattle.std.proofs.Common.{◌+◌, ◌^◌, [], length, ◌∙◌, arith}
+use Rattle.std.proofs.Common.{◌+◌, ◌^◌, length, ◌∙◌, arith}
 use Rattle.judy_leaf.proofs.Bounds.{key_below}
 use Rattle.judy_leaf.proofs.Fills.{written_more, all_made}
 use Rattle.judy_leaf.proofs.imm.ImmOf.fill_from.Goals as goal

@@ -1,6 +1,4 @@
-use Rattle.std.proofs.Common.{◌≡◌, ◌+◌, ◌-◌, ◌<◌, ap, sym, subst, ◌∙◌, arith}
-use Rattle.judy_leaf.specs.Leaves.{IsLeafParts, leaf_list}
-use Rattle.judy_leaf.specs.PairChanges.{IsPairTaken}
+use Rattle.std.proofs.Common.{◌<◌, sym, subst, ◌∙◌}
 use Rattle.judy_leaf.proofs.LeafLists.{read_length}
 use Rattle.judy_leaf.proofs.LeafChanges.{leaf_less}
 use Rattle.judy_leaf.proofs.leaf.LeafOf.remove.Goals as goal

@@ -1,4 +1,4 @@
-use Rattle.std.proofs.Common.{◌+◌, ◌^◌, ◌<◌, [], length, ◌∙◌, subst, arith}
+use Rattle.std.proofs.Common.{◌+◌, ◌^◌, ◌<◌, length, ◌∙◌, subst, arith}
 use Rattle.std.specs.List.{AllByRecursion}
 use Rattle.judy_leaf.specs.KeyLists.{keys_of}
 use Rattle.judy_leaf.proofs.Bounds.{key_below}

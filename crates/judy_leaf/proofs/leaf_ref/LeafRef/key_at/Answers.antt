@@ -1,9 +1,8 @@
 use Rattle.std.proofs.Common.{◌<◌, slice_index, ap, sym, subst, ◌∙◌}
-use Rattle.judy_leaf.proofs.LeafLists.{read_keys, read_length}
 use Rattle.judy_leaf.proofs.leaf_ref.LeafRef.key_at.Goals as goal
 
 pub key_at-requires-clause-inside : goal.key_at-requires-clause-inside
-key_at-requires-clause-inside g c = subst (λ n. c.args.at < n) (read_length g.V.Words.WORDS c.self.inside.count c.self.inside.block.now c.self.invariant.0 c.args.self.now c.self.view_is ∙ sym c.from-count.ensures) c.requires
+key_at-requires-clause-inside g c = subst (λ n. c.args.at < n) (sym c.keys-width.ensures.count) c.requires
 
 pub returns : goal.returns
-returns g c = c.key_at.ensures ∙ ap (λ keys. slice_index keys c.args.at) (read_keys g.V.Words.WORDS c.self.inside.count c.self.inside.block.now c.self.invariant.0 c.args.self.now c.self.view_is c.self.inside.width c.self.invariant.1 c.from.result c.from-count.result c.WORDS.result c.from.ensures c.from-count.ensures c.WORDS.ensures)
+returns g c = c.key_at.ensures ∙ ap (λ keys. slice_index keys c.args.at) c.keys-width.ensures.same

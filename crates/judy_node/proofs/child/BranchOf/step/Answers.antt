@@ -1,7 +1,7 @@
-use Rattle.std.proofs.Common.{◌*◌, ◌-◌, ◌/◌, ◌%◌, ◌^◌, ap, ◌∙◌, sym, arith}
+use Rattle.std.proofs.Common.{◌*◌, ◌-◌, ◌/◌, ◌^◌, ap, ◌∙◌, sym, arith}
 use Rattle.judy_model.specs.WordBytes.{number_of}
 use Rattle.judy_model.proofs.ByteLemmas.{unit_pos}
-use Rattle.judy_node.proofs.StepFacts.{block_fits, below_block, key_of, absent_place, present_place}
+use Rattle.judy_node.proofs.StepFacts.{block_fits, below_block, key_read, absent_place, present_place}
 use Rattle.judy_node.proofs.child.BranchOf.step.Goals as goal
 
 pub overflow_mul-front : goal.overflow_mul-front
@@ -23,30 +23,16 @@ returns-then-block-front g c =
 
 pub returns-in-Some : goal.returns-in-Some
 returns-in-Some g c =
-    let branch = c.args.self.now in
-    let front = ap (λ n. n * 256) c.number-front.ensures in
-    let above = c.if-block-front.false in
-    let small = c.if-block-front-gt255.false in (
-      key_of (256 ^ branch.width) (number_of branch.skip * 256) c.args.key (c.without_tail-block.result - c.number-front.result * 256) c.tail-rest.result c.without_tail-block.result
-          (unit_pos branch.width)
-          (c.without_tail-block.ensures ∙ ap (λ w. c.args.key / 256 ^ w) c.from-width.ensures)
-          (c.tail-rest.ensures ∙ ap (λ w. c.args.key % 256 ^ w) c.from-width.ensures)
-          (omega arith) (ap (λ n. c.without_tail-block.result - n) front) (omega arith),
+    let branch = c.args.self.now in (
+      key_read branch.width (number_of branch.skip) c.args.key c.without_tail-block.result c.number-front.ensures c.from-width.ensures c.without_tail-block.ensures c.tail-rest.ensures (omega (arith, c.if-block-front.false)) (omega (arith, c.if-block-front-gt255.false)),
       present_place g.V.Words.WORDS branch.width branch.bytes branch.children.items (c.without_tail-block.result - c.number-front.result * 256) c.in-Some.place c.requires.parts.children
           (sym c.place.ensures ∙ c.in-Some.is),
     )
 
 pub returns-in-None : goal.returns-in-None
 returns-in-None g c =
-    let branch = c.args.self.now in
-    let front = ap (λ n. n * 256) c.number-front.ensures in
-    let above = c.if-block-front.false in
-    let small = c.if-block-front-gt255.false in (
-      key_of (256 ^ branch.width) (number_of branch.skip * 256) c.args.key (c.without_tail-block.result - c.number-front.result * 256) c.tail-rest.result c.without_tail-block.result
-          (unit_pos branch.width)
-          (c.without_tail-block.ensures ∙ ap (λ w. c.args.key / 256 ^ w) c.from-width.ensures)
-          (c.tail-rest.ensures ∙ ap (λ w. c.args.key % 256 ^ w) c.from-width.ensures)
-          (omega arith) (ap (λ n. c.without_tail-block.result - n) front) (omega arith),
+    let branch = c.args.self.now in (
+      key_read branch.width (number_of branch.skip) c.args.key c.without_tail-block.result c.number-front.ensures c.from-width.ensures c.without_tail-block.ensures c.tail-rest.ensures (omega (arith, c.if-block-front.false)) (omega (arith, c.if-block-front-gt255.false)),
       absent_place branch.bytes (c.without_tail-block.result - c.number-front.result * 256) (sym c.place.ensures ∙ c.in-None.is),
       c.rank.ensures,
     )

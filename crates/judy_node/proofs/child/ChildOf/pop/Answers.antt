@@ -1,4 +1,4 @@
-use Rattle.std.proofs.Common.{◌%◌, length, sym, ap, ◌∙◌, subst}
+use Rattle.std.proofs.Common.{length, sym, ap, ◌∙◌, subst}
 use Rattle.judy_node.specs.Kinds.{tree_of, IsLevel}
 use Rattle.judy_node.proofs.Leaves.{leaf_long}
 use Rattle.judy_node.proofs.Counted.{imm_count, bit_count}
@@ -20,6 +20,6 @@ returns-in-Leaf g c =
 pub returns-in-Bit : goal.returns-in-Bit
 returns-in-Bit g c =
     let words = g.V.Words.WORDS in
-    c.from-in-Bit.ensures ∙ ap (λ n. n % 65536) c.tag.ensures.tag
+    c.from-in-Bit.ensures ∙ c.bit_count.ensures
     ∙ bit_count words c.in-Bit.field-0 c.in-Bit.block (subst (λ kind. IsLevel words kind) c.in-Bit.is c.kind.ensures.level)
     ∙ ap (λ tree. length tree.pairs) (ap (tree_of words) (sym c.in-Bit.is) ∙ c.kind.ensures.tree)

@@ -1,64 +1,46 @@
-use Rattle.std.proofs.Common.{◌≡◌, ◌+◌, ◌-◌, ◌*◌, ◌/◌, ◌^◌, ◌<◌, ◌≤◌, [], ◌∷◌, ◌++◌, sym, ap, ◌∙◌, subst, arith}
+use Rattle.std.proofs.Common.{◌≡◌, ◌+◌, ◌-◌, ◌*◌, ◌^◌, ◌<◌, ◌≤◌, [], ◌∷◌, ◌++◌, sym, ap, ◌∙◌, subst, arith}
 use Rattle.judy_node.specs.Trees.{IsBranch, branch_tree}
 use Rattle.judy_node.specs.Kinds.{IsLevel, tree_of, IsBit, bit_tree, bit_width, behind}
 use Rattle.judy_node.specs.Populations.{AreSums}
-use Rattle.judy_node.proofs.Behind.{bit_behind, bit_behind_tree, bit_number_fits, branch_behind, branch_behind_tree}
+use Rattle.judy_node.proofs.Behind.{bit_behind, bit_behind_tree, bit_number_fits, front_sum, front_fits, branch_behind, branch_behind_tree}
 use Rattle.judy_node.proofs.child.KindOf.behind.Goals as goal
 
 pub moved_up-front-requires-clause-within : goal.moved_up-front-requires-clause-within
 moved_up-front-requires-clause-within g c =
     let words = g.V.Words.WORDS in
-    let below : c.args.byte < 256 = omega (arith, c.ranges.byte) in
     let level = subst (λ kind. IsLevel words kind) c.in-Bit.is c.requires.level in
     let room = subst (λ kind. (tree_of words kind).width + 1 ≤ 8) c.in-Bit.is c.requires.width in
-    let fits = bit_number_fits words c.in-Bit.head c.args.byte c.in-Bit.block level below room in
-    let same : c.from.result * 256 ^ (c.tag.result / 65536 - 1) ≡ c.args.byte * 256 ^ (bit_width c.in-Bit.block - 1) = (λ t. c.from.ensures t * 256 ^ (c.tag.ensures.tag t / 65536 - 1)) in
+    let fits = bit_number_fits words c.in-Bit.head c.args.byte c.in-Bit.block level (omega (arith, c.ranges.byte)) room in
+    let same : c.from.result * 256 ^ (c.bit_width.result - 1) ≡ c.args.byte * 256 ^ (bit_width c.in-Bit.block - 1) = (λ t. c.from.ensures t * 256 ^ (c.bit_width.ensures t - 1)) in
     subst (λ n. n < 2 ^ 64) (sym same) (omega arith)
 
 pub new-head-requires : goal.new-head-requires
 new-head-requires g c =
     let words = g.V.Words.WORDS in
-    let below : c.args.byte < 256 = omega (arith, c.ranges.byte) in
-    let level = subst (λ kind. IsLevel words kind) c.in-Bit.is c.requires.level in
-    let room = subst (λ kind. (tree_of words kind).width + 1 ≤ 8) c.in-Bit.is c.requires.width in
-    let fits = bit_number_fits words c.in-Bit.head c.args.byte c.in-Bit.block level below room in
-    let front = c.moved_up-front.ensures ∙ (λ t. c.from.ensures t * 256 ^ (c.tag.ensures.tag t / 65536 - 1)) in
-    subst (λ n. n < 2 ^ 56) (λ t. sym front t + sym c.number.ensures.value t) fits
+    front_fits words c.in-Bit.head c.args.byte c.in-Bit.block (subst (λ kind. IsLevel words kind) c.in-Bit.is c.requires.level) (omega (arith, c.ranges.byte))
+    (subst (λ kind. (tree_of words kind).width + 1 ≤ 8) c.in-Bit.is c.requires.width) (front_sum c.bit_width.ensures c.from.ensures c.moved_up-front.ensures c.number.ensures.value)
 
 pub overflow_add-front : goal.overflow_add-front
 overflow_add-front g c =
     let words = g.V.Words.WORDS in
-    let below : c.args.byte < 256 = omega (arith, c.ranges.byte) in
-    let level = subst (λ kind. IsLevel words kind) c.in-Bit.is c.requires.level in
-    let room = subst (λ kind. (tree_of words kind).width + 1 ≤ 8) c.in-Bit.is c.requires.width in
-    let fits = bit_number_fits words c.in-Bit.head c.args.byte c.in-Bit.block level below room in
-    let front = c.moved_up-front.ensures ∙ (λ t. c.from.ensures t * 256 ^ (c.tag.ensures.tag t / 65536 - 1)) in
-    let number = c.number.ensures.value in
+    let fits = front_fits words c.in-Bit.head c.args.byte c.in-Bit.block (subst (λ kind. IsLevel words kind) c.in-Bit.is c.requires.level) (omega (arith, c.ranges.byte))
+    (subst (λ kind. (tree_of words kind).width + 1 ≤ 8) c.in-Bit.is c.requires.width) (front_sum c.bit_width.ensures c.from.ensures c.moved_up-front.ensures c.number.ensures.value) in
     omega arith
 
 pub returns-in-Bit-clause-level : goal.returns-in-Bit-clause-level
 returns-in-Bit-clause-level g c =
     let words = g.V.Words.WORDS in
-    let below : c.args.byte < 256 = omega (arith, c.ranges.byte) in
-    let level = subst (λ kind. IsLevel words kind) c.in-Bit.is c.requires.level in
-    let room = subst (λ kind. (tree_of words kind).width + 1 ≤ 8) c.in-Bit.is c.requires.width in
-    let front = c.moved_up-front.ensures ∙ (λ t. c.from.ensures t * 256 ^ (c.tag.ensures.tag t / 65536 - 1)) in
-    let number = c.new-head.ensures ∙ (λ t. front t + c.number.ensures.value t) in
-    let block = c.set_tag.ensures ∙ ap (λ tag. record c.in-Bit.block { tag = tag + 65536 }) c.tag-in-Bit.ensures.tag in
-    subst (λ b. IsBit words c.new-head.result b) (sym block)
+    let number = c.new-head.ensures ∙ front_sum c.bit_width.ensures c.from.ensures c.moved_up-front.ensures c.number.ensures.value in
+    subst (λ b. IsBit words c.new-head.result b) (sym c.widen_bits.ensures)
     (subst (λ n. IsBit words n (record c.in-Bit.block { tag = c.in-Bit.block.tag + 65536 })) (sym number)
-    (bit_behind words c.in-Bit.head c.args.byte c.in-Bit.block level below room))
+    (bit_behind words c.in-Bit.head c.args.byte c.in-Bit.block (subst (λ kind. IsLevel words kind) c.in-Bit.is c.requires.level) (omega (arith, c.ranges.byte)) (subst (λ kind. (tree_of words kind).width + 1 ≤ 8) c.in-Bit.is c.requires.width)))
 
 pub returns-in-Bit-clause-tree : goal.returns-in-Bit-clause-tree
 returns-in-Bit-clause-tree g c =
     let words = g.V.Words.WORDS in
-    let below : c.args.byte < 256 = omega (arith, c.ranges.byte) in
-    let level = subst (λ kind. IsLevel words kind) c.in-Bit.is c.requires.level in
-    let front = c.moved_up-front.ensures ∙ (λ t. c.from.ensures t * 256 ^ (c.tag.ensures.tag t / 65536 - 1)) in
-    let number = c.new-head.ensures ∙ (λ t. front t + c.number.ensures.value t) in
-    let block = c.set_tag.ensures ∙ ap (λ tag. record c.in-Bit.block { tag = tag + 65536 }) c.tag-in-Bit.ensures.tag in
-    (λ t. bit_tree words (number t) (block t))
-    ∙ bit_behind_tree words c.in-Bit.head c.args.byte c.in-Bit.block level below
+    let number = c.new-head.ensures ∙ front_sum c.bit_width.ensures c.from.ensures c.moved_up-front.ensures c.number.ensures.value in
+    (λ t. bit_tree words (number t) (c.widen_bits.ensures t))
+    ∙ bit_behind_tree words c.in-Bit.head c.args.byte c.in-Bit.block (subst (λ kind. IsLevel words kind) c.in-Bit.is c.requires.level) (omega (arith, c.ranges.byte))
     ∙ ap (λ kind. behind (c.args.byte ∷ []) (tree_of words kind)) (sym c.in-Bit.is)
 
 pub returns-in-Branch-clause-level : goal.returns-in-Branch-clause-level

@@ -1,7 +1,7 @@
 -- `get_mut` lends the value in the array. The borrow checker does not cover an element of an array that goes to the caller, so
 -- this proof walks the code by hand. Assumes `Logic`.
-use mathlib.Core.Path.{◌≡◌, refl, sym, ap, subst, ◌∙◌}
-use Prim.Native.Nat.{ℕ, zero, ◌+◌, ◌*◌, ◌^◌, ◌<◌}
+use mathlib.Core.Path.{◌≡◌, refl, sym, ap, subst}
+use Prim.Native.Nat.{ℕ, ◌+◌, ◌*◌, ◌^◌, ◌<◌}
 use native.Mathlib.Nat.{zero-mul}
 use native.Mathlib.Omega.{arith}
 use mathlib.Core.List.{List, [], ◌∷◌}
@@ -9,18 +9,16 @@ use lib.ListN.{length}
 use seplogic.Ra.Ura.{Ura}
 use mir.Syntax.{Fn, named, w64}
 use mir.MapTy.{inst_fn}
-use prog.Capped.{capped_is}
 use prog.Memory.{capped, size}
 use mir.Val.{Val, vptr, vint}
 use base.Logic.{SProp, ent, sep, ex, guard}
-use base.Fml.{Fml, Lft, GName, Share, ftrue, flft}
+use base.Fml.{Lft, GName, Share, ftrue, flft}
 use types.Logic.{Logic, sem}
 use types.Mut.{open_ref}
 use types.SemTy.{cells}
-use types.Kit.{Item, ‵, ◌⊛◌, raw, given, some, later, ◌$◌, ◌∵◌, !, qed, by, move, keep, drop, split, split3, join, learn, fsplit, fsplit3, fjoin, use1, use2, await, pick, suffices, frame, done, updating, group, now, show, rewrite, check}
+use types.Kit.{Item, ‵, ◌⊛◌, raw, given, some, later, ◌$◌, ◌∵◌, !, qed, move, keep, drop, split, split3, join, learn, fsplit, fsplit3, fjoin, use1, use2, await, pick, suffices, frame, done, updating, group, now, show, rewrite, check}
 use types.Run.{stop, fld, addr, bin, lit, size_word, returns, enter}
 use types.ByLocal.{alloc_all, pass_all, free_all, look_at, get, through, sets, is}
-use contract.BorrowLft.{◌⊑◌}
 use contract.Running.{tables}
 use denote.Exit.{no}
 use denote.Follow.{follows, Part, lends_Part}
@@ -28,7 +26,7 @@ use denote.Memory.{mem}
 use denote.Param.{layout}
 use denote.Param.Laws.{Laws}
 use denote.RattleType.{RattleType, owns}
-use denote.Ref.{MutBor, MutRef, mut_vals, mut_Tells}
+use denote.Ref.{MutRef, mut_vals, mut_Tells}
 use denote.Signature.{Slot, plain, mut_ref_to}
 use denote.Steps.{nothing}
 use denote.Triple.Walked.{Stays, walk_of, says, stay_dropped, Goes-spent_ref, ends_at}
