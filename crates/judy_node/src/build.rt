@@ -23,16 +23,20 @@ fn byte_above(key: u64, below: u8) -> u8
     low_part(without_tail(key, usize::from(below)), 1) as u8
 }
 
-// How many bytes the keys of sorted pairs have there: so many children they will be. A bit is set for each, since whether the next key has
-// another byte can't be foreseen.
+// How many bytes the keys of sorted pairs have there: so many children they will be. Where the byte changes from a key to the next can't be
+// foreseen, so the changes are added up without a branch.
 fn bytes_above(pairs: &[(u64, u64)], below: u8) -> usize
-    requires { below ≤ 7 }
+    requires below { below ≤ 7 }
+    requires some { 0 < length pairs.now }
 {
-    let mut bits = Bits256::new();
+    let mut count = 1usize;
+    let mut last = byte_above(pairs[0].0, below);
     for pair in pairs {
-        bits.add(byte_above(pair.0, below));
+        let byte = byte_above(pair.0, below);
+        count = count.wrapping_add(usize::from(byte != last));
+        last = byte;
     }
-    bits.len()
+    count
 }
 
 // How many of the first pairs have a byte there.
@@ -197,7 +201,9 @@ fn add_group<'a, V: Words + Drop>(
 
 /// The tight node of sorted pairs, whose keys are read by their lowest bytes, `width` of them. The error is want of
 /// memory, which an immediate doesn't take; nothing is kept then.
+// Of scattered keys most children are immediates, which are made where this is compiled in.
 #[cycle(build)]
+#[inline(always)]
 pub fn child_of_sorted<V: Words + Drop>(
     alloc: Global,
     width: u8,
@@ -212,16 +218,32 @@ pub fn child_of_sorted<V: Words + Drop>(
     if fits_immediate::<V>(pairs.len(), width) {
         return Ok(ChildOf::close(immediate_of_sorted(width, pairs)));
     }
+    larger_child(alloc, width, pairs)
+}
+
+// The same for more pairs than an immediate holds.
+#[cycle(build)]
+#[inline(never)]
+fn larger_child<V: Words + Drop>(
+    alloc: Global,
+    width: u8,
+    pairs: &[(u64, u64)],
+) -> Result<ChildOf<V>, AllocError>
+    requires one { V.WORDS ≤ 1 }
+    requires width { (1 ≤ width) × (width ≤ 7) }
+    requires more { immediate_limit V.WORDS width < length pairs.now }
+    requires map { IsMap V.WORDS 0 (256 ^ width) (low_pairs (256 ^ width) pairs.now) }
+    ensures { IfOk result (λ child. IsBuilt V.WORDS width pairs.now child) }
+{
     if pairs.len() <= LEAF_ROOM {
         let leaf = snug_leaf(alloc, width, pairs)?;
         return Ok(ChildOf::close(leaf));
     }
-    let kind = kind_of_sorted(alloc, width, pairs)?;
+    let kind = many(alloc, width, pairs)?;
     Ok(ChildOf::close(kind))
 }
 
 /// The same for more pairs than an immediate holds, by the node's kind; `width` may be 8 here.
-#[cycle(build)]
 pub fn kind_of_sorted<V: Words + Drop>(
     alloc: Global,
     width: u8,

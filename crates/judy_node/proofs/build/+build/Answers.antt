@@ -66,19 +66,19 @@ add_group-returns-clause-made g t c =
           c.byte_above-byte.ensures (omega (arith, c.byte_above-byte.type_inv)) c.group_end-end.ensures c.in-Ok.ensures c.requires.two))),
     )
 
-pub child_of_sorted-kind_of_sorted-requires : goal.child_of_sorted-kind_of_sorted-requires
-child_of_sorted-kind_of_sorted-requires g t c κs within =
-    let width = c.requires.width in
-    let high = width.1 in
+pub child_of_sorted-larger_child-requires : goal.child_of_sorted-larger_child-requires
+child_of_sorted-larger_child-requires g t c κs within =
     let more = c.fits_immediate.ensures.more c.if-fits_immediate.false in
     let falls = c.decreases in
-    (omega arith, (within, (c.requires.one, ((width.0, omega arith), (omega arith, c.requires.map)))))
+    (omega arith, (within, (omega arith, (c.requires.one, (c.requires.width, (omega arith, c.requires.map))))))
 
-pub kind_of_sorted-many-requires : goal.kind_of_sorted-many-requires
-kind_of_sorted-many-requires g t c κs within =
+pub larger_child-many-requires : goal.larger_child-many-requires
+larger_child-many-requires g t c κs within =
+    let width = c.requires.width in
+    let high = width.1 in
     let many = c.if-pairs-le-LEAF_ROOM.false in
     let falls = c.decreases in
-    (omega arith, (within, (c.requires.one, (c.requires.width, (omega arith, c.requires.map)))))
+    (omega arith, (within, (c.requires.one, ((width.0, omega arith), (omega arith, c.requires.map)))))
 
 pub many-split-requires : goal.many-split-requires
 many-split-requires g t c κs within =
