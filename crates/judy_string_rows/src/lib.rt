@@ -6,6 +6,8 @@
 #[cfg(test)]
 mod bytes;
 #[cfg(test)]
+mod check;
+#[cfg(test)]
 mod cursors;
 #[cfg(test)]
 mod strings;
