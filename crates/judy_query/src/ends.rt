@@ -152,6 +152,20 @@ pub(crate) fn from_in<V: Words + Drop>(view: &ViewOf<'_, V>, key: u64) -> Option
     ensures { result ≡ pair_from (view_pairs view.now) key }
 {
     match view {
+        ViewOf::Leaf(list) => list.at_or_after(key),
+        _ => from_other(view, key),
+    }
+}
+
+/// The same, with the search of a leaf by a call.
+// For nodes that are no leaves: the search of a leaf is large, and isn't compiled in where none comes.
+#[inline(always)]
+pub(crate) fn from_other<V: Words + Drop>(view: &ViewOf<'_, V>, key: u64) -> Option<(u64, u64)>
+    requires end { IsEnd view.now }
+    requires shown { IsShown V.WORDS view.now }
+    ensures { result ≡ pair_from (view_pairs view.now) key }
+{
+    match view {
         ViewOf::Null => None,
         ViewOf::One(only, value) => if *only >= key {
             Some((*only, *value))
@@ -159,7 +173,7 @@ pub(crate) fn from_in<V: Words + Drop>(view: &ViewOf<'_, V>, key: u64) -> Option
             None
         },
         ViewOf::Imm(list) => list.at_or_after(key),
-        ViewOf::Leaf(list) => list.at_or_after(key),
+        ViewOf::Leaf(list) => from_leaf(list, key),
         ViewOf::BitLeaf(skipped, list) => {
             let start = *skipped * 256;
             let (byte, value) = list.at_or_after(key.saturating_sub(start))?;
@@ -167,6 +181,13 @@ pub(crate) fn from_in<V: Words + Drop>(view: &ViewOf<'_, V>, key: u64) -> Option
         }
         ViewOf::Branch(_) => unreachable!(),
     }
+}
+
+// The same in a leaf.
+fn from_leaf<V: Words + Drop>(list: &LeafRef<'_, V>, key: u64) -> Option<(u64, u64)>
+    ensures { result ≡ pair_from list.now.pairs key }
+{
+    list.at_or_after(key)
 }
 
 /// The nearest pair at or below a number; none where all are above.

@@ -1,14 +1,14 @@
 //! A key and what is above it, in one way down.
 
-ghost use Rattle.std.specs.Prelude.{◌≡◌, ◌+◌, ◌-◌, ◌^◌, ◌≤◌, length, slice_get};
+ghost use Rattle.std.specs.Prelude.{◌≡◌, ◌+◌, ◌-◌, ◌^◌, ◌<◌, ◌≤◌, length, slice_get};
 ghost use Rattle.std.specs.FinMap as map;
 ghost use Rattle.judy_leaf.specs.Nearby.{pair_from};
 ghost use Rattle.judy_node.specs.Views.{view_pairs};
 ghost use Rattle.judy_query.specs.Maps.{map_of};
-ghost use Rattle.judy_query.specs.Parts.{value_of, IsEnd, IsShown};
+ghost use Rattle.judy_query.specs.Parts.{value_of, IsEnd, IsEndForm, IsShown};
 ghost use Rattle.judy_query.specs.Visits.{most_visits_near};
 
-use crate::ends::{from_in, value_in, value_in_imm};
+use crate::ends::{from_other, value_in, value_in_imm};
 use crate::turns::{later_turn, pair_behind};
 use judy_bits::Meter;
 use judy_leaf::{LeafRef, Words};
@@ -32,7 +32,7 @@ pub fn around<V: Words + Drop>(
     tree.told();
     let mut at = match tree.enter(meter) {
         ViewOf::Branch(top) => (top, key),
-        view => return around_in(&view, key),
+        _ => return around_root(tree, key, meter),
     };
     let mut later = None;
     'down: loop {
@@ -57,6 +57,41 @@ pub fn around<V: Words + Drop>(
     }
 }
 
+// The same in a tree whose root is no branch.
+// As `from_root` of after.rt.
+#[inline(always)]
+fn around_root<V: Words + Drop>(
+    tree: &NodeOf<V>,
+    key: u64,
+    meter: &mut Meter,
+) -> (Option<u64>, Option<(u64, u64)>)
+    requires end { IsEndForm tree.now.form }
+    requires room { meter.old < 2 ^ 64 - 1 }
+    ensures value { result.0 ≡ map.get (map_of tree.now.pairs) key }
+    ensures above { result.1 ≡ pair_from tree.now.pairs (key + 1) }
+    ensures visits { meter.new ≡ meter.old + 1 }
+{
+    around_entered(tree, key, meter)
+}
+
+// The same, by a call, and so the root is entered anew.
+#[inline(never)]
+fn around_entered<V: Words + Drop>(
+    tree: &NodeOf<V>,
+    key: u64,
+    meter: &mut Meter,
+) -> (Option<u64>, Option<(u64, u64)>)
+    requires end { IsEndForm tree.now.form }
+    requires room { meter.old < 2 ^ 64 - 1 }
+    ensures value { result.0 ≡ map.get (map_of tree.now.pairs) key }
+    ensures above { result.1 ≡ pair_from tree.now.pairs (key + 1) }
+    ensures visits { meter.new ≡ meter.old + 1 }
+{
+    tree.told();
+    let view = tree.enter(meter);
+    around_in(&view, key)
+}
+
 // The value of a key in a node that isn't a branch, and the nearest pair above it there.
 #[inline(always)]
 fn around_in<V: Words + Drop>(view: &ViewOf<'_, V>, key: u64) -> (Option<u64>, Option<(u64, u64)>)
@@ -72,7 +107,7 @@ fn around_in<V: Words + Drop>(view: &ViewOf<'_, V>, key: u64) -> (Option<u64>, O
     }
 }
 
-// The nearest pair above a key there.
+// The nearest pair above a key there. It is asked of nodes that are no leaves.
 #[inline(always)]
 fn above_in<V: Words + Drop>(view: &ViewOf<'_, V>, key: u64) -> Option<(u64, u64)>
     requires end { IsEnd view.now }
@@ -82,7 +117,7 @@ fn above_in<V: Words + Drop>(view: &ViewOf<'_, V>, key: u64) -> Option<(u64, u64
     if key == u64::MAX {
         None
     } else {
-        from_in(view, key + 1)
+        from_other(view, key + 1)
     }
 }
 

@@ -1,4 +1,4 @@
-use Rattle.std.proofs.Common.{◌≡◌, suc, ◌+◌, ◌-◌, ◌*◌, ◌^◌, [], length, slice_get, None, Some, sym, refl, ap, ◌∙◌, arith, is_ge}
+use Rattle.std.proofs.Common.{◌≡◌, suc, ◌+◌, ◌-◌, ◌*◌, ◌^◌, [], length, slice_get, None, Some, sym, refl, ap, ◌∙◌, subst, arith, is_ge}
 use Rattle.std.specs.Option.{option_or}
 use Rattle.judy_model.specs.Keys.{word_order}
 use Rattle.judy_model.specs.WordBytes.{number_of}
@@ -6,11 +6,13 @@ use Rattle.judy_leaf.specs.KeyLists.{shift}
 use Rattle.judy_node.specs.Views.{view_pairs}
 use Rattle.judy_node.specs.declared.step.Step.TheVariants.{Child}
 use Rattle.judy_node.specs.declared.view.ViewOf.TheVariants.{Branch}
-use Rattle.judy_query.specs.Parts.{width_of, passed}
+use Rattle.judy_query.specs.Parts.{width_of, passed, IsEndForm}
 use Rattle.judy_query.proofs.Downs.{down_root, down_child, down_gap, child_inside, child_is, beside_is, branch_is, passed_few, beside_reached}
+use Rattle.judy_query.proofs.EndFacts.{end_form}
 use Rattle.judy_query.proofs.NearFacts.{part-from, head-append, found_below, down_from}
 use Rattle.judy_query.proofs.LaterFacts.{reached_rank}
 use Rattle.judy_query.proofs.Splits.{rest_of}
+use Rattle.judy_query.proofs.WalkFacts.{end_is}
 use Rattle.judy_query.proofs.after.entry_at_or_after.Goals as goal
 
 pub down-init : goal.down-init
@@ -18,6 +20,11 @@ down-init g c =
     let down = down_root g.V.Words.WORDS c.args.tree.now (Branch c.in-Branch.top) c.args.key c.told.ensures c.in-Branch.ensures.view (omega (arith, c.ranges.key)) in
     let narrow = down.shown.narrow in
     (down, refl, tt, omega (arith, c.enter.ensures.visits), omega (arith, c.enter.ensures.visits))
+
+pub from_root-requires : goal.from_root-requires
+from_root-requires g c =
+    let end = subst IsEndForm (sym c.enter.ensures.view.form) (end_form 8 c.enter.result (end_is c.enter.result c.in_default.not-Branch)) in
+    (omega arith, (end, omega (arith, c.requires, c.enter.ensures.visits)))
 
 pub pair_behind-requires : goal.pair_behind-requires
 pair_behind-requires g c =
@@ -145,7 +152,7 @@ returns-in_default-from_in g c =
     let visits = c.enter-in-down.ensures.visits in
     record {
       entry = c.pair_behind-in_default-from_in.ensures.entry ∙ (λ t. option_or (slice_get behind 0) (sym way.1 t)) ∙ sym (head-append behind way.0.back) ∙ sym (ap (λ ps. slice_get ps 0) next.back_is)
-          ∙ down_from words pairs view c.args.key c.in-Child.rest next.down None (sym c.in_default-from_in.is ∙ c.from_in-in_default-enter.ensures);
+          ∙ down_from words pairs view c.args.key c.in-Child.rest next.down None (sym c.in_default-from_in.is ∙ c.from_in.ensures);
       no_fewer = omega (arith, way.4, c.pair_behind-in_default-from_in.ensures.no_fewer, visits);
       visits = omega (arith, way.3, c.pair_behind-in_default-from_in.ensures.visits, next.width_is);
     }
@@ -156,7 +163,7 @@ overflow_add-result g c =
     let next = down_child c.down.invariant.0 c.in-Child.field-0 c.in-Child.place c.in-Child.rest c.in-Child.ensures c.index.ensures c.enter-in-down.ensures.view in
     let down = next.down in
     let fits = down.part.fits in
-    let below = found_below g.V.Words.WORDS 0 (256 ^ width_of view) (λ pair. is_ge (word_order pair.0 c.in-Child.rest)) (view_pairs view) c.in-Some-from_in.found.0 c.in-Some-from_in.found.1 down.shown.map (sym c.from_in-in_default-enter.ensures ∙ c.in-Some-from_in.is) in
+    let below = found_below g.V.Words.WORDS 0 (256 ^ width_of view) (λ pair. is_ge (word_order pair.0 c.in-Child.rest)) (view_pairs view) c.in-Some-from_in.found.0 c.in-Some-from_in.found.1 down.shown.map (sym c.from_in.ensures ∙ c.in-Some-from_in.is) in
     omega arith
 
 pub returns-in_default-enter : goal.returns-in_default-enter
@@ -167,7 +174,7 @@ returns-in_default-enter g c =
     let next = down_child c.down.invariant.0 c.in-Child.field-0 c.in-Child.place c.in-Child.rest c.in-Child.ensures c.index.ensures c.enter-in-down.ensures.view in
     let some = next.down.shown.some in
     record {
-      entry = down_from words pairs view c.args.key c.in-Child.rest next.down (Some c.in-Some-from_in.found) (sym c.in-Some-from_in.is ∙ c.from_in-in_default-enter.ensures);
+      entry = down_from words pairs view c.args.key c.in-Child.rest next.down (Some c.in-Some-from_in.found) (sym c.in-Some-from_in.is ∙ c.from_in.ensures);
       no_fewer = omega (arith, c.down.invariant.4, c.enter-in-down.ensures.visits);
       visits = omega (arith, c.down.invariant.3, c.enter-in-down.ensures.visits, next.width_is);
     }

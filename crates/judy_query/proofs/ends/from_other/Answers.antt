@@ -2,7 +2,7 @@ use Rattle.std.proofs.Common.{◌*◌, sym, ap, ◌∙◌, arith}
 use Rattle.judy_leaf.specs.Nearby.{pair_from}
 use Rattle.judy_query.specs.Parts.{raised}
 use Rattle.judy_query.proofs.EndFacts.{start_fits, bits_from, from_fits}
-use Rattle.judy_query.proofs.ends.from_in.Goals as goal
+use Rattle.judy_query.proofs.ends.from_other.Goals as goal
 
 pub overflow_mul-start : goal.overflow_mul-start
 overflow_mul-start g c =
