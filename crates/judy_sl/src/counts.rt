@@ -9,9 +9,10 @@ ghost use Rattle.judy_sl.specs.Pieces.{IsText};
 ghost use Rattle.judy_sl.specs.Children.{keys_told, IsTaken, IsLevelChild};
 ghost use Rattle.judy_sl.specs.Arenas.{world_of, child_at, map_of, IsArena};
 ghost use Rattle.judy_sl.specs.Behind.{map_behind, entry_keys};
-ghost use Rattle.judy_sl.specs.Counted.{LeadsOn, keys_behind, keys_behind_all, comes, ranked, AreCounted, StandsWith};
+ghost use Rattle.judy_sl.specs.Counted.{LeadsOn, keys_behind, keys_behind_all, ranked, AreCounted, StandsWith};
 ghost use Rattle.judy_sl.specs.Ranks.{ranked_own, ranked_in};
 ghost use Rattle.judy_sl.specs.Firsts.{AreFirsts};
+ghost use Rattle.judy_sl.specs.Scans.{is_beyond};
 
 use crate::arena::Arena;
 use crate::child::{ChildRef, is_level};
@@ -44,7 +45,7 @@ const PAGE: usize = 64;
 
 // Whether what compares so to a key counts: what is less does, and where the key itself counts, so does what is the same.
 fn comes(itself: bool, order: Ordering) -> bool
-    ensures { result ≡ comes itself order }
+    ensures { result ≡ is_beyond itself order }
 {
     if itself { order.is_le() } else { order.is_lt() }
 }

@@ -48,11 +48,9 @@ loop-rest-preserved c =
 
 pub returns-then-met-clause-is_turn : goal.returns-then-met-clause-is_turn
 returns-then-met-clause-is_turn c =
-    let words = c.loop-rest.level.now.map in
-    let on = c.loop-rest.invariant in
-    let entry = ap (get words) (sym c.first_piece-piece.ensures ∙ sym c.if-apart.false) ∙ subst (IsEntryOf words) c.in-Some.is c.from.ensures.value in
-    let met = met_along c.args.look (world_of c.args.self.now) c.loop-rest.rest.now c.in-Tail.tail.0 on.text (subst HasText c.in-Tail.ensures (c.requires.is_arena.texts c.in-Some.entry.1)) c.meets-met.ensures in
-    rw (c.nearer-then-met.ensures, c.if-apart.false ∙ c.first_piece-piece.ensures) (scan_tail c.args.look (world_of c.args.self.now) c.args.key.now c.loop-rest.child words c.loop-rest.rest.now on c.loop-rest-test.true c.in-Some.entry.1 c.in-Tail.tail.1 (pieces c.in-Tail.tail.0) entry (ap node_of c.in-Tail.ensures) (met ∙ c.if-met.true))
+    let entry = ap (get c.loop-rest.level.now.map) (sym c.first_piece-piece.ensures ∙ sym c.if-apart.false) ∙ subst (IsEntryOf c.loop-rest.level.now.map) c.in-Some.is c.from.ensures.value in
+    let met = met_along c.args.look (world_of c.args.self.now) c.loop-rest.rest.now c.in-Tail.tail.0 c.loop-rest.invariant.text (subst HasText c.in-Tail.ensures (c.requires.is_arena.texts c.in-Some.entry.1)) c.meets-met.ensures in
+    rw (c.nearer-then-met.ensures, c.if-apart.false ∙ c.first_piece-piece.ensures) (scan_tail c.args.look (world_of c.args.self.now) c.args.key.now c.loop-rest.child c.loop-rest.level.now.map c.loop-rest.rest.now c.loop-rest.invariant c.loop-rest-test.true c.in-Some.entry.1 c.in-Tail.tail.1 (pieces c.in-Tail.tail.0) entry (ap node_of c.in-Tail.ensures) (met ∙ c.if-met.true))
 
 pub returns-else-met-clause-is_turn : goal.returns-else-met-clause-is_turn
 returns-else-met-clause-is_turn c =
@@ -69,18 +67,3 @@ returns-clause-is_turn c =
     let words = c.loop-rest.level.now.map in
     let nearest = subst (λ p. IsNearestEntry c.args.look.side c.args.look.itself words p (piece_in c.last_entry.result)) c.first_piece.ensures c.last_entry.ensures.nearest in
     rw c.nearer-2.ensures (scan_last c.args.look (world_of c.args.self.now) c.args.key.now c.loop-rest.child words c.loop-rest.rest.now c.loop-rest.invariant c.last_entry.result (omega arith) nearest c.last_entry.ensures.value)
-
-pub returns-in_default-clause-is_text : goal.returns-in_default-clause-is_text
-returns-in_default-clause-is_text c = text_from_bytes c.args.key.now c.type_inv.key c.requires.without_zero
-
-pub returns-then-apart-clause-is_text : goal.returns-then-apart-clause-is_text
-returns-then-apart-clause-is_text c = text_from_bytes c.args.key.now c.type_inv.key c.requires.without_zero
-
-pub returns-then-met-clause-is_text : goal.returns-then-met-clause-is_text
-returns-then-met-clause-is_text c = text_from_bytes c.args.key.now c.type_inv.key c.requires.without_zero
-
-pub returns-else-met-clause-is_text : goal.returns-else-met-clause-is_text
-returns-else-met-clause-is_text c = text_from_bytes c.args.key.now c.type_inv.key c.requires.without_zero
-
-pub returns-clause-is_text : goal.returns-clause-is_text
-returns-clause-is_text c = text_from_bytes c.args.key.now c.type_inv.key c.requires.without_zero
