@@ -30,7 +30,7 @@ text-bytes bytes text = λ k d within. (text k d within).0
 text-some : (bytes : List ℕ) → IsText bytes → All (λ byte. byte ≢ 0) bytes
 text-some bytes text = λ k d within. (text k d within).1
 
-told-texts : (one two : List ℕ) → IsText one → IsText two → AreTold one two
+pub told-texts : (one two : List ℕ) → IsText one → IsText two → AreTold one two
 told-texts [] two p q = text-some two q
 told-texts (x ∷ xs) [] p q = text-some (x ∷ xs) p
 told-texts (x ∷ xs) (y ∷ ys) p q = told-texts xs ys (All-tail (λ b. (b < 256) × (b ≢ 0)) x xs p) (All-tail (λ b. (b < 256) × (b ≢ 0)) y ys q)
@@ -126,7 +126,7 @@ order-spelled (suc width) (x ∷ xs) (y ∷ ys) p q told =
     ∙ ap (λ answer. ordering_then answer (byte_order (drop width xs) (drop width ys))) (sym (order-high (256 ^ width) x y (spelled width xs) (spelled width ys) (spelled-lt width xs ps) (spelled-lt width ys qs)))
 
 -- As their first words, and where these are one, as what stands behind them.
-order-first : (one two : List ℕ) → IsByteString one → IsByteString two → AreTold one two → byte_order one two ≡ ordering_then (nat_cmp (first_word one) (first_word two)) (byte_order (drop 8 one) (drop 8 two))
+pub order-first : (one two : List ℕ) → IsByteString one → IsByteString two → AreTold one two → byte_order one two ≡ ordering_then (nat_cmp (first_word one) (first_word two)) (byte_order (drop 8 one) (drop 8 two))
 unfolding first_word
 order-first one two p q told = order-spelled 8 one two p q told
 

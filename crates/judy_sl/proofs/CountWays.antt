@@ -11,7 +11,7 @@ use Rattle.std.proofs.lemmas.Option.{none-some, same_Some}
 use Rattle.judy_model.specs.Keys.{word_order, byte_order}
 use Rattle.judy_model.specs.Counts.{rank}
 use Rattle.judy_model.proofs.Orders.{same_from_tie}
-use Rattle.judy_model.proofs.RankLemmas.{count_ranks, count_up_to-le-rank}
+use Rattle.judy_model.proofs.RankLemmas.{count_ranks, count_up_to-le-rank, rank-le}
 use Rattle.judy_model.proofs.TableLemmas.{byte_order_total}
 use Rattle.judy_model.proofs.WordOrder.{less_word, lt_word, le_word}
 use Rattle.judy_sums.specs.Pairs.{Pairs}
@@ -21,7 +21,7 @@ use Rattle.judy_sl.specs.Pieces.{piece_of, IsText, IsInner}
 use Rattle.judy_sl.specs.World.{World, level}
 use Rattle.judy_sl.specs.Worlds.{IsWorld}
 use Rattle.judy_sl.specs.Behind.{map_behind, entry_keys}
-use Rattle.judy_sl.specs.Counted.{keys_behind, keys_behind_all, ranked}
+use Rattle.judy_sl.specs.Counted.{keys_behind, keys_behind_all, ranked, StandsWith}
 use Rattle.judy_sl.specs.Ranks.{ranked_own, ranked_in}
 use Rattle.judy_sl.proofs.PieceLemmas.{piece-IsFinal, piece-IsInner, order-piece}
 use Rattle.judy_sl.proofs.RankCounts.{words_none}
@@ -75,6 +75,31 @@ module _ (world : World) (words : FinMap word_order ℕ) where
       let whole = ap (keys_behind_all world) (take_all count (drop (rank words piece) (entries words)) (omega arith)) in
       let both = rest_keys world words piece in
       omega arith
+
+-- How the keys behind a level are shared out by two pieces, before the first of which stand so many entries and before the second so many: those
+-- of the first entries, of those between, and of the last.
+pub record Shares (world : World) (words : FinMap word_order ℕ) (keys low high before up_to all : ℕ) : Type 0 where
+  pub rises : before ≤ up_to
+  pub within : up_to ≤ len words
+  pub first : keys_behind_all world (take before (drop (rank words 0) (entries words))) ≡ keys_below (part_len (entry_keys world)) (entries words) low
+  pub between : keys_below (part_len (entry_keys world)) (entries words) low + keys_behind_all world (take (up_to - before) (drop (rank words low) (entries words)))
+      ≡ keys_below (part_len (entry_keys world)) (entries words) high
+  pub last : keys_below (part_len (entry_keys world)) (entries words) high + keys_behind_all world (take (all - up_to) (drop (rank words high) (entries words))) ≡ keys
+
+pub shares_of : {world : World} {behind : ℕ → List ℕ} → IsWorld world behind → {words : FinMap word_order ℕ} {keys : ℕ} → StandsWith world words keys → (low high : ℕ) → low ≤ high → {before up_to all : ℕ}
+    → before ≡ rank words low → up_to ≡ rank words high → all ≡ len words → Shares world words keys low high before up_to all
+shares_of {world} is {words} {keys} stands low high rising {before} {up_to} {all} first second count =
+    let rises = rank_rises words low high rising in
+    let most = rank-le nat_cmp_total words high in
+    let between = between_keys world words low high rises in
+    let share = ap (λ n. keys_behind_all world (take n (drop (rank words low) (entries words)))) (let e : up_to - before ≡ rank words high - rank words low = omega arith in e) in
+    record {
+      rises = omega arith;
+      within = omega arith;
+      first = ap (λ n. keys_behind_all world (take n (drop (rank words 0) (entries words)))) first ∙ keys_first world words low;
+      between = omega arith;
+      last = keys_last world words high (all - up_to) (omega arith) ∙ sym (level_keys is stands.seat words stands.is_level) ∙ sym stands.told;
+    }
 
 -- Before a word that a list of one pair has stands none.
 pub none_before : (behind : ℕ × ℕ → ℕ) (word place : ℕ) (pairs : Pairs) → Ascends pairs → length pairs ≡ 1 → find word_order word pairs ≡ Some place → keys_below behind pairs word ≡ 0

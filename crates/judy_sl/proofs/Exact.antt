@@ -6,11 +6,13 @@ use Rattle.std.proofs.lemmas.Option.{none-some, slice_get-get_or, slice_get_past
 use Rattle.std.specs.Prelude.{slice_get}
 use Rattle.std.proofs.lemmas.List.Elements.{All-head, All-tail}
 use Rattle.judy_model.specs.Keys.{IsStringKey}
-use Rattle.judy_sl.specs.Pieces.{spelled, piece_of, pieces, IsText, SpellKey, EndsWell}
-use Rattle.judy_sl.proofs.Spelling.{spelled-below}
+use Rattle.judy_records.specs.Texts.{spelled}
+use Rattle.judy_records.proofs.OrderLemmas.{spelled-some, below_high}
+use Rattle.judy_sl.specs.Pieces.{piece_of, pieces, IsText, SpellKey, EndsWell}
+use Rattle.judy_records.proofs.Spelling.{spelled-below}
 use Rattle.judy_sl.proofs.Ways.{pieces_short, pieces_long}
 use Rattle.judy_sl.proofs.OnWay.{pieces-some}
-use Rattle.judy_sl.proofs.PieceLemmas.{text_of_key, text-drop, spelled-lt, spelled-some, below_high}
+use Rattle.judy_sl.proofs.PieceLemmas.{text_of_key, text-drop, spelled-lt}
 
 -- ---- the last byte
 

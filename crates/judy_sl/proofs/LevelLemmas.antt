@@ -8,7 +8,8 @@ use Rattle.judy_model.specs.Keys.{IsStringKey, word_order}
 use Rattle.judy_model.proofs.TableLemmas.{string_keys-all, get-table}
 use Rattle.judy_sl.specs.declared.arena.Arena.{Arena}
 use Rattle.judy_sl.specs.Children.{IsTaken}
-use Rattle.judy_sl.specs.Pieces.{spelled, piece_of, pieces, spelling, AreInner, ArePieces, IsText, SpellKey}
+use Rattle.judy_records.specs.Texts.{spelled}
+use Rattle.judy_sl.specs.Pieces.{piece_of, pieces, spelling, AreInner, ArePieces, IsText, SpellKey}
 use Rattle.judy_sl.specs.World.{World, tail, level, lookup, walk}
 use Rattle.judy_sl.specs.Arenas.{world_of, child_at, map_of, IsArena}
 use Rattle.judy_sl.specs.Levels.{IsLevelOf, HasBranch}

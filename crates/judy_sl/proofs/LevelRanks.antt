@@ -1,5 +1,5 @@
 -- How many keys behind a seat are less than the rest of a key, or, where that itself counts, not above it, by what stands at the seat.
-use Rattle.std.proofs.Common.{◌≡◌, ℕ, suc, ◌+◌, ◌<◌, ◌≤◌, Bool, true, false, cond, List, [], ◌∷◌, ◌++◌, map, length, drop, filter, Option, None, Some, Less, Equal, Greater, refl, sym, ap, ◌∙◌, arith, is_lt, is_le}
+use Rattle.std.proofs.Common.{◌≡◌, ℕ, suc, ◌+◌, ◌<◌, ◌≤◌, Bool, true, false, cond, List, [], ◌∷◌, ◌++◌, map, length, drop, filter, Option, None, Some, Equal, Greater, refl, sym, ap, ◌∙◌, arith, is_lt, is_le}
 use Rattle.std.specs.Ordering.{ordering_then}
 use Rattle.std.specs.Int.{from_bool}
 use Rattle.std.specs.List.{AllByRecursion}
@@ -20,7 +20,9 @@ use Rattle.judy_sl.specs.World.{World, tail, level}
 use Rattle.judy_sl.specs.Worlds.{IsWorld}
 use Rattle.judy_sl.specs.Arenas.{world_of, IsArena}
 use Rattle.judy_sl.specs.Behind.{map_behind, entry_keys}
-use Rattle.judy_sl.specs.Counted.{comes, ranked}
+use Rattle.judy_sl.specs.Counted.{ranked}
+use Rattle.judy_sl.specs.Scans.{is_beyond}
+use Rattle.judy_sl.proofs.ScanLevels.{beyond_less, beyond_greater}
 use Rattle.judy_sl.proofs.PieceLemmas.{text_of_key, piece-IsFinal, piece-IsInner, order-piece}
 use Rattle.judy_sl.proofs.PieceBytes.{bytes-piece}
 use Rattle.judy_sl.proofs.Behind.{order-front, Begun, begun_apart, all_parts, entries_behind}
@@ -29,17 +31,9 @@ use Rattle.judy_sl.proofs.KeysTold.{tail_entries, led_pairs, final_keys, inner_k
 -- ---- what counts
 
 -- What is less does in either case, what is above in none, and the key itself where that is asked.
-comes_less : (itself : Bool) → comes itself Less ≡ true
-comes_less true = refl
-comes_less false = refl
-
-comes_more : (itself : Bool) → comes itself Greater ≡ false
-comes_more true = refl
-comes_more false = refl
-
-comes_same : (itself : Bool) → comes itself Equal ≡ itself
-comes_same true = refl
-comes_same false = refl
+beyond_same : (itself : Bool) → is_beyond itself Equal ≡ itself
+beyond_same true = refl
+beyond_same false = refl
 
 -- No more keys count than there are.
 pub ranked_most : (itself : Bool) (all : FinMap byte_order ℕ) (key : List ℕ) → ranked itself all key ≤ len all
@@ -50,7 +44,7 @@ ranked_most false all key = rank-le byte_order_total all key
 
 -- Whether the key of a pair counts.
 abbrev before : Bool → List ℕ → List ℕ × ℕ → Bool
-before itself key pair = comes itself (byte_order pair.0 key)
+before itself key pair = is_beyond itself (byte_order pair.0 key)
 
 -- How many pairs' keys do.
 abbrev pairs_before : Bool → List ℕ → List (List ℕ × ℕ) → ℕ
@@ -87,11 +81,11 @@ one_pair pair true = refl
 one_pair pair false = refl
 
 -- At a tail its one key may be.
-pub rank_tail : (itself : Bool) (arena : Arena) → IsArena arena → (at : ℕ) (held : List ℕ) (value : ℕ) → world_of arena (suc at) ≡ tail (pieces held) value → IsText held → (key : List ℕ) → ranked itself (map_behind (world_of arena) (suc at)) key ≡ one_if (comes itself (byte_order held key))
+pub rank_tail : (itself : Bool) (arena : Arena) → IsArena arena → (at : ℕ) (held : List ℕ) (value : ℕ) → world_of arena (suc at) ≡ tail (pieces held) value → IsText held → (key : List ℕ) → ranked itself (map_behind (world_of arena) (suc at)) key ≡ one_if (is_beyond itself (byte_order held key))
 rank_tail itself arena is at held value here text key =
     rank_pairs itself (map_behind (world_of arena) (suc at)) key
     ∙ ap (pairs_before itself key) (tail_entries arena is at held value here text)
-    ∙ one_pair (held, value) (comes itself (byte_order held key))
+    ∙ one_pair (held, value) (is_beyond itself (byte_order held key))
 
 -- ---- at a level
 
@@ -99,8 +93,8 @@ rank_tail itself arena is at held value here text key =
 before_led : (itself : Bool) (front key : List ℕ) (pairs : List (List ℕ × ℕ)) → pairs_before itself (front ++ key) (led_pairs front pairs) ≡ pairs_before itself key pairs
 before_led itself front key [] = refl
 before_led itself front key (pair ∷ rest) =
-    ap (λ b. length (cond b ((front ++ pair.0, pair.1) ∷ filter (before itself (front ++ key)) (led_pairs front rest)) (filter (before itself (front ++ key)) (led_pairs front rest)))) (ap (comes itself) (order-front front pair.0 key))
-    ∙ elim (comes itself (byte_order pair.0 key)) as (λ b. length (cond b ((front ++ pair.0, pair.1) ∷ filter (before itself (front ++ key)) (led_pairs front rest)) (filter (before itself (front ++ key)) (led_pairs front rest))) ≡ length (cond b (pair ∷ filter (before itself key) rest) (filter (before itself key) rest))) [
+    ap (λ b. length (cond b ((front ++ pair.0, pair.1) ∷ filter (before itself (front ++ key)) (led_pairs front rest)) (filter (before itself (front ++ key)) (led_pairs front rest)))) (ap (is_beyond itself) (order-front front pair.0 key))
+    ∙ elim (is_beyond itself (byte_order pair.0 key)) as (λ b. length (cond b ((front ++ pair.0, pair.1) ∷ filter (before itself (front ++ key)) (led_pairs front rest)) (filter (before itself (front ++ key)) (led_pairs front rest))) ≡ length (cond b (pair ∷ filter (before itself key) rest) (filter (before itself key) rest))) [
       | true ↦ ap suc (before_led itself front key rest)
       | false ↦ before_led itself front key rest
     ]
@@ -108,17 +102,17 @@ before_led itself front key (pair ∷ rest) =
 module _ (itself : Bool) (key : List ℕ) (text : IsText key) where
   begun_less : (piece : ℕ) (pair : List ℕ × ℕ) → Begun piece pair.0 → piece < piece_of key → before itself key pair ≡ true
   begun_less piece pair begun less =
-      ap (comes itself) (order-piece pair.0 key (text_of_key pair.0 begun.0) text
+      ap (is_beyond itself) (order-piece pair.0 key (text_of_key pair.0 begun.0) text
       ∙ ap (λ p. ordering_then (word_order p (piece_of key)) (byte_order (drop 8 pair.0) (drop 8 key))) begun.1
       ∙ ap (λ r. ordering_then r (byte_order (drop 8 pair.0) (drop 8 key))) (less_word piece (piece_of key) less))
-      ∙ comes_less itself
+      ∙ beyond_less itself
 
   begun_more : (piece : ℕ) (pair : List ℕ × ℕ) → Begun piece pair.0 → piece_of key < piece → before itself key pair ≡ false
   begun_more piece pair begun more =
-      ap (comes itself) (order-piece pair.0 key (text_of_key pair.0 begun.0) text
+      ap (is_beyond itself) (order-piece pair.0 key (text_of_key pair.0 begun.0) text
       ∙ ap (λ p. ordering_then (word_order p (piece_of key)) (byte_order (drop 8 pair.0) (drop 8 key))) begun.1
       ∙ ap (λ r. ordering_then r (byte_order (drop 8 pair.0) (drop 8 key))) (sym (nat_cmp_is piece (piece_of key) Greater more)))
-      ∙ comes_more itself
+      ∙ beyond_greater itself
 
   all_before : (piece : ℕ) → piece < piece_of key → (pairs : List (List ℕ × ℕ)) → AllByRecursion (λ (pair : List ℕ × ℕ). Begun piece pair.0) pairs → filter (before itself key) pairs ≡ pairs
   all_before piece less [] begun = refl
@@ -159,10 +153,10 @@ module _ (itself : Bool) (key : List ℕ) (text : IsText key) where
         let whole : piece_bytes (piece_of key) ≡ key = bytes-piece key text ∙ take_all 8 key (omega arith) in
         let own : pairs_before itself key (entry_keys world (piece_of key, value)) ≡ one_if itself =
         ap (pairs_before itself key) (final_keys world (piece_of key, value) (piece-IsFinal key text short))
-        ∙ one_pair (piece_bytes (piece_of key), value) (comes itself (byte_order (piece_bytes (piece_of key)) key))
-        ∙ ap (λ bytes. one_if (comes itself (byte_order bytes key))) whole
-        ∙ ap (λ r. one_if (comes itself r)) (tied_itself byte_order_total key)
-        ∙ ap (λ b. one_if b) (comes_same itself) in
+        ∙ one_pair (piece_bytes (piece_of key), value) (is_beyond itself (byte_order (piece_bytes (piece_of key)) key))
+        ∙ ap (λ bytes. one_if (is_beyond itself (byte_order bytes key))) whole
+        ∙ ap (λ r. one_if (is_beyond itself r)) (tied_itself byte_order_total key)
+        ∙ ap (λ b. one_if b) (beyond_same itself) in
         let all = level_split ∙ ap (λ (found : Option ℕ). keys_below (part_len (entry_keys world)) (entries words) (piece_of key) + pairs_before itself key (part_of (entry_keys world) (piece_of key) found)) some in
         omega arith
 

@@ -1,4 +1,3 @@
-pub mod Spelling
 pub mod Numbered
 pub mod PieceLemmas
 pub mod Ways

@@ -13,7 +13,7 @@ use Rattle.judy_sl.specs.Worlds.{IsWorld}
 use Rattle.judy_sl.specs.Arenas.{world_of, child_at, IsArena}
 use Rattle.judy_sl.specs.Ways.{IsOnWay, LeadsTo, HasValue, IsFound, IsGap, IsClash, place_in, seat_in, seat_of, piece_at, left_of}
 use Rattle.judy_sl.proofs.PieceLemmas.{text-drop, pieces_same}
-use Rattle.judy_sl.proofs.Spelling.{spelled-more}
+use Rattle.judy_records.proofs.Spelling.{spelled-more}
 use Rattle.judy_sl.proofs.Linked.{taken_of}
 use Rattle.judy_sl.proofs.Ways.{look_in, lookup-in, lookup-walk, lookup-level, walk-more, walk-behind, pieces_short, pieces_long, tail-same, tail-other}
 

@@ -36,9 +36,10 @@ page_is left out page told within is =
     ap (take told) (is ∙ ap (λ (all : Pairs). take told all ++ drop told out) (map-id left))
     ∙ take_at (take told left) (drop told out) told (length-take-le told left within)
 
--- Where they fill it, it is these.
-pub page_whole : (left out page : Pairs) (told : ℕ) → told ≤ length left → length page ≡ told → page ≡ take told (map (λ (entry : ℕ × ℕ). (entry.0, entry.1)) left) ++ drop told out → page ≡ take told left
-page_whole left out page told within whole is = sym (take_all told page (omega arith)) ∙ page_is left out page told within is
+-- Where there are enough to fill it, it is these.
+pub page_full : (left out page : Pairs) (told : ℕ) → length out ≤ length left → told ≡ length out → length page ≡ length out → page ≡ take told (map (λ (entry : ℕ × ℕ). (entry.0, entry.1)) left) ++ drop told out → page ≡ take (length out) left
+page_full left out page told within all same is =
+    sym (take_all told page (omega arith)) ∙ page_is left out page told (omega arith) is ∙ ap (λ n. take n left) all
 
 module _ (world : World) where
   -- The keys behind some entries are those behind the front of them and those behind the rest.

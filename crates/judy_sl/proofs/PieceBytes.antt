@@ -9,7 +9,8 @@ use Rattle.std.proofs.lemmas.List.Elements.{All-head, All-tail}
 use Rattle.judy_model.specs.WordBytes.{low_bytes}
 use Rattle.judy_model.proofs.Ascending.{Among, Among-filter}
 use Rattle.judy_model.proofs.ByteLemmas.{low_bytes-above, unit_pos}
-use Rattle.judy_sl.specs.Pieces.{spelled, piece_of, pieces_in, pieces, piece_bytes, spelling, IsInner, IsText}
+use Rattle.judy_records.specs.Texts.{spelled}
+use Rattle.judy_sl.specs.Pieces.{piece_of, pieces_in, pieces, piece_bytes, spelling, IsInner, IsText}
 use Rattle.judy_sl.proofs.PieceLemmas.{spelled-lt, text-drop}
 
 -- No bytes spell 0, whose bytes are zeros.

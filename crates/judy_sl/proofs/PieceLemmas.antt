@@ -1,20 +1,22 @@
 -- The pieces of strings without zeros: exactly the last is final, they are of one string alone, and the order of
 -- strings is the order of their pieces.
 use Rattle.std.proofs.Common.{Fits, w8, ◌≡◌, ◌≢◌, ℕ, zero, suc, ◌+◌, ◌*◌, ◌/◌, ◌%◌, ◌^◌, ◌<◌, ◌≤◌, ⊎_elim, List, [], ◌∷◌, length, drop, get_or, All, sym, refl, ap, ◌∙◌, subst, arith, Ordering, Less, Equal, Greater, nat_cmp}
-use Rattle.std.specs.Cmp.{nat_cmp_is, tied_itself}
+use Rattle.std.specs.Cmp.{tied_itself}
 use Rattle.std.specs.Cmp.Lexicographic.{nat_list_cmp_total}
 use Rattle.std.specs.Ordering.{ordering_then}
 use Rattle.std.specs.FinMap.{nat_cmp-IsAntisymmetric, slice_cmp-IsAntisymmetric}
-use Rattle.std.proofs.Math.Nat.{mul_comm, mul-pos, pow-suc}
+use Rattle.std.proofs.Math.Nat.{pow-suc}
 use Rattle.std.proofs.lemmas.Nat.{mul-add-lt}
-use Rattle.std.proofs.lemmas.Bool.{cases_order, cases_lt}
+use Rattle.std.proofs.lemmas.Bool.{cases_lt}
 use Rattle.std.proofs.lemmas.List.{get_or_default, length-drop, get_or_past, drop_all}
 use Rattle.std.proofs.lemmas.List.Elements.{All-head, All-tail, All-get_or}
 use Rattle.judy_model.specs.Keys.{IsStringKey, word_order, byte_order}
 use Rattle.judy_model.proofs.ByteLemmas.{unit_pos}
-use Rattle.judy_sl.proofs.Spelling.{spelled-more}
+use Rattle.judy_records.specs.Texts.{spelled, first_word}
+use Rattle.judy_records.proofs.Spelling.{spelled-more}
+use Rattle.judy_records.proofs.OrderLemmas.{text-bytes, told-texts, order-first}
 use Rattle.judy_sl.proofs.Ways.{pieces_short, pieces_long}
-use Rattle.judy_sl.specs.Pieces.{spelled, piece_of, pieces_in, pieces, IsFinal, IsInner, ArePieces, IsText}
+use Rattle.judy_sl.specs.Pieces.{piece_of, pieces_in, pieces, IsFinal, IsInner, ArePieces, IsText}
 
 -- ---- texts
 
@@ -85,62 +87,10 @@ pieces_are bytes text = pieces_in-are (length bytes / 8) bytes text refl
 
 -- ---- order
 
-then_assoc : (one two three : Ordering) → ordering_then (ordering_then one two) three ≡ ordering_then one (ordering_then two three)
-then_assoc Less two three = refl
-then_assoc Equal two three = refl
-then_assoc Greater two three = refl
-
--- Where what stands above is one, what stands below decides.
-order-low : (high low other : ℕ) → nat_cmp (high + low) (high + other) ≡ nat_cmp low other
-order-low high low other = ⊎_elim
-    (λ same. sym (nat_cmp_is (high + low) (high + other) Equal (omega arith)) ∙ nat_cmp_is low other Equal same)
-    (λ apart. ⊎_elim
-    (λ less. sym (nat_cmp_is (high + low) (high + other) Less (omega arith)) ∙ nat_cmp_is low other Less less)
-    (λ more. sym (nat_cmp_is (high + low) (high + other) Greater (omega arith)) ∙ nat_cmp_is low other Greater more)
-    apart)
-    (cases_order low other)
-
-pub below_high : (unit left right low other : ℕ) → low < unit → left < right → left * unit + low < right * unit + other
-below_high unit left right low other p less =
-    let bound = mul-add-lt left unit low right less p in
-    let turned = mul_comm unit right in
-    omega arith
-
--- And else what stands above.
-order-high : (unit left right low other : ℕ) → low < unit → other < unit → nat_cmp (left * unit + low) (right * unit + other) ≡ ordering_then (nat_cmp left right) (nat_cmp low other)
-order-high unit left right low other p q = ⊎_elim
-    (λ same. ap (λ n. nat_cmp (left * unit + low) (n * unit + other)) (sym same) ∙ order-low (left * unit) low other ∙ ap (λ answer. ordering_then answer (nat_cmp low other)) (nat_cmp_is left right Equal same))
-    (λ apart. ⊎_elim
-    (λ less. sym (nat_cmp_is (left * unit + low) (right * unit + other) Less (below_high unit left right low other p less)) ∙ ap (λ answer. ordering_then answer (nat_cmp low other)) (nat_cmp_is left right Less less))
-    (λ more. sym (nat_cmp_is (left * unit + low) (right * unit + other) Greater (below_high unit right left other low q more)) ∙ ap (λ answer. ordering_then answer (nat_cmp low other)) (nat_cmp_is left right Greater more))
-    apart)
-    (cases_order left right)
-
--- Where a byte that isn't zero stands, the number isn't zero.
-pub spelled-some : (width byte : ℕ) (bytes : List ℕ) → byte ≢ 0 → 0 < spelled (suc width) (byte ∷ bytes)
-spelled-some width byte bytes some =
-    let here : 0 < byte * 256 ^ width = mul-pos (omega (arith, some)) (unit_pos width) in
-    omega arith
-
--- Two texts compare as the numbers that their first bytes spell, and where these are one, as their rests do.
-order-spelled : (width : ℕ) (one two : List ℕ) → IsText one → IsText two → byte_order one two ≡ ordering_then (nat_cmp (spelled width one) (spelled width two)) (byte_order (drop width one) (drop width two))
-order-spelled zero one two p q = refl
-order-spelled (suc width) [] [] p q = refl
-order-spelled (suc width) [] (y ∷ ys) p q =
-    ap (λ answer. ordering_then answer (byte_order [] (drop width ys))) (nat_cmp_is 0 (spelled (suc width) (y ∷ ys)) Less (spelled-some width y ys (All-head (λ b. (b < 256) × (b ≢ 0)) y ys q).1))
-order-spelled (suc width) (x ∷ xs) [] p q =
-    ap (λ answer. ordering_then answer (byte_order (drop width xs) [])) (nat_cmp_is (spelled (suc width) (x ∷ xs)) 0 Greater (spelled-some width x xs (All-head (λ b. (b < 256) × (b ≢ 0)) x xs p).1))
-order-spelled (suc width) (x ∷ xs) (y ∷ ys) p q =
-    let ps = All-tail (λ b. (b < 256) × (b ≢ 0)) x xs p in
-    let qs = All-tail (λ b. (b < 256) × (b ≢ 0)) y ys q in
-    ap (λ answer. ordering_then (nat_cmp x y) answer) (order-spelled width xs ys ps qs)
-    ∙ sym (then_assoc (nat_cmp x y) (nat_cmp (spelled width xs) (spelled width ys)) (byte_order (drop width xs) (drop width ys)))
-    ∙ ap (λ answer. ordering_then answer (byte_order (drop width xs) (drop width ys))) (sym (order-high (256 ^ width) x y (spelled width xs) (spelled width ys) (spelled-lt width xs ps) (spelled-lt width ys qs)))
-
 -- Two texts compare as their first pieces, and where these are one, as what stands behind them.
 pub order-piece : (one two : List ℕ) → IsText one → IsText two → byte_order one two ≡ ordering_then (word_order (piece_of one) (piece_of two)) (byte_order (drop 8 one) (drop 8 two))
-unfolding piece_of
-order-piece one two p q = order-spelled 8 one two p q
+unfolding piece_of first_word
+order-piece one two p q = order-first one two (text-bytes one p) (text-bytes two q) (told-texts one two p q)
 
 -- Where the first pieces differ, what follows decides nothing.
 pub first_decides : (one two : ℕ) (later other : Ordering) → one ≢ two → ordering_then (nat_cmp one two) later ≡ ordering_then (nat_cmp one two) other

@@ -1,9 +1,10 @@
 -- What the neighbours of a word array are, seen from a side.
-use Rattle.std.proofs.Common.{◌≡◌, ◌≢◌, ℕ, List, [], ◌∷◌, Bool, true, false, ◌&&◌, IsTrue, Option, Some, None, is_some, sym, refl, ap, ◌∙◌, arith, le-leb, Ordering, is_lt, is_le, is_ge}
+use Rattle.std.proofs.Common.{◌≡◌, ◌≢◌, ℕ, ◌-◌, List, [], ◌∷◌, length, take, drop, Bool, true, false, ◌&&◌, IsTrue, Option, Some, None, is_some, sym, refl, ap, ◌∙◌, arith, le-leb, Ordering, is_lt, is_le, is_ge}
 use Rattle.std.specs.Ordering.{ordering_then}
 use Rattle.std.specs.Cmp.{nat_cmp_total}
 use Rattle.std.specs.Cmp.Lexicographic.{slice_cmp}
 use Rattle.std.proofs.lemmas.Bool.{and_parts, and_from}
+use Rattle.std.proofs.lemmas.List.{take_rest}
 use Rattle.std.specs.FinMap.{FinMap, nat_cmp-IsAntisymmetric, get, contains_key}
 use Rattle.judy_model.specs.Keys.{IsWord, word_order}
 use Rattle.judy_model.specs.Nearest.{IsLeast}
@@ -14,8 +15,10 @@ use Rattle.judy_model.proofs.NearestLemmas.{first-IsFirst, next-IsNext, last-IsL
 use Rattle.judy_sl.specs.declared.scans.Side.{Side}
 use Rattle.judy_sl.specs.declared.scans.Side.TheVariants.{Above, Below}
 use Rattle.judy_sl.specs.Pieces.{pieces, ArePieces, IsText}
-use Rattle.judy_sl.specs.Scans.{along, along_bytes, IsNearestEntry, IsFirstEntry}
-use Rattle.judy_sl.proofs.PieceLemmas.{first_decides, final-not_inner, order-pieces, pieces_are}
+use Rattle.judy_sl.specs.declared.scans.Look.{Look}
+use Rattle.judy_sl.specs.World.{World}
+use Rattle.judy_sl.specs.Scans.{along, along_bytes, is_beyond, meets, IsNearestEntry, IsFirstEntry}
+use Rattle.judy_sl.proofs.PieceLemmas.{first_decides, final-not_inner, order-pieces, pieces_are, text-drop}
 
 -- The least of what passes one of two tests that agree on keys is that of the other.
 least_agree : (order : ℕ → ℕ → Ordering) (one other : ℕ → Bool) → ((key : ℕ) → one key ≡ other key) → (answer : Option ℕ) → IsLeast order one answer → IsLeast order other answer
@@ -102,3 +105,10 @@ turned_pieces (p ∷ next ∷ ps) (q ∷ other ∷ qs) are also = ap (ordering_t
 pub bytes_along : (side : Side) (one two : List ℕ) → IsText one → IsText two → slice_cmp (along side) (pieces one) (pieces two) ≡ along_bytes side one two
 bytes_along Above one two p q = order-pieces one two p q
 bytes_along Below one two p q = turned_pieces (pieces one) (pieces two) (pieces_are one p) (pieces_are two q) ∙ order-pieces two one q p
+
+-- So a tail is met from the rest of a key behind a piece as the code tells it, by the bytes of both.
+pub met_along : (look : Look) (world : World) (rest held : List ℕ) → IsText rest → IsText held → {met : Bool} → met ≡ is_beyond look.itself (along_bytes look.side (take (length rest - 8) (drop 8 rest)) held) → meets look world (pieces (drop 8 rest)) (pieces held) ≡ met
+met_along look world rest held one two is =
+    ap (is_beyond look.itself) (bytes_along look.side (drop 8 rest) held (text-drop 8 rest one) two)
+    ∙ ap (λ bytes. is_beyond look.itself (along_bytes look.side bytes held)) (sym (take_rest rest 8))
+    ∙ sym is

@@ -26,11 +26,11 @@ pub along_same : (side : Side) → IsAntisymmetric (along side)
 along_same Above = nat_cmp-IsAntisymmetric
 along_same Below = turned-IsAntisymmetric nat_cmp-IsAntisymmetric
 
-beyond_less : (itself : Bool) → is_beyond itself Less ≡ true
+pub beyond_less : (itself : Bool) → is_beyond itself Less ≡ true
 beyond_less true = refl
 beyond_less false = refl
 
-beyond_greater : (itself : Bool) → is_beyond itself Greater ≡ false
+pub beyond_greater : (itself : Bool) → is_beyond itself Greater ≡ false
 beyond_greater true = refl
 beyond_greater false = refl
 

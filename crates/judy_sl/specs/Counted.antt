@@ -1,8 +1,6 @@
 -- How many keys stand behind each seat, and what levels tell of that.
 use Rattle.std.specs.Prelude.{◌≡◌, ◌≢◌, ℕ, suc, ◌⊎◌, Bool, true, false, List, [], ◌∷◌, length}
 use Rattle.std.specs.List.{flat_map}
-use Rattle.std.specs.declared.cmp.Ordering.{Ordering}
-use Rattle.std.specs.Ordering.{is_lt, is_le}
 use Rattle.std.specs.FinMap.{FinMap, len}
 use Rattle.judy_model.specs.Keys.{word_order, byte_order}
 use Rattle.judy_model.specs.Counts.{rank, count_up_to}
@@ -21,11 +19,6 @@ keys_behind world seat = len (map_behind world seat)
 -- How many keys stand behind some entries of a level.
 abbrev pub keys_behind_all : World → List (ℕ × ℕ) → ℕ
 keys_behind_all world entries = length (flat_map (entry_keys world) entries)
-
--- Whether what stands so to a key counts: what is less does, and where the key itself counts, so does what is the same.
-abbrev pub comes : Bool → Ordering → Bool
-comes false order = is_lt order
-comes true order = is_le order
 
 -- How many keys are less than a key, or, where that itself counts, not above it.
 abbrev pub ranked : Bool → FinMap byte_order ℕ → List ℕ → ℕ

@@ -1,17 +1,11 @@
 -- Keys as pieces of eight bytes. (This project's own.)
-use Rattle.std.specs.Prelude.{◌≡◌, ◌≢◌, ℕ, zero, suc, ◌+◌, ◌-◌, ◌*◌, ◌/◌, ◌%◌, ◌^◌, ◌<◌, nat_lt, List, [], ◌∷◌, length, drop, slice_get, Some, filter, All}
+use Rattle.std.specs.Prelude.{◌≡◌, ◌≢◌, ℕ, zero, suc, ◌-◌, ◌/◌, ◌%◌, ◌<◌, nat_lt, List, [], ◌∷◌, length, drop, slice_get, Some, filter, All}
 use Rattle.std.specs.List.{flat_map}
 use Rattle.judy_model.specs.Keys.{IsStringKey}
 use Rattle.judy_model.specs.WordBytes.{low_bytes}
+use Rattle.judy_records.specs.Texts.{spelled}
 
--- The number that the first so many bytes spell, the first byte the highest; where bytes are missing, zeros
--- stand in their place.
-abbrev pub spelled : ℕ → List ℕ → ℕ
-spelled zero bytes = 0
-spelled (suc width) [] = 0
-spelled (suc width) (byte ∷ bytes) = byte * 256 ^ width + spelled width bytes
-
--- The piece with which bytes begin: their first eight.
+-- The piece with which bytes begin: the number that their first eight spell.
 unfoldable pub piece_of : List ℕ → ℕ
 piece_of = spelled 8
 

@@ -9,9 +9,10 @@ ghost use Rattle.judy_sl.specs.Pieces.{IsText};
 ghost use Rattle.judy_sl.specs.Children.{keys_told, IsTaken, IsLevelChild};
 ghost use Rattle.judy_sl.specs.Arenas.{world_of, child_at, map_of, IsArena};
 ghost use Rattle.judy_sl.specs.Behind.{map_behind, entry_keys};
-ghost use Rattle.judy_sl.specs.Counted.{LeadsOn, keys_behind, keys_behind_all, comes, ranked, AreCounted, StandsWith};
+ghost use Rattle.judy_sl.specs.Counted.{LeadsOn, keys_behind, keys_behind_all, ranked, AreCounted, StandsWith};
 ghost use Rattle.judy_sl.specs.Ranks.{ranked_own, ranked_in};
 ghost use Rattle.judy_sl.specs.Firsts.{AreFirsts};
+ghost use Rattle.judy_sl.specs.Scans.{is_beyond};
 
 use crate::arena::Arena;
 use crate::child::{ChildRef, is_level};
@@ -44,7 +45,7 @@ const PAGE: usize = 64;
 
 // Whether what compares so to a key counts: what is less does, and where the key itself counts, so does what is the same.
 fn comes(itself: bool, order: Ordering) -> bool
-    ensures { result ≡ comes itself order }
+    ensures { result ≡ is_beyond itself order }
 {
     if itself { order.is_le() } else { order.is_lt() }
 }
@@ -84,7 +85,7 @@ impl Arena {
     }
 
     // How many keys stand behind some entries of a level.
-    pub fn page_keys(&self, page: &[(u64, u64)]) -> u64
+    fn page_keys(&self, page: &[(u64, u64)]) -> u64
         requires is_arena { IsArena self.now }
         requires counted { AreCounted self.now }
         requires leads { All (LeadsOn (world_of self.now)) page.now }
@@ -96,6 +97,24 @@ impl Arena {
             keys += self.keys_at(piece, value);
         }
         keys
+    }
+
+    // Reads the next entries of a level, as many as a page has places, and answers how many keys stand behind them.
+    pub fn next_keys(&self, entries: &mut Entries<'_>, page: &mut [(u64, u64)]) -> u64
+        requires is_arena { IsArena self.now }
+        requires counted { AreCounted self.now }
+        requires leads { All (LeadsOn (world_of self.now)) entries.old }
+        requires places { length page.old < 2 ^ 60 }
+        requires there { length page.old ≤ length entries.old }
+        requires fits { keys_behind_all (world_of self.now) (take (length page.old) entries.old)
+            < 2 ^ 64 }
+        ensures page { page.new ≡ take (length page.old) entries.old }
+        ensures left { entries.new ≡ drop (length page.old) entries.old }
+        ensures keys { result
+            ≡ keys_behind_all (world_of self.now) (take (length page.old) entries.old) }
+    {
+        entries.fill(page);
+        self.page_keys(page)
     }
 
     // How many keys stand behind the first so many of the entries that are to come, as these are read page by page.
@@ -112,9 +131,7 @@ impl Arena {
         let mut keys = 0;
         'pages: while left > 0 {
             let read = left.min(PAGE);
-            let next = &mut page[..read];
-            entries.fill(next);
-            keys += self.page_keys(next);
+            keys += self.next_keys(&mut entries, &mut page[..read]);
             left -= read;
         }
         keys
@@ -153,14 +170,15 @@ impl Arena {
         let all = u64::from(keys);
         let entries = level.len();
         let before = lesser_in(level, low);
-        let between = lesser_in(level, high) - before;
+        let up_to = lesser_in(level, high);
+        let between = up_to - before;
         if all == entries {
             between
         } else if between <= entries / 2 {
             self.keys_from(level, low, between)
         } else {
             let outside = self.keys_from(level, 0, before);
-            all - outside - self.keys_from(level, high, entries - before - between)
+            all - outside - self.keys_from(level, high, entries - up_to)
         }
     }
 

@@ -211,8 +211,7 @@ impl Arena {
             let read = (end - start) as usize;
             let next = &mut page[..read];
             let mut entries = entries_at(level, start);
-            entries.fill(next);
-            before -= self.page_keys(next);
+            before -= self.next_keys(&mut entries, next);
             if before <= place {
                 let Ok(spot) = self.page_spot(next, place - before) else {
                     unreachable!()

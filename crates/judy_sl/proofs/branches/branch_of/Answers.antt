@@ -15,17 +15,13 @@ pub slice_bounds-held-count : goal.slice_bounds-held-count
 slice_bounds-held-count c = (common-long _ _ _ _ _ c.loop-piece.invariant (sym c.first_piece.ensures ∙ c.loop-piece-test.true ∙ c.first_piece-in-loop-piece.ensures)).0
 
 pub slice_bounds-held-start : goal.slice_bounds-held-start
-slice_bounds-held-start c =
-    let h : 8 ≤ length c.loop-piece.held.now = (common-long _ _ _ _ _ c.loop-piece.invariant (sym c.first_piece.ensures ∙ c.loop-piece-test.true ∙ c.first_piece-in-loop-piece.ensures)).0 in
-    omega arith
+slice_bounds-held-start c = omega (arith, (common-long _ _ _ _ _ c.loop-piece.invariant (sym c.first_piece.ensures ∙ c.loop-piece-test.true ∙ c.first_piece-in-loop-piece.ensures)).0)
 
 pub slice_bounds-rest-count : goal.slice_bounds-rest-count
 slice_bounds-rest-count c = (common-long _ _ _ _ _ c.loop-piece.invariant (sym c.first_piece.ensures ∙ c.loop-piece-test.true ∙ c.first_piece-in-loop-piece.ensures)).1
 
 pub slice_bounds-rest-start : goal.slice_bounds-rest-start
-slice_bounds-rest-start c =
-    let h : 8 ≤ length c.loop-piece.rest.now = (common-long _ _ _ _ _ c.loop-piece.invariant (sym c.first_piece.ensures ∙ c.loop-piece-test.true ∙ c.first_piece-in-loop-piece.ensures)).1 in
-    omega arith
+slice_bounds-rest-start c = omega (arith, (common-long _ _ _ _ _ c.loop-piece.invariant (sym c.first_piece.ensures ∙ c.loop-piece-test.true ∙ c.first_piece-in-loop-piece.ensures)).1)
 
 pub loop-piece-smaller : goal.loop-piece-smaller
 loop-piece-smaller c =

@@ -31,23 +31,19 @@ from_ok (Err error) is holds = absurd (true≢false is)
 
 pub lower-requires-clause-there : goal.lower-requires-clause-there
 lower-requires-clause-there c =
-    let piece = c.first_piece-piece.ensures in
-    let is = from_ok c.raise.result (sym c.is_err.ensures.value ∙ c.if-is_err.false) c.raise.ensures.raised ∙ ap (raised c.args.firsts.now) piece in
+    let is = from_ok c.raise.result (sym c.is_err.ensures.value ∙ c.if-is_err.false) c.raise.ensures.raised ∙ ap (raised c.args.firsts.now) c.first_piece-piece.ensures in
     let none = get-map c.args.arena.now c.args.key.now c.requires.is_key ∙ way-none c.args.arena.now c.args.key.now c.args.way c.requires.way c.requires.new in
     let some = begun_some c.args.arena.now c.requires.is_arena c.args.key.now c.args.way c.requires.way c.requires.new (sym c.ends_first.ensures ∙ c.if-ends_first.false) in
-    let more = firsts_more (map_of c.args.arena.now) c.args.key.now 0 none c.args.firsts.now some c.requires.firsts in
-    subst (λ (firsts : FinMap word_order ℕ). IsSome (get firsts c.first_piece-piece.result)) (sym is) (subst (λ word. IsSome (get (raised c.args.firsts.now (piece_of c.args.key.now)) word)) (sym piece)
-    (number_there (map_of c.args.arena.now) c.args.key.now 0 none (raised c.args.firsts.now (piece_of c.args.key.now)) some more))
+    subst (λ (firsts : FinMap word_order ℕ). IsSome (get firsts c.first_piece-piece.result)) (sym is) (subst (λ word. IsSome (get (raised c.args.firsts.now (piece_of c.args.key.now)) word)) (sym c.first_piece-piece.ensures)
+    (number_there (map_of c.args.arena.now) c.args.key.now 0 none (raised c.args.firsts.now (piece_of c.args.key.now)) some (firsts_more (map_of c.args.arena.now) c.args.key.now 0 none c.args.firsts.now some c.requires.firsts)))
 
 pub lower-requires-clause-some : goal.lower-requires-clause-some
 lower-requires-clause-some c =
-    let piece = c.first_piece-piece.ensures in
-    let is = from_ok c.raise.result (sym c.is_err.ensures.value ∙ c.if-is_err.false) c.raise.ensures.raised ∙ ap (raised c.args.firsts.now) piece in
+    let is = from_ok c.raise.result (sym c.is_err.ensures.value ∙ c.if-is_err.false) c.raise.ensures.raised ∙ ap (raised c.args.firsts.now) c.first_piece-piece.ensures in
     let none = get-map c.args.arena.now c.args.key.now c.requires.is_key ∙ way-none c.args.arena.now c.args.key.now c.args.way c.requires.way c.requires.new in
     let some = begun_some c.args.arena.now c.requires.is_arena c.args.key.now c.args.way c.requires.way c.requires.new (sym c.ends_first.ensures ∙ c.if-ends_first.false) in
-    let more = firsts_more (map_of c.args.arena.now) c.args.key.now 0 none c.args.firsts.now some c.requires.firsts in
-    subst (λ (firsts : FinMap word_order ℕ). 1 ≤ number_at firsts c.first_piece-piece.result) (sym is) (subst (λ word. 1 ≤ number_at (raised c.args.firsts.now (piece_of c.args.key.now)) word) (sym piece)
-    (number_some (map_of c.args.arena.now) c.args.key.now 0 none (raised c.args.firsts.now (piece_of c.args.key.now)) some more))
+    subst (λ (firsts : FinMap word_order ℕ). 1 ≤ number_at firsts c.first_piece-piece.result) (sym is) (subst (λ word. 1 ≤ number_at (raised c.args.firsts.now (piece_of c.args.key.now)) word) (sym c.first_piece-piece.ensures)
+    (number_some (map_of c.args.arena.now) c.args.key.now 0 none (raised c.args.firsts.now (piece_of c.args.key.now)) some (firsts_more (map_of c.args.arena.now) c.args.key.now 0 none c.args.firsts.now some c.requires.firsts)))
 
 pub returns-in-Ok-clause-firsts : goal.returns-in-Ok-clause-firsts
 returns-in-Ok-clause-firsts c =

@@ -1,9 +1,7 @@
-use Rattle.std.proofs.Common.{◌∙◌}
 use Rattle.judy_records.specs.Texts.{first_word}
 use Rattle.judy_sl.specs.Pieces.{piece_of}
-use Rattle.judy_sl.proofs.Spelling.{same-spelled}
 use Rattle.judy_sl.proofs.pieces.first_piece.Goals as goal
 
 pub returns : goal.returns
 unfolding first_word piece_of
-returns c = c.first_word.ensures ∙ same-spelled 8 c.args.bytes.now
+returns c = c.first_word.ensures

@@ -1,14 +1,14 @@
-use Rattle.std.proofs.Common.{◌≡◌, ◌∙◌, sym, ap, arith, drop, false, subst, refl, suc}
+use Rattle.std.proofs.Common.{◌∙◌, sym, ap, arith, drop, false, subst, refl, suc}
 use Rattle.std.proofs.lemmas.List.{take_rest}
 use Rattle.std.specs.FinMap.{get}
 use Rattle.judy_sl.specs.Pieces.{piece_of, pieces}
 use Rattle.judy_sl.specs.Arenas.{world_of, node_of, HasText}
 use Rattle.judy_sl.specs.Ways.{seat_in}
-use Rattle.judy_sl.specs.Scans.{is_beyond, along_bytes, meets, IsNearestEntry, piece_in, IsTurn}
+use Rattle.judy_sl.specs.Scans.{IsNearestEntry, piece_in, IsTurn}
 use Rattle.judy_sl.proofs.PieceLemmas.{text_from_bytes, piece-IsInner, text-drop}
 use Rattle.judy_sl.proofs.Linked.{taken_of}
 use Rattle.judy_sl.proofs.ScanLevels.{none_absent, none_child, none_tail}
-use Rattle.judy_sl.proofs.ScanEntries.{bytes_along}
+use Rattle.judy_sl.proofs.ScanEntries.{met_along}
 use Rattle.judy_sl.proofs.ScanWays.{on_start, on_moved, on_left, on_tail, on_last}
 use Rattle.judy_sl.proofs.arena.Arena.any_turn.Goals as goal
 
@@ -45,32 +45,18 @@ loop-rest-preserved c =
 
 pub returns-then-met-clause-is_turn : goal.returns-then-met-clause-is_turn
 returns-then-met-clause-is_turn c =
-    let words = c.loop-rest.level.now.map in
-    let on = c.loop-rest.invariant in
-    let entry = sym (ap (λ p. get words p) c.first_piece-piece.ensures) ∙ sym c.around-found.ensures.found ∙ c.in-Some.is in
-    let held = c.in-Tail.tail.0 in
-    let child = c.in-Tail.ensures in
-    let text = subst HasText child (c.requires.is_arena.texts c.in-Some.at) in
-    let met : meets c.args.look (world_of c.args.self.now) (pieces (drop 8 c.loop-rest.rest.now)) (pieces held) ≡ c.meets-met.result =
-    ap (is_beyond c.args.look.itself) (bytes_along c.args.look.side (drop 8 c.loop-rest.rest.now) held (text-drop 8 c.loop-rest.rest.now on.scan.text) text)
-    ∙ (λ t. is_beyond c.args.look.itself (along_bytes c.args.look.side (sym (take_rest c.loop-rest.rest.now 8) t) held))
-    ∙ sym c.meets-met.ensures in
-    rw c.first_piece-piece.ensures (on_tail c.args.look (world_of c.args.self.now) c.args.key.now c.loop-rest.child words c.loop-rest.rest.now c.loop-rest.turn on c.loop-rest-test.true c.in-Some.at c.in-Tail.tail.1 (pieces held) entry (ap node_of child) (met ∙ c.if-met.true))
+    let entry = sym (ap (λ p. get c.loop-rest.level.now.map p) c.first_piece-piece.ensures) ∙ sym c.around-found.ensures.found ∙ c.in-Some.is in
+    let met = met_along c.args.look (world_of c.args.self.now) c.loop-rest.rest.now c.in-Tail.tail.0 c.loop-rest.invariant.scan.text (subst HasText c.in-Tail.ensures (c.requires.is_arena.texts c.in-Some.at)) c.meets-met.ensures in
+    rw c.first_piece-piece.ensures (on_tail c.args.look (world_of c.args.self.now) c.args.key.now c.loop-rest.child c.loop-rest.level.now.map c.loop-rest.rest.now c.loop-rest.turn c.loop-rest.invariant c.loop-rest-test.true c.in-Some.at c.in-Tail.tail.1 (pieces c.in-Tail.tail.0) entry (ap node_of c.in-Tail.ensures) (met ∙ c.if-met.true))
 
 pub returns-else-met-clause-is_turn : goal.returns-else-met-clause-is_turn
 returns-else-met-clause-is_turn c =
     let words = c.loop-rest.level.now.map in
     let on = c.loop-rest.invariant in
     let entry = sym (ap (λ p. get words p) c.first_piece-piece.ensures) ∙ sym c.around-found.ensures.found ∙ c.in-Some.is in
-    let held = c.in-Tail.tail.0 in
-    let child = c.in-Tail.ensures in
-    let text = subst HasText child (c.requires.is_arena.texts c.in-Some.at) in
-    let met : meets c.args.look (world_of c.args.self.now) (pieces (drop 8 c.loop-rest.rest.now)) (pieces held) ≡ c.meets-met.result =
-    ap (is_beyond c.args.look.itself) (bytes_along c.args.look.side (drop 8 c.loop-rest.rest.now) held (text-drop 8 c.loop-rest.rest.now on.scan.text) text)
-    ∙ (λ t. is_beyond c.args.look.itself (along_bytes c.args.look.side (sym (take_rest c.loop-rest.rest.now 8) t) held))
-    ∙ sym c.meets-met.ensures in
+    let met = met_along c.args.look (world_of c.args.self.now) c.loop-rest.rest.now c.in-Tail.tail.0 on.scan.text (subst HasText c.in-Tail.ensures (c.requires.is_arena.texts c.in-Some.at)) c.meets-met.ensures in
     let nearest = subst (λ p. IsNearestEntry c.args.look.side false words p (piece_in c.around-found.result.1)) c.first_piece-piece.ensures c.around-found.ensures.nearest in
-    let none = none_child c.args.look (world_of c.args.self.now) (seat_in c.loop-rest.child) words on.scan.is_level (piece_of c.loop-rest.rest.now) c.in-Some.at (pieces (drop 8 c.loop-rest.rest.now)) entry (piece-IsInner c.loop-rest.rest.now on.scan.text c.loop-rest-test.true) (none_tail c.args.look (world_of c.args.self.now) (suc c.in-Some.at) (pieces (drop 8 c.loop-rest.rest.now)) (pieces held) c.in-Tail.tail.1 (ap node_of child) (met ∙ c.if-met.false)) in
+    let none = none_child c.args.look (world_of c.args.self.now) (seat_in c.loop-rest.child) words on.scan.is_level (piece_of c.loop-rest.rest.now) c.in-Some.at (pieces (drop 8 c.loop-rest.rest.now)) entry (piece-IsInner c.loop-rest.rest.now on.scan.text c.loop-rest-test.true) (none_tail c.args.look (world_of c.args.self.now) (suc c.in-Some.at) (pieces (drop 8 c.loop-rest.rest.now)) (pieces c.in-Tail.tail.0) c.in-Tail.tail.1 (ap node_of c.in-Tail.ensures) (met ∙ c.if-met.false)) in
     subst (IsTurn c.args.look (world_of c.args.self.now) c.args.key.now) (sym c.nearer-turn.ensures)
     (on_left c.args.look (world_of c.args.self.now) c.args.key.now c.loop-rest.child words c.loop-rest.rest.now c.loop-rest.turn on c.loop-rest-test.true c.around-found.result.1 nearest c.around-found.ensures.value none)
 
@@ -80,15 +66,3 @@ returns-clause-is_turn c =
     let nearest = subst (λ p. IsNearestEntry c.args.look.side c.args.look.itself words p (piece_in c.last_entry.result)) c.first_piece.ensures c.last_entry.ensures.nearest in
     subst (IsTurn c.args.look (world_of c.args.self.now) c.args.key.now) (sym c.nearer.ensures)
     (on_last c.args.look (world_of c.args.self.now) c.args.key.now c.loop-rest.child words c.loop-rest.rest.now c.loop-rest.turn c.loop-rest.invariant c.last_entry.result (omega arith) nearest c.last_entry.ensures.value)
-
-pub returns-in_default-clause-is_text : goal.returns-in_default-clause-is_text
-returns-in_default-clause-is_text c = text_from_bytes c.args.key.now c.type_inv.key c.requires.without_zero
-
-pub returns-then-met-clause-is_text : goal.returns-then-met-clause-is_text
-returns-then-met-clause-is_text c = text_from_bytes c.args.key.now c.type_inv.key c.requires.without_zero
-
-pub returns-else-met-clause-is_text : goal.returns-else-met-clause-is_text
-returns-else-met-clause-is_text c = text_from_bytes c.args.key.now c.type_inv.key c.requires.without_zero
-
-pub returns-clause-is_text : goal.returns-clause-is_text
-returns-clause-is_text c = text_from_bytes c.args.key.now c.type_inv.key c.requires.without_zero

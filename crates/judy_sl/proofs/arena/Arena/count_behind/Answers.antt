@@ -5,7 +5,8 @@ use Rattle.std.proofs.lemmas.List.{take_rest}
 use Rattle.judy_sl.specs.Pieces.{piece_of}
 use Rattle.judy_sl.specs.Arenas.{world_of, child_at, node_of, HasText}
 use Rattle.judy_sl.specs.Children.{keys_told}
-use Rattle.judy_sl.specs.Counted.{comes, StandsWith}
+use Rattle.judy_sl.specs.Counted.{StandsWith}
+use Rattle.judy_sl.specs.Scans.{is_beyond}
 use Rattle.judy_sl.proofs.PieceLemmas.{text-drop, piece-IsInner}
 use Rattle.judy_sl.proofs.Linked.{taken_of}
 use Rattle.judy_sl.proofs.KeysTold.{level_stands, level_asked}
@@ -75,8 +76,8 @@ returns-in-Tail c =
     let text = subst HasText c.in-Tail.ensures (c.requires.is_arena.texts c.down.at) in
     let high = rank_tail true c.args.self.now c.requires.is_arena c.down.at c.in-Tail.tail.0 c.in-Tail.tail.1 (ap node_of c.in-Tail.ensures) text c.down.high.now in
     let low = rank_tail false c.args.self.now c.requires.is_arena c.down.at c.in-Tail.tail.0 c.in-Tail.tail.1 (ap node_of c.in-Tail.ensures) text c.down.low.now in
-    let up_to = c.from-up_to.ensures ∙ one_told c.comes.result ∙ ap (λ b. one_if b) (c.comes.ensures ∙ ap (comes true) c.order.ensures) in
-    let below = c.from-below.ensures ∙ one_told c.comes-in-Tail.result ∙ ap (λ b. one_if b) (c.comes-in-Tail.ensures ∙ ap (comes false) c.order-in-Tail.ensures) in
+    let up_to = c.from-up_to.ensures ∙ one_told c.comes.result ∙ ap (λ b. one_if b) (c.comes.ensures ∙ ap (is_beyond true) c.order.ensures) in
+    let below = c.from-below.ensures ∙ one_told c.comes-in-Tail.result ∙ ap (λ b. one_if b) (c.comes-in-Tail.ensures ∙ ap (is_beyond false) c.order-in-Tail.ensures) in
     let same = c.down.invariant.same in
     let left = c.saturating_sub.ensures in
     omega arith

@@ -54,24 +54,15 @@ overflow_add-between c =
     let stands = c.requires.told in
     let words = c.args.level.now.map in
     let lesser = keys_below (part_len (entry_keys (world_of c.args.self.now))) (entries words) in
-    let one = ap lesser c.first_piece-low.ensures in
-    let other = ap lesser c.first_piece-high.ensures in
-    let between = c.keys_between-between.ensures in
     let up_to = c.rank_own-up_to.ensures ∙ ap (λ (found : Option ℕ). ranked_own (world_of c.args.self.now) true found c.args.to.now) (c.get.ensures ∙ ap (get words) c.first_piece-high.ensures) in
     let high = level_ranked c.requires.is_arena.is_world stands.seat words stands.is_level true c.args.to.now c.requires.to in
     let all = ranked_most true (map_behind (world_of c.args.self.now) stands.seat) c.args.to.now in
-    let told = stands.told in
-    let fits = c.ranges.keys.fits in
-    omega arith
+    omega (arith, ap lesser c.first_piece-low.ensures, ap lesser c.first_piece-high.ensures, c.keys_between-between.ensures, up_to, high, all, stands.told, c.ranges.keys.fits)
 
 pub returns : goal.returns
 returns c =
     let words = c.args.level.now.map in
     let lesser = keys_below (part_len (entry_keys (world_of c.args.self.now))) (entries words) in
-    let one = ap lesser c.first_piece-low.ensures in
-    let other = ap lesser c.first_piece-high.ensures in
-    let between = c.keys_between-between.ensures in
     let up_to = c.rank_own-up_to.ensures ∙ ap (λ (found : Option ℕ). ranked_own (world_of c.args.self.now) true found c.args.to.now) (c.get.ensures ∙ ap (get words) c.first_piece-high.ensures) in
     let below = c.rank_own-below.ensures ∙ ap (λ (found : Option ℕ). ranked_own (world_of c.args.self.now) false found c.args.from.now) (c.get-2.ensures ∙ ap (get words) c.first_piece-low.ensures) in
-    let left = c.saturating_sub.ensures in
-    omega arith
+    omega (arith, ap lesser c.first_piece-low.ensures, ap lesser c.first_piece-high.ensures, c.keys_between-between.ensures, up_to, below, c.saturating_sub.ensures)

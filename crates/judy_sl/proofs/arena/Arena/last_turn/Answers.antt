@@ -1,14 +1,14 @@
-use Rattle.std.proofs.Common.{◌≡◌, ◌≢◌, ◌∙◌, sym, ap, arith, drop, true, false, subst, refl, suc, Some}
+use Rattle.std.proofs.Common.{◌≢◌, ◌∙◌, sym, ap, arith, drop, true, false, subst, refl, suc, Some}
 use Rattle.std.proofs.lemmas.List.{take_rest}
 use Rattle.std.specs.FinMap.{get}
 use Rattle.judy_sl.specs.Pieces.{piece_of, pieces}
 use Rattle.judy_sl.specs.Arenas.{world_of, node_of, HasText}
 use Rattle.judy_sl.specs.Ways.{seat_in}
-use Rattle.judy_sl.specs.Scans.{is_beyond, along_bytes, meets, IsNearestEntry, IsEntryOf, piece_in}
+use Rattle.judy_sl.specs.Scans.{IsNearestEntry, IsEntryOf, piece_in}
 use Rattle.judy_sl.proofs.PieceLemmas.{text_from_bytes, piece-IsInner, text-drop}
 use Rattle.judy_sl.proofs.Linked.{taken_of}
 use Rattle.judy_sl.proofs.ScanLevels.{none_absent, none_child, none_tail}
-use Rattle.judy_sl.proofs.ScanEntries.{bytes_along, apart-beyond, apart-absent}
+use Rattle.judy_sl.proofs.ScanEntries.{met_along, apart-beyond, apart-absent}
 use Rattle.judy_sl.proofs.ScanWays.{scan_start, scan_moved, scan_left, scan_tail, scan_last}
 use Rattle.judy_sl.proofs.arena.Arena.last_turn.Goals as goal
 
@@ -48,34 +48,18 @@ loop-rest-preserved c =
 
 pub returns-then-met-clause-is_turn : goal.returns-then-met-clause-is_turn
 returns-then-met-clause-is_turn c =
-    let words = c.loop-rest.level.now.map in
-    let on = c.loop-rest.invariant in
-    let there = subst (IsEntryOf words) c.in-Some.is c.from.ensures.value in
-    let entry = ap (get words) (sym c.first_piece-piece.ensures ∙ sym c.if-apart.false) ∙ there in
-    let held = c.in-Tail.tail.0 in
-    let child = c.in-Tail.ensures in
-    let text = subst HasText child (c.requires.is_arena.texts c.in-Some.entry.1) in
-    let met : meets c.args.look (world_of c.args.self.now) (pieces (drop 8 c.loop-rest.rest.now)) (pieces held) ≡ c.meets-met.result =
-    ap (is_beyond c.args.look.itself) (bytes_along c.args.look.side (drop 8 c.loop-rest.rest.now) held (text-drop 8 c.loop-rest.rest.now on.text) text)
-    ∙ (λ t. is_beyond c.args.look.itself (along_bytes c.args.look.side (sym (take_rest c.loop-rest.rest.now 8) t) held))
-    ∙ sym c.meets-met.ensures in
-    rw (c.nearer-then-met.ensures, c.if-apart.false ∙ c.first_piece-piece.ensures) (scan_tail c.args.look (world_of c.args.self.now) c.args.key.now c.loop-rest.child words c.loop-rest.rest.now on c.loop-rest-test.true c.in-Some.entry.1 c.in-Tail.tail.1 (pieces held) entry (ap node_of child) (met ∙ c.if-met.true))
+    let entry = ap (get c.loop-rest.level.now.map) (sym c.first_piece-piece.ensures ∙ sym c.if-apart.false) ∙ subst (IsEntryOf c.loop-rest.level.now.map) c.in-Some.is c.from.ensures.value in
+    let met = met_along c.args.look (world_of c.args.self.now) c.loop-rest.rest.now c.in-Tail.tail.0 c.loop-rest.invariant.text (subst HasText c.in-Tail.ensures (c.requires.is_arena.texts c.in-Some.entry.1)) c.meets-met.ensures in
+    rw (c.nearer-then-met.ensures, c.if-apart.false ∙ c.first_piece-piece.ensures) (scan_tail c.args.look (world_of c.args.self.now) c.args.key.now c.loop-rest.child c.loop-rest.level.now.map c.loop-rest.rest.now c.loop-rest.invariant c.loop-rest-test.true c.in-Some.entry.1 c.in-Tail.tail.1 (pieces c.in-Tail.tail.0) entry (ap node_of c.in-Tail.ensures) (met ∙ c.if-met.true))
 
 pub returns-else-met-clause-is_turn : goal.returns-else-met-clause-is_turn
 returns-else-met-clause-is_turn c =
     let words = c.loop-rest.level.now.map in
     let on = c.loop-rest.invariant in
-    let there = subst (IsEntryOf words) c.in-Some.is c.from.ensures.value in
-    let entry = ap (get words) (sym c.first_piece-piece.ensures ∙ sym c.if-apart.false) ∙ there in
-    let held = c.in-Tail.tail.0 in
-    let child = c.in-Tail.ensures in
-    let text = subst HasText child (c.requires.is_arena.texts c.in-Some.entry.1) in
-    let met : meets c.args.look (world_of c.args.self.now) (pieces (drop 8 c.loop-rest.rest.now)) (pieces held) ≡ c.meets-met.result =
-    ap (is_beyond c.args.look.itself) (bytes_along c.args.look.side (drop 8 c.loop-rest.rest.now) held (text-drop 8 c.loop-rest.rest.now on.text) text)
-    ∙ (λ t. is_beyond c.args.look.itself (along_bytes c.args.look.side (sym (take_rest c.loop-rest.rest.now 8) t) held))
-    ∙ sym c.meets-met.ensures in
+    let entry = ap (get words) (sym c.first_piece-piece.ensures ∙ sym c.if-apart.false) ∙ subst (IsEntryOf words) c.in-Some.is c.from.ensures.value in
+    let met = met_along c.args.look (world_of c.args.self.now) c.loop-rest.rest.now c.in-Tail.tail.0 on.text (subst HasText c.in-Tail.ensures (c.requires.is_arena.texts c.in-Some.entry.1)) c.meets-met.ensures in
     let nearest = subst (λ p. IsNearestEntry c.args.look.side false words p (piece_in c.beyond.result)) c.first_piece-piece.ensures c.beyond.ensures.nearest in
-    let none = none_child c.args.look (world_of c.args.self.now) (seat_in c.loop-rest.child) words on.is_level (piece_of c.loop-rest.rest.now) c.in-Some.entry.1 (pieces (drop 8 c.loop-rest.rest.now)) entry (piece-IsInner c.loop-rest.rest.now on.text c.loop-rest-test.true) (none_tail c.args.look (world_of c.args.self.now) (suc c.in-Some.entry.1) (pieces (drop 8 c.loop-rest.rest.now)) (pieces held) c.in-Tail.tail.1 (ap node_of child) (met ∙ c.if-met.false)) in
+    let none = none_child c.args.look (world_of c.args.self.now) (seat_in c.loop-rest.child) words on.is_level (piece_of c.loop-rest.rest.now) c.in-Some.entry.1 (pieces (drop 8 c.loop-rest.rest.now)) entry (piece-IsInner c.loop-rest.rest.now on.text c.loop-rest-test.true) (none_tail c.args.look (world_of c.args.self.now) (suc c.in-Some.entry.1) (pieces (drop 8 c.loop-rest.rest.now)) (pieces c.in-Tail.tail.0) c.in-Tail.tail.1 (ap node_of c.in-Tail.ensures) (met ∙ c.if-met.false)) in
     rw c.nearer-else-met.ensures (scan_left c.args.look (world_of c.args.self.now) c.args.key.now c.loop-rest.child words c.loop-rest.rest.now on c.loop-rest-test.true c.beyond.result nearest c.beyond.ensures.value none)
 
 pub returns-clause-is_turn : goal.returns-clause-is_turn
@@ -83,18 +67,3 @@ returns-clause-is_turn c =
     let words = c.loop-rest.level.now.map in
     let nearest = subst (λ p. IsNearestEntry c.args.look.side c.args.look.itself words p (piece_in c.last_entry.result)) c.first_piece.ensures c.last_entry.ensures.nearest in
     rw c.nearer-2.ensures (scan_last c.args.look (world_of c.args.self.now) c.args.key.now c.loop-rest.child words c.loop-rest.rest.now c.loop-rest.invariant c.last_entry.result (omega arith) nearest c.last_entry.ensures.value)
-
-pub returns-in_default-clause-is_text : goal.returns-in_default-clause-is_text
-returns-in_default-clause-is_text c = text_from_bytes c.args.key.now c.type_inv.key c.requires.without_zero
-
-pub returns-then-apart-clause-is_text : goal.returns-then-apart-clause-is_text
-returns-then-apart-clause-is_text c = text_from_bytes c.args.key.now c.type_inv.key c.requires.without_zero
-
-pub returns-then-met-clause-is_text : goal.returns-then-met-clause-is_text
-returns-then-met-clause-is_text c = text_from_bytes c.args.key.now c.type_inv.key c.requires.without_zero
-
-pub returns-else-met-clause-is_text : goal.returns-else-met-clause-is_text
-returns-else-met-clause-is_text c = text_from_bytes c.args.key.now c.type_inv.key c.requires.without_zero
-
-pub returns-clause-is_text : goal.returns-clause-is_text
-returns-clause-is_text c = text_from_bytes c.args.key.now c.type_inv.key c.requires.without_zero

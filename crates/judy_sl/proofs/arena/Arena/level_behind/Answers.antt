@@ -21,15 +21,13 @@ pub slice_bounds-rest-count : goal.slice_bounds-rest-count
 slice_bounds-rest-count c =
     let leads = c.requires.leads.1 in
     let step = way_step (world_of c.args.self.now) leads.front leads.seat c.requires.leads.0 (length c.args.key.now - c.args.depth) c.loop-rest.level.now.map c.loop-rest.rest.now c.loop-rest.above.items (c.loop-rest.invariant c.requires.leads.0 leads) c.loop-rest-test.true in
-    let eight = step.eight in
-    omega (arith, eight)
+    omega (arith, step.eight)
 
 pub slice_bounds-rest-start : goal.slice_bounds-rest-start
 slice_bounds-rest-start c =
     let leads = c.requires.leads.1 in
     let step = way_step (world_of c.args.self.now) leads.front leads.seat c.requires.leads.0 (length c.args.key.now - c.args.depth) c.loop-rest.level.now.map c.loop-rest.rest.now c.loop-rest.above.items (c.loop-rest.invariant c.requires.leads.0 leads) c.loop-rest-test.true in
-    let eight = step.eight in
-    omega (arith, eight)
+    omega (arith, step.eight)
 
 pub child-requires : goal.child-requires
 child-requires c =

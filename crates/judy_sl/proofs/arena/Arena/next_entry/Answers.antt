@@ -43,32 +43,24 @@ pub slice_bounds-first_piece-count : goal.slice_bounds-first_piece-count
 slice_bounds-first_piece-count c =
     let left = none_left c.levels.run.entries c.next.result c.next.new.self c.next.ensures.steps c.in_default.is in
     let are = c.in_ok-pop.ensures.items ∙ ap (λ (item : Option (Bor (ArrayOf word_order))). c.pop.new.self.items ++ item ∷ []) c.in_ok-run.was in
-    let risen = rise (world_of c.args.self.now) c.args.key.now c.requires.is_text c.levels.above.items c.pop.new.self.items c.levels.run c.in_ok-run.field-0 are c.levels.invariant left.0 in
-    let within = risen.within in
-    let len = c.len.ensures.value in
-    omega (arith, within, len)
+    omega (arith, (rise (world_of c.args.self.now) c.args.key.now c.requires.is_text c.levels.above.items c.pop.new.self.items c.levels.run c.in_ok-run.field-0 are c.levels.invariant left.0).within, c.len.ensures.value)
 
 pub slice_bounds-first_piece-start : goal.slice_bounds-first_piece-start
 slice_bounds-first_piece-start c =
     let left = none_left c.levels.run.entries c.next.result c.next.new.self c.next.ensures.steps c.in_default.is in
     let are = c.in_ok-pop.ensures.items ∙ ap (λ (item : Option (Bor (ArrayOf word_order))). c.pop.new.self.items ++ item ∷ []) c.in_ok-run.was in
-    let risen = rise (world_of c.args.self.now) c.args.key.now c.requires.is_text c.levels.above.items c.pop.new.self.items c.levels.run c.in_ok-run.field-0 are c.levels.invariant left.0 in
-    let within = risen.within in
-    let len = c.len.ensures.value in
-    omega (arith, within, len)
+    omega (arith, (rise (world_of c.args.self.now) c.args.key.now c.requires.is_text c.levels.above.items c.pop.new.self.items c.levels.run c.in_ok-run.field-0 are c.levels.invariant left.0).within, c.len.ensures.value)
 
 pub entries_beyond-run-requires : goal.entries_beyond-run-requires
 entries_beyond-run-requires c =
     let left = none_left c.levels.run.entries c.next.result c.next.new.self c.next.ensures.steps c.in_default.is in
     let are = c.in_ok-pop.ensures.items ∙ ap (λ (item : Option (Bor (ArrayOf word_order))). c.pop.new.self.items ++ item ∷ []) c.in_ok-run.was in
-    let risen = rise (world_of c.args.self.now) c.args.key.now c.requires.is_text c.levels.above.items c.pop.new.self.items c.levels.run c.in_ok-run.field-0 are c.levels.invariant left.0 in
     let piece = c.first_piece.ensures ∙ ap piece_of (take_rest c.args.key.now (8 * c.len.result)) ∙ ap (λ n. piece_of (drop (8 * n) c.args.key.now)) c.len.ensures.value in
-    ap (contains_key c.in_ok-run.field-0.now.map) piece ∙ risen.there
+    ap (contains_key c.in_ok-run.field-0.now.map) piece ∙ (rise (world_of c.args.self.now) c.args.key.now c.requires.is_text c.levels.above.items c.pop.new.self.items c.levels.run c.in_ok-run.field-0 are c.levels.invariant left.0).there
 
 pub levels-preserved : goal.levels-preserved
 levels-preserved c =
     let left = none_left c.levels.run.entries c.next.result c.next.new.self c.next.ensures.steps c.in_default.is in
     let are = c.in_ok-pop.ensures.items ∙ ap (λ (item : Option (Bor (ArrayOf word_order))). c.pop.new.self.items ++ item ∷ []) c.in_ok-run.was in
-    let risen = rise (world_of c.args.self.now) c.args.key.now c.requires.is_text c.levels.above.items c.pop.new.self.items c.levels.run c.in_ok-run.field-0 are c.levels.invariant left.0 in
     let piece = c.first_piece.ensures ∙ ap piece_of (take_rest c.args.key.now (8 * c.len.result)) ∙ ap (λ n. piece_of (drop (8 * n) c.args.key.now)) c.len.ensures.value in
-    risen.stands c.entries_beyond-run.result (subst (λ p. AreBeyond c.in_ok-run.field-0.now.map p c.entries_beyond-run.result) piece c.entries_beyond-run.ensures)
+    (rise (world_of c.args.self.now) c.args.key.now c.requires.is_text c.levels.above.items c.pop.new.self.items c.levels.run c.in_ok-run.field-0 are c.levels.invariant left.0).stands c.entries_beyond-run.result (subst (λ p. AreBeyond c.in_ok-run.field-0.now.map p c.entries_beyond-run.result) piece c.entries_beyond-run.ensures)

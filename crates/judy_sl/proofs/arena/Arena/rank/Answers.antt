@@ -14,14 +14,11 @@ use Rattle.judy_sl.proofs.arena.Arena.rank.Goals as goal
 
 pub overflow_add-lesser : goal.overflow_add-lesser
 overflow_add-lesser c =
-    let text = text_of_key c.args.key.now c.requires.is_key in
     let first = first_keys_below c.args.self.now c.requires.is_arena c.args.firsts.now c.requires.firsts (piece_of c.args.key.now) in
     let entry = c.lesser_in.ensures ∙ ap (rank c.args.self.now.root.map) c.first_piece-piece.ensures in
     let more = c.below.ensures ∙ ap (sum_below (entries c.args.firsts.now)) c.first_piece-piece.ensures in
-    let all = ranked_most c.args.itself (map_of c.args.self.now) c.args.key.now in
-    let few = c.requires.few in
-    let whole = level_ranked c.requires.is_arena.is_world 0 c.args.self.now.root.map refl c.args.itself c.args.key.now text in
-    omega arith
+    let whole = level_ranked c.requires.is_arena.is_world 0 c.args.self.now.root.map refl c.args.itself c.args.key.now (text_of_key c.args.key.now c.requires.is_key) in
+    omega (arith, first, entry, more, ranked_most c.args.itself (map_of c.args.self.now) c.args.key.now, c.requires.few, whole)
 
 pub rank_own-requires-clause-is_text : goal.rank_own-requires-clause-is_text
 rank_own-requires-clause-is_text c = text_of_key c.args.key.now c.requires.is_key
@@ -36,22 +33,18 @@ rank_own-requires-clause-leads c at entry long =
 
 pub overflow_add-result : goal.overflow_add-result
 overflow_add-result c =
-    let text = text_of_key c.args.key.now c.requires.is_key in
     let first = first_keys_below c.args.self.now c.requires.is_arena c.args.firsts.now c.requires.firsts (piece_of c.args.key.now) in
     let entry = c.lesser_in.ensures ∙ ap (rank c.args.self.now.root.map) c.first_piece-piece.ensures in
     let more = c.below.ensures ∙ ap (sum_below (entries c.args.firsts.now)) c.first_piece-piece.ensures in
     let own = c.rank_own.ensures ∙ ap (λ (found : Option ℕ). ranked_own (world_of c.args.self.now) c.args.itself found c.args.key.now) (c.get.ensures ∙ ap (get c.args.self.now.root.map) c.first_piece-piece.ensures) in
-    let all = ranked_most c.args.itself (map_of c.args.self.now) c.args.key.now in
-    let few = c.requires.few in
-    let whole = level_ranked c.requires.is_arena.is_world 0 c.args.self.now.root.map refl c.args.itself c.args.key.now text in
-    omega arith
+    let whole = level_ranked c.requires.is_arena.is_world 0 c.args.self.now.root.map refl c.args.itself c.args.key.now (text_of_key c.args.key.now c.requires.is_key) in
+    omega (arith, first, entry, more, own, ranked_most c.args.itself (map_of c.args.self.now) c.args.key.now, c.requires.few, whole)
 
 pub returns : goal.returns
 returns c =
-    let text = text_of_key c.args.key.now c.requires.is_key in
     let first = first_keys_below c.args.self.now c.requires.is_arena c.args.firsts.now c.requires.firsts (piece_of c.args.key.now) in
     let entry = c.lesser_in.ensures ∙ ap (rank c.args.self.now.root.map) c.first_piece-piece.ensures in
     let more = c.below.ensures ∙ ap (sum_below (entries c.args.firsts.now)) c.first_piece-piece.ensures in
     let own = c.rank_own.ensures ∙ ap (λ (found : Option ℕ). ranked_own (world_of c.args.self.now) c.args.itself found c.args.key.now) (c.get.ensures ∙ ap (get c.args.self.now.root.map) c.first_piece-piece.ensures) in
-    let whole = level_ranked c.requires.is_arena.is_world 0 c.args.self.now.root.map refl c.args.itself c.args.key.now text in
-    omega arith
+    let whole = level_ranked c.requires.is_arena.is_world 0 c.args.self.now.root.map refl c.args.itself c.args.key.now (text_of_key c.args.key.now c.requires.is_key) in
+    omega (arith, first, entry, more, own, whole)

@@ -6,7 +6,8 @@ use Rattle.judy_sl.specs.Pieces.{piece_of}
 use Rattle.judy_sl.specs.Arenas.{world_of, child_at, node_of, HasText}
 use Rattle.judy_sl.specs.Behind.{map_behind, entry_keys}
 use Rattle.judy_sl.specs.Children.{keys_told}
-use Rattle.judy_sl.specs.Counted.{comes, StandsWith}
+use Rattle.judy_sl.specs.Counted.{StandsWith}
+use Rattle.judy_sl.specs.Scans.{is_beyond}
 use Rattle.judy_sl.proofs.PieceLemmas.{text-drop, piece-IsInner}
 use Rattle.judy_sl.proofs.Linked.{taken_of}
 use Rattle.judy_sl.proofs.KeysTold.{level_stands, level_asked}
@@ -77,7 +78,7 @@ pub overflow_add-result-in-Tail : goal.overflow_add-result-in-Tail
 overflow_add-result-in-Tail c =
     let text = subst HasText c.in-Tail.ensures (c.requires.is_arena.texts c.loop-level.at) in
     let here = rank_tail c.args.itself c.args.self.now c.requires.is_arena c.loop-level.at c.in-Tail.tail.0 c.in-Tail.tail.1 (ap node_of c.in-Tail.ensures) text c.loop-level.rest.now in
-    let one = c.from-in-Tail.ensures ∙ one_told c.comes.result ∙ ap (λ b. one_if b) (c.comes.ensures ∙ ap (comes c.args.itself) c.order.ensures) in
+    let one = c.from-in-Tail.ensures ∙ one_told c.comes.result ∙ ap (λ b. one_if b) (c.comes.ensures ∙ ap (is_beyond c.args.itself) c.order.ensures) in
     let whole = c.loop-level.invariant.whole in
     let all = ranked_most c.args.itself (map_behind (world_of c.args.self.now) (suc c.args.child)) c.args.key.now in
     let few = c.requires.few in
@@ -87,6 +88,6 @@ pub returns-in-Tail : goal.returns-in-Tail
 returns-in-Tail c =
     let text = subst HasText c.in-Tail.ensures (c.requires.is_arena.texts c.loop-level.at) in
     let here = rank_tail c.args.itself c.args.self.now c.requires.is_arena c.loop-level.at c.in-Tail.tail.0 c.in-Tail.tail.1 (ap node_of c.in-Tail.ensures) text c.loop-level.rest.now in
-    let one = c.from-in-Tail.ensures ∙ one_told c.comes.result ∙ ap (λ b. one_if b) (c.comes.ensures ∙ ap (comes c.args.itself) c.order.ensures) in
+    let one = c.from-in-Tail.ensures ∙ one_told c.comes.result ∙ ap (λ b. one_if b) (c.comes.ensures ∙ ap (is_beyond c.args.itself) c.order.ensures) in
     let whole = c.loop-level.invariant.whole in
     omega arith

@@ -11,21 +11,13 @@ pub entry_spot-requires-clause-within : goal.entry_spot-requires-clause-within
 entry_spot-requires-clause-within c =
     let stands = c.requires.told in
     let all = level_keys c.requires.is_arena.is_world stands.seat c.args.level.now.map stands.is_level in
-    let told = stands.told in
-    let within = c.requires.within in
-    let same = c.from-keys.ensures in
-    let alone = c.if-keys-entries.true in
-    let count = c.len-entries.ensures.count in
-    omega arith
+    omega (arith, all, stands.told, c.requires.within, c.from-keys.ensures, c.if-keys-entries.true, c.len-entries.ensures.count)
 
 pub entry_spot-requires-clause-fits : goal.entry_spot-requires-clause-fits
 entry_spot-requires-clause-fits c =
     let stands = c.requires.told in
     let all = level_keys c.requires.is_arena.is_world stands.seat c.args.level.now.map stands.is_level in
-    let told = stands.told in
-    let within = c.requires.within in
-    let fits = c.ranges.keys.fits in
-    omega arith
+    omega (arith, all, stands.told, c.requires.within, c.ranges.keys.fits)
 
 pub returns-then-keys-entries : goal.returns-then-keys-entries
 returns-then-keys-entries c =
@@ -70,10 +62,7 @@ pub read_back-requires-clause-within : goal.read_back-requires-clause-within
 read_back-requires-clause-within c =
     let stands = c.requires.told in
     let all = level_keys c.requires.is_arena.is_world stands.seat c.args.level.now.map stands.is_level in
-    let told = stands.told in
-    let within = c.requires.within in
-    let same = c.from-keys.ensures in
-    omega arith
+    omega (arith, all, stands.told, c.requires.within, c.from-keys.ensures)
 
 pub returns-then-place-keys : goal.returns-then-place-keys
 returns-then-place-keys c = spot_of (world_of c.args.self.now) c.args.level.now.map c.args.place c.read_spot.result (subst (λ (all : List (ℕ × ℕ)). IsSpotIn (world_of c.args.self.now) all c.args.place c.read_spot.result) c.iter.ensures c.read_spot.ensures)

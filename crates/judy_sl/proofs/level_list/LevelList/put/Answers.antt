@@ -45,11 +45,9 @@ returns-clause-len c =
 pub returns-clause-capacity : goal.returns-clause-capacity
 returns-clause-capacity c =
     let numbers = c.self.inside.numbers.items in
-    let index = c.insert_reserved-index.result in
-    let after = c.insert_reserved-index.new.self in
     let all = all-numbered c.self.inside.words numbers c.args.self.now c.self.view_is c.requires in
-    let long = length-set numbers index c.args.keys in
-    capacity-all after (set numbers index c.args.keys) (omega (arith, all, long, c.insert_reserved-index.ensures.capacity))
+    let long = length-set numbers c.insert_reserved-index.result c.args.keys in
+    capacity-all c.insert_reserved-index.new.self (set numbers c.insert_reserved-index.result c.args.keys) (omega (arith, all, long, c.insert_reserved-index.ensures.capacity))
     ∙ c.insert_reserved-index.ensures.capacity
     ∙ sym (capacity-all c.self.inside.words numbers all)
     ∙ ap (λ (levels : Slab LevelParts). levels.capacity) c.self.view_is
@@ -57,9 +55,7 @@ returns-clause-capacity c =
 pub returns-clause-within : goal.returns-clause-within
 returns-clause-within c =
     let numbers = c.self.inside.numbers.items in
-    let index = c.insert_reserved-index.result in
-    let after = c.insert_reserved-index.new.self in
     let all = all-numbered c.self.inside.words numbers c.args.self.now c.self.view_is c.requires in
-    let long = length-set numbers index c.args.keys in
-    let capacity = capacity-all after (set numbers index c.args.keys) (omega (arith, all, long, c.insert_reserved-index.ensures.capacity)) in
+    let long = length-set numbers c.insert_reserved-index.result c.args.keys in
+    let capacity = capacity-all c.insert_reserved-index.new.self (set numbers c.insert_reserved-index.result c.args.keys) (omega (arith, all, long, c.insert_reserved-index.ensures.capacity)) in
     omega (arith, capacity, c.insert_reserved-index.ensures.key_in_range)
