@@ -76,3 +76,4 @@ pub mod SortedRuns
 pub mod PairMaps
 pub mod PlantedKeys
 pub mod Openers
+pub mod ZeroLemmas
