@@ -75,3 +75,4 @@ pub mod SortedRuns
 pub mod PairMaps
 pub mod PlantedKeys
 pub mod Openers
+pub mod ZeroLemmas

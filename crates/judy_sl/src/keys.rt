@@ -1,9 +1,9 @@
 //! Keys: strings of bytes without zeros.
 
-ghost use Rattle.std.specs.Prelude.{◌≡◌, ◌==◌, ◌↔◌, IsTrue, not};
-ghost use Rattle.std.specs.List.{list_all};
+ghost use Rattle.std.specs.Prelude.{◌↔◌, IsTrue};
 ghost use Rattle.judy_model.specs.Keys.{IsStringKey};
 
+use crate::zeros::are_nonzero;
 use arrayvec::ArrayVec;
 
 /// A buffer that a key fits, for the scans.
@@ -15,15 +15,4 @@ pub fn is_key(bytes: &[u8]) -> bool
     ensures { IsTrue result ↔ IsStringKey bytes.now }
 {
     bytes.len() <= 1024 && are_nonzero(bytes)
-}
-
-// Whether no byte is zero. It leaves at no byte, so that many are tested at once.
-pub fn are_nonzero(bytes: &[u8]) -> bool
-    ensures { result ≡ list_all (λ byte. not (byte == 0)) bytes.now }
-{
-    let mut are = true;
-    for byte in bytes {
-        are &= *byte != 0;
-    }
-    are
 }

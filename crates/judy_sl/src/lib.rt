@@ -36,6 +36,7 @@ mod scans;
 mod shrink;
 mod sorted;
 mod strings;
+mod zeros;
 
 pub use cursor::KeyCursor;
 pub use error::SlError;

@@ -3,7 +3,8 @@
 ghost use Rattle.std.specs.Prelude.{◌≡◌, ◌↔◌, ◌+◌, ◌≤◌, ◌++◌, IsFalse, length};
 ghost use Rattle.judy_sl.specs.Pieces.{piece_of, piece_bytes, EndsWell};
 
-use crate::keys::{KeyBuf, are_nonzero};
+use crate::keys::KeyBuf;
+use crate::zeros::are_eight;
 use judy_records::first_word;
 
 // The piece with which the bytes begin: the first eight, the first of them the highest, zeros where bytes are missing.
@@ -19,7 +20,7 @@ pub fn push_piece(key: &mut KeyBuf, piece: u64)
     ensures { key.new.items ≡ key.old.items ++ piece_bytes piece }
 {
     let bytes = piece.to_be_bytes();
-    if are_nonzero(&bytes) {
+    if are_eight(&bytes) {
         match key.try_extend_from_slice(&bytes) {
             Ok(_) => return,
             Err(_) => unreachable!(),

@@ -1,6 +1,6 @@
 use Rattle.std.proofs.Common.{◌≡◌, ◌≤◌, ◌==◌, not, length, take}
 use Rattle.std.specs.List.{list_all}
-use Rattle.judy_sl.proofs.keys.are_nonzero.Given as goal
+use Rattle.judy_sl.proofs.zeros.are_each.Given as goal
 
 -- whether no byte so far is zero
 abbrev pub invariant-loop-byte : goal.invariant-loop-byte
