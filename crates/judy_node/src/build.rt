@@ -1,9 +1,9 @@
 //! The tight tree of sorted pairs.
 
-ghost use Rattle.std.specs.Prelude.{◌≡◌, ℕ, suc, ◌+◌, ◌-◌, ◌*◌, ◌/◌, ◌%◌, ◌^◌, ◌<◌, ◌≤◌, [], ◌∷◌, length, drop, IfOk, OnOk, IsTrue, IsFalse, slice_index_or};
+ghost use Rattle.std.specs.Prelude.{◌≡◌, ℕ, suc, ◌+◌, ◌-◌, ◌*◌, ◌/◌, ◌%◌, ◌^◌, ◌<◌, ◌≤◌, [], ◌∷◌, ◌++◌, length, drop, IfOk, OnOk, IsTrue, IsFalse, slice_index_or};
 ghost use Rattle.judy_model.specs.Shapes.{immediate_limit};
 ghost use Rattle.judy_leaf.specs.KeyLists.{low_pairs};
-ghost use Rattle.judy_node.specs.Trees.{IsMap, IsChild, AreParts, branch_tree};
+ghost use Rattle.judy_node.specs.Trees.{Tree, IsMap, IsChild, AreParts, branch_tree};
 ghost use Rattle.judy_node.specs.Kinds.{tree_of, IsLevel, IsDeep, behind};
 ghost use Rattle.judy_node.specs.Built.{sharing, middle, IsBuilt, AreMade};
 
@@ -185,25 +185,60 @@ fn add_group<'a, V: Words + Drop>(
 {
     let byte = byte_above(rest[0].0, below);
     let end = group_end(rest, below, byte);
-    if children.try_reserve(1).is_err() {
-        return Err(AllocError);
-    }
-    let Ok(child) = child_of_sorted(alloc, below, &rest[..end]) else {
+    let Ok(()) = add_child(alloc, children, below, &rest[..end]) else {
         return Err(AllocError);
     };
     bytes.add(byte);
-    let Ok(()) = children.push(child) else {
-        return Err(AllocError);
-    };
     let (_, left) = rest.split_at(end);
     Ok(left)
 }
 
-/// The tight node of sorted pairs, whose keys are read by their lowest bytes, `width` of them. The error is want of
-/// memory, which an immediate doesn't take; nothing is kept then.
-// Of scattered keys most children are immediates, which are made where this is compiled in.
+// Puts a node behind the others.
+#[inline(always)]
+fn pushed<V: Words + Drop>(
+    children: &mut Vec<ChildOf<V>>,
+    child: ChildOf<V>,
+) -> Result<(), AllocError>
+    ensures { OnOk result (children.new.items ≡ children.old.items ++ child ∷ []) }
+{
+    match children.push(child) {
+        Ok(()) => Ok(()),
+        Err(_) => Err(AllocError),
+    }
+}
+
+// Makes the tight node of sorted pairs and puts it behind the others. Of scattered keys most are immediates: these are written where they are
+// to stand, and not first as the answer of a call.
 #[cycle(build)]
 #[inline(always)]
+fn add_child<V: Words + Drop>(
+    alloc: Global,
+    children: &mut Vec<ChildOf<V>>,
+    width: u8,
+    pairs: &[(u64, u64)],
+) -> Result<(), AllocError>
+    requires one { V.WORDS ≤ 1 }
+    requires width { (1 ≤ width) × (width ≤ 7) }
+    requires some { 0 < length pairs.now }
+    requires map { IsMap V.WORDS 0 (256 ^ width) (low_pairs (256 ^ width) pairs.now) }
+    ensures { OnOk result ((child : Tree) × IsBuilt V.WORDS width pairs.now child
+        × (children.new.items ≡ children.old.items ++ child ∷ [])) }
+{
+    if children.try_reserve(1).is_err() {
+        return Err(AllocError);
+    }
+    if fits_immediate::<V>(pairs.len(), width) {
+        let child = ChildOf::close(immediate_of_sorted(width, pairs));
+        return pushed(children, child);
+    }
+    let Ok(child) = larger_child(alloc, width, pairs) else {
+        return Err(AllocError);
+    };
+    pushed(children, child)
+}
+
+/// The tight node of sorted pairs, whose keys are read by their lowest bytes, `width` of them. The error is want of
+/// memory, which an immediate doesn't take; nothing is kept then.
 pub fn child_of_sorted<V: Words + Drop>(
     alloc: Global,
     width: u8,
@@ -221,7 +256,7 @@ pub fn child_of_sorted<V: Words + Drop>(
     larger_child(alloc, width, pairs)
 }
 
-// The same for more pairs than an immediate holds.
+// As `child_of_sorted`, for more pairs than an immediate holds.
 #[cycle(build)]
 #[inline(never)]
 fn larger_child<V: Words + Drop>(

@@ -1,4 +1,4 @@
-use Rattle.std.proofs.Common.{◌≡◌, ◌+◌, ◌-◌, ◌^◌, ◌<◌, [], ◌∷◌, ◌++◌, length, drop, sym, refl, ap, ◌∙◌, subst, arith}
+use Rattle.std.proofs.Common.{◌≡◌, ◌+◌, ◌-◌, ◌^◌, ◌<◌, [], ◌∷◌, ◌++◌, length, drop, sym, refl, ◌∙◌, subst, arith}
 use Rattle.std.proofs.lemmas.List.{length-take-le}
 use Rattle.std.proofs.lemmas.Bool.{eqb-true, eqb-false}
 use Rattle.judy_leaf.specs.KeyLists.{low_pairs}
@@ -10,13 +10,13 @@ use Rattle.judy_node.proofs.Groups.{with_byte-push}
 use Rattle.judy_node.proofs.MadeFacts.{made_none, group_map, group_some, made_more, made_branch, made_built, byte_before, behind_built, one_byte_map, length_none}
 use Rattle.judy_node.proofs.build.+build.Goals as goal
 
-pub add_group-slice_bounds-child_of_sorted-end : goal.add_group-slice_bounds-child_of_sorted-end
-add_group-slice_bounds-child_of_sorted-end g t c =
+pub add_group-slice_bounds-add_child-end : goal.add_group-slice_bounds-add_child-end
+add_group-slice_bounds-add_child-end g t c =
     let bounds = group_some c.args.below c.args.rest.now c.byte_above-byte.result c.group_end-end.result c.requires.some c.byte_above-byte.ensures c.group_end-end.ensures in
     sym (length-take-le c.group_end-end.result c.args.rest.now bounds.1)
 
-pub add_group-child_of_sorted-requires : goal.add_group-child_of_sorted-requires
-add_group-child_of_sorted-requires g t c κs within =
+pub add_group-add_child-requires : goal.add_group-add_child-requires
+add_group-add_child-requires g t c κs within =
     let bounds = group_some c.args.below c.args.rest.now c.byte_above-byte.result c.group_end-end.result c.requires.some c.byte_above-byte.ensures c.group_end-end.ensures in
     let first = bounds.0 in
     let long = length-take-le c.group_end-end.result c.args.rest.now bounds.1 in
@@ -57,17 +57,17 @@ add_group-returns-clause-made g t c =
     let made = c.requires.made in
     let bytes = c.add.ensures ∙ with_byte-push c.byte_above-byte.result old
     (byte_before words c.args.below c.args.pairs.now c.args.rest.now old before made.0 c.byte_above-byte.result made.1 c.requires.some c.byte_above-byte.ensures) in
-    let kids = c.in-Ok-push.ensures.items ∙ ap (λ kids. kids ++ c.in-Ok.child ∷ []) c.try_reserve.ensures.items in (
+    let put = c.in-Ok.ensures in (
       c.byte_above-byte.result + 1,
-      subst (λ left. AreMade words c.args.below c.args.pairs.now left c.add.new.self c.push.new.self.items (c.byte_above-byte.result + 1)) (sym c.split_at.ensures.back)
-          (subst (λ bs. AreMade words c.args.below c.args.pairs.now (drop c.group_end-end.result c.args.rest.now) bs c.push.new.self.items (c.byte_above-byte.result + 1)) (sym bytes)
-          (subst (λ ks. AreMade words c.args.below c.args.pairs.now (drop c.group_end-end.result c.args.rest.now) (old ++ c.byte_above-byte.result ∷ []) ks (c.byte_above-byte.result + 1)) (sym kids)
-          (made_more words c.args.below c.args.pairs.now c.args.rest.now old before made.0 c.byte_above-byte.result c.group_end-end.result c.in-Ok.child made.1 c.requires.some
-          c.byte_above-byte.ensures (omega (arith, c.byte_above-byte.type_inv)) c.group_end-end.ensures c.in-Ok.ensures c.requires.two))),
+      subst (λ left. AreMade words c.args.below c.args.pairs.now left c.add.new.self c.add_child.new.children.items (c.byte_above-byte.result + 1)) (sym c.split_at.ensures.back)
+          (subst (λ bs. AreMade words c.args.below c.args.pairs.now (drop c.group_end-end.result c.args.rest.now) bs c.add_child.new.children.items (c.byte_above-byte.result + 1)) (sym bytes)
+          (subst (λ ks. AreMade words c.args.below c.args.pairs.now (drop c.group_end-end.result c.args.rest.now) (old ++ c.byte_above-byte.result ∷ []) ks (c.byte_above-byte.result + 1)) (sym put.2)
+          (made_more words c.args.below c.args.pairs.now c.args.rest.now old before made.0 c.byte_above-byte.result c.group_end-end.result put.0 made.1 c.requires.some
+          c.byte_above-byte.ensures (omega (arith, c.byte_above-byte.type_inv)) c.group_end-end.ensures put.1 c.requires.two))),
     )
 
-pub child_of_sorted-larger_child-requires : goal.child_of_sorted-larger_child-requires
-child_of_sorted-larger_child-requires g t c κs within =
+pub add_child-larger_child-requires : goal.add_child-larger_child-requires
+add_child-larger_child-requires g t c κs within =
     let more = c.fits_immediate.ensures.more c.if-fits_immediate.false in
     let falls = c.decreases in
     (omega arith, (within, (omega arith, (c.requires.one, (c.requires.width, (omega arith, c.requires.map))))))

@@ -5,8 +5,8 @@ use Rattle.judy_node.proofs.build.+build.Given as goal
 abbrev pub decreases-add_group : goal.decreases-add_group
 decreases-add_group g l = 5 * l.below + 3
 
-abbrev pub decreases-child_of_sorted : goal.decreases-child_of_sorted
-decreases-child_of_sorted g l = 5 * l.width + 2
+abbrev pub decreases-add_child : goal.decreases-add_child
+decreases-add_child g l = 5 * l.width + 2
 
 abbrev pub decreases-larger_child : goal.decreases-larger_child
 decreases-larger_child g l = 5 * l.width + 1

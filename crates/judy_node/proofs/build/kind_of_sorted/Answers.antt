@@ -1,7 +1,0 @@
-use Rattle.std.proofs.Common.{arith}
-use Rattle.judy_node.proofs.build.kind_of_sorted.Goals as goal
-
-pub many-requires-clause-more : goal.many-requires-clause-more
-many-requires-clause-more g c =
-    let many = c.if-pairs-le32.false in
-    omega arith
