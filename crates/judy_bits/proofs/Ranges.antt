@@ -59,6 +59,14 @@ not_less left right at_most = false_from_ne_true (nat_lt left right) (λ less. l
 not_at_most : (left right : ℕ) → right < left → nat_le left right ≡ false
 not_at_most left right above = false_from_ne_true (nat_le left right) (λ at_most. let never = leb-true left right at_most in let no_way : ⊥ = omega arith in absurd no_way)
 
+both : (b : Bool) {c : Bool} → c ≡ true → (b && c) ≡ b
+both true e = e
+both false e = refl
+
+neither : (b : Bool) {c : Bool} → c ≡ false → (b && c) ≡ false
+neither true e = e
+neither false e = refl
+
 -- What is chosen below a bound by two tests, the second of which holds just below a number, is chosen below it.
 cut_below : (p q : ℕ → Bool) (number rest : ℕ) → ((at : ℕ) → at < number → q at ≡ true) → ((at : ℕ) → number ≤ at → q at ≡ false)
     → filter q (chosen p 0 (number + rest)) ≡ chosen p 0 number
@@ -67,14 +75,6 @@ cut_below p q number rest before after =
     ∙ chosen_split (λ x. p x && q x) 0 number rest
     ∙ (λ t. chosen_agree (λ x. p x && q x) p 0 number (λ at low high. both (p at) (before at (omega arith))) t ++ chosen_none (λ x. p x && q x) (0 + number) rest (λ at low high. neither (p at) (after at (omega arith))) t)
     ∙ append-nil (chosen p 0 number)
-  where
-    both : (b : Bool) {c : Bool} → c ≡ true → (b && c) ≡ b
-    both true e = e
-    both false e = refl
-
-    neither : (b : Bool) {c : Bool} → c ≡ false → (b && c) ≡ false
-    neither true e = e
-    neither false e = refl
 
 -- The same, where the second holds just from a number on.
 cut_from : (p q : ℕ → Bool) (number rest : ℕ) → ((at : ℕ) → at < number → q at ≡ false) → ((at : ℕ) → number ≤ at → q at ≡ true)
@@ -84,14 +84,6 @@ cut_from p q number rest before after =
     ∙ chosen_split (λ x. p x && q x) 0 number rest
     ∙ (λ t. chosen_none (λ x. p x && q x) 0 number (λ at low high. neither (p at) (before at (omega arith))) t ++ chosen_agree (λ x. p x && q x) p (0 + number) rest (λ at low high. both (p at) (after at (omega arith))) t)
     ∙ ap (λ at. chosen p at rest) (let e : 0 + number ≡ number = omega arith in e)
-  where
-    both : (b : Bool) {c : Bool} → c ≡ true → (b && c) ≡ b
-    both true e = e
-    both false e = refl
-
-    neither : (b : Bool) {c : Bool} → c ≡ false → (b && c) ≡ false
-    neither true e = e
-    neither false e = refl
 
 module _ (p : ℕ → Bool) (number rest : ℕ) where
   -- What is chosen and below a number is what is chosen below it.

@@ -154,6 +154,12 @@ with_next (x ∷ xs) (suc at) byte ascending is =
     let less = all_among (λ y. x < y) xs byte (later_above x xs ascending.0) (Among-slice_get xs at byte is) in
     with_below x byte (take at xs) less ∙ ap (λ rest. x ∷ rest) (with_next xs at byte ascending.1 is)
 
+-- The same of a set that is made member by member.
+pub added_next : (xs so_far added : List ℕ) (at byte : ℕ) → IsStrictlySortedBy word_order xs → Some byte ≡ slice_get xs at → so_far ≡ take at xs → added ≡ with_byte so_far byte → added ≡ take (at + 1) xs
+added_next xs so_far added at byte ascending is same put =
+    let next : suc at ≡ at + 1 = omega arith in
+    put ∙ ap (λ members. with_byte members byte) same ∙ with_next xs at byte ascending (sym is) ∙ ap (λ n. take n xs) next
+
 -- To take out what isn't there changes nothing.
 pub without_other : (xs : List ℕ) (byte : ℕ) → has xs byte ≡ false → without_byte xs byte ≡ xs
 without_other xs byte absent = filter_all (λ member. not (member == byte)) xs (all_weaker (λ x. x ≢ byte) (λ x. not (x == byte) ≡ true) (λ x apart. ap not (ne_eqb x byte apart)) xs (not_among xs byte absent))

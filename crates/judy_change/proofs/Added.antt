@@ -78,6 +78,16 @@ filled_front out list spares slice pairs rest key value at count is long room th
     let all = ap length whole in
     take_at pairs rest (count + 1) (omega arith) ∙ whole
 
+-- The same in a slice of nine.
+abbrev pub nine : Pairs
+nine = (0, 0) ∷ (0, 0) ∷ (0, 0) ∷ (0, 0) ∷ (0, 0) ∷ (0, 0) ∷ (0, 0) ∷ (0, 0) ∷ (0, 0) ∷ []
+
+pub filled_nine : (out list pairs : Pairs) (key value at count : ℕ) → out ≡ shift 0 list → count ≡ length list → count < 9 → at ≡ rank (keys_of list) key
+    → pairs ≡ insert (take (length (take (count + 1) (out ++ drop count nine)) - 1) (take (count + 1) (out ++ drop count nine))) at (key, value)
+    → take (count + 1) (pairs ++ drop (count + 1) (out ++ drop count nine)) ≡ with_pair key value list
+filled_nine out list pairs key value at count is long room there put =
+    filled_front out list nine (take (count + 1) (out ++ drop count nine)) pairs (drop (count + 1) (out ++ drop count nine)) key value at count is long room there refl put
+
 -- Sorted pairs, one of them new.
 module _ (words width key value : ℕ) (old : Pairs) (map : IsMap words 0 (256 ^ width) old) (absent : has (keys_of old) key ≡ false) (fits : key < 256 ^ width) (free : words ≡ 0 → value ≡ 0) (pairs : Pairs)
     (are : pairs ≡ with_pair key value old) where

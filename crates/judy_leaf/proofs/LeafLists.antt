@@ -90,12 +90,6 @@ module _ (words count : ℕ) (block : Contents) (is : IsLeafParts words count bl
   read_keys width tagged w n s p q r =
       (λ t. keys_from ((p ∙ sym tagged) t) (q t) (r t * q t) block) ∙ sym (leaf_keys words count block is) ∙ ap (λ l. keys_of l.pairs) seen
 
-  pub read_ascending : IsStrictlySortedBy word_order (keys_of list.pairs)
-  read_ascending = subst (IsStrictlySortedBy word_order) (sym (leaf_keys words count block is) ∙ ap (λ l. keys_of l.pairs) seen) is.ascending
-
-  pub read_stands : (width : ℕ) → block.tag ≡ width → (w n s : ℕ) → w ≡ width → n ≡ count → s ≡ words → Stands list.pairs (keys_from w n (s * n) block)
-  read_stands width tagged w n s p q r = record { same = read_keys width tagged w n s p q r; ascending = read_ascending }
-
   -- The list of a leaf is a list of keys of its width.
   pub read_list : IsKeyList list
   read_list = subst IsKeyList seen (record {
