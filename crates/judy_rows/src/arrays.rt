@@ -1,199 +1,206 @@
 //! Rows of arrays over words.
 
-use crate::check::{check_answers, check_lines};
+use crate::check::{check_answers, check_len, check_lines, check_table};
 use judy_shelf::{Array, Kind, Name, Shelf};
+use judy_word::{InsertError, Judy1};
 use std::process::Abort;
+
+const EDGE_WORD: &[u8] = b"\
+make a judy1 > ok
+set a 18446744073709551615 > 1
+next a 18446744073709551615 > none
+ne a 18446744073709551615 > none
+fe a 18446744073709551615 > none
+le a 18446744073709551615 > 18446744073709551614
+first a 0 > 18446744073709551615
+prev a 0 > none
+count a 0 18446744073709551615 > 1
+test a 18446744073709551616 > error bad-word
+";
 
 #[test]
 fn edge_word(rt: HostRuntime) {
-    let mut shelf = Shelf::new(rt.alloc());
-    let table = [
-        (b"make a judy1".as_slice(), b"ok\n".as_slice()),
-        (b"set a 18446744073709551615", b"1\n"),
-        (b"next a 18446744073709551615", b"none\n"),
-        (b"ne a 18446744073709551615", b"none\n"),
-        (b"fe a 18446744073709551615", b"none\n"),
-        (b"le a 18446744073709551615", b"18446744073709551614\n"),
-        (b"first a 0", b"18446744073709551615\n"),
-        (b"prev a 0", b"none\n"),
-        (b"count a 0 18446744073709551615", b"1\n"),
-        (b"test a 18446744073709551616", b"error bad-word\n"),
-    ];
-    check_lines(&rt, &mut shelf, &table);
+    check_table(&rt, rt.alloc(), EDGE_WORD);
 }
+
+const COUNT_CORNERS: &[u8] = b"\
+make a judy1 > ok
+set a 3 > 1
+set a 5 > 1
+set a 9 > 1
+count a 9 3 > 0
+count a 3 9 > 3
+count a 4 8 > 1
+bycount a 0 > none
+bycount a 3 > 9
+bycount a 4 > none
+make l judyl > ok
+ins l 5 9 > was 0
+first l 0 > 5 9
+bycount l 1 > 5 9
+";
 
 #[test]
 fn count_corners(rt: HostRuntime) {
-    let mut shelf = Shelf::new(rt.alloc());
-    let table = [
-        (b"make a judy1".as_slice(), b"ok\n".as_slice()),
-        (b"set a 3", b"1\n"),
-        (b"set a 5", b"1\n"),
-        (b"set a 9", b"1\n"),
-        (b"count a 9 3", b"0\n"),
-        (b"count a 3 9", b"3\n"),
-        (b"count a 4 8", b"1\n"),
-        (b"bycount a 0", b"none\n"),
-        (b"bycount a 3", b"9\n"),
-        (b"bycount a 4", b"none\n"),
-        (b"make l judyl", b"ok\n"),
-        (b"ins l 5 9", b"was 0\n"),
-        (b"first l 0", b"5 9\n"),
-        (b"bycount l 1", b"5 9\n"),
-    ];
-    check_lines(&rt, &mut shelf, &table);
+    check_table(&rt, rt.alloc(), COUNT_CORNERS);
 }
 
-// Puts the words from `from` on, below `to`, into the judy1 array `a`.
-fn fill<R: Abort>(rt: &R, shelf: &mut Shelf, from: u64, to: u64) {
-    let name = Name::new(b"a");
-    assert!(rt; name.is_some());
-    if let Some(name) = name
-        && let Some(Array::Judy1(set)) = shelf.get_mut(&name)
-    {
-        for word in from..to {
-            assert_eq!(rt; set.set(word), Ok(true));
-        }
+// Takes note that a word is put in.
+fn put_in(rt: &impl Abort, added: Result<bool, InsertError>) {
+    assert_eq!(rt; added, Ok(true));
+}
+
+// The judy1 array `a`.
+fn set_a(shelf: &mut Shelf) -> Option<&mut Judy1> {
+    match shelf.get_mut(&Name::new(b"a")?)? {
+        Array::Judy1(set) => Some(set),
+        _ => None,
     }
 }
+
+// Puts the words from `from` on, below `to`, into it.
+fn fill(rt: &impl Abort, shelf: &mut Shelf, from: u64, to: u64) {
+    match set_a(shelf) {
+        Some(set) => {
+            for word in from..to {
+                put_in(rt, set.set(word));
+            }
+        }
+        None => assert!(rt; false),
+    }
+}
+
+const FULL_RANGES: &[u8] = b"\
+fe a 0 > 256
+ne a 255 > 256
+le a 255 > none
+pe a 256 > none
+count a 10 20 > 11
+bycount a 256 > 255
+list > names a:judy1:256
+";
 
 #[test]
 fn full_ranges(rt: HostRuntime) {
     let mut shelf = Shelf::new(rt.alloc());
     check_answers(&rt, &mut shelf, b"make a judy1", b"ok\n");
     fill(&rt, &mut shelf, 0, 256);
-    let table = [
-        (b"fe a 0".as_slice(), b"256\n".as_slice()),
-        (b"ne a 255", b"256\n"),
-        (b"le a 255", b"none\n"),
-        (b"pe a 256", b"none\n"),
-        (b"count a 10 20", b"11\n"),
-        (b"bycount a 256", b"255\n"),
-        (b"list", b"names a:judy1:256\n"),
-    ];
-    check_lines(&rt, &mut shelf, &table);
+    check_lines(&rt, &mut shelf, FULL_RANGES);
     fill(&rt, &mut shelf, 256, 512);
     check_answers(&rt, &mut shelf, b"fe a 0", b"512\n");
 }
 
+const EVERY_COMMAND_OF_A_SET: &[u8] = b"\
+make s judy1 > ok
+test s 7 > 0
+set s 7 > 1
+set s 7 > 0
+test s 7 > 1
+test s 6 > 0
+set s 9 > 1
+first s 7 > 7
+next s 7 > 9
+last s 9 > 9
+prev s 9 > 7
+fe s 7 > 8
+ne s 7 > 8
+le s 9 > 8
+pe s 7 > 6
+unset s 7 > 1
+unset s 7 > 0
+count s 0 100 > 1
+free s > freed 1
+list > names s:judy1:0
+drop s > freed 0
+list > names
+";
+
 // Each command of a set, by what it answers before and after a change.
 #[test]
 fn every_command_of_a_set(rt: HostRuntime) {
-    let mut shelf = Shelf::new(rt.alloc());
-    let table = [
-        (b"make s judy1".as_slice(), b"ok\n".as_slice()),
-        (b"test s 7", b"0\n"),
-        (b"set s 7", b"1\n"),
-        (b"set s 7", b"0\n"),
-        (b"test s 7", b"1\n"),
-        (b"test s 6", b"0\n"),
-        (b"set s 9", b"1\n"),
-        (b"first s 7", b"7\n"),
-        (b"next s 7", b"9\n"),
-        (b"last s 9", b"9\n"),
-        (b"prev s 9", b"7\n"),
-        (b"fe s 7", b"8\n"),
-        (b"ne s 7", b"8\n"),
-        (b"le s 9", b"8\n"),
-        (b"pe s 7", b"6\n"),
-        (b"unset s 7", b"1\n"),
-        (b"unset s 7", b"0\n"),
-        (b"count s 0 100", b"1\n"),
-        (b"free s", b"freed 1\n"),
-        (b"list", b"names s:judy1:0\n"),
-        (b"drop s", b"freed 0\n"),
-        (b"list", b"names\n"),
-    ];
-    check_lines(&rt, &mut shelf, &table);
+    check_table(&rt, rt.alloc(), EVERY_COMMAND_OF_A_SET);
 }
+
+const EVERY_COMMAND_OF_A_MAP: &[u8] = b"\
+make l judyl > ok
+ins l 7 70 > was 0
+ins l 9 90 > was 0
+ins l 7 71 > was 70
+get l 7 > 71
+get l 8 > none
+put l 9 91 > was 90
+first l 8 > 9 91
+next l 7 > 9 91
+last l 8 > 7 71
+prev l 9 > 7 71
+prev l 7 > none
+fe l 7 > 8
+ne l 8 > 10
+le l 7 > 6
+pe l 9 > 8
+count l 7 9 > 2
+bycount l 2 > 9 91
+del l 7 > 1
+del l 7 > 0
+get l 7 > none
+list > names l:judyl:1
+drop l > freed 1
+list > names
+";
 
 // The same of a map.
 #[test]
 fn every_command_of_a_map(rt: HostRuntime) {
-    let mut shelf = Shelf::new(rt.alloc());
-    let table = [
-        (b"make l judyl".as_slice(), b"ok\n".as_slice()),
-        (b"ins l 7 70", b"was 0\n"),
-        (b"ins l 9 90", b"was 0\n"),
-        (b"ins l 7 71", b"was 70\n"),
-        (b"get l 7", b"71\n"),
-        (b"get l 8", b"none\n"),
-        (b"put l 9 91", b"was 90\n"),
-        (b"first l 8", b"9 91\n"),
-        (b"next l 7", b"9 91\n"),
-        (b"last l 8", b"7 71\n"),
-        (b"prev l 9", b"7 71\n"),
-        (b"prev l 7", b"none\n"),
-        (b"fe l 7", b"8\n"),
-        (b"ne l 8", b"10\n"),
-        (b"le l 7", b"6\n"),
-        (b"pe l 9", b"8\n"),
-        (b"count l 7 9", b"2\n"),
-        (b"bycount l 2", b"9 91\n"),
-        (b"del l 7", b"1\n"),
-        (b"del l 7", b"0\n"),
-        (b"get l 7", b"none\n"),
-        (b"list", b"names l:judyl:1\n"),
-        (b"drop l", b"freed 1\n"),
-        (b"list", b"names\n"),
-    ];
-    check_lines(&rt, &mut shelf, &table);
+    check_table(&rt, rt.alloc(), EVERY_COMMAND_OF_A_MAP);
 }
+
+const LISTING: &[u8] = b"\
+list > names
+make a judyl > ok
+make b judyl > ok
+drop a > freed 0
+make a judy1 > ok
+list > names b:judyl:0 a:judy1:0
+make h judyhs > ok
+make s judysl > ok
+ins s = 1 > was 0
+list > names b:judyl:0 a:judy1:0 h:judyhs:0 s:judysl:1
+drop h > freed 0
+drop s > freed 1
+";
 
 #[test]
 fn listing(rt: HostRuntime) {
-    let mut shelf = Shelf::new(rt.alloc());
-    let table = [
-        (b"list".as_slice(), b"names\n".as_slice()),
-        (b"make a judyl", b"ok\n"),
-        (b"make b judyl", b"ok\n"),
-        (b"drop a", b"freed 0\n"),
-        (b"make a judy1", b"ok\n"),
-        (b"list", b"names b:judyl:0 a:judy1:0\n"),
-        (b"make h judyhs", b"ok\n"),
-        (b"make s judysl", b"ok\n"),
-        (b"ins s = 1", b"was 0\n"),
-        (
-            b"list",
-            b"names b:judyl:0 a:judy1:0 h:judyhs:0 s:judysl:1\n",
-        ),
-        (b"drop h", b"freed 0\n"),
-        (b"drop s", b"freed 1\n"),
-    ];
-    check_lines(&rt, &mut shelf, &table);
+    let mut shelf = check_table(&rt, rt.alloc(), LISTING);
     make_62_more(&rt, &mut shelf);
     check_64(&rt, &mut shelf);
 }
 
 // Arrays of all other names of one byte than `a` and `b`.
-fn make_62_more<R: Abort>(rt: &R, shelf: &mut Shelf) {
+fn make_62_more(rt: &impl Abort, shelf: &mut Shelf) {
     for name in b"cdefghijklmnopqrstuvwxyzABCDEFGHIJKLMNOPQRSTUVWXYZ0123456789-_" {
         make(rt, shelf, &[*name]);
     }
 }
 
+const CHECK_64: &[u8] = b"\
+make new judyl > error too-many-arrays
+make a judyl > error exists
+make new judyl 0 > error bad-limit
+make new judyl x > error bad-word
+make new judy2 > error wrong-kind
+make n! judyl > error bad-name
+";
+
 // Each other refusal of `make` comes before that of the 65th array.
-fn check_64<R: Abort>(rt: &R, shelf: &mut Shelf) {
-    assert_eq!(rt; shelf.len(), 64);
-    let table = [
-        (
-            b"make new judyl".as_slice(),
-            b"error too-many-arrays\n".as_slice(),
-        ),
-        (b"make a judyl", b"error exists\n"),
-        (b"make new judyl 0", b"error bad-limit\n"),
-        (b"make new judyl x", b"error bad-word\n"),
-        (b"make new judy2", b"error wrong-kind\n"),
-        (b"make n! judyl", b"error bad-name\n"),
-    ];
-    check_lines(rt, shelf, &table);
+fn check_64(rt: &impl Abort, shelf: &mut Shelf) {
+    check_len(rt, shelf, 64);
+    check_lines(rt, shelf, CHECK_64);
 }
 
-fn make<R: Abort>(rt: &R, shelf: &mut Shelf, name: &[u8]) {
-    let name = Name::new(name);
-    assert!(rt; name.is_some());
-    if let Some(name) = name {
-        let made = shelf.make(name, Kind::JudyL, 1);
-        assert!(rt; made.is_ok());
+fn make(rt: &impl Abort, shelf: &mut Shelf, name: &[u8]) {
+    match Name::new(name) {
+        Some(name) => assert!(rt; shelf.make(name, Kind::JudyL, 1).is_ok()),
+        None => assert!(rt; false),
     }
 }

@@ -1,8 +1,13 @@
 //! Rows of dumps: the bytes of a store, the faults of bytes that are none, and pipes that fail.
 
 use crate::check::check_answers;
-use judy_pipe::{MemSink, MemSource, SinkTrouble, SourceTrouble};
-use judy_shelf::{Array, DumpFault, LoadFault, Name, Shelf, dump, load};
+use crate::dump_checks::{
+    Format, MOST, check_all_changed, check_bytes, check_cut_off, check_dump, check_failing,
+    check_fault, check_load, check_reload, loaded,
+};
+use judy_pipe::{MemSink, SinkTrouble, SourceTrouble};
+use judy_shelf::{Array, DumpFault, LoadFault, Name, Shelf, dump};
+use judy_word::InsertError;
 use std::alloc::Global;
 use std::process::Abort;
 
@@ -10,171 +15,87 @@ use std::process::Abort;
 const SMALLEST: &[u8; 35] =
     b"JDY1\x00\x00\x00\x01\x01a\x01\x00\x00\x00\x00\xff\xff\xff\xff\x00\x00\x00\x00\x00\x00\x00\x01\x00\x00\x00\x00\x00\x00\x00\x01";
 
-// Dumps the shelf, whole or up to where the sink fails.
-fn check_dump<R: Abort>(
-    rt: &R,
-    shelf: &Shelf,
-    trouble: SinkTrouble,
-    end: Result<(), DumpFault>,
-    bytes: &[u8],
-) {
-    let mut sink = MemSink::<64>::new(64, trouble);
-    assert_eq!(rt; dump(shelf, &mut sink), end);
-    assert_eq!(rt; sink.bytes(), bytes);
-}
-
-// Loads bytes one by one and compares the fault, if there is one.
-fn check_load<R: Abort>(
-    rt: &R,
-    alloc: Global,
-    bytes: &[u8],
-    trouble: SourceTrouble,
-    fault: Option<LoadFault>,
-) {
-    let mut source = MemSource::new(bytes, 1, trouble);
-    assert_eq!(rt; load(alloc, &mut source).err(), fault);
+// The shelf of which it is the dump.
+fn smallest(rt: &impl Abort, alloc: Global) -> Shelf {
+    let mut shelf = Shelf::new(alloc);
+    check_answers(rt, &mut shelf, b"make a judy1\nset a 1\n", b"ok\n1\n");
+    shelf
 }
 
 #[test]
 fn smallest_dumps(rt: HostRuntime) {
-    let mut shelf = Shelf::new(rt.alloc());
-    check_dump(
-        &rt,
-        &shelf,
-        SinkTrouble::Never,
-        Ok(()),
-        b"JDY1\x00\x00\x00\x00",
-    );
-    check_answers(&rt, &mut shelf, b"make a judy1\nset a 1\n", b"ok\n1\n");
-    check_dump(&rt, &shelf, SinkTrouble::Never, Ok(()), SMALLEST);
-
-    // What is loaded is dumped as the same bytes.
-    let mut source = MemSource::new(SMALLEST, 1, SourceTrouble::Never);
-    match load(rt.alloc(), &mut source) {
-        Ok(loaded) => check_dump(&rt, &loaded, SinkTrouble::Never, Ok(()), SMALLEST),
-        Err(_) => assert!(rt; false),
-    }
+    let empty = b"JDY1\x00\x00\x00\x00";
+    check_bytes(&rt, &Shelf::new(rt.alloc()), Format::First, empty);
+    check_bytes(&rt, &smallest(&rt, rt.alloc()), Format::First, SMALLEST);
+    check_reload(&rt, rt.alloc(), Format::First, SMALLEST, 1);
 }
 
-// Bytes that are no dump, with their fault.
-const FAULTY: [(&[u8], LoadFault); 14] = [
-    (b"", LoadFault::Truncated),
-    (b"JDY3\x00\x00\x00\x00", LoadFault::BadMagic),
-    (b"JDY1\x00\x00\x00\x41", LoadFault::TooMany),
+// Bytes that are no dump: a front of the smallest, and what stands behind it, with their fault.
+const FAULTY: [(usize, &[u8], LoadFault); 13] = [
+    (0, b"", LoadFault::Truncated),
+    (0, b"JDY3\0\0\0\0", LoadFault::BadMagic),
+    (4, b"\0\0\0A", LoadFault::TooMany),
+    (35, b"\0", LoadFault::Trailing),
+    (8, b"\0", LoadFault::BadName),
+    (8, b"!", LoadFault::BadName),
+    (9, b"!", LoadFault::BadName),
+    (10, b"\x05", LoadFault::BadKind),
+    (11, b"\0\0\0\0\0\0\0\0", LoadFault::BadLimit),
+    (19, b"\0\0\0\x01\0\0\0\0", LoadFault::BadCount),
     (
-        b"KDY1\x00\x00\x00\x01\x01a\x01\x00\x00\x00\x00\xff\xff\xff\xff\x00\x00\x00\x00\x00\x00\x00\x01\x00\x00\x00\x00\x00\x00\x00\x01",
-        LoadFault::BadMagic,
-    ),
-    (
-        b"JDY1\x00\x00\x00\x01\x01a\x01\x00\x00\x00\x00\xff\xff\xff\xff\x00\x00\x00\x00\x00\x00\x00\x01\x00\x00\x00\x00\x00\x00\x00\x01\x00",
-        LoadFault::Trailing,
-    ),
-    (b"JDY1\x00\x00\x00\x01\x00", LoadFault::BadName),
-    (b"JDY1\x00\x00\x00\x01\x21", LoadFault::BadName),
-    (b"JDY1\x00\x00\x00\x01\x01!", LoadFault::BadName),
-    (b"JDY1\x00\x00\x00\x01\x01a\x05", LoadFault::BadKind),
-    (
-        b"JDY1\x00\x00\x00\x01\x01a\x01\x00\x00\x00\x00\x00\x00\x00\x00",
-        LoadFault::BadLimit,
-    ),
-    (
-        b"JDY1\x00\x00\x00\x01\x01a\x01\x00\x00\x00\x00\xff\xff\xff\xff\x00\x00\x00\x01\x00\x00\x00\x00",
-        LoadFault::BadCount,
-    ),
-    (
-        b"JDY1\x00\x00\x00\x01\x01a\x01\x00\x00\x00\x00\xff\xff\xff\xff\x00\x00\x00\x00\x00\x00\x00\x02\x00\x00\x00\x00\x00\x00\x00\x02\x00\x00\x00\x00\x00\x00\x00\x01",
+        19,
+        b"\0\0\0\0\0\0\0\x02\0\0\0\0\0\0\0\x02\0\0\0\0\0\0\0\x01",
         LoadFault::BadOrder,
     ),
     (
-        b"JDY1\x00\x00\x00\x01\x01a\x01\x00\x00\x00\x00\xff\xff\xff\xff\x00\x00\x00\x00\x00\x00\x00\x02\x00\x00\x00\x00\x00\x00\x00\x01\x00\x00\x00\x00\x00\x00\x00\x01",
+        19,
+        b"\0\0\0\0\0\0\0\x02\0\0\0\0\0\0\0\x01\0\0\0\0\0\0\0\x01",
         LoadFault::BadOrder,
     ),
     (
-        b"JDY1\x00\x00\x00\x02\x01a\x01\x00\x00\x00\x00\xff\xff\xff\xff\x00\x00\x00\x00\x00\x00\x00\x00\x01a",
+        4,
+        b"\0\0\0\x02\x01a\x01\0\0\0\0\xff\xff\xff\xff\0\0\0\0\0\0\0\0\x01a",
         LoadFault::SameName,
     ),
 ];
 
+// A front of the smallest dump with other bytes behind it has this fault.
+fn check_front(rt: &impl Abort, alloc: Global, len: usize, bytes: &[u8], fault: LoadFault) {
+    assert!(rt; len <= SMALLEST.len() && bytes.len() <= MOST - SMALLEST.len());
+    let mut changed = [0; MOST];
+    changed[..len].copy_from_slice(&SMALLEST[..len]);
+    changed[len..len + bytes.len()].copy_from_slice(bytes);
+    check_fault(rt, alloc, &changed[..len + bytes.len()], fault);
+}
+
 #[test]
 fn dump_faults(rt: HostRuntime) {
-    for (bytes, fault) in &FAULTY {
-        check_load(&rt, rt.alloc(), bytes, SourceTrouble::Never, Some(*fault));
+    for (len, bytes, fault) in FAULTY {
+        check_front(&rt, rt.alloc(), len, bytes, fault);
     }
-    for len in 0..SMALLEST.len() {
-        check_load(
-            &rt,
-            rt.alloc(),
-            &SMALLEST[..len],
-            SourceTrouble::Never,
-            Some(LoadFault::Truncated),
-        );
-    }
+    check_change(&rt, rt.alloc(), SMALLEST, 0, b"K", LoadFault::BadMagic);
+    check_cut_off(&rt, rt.alloc(), SMALLEST);
 }
 
 #[test]
 fn failing_at_each_byte(rt: HostRuntime) {
-    let mut shelf = Shelf::new(rt.alloc());
-    check_answers(&rt, &mut shelf, b"make a judy1\nset a 1\n", b"ok\n1\n");
-    for at in 0..SMALLEST.len() {
-        check_dump(
-            &rt,
-            &shelf,
-            SinkTrouble::Fails { at },
-            Err(DumpFault::Write),
-            &SMALLEST[..at],
-        );
-        check_dump(
-            &rt,
-            &shelf,
-            SinkTrouble::TakesNothing { at },
-            Err(DumpFault::Write),
-            &SMALLEST[..at],
-        );
-    }
-    for at in 0..=SMALLEST.len() {
-        check_load(
-            &rt,
-            rt.alloc(),
-            SMALLEST,
-            SourceTrouble::Fails { at },
-            Some(LoadFault::Read),
-        );
-    }
+    let shelf = smallest(&rt, rt.alloc());
+    check_failing(&rt, rt.alloc(), &shelf, Format::First, SMALLEST);
 }
 
 #[test]
 fn interrupted_dumps(rt: HostRuntime) {
-    let mut shelf = Shelf::new(rt.alloc());
-    check_answers(&rt, &mut shelf, b"make a judy1\nset a 1\n", b"ok\n1\n");
+    let shelf = smallest(&rt, rt.alloc());
     let at = 20;
-    check_dump(
-        &rt,
-        &shelf,
-        SinkTrouble::Interrupts { at, times: 999 },
-        Ok(()),
-        SMALLEST,
-    );
-    check_dump(
-        &rt,
-        &shelf,
-        SinkTrouble::Interrupts { at, times: 1000 },
-        Err(DumpFault::Write),
-        &SMALLEST[..at],
-    );
-    check_load(
-        &rt,
-        rt.alloc(),
-        SMALLEST,
-        SourceTrouble::Interrupts { at, times: 999 },
-        None,
-    );
-    check_load(
-        &rt,
-        rt.alloc(),
-        SMALLEST,
-        SourceTrouble::Interrupts { at, times: 1000 },
-        Some(LoadFault::Read),
-    );
+    let less = SinkTrouble::Interrupts { at, times: 999 };
+    check_dump(&rt, &shelf, Format::First, less, Ok(()), SMALLEST);
+    let more = SinkTrouble::Interrupts { at, times: 1000 };
+    let fault = Err(DumpFault::Write);
+    check_dump(&rt, &shelf, Format::First, more, fault, &SMALLEST[..at]);
+    for (times, fault) in [(999, None), (1000, Some(LoadFault::Read))] {
+        let trouble = SourceTrouble::Interrupts { at, times };
+        check_load(&rt, rt.alloc(), SMALLEST, trouble, fault);
+    }
 }
 
 // A judyl array, a judysl array of three places and a judyhs array, made in no order of their keys.
@@ -184,99 +105,78 @@ const STORE_OF_THREE: &[u8] =
 const DUMP_OF_THREE: &[u8; 135] =
     b"JDY1\x00\x00\x00\x03\x01l\x02\x00\x00\x00\x00\xff\xff\xff\xff\x00\x00\x00\x00\x00\x00\x00\x01\x00\x00\x00\x00\x00\x00\x00\x05\x00\x00\x00\x00\x00\x00\x00\x09\x01s\x03\x00\x00\x00\x00\x00\x00\x00\x03\x00\x00\x00\x00\x00\x00\x00\x02\x00\x00\x00\x00\x00\x00\x00\x00\x00\x01\x00\x02ab\x00\x00\x00\x00\x00\x00\x00\x02\x01h\x04\x00\x00\x00\x00\xff\xff\xff\xff\x00\x00\x00\x00\x00\x00\x00\x03\x00\x00\x00\x00\x00\x00\x00\x00\x00\x09\x00\x01\x00\x00\x00\x00\x00\x00\x00\x00\x07\x00\x01b\x00\x00\x00\x00\x00\x00\x00\x08";
 
-// Dumps a store whose dump has at most 135 bytes, and compares them.
-fn check_bytes<R: Abort>(rt: &R, shelf: &Shelf, bytes: &[u8]) {
-    let mut sink = MemSink::<135>::new(135, SinkTrouble::Never);
-    assert_eq!(rt; dump(shelf, &mut sink), Ok(()));
-    assert_eq!(rt; sink.bytes(), bytes);
-}
-
-// The dump of the store of three with a byte changed is loaded, and what it gives is dumped as the same bytes; or
-// it has a fault.
-fn check_changed<R: Abort>(rt: &R, alloc: Global, bytes: &[u8]) {
-    let mut source = MemSource::new(bytes, 64, SourceTrouble::Never);
-    if let Ok(loaded) = load(alloc, &mut source) {
-        check_bytes(rt, &loaded, bytes);
-    }
+/// The shelf of which it is the dump.
+pub fn store_of_three(rt: &impl Abort, alloc: Global) -> Shelf {
+    let mut shelf = Shelf::new(alloc);
+    let answers = b"ok\nwas 0\nok\nwas 0\nwas 0\nok\nwas 0\nwas 0\nwas 0\n";
+    check_answers(rt, &mut shelf, STORE_OF_THREE, answers);
+    shelf
 }
 
 // With `smallest_dumps` this is also what row refused-dump-load-make gives while there is memory.
 #[test]
 fn dump_and_sorted(rt: HostRuntime) {
-    let mut shelf = Shelf::new(rt.alloc());
-    check_answers(
-        &rt,
-        &mut shelf,
-        STORE_OF_THREE,
-        b"ok\nwas 0\nok\nwas 0\nwas 0\nok\nwas 0\nwas 0\nwas 0\n",
-    );
-    check_bytes(&rt, &shelf, DUMP_OF_THREE);
+    let shelf = store_of_three(&rt, rt.alloc());
+    check_bytes(&rt, &shelf, Format::First, DUMP_OF_THREE);
+    check_reload(&rt, rt.alloc(), Format::First, DUMP_OF_THREE, 64);
+}
 
-    // What is loaded is dumped as the same bytes.
-    let mut source = MemSource::new(DUMP_OF_THREE, 64, SourceTrouble::Never);
-    match load(rt.alloc(), &mut source) {
-        Ok(loaded) => check_bytes(&rt, &loaded, DUMP_OF_THREE),
-        Err(_) => assert!(rt; false),
-    }
+// Other bytes at a place of the dump of the store of three, with their fault.
+const CHANGES: [(usize, &[u8], LoadFault); 5] = [
+    (62, b"\x04\x01", LoadFault::BadKey),
+    (75, b"\x00", LoadFault::BadKey),
+    (126, b"\x00", LoadFault::BadOrder),
+    (44, b"l", LoadFault::SameName),
+    (46, b"\x00\x00\x00\x00\x00\x00\x00\x01", LoadFault::BadCount),
+];
+
+// A dump with other bytes at a place has this fault.
+fn check_change(
+    rt: &impl Abort,
+    alloc: Global,
+    dump: &[u8],
+    at: usize,
+    bytes: &[u8],
+    fault: LoadFault,
+) {
+    assert!(rt; dump.len() <= MOST && bytes.len() <= dump.len() && at <= dump.len() - bytes.len());
+    let mut changed = [0; MOST];
+    changed[..dump.len()].copy_from_slice(dump);
+    changed[at..at + bytes.len()].copy_from_slice(bytes);
+    check_fault(rt, alloc, &changed[..dump.len()], fault);
 }
 
 #[test]
 fn faults_in_store_of_three(rt: HostRuntime) {
-    let table = [
-        (62, b"\x04\x01".as_slice(), LoadFault::BadKey),
-        (75, b"\x00", LoadFault::BadKey),
-        (126, b"\x00", LoadFault::BadOrder),
-        (44, b"l", LoadFault::SameName),
-        (46, b"\x00\x00\x00\x00\x00\x00\x00\x01", LoadFault::BadCount),
-    ];
-    for (at, bytes, fault) in &table {
-        let mut changed = *DUMP_OF_THREE;
-        changed[*at..*at + bytes.len()].copy_from_slice(bytes);
-        check_load(
-            &rt,
-            rt.alloc(),
-            &changed,
-            SourceTrouble::Never,
-            Some(*fault),
-        );
+    for (at, bytes, fault) in CHANGES {
+        check_change(&rt, rt.alloc(), DUMP_OF_THREE, at, bytes, fault);
     }
 }
 
-// The dump of the store of three with another byte at a place has this fault.
-fn check_fault<R: Abort>(rt: &R, alloc: Global, at: usize, byte: u8, fault: LoadFault) {
-    let mut changed = *DUMP_OF_THREE;
-    assert!(rt; at < changed.len());
-    changed[at] = byte;
-    check_load(rt, alloc, &changed, SourceTrouble::Never, Some(fault));
-}
+// The number of arrays ends at byte 7, the number of keys of `l` at byte 26.
+const OTHER_NUMBERS: [(usize, &[u8], LoadFault); 4] = [
+    (7, b"\x02", LoadFault::Trailing),
+    (7, b"\x04", LoadFault::Truncated),
+    (26, b"\x02", LoadFault::BadName),
+    (26, b"\x00", LoadFault::BadName),
+];
 
 #[test]
 fn changed_dumps(rt: HostRuntime) {
-    // The number of arrays ends at byte 7, the number of keys of `l` at byte 26.
-    check_fault(&rt, rt.alloc(), 7, 2, LoadFault::Trailing);
-    check_fault(&rt, rt.alloc(), 7, 4, LoadFault::Truncated);
-    check_fault(&rt, rt.alloc(), 26, 2, LoadFault::BadName);
-    check_fault(&rt, rt.alloc(), 26, 0, LoadFault::BadName);
-    for len in 0..DUMP_OF_THREE.len() {
-        check_load(
-            &rt,
-            rt.alloc(),
-            &DUMP_OF_THREE[..len],
-            SourceTrouble::Never,
-            Some(LoadFault::Truncated),
-        );
+    for (at, bytes, fault) in OTHER_NUMBERS {
+        check_change(&rt, rt.alloc(), DUMP_OF_THREE, at, bytes, fault);
     }
-    for at in 0..DUMP_OF_THREE.len() {
-        for byte in 0..=255 {
-            let mut changed = *DUMP_OF_THREE;
-            changed[at] = byte;
-            check_changed(&rt, rt.alloc(), &changed);
-        }
-    }
+    check_cut_off(&rt, rt.alloc(), DUMP_OF_THREE);
+    check_all_changed(&rt, rt.alloc(), Format::First, DUMP_OF_THREE);
+}
+
+// Compares whether a call puts a word in with what is wanted.
+fn put_in(rt: &impl Abort, found: Result<bool, InsertError>) {
+    assert_eq!(rt; found, Ok(true));
 }
 
 // Puts a word into an array over words.
-fn put_word<R: Abort>(rt: &R, shelf: &mut Shelf, name: &[u8], word: u64) {
+fn put_word(rt: &impl Abort, shelf: &mut Shelf, name: &[u8], word: u64) {
     let added = match Name::new(name) {
         Some(name) => match shelf.get_mut(&name) {
             Some(Array::Judy1(set)) => set.set(word),
@@ -285,7 +185,7 @@ fn put_word<R: Abort>(rt: &R, shelf: &mut Shelf, name: &[u8], word: u64) {
         },
         None => Ok(false),
     };
-    assert_eq!(rt; added, Ok(true));
+    put_in(rt, added);
 }
 
 // Whether an array over words is loose, and how many bitmap leaves it has.
@@ -298,24 +198,32 @@ fn nodes_of(shelf: &Shelf, name: &[u8]) -> Option<(bool, u128)> {
     }
 }
 
-// Dumps and loads two arrays of so many words, and asks both for their nodes.
-fn check_loaded<R: Abort>(rt: &R, alloc: Global, count: u64, bitmap_leaves: u128) {
+// Compares the nodes of both arrays: they aren't loose.
+fn check_nodes(rt: &impl Abort, shelf: &Shelf, bitmap_leaves: u128) {
+    for name in [b"a", b"l"] {
+        assert_eq!(rt; nodes_of(shelf, name), Some((false, bitmap_leaves)));
+    }
+}
+
+// Two arrays of so many words.
+fn two_of(rt: &impl Abort, alloc: Global, count: u64) -> Shelf {
     let mut shelf = Shelf::new(alloc);
     check_answers(rt, &mut shelf, b"make a judy1\nmake l judyl\n", b"ok\nok\n");
     for word in 0..count {
         put_word(rt, &mut shelf, b"a", word);
         put_word(rt, &mut shelf, b"l", word);
     }
+    shelf
+}
+
+// Dumps and loads two arrays of so many words, and asks both for their nodes.
+fn check_loaded(rt: &impl Abort, alloc: Global, count: u64, bitmap_leaves: u128) {
+    let shelf = two_of(rt, alloc, count);
     let mut sink = MemSink::<8192>::new(8192, SinkTrouble::Never);
-    assert_eq!(rt; dump(&shelf, &mut sink), Ok(()));
-    let mut source = MemSource::new(sink.bytes(), 64, SourceTrouble::Never);
-    match load(alloc, &mut source) {
-        Ok(loaded) => {
-            for name in [b"a", b"l"] {
-                assert_eq!(rt; nodes_of(&loaded, name), Some((false, bitmap_leaves)));
-            }
-        }
-        Err(_) => assert!(rt; false),
+    assert!(rt; dump(&shelf, &mut sink).is_ok());
+    match loaded(rt, alloc, sink.bytes(), 64) {
+        Some(again) => check_nodes(rt, &again, bitmap_leaves),
+        None => assert!(rt; false),
     }
 }
 

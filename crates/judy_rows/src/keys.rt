@@ -1,125 +1,124 @@
 //! Rows of scripts over byte strings.
 
-use crate::check::{check_answers, check_lines};
+use crate::check::{check_answers, check_lines, check_table};
 use judy_shelf::Shelf;
 use std::process::Abort;
 
+const BYTE_KEYS: &[u8] = b"\
+make h judyhs > ok
+ins h # 1 > was 0
+ins h #00 2 > was 0
+ins h #0000 3 > was 0
+get h #00 > 2
+get h = > 1
+del h # > 1
+get h # > none
+list > names h:judyhs:2
+first h #00 > error wrong-kind
+";
+
 #[test]
 fn byte_keys(rt: HostRuntime) {
-    let mut shelf = Shelf::new(rt.alloc());
-    let table = [
-        (b"make h judyhs".as_slice(), b"ok\n".as_slice()),
-        (b"ins h # 1", b"was 0\n"),
-        (b"ins h #00 2", b"was 0\n"),
-        (b"ins h #0000 3", b"was 0\n"),
-        (b"get h #00", b"2\n"),
-        (b"get h =", b"1\n"),
-        (b"del h #", b"1\n"),
-        (b"get h #", b"none\n"),
-        (b"list", b"names h:judyhs:2\n"),
-        (b"first h #00", b"error wrong-kind\n"),
-    ];
-    check_lines(&rt, &mut shelf, &table);
+    check_table(&rt, rt.alloc(), BYTE_KEYS);
 }
+
+const BAD_BYTE_KEYS: &[u8] = b"\
+make h judyhs 2 > ok
+ins h abc x > error bad-key
+ins h #0 1 > error bad-key
+ins h #0g 1 > error bad-key
+ins h =a x > error bad-word
+ins h =kl 5 > was 0
+put h #6B6c 6 > was 5
+put h #6B6d 6 > none
+ins h #FF 1 > was 0
+get h #ff > 1
+ins h =m 1 > error full
+ins h =kl 7 > was 6
+fe h 0 > error wrong-kind
+count h x y > error wrong-kind
+free h > freed 2
+";
 
 // A key is one of the kind's before the value beside it is read, and its digits are of either case.
 #[test]
 fn bad_byte_keys(rt: HostRuntime) {
-    let mut shelf = Shelf::new(rt.alloc());
-    let table = [
-        (b"make h judyhs 2".as_slice(), b"ok\n".as_slice()),
-        (b"ins h abc x", b"error bad-key\n"),
-        (b"ins h #0 1", b"error bad-key\n"),
-        (b"ins h #0g 1", b"error bad-key\n"),
-        (b"ins h =a x", b"error bad-word\n"),
-        (b"ins h =kl 5", b"was 0\n"),
-        (b"put h #6B6c 6", b"was 5\n"),
-        (b"put h #6B6d 6", b"none\n"),
-        (b"ins h #FF 1", b"was 0\n"),
-        (b"get h #ff", b"1\n"),
-        (b"ins h =m 1", b"error full\n"),
-        (b"ins h =kl 7", b"was 6\n"),
-        (b"fe h 0", b"error wrong-kind\n"),
-        (b"count h x y", b"error wrong-kind\n"),
-        (b"free h", b"freed 2\n"),
-    ];
-    check_lines(&rt, &mut shelf, &table);
+    check_table(&rt, rt.alloc(), BAD_BYTE_KEYS);
 }
+
+// An array over strings with six keys, put in in no order.
+const SIX_KEYS: &[u8] = b"\
+make s judysl > ok
+ins s #ff 6 > was 0
+ins s =abcdefgh 3 > was 0
+ins s = 1 > was 0
+ins s =zz 5 > was 0
+ins s =abcdefghi 4 > was 0
+ins s =abcdefg 2 > was 0
+";
+
+const STRING_ORDER: &[u8] = b"\
+first s = > = 1
+next s = > =abcdefg 2
+next s =abcdefg > =abcdefgh 3
+next s =abcdefgh > =abcdefghi 4
+next s =abcdefghi > =zz 5
+next s =zz > #ff 6
+next s #FF > none
+prev s = > none
+last s #ffff > #ff 6
+";
 
 #[test]
 fn string_order(rt: HostRuntime) {
-    let mut shelf = Shelf::new(rt.alloc());
-    let table = [
-        (b"make s judysl".as_slice(), b"ok\n".as_slice()),
-        (b"ins s #ff 6", b"was 0\n"),
-        (b"ins s =abcdefgh 3", b"was 0\n"),
-        (b"ins s = 1", b"was 0\n"),
-        (b"ins s =zz 5", b"was 0\n"),
-        (b"ins s =abcdefghi 4", b"was 0\n"),
-        (b"ins s =abcdefg 2", b"was 0\n"),
-        (b"first s =", b"= 1\n"),
-        (b"next s =", b"=abcdefg 2\n"),
-        (b"next s =abcdefg", b"=abcdefgh 3\n"),
-        (b"next s =abcdefgh", b"=abcdefghi 4\n"),
-        (b"next s =abcdefghi", b"=zz 5\n"),
-        (b"next s =zz", b"#ff 6\n"),
-        (b"next s #FF", b"none\n"),
-        (b"prev s =", b"none\n"),
-        (b"last s #ffff", b"#ff 6\n"),
-    ];
-    check_lines(&rt, &mut shelf, &table);
+    let mut shelf = check_table(&rt, rt.alloc(), SIX_KEYS);
+    check_lines(&rt, &mut shelf, STRING_ORDER);
 }
+
+const STRING_COUNTS: &[u8] = b"\
+make h judyhs > ok
+count s = #ff > 6
+count s =abcdefg =abcdefgh > 2
+count s =b #fe > 1
+count s =zz = > 0
+bycount s 1 > = 1
+bycount s 4 > =abcdefghi 4
+bycount s 6 > #ff 6
+bycount s 7 > none
+bycount s 0 > none
+count s =a x > error bad-key
+bycount s =a > error bad-word
+bycount h 1 > error wrong-kind
+";
 
 // Over the keys of row `string_order`, beside an array without order.
 #[test]
 fn string_counts(rt: HostRuntime) {
-    let mut shelf = Shelf::new(rt.alloc());
-    let table = [
-        (b"make s judysl".as_slice(), b"ok\n".as_slice()),
-        (b"ins s #ff 6", b"was 0\n"),
-        (b"ins s =abcdefgh 3", b"was 0\n"),
-        (b"ins s = 1", b"was 0\n"),
-        (b"ins s =zz 5", b"was 0\n"),
-        (b"ins s =abcdefghi 4", b"was 0\n"),
-        (b"ins s =abcdefg 2", b"was 0\n"),
-        (b"make h judyhs", b"ok\n"),
-        (b"count s = #ff", b"6\n"),
-        (b"count s =abcdefg =abcdefgh", b"2\n"),
-        (b"count s =b #fe", b"1\n"),
-        (b"count s =zz =", b"0\n"),
-        (b"bycount s 1", b"= 1\n"),
-        (b"bycount s 4", b"=abcdefghi 4\n"),
-        (b"bycount s 6", b"#ff 6\n"),
-        (b"bycount s 7", b"none\n"),
-        (b"bycount s 0", b"none\n"),
-        (b"count s =a x", b"error bad-key\n"),
-        (b"bycount s =a", b"error bad-word\n"),
-        (b"bycount h 1", b"error wrong-kind\n"),
-    ];
-    check_lines(&rt, &mut shelf, &table);
+    let mut shelf = check_table(&rt, rt.alloc(), SIX_KEYS);
+    check_lines(&rt, &mut shelf, STRING_COUNTS);
 }
+
+const STRING_COUNTS_AFTER_CHANGES: &[u8] = b"\
+make s judysl 3 > ok
+ins s =abcdefghijklmnopq 1 > was 0
+ins s =abcdefghijklmnopr 2 > was 0
+ins s =abcdefgh 3 > was 0
+count s = #ff > 3
+count s =abcdefgh =abcdefghijklmnopq > 2
+ins s =b 4 > error full
+count s = #ff > 3
+del s =abcdefghijklmnopq > 1
+count s = #ff > 2
+bycount s 2 > =abcdefghijklmnopr 2
+free s > freed 2
+count s = #ff > 0
+bycount s 1 > none
+";
 
 // A key that comes and goes two levels down is counted while it is there.
 #[test]
 fn string_counts_after_changes(rt: HostRuntime) {
-    let mut shelf = Shelf::new(rt.alloc());
-    let table = [
-        (b"make s judysl 3".as_slice(), b"ok\n".as_slice()),
-        (b"ins s =abcdefghijklmnopq 1", b"was 0\n"),
-        (b"ins s =abcdefghijklmnopr 2", b"was 0\n"),
-        (b"ins s =abcdefgh 3", b"was 0\n"),
-        (b"count s = #ff", b"3\n"),
-        (b"count s =abcdefgh =abcdefghijklmnopq", b"2\n"),
-        (b"ins s =b 4", b"error full\n"),
-        (b"count s = #ff", b"3\n"),
-        (b"del s =abcdefghijklmnopq", b"1\n"),
-        (b"count s = #ff", b"2\n"),
-        (b"bycount s 2", b"=abcdefghijklmnopr 2\n"),
-        (b"free s", b"freed 2\n"),
-        (b"count s = #ff", b"0\n"),
-        (b"bycount s 1", b"none\n"),
-    ];
-    check_lines(&rt, &mut shelf, &table);
+    check_table(&rt, rt.alloc(), STRING_COUNTS_AFTER_CHANGES);
 }
 
 // The line `ins s =`, 1,025 letters, ` 1`.
@@ -130,59 +129,62 @@ fn too_long_key() -> [u8; 1034] {
     line
 }
 
+const BAD_KEYS: &[u8] = b"\
+make s judysl > ok
+ins s =abcdefghij 1 > was 0
+ins s #00 1 > error bad-key
+get s #00 > error bad-key
+get s #0 > error bad-key
+get s abc > error bad-key
+";
+
+const BAD_KEYS_LATER: &[u8] = b"\
+ins s #00 x > error bad-key
+ins s =a x > error bad-word
+del s =abcd > 0
+fe s 0 > error wrong-kind
+count s =a =b > 1
+list > names s:judysl:1
+";
+
 #[test]
 fn bad_keys(rt: HostRuntime) {
-    let mut shelf = Shelf::new(rt.alloc());
-    let long = too_long_key();
-    let table = [
-        (b"make s judysl".as_slice(), b"ok\n".as_slice()),
-        (b"ins s =abcdefghij 1", b"was 0\n"),
-        (b"ins s #00 1", b"error bad-key\n"),
-        (b"get s #00", b"error bad-key\n"),
-        (b"get s #0", b"error bad-key\n"),
-        (b"get s abc", b"error bad-key\n"),
-        (&long, b"error bad-key\n"),
-        (b"ins s #00 x", b"error bad-key\n"),
-        (b"ins s =a x", b"error bad-word\n"),
-        (b"del s =abcd", b"0\n"),
-        (b"fe s 0", b"error wrong-kind\n"),
-        (b"count s =a =b", b"1\n"),
-        (b"list", b"names s:judysl:1\n"),
-    ];
-    check_lines(&rt, &mut shelf, &table);
+    let mut shelf = check_table(&rt, rt.alloc(), BAD_KEYS);
+    check_answers(&rt, &mut shelf, &too_long_key(), b"error bad-key\n");
+    check_lines(&rt, &mut shelf, BAD_KEYS_LATER);
 }
+
+const EVERY_COMMAND_OF_A_JUDYSL: &[u8] = b"\
+make s judysl 2 > ok
+put s =a 1 > none
+ins s #61 1 > was 0
+put s =a 2 > was 1
+ins s #6120Ff 3 > was 0
+ins s =c 4 > error full
+ins s =a 5 > was 2
+first s =b > none
+first s #61 > =a 5
+next s =a > #6120ff 3
+last s =zz > #6120ff 3
+prev s #6120FF > =a 5
+del s #6120ff > 1
+del s #6120ff > 0
+next s =a > none
+next s #6100 > error bad-key
+test s =a > error wrong-kind
+bycount s abc > error bad-word
+free s > freed 1
+get s =a > none
+";
 
 // The same answers as of any map, and the key of a scan is printed as the key found is, in lower case.
 #[test]
 fn every_command_of_a_judysl(rt: HostRuntime) {
-    let mut shelf = Shelf::new(rt.alloc());
-    let table = [
-        (b"make s judysl 2".as_slice(), b"ok\n".as_slice()),
-        (b"put s =a 1", b"none\n"),
-        (b"ins s #61 1", b"was 0\n"),
-        (b"put s =a 2", b"was 1\n"),
-        (b"ins s #6120Ff 3", b"was 0\n"),
-        (b"ins s =c 4", b"error full\n"),
-        (b"ins s =a 5", b"was 2\n"),
-        (b"first s =b", b"none\n"),
-        (b"first s #61", b"=a 5\n"),
-        (b"next s =a", b"#6120ff 3\n"),
-        (b"last s =zz", b"#6120ff 3\n"),
-        (b"prev s #6120FF", b"=a 5\n"),
-        (b"del s #6120ff", b"1\n"),
-        (b"del s #6120ff", b"0\n"),
-        (b"next s =a", b"none\n"),
-        (b"next s #6100", b"error bad-key\n"),
-        (b"test s =a", b"error wrong-kind\n"),
-        (b"bycount s abc", b"error bad-word\n"),
-        (b"free s", b"freed 1\n"),
-        (b"get s =a", b"none\n"),
-    ];
-    check_lines(&rt, &mut shelf, &table);
+    check_table(&rt, rt.alloc(), EVERY_COMMAND_OF_A_JUDYSL);
 }
 
 // Puts in the keys of one byte from 0x21 to 0x41.
-fn insert_signs<R: Abort>(rt: &R, shelf: &mut Shelf) {
+fn insert_signs(rt: &impl Abort, shelf: &mut Shelf) {
     let mut line = *b"ins a =! 1";
     for sign in b'!'..=b'A' {
         line[7] = sign;
@@ -191,7 +193,7 @@ fn insert_signs<R: Abort>(rt: &R, shelf: &mut Shelf) {
 }
 
 // Takes them out.
-fn delete_signs<R: Abort>(rt: &R, shelf: &mut Shelf) {
+fn delete_signs(rt: &impl Abort, shelf: &mut Shelf) {
     let mut line = *b"del a =!";
     for sign in b'!'..=b'A' {
         line[7] = sign;
@@ -199,26 +201,27 @@ fn delete_signs<R: Abort>(rt: &R, shelf: &mut Shelf) {
     }
 }
 
+const REFUSED_STRING_INSERT: &[u8] = b"\
+make s judysl > ok
+ins s =abcdefgh 3 > was 0
+get s =abcdefghi > none
+ins s =abcdefghi 4 > was 0
+get s =abcdefgh > 3
+make a judysl > ok
+";
+
+const REFUSED_STRING_INSERT_LATER: &[u8] = b"\
+drop a > freed 0
+make a judyhs > ok
+";
+
 // The row with ample memory.
 #[test]
 fn refused_string_insert(rt: HostRuntime) {
-    let mut shelf = Shelf::new(rt.alloc());
-    let table = [
-        (b"make s judysl".as_slice(), b"ok\n".as_slice()),
-        (b"ins s =abcdefgh 3", b"was 0\n"),
-        (b"get s =abcdefghi", b"none\n"),
-        (b"ins s =abcdefghi 4", b"was 0\n"),
-        (b"get s =abcdefgh", b"3\n"),
-        (b"make a judysl", b"ok\n"),
-    ];
-    check_lines(&rt, &mut shelf, &table);
+    let mut shelf = check_table(&rt, rt.alloc(), REFUSED_STRING_INSERT);
     insert_signs(&rt, &mut shelf);
     delete_signs(&rt, &mut shelf);
-    let table = [
-        (b"drop a".as_slice(), b"freed 0\n".as_slice()),
-        (b"make a judyhs", b"ok\n"),
-    ];
-    check_lines(&rt, &mut shelf, &table);
+    check_lines(&rt, &mut shelf, REFUSED_STRING_INSERT_LATER);
     insert_signs(&rt, &mut shelf);
     delete_signs(&rt, &mut shelf);
     check_answers(&rt, &mut shelf, b"list", b"names s:judysl:2 a:judyhs:0\n");

@@ -11,6 +11,8 @@ mod bad_pairs;
 #[cfg(test)]
 mod check;
 #[cfg(test)]
+mod dump_checks;
+#[cfg(test)]
 mod dumps;
 #[cfg(test)]
 mod faults;

@@ -1,101 +1,90 @@
 //! Rows of lines.
 
 use crate::check::{check_answers, check_run};
+use crate::scripts::FIRST_ANSWERS;
 use judy_pipe::{MemSource, SourceTrouble};
 use judy_shelf::Shelf;
-use std::alloc::{AllocError, Global};
+use std::alloc::Global;
 use std::process::Abort;
 
 // Windows line ends, runs of spaces, and a last line without an LF: the same answers.
+const FORMS: &[u8; 75] =
+    b"make  a judyl\r\n ins a 5 7\r\nins   a  5   9  \r\nget a 5\r\n  get a 6 \r\nput a 6 1";
+
 #[test]
 fn line_forms(rt: HostRuntime) {
-    let mut shelf = Shelf::new(rt.alloc());
-    let script =
-        b"make  a judyl\r\n ins a 5 7\r\nins   a  5   9  \r\nget a 5\r\n  get a 6 \r\nput a 6 1";
-    check_answers(
-        &rt,
-        &mut shelf,
-        script,
-        b"ok\nwas 0\nwas 7\n9\nnone\nnone\n",
-    );
+    check_answers(&rt, &mut Shelf::new(rt.alloc()), FORMS, FIRST_ANSWERS);
 }
 
-// The script that is a line of so many bytes `byte`, an end, and a line that is answered.
-fn check_line<R: Abort>(
-    rt: &R,
-    alloc: Global,
-    byte: u8,
-    count: usize,
-    end: &[u8],
-    answer: &[u8],
-) -> Result<(), AllocError> {
-    let mut script = vec![in alloc; byte; count]?;
-    script.extend_from_slice(end)?;
-    script.extend_from_slice(b"SET\n")?;
-    let mut answers = Vec::new(alloc);
-    answers.extend_from_slice(answer)?;
-    answers.extend_from_slice(b"error unknown-command\n")?;
-    check_answers(rt, &mut Shelf::new(alloc), &script, &answers);
-    Ok(())
-}
-
-#[test]
-fn line_limits(rt: HostRuntime) -> Result<(), AllocError> {
-    check_line(&rt, rt.alloc(), b'x', 4097, b"\n", b"error line-too-long\n")?;
-    check_line(
-        &rt,
-        rt.alloc(),
+// Lines of so many bytes of one value with an end, and a line that is answered: what they answer.
+const LIMITS: [(u8, usize, &[u8], &[u8]); 6] = [
+    (
+        b'x',
+        4097,
+        b"\n",
+        b"error line-too-long\nerror unknown-command\n",
+    ),
+    (
         b'x',
         4096,
         b"\n",
-        b"error unknown-command\n",
-    )?;
-    check_line(
-        &rt,
-        rt.alloc(),
+        b"error unknown-command\nerror unknown-command\n",
+    ),
+    (
         b'x',
         4096,
         b"\r\n",
-        b"error line-too-long\n",
-    )?;
-    check_line(
-        &rt,
-        rt.alloc(),
+        b"error line-too-long\nerror unknown-command\n",
+    ),
+    (
         b'x',
         4095,
         b"\r\n",
-        b"error unknown-command\n",
-    )?;
-    check_line(&rt, rt.alloc(), b';', 4096, b"\n", b"")?;
-    check_line(&rt, rt.alloc(), b';', 4097, b"\n", b"error line-too-long\n")
+        b"error unknown-command\nerror unknown-command\n",
+    ),
+    (b';', 4096, b"\n", b"error unknown-command\n"),
+    (
+        b';',
+        4097,
+        b"\n",
+        b"error line-too-long\nerror unknown-command\n",
+    ),
+];
+
+// The script that is a line of so many bytes `byte`, an end, and a line that is answered.
+fn check_line(rt: &impl Abort, alloc: Global, byte: u8, count: usize, end: &[u8], answers: &[u8]) {
+    assert!(rt; count <= 4097 && end.len() <= 2);
+    let mut script = [byte; 4103];
+    let next = count + end.len();
+    script[count..next].copy_from_slice(end);
+    script[next..next + 4].copy_from_slice(b"SET\n");
+    check_answers(rt, &mut Shelf::new(alloc), &script[..next + 4], answers);
+}
+
+#[test]
+fn line_limits(rt: HostRuntime) {
+    for (byte, count, end, answers) in LIMITS {
+        check_line(&rt, rt.alloc(), byte, count, end, answers);
+    }
+}
+
+// The forms as a source gives them, with the same answers.
+fn check_forms(rt: &impl Abort, alloc: Global, most: usize, trouble: SourceTrouble) {
+    assert!(rt; 0 < most);
+    let mut source = MemSource::new(FORMS, most, trouble);
+    let mut shelf = Shelf::new(alloc);
+    check_run(rt, &mut source, &mut shelf, 1000, Ok(()), FIRST_ANSWERS);
 }
 
 // The row in every two pieces, and byte by byte: the same answers, however the script comes.
 #[test]
 fn line_forms_in_pieces(rt: HostRuntime) {
-    let script =
-        b"make  a judyl\r\n ins a 5 7\r\nins   a  5   9  \r\nget a 5\r\n  get a 6 \r\nput a 6 1";
-    for most in 1..=script.len() {
-        let mut source = MemSource::new(script, most, SourceTrouble::Never);
-        check_run(
-            &rt,
-            &mut source,
-            &mut Shelf::new(rt.alloc()),
-            1000,
-            Ok(()),
-            b"ok\nwas 0\nwas 7\n9\nnone\nnone\n",
-        );
+    for most in 1..=FORMS.len() {
+        check_forms(&rt, rt.alloc(), most, SourceTrouble::Never);
     }
     // An interruption at each place cuts the script there into two pieces.
-    for at in 0..=script.len() {
-        let mut source = MemSource::new(script, 1000, SourceTrouble::Interrupts { at, times: 999 });
-        check_run(
-            &rt,
-            &mut source,
-            &mut Shelf::new(rt.alloc()),
-            1000,
-            Ok(()),
-            b"ok\nwas 0\nwas 7\n9\nnone\nnone\n",
-        );
+    for at in 0..=FORMS.len() {
+        let trouble = SourceTrouble::Interrupts { at, times: 999 };
+        check_forms(&rt, rt.alloc(), 1000, trouble);
     }
 }
