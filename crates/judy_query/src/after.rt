@@ -1,13 +1,12 @@
 //! The key at or after a word.
 
-ghost use Rattle.std.specs.Prelude.{◌≡◌, ◌+◌, ◌-◌, ◌^◌, ◌<◌, ◌≤◌};
+ghost use Rattle.std.specs.Prelude.{◌≡◌, ◌+◌, ◌-◌, ◌^◌, ◌≤◌};
 ghost use Rattle.judy_model.specs.Neighbours as neighbours;
 ghost use Rattle.judy_leaf.specs.Nearby.{pair_from};
 ghost use Rattle.judy_query.specs.Maps.{map_of};
-ghost use Rattle.judy_query.specs.Parts.{IsEndForm};
 ghost use Rattle.judy_query.specs.Visits.{most_visits_near};
 
-use crate::ends::{from_in, value_in_dense};
+use crate::ends::{from_in, from_other, value_in_dense};
 use crate::turns::{later_turn, pair_behind};
 use judy_bits::Meter;
 use judy_leaf::Words;
@@ -44,7 +43,7 @@ pub fn entry_at_or_after<V: Words + Drop>(
     tree.told();
     let mut at = match tree.enter(meter) {
         ViewOf::Branch(top) => (top, key),
-        _ => return from_root(tree, key, meter),
+        view => return from_other(&view, key),
     };
     let mut later = None;
     'down: loop {
@@ -69,33 +68,4 @@ pub fn entry_at_or_after<V: Words + Drop>(
             }
         }
     }
-}
-
-// The same in a tree whose root is no branch.
-// As `pair_further_up`: within its caller, but a function.
-#[inline(always)]
-fn from_root<V: Words + Drop>(tree: &NodeOf<V>, key: u64, meter: &mut Meter) -> Option<(u64, u64)>
-    requires end { IsEndForm tree.now.form }
-    requires room { meter.old < 2 ^ 64 - 1 }
-    ensures entry { result ≡ pair_from tree.now.pairs key }
-    ensures visits { meter.new ≡ meter.old + 1 }
-{
-    from_entered(tree, key, meter)
-}
-
-// The same, by a call, and so the root is entered anew.
-// The search of a leaf is large: as it stood twice in `entry_at_or_after`, that wasn't compiled into its callers.
-#[inline(never)]
-fn from_entered<V: Words + Drop>(
-    tree: &NodeOf<V>,
-    key: u64,
-    meter: &mut Meter,
-) -> Option<(u64, u64)>
-    requires end { IsEndForm tree.now.form }
-    requires room { meter.old < 2 ^ 64 - 1 }
-    ensures entry { result ≡ pair_from tree.now.pairs key }
-    ensures visits { meter.new ≡ meter.old + 1 }
-{
-    let view = tree.enter(meter);
-    from_in(&view, key)
 }

@@ -1,4 +1,4 @@
-use Rattle.std.proofs.Common.{◌≡◌, suc, ◌+◌, ◌-◌, ◌*◌, ◌^◌, [], length, slice_get, None, Some, sym, refl, ap, ◌∙◌, subst, arith, is_ge}
+use Rattle.std.proofs.Common.{◌≡◌, suc, ◌+◌, ◌-◌, ◌*◌, ◌^◌, [], length, slice_get, None, Some, sym, refl, ap, ◌∙◌, arith, is_ge}
 use Rattle.std.specs.Option.{option_or}
 use Rattle.judy_model.specs.Keys.{word_order}
 use Rattle.judy_model.specs.WordBytes.{number_of}
@@ -6,13 +6,11 @@ use Rattle.judy_leaf.specs.KeyLists.{shift}
 use Rattle.judy_node.specs.Views.{view_pairs}
 use Rattle.judy_node.specs.declared.step.Step.TheVariants.{Child}
 use Rattle.judy_node.specs.declared.view.ViewOf.TheVariants.{Branch}
-use Rattle.judy_query.specs.Parts.{width_of, passed, IsEndForm}
+use Rattle.judy_query.specs.Parts.{width_of, passed}
 use Rattle.judy_query.proofs.Downs.{down_root, down_child, down_gap, child_inside, child_is, beside_is, branch_is, passed_few, beside_reached}
-use Rattle.judy_query.proofs.EndFacts.{end_form}
 use Rattle.judy_query.proofs.NearFacts.{part-from, head-append, found_below, down_from}
 use Rattle.judy_query.proofs.LaterFacts.{reached_rank}
 use Rattle.judy_query.proofs.Splits.{rest_of}
-use Rattle.judy_query.proofs.WalkFacts.{end_is}
 use Rattle.judy_query.proofs.after.entry_at_or_after.Goals as goal
 
 pub down-init : goal.down-init
@@ -20,11 +18,6 @@ down-init g c =
     let down = down_root g.V.Words.WORDS c.args.tree.now (Branch c.in-Branch.top) c.args.key c.told.ensures c.in-Branch.ensures.view (omega (arith, c.ranges.key)) in
     let narrow = down.shown.narrow in
     (down, refl, tt, omega (arith, c.enter.ensures.visits), omega (arith, c.enter.ensures.visits))
-
-pub from_root-requires : goal.from_root-requires
-from_root-requires g c =
-    let end = subst IsEndForm (sym c.enter.ensures.view.form) (end_form 8 c.enter.result (end_is c.enter.result c.in_default.not-Branch)) in
-    (omega arith, (end, omega (arith, c.requires, c.enter.ensures.visits)))
 
 pub pair_behind-requires : goal.pair_behind-requires
 pair_behind-requires g c =
