@@ -9,12 +9,12 @@ use Rattle.judy_leaf.specs.Nearby.{pair_from, pair_up_to}
 use Rattle.judy_query.proofs.NearFacts.{from_looked, from-shift, found_below, up_to-shift, up_to-none, up_to_below}
 use Rattle.judy_bits.specs.ByteSets.{rank}
 use Rattle.judy_node.specs.Trees.{IsMap}
-use Rattle.judy_node.specs.Views.{view_pairs, view_form}
+use Rattle.judy_node.specs.Views.{view_pairs}
 use Rattle.judy_node.specs.declared.view.ViewOf.{ViewOf}
-use Rattle.judy_node.specs.declared.view.ViewOf.TheVariants.{Null, One, Imm, Leaf, BitLeaf, Branch}
+use Rattle.judy_node.specs.declared.view.ViewOf.TheVariants.{BitLeaf}
 use Rattle.judy_node.proofs.Maps.{map-shift, length-shift}
 use Rattle.judy_query.proofs.RankFacts.{rank-above, rank-shift, pair_at, at-shift}
-use Rattle.judy_query.specs.Parts.{value_of, raised, width_of, IsEnd, IsEndForm, IsShown}
+use Rattle.judy_query.specs.Parts.{value_of, raised, width_of, IsShown}
 use Rattle.judy_query.proofs.Finds.{value-above, value-shift}
 
 module _ {V : _} (words : ℕ) (view : ViewOf V) (skipped : ℕ) (list : KeyList) (is : view ≡ BitLeaf skipped list) (shown : IsShown words view) where
@@ -84,23 +84,3 @@ module _ {V : _} (words : ℕ) (view : ViewOf V) (skipped : ℕ) (list : KeyList
 
   pub bits_all_above : (key : ℕ) → key < skipped * 256 → None ≡ pair_up_to (view_pairs view) key
   bits_all_above key below = sym (up_to-none words (skipped * 256 + 0) (skipped * 256 + 256) (shift (skipped * 256) list.pairs) key (omega arith) bits_map) ∙ ap (λ ps. pair_up_to ps key) same_pairs
-
--- ---- forms
-
--- A node that isn't a branch has such a form.
-pub end_form : {V : _} (width : ℕ) (view : ViewOf V) → IsEnd view → IsEndForm (view_form width view)
-end_form width Null end = end
-end_form width (One key value) end = end
-end_form width (Imm list) end = end
-end_form width (Leaf list) end = end
-end_form width (BitLeaf skipped list) end = end
-end_form width (Branch b) end = end
-
--- And only such a node has one.
-pub form_end : {V : _} (width : ℕ) (view : ViewOf V) → IsEndForm (view_form width view) → IsEnd view
-form_end width Null end = end
-form_end width (One key value) end = end
-form_end width (Imm list) end = end
-form_end width (Leaf list) end = end
-form_end width (BitLeaf skipped list) end = end
-form_end width (Branch b) end = end

@@ -1,8 +1,7 @@
 -- Where a node stands in the tree above it, as those who go down the tree see it.
-use Rattle.std.specs.Prelude.{◌≡◌, ℕ, suc, ◌+◌, ◌-◌, ◌*◌, ◌^◌, ◌<◌, ◌≤◌, List, [], ◌∷◌, ◌++◌, length, slice_get, Option, Some}
+use Rattle.std.specs.Prelude.{◌≡◌, ℕ, suc, ◌+◌, ◌-◌, ◌*◌, ◌^◌, ◌<◌, ◌≤◌, List, ◌++◌, length, slice_get, Option, Some}
 use Rattle.std.specs.Option.{option_map}
 use Rattle.std.specs.FinMap.Entries.{find}
-use Rattle.judy_model.specs.Forms.{Form, immediate, leaf, bitmap_leaf, branch}
 use Rattle.judy_model.specs.Keys.{word_order}
 use Rattle.judy_leaf.specs.KeyLists.{shift}
 use Rattle.judy_node.specs.Trees.{Pairs, IsMap}
@@ -88,14 +87,6 @@ IsEnd (Imm list) = Unit {0}
 IsEnd (Leaf list) = Unit {0}
 IsEnd (BitLeaf skipped list) = Unit {0}
 IsEnd (Branch b) = ⊥
-
--- The form of such a node.
-abbrev pub IsEndForm : Form → Type 0
-IsEndForm [] = Unit {0}
-IsEndForm (immediate keys ∷ rest) = Unit {0}
-IsEndForm (leaf keys ∷ rest) = Unit {0}
-IsEndForm (bitmap_leaf bytes keys ∷ rest) = Unit {0}
-IsEndForm (branch bytes children count ∷ rest) = ⊥
 
 -- What a node that was entered shows.
 pub record IsShown {V : _} (words : ℕ) (view : ViewOf V) : Type 0 where

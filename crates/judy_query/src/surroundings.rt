@@ -1,11 +1,11 @@
 //! A key and what is above it, in one way down.
 
-ghost use Rattle.std.specs.Prelude.{◌≡◌, ◌+◌, ◌-◌, ◌^◌, ◌<◌, ◌≤◌, length, slice_get};
+ghost use Rattle.std.specs.Prelude.{◌≡◌, ◌+◌, ◌-◌, ◌^◌, ◌≤◌, length, slice_get};
 ghost use Rattle.std.specs.FinMap as map;
 ghost use Rattle.judy_leaf.specs.Nearby.{pair_from};
 ghost use Rattle.judy_node.specs.Views.{view_pairs};
 ghost use Rattle.judy_query.specs.Maps.{map_of};
-ghost use Rattle.judy_query.specs.Parts.{value_of, IsEnd, IsEndForm, IsShown};
+ghost use Rattle.judy_query.specs.Parts.{value_of, IsEnd, IsShown};
 ghost use Rattle.judy_query.specs.Visits.{most_visits_near};
 
 use crate::ends::{from_other, value_in, value_in_imm};
@@ -32,7 +32,7 @@ pub fn around<V: Words + Drop>(
     tree.told();
     let mut at = match tree.enter(meter) {
         ViewOf::Branch(top) => (top, key),
-        _ => return around_root(tree, key, meter),
+        view => return around_other(&view, key),
     };
     let mut later = None;
     'down: loop {
@@ -57,41 +57,6 @@ pub fn around<V: Words + Drop>(
     }
 }
 
-// The same in a tree whose root is no branch.
-// As `from_root` of after.rt.
-#[inline(always)]
-fn around_root<V: Words + Drop>(
-    tree: &NodeOf<V>,
-    key: u64,
-    meter: &mut Meter,
-) -> (Option<u64>, Option<(u64, u64)>)
-    requires end { IsEndForm tree.now.form }
-    requires room { meter.old < 2 ^ 64 - 1 }
-    ensures value { result.0 ≡ map.get (map_of tree.now.pairs) key }
-    ensures above { result.1 ≡ pair_from tree.now.pairs (key + 1) }
-    ensures visits { meter.new ≡ meter.old + 1 }
-{
-    around_entered(tree, key, meter)
-}
-
-// The same, by a call, and so the root is entered anew.
-#[inline(never)]
-fn around_entered<V: Words + Drop>(
-    tree: &NodeOf<V>,
-    key: u64,
-    meter: &mut Meter,
-) -> (Option<u64>, Option<(u64, u64)>)
-    requires end { IsEndForm tree.now.form }
-    requires room { meter.old < 2 ^ 64 - 1 }
-    ensures value { result.0 ≡ map.get (map_of tree.now.pairs) key }
-    ensures above { result.1 ≡ pair_from tree.now.pairs (key + 1) }
-    ensures visits { meter.new ≡ meter.old + 1 }
-{
-    tree.told();
-    let view = tree.enter(meter);
-    around_in(&view, key)
-}
-
 // The value of a key in a node that isn't a branch, and the nearest pair above it there.
 #[inline(always)]
 fn around_in<V: Words + Drop>(view: &ViewOf<'_, V>, key: u64) -> (Option<u64>, Option<(u64, u64)>)
@@ -101,8 +66,26 @@ fn around_in<V: Words + Drop>(view: &ViewOf<'_, V>, key: u64) -> (Option<u64>, O
     ensures above { result.1 ≡ pair_from (view_pairs view.now) (key + 1) }
 {
     match view {
-        ViewOf::Imm(list) => (value_in_imm(list, key), above_in(view, key)),
         ViewOf::Leaf(list) => around_in_leaf(list, key),
+        _ => around_other(view, key),
+    }
+}
+
+// The same, with the search of a leaf by a call.
+// As `from_other`.
+#[inline(always)]
+fn around_other<V: Words + Drop>(
+    view: &ViewOf<'_, V>,
+    key: u64,
+) -> (Option<u64>, Option<(u64, u64)>)
+    requires end { IsEnd view.now }
+    requires shown { IsShown V.WORDS view.now }
+    ensures value { result.0 ≡ value_of (view_pairs view.now) key }
+    ensures above { result.1 ≡ pair_from (view_pairs view.now) (key + 1) }
+{
+    match view {
+        ViewOf::Imm(list) => (value_in_imm(list, key), above_in(view, key)),
+        ViewOf::Leaf(list) => around_leaf(list, key),
         _ => (value_in(view, key), above_in(view, key)),
     }
 }
@@ -135,6 +118,17 @@ fn around_in_leaf<V: Words + Drop>(
         Ok(at) => (Some(list.value_at(at)), pair_on(list, count, at + 1)),
         Err(at) => (None, pair_on(list, count, at)),
     }
+}
+
+// The same by a call.
+fn around_leaf<V: Words + Drop>(
+    list: &LeafRef<'_, V>,
+    key: u64,
+) -> (Option<u64>, Option<(u64, u64)>)
+    ensures value { result.0 ≡ value_of list.now.pairs key }
+    ensures above { result.1 ≡ pair_from list.now.pairs (key + 1) }
+{
+    around_in_leaf(list, key)
 }
 
 // The pair at a place of a leaf of so many keys, where there is one.

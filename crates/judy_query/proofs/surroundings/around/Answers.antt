@@ -1,21 +1,20 @@
-use Rattle.std.proofs.Common.{suc, ◌+◌, ◌-◌, ◌*◌, ◌^◌, [], length, slice_get, None, Some, sym, refl, ap, ◌∙◌, subst, arith, is_ge}
+use Rattle.std.proofs.Common.{suc, ◌+◌, ◌-◌, ◌*◌, ◌^◌, [], length, slice_get, None, Some, sym, refl, ap, ◌∙◌, arith, is_ge}
 use Rattle.std.specs.Option.{option_or}
 use Rattle.judy_model.specs.Keys.{word_order}
 use Rattle.judy_model.specs.WordBytes.{number_of}
 use Rattle.judy_leaf.specs.KeyLists.{shift}
+use Rattle.judy_leaf.specs.Nearby.{pair_from}
 use Rattle.judy_node.specs.Views.{view_pairs}
 use Rattle.judy_node.specs.declared.step.Step.TheVariants.{Child}
 use Rattle.judy_node.specs.declared.view.ViewOf.TheVariants.{Branch}
-use Rattle.judy_query.specs.Parts.{width_of, passed, IsEndForm}
+use Rattle.judy_query.specs.Parts.{value_of, width_of, passed}
 use Rattle.judy_query.proofs.AroundFacts.{down_value, down_above}
 use Rattle.judy_query.proofs.Downs.{down_root, down_child, down_gap, child_inside, child_is, beside_is, branch_is, passed_few, beside_reached}
-use Rattle.judy_query.proofs.EndFacts.{end_form}
 use Rattle.judy_query.proofs.Finds.{part-value}
 use Rattle.judy_query.proofs.Links.{get_is}
 use Rattle.judy_query.proofs.NearFacts.{part-from, head-append, found_below}
 use Rattle.judy_query.proofs.LaterFacts.{reached_rank}
 use Rattle.judy_query.proofs.Splits.{rest_of}
-use Rattle.judy_query.proofs.WalkFacts.{end_is}
 use Rattle.judy_query.proofs.surroundings.around.Goals as goal
 
 pub down-init : goal.down-init
@@ -24,10 +23,17 @@ down-init g c =
     let narrow = down.shown.narrow in
     (down, refl, tt, omega (arith, c.enter.ensures.visits), omega (arith, c.enter.ensures.visits))
 
-pub around_root-requires : goal.around_root-requires
-around_root-requires g c =
-    let end = subst IsEndForm (sym c.enter.ensures.view.form) (end_form 8 c.enter.result (end_is c.enter.result c.in_default.not-Branch)) in
-    (omega arith, (end, omega (arith, c.requires, c.enter.ensures.visits)))
+pub returns-in_default : goal.returns-in_default
+returns-in_default g c =
+    let words = g.V.Words.WORDS in
+    let pairs = c.args.tree.now.pairs in
+    let same = c.enter.ensures.view.pairs in
+    record {
+      value = c.around_other.ensures.value ∙ ap (λ ps. value_of ps c.args.key) (sym same) ∙ sym (get_is words (256 ^ 8) pairs c.told.ensures.map c.args.key);
+      above = c.around_other.ensures.above ∙ ap (λ ps. pair_from ps (c.args.key + 1)) (sym same);
+      no_fewer = omega (arith, c.enter.ensures.visits);
+      visits = omega (arith, c.enter.ensures.visits);
+    }
 
 pub pair_behind-requires : goal.pair_behind-requires
 pair_behind-requires g c =
