@@ -5,22 +5,21 @@ use Rattle.judy_c.specs.declared.set.Set.{Set}
 use Rattle.judy_c.specs.declared.map.Map.{Map}
 use Rattle.judy_c.specs.declared.strings.Strings.{Strings}
 use Rattle.judy_c.specs.declared.bytes.Bytes.{Bytes}
-use Rattle.judy_word.specs.contracts.judy1.Judy1 as judy1
-use Rattle.judy_word.specs.contracts.judyl.JudyL as judyl
+use Rattle.judy_word.specs.Rows.{judy1_row, judyl_row}
 use Rattle.judy_sl.specs.contracts.strings.JudySl as judysl
 
 -- Of a set: what it holds, and the handle that holds that.
-abbrev pub held_by_set : Set → Held judy1.the_row.Denot
+abbrev pub held_by_set : Set → Held judy1_row.Denot
 held_by_set handle = record { at = handle.at; array = handle.array }
 
-abbrev pub as_set : Held judy1.the_row.Denot → Set
+abbrev pub as_set : Held judy1_row.Denot → Set
 as_set held = record { at = held.at; array = held.array }
 
 -- Of a map from words.
-abbrev pub held_by_map : Map → Held judyl.the_row.Denot
+abbrev pub held_by_map : Map → Held judyl_row.Denot
 held_by_map handle = record { at = handle.at; array = handle.array }
 
-abbrev pub as_map : Held judyl.the_row.Denot → Map
+abbrev pub as_map : Held judyl_row.Denot → Map
 as_map held = record { at = held.at; array = held.array }
 
 -- Of a map from strings.

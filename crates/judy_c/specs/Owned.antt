@@ -8,8 +8,7 @@ use Rattle.std.specs.Box.Ownership.{box_owns}
 use Rattle.std.specs.Global.{Global}
 use Rattle.std.specs.Coded.{coded_option}
 use Rattle.std_heap.specs.contracts.GlobalAllocator.TheImpl.{ghosts}
-use Rattle.judy_word.specs.contracts.judy1.Judy1 as judy1
-use Rattle.judy_word.specs.contracts.judyl.JudyL as judyl
+use Rattle.judy_word.specs.Rows.{judy1_row, judyl_row}
 use Rattle.judy_sl.specs.contracts.strings.JudySl as judysl
 use Rattle.judy_hs.specs.contracts.bytes.JudyHs as judyhs
 use Rattle.judy_hs.specs.contracts.hash.Eights as eights
@@ -27,18 +26,18 @@ held R (block_ptr b o) None = ffalse
 held R (block_ptr b o) (Some x) = box_owns (ghosts.dealloc_token heap) R (block_ptr b o) x
 
 -- Of a map from words: what its handle owns, and the code of what it holds.
-abbrev pub held_judyl : Ptr → Option judyl.the_row.Denot → Fml
-held_judyl = held judyl.the_row
+abbrev pub held_judyl : Ptr → Option judyl_row.Denot → Fml
+held_judyl = held judyl_row
 
-abbrev pub map_coded : Coded (Option judyl.the_row.Denot)
-map_coded = coded_option judyl.the_row.coded
+abbrev pub map_coded : Coded (Option judyl_row.Denot)
+map_coded = coded_option judyl_row.coded
 
 -- The same of a set.
-abbrev pub held_judy1 : Ptr → Option judy1.the_row.Denot → Fml
-held_judy1 = held judy1.the_row
+abbrev pub held_judy1 : Ptr → Option judy1_row.Denot → Fml
+held_judy1 = held judy1_row
 
-abbrev pub set_coded : Coded (Option judy1.the_row.Denot)
-set_coded = coded_option judy1.the_row.coded
+abbrev pub set_coded : Coded (Option judy1_row.Denot)
+set_coded = coded_option judy1_row.coded
 
 -- The same of a map from strings.
 abbrev pub held_judysl : Ptr → Option judysl.the_row.Denot → Fml

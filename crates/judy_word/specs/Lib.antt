@@ -1,6 +1,7 @@
 pub mod Refusals
 pub mod Writes
 pub mod Sets
+pub mod Rows
 pub mod Slots
 pub mod MapSlots
 pub mod Held

@@ -10,9 +10,8 @@ ghost use Rattle.judy_word.specs.Held.{map_in, array_in, with_new, with_all, IsF
 ghost use Rattle.judy_word.specs.WordArrays.{array_of};
 
 use crate::error::InsertError;
-use crate::judy1::Judy1;
-use crate::judyl::JudyL;
 use crate::tree_array::{TreeArray, set_all};
+use crate::word_array::{Judy1, JudyL};
 use judy_leaf::{Width, Words};
 use std::alloc::Global;
 use std::marker::Model;

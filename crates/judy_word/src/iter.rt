@@ -3,9 +3,8 @@ ghost use Rattle.std.specs.Prelude.{◌≡◌, ◌<◌, ◌^◌, ◌++◌, lengt
 ghost use Rattle.std.specs.FinMap as map;
 ghost use Rattle.judy_model.specs.Counts as counts;
 
-use crate::judy1::Judy1;
-use crate::judyl::JudyL;
 use crate::tree_array::TreeEntries;
+use crate::word_array::{Judy1, JudyL};
 use judy_leaf::Width;
 use std::fmt::{Debug, Formatter, Result, Write};
 use std::iter::{IntoIterator, Iterator};

@@ -4,8 +4,7 @@ ghost use Rattle.std.specs.Prelude.{◌≡◌, ◌≤◌, false, IfOk};
 ghost use Rattle.std.specs.FinMap as map;
 
 use crate::error::InsertError;
-use crate::judy1::Judy1;
-use crate::judyl::JudyL;
+use crate::word_array::{Judy1, JudyL};
 use std::alloc::Global;
 
 /// Two sets with the same keys, neither loose, have the same nodes, whatever calls led there.

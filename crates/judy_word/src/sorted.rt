@@ -7,9 +7,8 @@ ghost use Rattle.judy_model.specs.Keys.{IsWord};
 ghost use Rattle.judy_leaf.specs.KeyLists.{keys_of};
 ghost use Rattle.judy_word.specs.Sorted.{ascending_from, IsSorted, IsFault};
 
-use crate::judy1::Judy1;
-use crate::judyl::JudyL;
 use crate::tree_array::TreeArray;
+use crate::word_array::{Judy1, JudyL};
 use std::alloc::{AllocError, Global};
 use thiserror::Error;
 

@@ -15,8 +15,8 @@ ghost use Rattle.judy_leaf.specs.KeyLists.{keys_of};
 
 use crate::error::InsertError;
 use crate::iter::Entries;
-use crate::judyl::JudyL;
 use crate::sorted::SortedError;
+use crate::word_array::JudyL;
 use std::alloc::Global;
 use std::iter::IntoIterator;
 use std::marker::Model;

@@ -18,7 +18,6 @@ impl<V: Words + Drop> TreeArray<V> {
     /// there.
     // Compiled into its callers: the answer doesn't go through memory then.
     #[inline(always)]
-    #[inline(always)]
     pub fn insert(&mut self, key: u64, value: u64) -> Result<Option<u64>, InsertError>
         requires words { V.WORDS ≡ 1 }
         ensures answer { IfOk result (λ was. was ≡ map.get (map_in self.old) key) }

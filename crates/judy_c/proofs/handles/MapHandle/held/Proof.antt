@@ -1,7 +1,7 @@
 -- `held` lends a Map as what it holds: the same pointer, with the same behind it. Assumes `Logic`.
 use base.Logic.{id⊢}
 use denote.Memory.{part_of}
-use Rattle.judy_word.specs.contracts.judyl.JudyL.{the_row as Array}
+use Rattle.judy_word.specs.Rows.{judyl_row as Array}
 use Rattle.judy_c.proofs.HandleCasts.{casts}
 use Rattle.judy_c.specs.AsHeld.{held_by_map, as_map}
 use Rattle.judy_c.specs.contracts.map.Map.{the_row as Handle}

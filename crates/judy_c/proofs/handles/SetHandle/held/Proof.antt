@@ -1,7 +1,7 @@
 -- `held` lends a Set as what it holds: the same pointer, with the same behind it. Assumes `Logic`.
 use base.Logic.{id⊢}
 use denote.Memory.{part_of}
-use Rattle.judy_word.specs.contracts.judy1.Judy1.{the_row as Array}
+use Rattle.judy_word.specs.Rows.{judy1_row as Array}
 use Rattle.judy_c.proofs.HandleCasts.{casts}
 use Rattle.judy_c.specs.AsHeld.{held_by_set, as_set}
 use Rattle.judy_c.specs.contracts.set.Set.{the_row as Handle}

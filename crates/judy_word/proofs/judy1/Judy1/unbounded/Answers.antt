@@ -1,7 +1,0 @@
-use Rattle.std.proofs.Common.{ap, ◌∙◌}
-use Rattle.judy_word.specs.WordArrays.{seen_as}
-use Rattle.judy_word.proofs.ArrayFacts.{nothing-empty}
-use Rattle.judy_word.proofs.judy1.Judy1.unbounded.Goals as goal
-
-pub returns : goal.returns
-returns c = ap seen_as c.new.ensures ∙ nothing-empty 18446744073709551615

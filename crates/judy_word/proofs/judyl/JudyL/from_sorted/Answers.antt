@@ -1,8 +1,0 @@
-use Rattle.std.proofs.Common.{◌^◌, ◌∙◌, ap}
-use Rattle.std.specs.FinMap as finmap
-use Rattle.judy_word.specs.WordArrays.{WordArray}
-use Rattle.judy_word.proofs.IterFacts.{entries_are}
-use Rattle.judy_word.proofs.judyl.JudyL.from_sorted.Goals as goal
-
-pub returns-clause-pairs : goal.returns-clause-pairs
-returns-clause-pairs c = ap (λ (a : WordArray). finmap.entries a.map) c.of.ensures ∙ entries_are 1 (256 ^ 8) c.in-Ok.tree.tree.pairs c.told.ensures.node.map ∙ c.in-Ok.ensures.pairs
