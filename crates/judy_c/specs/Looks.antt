@@ -9,14 +9,22 @@ abbrev pub found_of : Option ℕ → Found
 found_of None = record { value = 0; there = 0 }
 found_of (Some value) = record { value = value; there = 1 }
 
+-- The same of a key of a map.
+abbrev pub found_at : FinMap word_order ℕ → ℕ → Found
+found_at pairs key = found_of (get pairs key)
+
 -- What is told of keys, of each by itself.
 abbrev pub found_in : FinMap word_order ℕ → List ℕ → List Found
-found_in pairs keys = map (λ key. found_of (get pairs key)) keys
+found_in pairs keys = map (found_at pairs) keys
 
 -- Whether a key is there, as C is told.
 abbrev pub byte_of : Bool → ℕ
 byte_of there = if there then 1 else 0
 
+-- The same of a key of a set.
+abbrev pub there_at : FinMap word_order ℕ → ℕ → ℕ
+there_at pairs key = byte_of (contains_key pairs key)
+
 -- The same of keys, of each by itself.
 abbrev pub there_in : FinMap word_order ℕ → List ℕ → List ℕ
-there_in pairs keys = map (λ key. byte_of (contains_key pairs key)) keys
+there_in pairs keys = map (there_at pairs) keys

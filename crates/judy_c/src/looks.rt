@@ -1,6 +1,6 @@
 //! The calls of C that look many keys up at once.
 
-ghost use Rattle.std.specs.Prelude.{◌≡◌, ◌≤◌, length};
+ghost use Rattle.std.specs.Prelude.{◌≡◌, ◌≤◌, ℕ, length, map as mapped};
 ghost use Rattle.judy_c.specs.Looks.{found_in, found_of, there_in};
 ghost use Rattle.judy_c.specs.Maps.{map_of, set_of};
 ghost use Rattle.judy_c.specs.Walks.{IsFilled};
@@ -35,54 +35,8 @@ pub extern "C" fn sellumaq_judyl_get_many(
     ensures same { handle.new ≡ handle.old }
 {
     match handle.array() {
-        Some(array) => find_fitting(array, keys, found),
-        None => find_fitting(&JudyL::unbounded(alloc), keys, found),
-    }
-}
-
-// Tells of the keys of a list, as many as there is room for, and answers how many these are.
-fn find_fitting(array: &JudyL, keys: &[u64], found: &mut [Found]) -> usize
-    ensures { IsFilled (found_in array.now.map keys.now) found.old result found.new }
-{
-    let fit = keys.len().min(found.len());
-    find_keys(array, &keys[..fit], &mut found[..fit]);
-    fit
-}
-
-// Tells of the keys of a list, a group at a time.
-#[tactic(auto, using(judy_word::proofs::Groups::group_more))]
-fn find_keys(array: &JudyL, keys: &[u64], found: &mut [Found])
-    requires { length found.old ≡ length keys.now }
-    ensures { found.new ≡ found_in array.now.map keys.now }
-{
-    let mut at = 0;
-    'groups: while at < keys.len() {
-        let end = at + (keys.len() - at).min(GROUP);
-        find_group(array, &keys[at..end], &mut found[at..end]);
-        at = end;
-    }
-}
-
-// Tells of a few keys.
-fn find_group(array: &JudyL, keys: &[u64], found: &mut [Found])
-    requires few { length keys.now ≤ 64 }
-    requires room { length found.old ≡ length keys.now }
-    ensures { found.new ≡ found_in array.now.map keys.now }
-{
-    let mut values = [None; GROUP];
-    array.get_many(keys, &mut values[..keys.len()]);
-    'found: for at in 0..keys.len() {
-        found[at] = found_of(values[at]);
-    }
-}
-
-// What is told of a key.
-fn found_of(value: Option<u64>) -> Found
-    ensures { result ≡ found_of value }
-{
-    match value {
-        Some(value) => Found { value, there: 1 },
-        None => Found { value: 0, there: 0 },
+        Some(array) => tell_fitting(array, keys, found),
+        None => tell_fitting(&JudyL::unbounded(alloc), keys, found),
     }
 }
 
@@ -99,43 +53,87 @@ pub extern "C" fn sellumaq_judy1_test_many(
     ensures same { handle.new ≡ handle.old }
 {
     match handle.array() {
-        Some(array) => test_fitting(array, keys, there),
-        None => test_fitting(&Judy1::unbounded(alloc), keys, there),
+        Some(array) => tell_fitting(array, keys, there),
+        None => tell_fitting(&Judy1::unbounded(alloc), keys, there),
     }
 }
 
 // Tells of the keys of a list, as many as there is room for, and answers how many these are.
-fn test_fitting(array: &Judy1, keys: &[u64], there: &mut [u8]) -> usize
-    ensures { IsFilled (there_in array.now.map keys.now) there.old result there.new }
+fn tell_fitting<A: AsksMany>(array: &A, keys: &[u64], told: &mut [A::Told]) -> usize
+    ensures { IsFilled (mapped (A.told_of array.now) keys.now) told.old result told.new }
 {
-    let fit = keys.len().min(there.len());
-    test_keys(array, &keys[..fit], &mut there[..fit]);
+    let fit = keys.len().min(told.len());
+    tell_keys(array, &keys[..fit], &mut told[..fit]);
     fit
 }
 
 // Tells of the keys of a list, a group at a time.
 #[tactic(auto, using(judy_word::proofs::Groups::group_more))]
-fn test_keys(array: &Judy1, keys: &[u64], there: &mut [u8])
-    requires { length there.old ≡ length keys.now }
-    ensures { there.new ≡ there_in array.now.map keys.now }
+fn tell_keys<A: AsksMany>(array: &A, keys: &[u64], told: &mut [A::Told])
+    requires { length told.old ≡ length keys.now }
+    ensures { told.new ≡ mapped (A.told_of array.now) keys.now }
 {
     let mut at = 0;
     'groups: while at < keys.len() {
         let end = at + (keys.len() - at).min(GROUP);
-        test_group(array, &keys[at..end], &mut there[at..end]);
+        array.tell_group(&keys[at..end], &mut told[at..end]);
         at = end;
     }
 }
 
-// Tells of a few keys. What stood in the caller's room may be any bytes, and these needn't be `bool`s.
-fn test_group(array: &Judy1, keys: &[u64], there: &mut [u8])
-    requires few { length keys.now ≤ 64 }
-    requires room { length there.old ≡ length keys.now }
-    ensures { there.new ≡ there_in array.now.map keys.now }
+// An array of which C asks many keys at once.
+trait AsksMany {
+    // What C is told of a key.
+    type Told;
+
+    ghost told_of: { Self → ℕ → Self.Told };
+
+    // Tells of a few keys.
+    fn tell_group(&self, keys: &[u64], told: &mut [Self::Told])
+        requires few { length keys.now ≤ 64 }
+        requires room { length told.old ≡ length keys.now }
+        ensures { told.new ≡ mapped (told_of self.now) keys.now };
+}
+
+impl AsksMany for JudyL {
+    ghost use Rattle.judy_c.specs.Looks.{found_at};
+
+    type Told = Found;
+
+    ghost told_of = { λ array. found_at array.map };
+
+    fn tell_group(&self, keys: &[u64], told: &mut [Found]) {
+        let mut values = [None; GROUP];
+        self.get_many(keys, &mut values[..keys.len()]);
+        'told: for at in 0..keys.len() {
+            told[at] = found_of(values[at]);
+        }
+    }
+}
+
+// What stood in the caller's room may be any bytes, and these needn't be `bool`s.
+impl AsksMany for Judy1 {
+    ghost use Rattle.judy_c.specs.Looks.{there_at};
+
+    type Told = u8;
+
+    ghost told_of = { λ set. there_at set.map };
+
+    fn tell_group(&self, keys: &[u64], told: &mut [u8]) {
+        let mut there = [false; GROUP];
+        self.test_many(keys, &mut there[..keys.len()]);
+        'told: for at in 0..keys.len() {
+            told[at] = u8::from(there[at]);
+        }
+    }
+}
+
+// What is told of a key.
+fn found_of(value: Option<u64>) -> Found
+    ensures { result ≡ found_of value }
 {
-    let mut told = [false; GROUP];
-    array.test_many(keys, &mut told[..keys.len()]);
-    'there: for at in 0..keys.len() {
-        there[at] = u8::from(told[at]);
+    match value {
+        Some(value) => Found { value, there: 1 },
+        None => Found { value: 0, there: 0 },
     }
 }
