@@ -263,7 +263,8 @@ impl Arena {
         }
     }
 
-    // Adds a key whose way comes to another's tail.
+    // Adds a key whose way comes to another's tail. It has a buffer, which no other insert is to make room for.
+    #[inline(never)]
     fn split(&mut self, key: &[u8], from: Place, at: u64, left: usize) -> Result<Place, SlError>
         requires is_arena { IsArena self.old }
         requires is_key { IsStringKey key.now }
