@@ -43,6 +43,7 @@ impl Arena {
     }
 
     // Adds a key that isn't there, with the value 0, and counts it at the levels that its way passes, by their places.
+    #[inline(always)]
     pub fn add_counted(&mut self, key: &[u8], way: Way, passed: &[u64]) -> Result<Place, SlError>
         requires is_arena { IsArena self.old }
         requires counted { AreCounted self.old }

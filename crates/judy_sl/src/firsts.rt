@@ -21,7 +21,9 @@ use crate::pieces::first_piece;
 use judy_sums::Sums;
 
 // Adds a key that isn't there, with the value 0, and counts it. What may be refused in the list comes first; where the key itself is
-// refused, the list is as it was. The places are those of the levels that the way passes.
+// refused, the list is as it was. The places are those of the levels that the way passes. Both lengths of lists that an insert may want call it, so
+// it is told to be inlined: else the way goes through memory.
+#[inline(always)]
 pub fn add(
     arena: &mut Arena,
     firsts: &mut Sums,

@@ -84,6 +84,22 @@ impl Arena {
         }
     }
 
+    // The same at the place that the caller has asked for: so an insert of a key that is tried looks for the list of its length once.
+    #[inline(always)]
+    fn put_tail_next(&mut self, at: u64, rest: &[u8], value: u64) -> Result<u64, SlError>
+        requires text { IsText rest.now }
+        requires short { length rest.now ≤ 1024 }
+        requires next { at ≡ next_place self.old.tails (length rest.now) }
+        ensures place { IfOk result (λ place. place ≡ at) }
+        ensures put { OnOk result (IsPut self.old self.new (Tail ((rest.now, value))) at) }
+        ensures refused { IfErr result (λ error. IsSame self.old self.new × (error ≡ NoMemory)) }
+    {
+        match self.tails.put_next(at, rest, value) {
+            Ok(place) => Ok(place),
+            Err(_) => Err(SlError::NoMemory),
+        }
+    }
+
     // Tries a key as one whose first piece leads nowhere, and puts it in with the value 0 if so: one way down the first level shows that and
     // puts the piece in. Only then is more memory asked for, so that none is for a key that is there; where it is refused, the piece goes
     // again. Answers where the key stands, and `None` where it isn't to be tried or its piece leads somewhere: then it is to be looked up.
@@ -116,8 +132,8 @@ impl Arena {
             Err(InsertError::Full) => unreachable!(),
             Err(InsertError::NoMemory) => return Err(SlError::NoMemory),
         }
-        match self.put_tail(&key[8..], 0) {
-            Ok(at) => Ok(Some(Place::Below(at, 0))),
+        match self.put_tail_next(next, &key[8..], 0) {
+            Ok(_) => Ok(Some(Place::Below(next, 0))),
             Err(error) => {
                 self.root.del(piece);
                 Err(error)
@@ -247,7 +263,8 @@ impl Arena {
         }
     }
 
-    // Adds a key whose way comes to another's tail.
+    // Adds a key whose way comes to another's tail. It has a buffer, which no other insert is to make room for.
+    #[inline(never)]
     fn split(&mut self, key: &[u8], from: Place, at: u64, left: usize) -> Result<Place, SlError>
         requires is_arena { IsArena self.old }
         requires is_key { IsStringKey key.now }

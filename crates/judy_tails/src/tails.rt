@@ -1,6 +1,6 @@
 //! The lists of tails, one for each number of words that some tail took.
 
-ghost use Rattle.std.specs.Prelude.{◌≡◌, ◌<◌, ◌≤◌, ◌%◌, ℕ, List, Some, None, IsSome, IsOk, IfOk, OnErr, length, slice_get};
+ghost use Rattle.std.specs.Prelude.{◌≡◌, ◌<◌, ◌≤◌, ◌%◌, ℕ, List, Some, None, IsSome, IsOk, IfOk, OnOk, OnErr, length, slice_get};
 ghost use Rattle.std.specs.Borrow.{sem};
 ghost use Rattle.judy_model.specs.Keys.{IsWord};
 ghost use Rattle.judy_records.specs.Texts.{IsText, words_for};
@@ -86,7 +86,42 @@ impl Tails {
         ensures unasked { HasFree self.old (length text.now) → IsOk result }
         ensures refused { OnErr result (SameTails self.old self.new) }
     {
-        let number = self.reach(text.len())?;
+        let number = self.list_for(text.len());
+        self.put_in(number, text, value)
+    }
+
+    /// The same where the caller has asked for that place (`next_place`), which tells the list for the length.
+    #[inline(always)]
+    pub fn put_next(&mut self, place: u64, text: &[u8], value: u64) -> Result<u64, AllocError>
+        requires text { IsText text.now }
+        requires short { length text.now ≤ 1024 }
+        requires next { place ≡ next_place self.old (length text.now) }
+        ensures place { IfOk result (λ at. at ≡ place) }
+        ensures kind { OnOk result (place % 256 ≤ 128) }
+        ensures free { OnOk result (tail_at self.old place ≡ None) }
+        ensures put { OnOk result (Updates self.old self.new place (Some (text.now, value))) }
+        ensures unasked { HasFree self.old (length text.now) → IsOk result }
+        ensures refused { OnErr result (SameTails self.old self.new) }
+    {
+        self.are_few();
+        self.put_in((place % 256) as usize, text, value)
+    }
+
+    // The same where the number of the list is known.
+    #[inline(always)]
+    fn put_in(&mut self, number: usize, text: &[u8], value: u64) -> Result<u64, AllocError>
+        requires text { IsText text.now }
+        requires short { length text.now ≤ 1024 }
+        requires number { number ≡ list_for self.old (length text.now) }
+        ensures place { IfOk result (λ place. place ≡ next_place self.old (length text.now)) }
+        ensures kind { IfOk result (λ place. place % 256 ≤ 128) }
+        ensures free { IfOk result (λ place. tail_at self.old place ≡ None) }
+        ensures put { IfOk result
+            (λ place. Updates self.old self.new place (Some (text.now, value))) }
+        ensures unasked { HasFree self.old (length text.now) → IsOk result }
+        ensures refused { OnErr result (SameTails self.old self.new) }
+    {
+        self.reach(number, text.len())?;
         let list = &mut self.lists[number];
         list.told();
         list.reserve(1)?;
@@ -130,23 +165,42 @@ impl Tails {
         self.lists.len()
     }
 
-    // The same, and there is such a list then. The error is want of memory.
-    fn reach(&mut self, bytes: usize) -> Result<usize, AllocError>
-        requires { bytes ≤ 1024 }
-        ensures number { IfOk result (λ number. number ≡ list_for self.old bytes) }
-        ensures same { AreSame self.old self.new }
-        ensures found { list_for self.old bytes < length self.old.lists → IsOk result }
-        ensures reached { IfOk result
-            (λ number. slice_get self.new.words number ≡ Some (words_for bytes)) }
+    // Does nothing: it tells a proof that a byte has room for the number of a list.
+    fn are_few(&self)
+        ensures { (bytes : ℕ) → list_for self.now bytes ≤ 129 }
     {
-        let number = self.list_for(bytes);
+        let _lists = &self.lists;
+    }
+
+    // Sees to it that there is the list for texts of so many bytes, by its number. The error is want of memory.
+    fn reach(&mut self, number: usize, bytes: usize) -> Result<(), AllocError>
+        requires short { bytes ≤ 1024 }
+        requires number { number ≡ list_for self.old bytes }
+        ensures same { AreSame self.old self.new }
+        ensures found { number < length self.old.lists → IsOk result }
+        ensures reached { OnOk result (slice_get self.new.words number ≡ Some (words_for bytes)) }
+    {
         if number == self.lists.len() {
-            let alloc = *self.lists.allocator();
-            self.lists.reserve_exact(number / 2 + 1)?;
-            self.lists
-                .push_reserved(Records::new(alloc, words_for(bytes)));
+            self.make(bytes)
+        } else {
+            Ok(())
         }
-        Ok(number)
+    }
+
+    // Makes the list for texts of so many bytes, of which there is none. The error is want of memory.
+    #[inline(never)]
+    fn make(&mut self, bytes: usize) -> Result<(), AllocError>
+        requires short { bytes ≤ 1024 }
+        requires none { list_for self.old bytes ≡ length self.old.lists }
+        ensures same { AreSame self.old self.new }
+        ensures made { OnOk result
+            (slice_get self.new.words (list_for self.old bytes) ≡ Some (words_for bytes)) }
+    {
+        let alloc = *self.lists.allocator();
+        self.lists.reserve_exact(self.lists.len() / 2 + 1)?;
+        self.lists
+            .push_reserved(Records::new(alloc, words_for(bytes)));
+        Ok(())
     }
 }
 

@@ -33,22 +33,20 @@ returns-in-Ok-clause-absent c =
     first-absent c.args.self.now c.requires.is_arena c.args.key.now key c.first_piece-piece.result c.first_piece-piece.ensures (put-absent c.args.self.now.root.map c.first_piece-piece.result added)
 
 -- Its tail is a text.
-pub put_tail-requires-clause-text : goal.put_tail-requires-clause-text
-put_tail-requires-clause-text c =
+pub put_tail_next-requires-clause-text : goal.put_tail_next-requires-clause-text
+put_tail_next-requires-clause-text c =
     subst IsText (sym (take_rest c.args.key.now 8)) (text-drop 8 c.args.key.now (text_of_key c.args.key.now (c.is_key.ensures.0 c.if-not-is_key.false)))
 
--- The entry leads to where it is put.
-next_is : (c : goal.In-Ok) → c.in-Ok.at ≡ c.next_place-next.result
-next_is c =
-    c.in-Ok.ensures.place
-    ∙ ap (next_place c.args.self.now.tails) (ap length (take_rest c.args.key.now 8) ∙ length-drop 8 c.args.key.now)
-    ∙ sym c.next_place-next.ensures
+-- It goes to the place that was asked for, and the entry leads there.
+pub put_tail_next-requires-clause-next : goal.put_tail_next-requires-clause-next
+put_tail_next-requires-clause-next c =
+    c.next_place-next.ensures ∙ ap (next_place c.args.self.now.tails) (sym (ap length (take_rest c.args.key.now 8) ∙ length-drop 8 c.args.key.now))
 
-words_is : (c : goal.In-Ok) → c.put_if_absent.new.self ≡ with_map c.args.self.now.root (insert c.args.self.now.root.map c.first_piece-piece.result c.in-Ok.at)
+words_is : (c : goal.In-Ok) → c.put_if_absent.new.self ≡ with_map c.args.self.now.root (insert c.args.self.now.root.map c.first_piece-piece.result c.next_place-next.result)
 words_is c =
     let added = sym c.in-Ok-true.field-0-test ∙ c.in-Ok-true.ensures.answer in
     c.in-Ok-true.ensures.put
-    ∙ ap (with_map c.args.self.now.root) (put-new c.args.self.now.root.map c.first_piece-piece.result c.next_place-next.result added ∙ ap (insert c.args.self.now.root.map c.first_piece-piece.result) (sym (next_is c)))
+    ∙ ap (with_map c.args.self.now.root) (put-new c.args.self.now.root.map c.first_piece-piece.result c.next_place-next.result added)
 
 pub returns-in-Ok-clause-added : goal.returns-in-Ok-clause-added
 returns-in-Ok-clause-added c =
@@ -56,7 +54,7 @@ returns-in-Ok-clause-added c =
     let long = c.if-key-lt8.false in
     let added = sym c.in-Ok-true.field-0-test ∙ c.in-Ok-true.ensures.answer in
     first-added c.args.self.now c.requires.is_arena c.args.key.now key c.first_piece-piece.result c.first_piece-piece.ensures (put-absent c.args.self.now.root.map c.first_piece-piece.result added)
-    c.put_if_absent.new.self c.put_tail.new.self c.in-Ok.at _ (words_is c) c.in-Ok.ensures.put (omega arith) (take_rest c.args.key.now 8) refl
+    c.put_if_absent.new.self c.put_tail_next.new.self c.next_place-next.result _ (words_is c) c.in-Ok.ensures.put (omega arith) (take_rest c.args.key.now 8) refl
 
 pub returns-in-Ok-clause-first : goal.returns-in-Ok-clause-first
 returns-in-Ok-clause-first c =
@@ -89,7 +87,7 @@ returns-in-Ok-clause-counted c =
     let key = c.is_key.ensures.0 c.if-not-is_key.false in
     let added = sym c.in-Ok-true.field-0-test ∙ c.in-Ok-true.ensures.answer in
     tried-counted c.args.self.now c.requires.is_arena c.requires.led c.requires.counted c.args.key.now key c.first_piece-piece.result c.first_piece-piece.ensures (put-absent c.args.self.now.root.map c.first_piece-piece.result added)
-    c.put_if_absent.new.self c.put_tail.new.self c.in-Ok.at _ _ (words_is c) c.in-Ok.ensures.put (returns-in-Ok-clause-added c)
+    c.put_if_absent.new.self c.put_tail_next.new.self c.next_place-next.result _ _ (words_is c) c.in-Ok.ensures.put (returns-in-Ok-clause-added c)
 
 pub returns-in-Err-clause-counted : goal.returns-in-Err-clause-counted
 returns-in-Err-clause-counted c = counted-same c.args.self.now _ (returns-in-Err-clause-refused c).0 c.requires.counted

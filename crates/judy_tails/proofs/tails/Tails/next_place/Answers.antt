@@ -1,6 +1,5 @@
 use Rattle.std.proofs.Common.{◌≡◌, ◌+◌, ◌*◌, length, get_or, ap, sym, ◌∙◌, arith}
 use Rattle.std.proofs.lemmas.Bool.{ltb-false}
-use Rattle.judy_records.specs.Spots.{next_place}
 use Rattle.judy_tails.specs.Tails.{TailLists}
 use Rattle.judy_tails.proofs.ListLemmas.{next-at, next-past}
 use Rattle.judy_tails.proofs.LengthLemmas.{next-read}
