@@ -18,6 +18,16 @@ pub enum Array {
     Map(JudyL),
 }
 
+// A call that both kinds have alike.
+macro_rules! of_either {
+    ($array:expr, $words:ident => $call:expr) => {
+        match $array {
+            Array::Set($words) => $call,
+            Array::Map($words) => $call,
+        }
+    };
+}
+
 // The value that a key gets in a map.
 fn value_of(word: u64) -> u64
     ensures { result ≡ value_of word }
@@ -54,34 +64,22 @@ impl Array {
     pub fn tidy(&mut self) -> Result<(), AllocError>
         ensures { array_of (seen self.new) ≡ array_of (seen self.old) }
     {
-        match self {
-            Array::Set(set) => set.tidy(),
-            Array::Map(words) => words.tidy(),
-        }
+        of_either!(self, words => words.tidy())
     }
 
     /// The number of nodes of each kind.
     pub fn shape(&self) -> Shape {
-        match self {
-            Array::Set(set) => set.shape(),
-            Array::Map(words) => words.shape(),
-        }
+        of_either!(self, words => words.shape())
     }
 
     /// Whether a node may be larger than its keys need.
     pub fn is_loose(&self) -> bool {
-        match self {
-            Array::Set(set) => set.is_loose(),
-            Array::Map(words) => words.is_loose(),
-        }
+        of_either!(self, words => words.is_loose())
     }
 
     /// How many keys there are.
     pub fn len(&self) -> u64 {
-        match self {
-            Array::Set(set) => set.len(),
-            Array::Map(words) => words.len(),
-        }
+        of_either!(self, words => words.len())
     }
 
     /// Whether a key is there.
@@ -94,53 +92,26 @@ impl Array {
 
     /// How many keys are up to a word.
     pub fn count_up_to(&self, word: u64) -> u64 {
-        match self {
-            Array::Set(set) => set.count(0, word),
-            Array::Map(words) => words.count(0, word),
-        }
+        of_either!(self, words => words.count(0, word))
     }
 
     /// The n-th key, counted from 1.
     pub fn by_count(&self, n: u64) -> Option<u64> {
-        match self {
-            Array::Set(set) => set.by_count(n),
-            Array::Map(words) => words.by_count(n),
-        }
+        of_either!(self, words => words.by_count(n))
     }
 
-    /// The keys nearest to a word: the first from it on, the first above it, the last up to it, and the last below it.
-    pub fn near(&self, word: u64) -> [Option<u64>; 4] {
-        match self {
-            Array::Set(set) => [
-                set.first(word),
-                set.next(word),
-                set.last(word),
-                set.prev(word),
-            ],
-            Array::Map(words) => [
-                words.first(word),
-                words.next(word),
-                words.last(word),
-                words.prev(word),
-            ],
-        }
-    }
-
-    /// The words nearest to it that are no keys, in the same order.
-    pub fn empty_near(&self, word: u64) -> [Option<u64>; 4] {
-        match self {
-            Array::Set(set) => [
-                set.first_empty(word),
-                set.next_empty(word),
-                set.last_empty(word),
-                set.prev_empty(word),
-            ],
-            Array::Map(words) => [
-                words.first_empty(word),
-                words.next_empty(word),
-                words.last_empty(word),
-                words.prev_empty(word),
-            ],
-        }
+    /// The keys nearest to a word: the first from it on, the first above it, the last up to it, and the last below it. Then the words
+    /// nearest to it that are no keys, in the same order.
+    pub fn near(&self, word: u64) -> [Option<u64>; 8] {
+        of_either!(self, words => [
+            words.first(word),
+            words.next(word),
+            words.last(word),
+            words.prev(word),
+            words.first_empty(word),
+            words.next_empty(word),
+            words.last_empty(word),
+            words.prev_empty(word),
+        ])
     }
 }

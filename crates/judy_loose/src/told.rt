@@ -52,21 +52,12 @@ fn tell_values(rt: &impl Print, words: &JudyL) -> io::Result<()> {
 }
 
 fn tell_word(rt: &impl Print, array: &Array, word: u64) -> io::Result<()> {
-    let [first, next, last, prev] = array.near(word);
-    let [first_empty, next_empty, last_empty, prev_empty] = array.empty_near(word);
+    let [first, next, last, prev, fe, ne, le, pe] = array.near(word).map(Found);
     println!(rt;
-        "at {word}: test {} count {} bycount {} first {} next {} last {} prev {} fe {} ne {} le {} pe {}",
+        "at {word}: test {} count {} bycount {} first {first} next {next} last {last} prev {prev} fe {fe} ne {ne} le {le} pe {pe}",
         u8::from(array.has(word)),
         array.count_up_to(word),
-        Found(array.by_count(word)),
-        Found(first),
-        Found(next),
-        Found(last),
-        Found(prev),
-        Found(first_empty),
-        Found(next_empty),
-        Found(last_empty),
-        Found(prev_empty)
+        Found(array.by_count(word))
     )
 }
 

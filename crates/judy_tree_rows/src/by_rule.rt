@@ -2,7 +2,7 @@
 
 ghost use Rattle.std.specs.Prelude.{◌<◌, ◌≤◌};
 
-use crate::immediates::room_of;
+use crate::any_leaf::room_of;
 use crate::nodes::Counts;
 use judy_leaf::Words;
 use std::alloc::{AllocError, Global};

@@ -26,15 +26,15 @@ pub(crate) enum Call {
 
 use Call::{AtOrAfter, AtOrBefore, EmptyAtOrAfter, EmptyAtOrBefore, Lookup, Nth, Rank};
 
-// All of them.
-pub(crate) const CALLS: [Call; 7] = [
-    Lookup,
-    Rank,
-    Nth,
-    AtOrAfter,
-    AtOrBefore,
-    EmptyAtOrAfter,
-    EmptyAtOrBefore,
+// All of them, with how many nodes each enters at most.
+pub(crate) const CALLS: [(Call, u64); 7] = [
+    (Lookup, 8),
+    (Rank, 8),
+    (Nth, 8),
+    (AtOrAfter, 16),
+    (AtOrBefore, 16),
+    (EmptyAtOrAfter, 16),
+    (EmptyAtOrBefore, 16),
 ];
 
 impl Call {
@@ -70,17 +70,9 @@ impl Call {
             EmptyAtOrBefore => absent_up_to(plain, word, u64::MAX),
         }
     }
-
-    // How many nodes it enters at most.
-    pub(crate) fn most_visits(self) -> u64 {
-        match self {
-            Lookup | Rank | Nth => 8,
-            AtOrAfter | AtOrBefore | EmptyAtOrAfter | EmptyAtOrBefore => 16,
-        }
-    }
 }
 
-// Asks a tree about a word, and compares the answer, and how many nodes the call enters at most.
+// Asks a tree about a word, compares the answer, and how many nodes the call enters at most, and tells how many they are.
 pub(crate) fn check_call<V: Words + Drop>(
     rt: &impl Abort,
     tree: &NodeOf<V>,
@@ -88,22 +80,11 @@ pub(crate) fn check_call<V: Words + Drop>(
     word: u64,
     wanted: Option<u64>,
     most: u64,
-) {
-    let visits = visits_of(rt, tree, call, word, wanted);
-    at_most(rt, call, word, visits, most);
-}
-
-// Asks a tree about a word, compares the answer, and tells how many nodes the call enters.
-pub(crate) fn visits_of<V: Words + Drop>(
-    rt: &impl Abort,
-    tree: &NodeOf<V>,
-    call: Call,
-    word: u64,
-    wanted: Option<u64>,
 ) -> u64 {
     let mut meter = Meter::new(UNMETERED);
     let found = call.ask(tree, word, &mut meter);
     same_answer(rt, call, word, found, wanted);
+    at_most(rt, call, word, meter.visits(), most);
     meter.visits()
 }
 

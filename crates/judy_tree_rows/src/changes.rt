@@ -1,7 +1,7 @@
 //! Trees changed key by key, and the arrays of words over them: their shapes by the worked rows, and histories of keys drawn by chance, beside
 //! a plain list.
 
-use crate::array_shapes::{check_map, check_set, set_of};
+use crate::array_shapes::{check_array, set_of};
 use crate::draws::Numbers;
 use crate::leaves::value_of;
 use crate::nodes::{Counts, Grid, check_pairs, same_shape, tree_of};
@@ -11,6 +11,7 @@ use judy_change::{Removed, insert, insert_with, remove, slot};
 use judy_leaf::{Width, Words};
 use judy_node::{NodeOf, Shape};
 use judy_unmetered::UNMETERED;
+use judy_word::{Judy1, JudyL};
 use std::alloc::{AllocError, Global};
 use std::process::Abort;
 use std::test::Fail;
@@ -183,7 +184,7 @@ fn leaf_and_bitmap_leaf(rt: HostRuntime) -> Result<(), Fail> {
         (Change::Out(Grid::run(0, Some(32))), [0, 1, 0, 0, 0, 0]),
     ];
     check_changes::<Width<0>>(&rt, rt.alloc(), &set)?;
-    check_set(&rt, rt.alloc(), &set)?;
+    check_array::<Judy1>(&rt, rt.alloc(), &set)?;
     Ok(())
 }
 
@@ -196,7 +197,7 @@ fn skip_and_merge(rt: HostRuntime) -> Result<(), Fail> {
         (Change::Out(far), [0, 0, 1, 0, 0, 0]),
     ];
     check_changes::<Width<0>>(&rt, rt.alloc(), &set)?;
-    check_set(&rt, rt.alloc(), &set)?;
+    check_array::<Judy1>(&rt, rt.alloc(), &set)?;
     let pairs = Grid::run(33, Some(1 << 56)).pairs::<Width<0>>(&rt, rt.alloc())?;
     let set = set_of(&rt, rt.alloc(), &pairs);
     check_pairs(&rt, rt.alloc(), set.root(), &pairs)?;
@@ -214,7 +215,7 @@ fn branch_forms(rt: HostRuntime) -> Result<(), Fail> {
         ),
     ];
     check_changes::<Width<0>>(&rt, rt.alloc(), &eight)?;
-    check_set(&rt, rt.alloc(), &eight)?;
+    check_array::<Judy1>(&rt, rt.alloc(), &eight)?;
     let full = [
         (
             Change::In(Grid::rows(128, far, 1, None)),
@@ -226,16 +227,16 @@ fn branch_forms(rt: HostRuntime) -> Result<(), Fail> {
         ),
     ];
     check_changes::<Width<0>>(&rt, rt.alloc(), &full)?;
-    check_set(&rt, rt.alloc(), &full)?;
+    check_array::<Judy1>(&rt, rt.alloc(), &full)?;
     let near = [
         (Change::In(Grid::rows(5, 256, 8, None)), [5, 0, 0, 1, 0, 0]),
         (Change::In(Grid::run(0, Some(8))), [4, 1, 0, 1, 0, 0]),
     ];
     check_changes::<Width<0>>(&rt, rt.alloc(), &near)?;
-    check_set(&rt, rt.alloc(), &near)?;
+    check_array::<Judy1>(&rt, rt.alloc(), &near)?;
     let map = [(Change::In(Grid::rows(5, 256, 8, None)), [0, 5, 0, 1, 0, 0])];
     check_changes::<Width<1>>(&rt, rt.alloc(), &map)?;
-    check_map(&rt, rt.alloc(), &map)?;
+    check_array::<JudyL>(&rt, rt.alloc(), &map)?;
     Ok(())
 }
 
@@ -246,7 +247,7 @@ fn full_ranges(rt: HostRuntime) -> Result<(), Fail> {
         (Change::In(Grid::run(512, None)), [0, 0, 2, 1, 0, 0]),
     ];
     check_changes::<Width<0>>(&rt, rt.alloc(), &set)?;
-    check_set(&rt, rt.alloc(), &set)?;
+    check_array::<Judy1>(&rt, rt.alloc(), &set)?;
     Ok(())
 }
 

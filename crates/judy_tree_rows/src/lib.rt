@@ -21,8 +21,6 @@ mod draws;
 #[cfg(test)]
 mod filled;
 #[cfg(test)]
-mod immediates;
-#[cfg(test)]
 mod iterators;
 #[cfg(test)]
 mod known_nodes;

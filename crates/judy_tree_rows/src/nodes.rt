@@ -3,13 +3,14 @@
 ghost use Rattle.std.specs.Prelude.{◌≡◌, ◌<◌, ◌≤◌, ◌^◌, IsTrue};
 ghost use Rattle.judy_node.specs.Trees.{IsMap};
 
-use crate::array_shapes::{check_map, check_set};
+use crate::array_shapes::check_array;
 use crate::changes::Change;
-use crate::leaves::value_of;
+use crate::leaves::{top_of, value_of};
 use crate::plain::{note, same, same_len, same_pair, same_pairs};
 use judy_leaf::{Width, Words};
 use judy_node::{NodeOf, Shape};
 use judy_unmetered::UNMETERED;
+use judy_word::{Judy1, JudyL};
 use std::alloc::{AllocError, Global};
 use std::process::Abort;
 use std::test::Fail;
@@ -89,23 +90,27 @@ impl Grid {
     }
 }
 
-// Whether a pair can come next, where the next key is to be at least `low`.
-fn follows<V: Words + Drop>(low: u128, key: u64, value: u64) -> bool
-    ensures { IsTrue result → (low ≤ key) × (key < 256 ^ 8) × (V.WORDS ≡ 0 → value ≡ 0) }
+// Whether a pair can come next among keys of a width, where the next key is to be at least `low`.
+fn follows<V: Words + Drop>(low: u128, key: u64, value: u64, width: u8) -> bool
+    requires some { 1 ≤ width }
+    requires most { width ≤ 8 }
+    ensures { IsTrue result → (low ≤ key) × (key < 256 ^ width) × (V.WORDS ≡ 0 → value ≡ 0) }
 {
     if V::WORDS == 0 && value != 0 {
         return false;
     }
-    low <= u128::from(key)
+    low <= u128::from(key) && key <= top_of(width)
 }
 
-// Whether the keys strictly ascend, and each value is 0 where keys have no value.
-fn ascends<V: Words + Drop>(pairs: &[(u64, u64)]) -> bool
-    ensures { IsTrue result → IsMap V.WORDS 0 (256 ^ 8) pairs.now }
+// Whether keys of a width strictly ascend, and each value is 0 where keys have no value.
+pub(crate) fn ascends<V: Words + Drop>(pairs: &[(u64, u64)], width: u8) -> bool
+    requires some { 1 ≤ width }
+    requires most { width ≤ 8 }
+    ensures { IsTrue result → IsMap V.WORDS 0 (256 ^ width) pairs.now }
 {
     let mut low = 0;
     for pair in pairs {
-        if !follows::<V>(low, pair.0, pair.1) {
+        if !follows::<V>(low, pair.0, pair.1, width) {
             return false;
         }
         low = u128::from(pair.0) + 1;
@@ -166,7 +171,7 @@ pub(crate) fn tree_of<V: Words + Drop>(
     pairs: &[(u64, u64)],
 ) -> Result<NodeOf<V>, AllocError> {
     assert!(rt; V::WORDS <= 1);
-    let ascending = ascends::<V>(pairs);
+    let ascending = ascends::<V>(pairs, 8);
     assert!(rt; ascending);
     NodeOf::from_sorted(alloc, pairs)
 }
@@ -238,11 +243,11 @@ fn shape_table(rt: HostRuntime) -> Result<(), Fail> {
     let sets = [(Grid::run(257, None), [1, 0, 1, 1, 0, 0])];
     check_table::<Width<0>>(&rt, rt.alloc(), &sets)?;
     for (grid, counts) in both {
-        check_set(&rt, rt.alloc(), &[(Change::In(grid), counts)])?;
-        check_map(&rt, rt.alloc(), &[(Change::In(grid), counts)])?;
+        check_array::<Judy1>(&rt, rt.alloc(), &[(Change::In(grid), counts)])?;
+        check_array::<JudyL>(&rt, rt.alloc(), &[(Change::In(grid), counts)])?;
     }
     for (grid, counts) in sets {
-        check_set(&rt, rt.alloc(), &[(Change::In(grid), counts)])?;
+        check_array::<Judy1>(&rt, rt.alloc(), &[(Change::In(grid), counts)])?;
     }
     Ok(())
 }

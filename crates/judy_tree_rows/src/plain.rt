@@ -63,9 +63,28 @@ pub(crate) fn absent_up_to(plain: &[(u64, u64)], word: u64, top: u64) -> Option<
     Some(number)
 }
 
-// Where a key stands.
-fn place_of(plain: &[(u64, u64)], word: u64) -> Option<usize> {
-    plain.iter().position(|pair| pair.0 == word)
+// What a leaf answers of a word: how many keys are below it, its place where it is a key, the nearest pairs at or above it and at or below it,
+// and the nearest numbers at or above it and at or below it that are no keys.
+#[derive(Drop, PartialEq, Debug)]
+pub(crate) struct Answers {
+    pub(crate) rank: usize,
+    pub(crate) place: Option<usize>,
+    pub(crate) after: Option<(u64, u64)>,
+    pub(crate) before: Option<(u64, u64)>,
+    pub(crate) absent_after: Option<u64>,
+    pub(crate) absent_before: Option<u64>,
+}
+
+// What the plain list answers of a word, where the greatest key that there may be is `top`.
+pub(crate) fn answers_of(plain: &[(u64, u64)], word: u64, top: u64) -> Answers {
+    Answers {
+        rank: rank(plain, word),
+        place: plain.iter().position(|pair| pair.0 == word),
+        after: pair_from(plain, word),
+        before: pair_up_to(plain, word),
+        absent_after: absent_from(plain, word, top),
+        absent_before: absent_up_to(plain, word, top),
+    }
 }
 
 // Compares what is found with what is wanted, of a word.
@@ -85,16 +104,6 @@ pub(crate) fn same_pair(
     wanted: Option<(u64, u64)>,
     word: u64,
 ) {
-    assert_eq!(rt; found, wanted, "{word}");
-}
-
-// The same of a count of keys.
-fn same_rank(rt: &impl Abort, found: usize, wanted: usize, word: u64) {
-    assert_eq!(rt; found, wanted, "{word}");
-}
-
-// The same of a place that there may be.
-fn same_place(rt: &impl Abort, found: Option<usize>, wanted: Option<usize>, word: u64) {
     assert_eq!(rt; found, wanted, "{word}");
 }
 
@@ -119,30 +128,6 @@ pub(crate) fn write_first(rt: &impl Abort, slot: &mut u64, value: u64) {
     *slot = value;
 }
 
-// Compares the rank and the place of a word.
-pub(crate) fn check_word(
-    rt: &impl Abort,
-    word: u64,
-    plain: &[(u64, u64)],
-    found: usize,
-    place: Option<usize>,
-) {
-    same_rank(rt, found, rank(plain, word), word);
-    same_place(rt, place, place_of(plain, word), word);
-}
-
-// Compares the nearest pairs at or above a word and at or below it.
-pub(crate) fn check_nearest(
-    rt: &impl Abort,
-    word: u64,
-    plain: &[(u64, u64)],
-    after: Option<(u64, u64)>,
-    before: Option<(u64, u64)>,
-) {
-    same_pair(rt, after, pair_from(plain, word), word);
-    same_pair(rt, before, pair_up_to(plain, word), word);
-}
-
 // Compares the value of a word and the nearest pair above it.
 pub(crate) fn check_around(
     rt: &impl Abort,
@@ -159,17 +144,4 @@ pub(crate) fn check_around(
         plain.iter().copied().find(|pair| pair.0 > word),
         word,
     );
-}
-
-// Compares the nearest numbers at or above a word and at or below it that are no keys, of all up to the greatest key of a width.
-pub(crate) fn check_absent(
-    rt: &impl Abort,
-    word: u64,
-    top: u64,
-    plain: &[(u64, u64)],
-    after: Option<u64>,
-    before: Option<u64>,
-) {
-    same_number(rt, after, absent_from(plain, word, top), word);
-    same_number(rt, before, absent_up_to(plain, word, top), word);
 }

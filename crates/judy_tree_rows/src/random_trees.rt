@@ -5,7 +5,7 @@ use crate::calls::{CALLS, check_call};
 use crate::draws::{Numbers, Pattern, drawn};
 use crate::leaves::top_of;
 use crate::nodes::{Counts, check_tree, tree_of};
-use crate::plain::{beside, check_around, check_nearest, same_pair};
+use crate::plain::{beside, check_around, pair_from, pair_up_to, same_pair};
 use judy_bits::Meter;
 use judy_leaf::{Width, Words};
 use judy_node::NodeOf;
@@ -13,7 +13,6 @@ use judy_query::{around, entry_at_or_after, entry_at_or_before, entry_nth};
 use judy_unmetered::UNMETERED;
 use std::alloc::{AllocError, Global};
 use std::process::Abort;
-use std::test::Fail;
 
 // Compares what each call answers of a word, and how many nodes it enters.
 fn check_calls<V: Words + Drop>(
@@ -22,9 +21,8 @@ fn check_calls<V: Words + Drop>(
     plain: &[(u64, u64)],
     word: u64,
 ) {
-    for call in CALLS {
-        let wanted = call.by_list(plain, word);
-        check_call(rt, tree, call, word, wanted, call.most_visits());
+    for (call, most) in CALLS {
+        check_call(rt, tree, call, word, call.by_list(plain, word), most);
     }
 }
 
@@ -38,10 +36,11 @@ fn check_entries<V: Words + Drop>(
     let mut meter = Meter::new(UNMETERED);
     let after = entry_at_or_after(tree, word, &mut meter);
     at_most(rt, word, &meter, 16);
+    same_pair(rt, after, pair_from(plain, word), word);
     let mut meter = Meter::new(UNMETERED);
     let before = entry_at_or_before(tree, word, &mut meter);
     at_most(rt, word, &meter, 16);
-    check_nearest(rt, word, plain, after, before);
+    same_pair(rt, before, pair_up_to(plain, word), word);
     let mut meter = Meter::new(UNMETERED);
     let (found, above) = around(tree, word, &mut meter);
     at_most(rt, word, &meter, 16);
@@ -107,7 +106,7 @@ fn check_drawn<V: Words + Drop>(
     Ok(pairs)
 }
 
-// The patterns of the trees that are asked: together they have nodes of all kinds.
+// The patterns of the trees that are asked.
 const ASKED: [&[Pattern]; 12] = [
     &[],
     &[(0, u64::MAX, 1)],
@@ -127,11 +126,15 @@ const ASKED: [&[Pattern]; 12] = [
     ],
 ];
 
-// Asks trees of all kinds of nodes.
-fn check_all_queries<V: Words + Drop>(rt: &impl Abort, alloc: Global) -> Result<(), AllocError> {
+// Asks the trees of such patterns, which together have nodes of all kinds.
+fn check_trees<V: Words + Drop>(
+    rt: &impl Abort,
+    alloc: Global,
+    asked: &[&[Pattern]],
+) -> Result<(), AllocError> {
     let mut numbers = Numbers::new();
     let mut total = [0; 6];
-    for patterns in ASKED {
+    for patterns in asked {
         let pairs = check_drawn::<V>(rt, alloc, &mut numbers, &mut total, patterns)?;
         let tree = tree_of::<V>(rt, alloc, &pairs)?;
         check_queries(rt, &tree, &pairs);
@@ -141,15 +144,13 @@ fn check_all_queries<V: Words + Drop>(rt: &impl Abort, alloc: Global) -> Result<
 }
 
 #[test]
-fn queries_of_random_sets(rt: HostRuntime) -> Result<(), Fail> {
-    check_all_queries::<Width<0>>(&rt, rt.alloc())?;
-    Ok(())
+fn queries_of_random_sets(rt: HostRuntime) -> Result<(), AllocError> {
+    check_trees::<Width<0>>(&rt, rt.alloc(), &ASKED)
 }
 
 #[test]
-fn queries_of_random_maps(rt: HostRuntime) -> Result<(), Fail> {
-    check_all_queries::<Width<1>>(&rt, rt.alloc())?;
-    Ok(())
+fn queries_of_random_maps(rt: HostRuntime) -> Result<(), AllocError> {
+    check_trees::<Width<1>>(&rt, rt.alloc(), &ASKED)
 }
 
 // Compares the shapes of trees whose keys differ in their lowest bytes, those of `top`, and of one key more, which differs from these in the
@@ -188,13 +189,11 @@ fn check_widths<V: Words + Drop>(rt: &impl Abort, alloc: Global) -> Result<(), A
 }
 
 #[test]
-fn shapes_of_random_sets(rt: HostRuntime) -> Result<(), Fail> {
-    check_widths::<Width<0>>(&rt, rt.alloc())?;
-    Ok(())
+fn shapes_of_random_sets(rt: HostRuntime) -> Result<(), AllocError> {
+    check_widths::<Width<0>>(&rt, rt.alloc())
 }
 
 #[test]
-fn shapes_of_random_maps(rt: HostRuntime) -> Result<(), Fail> {
-    check_widths::<Width<1>>(&rt, rt.alloc())?;
-    Ok(())
+fn shapes_of_random_maps(rt: HostRuntime) -> Result<(), AllocError> {
+    check_widths::<Width<1>>(&rt, rt.alloc())
 }

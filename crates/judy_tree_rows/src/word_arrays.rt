@@ -96,6 +96,15 @@ fn set_key(rt: &impl Abort, set: &mut Judy1, key: u64) {
     assert_eq!(rt; set.set(key), Ok(true), "{key}");
 }
 
+// The set of the words below a number.
+fn set_below(rt: &impl Abort, alloc: Global, count: u64) -> Judy1 {
+    let mut set = Judy1::new(alloc, 1000);
+    for word in 0..count {
+        set_key(rt, &mut set, word);
+    }
+    set
+}
+
 // Compares the value of a key with the one wanted.
 fn check_value(rt: &impl Abort, pairs: &JudyL, key: u64, wanted: Option<u64>) {
     same_number(rt, pairs.get(key), wanted, key);
@@ -226,10 +235,7 @@ fn count_corners(rt: HostRuntime) -> Result<(), Fail> {
 
 #[test]
 fn full_ranges(rt: HostRuntime) -> Result<(), Fail> {
-    let mut set = Judy1::new(rt.alloc(), 1000);
-    for word in 0..256 {
-        set_key(&rt, &mut set, word);
-    }
+    let mut set = set_below(&rt, rt.alloc(), 256);
     same_number(&rt, set.first_empty(0), Some(256), 0);
     same_number(&rt, set.next_empty(255), Some(256), 255);
     same_number(&rt, set.last_empty(255), None, 255);
@@ -268,10 +274,7 @@ fn set_and_unset(rt: HostRuntime) -> Result<(), Fail> {
 // The calls that tell of the tree, each once.
 #[test]
 fn tree_of_a_set(rt: HostRuntime) -> Result<(), AllocError> {
-    let mut set = Judy1::new(rt.alloc(), 1000);
-    for word in 0..33 {
-        set_key(&rt, &mut set, word);
-    }
+    let mut set = set_below(&rt, rt.alloc(), 33);
     same_nodes(&rt, set.shape().bitmap_leaves, 1);
     yes(&rt, set.unset(32));
     same_nodes(&rt, set.shape().leaves, 1);

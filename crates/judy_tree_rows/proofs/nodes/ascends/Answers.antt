@@ -12,8 +12,8 @@ loop-pair-preserved g c = λ rest.
     let pairs = c.args.pairs.now in
     let at = c.loop-pair.pair-index in
     let fits = c.follows.ensures c.if-not-follows.false in
-    c.loop-pair.invariant (subst (IsMap words c.loop-pair.low (256 ^ 8)) (sym (drop_more pairs at (0, 0) c.loop-pair-test.true))
-    (fits.0, fits.1, fits.2, subst (λ key. IsMap words (key + 1) (256 ^ 8) (drop (at + 1) pairs)) c.from-low.ensures rest))
+    c.loop-pair.invariant (subst (IsMap words c.loop-pair.low (256 ^ c.args.width)) (sym (drop_more pairs at (0, 0) c.loop-pair-test.true))
+    (fits.0, fits.1, fits.2, subst (λ key. IsMap words (key + 1) (256 ^ c.args.width) (drop (at + 1) pairs)) c.from-low.ensures rest))
 
 pub returns : goal.returns
-returns g c = λ _. c.loop-pair.invariant (subst (IsMap g.V.Words.WORDS c.loop-pair.low (256 ^ 8)) (sym (drop_all c.loop-pair.pair-index c.args.pairs.now c.loop-pair-test.false)) tt)
+returns g c = λ _. c.loop-pair.invariant (subst (IsMap g.V.Words.WORDS c.loop-pair.low (256 ^ c.args.width)) (sym (drop_all c.loop-pair.pair-index c.args.pairs.now c.loop-pair-test.false)) tt)

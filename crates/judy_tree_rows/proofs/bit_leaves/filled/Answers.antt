@@ -1,7 +1,0 @@
-use Rattle.std.proofs.Common.{arith}
-use Rattle.std.specs.List.Sorted.{IsStrictlySortedBy}
-use Rattle.judy_tree_rows.proofs.bit_leaves.filled.Goals as goal
-
-pub from_sorted-requires-clause-list : goal.from_sorted-requires-clause-list
-unfolding IsStrictlySortedBy
-from_sorted-requires-clause-list g c = record { some = omega arith; most = omega arith; ascending = tt; below = tt }
