@@ -42,7 +42,10 @@ pub extern "C" fn sellumaq_judy1_test(alloc: Global, handle: &mut Set, key: u64)
     ensures answer { result ≡ map.contains_key (set_of handle.old) key }
     ensures same { handle.new ≡ handle.old }
 {
-    handle.ask(alloc, |array| array.test(key))
+    match handle.array() {
+        Some(array) => array.test(key),
+        None => false,
+    }
 }
 
 /// Takes a key out, and answers whether it was there. It can't fail. (Manual: J1U, Judy1Unset.)

@@ -34,7 +34,10 @@ pub extern "C" fn sellumaq_judyl_get(
     ensures told { IsTold (map.get (map_of handle.old) key) result value.old value.new }
     ensures same { handle.new ≡ handle.old }
 {
-    tell(handle.ask(alloc, |array| array.get(key)), value)
+    match handle.array() {
+        Some(array) => tell(array.get(key), value),
+        None => tell(None, value),
+    }
 }
 
 /// Hands out the slot of a key, which is put in with the value 0 where it is absent: what is left there is the key's value. False

@@ -15,7 +15,7 @@ ghost use Rattle.judy_leaf.specs.KeyChanges.{IsKeyChange, HasPlace, HasPlaceFor}
 
 use crate::edit::{pull_key, push_key};
 use crate::gaps::{absent_from_in, absent_up_to_in};
-use crate::packed::{find_in, key_of, next_in, previous_in, rank_in};
+use crate::packed::{self, find_in, key_of, next_in, previous_in, rank_in};
 use crate::widths::{at_width, call};
 use judy_bits::low_part;
 use judy_block::Block;
@@ -72,6 +72,17 @@ pub(crate) fn find(
     ensures { result ≡ set.place (keys_from width count start block.now) key }
 {
     at_width!(width, search, find_in, block, start, count, key)
+}
+
+// The same among keys of eight bytes.
+#[inline(always)]
+pub(crate) fn find_word(block: &Block, start: usize, count: usize, key: u64) -> Option<usize>
+    requires start { start ≤ 32 }
+    requires keys { AreKeysFrom 8 count start block.now }
+    requires ascending { IsStrictlySortedBy word_order (keys_from 8 count start block.now) }
+    ensures { result ≡ set.place (keys_from 8 count start block.now) key }
+{
+    packed::find_word(count, words_from::<8>(block, start, count), key)
 }
 
 // The place of the nearest key at or above a number, and that key.

@@ -128,6 +128,16 @@ impl<'a, V: Words + Drop> LeafRef<'a, V> {
         keys::find(width, block, start, count, key)
     }
 
+    /// The same in a leaf whose keys have eight bytes: nothing asks for their width.
+    #[inline(always)]
+    pub fn find_word(&self, key: u64) -> Option<usize>
+        requires { self.now.width ≡ 8 }
+        ensures { result ≡ set.place (keys_of self.now.pairs) key }
+    {
+        let (_, block, start, count) = self.keys();
+        keys::find_word(block, start, count, key)
+    }
+
     /// The place of a key, as `Ok`; or, where the word isn't one of the keys, the place that it would have, as `Err`.
     #[inline(always)]
     pub fn search(&self, key: u64) -> Result<usize, usize>

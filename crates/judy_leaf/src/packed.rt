@@ -11,7 +11,7 @@ ghost use Rattle.judy_bits.specs.ByteSets as set;
 ghost use Rattle.judy_leaf.specs.Packing.{places, places_of, keys_in, IsPacked, IsWidth};
 ghost use Rattle.judy_leaf.specs.Nearby.{IsNextAt, IsPreviousAt};
 
-use crate::halves::rank_of;
+use crate::halves::{place_of, rank_of};
 use crate::lanes::{bytes_before, bytes_below, pairs_below};
 use crate::place::key_in;
 
@@ -101,6 +101,17 @@ fn find_byte(count: usize, words: &[u64], key: u64) -> Option<usize>
     if at < count { Some(at) } else { None }
 }
 
+// The place of a key of eight bytes, where it is among the keys, which are the words.
+#[inline(always)]
+pub(crate) fn find_word(count: usize, words: &[u64], key: u64) -> Option<usize>
+    requires packed { IsPacked 8 count words.now }
+    requires ascending { IsStrictlySortedBy word_order (keys_in 8 count words.now) }
+    requires few { length words.now ≤ 32 }
+    ensures { result ≡ set.place (keys_in 8 count words.now) key }
+{
+    place_of(&words[..count], key)
+}
+
 // The place of a key, where it is among the keys.
 pub(crate) fn find_in<const W: usize>(count: usize, words: &[u64], key: u64) -> Option<usize>
     requires packed { IsPacked W count words.now }
@@ -110,6 +121,9 @@ pub(crate) fn find_in<const W: usize>(count: usize, words: &[u64], key: u64) -> 
 {
     if W == 1 {
         return find_byte(count, words, key);
+    }
+    if W == 8 {
+        return find_word(count, words, key);
     }
     let at = rank_in::<W>(count, words, key);
     if at < count && key_of::<W>(words, at) == key {

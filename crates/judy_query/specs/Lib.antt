@@ -6,3 +6,4 @@ pub mod Turns
 pub mod Visits
 pub mod Walks
 pub mod Givings
+pub mod Starts

@@ -55,6 +55,19 @@ fn value_in_leaf<V: Words + Drop>(list: &LeafRef<'_, V>, key: u64) -> Option<u64
     Some(list.value_at(at))
 }
 
+/// The value of a key of a leaf at a root, where keys have eight bytes.
+// The width is a constant there, and nothing asks for it.
+#[inline(always)]
+#[tactic(auto, using(crate::proofs::Finds::place_inside, crate::proofs::Finds::place_value, crate::proofs::Finds::place_none))]
+pub(crate) fn value_in_words<V: Words + Drop>(list: &LeafRef<'_, V>, key: u64) -> Option<u64>
+    requires { list.now.width ≡ 8 }
+    ensures { result ≡ value_of list.now.pairs key }
+{
+    list.told();
+    let at = list.find_word(key)?;
+    Some(list.value_at(at))
+}
+
 // The value of a last byte of a bitmap leaf.
 #[tactic(auto, using(crate::proofs::Finds::place_inside, crate::proofs::Finds::place_value, crate::proofs::Finds::place_none))]
 fn value_in_bits<V: Words + Drop>(list: &BitRef<'_, V>, key: u64) -> Option<u64>

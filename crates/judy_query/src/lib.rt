@@ -53,5 +53,5 @@ pub use empties::{empty_at_or_after, empty_at_or_before};
 pub use many::{MOST_WAYS, lookup_many};
 pub use places::{entry_nth, nth};
 pub use surroundings::around;
-pub use values::lookup;
+pub use values::{Start, lookup, lookup_further, lookup_start};
 pub use walk::Walk;

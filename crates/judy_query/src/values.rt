@@ -8,9 +8,10 @@ ghost use Rattle.judy_node.specs.declared.view.ViewOf.TheVariants.{Branch};
 ghost use Rattle.judy_query.specs.Ends.{value_at, IsEndIfAny};
 ghost use Rattle.judy_query.specs.Maps.{map_of};
 ghost use Rattle.judy_query.specs.Parts.{value_of, IsEnd, IsShown};
-ghost use Rattle.judy_query.specs.Visits.{most_visits_down};
+ghost use Rattle.judy_query.specs.Starts.{IsBegun};
+ghost use Rattle.judy_query.specs.Visits.{most_visits_below, most_visits_down};
 
-use crate::ends::value_in;
+use crate::ends::{value_in, value_in_words};
 use judy_bits::Meter;
 use judy_leaf::Words;
 use judy_node::{BranchOf, NodeOf, Step, ViewOf};
@@ -25,6 +26,58 @@ pub fn lookup<V: Words + Drop>(tree: &NodeOf<V>, key: u64, meter: &mut Meter) ->
 {
     tree.told();
     let (end, left) = way_of(tree, key, meter)?;
+    value_in(&end, left)
+}
+
+/// What a look-up finds at the root, which it enters.
+#[derive(Drop)]
+pub enum Start<'a, V: Words + Drop> {
+    /// The root is a leaf: the value of the key there, none where it is absent.
+    Found(Option<u64>),
+    /// The root is a branch, and the way goes on there.
+    Further(&'a BranchOf<V>),
+    /// The root is another node without children.
+    Other,
+}
+
+/// Begins a look-up: one visit, of the root. The meter stands below `u64::MAX`.
+// A small array is one leaf at the root, and its search is hardly more than a call: so this is compiled into its callers, and the rest isn't.
+#[inline(always)]
+pub fn lookup_start<'a, V: Words + Drop>(
+    tree: &'a NodeOf<V>,
+    key: u64,
+    meter: &mut Meter,
+) -> Start<'a, V>
+    requires { meter.old < 2 ^ 64 - 1 }
+    ensures start { IsBegun V.WORDS tree.now.pairs key result }
+    ensures visits { meter.new ≡ meter.old + 1 }
+{
+    tree.told();
+    match tree.enter(meter) {
+        ViewOf::Leaf(list) => Start::Found(value_in_words(&list, key)),
+        ViewOf::Branch(branch) => Start::Further(branch),
+        _ => Start::Other,
+    }
+}
+
+/// Goes on with a look-up from a branch at the root: at most 7 visits more. The meter stands at most at `u64::MAX - 16`.
+#[inline(always)]
+pub fn lookup_further<V: Words + Drop>(
+    branch: &BranchOf<V>,
+    key: u64,
+    meter: &mut Meter,
+) -> Option<u64>
+    requires below { meter.old ≤ 2 ^ 64 - 17 }
+    requires shown { IsShown V.WORDS (Branch branch) }
+    requires wide { length branch.now.skip + 1 + branch.now.width ≡ 8 }
+    ensures value { result ≡ map.get
+        (map_of
+        (branch_pairs branch.now.width branch.now.skip branch.now.bytes branch.now.children.items))
+        key }
+    ensures no_fewer { meter.old ≤ meter.new }
+    ensures visits { meter.new ≤ meter.old + most_visits_below }
+{
+    let (end, left) = end_of_way(branch, key, meter)?;
     value_in(&end, left)
 }
 

@@ -1,19 +1,38 @@
 //! What is asked of a key, how many keys stand where, and which key is the n-th.
 
-ghost use Rattle.std.specs.Prelude.{◌≡◌, ◌≤◌, length, map as mapped};
+ghost use Rattle.std.specs.Prelude.{◌≡◌, ◌+◌, ◌≤◌, length, map as mapped};
 ghost use Rattle.std.specs.FinMap as map;
 ghost use Rattle.judy_model.specs.Counts as counts;
+ghost use Rattle.judy_node.specs.Trees.{branch_pairs};
+ghost use Rattle.judy_node.specs.declared.view.ViewOf.TheVariants.{Branch};
+ghost use Rattle.judy_query.specs.Maps.{map_of};
+ghost use Rattle.judy_query.specs.Parts.{IsShown};
 ghost use Rattle.judy_word.specs.Held.{map_in};
 
 use crate::tree_array::TreeArray;
 use judy_bits::Meter;
 use judy_leaf::Words;
-use judy_query::{MOST_WAYS, lookup, lookup_many, nth, rank};
+use judy_node::BranchOf;
+use judy_query::{MOST_WAYS, Start, lookup, lookup_further, lookup_many, lookup_start, nth, rank};
 use judy_unmetered::UNMETERED;
 
 impl<V: Words + Drop> TreeArray<V> {
     /// The value of a key, 0 where keys have no value; `None` where it is absent.
+    // A key of a small array, whose root is a leaf, is found in the caller; any other by a call.
+    #[inline(always)]
     pub fn get(&self, key: u64) -> Option<u64>
+        ensures { result ≡ map.get (map_in self.now) key }
+    {
+        match lookup_start(&self.root, key, &mut Meter::new(UNMETERED)) {
+            Start::Found(value) => value,
+            Start::Further(branch) => get_further(branch, key),
+            Start::Other => self.get_other(key),
+        }
+    }
+
+    // The same, where the root is neither a leaf nor a branch.
+    #[inline(never)]
+    fn get_other(&self, key: u64) -> Option<u64>
         ensures { result ≡ map.get (map_in self.now) key }
     {
         lookup(&self.root, key, &mut Meter::new(UNMETERED))
@@ -115,4 +134,17 @@ impl<V: Words + Drop> TreeArray<V> {
             nth(&self.root, n - 1, &mut Meter::new(UNMETERED))
         }
     }
+}
+
+// The value of a key of a branch at a root.
+#[inline(never)]
+fn get_further<V: Words + Drop>(branch: &BranchOf<V>, key: u64) -> Option<u64>
+    requires shown { IsShown V.WORDS (Branch branch) }
+    requires wide { length branch.now.skip + 1 + branch.now.width ≡ 8 }
+    ensures { result ≡ map.get
+        (map_of
+        (branch_pairs branch.now.width branch.now.skip branch.now.bytes branch.now.children.items))
+        key }
+{
+    lookup_further(branch, key, &mut Meter::new(UNMETERED))
 }

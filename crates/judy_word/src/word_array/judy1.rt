@@ -55,12 +55,13 @@ impl Judy1 {
     }
 
     /// Whether the key `i` is there. (Manual: J1T, Judy1Test.)
+    #[inline(always)]
     pub fn test(&self, i: u64) -> bool
         ensures answer { result ≡ map.contains_key self.now.map i }
         ensures zeros { IsSet (array_of self.now) }
     {
         self.tree.told();
-        self.tree.has(i)
+        self.tree.get(i).is_some()
     }
 
     /// Whether keys are there, each told at the place of its key: what `test` answers of it. The ways of up to 16 keys go down side by side, and

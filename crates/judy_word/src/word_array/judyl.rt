@@ -105,6 +105,7 @@ impl JudyL {
     }
 
     /// The value of the key `i`, and `None` where it is absent. (Manual: JLG, JudyLGet.)
+    #[inline(always)]
     pub fn get(&self, i: u64) -> Option<u64>
         ensures { result ≡ map.get self.now.map i }
     {
