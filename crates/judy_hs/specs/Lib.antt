@@ -19,3 +19,4 @@ pub mod Slots
 pub mod InnerForm
 pub mod Listed
 pub mod Trials
+pub mod Found

@@ -1,14 +1,16 @@
 //! The array that maps byte strings to words.
 
-ghost use Rattle.std.specs.Prelude.{◌≡◌, ◌≤◌, ◌↔◌, ◌<◌, Some, IsSome, IfSome, IfOk, OnOk, IfErr, IsTrue, IsFalse, length};
+ghost use Rattle.std.specs.Prelude.{◌≡◌, ◌≤◌, ◌↔◌, ◌<◌, Some, IsSome, IfSome, IfOk, OnOk, IfErr, IsTrue, IsFalse, MatchOption, length};
 ghost use Rattle.std.specs.Borrow.{sem};
 ghost use Rattle.std.specs.FinMap as map;
 ghost use Rattle.std.specs.Option.{option_copied_mut};
 ghost use Rattle.judy_model.specs.Arrays as array;
+ghost use Rattle.judy_hs.specs.Kept.{map_of};
+ghost use Rattle.judy_hs.specs.Found.{StandsAt};
 
 use crate::entry::HsEntry;
 use crate::error::HsError;
-use crate::groups::Groups;
+use crate::groups::{Groups, Spot};
 use crate::hash::ByteHash;
 use crate::part::part_of;
 use crate::trial::Trial;
@@ -128,13 +130,8 @@ impl<H: ByteHash + Drop> JudyHs<H> {
         ensures value { option_copied_mut result ≡ map.get self.old.map key.now }
     {
         let _groups = &self.groups;
-        if key.len() > H::LONGEST {
-            return None;
-        }
-        let part = part_of(&self.hasher, key);
-        let way = self.groups.way(part, key);
-        match self.groups.find(way, part, key) {
-            Some(spot) => self.groups.slot(spot, key),
+        match spot_of(&self.hasher, &self.groups, key) {
+            Some((_, spot)) => self.groups.slot(spot, key),
             None => None,
         }
     }
@@ -146,13 +143,8 @@ impl<H: ByteHash + Drop> JudyHs<H> {
         ensures deleted { self.new ≡ array.with_map self.old (array.del self.old.map key.now) }
     {
         let _groups = &self.groups;
-        if key.len() > H::LONGEST {
-            return false;
-        }
-        let part = part_of(&self.hasher, key);
-        let way = self.groups.way(part, key);
-        match self.groups.find(way, part, key) {
-            Some(spot) => {
+        match spot_of(&self.hasher, &self.groups, key) {
+            Some((part, spot)) => {
                 self.groups.remove(part, key, spot);
                 self.count -= 1;
                 self.give_back();
@@ -270,5 +262,24 @@ impl<H: ByteHash + Drop> JudyHs<H> {
         ensures { array.IsArrayOf (IsBytesKeyTo H.LONGEST) self.now }
     {
         self.groups.are_words();
+    }
+}
+
+// The word by which its group finds a key, and where the key stands; none where it is absent, as every key of more than `H::LONGEST` bytes is.
+// Compiled into its two callers: a look-up for a slot is one of them.
+#[inline(always)]
+fn spot_of<H: ByteHash>(hasher: &H, groups: &Groups, key: &[u8]) -> Option<(u64, Spot)>
+    ensures { MatchOption result
+        (map.get (map_of H.hash_of H.LONGEST groups.now) key.now ≡ None)
+        (λ found. StandsAt H.hash_of H.LONGEST groups.now key.now found.0 found.1) }
+{
+    if key.len() > H::LONGEST {
+        return None;
+    }
+    let part = part_of(hasher, key);
+    let way = groups.way(part, key);
+    match groups.find(way, part, key) {
+        Some(spot) => Some((part, spot)),
+        None => None,
     }
 }

@@ -178,32 +178,31 @@ cut-twice upper lower n =
     ap (λ k. k % 2 ^ lower) (mod-pow-add n upper lower)
     ∙ mod-mul-add (n / 2 ^ lower % 2 ^ upper) (2 ^ lower) (n % 2 ^ lower) (mod_below n (2 ^ lower) (pow_pos lower))
 
--- Both reads are of four bytes, or of two.
+-- Both reads are of so many bytes.
+short-ends : (part unit : ℕ) (read : List ℕ → ℕ) → ((bytes : List ℕ) → length bytes ≡ part → read bytes ≡ spelled part bytes) → unit ≡ 256 ^ (8 - part) → ((n : ℕ) → n % 18446744073709551616 % unit ≡ n % unit)
+    → (bytes first last : List ℕ) → ((k : ℕ) → get_or bytes k 0 < 256) → part ≤ length bytes → length bytes < 2 * part → length bytes < 8
+    → first ≡ take part bytes → last ≡ drop (length bytes - part) bytes
+    → read first * unit + read last * 2 ^ (64 - 8 * length bytes) % 18446744073709551616 % unit ≡ first_word bytes
+unfolding first_word
+short-ends part unit read spells is-unit cut bytes first last below enough few most is-first is-last =
+    let left = length-drop (length bytes - part) bytes in
+    let bits : 64 - 8 * length bytes ≡ 8 * (8 - length bytes) = omega arith in
+    ap (λ n. read first * unit + n) (cut (read last * 2 ^ (64 - 8 * length bytes)))
+    ∙ (λ i. read first * is-unit i + read last * 2 ^ (64 - 8 * length bytes) % is-unit i)
+    ∙ both-ends part bytes (read first) (read last) (2 ^ (64 - 8 * length bytes)) below enough (omega (arith, few)) (omega (arith, most))
+    (ap read is-first ∙ spells (take part bytes) (length-take-le part bytes enough) ∙ spelled-take part bytes)
+    (ap read is-last ∙ spells (drop (length bytes - part) bytes) (omega (arith, left, enough)))
+    (ap (λ n. 2 ^ n) bits ∙ bits-of (8 - length bytes))
+
 pub short-four : (bytes first last : List ℕ) → ((k : ℕ) → get_or bytes k 0 < 256) → 4 ≤ length bytes → length bytes < 8
     → first ≡ take 4 bytes → last ≡ drop (length bytes - 4) bytes
     → from_be_bytes w32 first * 4294967296 + from_be_bytes w32 last * 2 ^ (64 - 8 * length bytes) % 18446744073709551616 % 4294967296 ≡ first_word bytes
-unfolding first_word
-short-four bytes first last below enough few is-first is-last =
-    let left = length-drop (length bytes - 4) bytes in
-    let bits : 64 - 8 * length bytes ≡ 8 * (8 - length bytes) = omega arith in
-    ap (λ n. from_be_bytes w32 first * 4294967296 + n) (cut-twice 32 32 (from_be_bytes w32 last * 2 ^ (64 - 8 * length bytes)))
-    ∙ both-ends 4 bytes (from_be_bytes w32 first) (from_be_bytes w32 last) (2 ^ (64 - 8 * length bytes)) below enough (omega arith) (omega arith)
-    (ap (from_be_bytes w32) is-first ∙ four-spelled (take 4 bytes) (length-take-le 4 bytes enough) ∙ spelled-take 4 bytes)
-    (ap (from_be_bytes w32) is-last ∙ four-spelled (drop (length bytes - 4) bytes) (omega (arith, left)))
-    (ap (λ n. 2 ^ n) bits ∙ bits-of (8 - length bytes))
+short-four bytes first last below enough few = short-ends 4 4294967296 (from_be_bytes w32) four-spelled refl (cut-twice 32 32) bytes first last below enough few few
 
 pub short-two : (bytes first last : List ℕ) → ((k : ℕ) → get_or bytes k 0 < 256) → 2 ≤ length bytes → length bytes < 4
     → first ≡ take 2 bytes → last ≡ drop (length bytes - 2) bytes
     → from_be_bytes w16 first * 281474976710656 + from_be_bytes w16 last * 2 ^ (64 - 8 * length bytes) % 18446744073709551616 % 281474976710656 ≡ first_word bytes
-unfolding first_word
-short-two bytes first last below enough few is-first is-last =
-    let left = length-drop (length bytes - 2) bytes in
-    let bits : 64 - 8 * length bytes ≡ 8 * (8 - length bytes) = omega arith in
-    ap (λ n. from_be_bytes w16 first * 281474976710656 + n) (cut-twice 16 48 (from_be_bytes w16 last * 2 ^ (64 - 8 * length bytes)))
-    ∙ both-ends 2 bytes (from_be_bytes w16 first) (from_be_bytes w16 last) (2 ^ (64 - 8 * length bytes)) below enough (omega arith) (omega arith)
-    (ap (from_be_bytes w16) is-first ∙ two-spelled (take 2 bytes) (length-take-le 2 bytes enough) ∙ spelled-take 2 bytes)
-    (ap (from_be_bytes w16) is-last ∙ two-spelled (drop (length bytes - 2) bytes) (omega (arith, left)))
-    (ap (λ n. 2 ^ n) bits ∙ bits-of (8 - length bytes))
+short-two bytes first last below enough few = short-ends 2 281474976710656 (from_be_bytes w16) two-spelled refl (cut-twice 16 48) bytes first last below enough few (omega (arith, few))
 
 -- One byte, or none.
 pub short-one : (bytes : List ℕ) → length bytes < 2 → get_or bytes 0 0 < 256 → get_or bytes 0 0 * 72057594037927936 % 18446744073709551616 ≡ first_word bytes

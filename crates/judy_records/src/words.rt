@@ -21,19 +21,27 @@ pub fn first_word(bytes: &[u8]) -> u64
     }
 }
 
-// The same for fewer than eight bytes. The first four and the last four of them are read at once, and what both have is shifted out of the latter.
+// The first word of bytes that are fewer than two such numbers take: the first and the last of them are read at once, and what both have is shifted
+// out of the latter. Bytes that are fewer than one takes are read by `$fewer`.
+macro_rules! word_by_two {
+    ($bytes:ident, $number:ty, $count:literal, $above:ident, $fewer:ident) => {{
+        let Some(last) = $bytes.last_chunk::<$count>() else {
+            return $fewer($bytes);
+        };
+        let Some(first) = $bytes.first_chunk::<$count>() else {
+            unreachable!()
+        };
+        let last = u64::from(<$number>::from_be_bytes(*last)) << (64 - 8 * $bytes.len());
+        u64::from(<$number>::from_be_bytes(*first)) * $above + last % $above
+    }};
+}
+
+// The same for fewer than eight bytes, by the first four and the last four.
 fn short_word(bytes: &[u8]) -> u64
     requires { length bytes.now < 8 }
     ensures { result ≡ first_word bytes.now }
 {
-    let Some(last) = bytes.last_chunk::<4>() else {
-        return fewer_word(bytes);
-    };
-    let Some(first) = bytes.first_chunk::<4>() else {
-        unreachable!()
-    };
-    let last = u64::from(u32::from_be_bytes(*last)) << (64 - 8 * bytes.len());
-    u64::from(u32::from_be_bytes(*first)) * FOUR_BYTES + last % FOUR_BYTES
+    word_by_two!(bytes, u32, 4, FOUR_BYTES, fewer_word)
 }
 
 // The same for fewer than four bytes, by the first two and the last two.
@@ -41,14 +49,7 @@ fn fewer_word(bytes: &[u8]) -> u64
     requires { length bytes.now < 4 }
     ensures { result ≡ first_word bytes.now }
 {
-    let Some(last) = bytes.last_chunk::<2>() else {
-        return byte_word(bytes);
-    };
-    let Some(first) = bytes.first_chunk::<2>() else {
-        unreachable!()
-    };
-    let last = u64::from(u16::from_be_bytes(*last)) << (64 - 8 * bytes.len());
-    u64::from(u16::from_be_bytes(*first)) * SIX_BYTES + last % SIX_BYTES
+    word_by_two!(bytes, u16, 2, SIX_BYTES, byte_word)
 }
 
 // The same for one byte or none.

@@ -4,7 +4,7 @@ use Rattle.std.specs.declared.cmp.Ordering.{Ordering}
 use Rattle.std.specs.Ordering.{is_lt, is_eq, eq_by_cmp}
 use Rattle.std.specs.Cmp.{IsTotalOrder, nat_cmp_total, tied_itself}
 use Rattle.std.specs.Cmp.Lexicographic.{nat_list_cmp_total}
-use Rattle.std.specs.FinMap.{IsAntisymmetric, nat_cmp-IsAntisymmetric, slice_cmp-IsAntisymmetric, find, from_entries, from_entries_push, get, contains_key, insert, get-from_entries}
+use Rattle.std.specs.FinMap.{IsAntisymmetric, nat_cmp-IsAntisymmetric, slice_cmp-IsAntisymmetric, find, from_entries, empty, from_entries_push, get, contains_key, insert, get-from_entries}
 use Rattle.std.specs.FinMap.Entries.{find-append}
 use Rattle.std.proofs.lemmas.List.Elements.{All-nil, All-append}
 use Rattle.judy_model.specs.Arrays.{ArrayOf, ArrayValue}
@@ -17,7 +17,7 @@ use Rattle.judy_pipe.specs.Pipe.{grown}
 use Rattle.judy_pipe.proofs.Moves.{grown-grown}
 use Rattle.std.specs.Result.{IsErrAnd}
 use Rattle.judy_shelf.specs.declared.fault.LoadFault.{LoadFault}
-use Rattle.judy_shelf.specs.Reads.{Drawn, Cause, memory, cause_of, OfFronts, ReadsValue, ReadsFault, ReadsWanting, Nowhere, AtSome}
+use Rattle.judy_shelf.specs.Reads.{Drawn, Cause, memory, cause_of, OfFronts, ReadsValue, ReadsFault, Nowhere, AtSome, Fills}
 use Rattle.judy_shelf.proofs.FrontLemmas.{no_fronts, fronts_of_both}
 use Rattle.judy_shelf.proofs.WriteLemmas.{grown_nothing}
 use Rattle.judy_shelf.proofs.ReadLemmas.{reads_err, fault_first, fault_then, value_then, value_done, Reading, reading_fault}
@@ -99,7 +99,7 @@ module _ {K : Type 0} (order : K → K → Ordering) (key : Option K → Part K)
     pub goes : (left total : ℕ) → listed + left ≡ total → (more : List ℕ) → whole order key value total (input ++ more) ≡ to_come order key value total last left held more
     pub cut_before : (total : ℕ) → listed ≤ total → OfFronts (λ front. whole order key value total front ≡ Err truncated) input
 
-  pub listing_none : (now : Drawn) → Listing 0 None [] now now
+  listing_none : (now : Drawn) → Listing 0 None [] now now
   listing_none now = record {
     input = [];
     given = sym (grown_nothing now.given);
@@ -138,21 +138,8 @@ module _ {K : Type 0} (order : K → K → Ordering) (key : Option K → Part K)
         let all : listed + suc n ≡ total = omega (arith, some) in
         entries_fault order key value total last (suc n) n refl held before mid after (listing_reading (suc n) total all) cause next
 
-    -- What is answered where an entry couldn't be read.
-    module _ {map_order : K → K → Ordering} {X : Type 0} (kind : ArrayOf map_order → ArrayValue) (view : X → ArrayValue) (limit count : ℕ) (some : listed < count) (after : Drawn) (fault : LoadFault) (result : Result X LoadFault) (is : IsErrAnd result (λ told. told ≡ fault)) where
-      entry_fault : ReadsFault Nowhere (entry order key value last) (cause_of fault) mid after → ReadsWanting (AtSome (λ n. filled kind limit (entries order key value None n)) count) view (filled kind limit (whole order key value count)) before result after
-      entry_fault next =
-          reads_err view (filled kind limit (whole order key value count)) before after fault result is
-          (filled_fault order key value count kind limit before after (cause_of fault) (listing_fault count some (cause_of fault) after next))
-
-      pub key_fault : ReadsFault Nowhere (field (key last) ((is_above order last, bad_order) ∷ [])) (cause_of fault) mid after → ReadsWanting (AtSome (λ n. filled kind limit (entries order key value None n)) count) view (filled kind limit (whole order key value count)) before result after
-      key_fault next = entry_fault (entry_key_stopped order key value count last (cause_of fault) mid after next)
-
-      pub value_fault : (first : K) (keyed : Drawn) → ReadsValue (field (key last) ((is_above order last, bad_order) ∷ [])) first mid keyed → ReadsFault Nowhere value (cause_of fault) keyed after → ReadsWanting (AtSome (λ n. filled kind limit (entries order key value None n)) count) view (filled kind limit (whole order key value count)) before result after
-      value_fault first keyed read next = entry_fault (entry_value_stopped order key value count last first mid keyed read (cause_of fault) after next)
-
     -- One entry more, whose key and value were read.
-    pub listing_entry : (first : K) (keyed : Drawn) → ReadsValue (field (key last) ((is_above order last, bad_order) ∷ [])) first mid keyed → (word : ℕ) (after : Drawn) → ReadsValue value word keyed after → Listing (listed + 1) (Some first) (held ++ (first, word) ∷ []) before after
+    listing_entry : (first : K) (keyed : Drawn) → ReadsValue (field (key last) ((is_above order last, bad_order) ∷ [])) first mid keyed → (word : ℕ) (after : Drawn) → ReadsValue value word keyed after → Listing (listed + 1) (Some first) (held ++ (first, word) ∷ []) before after
     listing_entry first keyed read word after next = listing_next (first, word) after (entry_read order key value 0 last first mid keyed read word after next)
 
     listed_behind : (more : List ℕ) → whole order key value listed (far.input ++ more) ≡ Ok (held, more)
@@ -161,21 +148,21 @@ module _ {K : Type 0} (order : K → K → Ordering) (key : Option K → Part K)
         far.goes 0 listed all more ∙ ap (λ all. Ok (all, more)) (append-nil held)
 
     -- These are all of so many.
-    pub listing_whole : ReadsValue (whole order key value listed) held before mid
+    listing_whole : ReadsValue (whole order key value listed) held before mid
     listing_whole = record { input = far.input; given = far.given; bytes = far.bytes; failures = far.failures; gives = listed_behind; cut_before = far.cut_before listed (omega arith) }
 
     listed_end : whole order key value listed far.input ≡ Ok (held, [])
     listed_end = ap (whole order key value listed) (sym (append-nil far.input)) ∙ listed_behind []
 
     -- The array that holds them and nothing else.
-    pub listing_filled : {map_order : K → K → Ordering} (kind : ArrayOf map_order → ArrayValue) (limit count : ℕ) (array : ArrayOf map_order) → listed ≡ count → array.limit ≡ limit → array.map ≡ from_entries held → ReadsValue (filled kind limit (whole order key value count)) (kind array) before mid
+    listing_filled : {map_order : K → K → Ordering} (kind : ArrayOf map_order → ArrayValue) (limit count : ℕ) (array : ArrayOf map_order) → listed ≡ count → array.limit ≡ limit → array.map ≡ from_entries held → ReadsValue (filled kind limit (whole order key value count)) (kind array) before mid
     listing_filled kind limit count array all limits maps =
         let same : kind (record { limit = limit; map = from_entries held }) ≡ kind array = sym (λ t. kind (record { limit = limits t; map = maps t })) in
         subst (λ n. ReadsValue (filled kind limit (whole order key value n)) (kind array) before mid) all
         (subst (λ made. ReadsValue (filled kind limit (whole order key value listed)) made before mid) same (filled_value order key value listed kind limit before mid held listing_whole))
 
     -- Want of memory behind the last of them.
-    pub listing_memory : {map_order : K → K → Ordering} (kind : ArrayOf map_order → ArrayValue) (limit count : ℕ) → listed ≤ count → ReadsFault (AtSome (λ n. filled kind limit (entries order key value None n)) count) (filled kind limit (whole order key value count)) memory before mid
+    listing_memory : {map_order : K → K → Ordering} (kind : ArrayOf map_order → ArrayValue) (limit count : ℕ) → listed ≤ count → ReadsFault (AtSome (λ n. filled kind limit (entries order key value None n)) count) (filled kind limit (whole order key value count)) memory before mid
     listing_memory kind limit count within = record {
       input = far.input;
       given = far.given;
@@ -208,7 +195,7 @@ module _ {K : Type 0} {order map_order : K → K → Ordering} (orders : KeyOrde
   abbrev pub AreNew : Option K → List (K × ℕ) → Type 0
   AreNew last held = (key : K) → IsTrue (is_above order last key) → find map_order key held ≡ None
 
-  pub new_none : AreNew None []
+  new_none : AreNew None []
   new_none key above = refl
 
   above_both : (last : Option K) (key other : K) → IsTrue (is_above order last key) → order key other ≡ Less → IsTrue (is_above order last other)
@@ -226,17 +213,73 @@ module _ {K : Type 0} {order map_order : K → K → Ordering} (orders : KeyOrde
   ] refl
 
   module _ (last : Option K) (held : List (K × ℕ)) (new : AreNew last held) (key : K) (value : ℕ) (above : IsTrue (is_above order last key)) where
-    pub new_more : AreNew (Some key) (held ++ (key, value) ∷ [])
+    new_more : AreNew (Some key) (held ++ (key, value) ∷ [])
     new_more other later =
         let less = is_Less (order key other) later in
         find-append map_order orders.map_total held key value other (new key above) ∙ ap (λ b. cond b (Some value) (find map_order other held)) (apart key other less) ∙ new other (above_both last key other above less)
 
-    pub made_more : from_entries {R = map_order} (held ++ (key, value) ∷ []) ≡ insert (from_entries held) key value
+    made_more : from_entries {R = map_order} (held ++ (key, value) ∷ []) ≡ insert (from_entries held) key value
     made_more = from_entries_push orders.map_total orders.same held key value (new key above)
 
     absent_key : get (from_entries {R = map_order} held) key ≡ None
     absent_key = get-from_entries orders.map_total held key ∙ new key above
 
-    -- An insert of the key, which would leave one that is there.
-    pub put_more : cond (contains_key (from_entries {R = map_order} held) key) (from_entries {R = map_order} held) (insert (from_entries {R = map_order} held) key value) ≡ insert (from_entries {R = map_order} held) key value
-    put_more = ap (λ (found : Option ℕ). cond (is_some found) (from_entries {R = map_order} held) (insert (from_entries {R = map_order} held) key value)) absent_key
+-- So many entries were read, the last one with this key, and the array holds them.
+pub record Filling {K : Type 0} {order map_order : K → K → Ordering} (orders : KeyOrders order map_order) (key : Option K → Part K) (value : Part ℕ) (limit listed : ℕ) (last : Option K) (array : ArrayOf map_order) (before now : Drawn) : Type 0 where
+  pub held : List (K × ℕ)
+  pub limit_is : array.limit ≡ limit
+  pub map_is : array.map ≡ from_entries held
+  pub new : AreNew orders last held
+  pub listing : Listing order key value listed last held before now
+
+module _ {K : Type 0} {order map_order : K → K → Ordering} {orders : KeyOrders order map_order} {key : Option K → Part K} {value : Part ℕ} where
+  pub none_filled : (array : ArrayOf map_order) → array.map ≡ empty → (now : Drawn) → Filling orders key value array.limit 0 None array now now
+  none_filled array none now = record { held = []; limit_is = refl; map_is = none; new = new_none orders; listing = listing_none order key value now }
+
+  module _ {limit listed : ℕ} {last : Option K} {array : ArrayOf map_order} {before mid : Drawn} (far : Filling orders key value limit listed last array before mid) where
+    -- A key above the last one is absent, so that an insert of it that would leave one puts it in.
+    pub put_is_insert : (first : K) → IsTrue (is_above order last first) → (word : ℕ) → cond (contains_key array.map first) array.map (insert array.map first word) ≡ insert array.map first word
+    put_is_insert first above word =
+        let absent = ap (λ map. get map first) far.map_is ∙ absent_key orders last far.held far.new first word above in
+        ap (λ (found : Option ℕ). cond (is_some found) array.map (insert array.map first word)) absent
+
+    module _ (kind : ArrayOf map_order → ArrayValue) (count : ℕ) where
+      abbrev Filled : {X : Type 0} → (X → ArrayValue) → Result X LoadFault → Drawn → Type 0
+      Filled view result after = Fills kind limit (entries order key value None) count view before result after
+
+      -- An entry couldn't be read.
+      module _ (some : listed < count) {X : Type 0} (view : X → ArrayValue) (after : Drawn) (fault : LoadFault) (result : Result X LoadFault) (is : IsErrAnd result (λ told. told ≡ fault)) where
+        entry_stopped : ReadsFault Nowhere (entry order key value last) (cause_of fault) mid after → Filled view result after
+        entry_stopped next =
+            reads_err view (filled kind limit (entries order key value None count)) before after fault result is
+            (filled_fault order key value count kind limit before after (cause_of fault) (listing_fault order key value listed last far.held before mid far.listing count some (cause_of fault) after next))
+
+        pub key_stopped : ReadsFault Nowhere (field (key last) ((is_above order last, bad_order) ∷ [])) (cause_of fault) mid after → Filled view result after
+        key_stopped next = entry_stopped (entry_key_stopped order key value count last (cause_of fault) mid after next)
+
+        pub value_stopped : (first : K) (keyed : Drawn) → ReadsValue (field (key last) ((is_above order last, bad_order) ∷ [])) first mid keyed → ReadsFault Nowhere value (cause_of fault) keyed after → Filled view result after
+        value_stopped first keyed read next = entry_stopped (entry_value_stopped order key value count last first mid keyed read (cause_of fault) after next)
+
+      -- There is no memory to put in what was read.
+      pub not_filled : listed ≤ count → ReadsFault (AtSome (λ n. filled kind limit (entries order key value None n)) count) (filled kind limit (entries order key value None count)) memory before mid
+      not_filled within = listing_memory order key value listed last far.held before mid far.listing kind limit count within
+
+      -- All of them were read.
+      pub all_filled : listed ≡ count → (made : ArrayOf map_order) → made ≡ array → ReadsValue (filled kind limit (entries order key value None count)) (kind made) before mid
+      all_filled all made is = listing_filled order key value listed last far.held before mid far.listing kind limit count made all (ap (λ a. a.limit) is ∙ far.limit_is) (ap (λ a. a.map) is ∙ far.map_is)
+
+    -- One more was read.
+    module _ (first : K) (above : IsTrue (is_above order last first)) (keyed : Drawn) (read : ReadsValue (field (key last) ((is_above order last, bad_order) ∷ [])) first mid keyed) (word : ℕ) (after : Drawn) (next : ReadsValue value word keyed after) where
+      pub one_filled : (made : ArrayOf map_order) → made.limit ≡ array.limit → made.map ≡ insert array.map first word → Filling orders key value limit (listed + 1) (Some first) made before after
+      one_filled made same put = record {
+        held = far.held ++ (first, word) ∷ [];
+        limit_is = same ∙ far.limit_is;
+        map_is = put ∙ ap (λ map. insert map first word) far.map_is ∙ sym (made_more orders last far.held far.new first word above);
+        new = new_more orders last far.held far.new first word above;
+        listing = listing_entry order key value listed last far.held before mid far.listing first keyed read word after next;
+      }
+
+      -- And there is no memory to put it in.
+      pub one_not_filled : (kind : ArrayOf map_order → ArrayValue) (count : ℕ) → listed < count → ReadsFault (AtSome (λ n. filled kind limit (entries order key value None n)) count) (filled kind limit (entries order key value None count)) memory before after
+      one_not_filled kind count some =
+          listing_memory order key value (listed + 1) (Some first) _ before after (listing_entry order key value listed last far.held before mid far.listing first keyed read word after next) kind limit count (omega (arith, some))

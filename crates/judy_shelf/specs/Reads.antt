@@ -1,6 +1,8 @@
 -- What a source gave where a part of a dump was read from it, and what is known of the part.
 use Rattle.std.specs.Prelude.{◌≡◌, ℕ, ◌+◌, ◌<◌, ◌≤◌, Bool, true, false, List, [], ◌∷◌, ◌++◌, Option, IfSome, Result, Ok, Err}
+use Rattle.std.specs.declared.cmp.Ordering.{Ordering}
 use Rattle.judy_model.specs.Keys.{IsByteString}
+use Rattle.judy_model.specs.Arrays.{ArrayOf, ArrayValue}
 use Rattle.judy_model.specs.Stores.{Store, IsStore, IsRegular}
 use Rattle.judy_model.specs.Fields as fields
 use Rattle.judy_model.specs.Fields.{Fault, Part, ◌>>=◌, done, Begins}
@@ -125,6 +127,10 @@ Ends before (Err fault) after = EndFault (cause_of fault) before after
 -- Behind the first of so many, the second, and so on, or before all of them, and nothing after it.
 abbrev pub AtSome : {A : Type 0} → (ℕ → Part A) → ℕ → List ℕ → Type 0
 AtSome part count input = (listed : ℕ) × (listed ≤ count) × Begins (part listed) (λ _ rest. rest ≡ []) input
+
+-- So many entries of an array were read, behind each of which memory may be wanted, and gave the array that holds them.
+abbrev pub Fills : {K X : Type 0} {map_order : K → K → Ordering} → (ArrayOf map_order → ArrayValue) → ℕ → (ℕ → Part (List (K × ℕ))) → ℕ → (X → ArrayValue) → Drawn → Result X LoadFault → Drawn → Type 0
+Fills kind limit entries count view before result after = ReadsWanting (AtSome (λ listed. grammar.filled kind limit (entries listed)) count) view (grammar.filled kind limit (entries count)) before result after
 
 -- Behind a key count, and behind each entry.
 abbrev pub InBody : Version → List ℕ → Type 0

@@ -1,6 +1,7 @@
 //! A shelf from bytes.
 
 ghost use Rattle.std.specs.Prelude.{◌<◌, ◌≤◌, ◌-◌, ◌^◌, ◌≡◌, [], None, IfOk};
+ghost use Rattle.std.specs.FinMap as map;
 ghost use Rattle.judy_model.specs.Arrays.{judy1, judyl, judysl, judyhs};
 ghost use Rattle.judy_word.specs.WordArrays.{array_of};
 ghost use Rattle.judy_model.specs.Keys.{word_order, byte_order};
@@ -9,7 +10,7 @@ ghost use Rattle.judy_model.specs.DumpGrammar as grammar;
 ghost use Rattle.judy_model.specs.Stores.{array_named};
 ghost use Rattle.judy_shelf.specs.Arrays.{value_of};
 ghost use Rattle.judy_shelf.specs.Shelves.{store_of};
-ghost use Rattle.judy_shelf.specs.Reads.{drawn, counted, ReadsWanting, AtSome, InBody, InArray, InArrays, InCounted, Loaded};
+ghost use Rattle.judy_shelf.specs.Reads.{drawn, counted, ReadsWanting, Fills, AtSome, InBody, InArray, InArrays, InCounted, Loaded};
 ghost use Rattle.judy_shelf.specs.Versions.{format_of};
 ghost use Rattle.judy_shelf.specs.Writes.{kind_number};
 
@@ -70,144 +71,110 @@ fn read_store<R: Source>(
     read_arrays(alloc, source, version, count)
 }
 
-// Reads the keys of a set, so many.
-fn read_set<R: Source>(
-    alloc: Global,
-    source: &mut R,
-    limit: u64,
-    count: u64,
-) -> Result<Judy1, LoadFault>
+// Reads so many entries of an array of words and puts them in: keys, and what `$value` gives behind each.
+macro_rules! fill_words {
+    ($words:ident, $into:ident, $source:ident, $count:ident, $value:expr) => {{
+        let mut before = None;
+        'keys: for _ in 0..$count {
+            let key = read_word_after($source, before)?;
+            let value = $value;
+            match $words.put(key, value) {
+                Ok(()) => before = Some(key),
+                Err(_) => return Err(LoadFault::NoMemory),
+            }
+        }
+        match $words.$into() {
+            Ok(filled) => Ok(filled),
+            Err(_) => Err(LoadFault::NoMemory),
+        }
+    }};
+}
+
+// Reads so many entries of an array of byte strings and puts them in: keys, by `$read`, from the last one and into a room, and a value behind each.
+macro_rules! fill_strings {
+    ($strings:ident, $source:ident, $count:ident, |$last:ident, $room:ident| $read:expr) => {{
+        let mut $last = LastKey::new();
+        let mut $room = [0; MAX_KEY_LEN];
+        'keys: for _ in 0..$count {
+            let len = $read?;
+            let value = read_u64($source)?;
+            let key = &$room[..len];
+            match $strings.ins(key) {
+                Ok(slot) => *slot = value,
+                Err(_) => return Err(LoadFault::NoMemory),
+            }
+            $last.keep(key);
+        }
+        Ok($strings)
+    }};
+}
+
+// Reads so many keys into an empty set.
+fn read_set<R: Source>(source: &mut R, mut set: FillingSet, count: u64) -> Result<Judy1, LoadFault>
     requires below { (R.tally source.old).failures < 2 ^ 64 - 1 }
-    requires some { 1 ≤ limit }
-    requires most { limit ≤ 4294967295 }
-    ensures { ReadsWanting
-        (AtSome (λ listed. grammar.filled judy1 limit
-        (grammar.entries word_order (λ before. grammar.word) grammar.no_value None listed))
-        count) (λ set. judy1 (array_of set))
-        (grammar.filled judy1 limit
-        (grammar.entries word_order (λ before. grammar.word) grammar.no_value None count))
+    requires empty { set.map ≡ map.empty }
+    ensures { Fills judy1 set.limit
+        (grammar.entries word_order (λ before. grammar.word) grammar.no_value None) count
+        (λ made. judy1 (array_of made))
         (drawn (R.given source.old) (R.ended source.old) (R.tally source.old).failures) result
         (drawn (R.given source.new) (R.ended source.new) (R.tally source.new).failures) }
 {
-    let mut set = FillingSet::new(alloc, limit);
-    let mut before = None;
-    'keys: for _ in 0..count {
-        let key = read_word_after(source, before)?;
-        match set.put(key, 0) {
-            Ok(()) => before = Some(key),
-            Err(_) => return Err(LoadFault::NoMemory),
-        }
-    }
-    match set.into_set() {
-        Ok(filled) => Ok(filled),
-        Err(_) => Err(LoadFault::NoMemory),
-    }
+    fill_words!(set, into_set, source, count, 0)
 }
 
-// Reads the keys of a map, so many, and the value of each behind it.
+// Reads so many keys into an empty map, and the value of each behind it.
 fn read_words<R: Source>(
-    alloc: Global,
     source: &mut R,
-    limit: u64,
+    mut words: FillingMap,
     count: u64,
 ) -> Result<JudyL, LoadFault>
     requires below { (R.tally source.old).failures < 2 ^ 64 - 1 }
-    requires some { 1 ≤ limit }
-    requires most { limit ≤ 4294967295 }
-    ensures { ReadsWanting
-        (AtSome (λ listed. grammar.filled judyl limit
-        (grammar.entries word_order (λ before. grammar.word) grammar.word None listed))
-        count) (λ words. judyl (array_of words))
-        (grammar.filled judyl limit
-        (grammar.entries word_order (λ before. grammar.word) grammar.word None count))
+    requires empty { words.map ≡ map.empty }
+    ensures { Fills judyl words.limit
+        (grammar.entries word_order (λ before. grammar.word) grammar.word None) count
+        (λ made. judyl (array_of made))
         (drawn (R.given source.old) (R.ended source.old) (R.tally source.old).failures) result
         (drawn (R.given source.new) (R.ended source.new) (R.tally source.new).failures) }
 {
-    let mut words = FillingMap::new(alloc, limit);
-    let mut before = None;
-    'keys: for _ in 0..count {
-        let key = read_word_after(source, before)?;
-        let value = read_u64(source)?;
-        match words.put(key, value) {
-            Ok(()) => before = Some(key),
-            Err(_) => return Err(LoadFault::NoMemory),
-        }
-    }
-    match words.into_map() {
-        Ok(filled) => Ok(filled),
-        Err(_) => Err(LoadFault::NoMemory),
-    }
+    fill_words!(words, into_map, source, count, read_u64(source)?)
 }
 
-// Reads the keys of an array of strings, so many, and the value of each behind it.
+// Reads so many keys into an empty array of strings, and the value of each behind it.
 fn read_strings<R: Source>(
-    alloc: Global,
     source: &mut R,
     version: Version,
-    limit: u64,
+    mut strings: JudySl,
     count: u64,
 ) -> Result<JudySl, LoadFault>
     requires below { (R.tally source.old).failures < 2 ^ 64 - 1 }
-    requires some { 1 ≤ limit }
-    requires most { limit ≤ 4294967295 }
-    ensures { ReadsWanting
-        (AtSome (λ listed. grammar.filled judysl limit
-        (grammar.entries byte_order
-        (grammar.string_key (format_of version)) grammar.word None listed)) count) judysl
-        (grammar.filled judysl limit
-        (grammar.entries byte_order
-        (grammar.string_key (format_of version)) grammar.word None count))
+    requires empty { strings.map ≡ map.empty }
+    ensures { Fills judysl strings.limit
+        (grammar.entries byte_order (grammar.string_key (format_of version)) grammar.word None)
+        count judysl
         (drawn (R.given source.old) (R.ended source.old) (R.tally source.old).failures) result
         (drawn (R.given source.new) (R.ended source.new) (R.tally source.new).failures) }
 {
-    let mut strings = JudySl::new(alloc, limit);
-    let mut last = LastKey::new();
-    let mut room = [0; MAX_KEY_LEN];
-    'keys: for _ in 0..count {
-        let len = read_string_after(source, version, &last, &mut room)?;
-        let value = read_u64(source)?;
-        let key = &room[..len];
-        match strings.ins(key) {
-            Ok(slot) => *slot = value,
-            Err(_) => return Err(LoadFault::NoMemory),
-        }
-        last.keep(key);
-    }
-    Ok(strings)
+    fill_strings!(strings, source, count, |last, room| {
+        read_string_after(source, version, &last, &mut room)
+    })
 }
 
-// Reads the keys of an array of byte strings, so many, and the value of each behind it.
+// Reads so many keys into an empty array of byte strings, and the value of each behind it.
 fn read_byte_strings<R: Source>(
-    alloc: Global,
     source: &mut R,
-    limit: u64,
+    mut strings: JudyHs<Fnv1a>,
     count: u64,
 ) -> Result<JudyHs<Fnv1a>, LoadFault>
     requires below { (R.tally source.old).failures < 2 ^ 64 - 1 }
-    requires some { 1 ≤ limit }
-    requires most { limit ≤ 4294967295 }
-    ensures { ReadsWanting
-        (AtSome (λ listed. grammar.filled judyhs limit
-        (grammar.entries length_order (λ before. grammar.string) grammar.word None listed))
-        count) judyhs (grammar.filled judyhs limit
-        (grammar.entries length_order (λ before. grammar.string) grammar.word None count))
+    requires empty { strings.map ≡ map.empty }
+    ensures { Fills judyhs strings.limit
+        (grammar.entries length_order (λ before. grammar.string) grammar.word None) count judyhs
         (drawn (R.given source.old) (R.ended source.old) (R.tally source.old).failures) result
         (drawn (R.given source.new) (R.ended source.new) (R.tally source.new).failures) }
 {
-    let mut strings = JudyHs::new(alloc, limit, Fnv1a);
-    let mut last = LastKey::new();
-    let mut room = [0; MAX_KEY_LEN];
-    'keys: for _ in 0..count {
-        let len = read_bytes_after(source, &last, &mut room)?;
-        let value = read_u64(source)?;
-        let key = &room[..len];
-        match strings.ins(key) {
-            Ok(slot) => *slot = value,
-            Err(_) => return Err(LoadFault::NoMemory),
-        }
-        last.keep(key);
-    }
-    Ok(strings)
+    fill_strings!(strings, source, count, |last, room| {
+        read_bytes_after(source, &last, &mut room)
+    })
 }
 
 // Reads what stands behind an array's name.
@@ -242,10 +209,22 @@ fn read_contents<R: Source>(
         (drawn (R.given source.new) (R.ended source.new) (R.tally source.new).failures) }
 {
     match kind {
-        Kind::Judy1 => Ok(Array::Judy1(read_set(alloc, source, limit, count)?)),
-        Kind::JudyL => Ok(Array::JudyL(read_words(alloc, source, limit, count)?)),
-        Kind::JudySl => Ok(Array::JudySl(read_strings(alloc, source, version, limit, count)?)),
-        Kind::JudyHs => Ok(Array::JudyHs(read_byte_strings(alloc, source, limit, count)?)),
+        Kind::Judy1 => {
+            let set = FillingSet::new(alloc, limit);
+            Ok(Array::Judy1(read_set(source, set, count)?))
+        }
+        Kind::JudyL => {
+            let words = FillingMap::new(alloc, limit);
+            Ok(Array::JudyL(read_words(source, words, count)?))
+        }
+        Kind::JudySl => {
+            let strings = JudySl::new(alloc, limit);
+            Ok(Array::JudySl(read_strings(source, version, strings, count)?))
+        }
+        Kind::JudyHs => {
+            let bytes = JudyHs::new(alloc, limit, Fnv1a);
+            Ok(Array::JudyHs(read_byte_strings(source, bytes, count)?))
+        }
     }
 }
 

@@ -1,15 +1,11 @@
-use Rattle.std.proofs.Common.{◌≡◌, ℕ, List}
-use Rattle.std.specs.FinMap.{from_entries}
-use Rattle.judy_model.specs.DumpText.{length_order}
 use Rattle.judy_model.specs.DumpGrammar as grammar
 use Rattle.judy_shelf.specs.Reads.{drawn}
 use Rattle.judy_shelf.specs.LastKeys.{last_key}
-use Rattle.judy_shelf.proofs.EntryReads.{Listing, bytes_keys, AreNew}
+use Rattle.judy_shelf.proofs.EntryReads.{Filling, bytes_keys}
 use Rattle.judy_shelf.proofs.loads.read_byte_strings.Given as goal
 
--- so far these entries were read, and the map holds them
+-- so far these entries were read, and the array holds them
 abbrev pub invariant-keys : goal.invariant-keys
 invariant-keys g l =
-    (held : List (List ℕ × ℕ)) × (l.strings.limit ≡ l.limit) × (l.strings.map ≡ from_entries held) × AreNew bytes_keys (last_key l.last) held
-    × Listing length_order (λ before. grammar.string) grammar.word l.counter (last_key l.last) held
+    Filling bytes_keys (λ before. grammar.string) grammar.word l.fn.strings.limit l.counter (last_key l.last) l.strings
     (drawn (g.R.Source.given l.fn.source) (g.R.Source.ended l.fn.source) (g.R.Source.tally l.fn.source).failures) (drawn (g.R.Source.given l.source) (g.R.Source.ended l.source) (g.R.Source.tally l.source).failures)
