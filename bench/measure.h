@@ -3,6 +3,9 @@
  *     KIND LIBRARY PATTERN KEYS OPERATION NUMBER
  *
  * the number being nanoseconds of processor time an operation, the least of several turns, or for `bytes` the bytes that malloc gives for a key.
+ *
+ * Compiled with COUNTED and run by callgrind, no time is told: each array takes one turn, and callgrind writes a file for each operation, whose trigger is
+ * such a line, the number being that of operations.
  */
 #include <malloc.h>
 #include <stdbool.h>
@@ -13,6 +16,9 @@
 #include <sys/wait.h>
 #include <time.h>
 #include <unistd.h>
+#ifdef COUNTED
+#include <valgrind/callgrind.h>
+#endif
 
 typedef uint64_t word;
 
@@ -32,6 +38,9 @@ static word any(void) {
 /* The thread's own processor time, so that other work on the machine counts little. */
 static word now(void) {
     struct timespec at;
+#ifdef COUNTED
+    CALLGRIND_ZERO_STATS;
+#endif
     clock_gettime(CLOCK_THREAD_CPUTIME_ID, &at);
     return (word)at.tv_sec * 1000000000u + (word)at.tv_nsec;
 }
@@ -56,8 +65,22 @@ static void none_yet(double *told) {
     for (size_t operation = 0; operation < OPERATIONS; operation++) told[operation] = -1;
 }
 
+#ifdef COUNTED
+/* What the process measures, as a line begins that tells of it. */
+static char measured[256];
+
+static void count(int operation, size_t n) {
+    char line[sizeof measured + 64];
+    snprintf(line, sizeof line, "%s %s %zu", measured, NAMES[operation], n);
+    CALLGRIND_DUMP_STATS_AT(line);
+}
+#endif
+
 /* Keeps the least time that an operation took, since a beginning and for so many keys. */
 static void took(double *told, int operation, word begin, size_t n) {
+#ifdef COUNTED
+    count(operation, n);
+#endif
     double each = (double)(now() - begin) / n;
     if (told[operation] < 0 || each < told[operation]) told[operation] = each;
 }
@@ -117,6 +140,9 @@ static void fail(const char *what) {
 static void run(const struct array *array, const struct keys *keys, const char *pattern, size_t n, int told_by, int answer) {
     double told[OPERATIONS];
     char word;
+#ifdef COUNTED
+    snprintf(measured, sizeof measured, "%s %s %s %zu", array->kind, array->library, pattern, n);
+#endif
     none_yet(told);
     while (read(told_by, &word, 1) == 1 && word == TURN) {
         array->measure(keys, told);
@@ -154,7 +180,11 @@ static void end(const struct runner *runner) {
 static void measure_pattern(const struct program *program, size_t n, size_t pattern) {
     struct runner runners[program->array_count];
     struct keys *keys = program->make(n, pattern);
+#ifdef COUNTED
+    size_t turns = 1;
+#else
     size_t turns = n < 100000 ? 25 : 3;
+#endif
     for (size_t it = 0; it < program->array_count; it++) runners[it] = begin(&program->arrays[it], keys, program->name(pattern), n);
     for (size_t turn = 0; turn < turns; turn++)
         for (size_t it = 0; it < program->array_count; it++) take_turn(&runners[it]);

@@ -182,7 +182,8 @@ uint64_t sellumaq_judyl_count(const sellumaq_judyl *map, uint64_t from, uint64_t
 /* The n-th key, counted from 1; false for 0 and above the number of keys. */
 bool sellumaq_judyl_by_count(const sellumaq_judyl *map, uint64_t n, uint64_t *key);
 
-/* The same key with the slot of its value. */
+/* The same key with its value, in one way down the map, and with the slot of its value. */
+bool sellumaq_judyl_by_count_entry(const sellumaq_judyl *map, uint64_t n, uint64_t *key, uint64_t *value);
 bool sellumaq_judyl_by_count_slot(const sellumaq_judyl *map, uint64_t n, uint64_t *key, uint64_t **slot);
 
 /* Gives all memory back, and answers how many keys there were. The handle is the empty array then. */

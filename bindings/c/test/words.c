@@ -96,6 +96,7 @@ static void compare(sellumaq_judy1 *set, sellumaq_judyl *map, int place) {
     uint64_t n = held_in(0, place);
     CHECK(told(sellumaq_judy1_by_count(set, n, &found), &found, n ? prev_held(place) : -1));
     CHECK(told(sellumaq_judyl_by_count(map, n, &found), &found, n ? prev_held(place) : -1));
+    CHECK(told_both(sellumaq_judyl_by_count_entry(map, n, &found, &value), &found, &value, n ? prev_held(place) : -1));
     CHECK(lent(sellumaq_judyl_by_count_slot(map, n, &found, &slot), &found, &slot, n ? prev_held(place) : -1));
     CHECK(sellumaq_judy1_len(set) == held_in(0, WORDS - 1) && sellumaq_judyl_len(map) == held_in(0, WORDS - 1));
     if (sellumaq_judyl_first_slot(map, from, &found, &slot)) values[next_held(place)] = *slot = 3 * *slot + 1;

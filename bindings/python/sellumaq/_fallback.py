@@ -196,12 +196,14 @@ class _Words(_Array):
         if isinstance(place, slice):
             found = (self._found("by_count", n + 1) for n in range(*place.indices(len(self))))
             return [key for key in found if key is not None]
+        return self._told_at(place, "by_count", _word())[0]
+
+    def _told_at(self, place, name, *told):
         at = whole(place)
         at += len(self) if at < 0 else 0
-        key = self._found("by_count", at + 1) if 0 <= at < MAX else None
-        if key is None:
-            raise IndexError(f"no key at place {place!r}")
-        return key
+        if 0 <= at < MAX and self._calls[name](self._handle, at + 1, *told):
+            return tuple(each.value for each in told)
+        raise IndexError(f"no key at place {place!r}")
 
     def _cursor(self, part, low, high, reverse):
         name, key, value = ("last" if reverse else "first"), _word(), _word()
@@ -257,7 +259,7 @@ _ENTRY = (_word, _slot, _slot)
 
 
 class WordMap(_Words, _Map):
-    _kind = _word_calls("judyl", get=(_word, _slot), remove=(_word, _slot), first_entry=_ENTRY, last_entry=_ENTRY) | {
+    _kind = _word_calls("judyl", get=(_word, _slot), remove=(_word, _slot), **dict.fromkeys(("first_entry", "last_entry", "by_count_entry"), _ENTRY)) | {
         "put": _call("judyl_put", ctypes.c_uint32, _word, _word),
         "from_pairs": _call("judyl_from_sorted", ctypes.c_uint32, *_sorted),
     }
@@ -265,6 +267,9 @@ class WordMap(_Words, _Map):
     def __setitem__(self, key, value):
         if self._calls["put"](self._handle, _checked(key), _checked(value)) == _NO_MEMORY:
             raise MemoryError
+
+    def _pair_at(self, place):
+        return self._told_at(place, "by_count_entry", _word(), _word())
 
     def get_many(self, keys, /):
         """The values of the keys of an iterable, in a list, with None where one isn't there."""
@@ -363,11 +368,14 @@ class _OrderedStrings(_Strings):
         return self._calls["count"](self._handle, b"", 0, key, len(key))
 
     def _key_at(self, place):
+        return self._item_at(place)[0]
+
+    def _item_at(self, place):
         at = whole(place)
         at += len(self) if at < 0 else 0
         key, length, value = ctypes.create_string_buffer(MAX_KEY), ctypes.c_size_t(), _word()
         if 0 <= at < MAX and self._calls["by_count"](self._handle, at + 1, key, MAX_KEY, length, value) == _FOUND:
-            return self._object(ctypes.string_at(key, length.value))
+            return self._object(ctypes.string_at(key, length.value)), value.value
         raise IndexError(f"no key at place {place!r}")
 
     def _cursor(self, part, low, high, reverse):

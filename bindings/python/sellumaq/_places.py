@@ -128,8 +128,7 @@ class PlacedDict(Placed):
         >>> JudyL({1: 2, 3: 4}).peekitem(), JudySL(a=1, b=2).peekitem(0)
         ((3, 4), ('a', 1))
         """
-        key = self._at(place if last is None else -int(bool(last)))
-        return key, self[key]
+        return self._pair_at(place if last is None else -int(bool(last)))
 
     def popitem(self, place: int = -1, *, last: bool | None = None) -> tuple[Any, int]:
         """Takes out the pair at a place, or the last or the first one; KeyError where the dict is empty, IndexError where there is none.
@@ -141,5 +140,5 @@ class PlacedDict(Placed):
         """
         if not self:
             raise KeyError("popitem(): dictionary is empty")
-        key, _ = self.peekitem(place, last=last)
+        key = self._at(place if last is None else -int(bool(last)))
         return key, self.pop(key)

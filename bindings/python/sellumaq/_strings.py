@@ -101,6 +101,14 @@ class _Ordered(PlacedDict, Copied, _Strings):
                 return key
         return self._key_at(place)
 
+    def _pair_at(self, place: Any) -> tuple[Any, int]:
+        place = whole(place)
+        if place in (0, -1):
+            # As for `_at`.
+            for pair in self._items(place == -1):
+                return pair
+        return self._item_at(place)
+
 
 class JudySL(_core.TextMap, _Text, _Ordered):
     """A dict from str without "\\0", of at most 1,024 bytes in UTF-8, to words, in order.

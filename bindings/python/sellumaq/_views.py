@@ -66,17 +66,15 @@ class PlacedItems(_Placed, Items, Sequence):
     """The pairs of a dict of words, with their places."""
 
     def __getitem__(self, place: Any) -> Any:
-        keys = self._mapping._at(place)
         if isinstance(place, slice):
-            return [(key, self._mapping[key]) for key in keys]
-        return keys, self._mapping[keys]
+            return [(key, self._mapping[key]) for key in self._mapping._at(place)]
+        return self._mapping._pair_at(place)
 
 
 class PlacedValues(_Placed, Values, Sequence):
     """The values of a dict of words, with their keys' places."""
 
     def __getitem__(self, place: Any) -> Any:
-        keys = self._mapping._at(place)
         if isinstance(place, slice):
-            return [self._mapping[key] for key in keys]
-        return self._mapping[keys]
+            return [self._mapping[key] for key in self._mapping._at(place)]
+        return self._mapping._pair_at(place)[1]

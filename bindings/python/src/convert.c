@@ -48,6 +48,12 @@ void raise_key_error(PyObject *key)
     }
 }
 
+PyObject *raise_no_place(PyObject *place)
+{
+    PyErr_Format(PyExc_IndexError, "no key at place %R", place);
+    return NULL;
+}
+
 PyObject *make_part(enum part part, PyObject *key, uint64_t value)
 {
     if (part == KEYS || !key)

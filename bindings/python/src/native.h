@@ -69,6 +69,9 @@ static inline PyObject *make_word(uint64_t word)
 /* KeyError with one argument, whatever the key is. */
 void raise_key_error(PyObject *key);
 
+/* IndexError for a place at which no key stands; answers NULL. */
+PyObject *raise_no_place(PyObject *place);
+
 /* A key, a value or both; a new reference to the key is taken over. */
 PyObject *make_part(enum part part, PyObject *key, uint64_t value);
 

@@ -272,7 +272,8 @@ static PyObject *bisect_left(PyObject *self, PyObject *string) { return bisect(s
 static PyObject *bisect_right(PyObject *self, PyObject *string) { return bisect(self, string, true); }
 
 /* The key at a place, which counts from the end where it is negative; IndexError where there is none. */
-static PyObject *key_at(PyObject *object, PyObject *place)
+/* The key at a place, or the pair; IndexError where there is none. */
+static PyObject *part_at(PyObject *object, PyObject *place, enum part part)
 {
     Strings *self = (Strings *)object;
     Py_ssize_t at = PyNumber_AsSsize_t(place, PyExc_IndexError);
@@ -284,10 +285,12 @@ static PyObject *key_at(PyObject *object, PyObject *place)
     if (at < 0)
         at += strings_len(object);
     if (at >= 0 && sellumaq_judysl_by_count(&self->handle.strings, (uint64_t)at + 1, key, sizeof key, &length, &value) == SELLUMAQ_FOUND)
-        return make_key(self, key, length);
-    PyErr_Format(PyExc_IndexError, "no key at place %R", place);
-    return NULL;
+        return make_part(part, make_key(self, key, length), value);
+    return raise_no_place(place);
 }
+
+static PyObject *key_at(PyObject *self, PyObject *place) { return part_at(self, place, KEYS); }
+static PyObject *item_at(PyObject *self, PyObject *place) { return part_at(self, place, ITEMS); }
 
 static PyObject *hash_list(PyObject *object, PyObject *part)
 {
@@ -340,6 +343,7 @@ static PyMethodDef map_methods[] = {
     {"_begin", strings_begin, METH_O, "Puts in at once what pairs begin with, as far as that can be done; answers the pair after these, or none."},
     {"_make", strings_make, METH_O, "Makes the map one of the pairs of an iterable, whose keys must ascend."},
     {"_key_at", key_at, METH_O, "The key at a place."},
+    {"_item_at", item_at, METH_O, "The pair at a place."},
     {"_cursor", (PyCFunction)(void (*)(void))cursor, METH_METHOD | METH_FASTCALL | METH_KEYWORDS, "A walk between two strings."},
     {NULL, NULL, 0, NULL},
 };

@@ -188,20 +188,26 @@ static PyObject *bisect(Words *self, PyObject *number, bool with_itself)
 static PyObject *bisect_left(PyObject *self, PyObject *number) { return bisect((Words *)self, number, false); }
 static PyObject *bisect_right(PyObject *self, PyObject *number) { return bisect((Words *)self, number, true); }
 
-/* The key at a place, which counts from the end where it is negative; IndexError where there is none. */
+/* Reads a place, which counts from the end where it is negative, as a number from 1 on; 0 with an error set where no key can stand there. */
+static uint64_t read_place(Words *self, PyObject *place)
+{
+    Py_ssize_t at = PyNumber_AsSsize_t(place, PyExc_IndexError);
+    if (at == -1 && PyErr_Occurred())
+        return 0;
+    if (at < 0)
+        at += (Py_ssize_t)self->calls->len(&self->handle);
+    if (at < 0)
+        raise_no_place(place);
+    return at < 0 ? 0 : (uint64_t)at + 1;
+}
+
 static PyObject *key_at(PyObject *object, PyObject *place)
 {
     Words *self = (Words *)object;
-    Py_ssize_t at = PyNumber_AsSsize_t(place, PyExc_IndexError);
-    uint64_t word;
-    if (at == -1 && PyErr_Occurred())
+    uint64_t word, n = read_place(self, place);
+    if (n == 0)
         return NULL;
-    if (at < 0)
-        at += (Py_ssize_t)self->calls->len(&self->handle);
-    if (at >= 0 && self->calls->by_count(&self->handle, (uint64_t)at + 1, &word))
-        return make_word(word);
-    PyErr_Format(PyExc_IndexError, "no key at place %R", place);
-    return NULL;
+    return self->calls->by_count(&self->handle, n, &word) ? make_word(word) : raise_no_place(place);
 }
 
 static PyObject *keys_of_slice(PyObject *object, PyObject *slice)
@@ -463,6 +469,15 @@ static bool append_values(Words *self, const Group *group, PyObject *values)
     return put;
 }
 
+static PyObject *pair_at(PyObject *object, PyObject *place)
+{
+    Words *self = (Words *)object;
+    uint64_t key, value, n = read_place(self, place);
+    if (n == 0)
+        return NULL;
+    return sellumaq_judyl_by_count_entry(&self->handle.map, n, &key, &value) ? make_part(ITEMS, make_word(key), value) : raise_no_place(place);
+}
+
 static PyObject *map_get_many(PyObject *self, PyObject *keys) { return look_up_many(self, keys, append_values); }
 
 static PyObject *map_pop(PyObject *object, PyObject *const *arguments, Py_ssize_t count)
@@ -496,6 +511,7 @@ static PyMethodDef map_methods[] = {
     {"pop", (PyCFunction)(void (*)(void))map_pop, METH_FASTCALL,
      DOC("pop($self, key, default=..., /)", "Takes a key out and answers its value, or the default; KeyError where there is neither.",
          ">>> from sellumaq import JudyL\n>>> squares = JudyL({2: 4})\n>>> squares.pop(2), squares.pop(2, 7)\n(4, 7)")},
+    {"_pair_at", pair_at, METH_O, "The pair at a place."},
     {NULL, NULL, 0, NULL},
 };
 

@@ -63,9 +63,13 @@ const GROUP: usize = 64;
 /// A search of C from a word for another.
 type Search = unsafe extern "C" fn(*const sys::sellumaq_judyl, u64, *mut u64) -> bool;
 
-/// A search of C from a word for a key with its value.
+/// A search of C from a word, or by a place, for a key with its value.
 type EntrySearch =
     unsafe extern "C" fn(*const sys::sellumaq_judyl, u64, *mut u64, *mut u64) -> bool;
+
+/// A search of C from a word for a key with the slot of its value.
+type SlotSearch =
+    unsafe extern "C" fn(*const sys::sellumaq_judyl, u64, *mut u64, *mut *mut u64) -> bool;
 
 /// A map whose slots are lent by a way, as that way asks it: to bring its next keys no value beyond them is read, since such a one may be
 /// lent already.
@@ -131,6 +135,14 @@ impl JudyL {
         // SAFETY: the call is one of `sellumaq_sys` for maps of words, which only reads; the handle is this map's, lent for
         // this call alone, and the words this function's.
         unsafe { call(&handle, from, &mut key, &mut value) }.then_some((key, value))
+    }
+
+    fn search_slot(&mut self, call: SlotSearch, from: u64) -> Option<OccupiedEntry<'_>> {
+        let (mut key, mut slot) = (0, null_mut());
+        // SAFETY: as in `search_entry`.
+        let found = unsafe { call(&self.handle, from, &mut key, &mut slot) };
+        let slot = found.then_some(slot).and_then(NonNull::new)?;
+        Some(OccupiedEntry { map: self, key, slot })
     }
 
     /// The slot of a key. It may be written to where the map is borrowed to be changed.
@@ -333,8 +345,7 @@ impl JudyL {
     /// assert_eq!((map.nth(1), map.nth(2)), (Some((7, 70)), None));
     /// ```
     pub fn nth(&self, n: usize) -> Option<(u64, u64)> {
-        let key = self.nth_key(n)?;
-        Some((key, self.get(key)?))
+        self.search_entry(sys::sellumaq_judyl_by_count_entry, (n as u64).checked_add(1)?)
     }
 
     /// The pair of the least key.
@@ -362,13 +373,7 @@ impl JudyL {
     /// assert_eq!(map.first_entry().unwrap().remove_entry(), (3, 30));
     /// ```
     pub fn first_entry(&mut self) -> Option<OccupiedEntry<'_>> {
-        let (key, _) = self.first_key_value()?;
-        let slot = self.find_slot(&key)?;
-        Some(OccupiedEntry {
-            map: self,
-            key,
-            slot,
-        })
+        self.search_slot(sys::sellumaq_judyl_first_slot, 0)
     }
 
     /// The entry of the greatest key.
@@ -378,13 +383,7 @@ impl JudyL {
     /// assert_eq!(map.last_entry().unwrap().insert(71), 70);
     /// ```
     pub fn last_entry(&mut self) -> Option<OccupiedEntry<'_>> {
-        let (key, _) = self.last_key_value()?;
-        let slot = self.find_slot(&key)?;
-        Some(OccupiedEntry {
-            map: self,
-            key,
-            slot,
-        })
+        self.search_slot(sys::sellumaq_judyl_last_slot, u64::MAX)
     }
 
     /// The pairs of a range of keys, by ascending key, their values to change.

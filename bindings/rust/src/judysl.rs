@@ -85,8 +85,7 @@ impl JudySl {
     /// assert_eq!(map.first_entry().unwrap().remove(), 10);
     /// ```
     pub fn first_entry(&mut self) -> Option<OccupiedEntry<'_, Vec<u8>>> {
-        let (key, _) = self.first_key_value()?;
-        let slot = self.find_slot(&key)?;
+        let (key, slot) = Steps::of(&(..)).next_slot(self)?;
         Some(OccupiedEntry {
             map: self,
             key,
@@ -101,8 +100,7 @@ impl JudySl {
     /// assert_eq!(map.last_entry().unwrap().insert(21), 20);
     /// ```
     pub fn last_entry(&mut self) -> Option<OccupiedEntry<'_, Vec<u8>>> {
-        let (key, _) = self.last_key_value()?;
-        let slot = self.find_slot(&key)?;
+        let (key, slot) = Steps::of(&(..)).next_back_slot(self)?;
         Some(OccupiedEntry {
             map: self,
             key,

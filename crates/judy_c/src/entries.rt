@@ -1,8 +1,9 @@
-//! The nearest keys with their values, each found in one way down the map.
+//! The nearest keys and the n-th with their values, each found in one way down the map.
 //!
 //! Each of these calls answers as the call of judyl.rt for the key alone does, and tells the key's value beside it.
 
 ghost use Rattle.std.specs.Prelude.{◌≡◌};
+ghost use Rattle.judy_model.specs.Counts as counts;
 ghost use Rattle.judy_model.specs.Neighbours as neighbours;
 ghost use Rattle.judy_c.specs.Maps.{map_of, value_beside};
 ghost use Rattle.judy_c.specs.Told.{IsTold};
@@ -94,6 +95,28 @@ pub extern "C" fn sellumaq_judyl_prev_entry(
 {
     tell_entry(
         handle.ask(alloc, |array| array.prev_entry(from)),
+        key,
+        value,
+    )
+}
+
+/// The n-th key in ascending order, counted from 1, with its value. (Manual: JLBC, JudyLByCount.)
+#[unsafe(no_mangle)]
+pub extern "C" fn sellumaq_judyl_by_count_entry(
+    alloc: Global,
+    handle: &mut Map,
+    n: u64,
+    key: &mut u64,
+    value: &mut u64,
+) -> bool
+    ensures key { IsTold (counts.by_count (map_of handle.old) n) result key.old key.new }
+    ensures value { IsTold
+        (value_beside (map_of handle.old) (counts.by_count (map_of handle.old) n)) result
+        value.old value.new }
+    ensures same { handle.new ≡ handle.old }
+{
+    tell_entry(
+        handle.ask(alloc, |array| array.by_count_entry(n)),
         key,
         value,
     )

@@ -229,6 +229,12 @@ extern "C" {
     pub fn sellumaq_judyl_len(map: *const sellumaq_judyl) -> u64;
     pub fn sellumaq_judyl_count(map: *const sellumaq_judyl, from: u64, to: u64) -> u64;
     pub fn sellumaq_judyl_by_count(map: *const sellumaq_judyl, n: u64, key: *mut u64) -> bool;
+    pub fn sellumaq_judyl_by_count_entry(
+        map: *const sellumaq_judyl,
+        n: u64,
+        key: *mut u64,
+        value: *mut u64,
+    ) -> bool;
     pub fn sellumaq_judyl_by_count_slot(
         map: *const sellumaq_judyl,
         n: u64,

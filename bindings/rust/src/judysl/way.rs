@@ -63,6 +63,19 @@ impl Steps {
         let mut value = 0;
         self.down(map, DOWN, &mut value).map(|key| (key, value))
     }
+
+    /// The next key with its slot, where the scan ends.
+    pub fn next_slot(&mut self, map: &JudySl) -> Option<(Vec<u8>, NonNull<u64>)> {
+        let mut slot = null_mut();
+        let key = self.up(map, UP_TO_SLOTS, &mut slot)?;
+        Some((key, NonNull::new(slot)?))
+    }
+
+    pub fn next_back_slot(&mut self, map: &JudySl) -> Option<(Vec<u8>, NonNull<u64>)> {
+        let mut slot = null_mut();
+        let key = self.down(map, DOWN_TO_SLOTS, &mut slot)?;
+        Some((key, NonNull::new(slot)?))
+    }
 }
 
 /// The same way from slot to slot. It knows how many keys are left, and so asks for none beyond the last one: the library would
@@ -83,16 +96,12 @@ impl SlotSteps {
 
     pub fn next(&mut self, map: &JudySl) -> Option<(Vec<u8>, NonNull<u64>)> {
         self.left = self.left.checked_sub(1)?;
-        let mut slot = null_mut();
-        let key = self.steps.up(map, UP_TO_SLOTS, &mut slot)?;
-        Some((key, NonNull::new(slot)?))
+        self.steps.next_slot(map)
     }
 
     pub fn next_back(&mut self, map: &JudySl) -> Option<(Vec<u8>, NonNull<u64>)> {
         self.left = self.left.checked_sub(1)?;
-        let mut slot = null_mut();
-        let key = self.steps.down(map, DOWN_TO_SLOTS, &mut slot)?;
-        Some((key, NonNull::new(slot)?))
+        self.steps.next_back_slot(map)
     }
 }
 
