@@ -132,6 +132,8 @@ impl JudyL {
     }
 
     // The slot of a key that is there.
+    // Compiled into the searches that found the key, as the way down is.
+    #[inline(always)]
     pub(crate) fn slot_of(&mut self, i: u64) -> &mut u64
         requires present { IsTrue (map.contains_key self.old.map i) }
         ensures* writes_back { sem 𝓛 (LendsSlotOf self.entry i result) }
