@@ -17,6 +17,8 @@ use std::alloc::AllocError;
 
 impl<V: Words + Drop> TreeArray<V> {
     // Whether a key is absent and there is no room for it.
+    // Compiled into the inserts, which mostly compare two numbers by it.
+    #[inline(always)]
     pub(crate) fn is_full(&self, key: u64) -> bool
         ensures { result ≡ array.is_full (array_in self.now) key }
     {

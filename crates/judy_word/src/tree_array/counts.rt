@@ -59,6 +59,8 @@ impl<V: Words + Drop> TreeArray<V> {
     }
 
     /// Whether a key is there.
+    // A call, since an insert asks it only of an array that is full.
+    #[inline(never)]
     pub fn has(&self, key: u64) -> bool
         ensures { result ≡ map.contains_key (map_in self.now) key }
     {
