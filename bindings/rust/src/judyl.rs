@@ -142,7 +142,11 @@ impl JudyL {
         // SAFETY: as in `search_entry`.
         let found = unsafe { call(&self.handle, from, &mut key, &mut slot) };
         let slot = found.then_some(slot).and_then(NonNull::new)?;
-        Some(OccupiedEntry { map: self, key, slot })
+        Some(OccupiedEntry {
+            map: self,
+            key,
+            slot,
+        })
     }
 
     /// The slot of a key. It may be written to where the map is borrowed to be changed.
@@ -345,7 +349,10 @@ impl JudyL {
     /// assert_eq!((map.nth(1), map.nth(2)), (Some((7, 70)), None));
     /// ```
     pub fn nth(&self, n: usize) -> Option<(u64, u64)> {
-        self.search_entry(sys::sellumaq_judyl_by_count_entry, (n as u64).checked_add(1)?)
+        self.search_entry(
+            sys::sellumaq_judyl_by_count_entry,
+            (n as u64).checked_add(1)?,
+        )
     }
 
     /// The pair of the least key.
