@@ -196,7 +196,9 @@ static void measure_pattern(const struct program *program, size_t n, size_t patt
 static int measure_all(const struct program *program, int count, char **words) {
     size_t usual[] = {10000, 1000000};
     size_t sizes = count > 1 ? (size_t)count - 1 : 2;
+#ifndef COUNTED /* below callgrind the heap has little room, and large blocks stand elsewhere */
     mallopt(M_MMAP_THRESHOLD, 1 << 30);
+#endif
     for (size_t at = 0; at < sizes; at++) {
         size_t n = count > 1 ? strtoull(words[at + 1], NULL, 10) : usual[at];
         if (n == 0) {
