@@ -153,13 +153,6 @@ fn expect_written_by(rt: &impl Abort, most: usize) {
     }
 }
 
-#[test]
-fn writes_meet_trouble_at_each_place(rt: HostRuntime) {
-    for most in 1..8 {
-        expect_written_by(&rt, most);
-    }
-}
-
 fn expect_read_at(rt: &impl Abort, most: usize, size: usize, at: usize) {
     expect_read(rt, most, size, SourceTrouble::Fails { at }, at, 1);
     for (times, given, failures) in [(1, 6, 0), (999, 6, 0), (1000, at, 1)] {
@@ -168,23 +161,24 @@ fn expect_read_at(rt: &impl Abort, most: usize, size: usize, at: usize) {
     }
 }
 
-fn expect_read_by(rt: &impl Abort, most: usize, size: usize) {
+fn expect_read_into(rt: &impl Abort, most: usize, size: usize) {
     expect_read(rt, most, size, SourceTrouble::Never, 6, 0);
     for at in 0..7 {
         expect_read_at(rt, most, size, at);
     }
 }
 
-fn expect_read_into(rt: &impl Abort, size: usize) {
-    for most in 1..8 {
-        expect_read_by(rt, most, size);
+fn expect_read_by(rt: &impl Abort, most: usize) {
+    for size in 1..9 {
+        expect_read_into(rt, most, size);
     }
 }
 
 #[test]
-fn reads_meet_trouble_at_each_place(rt: HostRuntime) {
-    for size in 1..9 {
-        expect_read_into(&rt, size);
+fn pipes_meet_trouble_at_each_place(rt: HostRuntime) {
+    for most in 1..8 {
+        expect_written_by(&rt, most);
+        expect_read_by(&rt, most);
     }
 }
 
