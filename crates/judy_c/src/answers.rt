@@ -39,6 +39,9 @@ pub(crate) enum Refusal {
     BadKey,
 }
 
+// What an insert gives, or why it is refused.
+pub(crate) type Outcome<T> = Result<T, Refusal>;
+
 // Why a scan hands out no slot.
 #[derive(Clone, Copy)]
 pub(crate) enum Missed {
@@ -46,6 +49,9 @@ pub(crate) enum Missed {
     BadKey,
     TooSmall,
 }
+
+// The slot of the key that a scan finds, or why there is none.
+pub(crate) type FoundSlot<'a> = Result<&'a mut u64, Missed>;
 
 // Answers an insert by its number, and hands the slot out where there is one.
 pub(crate) fn answer_insert<'a>(made: Result<&'a mut u64, Refusal>, slot: &mut &'a mut u64) -> u32
@@ -64,7 +70,7 @@ pub(crate) fn answer_insert<'a>(made: Result<&'a mut u64, Refusal>, slot: &mut &
 }
 
 // Answers a scan by its number, and hands the slot of the key found out where there is one.
-pub(crate) fn answer_scan<'a>(found: Result<&'a mut u64, Missed>, slot: &mut &'a mut u64) -> u32
+pub(crate) fn answer_scan<'a>(found: FoundSlot<'a>, slot: &mut &'a mut u64) -> u32
     ensures { (result ≡ number_found found.entry)
         × IsTold (result_ok found.entry) (result == 1) slot.old slot.new }
 {

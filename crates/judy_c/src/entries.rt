@@ -8,7 +8,7 @@ ghost use Rattle.judy_model.specs.Neighbours as neighbours;
 ghost use Rattle.judy_c.specs.Maps.{map_of, value_beside};
 ghost use Rattle.judy_c.specs.Told.{IsTold};
 
-use crate::handles::Handle;
+use crate::handles::{Handle, asked};
 use crate::map::Map;
 use crate::told::tell_entry;
 use judy_word::JudyL;
@@ -29,10 +29,7 @@ pub extern "C" fn sellumaq_judyl_first_entry(
         value.old value.new }
     ensures same { handle.new ≡ handle.old }
 {
-    match handle.array() {
-        Some(array) => tell_entry(array.first_entry(from), key, value),
-        None => tell_entry(JudyL::unbounded(alloc).first_entry(from), key, value),
-    }
+    asked!(handle, alloc, JudyL, array => tell_entry(array.first_entry(from), key, value))
 }
 
 /// The least key above a word, with its value. (Manual: JLN, JudyLNext.)
@@ -50,10 +47,7 @@ pub extern "C" fn sellumaq_judyl_next_entry(
         value.old value.new }
     ensures same { handle.new ≡ handle.old }
 {
-    match handle.array() {
-        Some(array) => tell_entry(array.next_entry(from), key, value),
-        None => tell_entry(JudyL::unbounded(alloc).next_entry(from), key, value),
-    }
+    asked!(handle, alloc, JudyL, array => tell_entry(array.next_entry(from), key, value))
 }
 
 /// The greatest key up to a word, with its value. (Manual: JLL, JudyLLast.)

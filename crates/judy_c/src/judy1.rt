@@ -14,7 +14,7 @@ ghost use Rattle.judy_c.specs.Maps.{set_of};
 ghost use Rattle.judy_c.specs.Puts.{IsPut};
 ghost use Rattle.judy_c.specs.Told.{IsTold};
 
-use crate::handles::Handle;
+use crate::handles::{Handle, asked};
 use crate::set::Set;
 use crate::told::tell;
 use judy_word::Judy1;
@@ -71,10 +71,7 @@ pub extern "C" fn sellumaq_judy1_first(
     ensures told { IsTold (neighbours.first (set_of handle.old) from) result key.old key.new }
     ensures same { handle.new ≡ handle.old }
 {
-    match handle.array() {
-        Some(array) => tell(array.first(from), key),
-        None => tell(Judy1::unbounded(alloc).first(from), key),
-    }
+    asked!(handle, alloc, Judy1, array => tell(array.first(from), key))
 }
 
 /// The least key above a word. (Manual: J1N, Judy1Next.)
@@ -88,10 +85,7 @@ pub extern "C" fn sellumaq_judy1_next(
     ensures told { IsTold (neighbours.next (set_of handle.old) from) result key.old key.new }
     ensures same { handle.new ≡ handle.old }
 {
-    match handle.array() {
-        Some(array) => tell(array.next(from), key),
-        None => tell(Judy1::unbounded(alloc).next(from), key),
-    }
+    asked!(handle, alloc, Judy1, array => tell(array.next(from), key))
 }
 
 /// The greatest key up to a word. (Manual: J1L, Judy1Last.)

@@ -17,7 +17,7 @@ ghost use Rattle.judy_c.specs.Told.{IsTold, lent_where};
 ghost use Rattle.std.specs.Borrow.{sem};
 ghost use Rattle.std.specs.Option.{option_copied_mut};
 
-use crate::handles::Handle;
+use crate::handles::{Handle, asked};
 use crate::map::Map;
 use crate::told::{hand_out, tell};
 use judy_word::JudyL;
@@ -109,10 +109,7 @@ pub extern "C" fn sellumaq_judyl_first(
     ensures told { IsTold (neighbours.first (map_of handle.old) from) result key.old key.new }
     ensures same { handle.new ≡ handle.old }
 {
-    match handle.array() {
-        Some(array) => tell(array.first(from), key),
-        None => tell(JudyL::unbounded(alloc).first(from), key),
-    }
+    asked!(handle, alloc, JudyL, array => tell(array.first(from), key))
 }
 
 /// The least key above a word. (Manual: JLN, JudyLNext.)
@@ -126,10 +123,7 @@ pub extern "C" fn sellumaq_judyl_next(
     ensures told { IsTold (neighbours.next (map_of handle.old) from) result key.old key.new }
     ensures same { handle.new ≡ handle.old }
 {
-    match handle.array() {
-        Some(array) => tell(array.next(from), key),
-        None => tell(JudyL::unbounded(alloc).next(from), key),
-    }
+    asked!(handle, alloc, JudyL, array => tell(array.next(from), key))
 }
 
 /// The greatest key up to a word. (Manual: JLL, JudyLLast.)

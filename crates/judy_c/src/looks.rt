@@ -95,6 +95,17 @@ trait AsksMany {
         ensures { told.new ≡ mapped (told_of self.now) keys.now };
 }
 
+// Asks an array of a few keys at once, and tells of each what stands for its answer.
+macro_rules! tell_each {
+    ($array:ident.$ask:ident($keys:ident), $told:ident, $answers:ident, $none:expr, $of:path) => {
+        let mut $answers = [$none; GROUP];
+        $array.$ask($keys, &mut $answers[..$keys.len()]);
+        'told: for at in 0..$keys.len() {
+            $told[at] = $of($answers[at]);
+        }
+    };
+}
+
 impl AsksMany for JudyL {
     ghost use Rattle.judy_c.specs.Looks.{found_at};
 
@@ -103,11 +114,7 @@ impl AsksMany for JudyL {
     ghost told_of = { λ array. found_at array.map };
 
     fn tell_group(&self, keys: &[u64], told: &mut [Found]) {
-        let mut values = [None; GROUP];
-        self.get_many(keys, &mut values[..keys.len()]);
-        'told: for at in 0..keys.len() {
-            told[at] = found_of(values[at]);
-        }
+        tell_each!(self.get_many(keys), told, values, None, found_of);
     }
 }
 
@@ -120,11 +127,7 @@ impl AsksMany for Judy1 {
     ghost told_of = { λ set. there_at set.map };
 
     fn tell_group(&self, keys: &[u64], told: &mut [u8]) {
-        let mut there = [false; GROUP];
-        self.test_many(keys, &mut there[..keys.len()]);
-        'told: for at in 0..keys.len() {
-            told[at] = u8::from(there[at]);
-        }
+        tell_each!(self.test_many(keys), told, there, false, u8::from);
     }
 }
 

@@ -9,7 +9,7 @@ ghost use Rattle.judy_c.specs.ByteSlots.{LendsSlotOf, LendsInsOf};
 
 use super::Bytes;
 use crate::answers::Refusal;
-use crate::handles::Handle;
+use crate::handles::{Handle, ins_in, slot_in};
 use judy_hs::{ByteHash, Eights, HsError};
 use std::alloc::Global;
 
@@ -26,10 +26,7 @@ impl Bytes {
         ensures* writes_back { sem 𝓛 (LendsSlotOf self.entry key.now result) }
         ensures value { option_copied_mut result ≡ map.get (array_in self.old).map key.now }
     {
-        match self.array() {
-            Some(array) => array.slot(key),
-            None => None,
-        }
+        slot_in!(self, slot(key))
     }
 
     // The slot of a key, which is put in with the value 0 where it is absent. For bytes that are no key no array is made.
@@ -37,17 +34,6 @@ impl Bytes {
         ensures* writes_back { sem 𝓛 (LendsInsOf self.entry key.now result) }
         ensures made { IsMade IsShort (array_in self.old) key.now result }
     {
-        if self.is_null() && !is_key(key) {
-            return Err(Refusal::BadKey);
-        }
-        match self.array_or_new(alloc) {
-            Ok(array) => match array.ins(key) {
-                Ok(slot) => Ok(slot),
-                Err(HsError::TooLong) => Err(Refusal::BadKey),
-                Err(HsError::Full) => Err(Refusal::Full),
-                Err(HsError::NoMemory) => Err(Refusal::NoMemory),
-            },
-            Err(_) => Err(Refusal::NoMemory),
-        }
+        ins_in!(self, alloc, key; HsError, TooLong)
     }
 }

@@ -10,7 +10,7 @@ ghost use Rattle.judy_c.specs.Puts.{IsMade};
 ghost use Rattle.judy_c.specs.SlotLends.{LendsSlotOf};
 
 use super::Map;
-use crate::handles::Handle;
+use crate::handles::{Handle, slot_in};
 use std::alloc::Global;
 
 impl Map {
@@ -19,10 +19,7 @@ impl Map {
         ensures* writes_back { sem 𝓛 (LendsSlotOf self.entry key result) }
         ensures value { option_copied_mut result ≡ map.get (map_of self.old) key }
     {
-        match self.array() {
-            Some(array) => array.slot(key),
-            None => None,
-        }
+        slot_in!(self, slot(key))
     }
 
     // The slot of a key, which is put in with the value 0 where it is absent, and `None` where there is no memory for that.
@@ -47,10 +44,7 @@ impl Map {
             ≡ option_and_then (map.get (map_of self.old))
             (neighbours.first (map_of self.old) from) }
     {
-        match self.array() {
-            Some(array) => array.first_slot(from, key),
-            None => None,
-        }
+        slot_in!(self, first_slot(from, key))
     }
 
     // The slot of the least key above a word, which is told; `None` where there is none.
@@ -60,10 +54,7 @@ impl Map {
         ensures value { option_copied_mut result
             ≡ option_and_then (map.get (map_of self.old)) (neighbours.next (map_of self.old) from) }
     {
-        match self.array() {
-            Some(array) => array.next_slot(from, key),
-            None => None,
-        }
+        slot_in!(self, next_slot(from, key))
     }
 
     // The slot of the greatest key up to a word, which is told; `None` where there is none.
@@ -73,10 +64,7 @@ impl Map {
         ensures value { option_copied_mut result
             ≡ option_and_then (map.get (map_of self.old)) (neighbours.last (map_of self.old) from) }
     {
-        match self.array() {
-            Some(array) => array.last_slot(from, key),
-            None => None,
-        }
+        slot_in!(self, last_slot(from, key))
     }
 
     // The slot of the greatest key below a word, which is told; `None` where there is none.
@@ -86,10 +74,7 @@ impl Map {
         ensures value { option_copied_mut result
             ≡ option_and_then (map.get (map_of self.old)) (neighbours.prev (map_of self.old) from) }
     {
-        match self.array() {
-            Some(array) => array.prev_slot(from, key),
-            None => None,
-        }
+        slot_in!(self, prev_slot(from, key))
     }
 
     // The slot of the n-th key, which is told; `None` where there is none.
@@ -99,9 +84,6 @@ impl Map {
         ensures value { option_copied_mut result
             ≡ option_and_then (map.get (map_of self.old)) (counts.by_count (map_of self.old) n) }
     {
-        match self.array() {
-            Some(array) => array.by_count_slot(n, key),
-            None => None,
-        }
+        slot_in!(self, by_count_slot(n, key))
     }
 }

@@ -9,75 +9,58 @@ ghost use Rattle.judy_c.specs.StringMaps.{array_in};
 ghost use Rattle.judy_c.specs.StringSlots.{LendsSlotOf};
 
 use super::Strings;
-use crate::answers::Missed;
+use crate::answers::{FoundSlot, Missed};
 use crate::handles::Handle;
 use crate::scans::{Scan, find_slot, read_start, write_key};
 use judy_sl::KeyBuf;
 
 impl Strings {
     // The slot of the least key from the string in a buffer on, which that key replaces.
-    pub(crate) fn first_slot(
-        &mut self,
-        buffer: &mut [u8],
-        count: &mut usize,
-    ) -> Result<&mut u64, Missed>
+    pub(crate) fn first_slot(&mut self, buffer: &mut [u8], count: &mut usize) -> FoundSlot<'_>
         ensures* writes_back { sem 𝓛
             (LendsSlotOf self.entry (take count.new buffer.new) (result_ok result)) }
-        ensures found { IsFoundSlot (array_in self.old).map (neighbours.first (array_in self.old).map)
+        ensures found { IsFoundSlot (array_in self.old).map
+            (neighbours.first (array_in self.old).map)
             (buffer.old, count.old) (buffer.new, count.new) result }
     {
         self.scan_slot(Scan::First, buffer, count)
     }
 
     // The slot of the least key above the string in a buffer, which that key replaces.
-    pub(crate) fn next_slot(
-        &mut self,
-        buffer: &mut [u8],
-        count: &mut usize,
-    ) -> Result<&mut u64, Missed>
+    pub(crate) fn next_slot(&mut self, buffer: &mut [u8], count: &mut usize) -> FoundSlot<'_>
         ensures* writes_back { sem 𝓛
             (LendsSlotOf self.entry (take count.new buffer.new) (result_ok result)) }
-        ensures found { IsFoundSlot (array_in self.old).map (neighbours.next (array_in self.old).map)
+        ensures found { IsFoundSlot (array_in self.old).map
+            (neighbours.next (array_in self.old).map)
             (buffer.old, count.old) (buffer.new, count.new) result }
     {
         self.scan_slot(Scan::Next, buffer, count)
     }
 
     // The slot of the greatest key up to the string in a buffer, which that key replaces.
-    pub(crate) fn last_slot(
-        &mut self,
-        buffer: &mut [u8],
-        count: &mut usize,
-    ) -> Result<&mut u64, Missed>
+    pub(crate) fn last_slot(&mut self, buffer: &mut [u8], count: &mut usize) -> FoundSlot<'_>
         ensures* writes_back { sem 𝓛
             (LendsSlotOf self.entry (take count.new buffer.new) (result_ok result)) }
-        ensures found { IsFoundSlot (array_in self.old).map (neighbours.last (array_in self.old).map)
+        ensures found { IsFoundSlot (array_in self.old).map
+            (neighbours.last (array_in self.old).map)
             (buffer.old, count.old) (buffer.new, count.new) result }
     {
         self.scan_slot(Scan::Last, buffer, count)
     }
 
     // The slot of the greatest key below the string in a buffer, which that key replaces.
-    pub(crate) fn prev_slot(
-        &mut self,
-        buffer: &mut [u8],
-        count: &mut usize,
-    ) -> Result<&mut u64, Missed>
+    pub(crate) fn prev_slot(&mut self, buffer: &mut [u8], count: &mut usize) -> FoundSlot<'_>
         ensures* writes_back { sem 𝓛
             (LendsSlotOf self.entry (take count.new buffer.new) (result_ok result)) }
-        ensures found { IsFoundSlot (array_in self.old).map (neighbours.prev (array_in self.old).map)
+        ensures found { IsFoundSlot (array_in self.old).map
+            (neighbours.prev (array_in self.old).map)
             (buffer.old, count.old) (buffer.new, count.new) result }
     {
         self.scan_slot(Scan::Prev, buffer, count)
     }
 
     // The slot of the key that a scan finds from the string in a buffer, which that key replaces.
-    fn scan_slot(
-        &mut self,
-        scan: Scan,
-        buffer: &mut [u8],
-        count: &mut usize,
-    ) -> Result<&mut u64, Missed>
+    fn scan_slot(&mut self, scan: Scan, buffer: &mut [u8], count: &mut usize) -> FoundSlot<'_>
         ensures* writes_back { sem 𝓛
             (LendsSlotOf self.entry (take count.new buffer.new) (result_ok result)) }
         ensures found { IsFoundSlot (array_in self.old).map (neighbour scan (array_in self.old).map)
