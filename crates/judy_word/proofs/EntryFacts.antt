@@ -1,7 +1,7 @@
 -- Keys that are found with their values.
-use Rattle.std.proofs.Common.{◌≡◌, ℕ, zero, suc, ◌+◌, ◌≤◌, ◌^◌, Bool, true, false, cond, [], ◌∷◌, slice_get, find, reverse, Option, Some, None, IfSome, refl, sym, ◌∙◌, subst, arith}
+use Rattle.std.proofs.Common.{◌≡◌, ℕ, zero, suc, ◌+◌, ◌≤◌, ◌^◌, Bool, true, false, cond, [], ◌∷◌, slice_get, find, reverse, Option, Some, None, IfSome, refl, sym, ap, ◌∙◌, subst, arith}
 use Rattle.std.specs.FinMap.{get}
-use Rattle.std.specs.Option.{option_or}
+use Rattle.std.specs.Option.{option_or, option_map}
 use Rattle.std.proofs.lemmas.Option.{same_Some}
 use Rattle.judy_model.proofs.Ascending.{find_last, find-reverse}
 use Rattle.judy_node.specs.Trees.{Pairs, IsMap}
@@ -68,3 +68,10 @@ module _ (words : ℕ) (pairs : Pairs) (is : IsMap words 0 (256 ^ 8) pairs) (res
   -- So is one at a place.
   pub value-found_at : (at : ℕ) → result ≡ slice_get pairs at → IfSome result (λ entry. get (map_of pairs) entry.0 ≡ Some entry.1)
   value-found_at at same = has_value (λ entry some. found_at words 0 (256 ^ 8) at pairs entry is (sym same ∙ some))
+
+-- The key of a pair that was found is the one that was sought, and so is none where none was found.
+pub key_alone : {found : Option (ℕ × ℕ)} {entry : ℕ × ℕ} {sought : Option ℕ} → found ≡ Some entry → option_map (λ pair. pair.0) found ≡ sought → Some entry.0 ≡ sought
+key_alone was is = sym (ap (option_map (λ pair. pair.0)) was) ∙ is
+
+pub key_none : {found : Option (ℕ × ℕ)} {sought result : Option ℕ} → found ≡ None → option_map (λ pair. pair.0) found ≡ sought → result ≡ None → result ≡ sought
+key_none was is none = none ∙ sym (ap (option_map (λ pair. pair.0)) was) ∙ is

@@ -15,6 +15,22 @@ use judy_node::NodeOf;
 use judy_unmetered::UNMETERED;
 use std::alloc::AllocError;
 
+// Gives a key a value by a change of the tree, which answers what is answered, and refuses a key that is absent from a full array.
+macro_rules! put_by {
+    ($array:ident, $answer:ident, $change:ident, $key:ident, $value:expr) => {{
+        $array.root.told();
+        if $array.is_full($key) {
+            return Err(InsertError::Full);
+        }
+        let Ok($answer) = $change($array.alloc, &mut $array.root, $key, $value) else {
+            return Err(InsertError::NoMemory);
+        };
+        Ok($answer)
+    }};
+}
+
+pub(super) use put_by;
+
 impl<V: Words + Drop> TreeArray<V> {
     // Whether a key is absent and there is no room for it.
     // Compiled into the inserts, which mostly compare two numbers by it.
@@ -64,14 +80,7 @@ impl<V: Words + Drop> TreeArray<V> {
         ensures loose { self.new.loose ≡ self.old.loose }
         ensures first { map_in self.old ≡ map.empty → IsOk result }
     {
-        self.root.told();
-        if self.is_full(key) {
-            return Err(InsertError::Full);
-        }
-        let Ok(added) = insert_with(self.alloc, &mut self.root, key, value) else {
-            return Err(InsertError::NoMemory);
-        };
-        Ok(added)
+        put_by!(self, added, insert_with, key, value)
     }
 
     /// Gives a key a value, in an array whose keys have values, and answers whether it was absent. Refused as `set` is, and then the

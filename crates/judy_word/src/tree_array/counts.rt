@@ -13,7 +13,7 @@ use crate::tree_array::TreeArray;
 use judy_bits::Meter;
 use judy_leaf::Words;
 use judy_node::BranchOf;
-use judy_query::{MOST_WAYS, Start, lookup, lookup_further, lookup_many, lookup_start, nth, rank};
+use judy_query::{MOST_WAYS, Start, lookup, lookup_further, lookup_many, lookup_start, rank};
 use judy_unmetered::UNMETERED;
 
 impl<V: Words + Drop> TreeArray<V> {
@@ -130,11 +130,8 @@ impl<V: Words + Drop> TreeArray<V> {
     pub fn by_count(&self, n: u64) -> Option<u64>
         ensures { result ≡ counts.by_count (map_in self.now) n }
     {
-        if n == 0 {
-            None
-        } else {
-            nth(&self.root, n - 1, &mut Meter::new(UNMETERED))
-        }
+        let (key, _) = self.by_count_entry(n)?;
+        Some(key)
     }
 }
 

@@ -5,11 +5,9 @@ ghost use Rattle.judy_model.specs.Neighbours as neighbours;
 ghost use Rattle.judy_word.specs.Held.{map_in};
 
 use crate::tree_array::TreeArray;
-use judy_bits::Meter;
 use judy_leaf::Words;
-use judy_query::{at_or_after, at_or_before};
-use judy_unmetered::UNMETERED;
 
+// Each is asked for with its value, which isn't read where nobody asks for it.
 impl<V: Words + Drop> TreeArray<V> {
     /// The least key that isn't below a word; `None` where there is none.
     // Compiled into the caller, as the search is: the answer doesn't go through memory then.
@@ -17,7 +15,8 @@ impl<V: Words + Drop> TreeArray<V> {
     pub fn first(&self, from: u64) -> Option<u64>
         ensures { result ≡ neighbours.first (map_in self.now) from }
     {
-        at_or_after(&self.root, from, &mut Meter::new(UNMETERED))
+        let (key, _) = self.first_entry(from)?;
+        Some(key)
     }
 
     /// The least key above it, or `None`.
@@ -26,25 +25,23 @@ impl<V: Words + Drop> TreeArray<V> {
     pub fn next(&self, from: u64) -> Option<u64>
         ensures { result ≡ neighbours.next (map_in self.now) from }
     {
-        self.told();
-        if from == u64::MAX {
-            None
-        } else {
-            self.first(from + 1)
-        }
+        let (key, _) = self.next_entry(from)?;
+        Some(key)
     }
 
     /// The greatest key that isn't above it, or `None`.
     pub fn last(&self, from: u64) -> Option<u64>
         ensures { result ≡ neighbours.last (map_in self.now) from }
     {
-        at_or_before(&self.root, from, &mut Meter::new(UNMETERED))
+        let (key, _) = self.last_entry(from)?;
+        Some(key)
     }
 
     /// The greatest key below it, or `None`.
     pub fn prev(&self, from: u64) -> Option<u64>
         ensures { result ≡ neighbours.prev (map_in self.now) from }
     {
-        if from == 0 { None } else { self.last(from - 1) }
+        let (key, _) = self.prev_entry(from)?;
+        Some(key)
     }
 }

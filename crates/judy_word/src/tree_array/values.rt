@@ -9,6 +9,7 @@ ghost use Rattle.judy_word.specs.Refusals.{IsRefusal};
 
 use crate::error::InsertError;
 use crate::tree_array::TreeArray;
+use crate::tree_array::changes::put_by;
 use judy_change::{exchange, remove};
 use judy_leaf::Words;
 
@@ -32,14 +33,7 @@ impl<V: Words + Drop> TreeArray<V> {
         ensures loose { self.new.loose ≡ self.old.loose }
         ensures first { map_in self.old ≡ map.empty → IsOk result }
     {
-        self.root.told();
-        if self.is_full(key) {
-            return Err(InsertError::Full);
-        }
-        let Ok(was) = exchange(self.alloc, &mut self.root, key, value) else {
-            return Err(InsertError::NoMemory);
-        };
-        Ok(was)
+        put_by!(self, was, exchange, key, value)
     }
 
     /// Takes a key out, and answers its value, 0 where keys have no values; `None` where it was absent. It can't fail. The array becomes

@@ -93,7 +93,8 @@ impl JudyL {
     pub fn put_if_absent(&mut self, i: u64, value: u64) -> Result<bool, InsertError>
         ensures answer { IfOk result (λ added. added ≡ not (map.contains_key self.old.map i)) }
         ensures put { OnOk result
-            (array_of self.new ≡ array.with_map (array_of self.old) (with_new self.old.map i value)) }
+            (array_of self.new ≡ array.with_map (array_of self.old)
+            (with_new self.old.map i value)) }
         ensures accepted { OnOk result (IsFalse (array.is_full (array_of self.old) i)) }
         ensures refused { IfErr result (IsRefusal (array_of self.old) i) }
         ensures unchanged { OnErr result (self.new ≡ self.old) }

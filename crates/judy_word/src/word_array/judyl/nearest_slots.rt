@@ -10,6 +10,14 @@ ghost use Rattle.judy_word.specs.Slots.{LendsSlot};
 
 use crate::word_array::JudyL;
 
+// The slot of the key that a search finds; `$key` becomes that key, and stays where none is found.
+macro_rules! slot_found {
+    ($array:ident, $search:ident($from:ident), $key:ident) => {{
+        let found = $array.$search($from);
+        $array.slot_beside(found, $key)
+    }};
+}
+
 impl JudyL {
     /// The slot of the least key from `i` on; `key` becomes that key. `None` where no key is left, and then `key` stays. What the caller leaves in
     /// the slot is then that key's value. (Manual: JLF, JudyLFirst, which gives both.)
@@ -19,8 +27,7 @@ impl JudyL {
         ensures value { option_copied_mut result
             ≡ option_and_then (map.get self.old.map) (neighbours.first self.old.map i) }
     {
-        let found = self.first_entry(i);
-        self.slot_beside(found, key)
+        slot_found!(self, first_entry(i), key)
     }
 
     /// The slot of the least key above `i`; `key` becomes that key. `None` where no key is above it, and then `key` stays. What the caller leaves in
@@ -31,8 +38,7 @@ impl JudyL {
         ensures value { option_copied_mut result
             ≡ option_and_then (map.get self.old.map) (neighbours.next self.old.map i) }
     {
-        let found = self.next_entry(i);
-        self.slot_beside(found, key)
+        slot_found!(self, next_entry(i), key)
     }
 
     /// The slot of the greatest key up to `i`; `key` becomes that key. `None` where each key is above it, and then `key` stays. What the caller leaves in
@@ -43,8 +49,7 @@ impl JudyL {
         ensures value { option_copied_mut result
             ≡ option_and_then (map.get self.old.map) (neighbours.last self.old.map i) }
     {
-        let found = self.last_entry(i);
-        self.slot_beside(found, key)
+        slot_found!(self, last_entry(i), key)
     }
 
     /// The slot of the greatest key below `i`; `key` becomes that key. `None` where no key is below it, and then `key` stays. What the caller leaves in
@@ -55,8 +60,7 @@ impl JudyL {
         ensures value { option_copied_mut result
             ≡ option_and_then (map.get self.old.map) (neighbours.prev self.old.map i) }
     {
-        let found = self.prev_entry(i);
-        self.slot_beside(found, key)
+        slot_found!(self, prev_entry(i), key)
     }
 
     /// The slot of the `n`-th key in ascending order, counted from 1; `key` becomes that key. `None` for 0 and above the number of keys, and then `key` stays. What the caller leaves in
@@ -67,9 +71,9 @@ impl JudyL {
         ensures value { option_copied_mut result
             ≡ option_and_then (map.get self.old.map) (counts.by_count self.old.map n) }
     {
-        let found = self.by_count_entry(n);
-        self.slot_beside(found, key)
+        slot_found!(self, by_count_entry(n), key)
     }
+
     // The slot of a key that was found with its value; `key` becomes that key, and stays where none was found.
     #[inline(always)]
     fn slot_beside(&mut self, found: Option<(u64, u64)>, key: &mut u64) -> Option<&mut u64>

@@ -1,10 +1,8 @@
-use Rattle.std.proofs.Common.{sym, ◌∙◌, arith}
-use Rattle.judy_model.proofs.FollowingLemmas.{prev-zero}
-use Rattle.judy_word.proofs.HeldFacts.{prev_less}
+use Rattle.judy_word.proofs.EntryFacts.{key_alone, key_none}
 use Rattle.judy_word.proofs.tree_array.TreeArray.prev.Goals as goal
 
-pub returns-then-from-eq0 : goal.returns-then-from-eq0
-returns-then-from-eq0 g c = rw c.if-from-eq0.true (sym (prev-zero _))
+pub returns-in_err-key : goal.returns-in_err-key
+returns-in_err-key g c = key_none c.in_err-key.was c.prev_entry.ensures.key c.from_residual.ensures
 
-pub returns-else-from-eq0 : goal.returns-else-from-eq0
-returns-else-from-eq0 g c = c.last.ensures ∙ sym (prev_less _ c.args.from (omega (arith, c.if-from-eq0.false)))
+pub returns : goal.returns
+returns g c = key_alone c.in_ok-key.was c.prev_entry.ensures.key
