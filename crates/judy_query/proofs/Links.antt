@@ -115,10 +115,6 @@ module _ (words top : ℕ) (pairs : Pairs) (is : IsMap words 0 top pairs) where
   unfolding first
   first_is key = ap (find (λ other. is_ge (word_order other key))) keys_is ∙ sym (find-key (λ other. is_ge (word_order other key)) pairs)
 
-  -- The key of the pair that was found.
-  pub first_told : (key : ℕ) {entry found : Option (ℕ × ℕ)} → entry ≡ pair_from pairs key → entry ≡ found → option_map (λ pair. pair.0) found ≡ first (map_of pairs) key
-  first_told key is was = sym (first_is key ∙ ap (option_map (λ pair. pair.0)) (sym is ∙ was))
-
   pub last_is : (key : ℕ) → last (map_of pairs) key ≡ option_map (λ pair. pair.0) (pair_up_to pairs key)
   unfolding last
   last_is key =
@@ -126,9 +122,6 @@ module _ (words top : ℕ) (pairs : Pairs) (is : IsMap words 0 top pairs) where
       ∙ find-reverse (λ other. is_le (word_order other key)) (keys_of pairs)
       ∙ sym (find_last-key (λ other. is_le (word_order other key)) pairs)
       ∙ ap (option_map (λ (pair : ℕ × ℕ). pair.0)) (sym (find-reverse (λ (pair : ℕ × ℕ). is_le (word_order pair.0 key)) pairs))
-
-  pub last_told : (key : ℕ) {entry found : Option (ℕ × ℕ)} → entry ≡ pair_up_to pairs key → entry ≡ found → option_map (λ pair. pair.0) found ≡ last (map_of pairs) key
-  last_told key is was = sym (last_is key ∙ ap (option_map (λ pair. pair.0)) (sym is ∙ was))
 
   -- A word is a key of the map where it is one of the pairs.
   pub held_is : (key : ℕ) → contains_key (map_of pairs) key ≡ set.has (keys_of pairs) key

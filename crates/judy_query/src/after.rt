@@ -1,40 +1,25 @@
 //! The key at or after a word.
 
 ghost use Rattle.std.specs.Prelude.{◌≡◌, ◌+◌, ◌-◌, ◌^◌, ◌≤◌};
-ghost use Rattle.judy_model.specs.Neighbours as neighbours;
 ghost use Rattle.judy_leaf.specs.Nearby.{pair_from};
-ghost use Rattle.judy_query.specs.Maps.{map_of};
 ghost use Rattle.judy_query.specs.Visits.{most_visits_near};
 
+use crate::Entry;
 use crate::ends::{from_in, from_other, value_in_dense};
 use crate::turns::{later_turn, pair_behind};
 use judy_bits::Meter;
 use judy_leaf::Words;
 use judy_node::{NodeOf, Step, ViewOf};
 
-/// The least key that isn't below a word; `None` where all are below. At most 15 visits; the meter stands at most at
-/// `u64::MAX - 16`.
-// As `entry_at_or_after`; the value isn't read.
-#[inline(always)]
-pub fn at_or_after<V: Words + Drop>(tree: &NodeOf<V>, key: u64, meter: &mut Meter) -> Option<u64>
-    requires { meter.old ≤ 2 ^ 64 - 17 }
-    ensures value { result ≡ neighbours.first (map_of tree.now.pairs) key }
-    ensures no_fewer { meter.old ≤ meter.new }
-    ensures visits { meter.new ≤ meter.old + most_visits_near }
-{
-    tree.told();
-    let (found, _) = entry_at_or_after(tree, key, meter)?;
-    Some(found)
-}
-
-/// The same with the key's value, 0 where keys have no value.
+/// The least key that isn't below a word, with its value, 0 where keys have no value; `None` where all are below. At most 15 visits; the
+/// meter stands at most at `u64::MAX - 16`.
 // Within the call that asks, the answer needn't be written to memory and read back from there.
 #[inline(always)]
 pub fn entry_at_or_after<V: Words + Drop>(
     tree: &NodeOf<V>,
     key: u64,
     meter: &mut Meter,
-) -> Option<(u64, u64)>
+) -> Option<Entry>
     requires { meter.old ≤ 2 ^ 64 - 17 }
     ensures entry { result ≡ pair_from tree.now.pairs key }
     ensures no_fewer { meter.old ≤ meter.new }

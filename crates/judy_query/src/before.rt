@@ -1,38 +1,25 @@
 //! The key at or before a word.
 
 ghost use Rattle.std.specs.Prelude.{◌≡◌, ◌+◌, ◌-◌, ◌^◌, ◌≤◌};
-ghost use Rattle.judy_model.specs.Neighbours as neighbours;
 ghost use Rattle.judy_leaf.specs.Nearby.{pair_up_to};
-ghost use Rattle.judy_query.specs.Maps.{map_of};
 ghost use Rattle.judy_query.specs.Visits.{most_visits_near};
 
+use crate::Entry;
 use crate::ends::up_to_in;
 use crate::turns::{earlier_turn, greatest};
 use judy_bits::Meter;
 use judy_leaf::Words;
 use judy_node::{NodeOf, Step, ViewOf};
 
-/// The greatest key that isn't above a word; `None` where all are above. At most 15 visits; the meter stands at most at
-/// `u64::MAX - 16`.
-pub fn at_or_before<V: Words + Drop>(tree: &NodeOf<V>, key: u64, meter: &mut Meter) -> Option<u64>
-    requires { meter.old ≤ 2 ^ 64 - 17 }
-    ensures value { result ≡ neighbours.last (map_of tree.now.pairs) key }
-    ensures no_fewer { meter.old ≤ meter.new }
-    ensures visits { meter.new ≤ meter.old + most_visits_near }
-{
-    tree.told();
-    let (found, _) = entry_at_or_before(tree, key, meter)?;
-    Some(found)
-}
-
-/// The same with the key's value, 0 where keys have no value.
+/// The greatest key that isn't above a word, with its value, 0 where keys have no value; `None` where all are above. At most 15 visits;
+/// the meter stands at most at `u64::MAX - 16`.
 // As `entry_at_or_after`.
 #[inline(always)]
 pub fn entry_at_or_before<V: Words + Drop>(
     tree: &NodeOf<V>,
     key: u64,
     meter: &mut Meter,
-) -> Option<(u64, u64)>
+) -> Option<Entry>
     requires { meter.old ≤ 2 ^ 64 - 17 }
     ensures entry { result ≡ pair_up_to tree.now.pairs key }
     ensures no_fewer { meter.old ≤ meter.new }

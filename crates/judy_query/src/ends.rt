@@ -7,6 +7,7 @@ ghost use Rattle.judy_leaf.specs.Nearby.{pair_from, pair_up_to};
 ghost use Rattle.judy_node.specs.Views.{view_pairs};
 ghost use Rattle.judy_query.specs.Parts.{value_of, IsEnd, IsShown};
 
+use crate::Entry;
 use judy_leaf::{BitRef, ImmOf, LeafRef, Words};
 use judy_node::ViewOf;
 
@@ -35,14 +36,21 @@ pub(crate) fn value_in<V: Words + Drop>(view: &ViewOf<'_, V>, key: u64) -> Optio
     }
 }
 
+// The value at the place at which a list finds a key; none where it finds none.
+macro_rules! value_found {
+    ($list:ident, $find:ident, $key:ident) => {{
+        $list.told();
+        let at = $list.$find($key)?;
+        Some($list.value_at(at))
+    }};
+}
+
 /// The value of a key of an immediate.
 #[tactic(auto, using(crate::proofs::Finds::place_inside, crate::proofs::Finds::place_value, crate::proofs::Finds::place_none))]
 pub(crate) fn value_in_imm<V: Words + Drop>(list: &ImmOf<V>, key: u64) -> Option<u64>
     ensures { result ≡ value_of list.now.pairs key }
 {
-    list.told();
-    let at = list.find(key)?;
-    Some(list.value_at(at))
+    value_found!(list, find, key)
 }
 
 // The value of a key of a leaf.
@@ -50,9 +58,7 @@ pub(crate) fn value_in_imm<V: Words + Drop>(list: &ImmOf<V>, key: u64) -> Option
 fn value_in_leaf<V: Words + Drop>(list: &LeafRef<'_, V>, key: u64) -> Option<u64>
     ensures { result ≡ value_of list.now.pairs key }
 {
-    list.told();
-    let at = list.find(key)?;
-    Some(list.value_at(at))
+    value_found!(list, find, key)
 }
 
 /// The value of a key of a leaf at a root, where keys have eight bytes.
@@ -63,9 +69,7 @@ pub(crate) fn value_in_words<V: Words + Drop>(list: &LeafRef<'_, V>, key: u64) -
     requires { list.now.width ≡ 8 }
     ensures { result ≡ value_of list.now.pairs key }
 {
-    list.told();
-    let at = list.find_word(key)?;
-    Some(list.value_at(at))
+    value_found!(list, find_word, key)
 }
 
 // The value of a last byte of a bitmap leaf.
@@ -73,9 +77,7 @@ pub(crate) fn value_in_words<V: Words + Drop>(list: &LeafRef<'_, V>, key: u64) -
 fn value_in_bits<V: Words + Drop>(list: &BitRef<'_, V>, key: u64) -> Option<u64>
     ensures { result ≡ value_of list.now.pairs key }
 {
-    list.told();
-    let at = list.find(key)?;
-    Some(list.value_at(at))
+    value_found!(list, find, key)
 }
 
 /// How many keys are below a word.
@@ -121,7 +123,7 @@ pub(crate) fn len_in<V: Words + Drop>(view: &ViewOf<'_, V>) -> u64
 /// The pair at a place, counted from 0.
 // As `from_in` below.
 #[inline(always)]
-pub(crate) fn entry_in<V: Words + Drop>(view: &ViewOf<'_, V>, at: u64) -> (u64, u64)
+pub(crate) fn entry_in<V: Words + Drop>(view: &ViewOf<'_, V>, at: u64) -> Entry
     requires end { IsEnd view.now }
     requires shown { IsShown V.WORDS view.now }
     requires inside { at < length (view_pairs view.now) }
@@ -159,7 +161,7 @@ pub(crate) fn value_in_dense<V: Words + Drop>(view: &ViewOf<'_, V>, key: u64) ->
 /// The nearest pair at or above a number; none where all are below.
 // Where a node was just entered its kind is known: by a call it would be written to memory and told anew.
 #[inline(always)]
-pub(crate) fn from_in<V: Words + Drop>(view: &ViewOf<'_, V>, key: u64) -> Option<(u64, u64)>
+pub(crate) fn from_in<V: Words + Drop>(view: &ViewOf<'_, V>, key: u64) -> Option<Entry>
     requires end { IsEnd view.now }
     requires shown { IsShown V.WORDS view.now }
     ensures { result ≡ pair_from (view_pairs view.now) key }
@@ -173,7 +175,7 @@ pub(crate) fn from_in<V: Words + Drop>(view: &ViewOf<'_, V>, key: u64) -> Option
 /// The same, with the search of a leaf by a call.
 // For nodes that are no leaves: the search of a leaf is large, and isn't compiled in where none comes.
 #[inline(always)]
-pub(crate) fn from_other<V: Words + Drop>(view: &ViewOf<'_, V>, key: u64) -> Option<(u64, u64)>
+pub(crate) fn from_other<V: Words + Drop>(view: &ViewOf<'_, V>, key: u64) -> Option<Entry>
     requires end { IsEnd view.now }
     requires shown { IsShown V.WORDS view.now }
     ensures { result ≡ pair_from (view_pairs view.now) key }
@@ -197,7 +199,7 @@ pub(crate) fn from_other<V: Words + Drop>(view: &ViewOf<'_, V>, key: u64) -> Opt
 }
 
 // The same in a leaf.
-fn from_leaf<V: Words + Drop>(list: &LeafRef<'_, V>, key: u64) -> Option<(u64, u64)>
+fn from_leaf<V: Words + Drop>(list: &LeafRef<'_, V>, key: u64) -> Option<Entry>
     ensures { result ≡ pair_from list.now.pairs key }
 {
     list.at_or_after(key)
@@ -206,7 +208,7 @@ fn from_leaf<V: Words + Drop>(list: &LeafRef<'_, V>, key: u64) -> Option<(u64, u
 /// The nearest pair at or below a number; none where all are above.
 // As `from_in`.
 #[inline(always)]
-pub(crate) fn up_to_in<V: Words + Drop>(view: &ViewOf<'_, V>, key: u64) -> Option<(u64, u64)>
+pub(crate) fn up_to_in<V: Words + Drop>(view: &ViewOf<'_, V>, key: u64) -> Option<Entry>
     requires end { IsEnd view.now }
     requires shown { IsShown V.WORDS view.now }
     ensures { result ≡ pair_up_to (view_pairs view.now) key }

@@ -44,6 +44,18 @@ fn fill_one<E: FromPair>(key: u64, value: u64, out: &mut [E])
     }
 }
 
+// Writes what stands for all the pairs of a list to the front of a slice, where they fit, and tells how many these are.
+macro_rules! give_list {
+    ($list:ident, $base:expr, $out:ident) => {{
+        let count = $list.len();
+        if count > $out.len() {
+            return None;
+        }
+        $list.fill_from(0, $base, &mut $out[..count]);
+        Some(count)
+    }};
+}
+
 /// Writes what stands for all the pairs to the front of a slice, and answers how many these are; none, and then nothing is written,
 /// where they don't fit, or the node is a branch.
 // Where a node was just entered its kind is known: by a call it would be written to memory and told anew.
@@ -59,30 +71,9 @@ pub(crate) fn give_whole<V: Words + Drop, E: FromPair>(
         (λ count. AreGiven E.made (shift base (view_pairs view.now)) [] out.old out.new count) }
 {
     match view {
-        ViewOf::Imm(list) => {
-            let count = list.len();
-            if count > out.len() {
-                return None;
-            }
-            list.fill_from(0, base, &mut out[..count]);
-            Some(count)
-        }
-        ViewOf::Leaf(list) => {
-            let count = list.len();
-            if count > out.len() {
-                return None;
-            }
-            list.fill_from(0, base, &mut out[..count]);
-            Some(count)
-        }
-        ViewOf::BitLeaf(skipped, list) => {
-            let count = list.len();
-            if count > out.len() {
-                return None;
-            }
-            list.fill_from(0, base + *skipped * 256, &mut out[..count]);
-            Some(count)
-        }
+        ViewOf::Imm(list) => give_list!(list, base, out),
+        ViewOf::Leaf(list) => give_list!(list, base, out),
+        ViewOf::BitLeaf(skipped, list) => give_list!(list, base + *skipped * 256, out),
         ViewOf::Null | ViewOf::One(_, _) | ViewOf::Branch(_) => None,
     }
 }

@@ -2,7 +2,8 @@
 //! nearest to a word, which word that is no key is, and which pairs follow each other from a key on.
 //!
 //! To its callers a tree is the map of its pairs (specs/Maps.antt), and each answer is that of judy_model's definitions. The calls whose
-//! names begin with `entry` give the value with the key in the same way down.
+//! names begin with `entry` give a pair, the value with the key, in the same way down; that its key is that of a definition is a lemma
+//! (proofs/Links.antt).
 //!
 //! Each call goes down the tree once, or, for a neighbour, once and then once more from a child that it remembers; so it enters at
 //! most 8 nodes, or 15, whatever the tree, loose ones too (specs/Visits.antt, laws.rt). Each is a loop over branches and one look at the
@@ -46,12 +47,15 @@ mod waiting;
 mod walk;
 mod watch;
 
-pub use after::{at_or_after, entry_at_or_after};
-pub use before::{at_or_before, entry_at_or_before};
+pub use after::entry_at_or_after;
+pub use before::entry_at_or_before;
 pub use counts::rank;
 pub use empties::{empty_at_or_after, empty_at_or_before};
 pub use many::{MOST_WAYS, lookup_many};
-pub use places::{entry_nth, nth};
+pub use places::entry_nth;
 pub use surroundings::around;
 pub use values::{Start, lookup, lookup_further, lookup_start};
 pub use walk::Walk;
+
+/// A key with its value, which is 0 where keys have no value.
+pub type Entry = (u64, u64);

@@ -1,39 +1,22 @@
 //! The key at a place.
 
 ghost use Rattle.std.specs.Prelude.{◌≡◌, ◌+◌, ◌-◌, ◌^◌, ◌<◌, ◌≤◌, length, slice_get, Some};
-ghost use Rattle.judy_model.specs.Counts as counts;
 ghost use Rattle.judy_node.specs.Views.{view_pairs};
-ghost use Rattle.judy_query.specs.Maps.{map_of};
 ghost use Rattle.judy_query.specs.Parts.{IsShown, width_of};
 ghost use Rattle.judy_query.specs.Visits.{most_visits_down};
 
+use crate::Entry;
 use crate::branches::{holding, start_of};
 use crate::ends::entry_in;
 use judy_bits::Meter;
 use judy_leaf::Words;
 use judy_node::{NodeOf, ViewOf};
 
-/// The key at a place among all keys by ascending order, counted from 0; `None` from the number of keys on. At most 8 visits; the
-/// meter stands at most at `u64::MAX - 16`.
-pub fn nth<V: Words + Drop>(tree: &NodeOf<V>, place: u64, meter: &mut Meter) -> Option<u64>
-    requires { meter.old ≤ 2 ^ 64 - 17 }
-    ensures value { result ≡ counts.nth (map_of tree.now.pairs) place }
-    ensures no_fewer { meter.old ≤ meter.new }
-    ensures visits { meter.new ≤ meter.old + most_visits_down }
-{
-    tree.told();
-    let (key, _) = entry_nth(tree, place, meter)?;
-    Some(key)
-}
-
-/// The same with the key's value, 0 where keys have no value.
-// Inside `nth` nobody asks for the value, and it isn't read.
+/// The key at a place among all keys by ascending order, counted from 0, with its value, 0 where keys have no value; `None` from the number
+/// of keys on. At most 8 visits; the meter stands at most at `u64::MAX - 16`.
+// Where nobody asks for the value it isn't read.
 #[inline(always)]
-pub fn entry_nth<V: Words + Drop>(
-    tree: &NodeOf<V>,
-    place: u64,
-    meter: &mut Meter,
-) -> Option<(u64, u64)>
+pub fn entry_nth<V: Words + Drop>(tree: &NodeOf<V>, place: u64, meter: &mut Meter) -> Option<Entry>
     requires { meter.old ≤ 2 ^ 64 - 17 }
     ensures entry { result ≡ slice_get tree.now.pairs place }
     ensures no_fewer { meter.old ≤ meter.new }
@@ -54,7 +37,7 @@ pub(crate) fn entry_below<V: Words + Drop>(
     top: ViewOf<'_, V>,
     place: u64,
     meter: &mut Meter,
-) -> (u64, u64)
+) -> Entry
     requires shown { IsShown V.WORDS top }
     requires inside { place < length (view_pairs top) }
     requires room { meter.old ≤ 2 ^ 64 - 8 }
@@ -70,11 +53,7 @@ pub(crate) fn entry_below<V: Words + Drop>(
 
 // The same by a loop over branches.
 #[inline(always)]
-fn entry_further_down<V: Words + Drop>(
-    top: ViewOf<'_, V>,
-    place: u64,
-    meter: &mut Meter,
-) -> (u64, u64)
+fn entry_further_down<V: Words + Drop>(top: ViewOf<'_, V>, place: u64, meter: &mut Meter) -> Entry
     requires shown { IsShown V.WORDS top }
     requires inside { place < length (view_pairs top) }
     requires room { meter.old ≤ 2 ^ 64 - 8 }

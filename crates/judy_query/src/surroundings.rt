@@ -8,6 +8,7 @@ ghost use Rattle.judy_query.specs.Maps.{map_of};
 ghost use Rattle.judy_query.specs.Parts.{value_of, IsEnd, IsShown};
 ghost use Rattle.judy_query.specs.Visits.{most_visits_near};
 
+use crate::Entry;
 use crate::ends::{from_other, value_in, value_in_imm};
 use crate::turns::{later_turn, pair_behind};
 use judy_bits::Meter;
@@ -22,7 +23,7 @@ pub fn around<V: Words + Drop>(
     tree: &NodeOf<V>,
     key: u64,
     meter: &mut Meter,
-) -> (Option<u64>, Option<(u64, u64)>)
+) -> (Option<u64>, Option<Entry>)
     requires { meter.old ≤ 2 ^ 64 - 17 }
     ensures value { result.0 ≡ map.get (map_of tree.now.pairs) key }
     ensures above { result.1 ≡ pair_from tree.now.pairs (key + 1) }
@@ -59,7 +60,7 @@ pub fn around<V: Words + Drop>(
 
 // The value of a key in a node that isn't a branch, and the nearest pair above it there.
 #[inline(always)]
-fn around_in<V: Words + Drop>(view: &ViewOf<'_, V>, key: u64) -> (Option<u64>, Option<(u64, u64)>)
+fn around_in<V: Words + Drop>(view: &ViewOf<'_, V>, key: u64) -> (Option<u64>, Option<Entry>)
     requires end { IsEnd view.now }
     requires shown { IsShown V.WORDS view.now }
     ensures value { result.0 ≡ value_of (view_pairs view.now) key }
@@ -74,10 +75,7 @@ fn around_in<V: Words + Drop>(view: &ViewOf<'_, V>, key: u64) -> (Option<u64>, O
 // The same, with the search of a leaf by a call.
 // As `from_other`.
 #[inline(always)]
-fn around_other<V: Words + Drop>(
-    view: &ViewOf<'_, V>,
-    key: u64,
-) -> (Option<u64>, Option<(u64, u64)>)
+fn around_other<V: Words + Drop>(view: &ViewOf<'_, V>, key: u64) -> (Option<u64>, Option<Entry>)
     requires end { IsEnd view.now }
     requires shown { IsShown V.WORDS view.now }
     ensures value { result.0 ≡ value_of (view_pairs view.now) key }
@@ -92,7 +90,7 @@ fn around_other<V: Words + Drop>(
 
 // The nearest pair above a key there. It is asked of nodes that are no leaves.
 #[inline(always)]
-fn above_in<V: Words + Drop>(view: &ViewOf<'_, V>, key: u64) -> Option<(u64, u64)>
+fn above_in<V: Words + Drop>(view: &ViewOf<'_, V>, key: u64) -> Option<Entry>
     requires end { IsEnd view.now }
     requires shown { IsShown V.WORDS view.now }
     ensures { result ≡ pair_from (view_pairs view.now) (key + 1) }
@@ -106,10 +104,7 @@ fn above_in<V: Words + Drop>(view: &ViewOf<'_, V>, key: u64) -> Option<(u64, u64
 
 // The same of a leaf: where the key stands, or would, so does what is above it, without a search of its own.
 #[inline(always)]
-fn around_in_leaf<V: Words + Drop>(
-    list: &LeafRef<'_, V>,
-    key: u64,
-) -> (Option<u64>, Option<(u64, u64)>)
+fn around_in_leaf<V: Words + Drop>(list: &LeafRef<'_, V>, key: u64) -> (Option<u64>, Option<Entry>)
     ensures value { result.0 ≡ value_of list.now.pairs key }
     ensures above { result.1 ≡ pair_from list.now.pairs (key + 1) }
 {
@@ -121,10 +116,7 @@ fn around_in_leaf<V: Words + Drop>(
 }
 
 // The same by a call.
-fn around_leaf<V: Words + Drop>(
-    list: &LeafRef<'_, V>,
-    key: u64,
-) -> (Option<u64>, Option<(u64, u64)>)
+fn around_leaf<V: Words + Drop>(list: &LeafRef<'_, V>, key: u64) -> (Option<u64>, Option<Entry>)
     ensures value { result.0 ≡ value_of list.now.pairs key }
     ensures above { result.1 ≡ pair_from list.now.pairs (key + 1) }
 {
@@ -132,7 +124,7 @@ fn around_leaf<V: Words + Drop>(
 }
 
 // The pair at a place of a leaf of so many keys, where there is one.
-fn pair_on<V: Words + Drop>(list: &LeafRef<'_, V>, count: usize, at: usize) -> Option<(u64, u64)>
+fn pair_on<V: Words + Drop>(list: &LeafRef<'_, V>, count: usize, at: usize) -> Option<Entry>
     requires { count ≡ length list.now.pairs }
     ensures { result ≡ slice_get list.now.pairs at }
 {

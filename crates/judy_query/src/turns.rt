@@ -11,6 +11,7 @@ ghost use Rattle.judy_query.specs.Parts.{passed, reached, byte_passed, byte_behi
 ghost use Rattle.judy_query.specs.Turns.{turn_pairs, IsTurn, IsLater, IsEarlier, last_pair, later_pair, earlier_pair};
 ghost use Rattle.judy_query.specs.Visits.{most_visits_below};
 
+use crate::Entry;
 use crate::branches::{byte_behind, byte_passed, passed, reached, start_below, start_from};
 use crate::places::entry_below;
 use judy_bits::Meter;
@@ -104,10 +105,7 @@ pub(crate) fn earlier_turn<'a, V: Words + Drop>(
 /// The first pair of the child that a turn leads to; none where there is no turn. At most 7 visits.
 // Inside the search that asks for it a turn needn't be put together in memory.
 #[inline(always)]
-pub(crate) fn least<V: Words + Drop>(
-    turn: Option<Turn<'_, V>>,
-    meter: &mut Meter,
-) -> Option<(u64, u64)>
+pub(crate) fn least<V: Words + Drop>(turn: Option<Turn<'_, V>>, meter: &mut Meter) -> Option<Entry>
     requires turn { IsLater V.WORDS turn }
     requires room { meter.old ≤ 2 ^ 64 - 9 }
     ensures entry { result ≡ later_pair turn.entry }
@@ -129,7 +127,7 @@ pub(crate) fn pair_behind<V: Words + Drop>(
     base: u64,
     before: Option<Turn<'_, V>>,
     meter: &mut Meter,
-) -> Option<(u64, u64)>
+) -> Option<Entry>
     requires branch { IsWholeBranch V.WORDS branch.now }
     requires inside { passed (length branch.now.children.items) step
         ≤ length branch.now.children.items }
@@ -164,10 +162,7 @@ pub(crate) fn pair_behind<V: Words + Drop>(
 // The pair of a turn further up, which is rare.
 // Within its caller, but a function: what the call is given and answers through memory is written there only where it is made.
 #[inline(always)]
-fn pair_further_up<V: Words + Drop>(
-    turn: Option<Turn<'_, V>>,
-    meter: &mut Meter,
-) -> Option<(u64, u64)>
+fn pair_further_up<V: Words + Drop>(turn: Option<Turn<'_, V>>, meter: &mut Meter) -> Option<Entry>
     requires turn { IsLater V.WORDS turn }
     requires room { meter.old ≤ 2 ^ 64 - 9 }
     ensures entry { result ≡ later_pair turn.entry }
@@ -180,7 +175,7 @@ fn pair_further_up<V: Words + Drop>(
 // As `least`, by a call.
 #[cold]
 #[inline(never)]
-fn least_before<V: Words + Drop>(turn: Option<Turn<'_, V>>, meter: &mut Meter) -> Option<(u64, u64)>
+fn least_before<V: Words + Drop>(turn: Option<Turn<'_, V>>, meter: &mut Meter) -> Option<Entry>
     requires turn { IsLater V.WORDS turn }
     requires room { meter.old ≤ 2 ^ 64 - 9 }
     ensures entry { result ≡ later_pair turn.entry }
@@ -195,7 +190,7 @@ fn least_before<V: Words + Drop>(turn: Option<Turn<'_, V>>, meter: &mut Meter) -
 pub(crate) fn greatest<V: Words + Drop>(
     turn: Option<Turn<'_, V>>,
     meter: &mut Meter,
-) -> Option<(u64, u64)>
+) -> Option<Entry>
     requires turn { IsEarlier V.WORDS turn }
     requires room { meter.old ≤ 2 ^ 64 - 9 }
     ensures entry { result ≡ earlier_pair turn.entry }
@@ -219,7 +214,7 @@ impl<'a, V: Words + Drop> Turn<'a, V> {
 
     // One of its pairs, by its place among them. The keys of the child begin at `start` in its branch.
     #[inline(always)]
-    fn entry_at(&self, start: u64, place: u64, meter: &mut Meter) -> (u64, u64)
+    fn entry_at(&self, start: u64, place: u64, meter: &mut Meter) -> Entry
         requires turn { IsTurn V.WORDS self.now }
         requires start { IsStart (256 ^ self.now.branch.now.width)
             (number_of self.now.branch.now.skip * 256) self.now.branch.now.bytes self.now.place

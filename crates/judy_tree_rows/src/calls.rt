@@ -7,7 +7,8 @@ use judy_bits::Meter;
 use judy_leaf::Words;
 use judy_node::NodeOf;
 use judy_query::{
-    at_or_after, at_or_before, empty_at_or_after, empty_at_or_before, lookup, nth, rank,
+    empty_at_or_after, empty_at_or_before, entry_at_or_after, entry_at_or_before, entry_nth,
+    lookup, rank,
 };
 use judy_unmetered::UNMETERED;
 use std::process::Abort;
@@ -50,9 +51,9 @@ impl Call {
         match self {
             Lookup => lookup(tree, word, meter),
             Rank => Some(rank(tree, word, meter)),
-            Nth => nth(tree, word, meter),
-            AtOrAfter => at_or_after(tree, word, meter),
-            AtOrBefore => at_or_before(tree, word, meter),
+            Nth => entry_nth(tree, word, meter).map(|pair| pair.0),
+            AtOrAfter => entry_at_or_after(tree, word, meter).map(|pair| pair.0),
+            AtOrBefore => entry_at_or_before(tree, word, meter).map(|pair| pair.0),
             EmptyAtOrAfter => empty_at_or_after(tree, word, meter),
             EmptyAtOrBefore => empty_at_or_before(tree, word, meter),
         }
