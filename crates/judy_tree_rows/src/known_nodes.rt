@@ -1,6 +1,6 @@
 //! What the calls on arrays of words say of nodes, each clause by a caller whose own contract needs it: none of these is proved without
 //! the clause that its comment tells.
-ghost use Rattle.std.specs.Prelude.{◌≡◌, None, true, false, IfOk, OnErr, IsTrue};
+ghost use Rattle.std.specs.Prelude.{◌≡◌, None, true, false, IfOk, IsOk, OnErr, IsTrue};
 ghost use Rattle.std.specs.FinMap as map;
 ghost use Rattle.judy_model.specs.Shapes.{shape_of};
 ghost use Rattle.judy_change.specs.Removals.{Has33};
@@ -14,23 +14,16 @@ use judy_word::{Judy1, JudyL};
 use std::alloc::{AllocError, Global};
 use std::process::Abort;
 
-// Makes a map's nodes tight and counts them: `tight`, `kept` and `unchanged` of `tidy`.
+// Makes a map's nodes tight and counts them; where the map isn't loose there always is memory: each clause of `tidy`.
 fn tight_shape(pairs: &mut JudyL) -> Result<Shape, AllocError>
     ensures rule { IfOk result (λ shape. shape_as shape ≡ shape_of 1 (map.keys pairs.old.map)) }
     ensures same { array_of pairs.new ≡ array_of pairs.old }
     ensures unchanged { OnErr result (pairs.new ≡ pairs.old) }
+    ensures done { pairs.old.loose ≡ false → IsOk result }
+    ensures nothing { pairs.old.loose ≡ false → pairs.new ≡ pairs.old }
 {
     pairs.tidy()?;
     Ok(pairs.shape())
-}
-
-// Makes a map's nodes tight that isn't loose, for which there always is memory: `nothing_to_do` and `same` of `tidy`.
-fn tidied(pairs: &mut JudyL) -> bool
-    requires { pairs.old.loose ≡ false }
-    ensures done { IsTrue result }
-    ensures same { pairs.new ≡ pairs.old }
-{
-    pairs.tidy().is_ok()
 }
 
 // Takes a key out of a map that isn't there, which leaves each node: `absent` of `del`.
@@ -150,7 +143,6 @@ fn nodes_of_a_map(rt: HostRuntime) -> Result<(), AllocError> {
     one_leaf(&rt, tight_shape(&mut pairs)?);
     one_leaf(&rt, counted_twice_of_map(&pairs).1);
     if !pairs.is_loose() {
-        same_answer(&rt, tidied(&mut pairs), true);
         one_leaf(&rt, shape_by_rule_of_map(&pairs));
     }
     if pairs.get(32).is_none() {

@@ -1,6 +1,6 @@
 //! Arrays of words. What no clause says: that calls succeed while there is memory. Callers whose contracts show what a write through
 //! a slot is known to do, and what the calls say of nodes. And what neighbours and counts are at their corners.
-ghost use Rattle.std.specs.Prelude.{◌≡◌, false, OnOk, IfOk, OnErr, OnSome, IsTrue};
+ghost use Rattle.std.specs.Prelude.{◌≡◌, false, OnOk, IfOk, IsOk, OnErr, OnSome, IsTrue};
 ghost use Rattle.std.specs.FinMap as map;
 ghost use Rattle.judy_model.specs.Arrays as array;
 ghost use Rattle.judy_model.specs.Shapes.{shape_of};
@@ -41,22 +41,15 @@ fn replace(array_l: &mut JudyL, key: u64, value: u64) -> Option<u64>
     }
 }
 
-// Makes the nodes of a set tight and counts them: no history is in them.
+// Makes the nodes of a set tight and counts them: no history is in them. Where the set isn't loose no memory is wanted, and nothing changes.
 fn tight_shape(set: &mut Judy1) -> Result<Shape, AllocError>
     ensures rule { IfOk result (λ shape. shape_as shape ≡ shape_of 0 (map.keys set.old.map)) }
     ensures same { array_of set.new ≡ array_of set.old }
+    ensures done { set.old.loose ≡ false → IsOk result }
+    ensures nothing { set.old.loose ≡ false → set.new ≡ set.old }
 {
     set.tidy()?;
     Ok(set.shape())
-}
-
-// Makes the nodes of a set tight that isn't loose, and answers whether there was memory: none is wanted, and nothing changes.
-fn tidied(set: &mut Judy1) -> bool
-    requires { set.old.loose ≡ false }
-    ensures done { IsTrue result }
-    ensures same { set.new ≡ set.old }
-{
-    set.tidy().is_ok()
 }
 
 // Takes a key out of a set that isn't there: nothing changes, no node either.
@@ -280,9 +273,6 @@ fn tree_of_a_set(rt: HostRuntime) -> Result<(), AllocError> {
     same_nodes(&rt, set.shape().leaves, 1);
     same_nodes(&rt, set.shape().bitmap_leaves, 0);
     no(&rt, set.is_loose());
-    if !set.is_loose() {
-        yes(&rt, tidied(&mut set));
-    }
     same_nodes(&rt, tight_shape(&mut set)?.leaves, 1);
     same(&rt, set.root().pop(), 32, 0);
     let copy = set.try_clone()?;
