@@ -15,7 +15,7 @@ use Rattle.judy_query.specs.declared.sides.Side.{Side}
 use Rattle.judy_query.specs.declared.sides.Side.TheVariants.{Up, Down}
 use Rattle.judy_query.specs.Maps.{map_of}
 use Rattle.judy_query.specs.Parts.{IsDown, IsShown, width_of}
-use Rattle.judy_query.specs.Rooms.{IsRun, IsWindow, HasRoom, IsFirstAbsent, IsLastAbsent, IsRoomFrom, IsRoomUpTo, nearer, low_of, high_of, end_of, IsAbsent, IsRoom, IsRoomPast, nearest_empty}
+use Rattle.judy_query.specs.Rooms.{IsRun, IsWindow, HasRoom, IsFirstAbsent, IsLastAbsent, IsRoomFrom, IsRoomUpTo, nearer, room_of, low_of, high_of, end_of, IsAbsent, IsRoom, IsRoomPast, nearest_empty}
 use Rattle.judy_query.proofs.Downs.{down_branch, view_width, is_shown}
 use Rattle.judy_query.proofs.Runs.{run-none, run-later, run-join, run-window, full-run, first-empty, last-empty}
 use Rattle.judy_query.proofs.RoomSteps.{room-window, room-behind, room-nearer, word-in, room-window-down, room-before, room-nearer-down, word-in-last, run-back, down_window, down_word, down_last, down_run_last, down_run, full_behind, full_before}
@@ -64,9 +64,12 @@ module _ {V : _} (words : ℕ) (all : Pairs) (from top : ℕ) (room : Room V) wh
   absent_in Up child width start word is told found = let heard = subst (IsRoomFrom words all from top) is told in word-in words all from top child.now width start word heard.0 heard.1 heard.2 found
   absent_in Down child width start word is told found = let heard = subst (IsRoomUpTo words all from top) is told in word-in-last words all from top child.now width start word heard.0 heard.1 heard.2 found
 
-pub room_at : (V : _) (side : Side) (words : ℕ) (all : Pairs) (from top word : ℕ) → IsAbsent side all from top (Some word) → IsRoom {V = V} side words all from top (At word)
-room_at V Up words all from top word told = told
-room_at V Down words all from top word told = told
+-- What was told of a word, told of a room.
+pub room_told : (V : _) (side : Side) (words : ℕ) (all : Pairs) (from top : ℕ) (answer : Option ℕ) → IsAbsent side all from top answer → IsRoom {V = V} side words all from top (room_of answer)
+room_told V Up words all from top None told = told
+room_told V Up words all from top (Some word) told = told
+room_told V Down words all from top None told = told
+room_told V Down words all from top (Some word) told = told
 
 -- ---- the way of a key
 

@@ -1,13 +1,16 @@
 -- Words that are no keys, beside runs of words that all are.
-use Rattle.std.specs.Prelude.{◌≡◌, ℕ, ◌+◌, ◌-◌, ◌^◌, ◌<◌, ◌≤◌, IsTrue, IsFalse, Option, Some, None, length}
+use Rattle.std.specs.Prelude.{◌≡◌, ℕ, ◌+◌, ◌-◌, ◌*◌, ◌^◌, ◌<◌, ◌≤◌, IsTrue, IsFalse, Option, Some, None, length, slice_get}
 use Rattle.std.specs.FinMap.{FinMap}
 use Rattle.judy_model.specs.Keys.{word_order}
 use Rattle.judy_model.specs.Empties.{first_empty, last_empty}
+use Rattle.judy_model.specs.WordBytes.{number_of}
 use Rattle.judy_bits.specs.ByteSets.{has}
-use Rattle.judy_leaf.specs.KeyLists.{keys_of}
-use Rattle.judy_node.specs.Trees.{Pairs, Tree, IsChild}
+use Rattle.judy_leaf.specs.KeyLists.{keys_of, shift}
+use Rattle.judy_node.specs.Trees.{Pairs, Tree, IsChild, branch_pairs}
+use Rattle.judy_node.specs.Branches.{IsWholeBranch}
 use Rattle.judy_query.specs.declared.rooms.Room.{Room}
 use Rattle.judy_query.specs.declared.rooms.Room.TheVariants.{Nowhere, At, In}
+use Rattle.judy_query.specs.declared.sides.Passed.{Passed}
 use Rattle.judy_query.specs.declared.sides.Side.{Side}
 use Rattle.judy_query.specs.declared.sides.Side.TheVariants.{Up, Down}
 
@@ -55,6 +58,11 @@ IsRoomUpTo words all from top Nowhere = IsRun all from top
 IsRoomUpTo words all from top (At word) = (from ≤ word) × IsRun all (word + 1) top × IsFalse (has (keys_of all) word)
 IsRoomUpTo words all from top (In child width start) = (from ≤ start) × IsRun all (start + 256 ^ width) top × HasRoom words all child.now width start
 
+-- A word, or nowhere where there is none.
+abbrev pub room_of : {V : _} → Option ℕ → Room V
+room_of None = Nowhere
+room_of (Some word) = At word
+
 -- A room, or another one where it is nowhere.
 abbrev pub nearer : {V : _} → Room V → Room V → Room V
 nearer Nowhere other = other
@@ -92,6 +100,25 @@ IsRoom Down words all from top room = IsRoomUpTo words all from top room
 abbrev pub IsRoomPast : {V : _} → Side → ℕ → Pairs → ℕ → ℕ → ℕ → ℕ → Room V → Type 0
 IsRoomPast Up words all from top start unit room = IsRoomFrom words all (start + unit) top room
 IsRoomPast Down words all from top start unit room = IsRoomUpTo words all from start room
+
+-- The child of a byte stands at a place of a branch, whose words begin at a base.
+pub record IsPassed {V : _} (words : ℕ) (passed : Passed V) : Type 0 where
+  pub branch : IsWholeBranch words passed.branch.now
+  pub child : slice_get passed.branch.now.bytes passed.place ≡ Some passed.byte
+  pub fits : passed.base + 256 ^ (length passed.branch.now.skip + 1 + passed.branch.now.width) ≤ 2 ^ 64
+
+-- A room of that branch is the nearest past the child.
+abbrev pub IsRoomBeside : {V : _} → Side → ℕ → Passed V → Room V → Type 0
+IsRoomBeside side words passed room =
+    let b = passed.branch.now in
+    let unit = 256 ^ b.width in
+    let block = number_of b.skip * 256 in
+    IsRoomPast side words (shift passed.base (branch_pairs b.width b.skip b.bytes b.children.items)) passed.base (passed.base + 256 ^ (length b.skip + 1 + b.width)) (passed.base + (block + passed.byte) * unit) unit room
+
+-- The nearest room past a child, where one was passed, or else another one.
+abbrev pub IsNearestRoom : {V : _} → Side → ℕ → Option (Passed V) → Room V → Room V → Type 0
+IsNearestRoom side words None beside room = room ≡ beside
+IsNearestRoom {V} side words (Some passed) beside room = (past : Room V) × (room ≡ nearer past beside) × IsRoomBeside side words passed past
 
 -- The nearest word from a key on that is no key of a map.
 abbrev pub nearest_empty : Side → FinMap word_order ℕ → ℕ → Option ℕ

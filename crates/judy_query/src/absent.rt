@@ -13,7 +13,9 @@ use judy_leaf::{BitRef, Words};
 use judy_node::ViewOf;
 
 /// The first word from a key on, of a node's width, that is no key of the node; none where all of these are keys.
-pub fn first_absent<V: Words + Drop>(end: &ViewOf<'_, V>, width: u8, key: u64) -> Option<u64>
+// Where a node was just entered its kind is known: by a call it would be written to memory and told anew.
+#[inline(always)]
+pub(crate) fn first_absent<V: Words + Drop>(end: &ViewOf<'_, V>, width: u8, key: u64) -> Option<u64>
     requires end { IsEnd end.now }
     requires shown { IsShown V.WORDS end.now }
     requires width { width ≡ width_of end.now }
@@ -57,7 +59,9 @@ fn first_absent_bit<V: Words + Drop>(
 }
 
 /// The last word up to a key that is no key of the node; none where all of these are keys.
-pub fn last_absent<V: Words + Drop>(end: &ViewOf<'_, V>, width: u8, key: u64) -> Option<u64>
+// As `first_absent`.
+#[inline(always)]
+pub(crate) fn last_absent<V: Words + Drop>(end: &ViewOf<'_, V>, width: u8, key: u64) -> Option<u64>
     requires end { IsEnd end.now }
     requires shown { IsShown V.WORDS end.now }
     requires width { width ≡ width_of end.now }

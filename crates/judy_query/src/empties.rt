@@ -1,50 +1,37 @@
 //! The nearest words that are no keys of a tree.
 
-ghost use Rattle.std.specs.Prelude.{◌≡◌, ◌+◌, ◌-◌, ◌*◌, ◌^◌, ◌<◌, ◌≤◌, Some, length, slice_get};
-ghost use Rattle.judy_model.specs.Empties.{first_empty, last_empty};
+ghost use Rattle.std.specs.Prelude.{◌≡◌, ◌+◌, ◌-◌, ◌^◌, ◌<◌, ◌≤◌, MatchOption, Some, length};
 ghost use Rattle.judy_node.specs.Trees.{IsMap, IsChild};
 ghost use Rattle.judy_query.specs.Maps.{map_of};
-ghost use Rattle.judy_query.specs.Rooms.{IsAbsent, IsRoom, low_of, high_of, nearest_empty};
+ghost use Rattle.judy_query.specs.Rooms.{IsAbsent, IsRoom, IsNearestRoom, IsPassed, low_of, high_of, nearest_empty};
 ghost use Rattle.judy_query.specs.Visits.{most_visits_down, most_visits_near};
 
 use crate::rooms::{Room, is_full};
-use crate::sides::Side;
+use crate::sides::{Passed, Side};
 use crate::sparing::{Inner, Sparing, Top};
 use judy_bits::Meter;
 use judy_leaf::Words;
 use judy_node::{ChildOf, NodeOf, Step, ViewOf};
 
-/// The least word at or above a key that is no key of the tree; `None` where all of these are keys. At most 15 visits; the meter stands at
-/// most at `u64::MAX - 16`.
-pub fn empty_at_or_after<V: Words + Drop>(
+/// The nearest word from a key on, to one side, that is no key of the tree; `None` where all of these are keys. At most 15 visits; the meter
+/// stands at most at `u64::MAX - 16`.
+// Compiled where it is asked for, since the side is known there.
+#[inline(always)]
+pub fn nearest_empty<V: Words + Drop>(
+    side: Side,
     tree: &NodeOf<V>,
     key: u64,
     meter: &mut Meter,
 ) -> Option<u64>
     requires { meter.old ≤ 2 ^ 64 - 17 }
-    ensures word { result ≡ first_empty (map_of tree.now.pairs) key }
+    ensures word { result ≡ nearest_empty side (map_of tree.now.pairs) key }
     ensures no_fewer { meter.old ≤ meter.new }
     ensures visits { meter.new ≤ meter.old + most_visits_near }
 {
-    empty_beside(Side::Up, tree, key, meter)
+    empty_beside(side, tree, key, meter)
 }
 
-/// The greatest word at or below a key that is no key of the tree; `None` where all of these are keys. At most 15 visits; the meter stands
-/// at most at `u64::MAX - 16`.
-pub fn empty_at_or_before<V: Words + Drop>(
-    tree: &NodeOf<V>,
-    key: u64,
-    meter: &mut Meter,
-) -> Option<u64>
-    requires { meter.old ≤ 2 ^ 64 - 17 }
-    ensures word { result ≡ last_empty (map_of tree.now.pairs) key }
-    ensures no_fewer { meter.old ≤ meter.new }
-    ensures visits { meter.new ≤ meter.old + most_visits_near }
-{
-    empty_beside(Side::Down, tree, key, meter)
-}
-
-// The same to either side, by a meter that spares full children.
+// The same, by a meter that spares full children.
 #[inline(always)]
 pub(crate) fn empty_beside<V: Words + Drop, M: Sparing>(
     side: Side,
@@ -65,7 +52,8 @@ pub(crate) fn empty_beside<V: Words + Drop, M: Sparing>(
     }
 }
 
-// Goes down the way of a key as far as nodes aren't full, and remembers the nearest room beside it.
+// Goes down the way of a key as far as nodes aren't full. Mostly the word is met where the way ends, so what is beside the way is looked for
+// only where it ends in a run of keys; but of a third branch on, what is beside the first is looked for as it is passed, so that no list is kept.
 #[inline(always)]
 fn seek<'a, V: Words + Drop, M: Sparing>(
     side: Side,
@@ -80,27 +68,71 @@ fn seek<'a, V: Words + Drop, M: Sparing>(
     ensures visits { M.visits meter.new ≤ M.visits meter.old + most_visits_down }
 {
     tree.told();
-    let mut view = meter.enter_root(Top(tree));
-    let mut width = 8;
-    let mut left = key;
+    let mut at = match meter.enter_root(Top(tree)) {
+        ViewOf::Branch(top) => (top, key),
+        view => return Room::of(side.absent(&view, 8, key)),
+    };
+    let mut above = None;
     let mut beside = Room::Nowhere;
-    'down: while let ViewOf::Branch(branch) = view {
+    'down: loop {
+        let (branch, left) = at;
         let Step::Child(byte, place, rest) = branch.step(left) else {
             return Room::At(key);
         };
-        beside = side.room_past(branch, place, byte, key - left).or(beside);
+        let base = key - left;
+        let passed = Some(Passed {
+            branch,
+            place,
+            byte,
+            base,
+        });
         let child = &branch.children[place];
         if is_full(child, branch.width) {
-            return beside;
+            return nearest_room(side, passed, nearest_room(side, above, beside));
         }
-        width = branch.width;
-        left = rest;
-        view = meter.enter(Inner(child), width);
+        match meter.enter(Inner(child), branch.width) {
+            ViewOf::Branch(below) => {
+                beside = nearest_room(side, above, beside);
+                above = passed;
+                at = (below, rest);
+            }
+            view => {
+                let Some(word) = side.absent(&view, branch.width, rest) else {
+                    return nearest_room(side, passed, nearest_room(side, above, beside));
+                };
+                return Room::At(key - rest + word);
+            }
+        }
     }
-    match side.absent(&view, width, left) {
-        Some(word) => Room::At(key - left + word),
+}
+
+// The nearest room past a child, where one was passed, or else the one that is known beside its branch.
+#[inline(always)]
+fn nearest_room<'a, V: Words + Drop>(
+    side: Side,
+    passed: Option<Passed<'a, V>>,
+    beside: Room<'a, V>,
+) -> Room<'a, V>
+    requires { MatchOption passed Unit (IsPassed V.WORDS) }
+    ensures { IsNearestRoom side V.WORDS passed.entry beside.entry result }
+{
+    match passed {
+        Some(passed) => room_past(side, passed, beside),
         None => beside,
     }
+}
+
+// The same where a child was passed, which is rare.
+#[inline(never)]
+fn room_past<'a, V: Words + Drop>(
+    side: Side,
+    passed: Passed<'a, V>,
+    beside: Room<'a, V>,
+) -> Room<'a, V>
+    requires { IsPassed V.WORDS passed }
+    ensures { IsNearestRoom side V.WORDS (Some passed.entry) beside.entry result }
+{
+    side.room_past(passed).or(beside)
 }
 
 // The word that is met first in a child that isn't full, and is no key of it.

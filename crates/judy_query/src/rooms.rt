@@ -7,7 +7,7 @@ ghost use Rattle.judy_bits.specs.ByteSets as set;
 ghost use Rattle.judy_leaf.specs.KeyLists.{shift};
 ghost use Rattle.judy_node.specs.Trees.{IsChild, branch_pairs};
 ghost use Rattle.judy_node.specs.Branches.{IsWholeBranch};
-ghost use Rattle.judy_query.specs.Rooms.{HasWidth, IsRoomFrom, IsRoomUpTo, nearer};
+ghost use Rattle.judy_query.specs.Rooms.{HasWidth, IsRoomFrom, IsRoomUpTo, nearer, room_of};
 
 use judy_bits::{moved_up, without_low};
 use judy_leaf::Words;
@@ -25,6 +25,16 @@ pub enum Room<'a, V: Words + Drop> {
 }
 
 impl<'a, V: Words + Drop> Room<'a, V> {
+    /// A word, or nowhere where there is none.
+    pub fn of(word: Option<u64>) -> Room<'a, V>
+        ensures { result ≡ room_of word }
+    {
+        match word {
+            Some(word) => Room::At(word),
+            None => Room::Nowhere,
+        }
+    }
+
     /// This room, or the other one where this is nowhere.
     pub fn or(self, other: Room<'a, V>) -> Room<'a, V>
         ensures { result ≡ nearer self.entry other.entry }

@@ -1,13 +1,12 @@
 //! The two sides of a key on which a word is sought that is no key. The search (empties.rt) is one for both.
 
-ghost use Rattle.std.specs.Prelude.{◌≡◌, ◌+◌, ◌-◌, ◌*◌, ◌^◌, ◌<◌, ◌≤◌, Some, length, slice_get};
-ghost use Rattle.judy_model.specs.WordBytes.{number_of};
+ghost use Rattle.std.specs.Prelude.{◌≡◌, ◌+◌, ◌-◌, ◌^◌, ◌<◌, ◌≤◌, length};
 ghost use Rattle.judy_leaf.specs.KeyLists.{shift};
 ghost use Rattle.judy_node.specs.Trees.{branch_pairs};
 ghost use Rattle.judy_node.specs.Branches.{IsWholeBranch};
 ghost use Rattle.judy_node.specs.Views.{view_pairs};
 ghost use Rattle.judy_query.specs.Parts.{IsEnd, IsShown, width_of};
-ghost use Rattle.judy_query.specs.Rooms.{HasWidth, IsAbsent, IsRoom, IsRoomPast, low_of, high_of, end_of};
+ghost use Rattle.judy_query.specs.Rooms.{HasWidth, IsAbsent, IsPassed, IsRoom, IsRoomBeside, low_of, high_of, end_of};
 
 use crate::absent::{first_absent, last_absent};
 use crate::rooms::{Room, has_next, last_word, room_from, room_up_to};
@@ -16,11 +15,20 @@ use judy_node::{BranchOf, ViewOf};
 
 /// To which side of a key a word is sought that is no key. Whoever asks names it, and each search for one side is compiled by itself.
 #[derive(Clone, Copy)]
-pub(crate) enum Side {
+pub enum Side {
     /// From the key up.
     Up,
     /// From the key down.
     Down,
+}
+
+/// A child that is passed by: its place and its byte in a branch whose words begin at a base.
+#[derive(Drop)]
+pub(crate) struct Passed<'a, V: Words + Drop> {
+    pub(crate) branch: &'a BranchOf<V>,
+    pub(crate) place: usize,
+    pub(crate) byte: u8,
+    pub(crate) base: u64,
 }
 
 impl Side {
@@ -58,24 +66,18 @@ impl Side {
         }
     }
 
-    /// The nearest room of a branch past the child of a byte, whose place is known. The branch's words begin at a base.
+    /// The nearest room of a branch past a child.
     #[inline(always)]
-    pub(crate) fn room_past<V: Words + Drop>(
-        self,
-        branch: &BranchOf<V>,
-        place: usize,
-        byte: u8,
-        base: u64,
-    ) -> Room<'_, V>
-        requires branch { IsWholeBranch V.WORDS branch.now }
-        requires child { slice_get branch.now.bytes place ≡ Some byte }
-        requires fits { base + 256 ^ (length branch.now.skip + 1 + branch.now.width) ≤ 2 ^ 64 }
-        ensures { IsRoomPast self V.WORDS
-            (shift base (branch_pairs branch.now.width branch.now.skip branch.now.bytes
-            branch.now.children.items))
-            base (base + 256 ^ (length branch.now.skip + 1 + branch.now.width))
-            (base + (number_of branch.now.skip * 256 + byte) * 256 ^ branch.now.width) (256 ^ branch.now.width) result }
+    pub(crate) fn room_past<'a, V: Words + Drop>(self, passed: Passed<'a, V>) -> Room<'a, V>
+        requires { IsPassed V.WORDS passed }
+        ensures { IsRoomBeside self V.WORDS passed.entry result }
     {
+        let Passed {
+            branch,
+            place,
+            byte,
+            base,
+        } = passed;
         match self {
             Side::Up => room_from(branch, place + 1, u64::from(byte) + 1, base),
             Side::Down => room_up_to(branch, place, u64::from(byte), base),

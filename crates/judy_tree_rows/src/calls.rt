@@ -7,8 +7,7 @@ use judy_bits::Meter;
 use judy_leaf::Words;
 use judy_node::NodeOf;
 use judy_query::{
-    empty_at_or_after, empty_at_or_before, entry_at_or_after, entry_at_or_before, entry_nth,
-    lookup, rank,
+    Side, entry_at_or_after, entry_at_or_before, entry_nth, lookup, nearest_empty, rank,
 };
 use judy_unmetered::UNMETERED;
 use std::process::Abort;
@@ -54,8 +53,8 @@ impl Call {
             Nth => entry_nth(tree, word, meter).map(|pair| pair.0),
             AtOrAfter => entry_at_or_after(tree, word, meter).map(|pair| pair.0),
             AtOrBefore => entry_at_or_before(tree, word, meter).map(|pair| pair.0),
-            EmptyAtOrAfter => empty_at_or_after(tree, word, meter),
-            EmptyAtOrBefore => empty_at_or_before(tree, word, meter),
+            EmptyAtOrAfter => nearest_empty(Side::Up, tree, word, meter),
+            EmptyAtOrBefore => nearest_empty(Side::Down, tree, word, meter),
         }
     }
 

@@ -7,7 +7,7 @@ ghost use Rattle.judy_word.specs.Held.{map_in};
 use crate::tree_array::TreeArray;
 use judy_bits::Meter;
 use judy_leaf::Words;
-use judy_query::{empty_at_or_after, empty_at_or_before};
+use judy_query::{Side, nearest_empty};
 use judy_unmetered::UNMETERED;
 
 impl<V: Words + Drop> TreeArray<V> {
@@ -15,7 +15,7 @@ impl<V: Words + Drop> TreeArray<V> {
     pub fn first_empty(&self, from: u64) -> Option<u64>
         ensures { result ≡ empties.first_empty (map_in self.now) from }
     {
-        empty_at_or_after(&self.root, from, &mut Meter::new(UNMETERED))
+        nearest_empty(Side::Up, &self.root, from, &mut Meter::new(UNMETERED))
     }
 
     /// The least word above it that is no key; `None` where there is none.
@@ -33,7 +33,7 @@ impl<V: Words + Drop> TreeArray<V> {
     pub fn last_empty(&self, from: u64) -> Option<u64>
         ensures { result ≡ empties.last_empty (map_in self.now) from }
     {
-        empty_at_or_before(&self.root, from, &mut Meter::new(UNMETERED))
+        nearest_empty(Side::Down, &self.root, from, &mut Meter::new(UNMETERED))
     }
 
     /// The greatest word below it that is no key; `None` where there is none.

@@ -8,7 +8,7 @@ use Rattle.judy_query.specs.Rooms.{IsFirstAbsent, IsLastAbsent, IsRoomUpTo}
 use Rattle.judy_query.proofs.Blocks.{block_word}
 use Rattle.judy_query.proofs.Runs.{run-none}
 use Rattle.judy_query.proofs.BranchRooms.{rank_zero, rank_all, as_many, least_top, words_behind, none_behind, raised_beside}
-use Rattle.judy_query.proofs.SideRooms.{room_at}
+use Rattle.judy_query.proofs.SideRooms.{room_told}
 use Rattle.judy_query.proofs.sides.Side.room_of.Goals as goal
 
 pub room_from-requires-clause-place : goal.room_from-requires-clause-place
@@ -32,7 +32,7 @@ returns-in-Up-clause-room g c =
     let number = c.number-number.ensures in
     let more = c.if-number-gt0.true in
     let top = base + 256 ^ (length b.skip + 1 + b.width) in
-    room_at _ c.args.self words all base top base (rw c.in-Up.is (let told : IsFirstAbsent all base top (Some base) = (omega arith, run-none all base base refl, raised_beside words b.width b.skip b.bytes b.children.items b.population c.requires.branch base Below 0 base (omega arith) tt (omega arith) whole) in told))
+    room_told _ c.args.self words all base top (Some base) (rw c.in-Up.is (let told : IsFirstAbsent all base top (Some base) = (omega arith, run-none all base base refl, raised_beside words b.width b.skip b.bytes b.children.items b.population c.requires.branch base Below 0 base (omega arith) tt (omega arith) whole) in told))
 
 pub returns-in-Down-clause-room : goal.returns-in-Down-clause-room
 returns-in-Down-clause-room g c =
@@ -47,7 +47,7 @@ returns-in-Down-clause-room g c =
     let last = c.last_word.ensures.value in
     let wide : 256 ^ c.args.wide ≡ unit = ap (λ w. 256 ^ w) c.requires.wide in
     let word = c.args.base + c.last_word.result in
-    room_at _ c.args.self words all base (base + unit) word (rw c.in-Down.is (let told : IsLastAbsent all base (base + unit) (Some word) = (omega arith, run-none all (word + 1) (base + unit) (omega arith), raised_beside words b.width b.skip b.bytes b.children.items b.population c.requires.branch base Above (unit - 1) word (omega arith) tt (omega arith) (omega arith)) in told))
+    room_told _ c.args.self words all base (base + unit) (Some word) (rw c.in-Down.is (let told : IsLastAbsent all base (base + unit) (Some word) = (omega arith, run-none all (word + 1) (base + unit) (omega arith), raised_beside words b.width b.skip b.bytes b.children.items b.population c.requires.branch base Above (unit - 1) word (omega arith) tt (omega arith) (omega arith)) in told))
 
 pub returns-in-Down-2-clause-room : goal.returns-in-Down-2-clause-room
 returns-in-Down-2-clause-room g c =
