@@ -10,6 +10,7 @@ pub mod Blocks
 pub mod BranchRooms
 pub mod RoomSteps
 pub mod SideRooms
+pub mod AbsentSides
 pub mod TurnFacts
 pub mod NearFacts
 pub mod WalkFacts

@@ -79,9 +79,12 @@ past_all V Up words all top start unit none whole = run-none all (start + unit) 
 past_all V Down words all top start unit none whole = run-none all 0 start (sym none)
 
 -- The key itself, which is no key of the tree.
+pub key_absent : (side : Side) (all : Pairs) (key top : ℕ) → key < top → has (keys_of all) key ≡ false → IsAbsent side all (low_of side key) (high_of side key top) (Some key)
+key_absent Up all key top small absent = (small, run-none all key key refl, absent)
+key_absent Down all key top small absent = (omega arith, run-none all (key + 1) (key + 1) refl, absent)
+
 pub at_key : (V : _) (side : Side) (words : ℕ) (all : Pairs) (key top : ℕ) → key < top → has (keys_of all) key ≡ false → IsRoom {V = V} side words all (low_of side key) (high_of side key top) (At key)
-at_key V Up words all key top small absent = (small, run-none all key key refl, absent)
-at_key V Down words all key top small absent = (omega arith, run-none all (key + 1) (key + 1) refl, absent)
+at_key V side words all key top small absent = room_told V side words all (low_of side key) (high_of side key top) (Some key) (key_absent side all key top small absent)
 
 module _ {V : _} (words : ℕ) (tree : Pairs) (view : ViewOf V) (key left : ℕ) (down : IsDown words tree view key left) where
   -- What a node without children tells.

@@ -4,14 +4,11 @@ ghost use Rattle.std.specs.Prelude.{◌≡◌, ◌+◌, ◌-◌, ◌^◌, ◌<�
 ghost use Rattle.judy_leaf.specs.KeyLists.{shift};
 ghost use Rattle.judy_node.specs.Trees.{branch_pairs};
 ghost use Rattle.judy_node.specs.Branches.{IsWholeBranch};
-ghost use Rattle.judy_node.specs.Views.{view_pairs};
-ghost use Rattle.judy_query.specs.Parts.{IsEnd, IsShown, width_of};
-ghost use Rattle.judy_query.specs.Rooms.{HasWidth, IsAbsent, IsPassed, IsRoom, IsRoomBeside, low_of, high_of, end_of};
+ghost use Rattle.judy_query.specs.Rooms.{HasWidth, IsPassed, IsRoom, IsRoomBeside, end_of};
 
-use crate::absent::{first_absent, last_absent};
 use crate::rooms::{Room, has_next, last_word, room_from, room_up_to};
 use judy_leaf::Words;
-use judy_node::{BranchOf, ViewOf};
+use judy_node::BranchOf;
 
 /// To which side of a key a word is sought that is no key. Whoever asks names it, and each search for one side is compiled by itself.
 #[derive(Clone, Copy)]
@@ -41,28 +38,6 @@ impl Side {
         match self {
             Side::Up => 0,
             Side::Down => last_word(width),
-        }
-    }
-
-    /// The nearest word from a key on, of a node's width, that is no key of the node, which has no children; none where all of these are
-    /// keys.
-    #[inline(always)]
-    pub(crate) fn absent<V: Words + Drop>(
-        self,
-        end: &ViewOf<'_, V>,
-        width: u8,
-        key: u64,
-    ) -> Option<u64>
-        requires end { IsEnd end.now }
-        requires shown { IsShown V.WORDS end.now }
-        requires width { width ≡ width_of end.now }
-        requires within { key < 256 ^ width }
-        ensures { IsAbsent self (view_pairs end.now) (low_of self key)
-            (high_of self key (256 ^ width)) result }
-    {
-        match self {
-            Side::Up => first_absent(end, width, key),
-            Side::Down => last_absent(end, width, key),
         }
     }
 
