@@ -92,7 +92,7 @@ impl LongGroup {
         ensures { IfOk result (λ group. group ≡ one_long hash key.now) }
     {
         let mut records = Records::new(alloc, words_for(key.len()));
-        records.reserve(1)?;
+        records.reserve()?;
         records.put(0, key);
         let mut hashes = WordMap::unbounded(alloc);
         match hashes.put(hash, 0) {
@@ -217,7 +217,7 @@ impl LongGroup {
             Err(InsertError::Full) => unreachable!(),
             Err(InsertError::NoMemory) => return Trial::Refused,
         }
-        match self.records.reserve(1) {
+        match self.records.reserve() {
             Ok(_) => {
                 self.records.put(0, key);
                 Trial::Added(place)

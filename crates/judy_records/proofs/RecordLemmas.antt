@@ -1,16 +1,20 @@
 -- A list of records and its words.
-use Rattle.std.proofs.Common.{◌≡◌, ◌≢◌, ℕ, suc, ◌+◌, ◌-◌, ◌*◌, ◌^◌, ◌<◌, ◌≤◌, List, [], ◌∷◌, ◌++◌, length, get_or, set, take, drop, Result, Ok, Err, OnOk, cond, inl, inr, sym, ap, subst, ◌∙◌, arith, add-one, vec_len, vec_capacity}
+use Rattle.std.proofs.Common.{◌≡◌, ◌≢◌, ℕ, zero, suc, ◌+◌, ◌-◌, ◌*◌, ◌/◌, ◌%◌, ◌^◌, ◌<◌, ◌≤◌, List, [], ◌∷◌, ◌++◌, length, get_or, set, map, take, drop, cond, inl, inr, refl, sym, ap, subst, ◌∙◌, arith, add-one}
+use Rattle.std.specs.Global.{Global}
+use Rattle.std.specs.declared.vec.Vec.{Vec}
 use Rattle.std.specs.Vec.{with_item}
-use Rattle.std.proofs.lemmas.Bool.{eq-eqb, cases_lt}
+use Rattle.std.proofs.lemmas.Bool.{eq-eqb, cases_lt, cases_eq}
 use Rattle.std.proofs.lemmas.Nat.{mul-le}
 use Rattle.std.proofs.lemmas.Bool.Decides.{eqb_tells}
-use Rattle.std.proofs.lemmas.List.{get_or_read_under, get_or-drop, drop-drop, length-set, length-map, length-append, length-drop, length-take-le, take_all}
+use Rattle.std.proofs.lemmas.List.{get_or-map, get_or-drop, get_or_past, get_or_read, get_or-set_same, get_or-set_other, map_push, length_push, drop-drop, map-set, set-get_or, length-set, length-map, length-append, length-drop, length-take-le, take_all}
 use Rattle.judy_places.specs.Places.{NoneLost, free_places}
 use Rattle.judy_records.specs.declared.records.Records.TheInside.{Inside}
 use Rattle.judy_records.specs.Texts.{words_for, words_in, words_of}
-use Rattle.judy_records.specs.Spots.{Spot, RecordList, free, held, spot_at, IsHeld, value_of, text_of, link_of, links_of, empty_list, with_spot, with_value, HasRoom, free_or, next_place, put_by, put_in, taken_out, removed}
-use Rattle.judy_records.specs.Inside.{first_spot, spots_in, freed, list_of, AreRecords, AreChained}
+use Rattle.judy_records.specs.Pages.{joined, page_words, page_room, ArePages, IsReached}
+use Rattle.judy_records.specs.Spots.{Spot, RecordList, free, held, spot_at, IsHeld, value_of, text_of, link_of, links_of, empty_list, with_spot, with_value, HasRoom, free_or, next_place, put_by, put_in, taken_out, removed, with_capacity}
+use Rattle.judy_records.specs.Inside.{first_spot, spots_in, freed, pages_of, rooms_of, items_of, left_at, list_of, AreRecords, AreChained}
 use Rattle.judy_records.proofs.SpotLemmas.{length-spots, place-within, get-spots, spots-value, spots-push, spots-place, before, behind}
+use Rattle.judy_records.proofs.PageLemmas.{all-long, page-inside, page-long, page-read, page-text, page-set, page-write, write-long, set-lengths, set-are, pushed-joined, pushed-pages, begun-joined, begun-are, none-are}
 use Rattle.judy_records.proofs.TextLemmas.{length-words}
 use Rattle.judy_records.proofs.FreeLemmas.{length-freed, held-inside, freed-held, freed-set, chained-set, freed-more, chained-more, spots-taken, freed-linked, free-counted, free-most, none-linked, none-freed, some-linked, some-freed, some-inside, next_of}
 
@@ -18,19 +22,22 @@ use Rattle.judy_records.proofs.FreeLemmas.{length-freed, held-inside, freed-held
 
 module _ (list : Inside) (are : AreRecords list) where
   abbrev pub all : List Spot
-  all = spots_in list.count list.size list.words.items
+  all = spots_in list.count list.size (items_of list)
 
   pub spots-long : length (list_of list).spots ≡ list.count
-  spots-long = length-freed list.spare list.free all ∙ length-spots list.count list.size list.words.items
+  spots-long = length-freed list.spare list.free all ∙ length-spots list.count list.size (items_of list)
 
   pub links-counted : free_places (links_of (list_of list)) ≡ list.spare
-  links-counted = free-counted all (spots-taken list.count list.size list.words.items) list.spare list.free are.chained
+  links-counted = free-counted all (spots-taken list.count list.size (items_of list)) list.spare list.free are.chained
 
   pub links-kept : NoneLost (links_of (list_of list)) list.free
-  links-kept = (list.spare, freed-linked all (spots-taken list.count list.size list.words.items) list.spare list.free are.chained)
+  links-kept = (list.spare, freed-linked all (spots-taken list.count list.size (items_of list)) list.spare list.free are.chained)
 
-  pub spots-within : length (list_of list).spots * (list.size + 1) ≤ vec_capacity list.words
-  spots-within = (let each = ap (λ n. n * (list.size + 1)) spots-long in let long = are.long in let all = list.words.ok.0 in let within = list.words.ok.1 in omega (arith, each, long, all, within))
+  pub items-long : length (items_of list) ≡ list.count * (list.size + 1)
+  items-long = all-long (pages_of list) list.count (list.size + 1) are.pages
+
+  pub spots-within : length (list_of list).spots * (list.size + 1) ≤ (list_of list).capacity
+  spots-within = (let each = ap (λ n. n * (list.size + 1)) spots-long in omega (arith, each))
 
   pub spare-most : list.spare ≤ list.count
   spare-most =
@@ -40,22 +47,123 @@ module _ (list : Inside) (are : AreRecords list) where
       let spots = spots-long in
       omega (arith, most, long, counted, spots)
 
-  -- There are no more records than words, so one more can be counted.
+  -- There are so few pages that one more record can be counted.
   pub count-fits : list.count + 1 < 2 ^ 64
   count-fits =
-      let most = mul-le list.count 1 list.count (list.size + 1) (omega arith) (omega arith) in
-      let long = are.long in
-      omega (arith, most, long, list.words.ok, list.words.small)
+      let enough = are.pages.enough in
+      let pages = length-map list.pages.items page_words in
+      let most = are.most in
+      omega (arith, enough, pages, most)
 
   pub spare-fits : list.spare + 1 < 2 ^ 64
   spare-fits = (let most = spare-most in let fits = count-fits in omega (arith, most, fits))
 
   -- The place that is next.
   pub next-free : 0 < list.spare → next_place (list_of list) ≡ list.free
-  next-free some = ap (λ link. free_or link list.free (length (list_of list).spots)) (some-linked all list.free (spots-taken list.count list.size list.words.items) list.spare are.chained some)
+  next-free some = ap (λ link. free_or link list.free (length (list_of list).spots)) (some-linked all list.free (spots-taken list.count list.size (items_of list)) list.spare are.chained some)
 
   pub next-end : list.spare ≡ 0 → next_place (list_of list) ≡ list.count
-  next-end none = ap (λ link. free_or link list.free (length (list_of list).spots)) (none-linked all list.free (spots-taken list.count list.size list.words.items) list.spare are.chained none) ∙ spots-long
+  next-end none = ap (λ link. free_or link list.free (length (list_of list).spots)) (none-linked all list.free (spots-taken list.count list.size (items_of list)) list.spare are.chained none) ∙ spots-long
+
+-- ---- a page, as it is read
+
+module _ (list : Inside) (are : AreRecords list) (place : ℕ) (inside : place < list.count) where
+  pub page-there : place / 128 < length list.pages.items
+  page-there =
+      let within = page-inside (pages_of list) list.count (list.size + 1) are.pages place inside in
+      let long = length-map list.pages.items page_words in
+      omega (arith, within, long)
+
+  module _ (page : Vec ℕ Global) (read : page ≡ get_or list.pages.items (place / 128) page) where
+    pub words-read : page_words page ≡ get_or (pages_of list) (place / 128) []
+    words-read = ap page_words read ∙ sym (get_or-map page_words list.pages.items (place / 128) page [] page-there)
+
+    room-read : page_room page ≡ get_or (rooms_of list) (place / 128) 0
+    room-read = ap page_room read ∙ sym (get_or-map page_room list.pages.items (place / 128) page 0 page-there)
+
+    pub long-read : place % 128 * (list.size + 1) + (list.size + 1) ≤ length (page_words page)
+    long-read =
+        let long = page-long (pages_of list) list.count (list.size + 1) are.pages place inside in
+        let same = ap length words-read in
+        omega (arith, long, same)
+
+    pub first-read : get_or (items_of list) (place * (list.size + 1)) 0 ≡ get_or (page_words page) (place % 128 * (list.size + 1)) 0
+    first-read =
+        page-read (pages_of list) list.count (list.size + 1) are.pages place inside (omega arith)
+        ∙ ap (λ words. get_or words (place % 128 * (list.size + 1)) 0) (sym words-read)
+
+    pub text-read : take list.size (drop (place * (list.size + 1) + 1) (items_of list)) ≡ take list.size (drop (place % 128 * (list.size + 1) + 1) (page_words page))
+    text-read =
+        page-text (pages_of list) list.count (list.size + 1) are.pages place inside list.size (omega arith)
+        ∙ ap (λ words. take list.size (drop (place % 128 * (list.size + 1) + 1) words)) (sym words-read)
+
+    -- Another page that is as long, with as much memory, in its stead.
+    module _ (new : Vec ℕ Global) (long : length (page_words new) ≡ length (page_words page)) (room : page_room new ≡ page_room page) where
+      abbrev pub after : Inside
+      after = record list { pages = with_item list.pages (place / 128) new }
+
+      pages-after : pages_of after ≡ set (pages_of list) (place / 128) (page_words new)
+      pages-after = map-set page_words list.pages.items (place / 128) new
+
+      rooms-after : rooms_of after ≡ rooms_of list
+      rooms-after =
+          map-set page_room list.pages.items (place / 128) new
+          ∙ ap (set (rooms_of list) (place / 128)) (room ∙ room-read)
+          ∙ set-get_or (rooms_of list) (place / 128) 0
+
+      long-as : length (page_words new) ≡ length (get_or (pages_of list) (place / 128) [])
+      long-as = long ∙ ap length words-read
+
+      pub left-after : (at : ℕ) → left_at after at ≡ left_at list at
+      left-after at =
+          let lengths =
+          ap (λ pages. length (get_or pages (at / 128) [])) pages-after
+          ∙ set-lengths (pages_of list) list.count (list.size + 1) are.pages place inside (page_words new) long-as (at / 128) in
+          λ i. get_or (rooms-after i) (at / 128) 0 - lengths i
+
+      pub after-kept : ArePages (pages_of after) list.count (list.size + 1) × ((at : ℕ) → get_or (rooms_of after) at 0 ≤ 128 * (list.size + 1)) × (length after.pages.items ≤ 2 ^ 48)
+      after-kept = (
+        subst (λ pages. ArePages pages list.count (list.size + 1)) (sym pages-after) (set-are (pages_of list) list.count (list.size + 1) are.pages place inside (page_words new) long-as),
+        subst (λ (rooms : List ℕ). (at : ℕ) → get_or rooms at 0 ≤ 128 * (list.size + 1)) (sym rooms-after) are.within,
+        let same = length-set list.pages.items (place / 128) new in let most = are.most in omega (arith, same, most),
+      )
+
+      pub after-are : AreChained list.spare list.free (spots_in list.count list.size (items_of after)) → AreRecords after
+      after-are chained = record { pages = after-kept.0; within = after-kept.1; most = after-kept.2; chained = chained; size_within = are.size_within }
+
+      -- What the list is then, by its words.
+      pub after-list : (words : List ℕ) → items_of after ≡ words → list_of after ≡ record (list_of list) { spots = freed list.spare list.free (spots_in list.count list.size words) }
+      after-list words is = λ i. record {
+        size = list.size;
+        spots = freed list.spare list.free (spots_in list.count list.size (is i));
+        first = list.free;
+        capacity = list.count * (list.size + 1) + left-after list.count i;
+      }
+
+    -- A word is written.
+    module _ (value : ℕ) where
+      abbrev pub with_word : Vec ℕ Global
+      with_word = with_item page (place % 128 * (list.size + 1)) value
+
+      pub word-long : length (page_words with_word) ≡ length (page_words page)
+      word-long = length-set (page_words page) (place % 128 * (list.size + 1)) value
+
+      pub word-items : items_of (record list { pages = with_item list.pages (place / 128) with_word }) ≡ set (items_of list) (place * (list.size + 1)) value
+      word-items =
+          ap joined (map-set page_words list.pages.items (place / 128) with_word)
+          ∙ ap (λ words. joined (set (pages_of list) (place / 128) (set words (place % 128 * (list.size + 1)) value))) words-read
+          ∙ page-set (pages_of list) list.count (list.size + 1) are.pages place inside (omega arith) value
+
+    -- A record is written.
+    pub record-long : (new : Vec ℕ Global) (words : List ℕ) → length words ≡ list.size + 1 → page_words new ≡ take (place % 128 * (list.size + 1)) (page_words page) ++ (words ++ drop (list.size + 1) (drop (place % 128 * (list.size + 1)) (page_words page))) → length (page_words new) ≡ length (page_words page)
+    record-long new words long is = ap length is ∙ write-long (page_words page) words (place % 128 * (list.size + 1)) (list.size + 1) long-read long
+
+    pub record-items : (new : Vec ℕ Global) (words : List ℕ) → page_words new ≡ take (place % 128 * (list.size + 1)) (page_words page) ++ (words ++ drop (list.size + 1) (drop (place % 128 * (list.size + 1)) (page_words page)))
+        → items_of (record list { pages = with_item list.pages (place / 128) new }) ≡ take (place * (list.size + 1)) (items_of list) ++ (words ++ drop (list.size + 1) (drop (place * (list.size + 1)) (items_of list)))
+    record-items new words is =
+        ap joined (map-set page_words list.pages.items (place / 128) new ∙ ap (set (pages_of list) (place / 128)) is)
+        ∙ ap (λ page. joined (set (pages_of list) (place / 128) (take (place % 128 * (list.size + 1)) page ++ (words ++ drop (list.size + 1) (drop (place % 128 * (list.size + 1)) page))))) words-read
+        ∙ page-write (pages_of list) list.count (list.size + 1) are.pages place inside words
 
 -- ---- a record that stands
 
@@ -64,61 +172,80 @@ module _ (list : Inside) (are : AreRecords list) (place : ℕ) (is : IsHeld (spo
   pub held-within : place < list.count
   held-within =
       let inside = held-inside (list_of list).spots place is in
-      let long = length-freed list.spare list.free (spots_in list.count list.size list.words.items) in
-      let counted = length-spots list.count list.size list.words.items in
+      let long = length-freed list.spare list.free (spots_in list.count list.size (items_of list)) in
+      let counted = length-spots list.count list.size (items_of list) in
       omega (arith, inside, long, counted)
 
-  -- Its words are within the list's.
-  pub word-inside : place * (list.size + 1) + (list.size + 1) ≤ length list.words.items
-  word-inside = (let within = place-within place list.count (list.size + 1) held-within in let long = are.long in omega (arith, within, long))
-
   -- What stands there is what its words are.
-  pub spot-is : spot_at (list_of list) place ≡ first_spot list.size (drop (place * (list.size + 1)) list.words.items)
+  pub spot-is : spot_at (list_of list) place ≡ first_spot list.size (drop (place * (list.size + 1)) (items_of list))
   spot-is =
-      freed-held list.spare list.free (spots_in list.count list.size list.words.items) place is
-      ∙ get-spots list.count list.size list.words.items place (free 0) held-within
+      freed-held list.spare list.free (spots_in list.count list.size (items_of list)) place is
+      ∙ get-spots list.count list.size (items_of list) place (free 0) held-within
 
-  pub word-value : value_of (spot_at (list_of list) place) ≡ get_or list.words.items (place * (list.size + 1)) 0
+  pub word-value : value_of (spot_at (list_of list) place) ≡ get_or (items_of list) (place * (list.size + 1)) 0
   word-value =
       let e : place * (list.size + 1) + 0 ≡ place * (list.size + 1) = omega arith in
-      ap value_of spot-is ∙ get_or-drop (place * (list.size + 1)) list.words.items 0 0 ∙ ap (λ n. get_or list.words.items n 0) e
+      ap value_of spot-is ∙ get_or-drop (place * (list.size + 1)) (items_of list) 0 0 ∙ ap (λ n. get_or (items_of list) n 0) e
 
-  pub word-text : text_of (spot_at (list_of list) place) ≡ take list.size (drop (place * (list.size + 1) + 1) list.words.items)
-  word-text = ap text_of spot-is ∙ ap (take list.size) (drop-drop 1 (place * (list.size + 1)) list.words.items)
+  pub word-text : text_of (spot_at (list_of list) place) ≡ take list.size (drop (place * (list.size + 1) + 1) (items_of list))
+  word-text = ap text_of spot-is ∙ ap (take list.size) (drop-drop 1 (place * (list.size + 1)) (items_of list))
+
+  pub value-there : get_or (get_or (pages_of list) (place / 128) []) (place % 128 * (list.size + 1)) 0 ≡ value_of (spot_at (list_of list) place)
+  value-there = sym (page-read (pages_of list) list.count (list.size + 1) are.pages place held-within (omega arith)) ∙ sym word-value
 
   -- Another value there.
-  value-spots : (value : ℕ) → spots_in list.count list.size (set list.words.items (place * (list.size + 1)) value) ≡ set (all list are) place (held value (text_of (spot_at (list_of list) place)))
+  value-spots : (value : ℕ) → spots_in list.count list.size (set (items_of list) (place * (list.size + 1)) value) ≡ set (all list are) place (held value (text_of (spot_at (list_of list) place)))
   value-spots value =
-      spots-value list.count list.size list.words.items are.long place held-within value
+      spots-value list.count list.size (items_of list) (items-long list are) place held-within value
       ∙ ap (λ text. set (all list are) place (held value text)) (sym word-text)
 
-  pub value-list : (value : ℕ) → list_of (record list { words = with_item list.words (place * (list.size + 1)) value }) ≡ with_value (list_of list) place value
-  value-list value =
-      ap (λ spots. record (list_of list) { spots = spots })
-      (ap (freed list.spare list.free) (value-spots value) ∙ freed-set place (held value (text_of (spot_at (list_of list) place))) list.spare list.free (all list are) is)
+  module _ (page : Vec ℕ Global) (read : page ≡ get_or list.pages.items (place / 128) page) (value : ℕ) where
+    abbrev written : Inside
+    written = record list { pages = with_item list.pages (place / 128) (with_word list are place held-within page read value) }
 
-  pub value-are : (value : ℕ) → AreRecords (record list { words = with_item list.words (place * (list.size + 1)) value })
-  value-are value = record {
-    long = length-set list.words.items (place * (list.size + 1)) value ∙ are.long;
-    chained = subst (λ spots. AreChained list.spare list.free spots) (sym (value-spots value)) (chained-set place (held value (text_of (spot_at (list_of list) place))) list.spare list.free (all list are) is are.chained);
-    size_within = are.size_within;
-  }
+    items-is : items_of written ≡ set (items_of list) (place * (list.size + 1)) value
+    items-is = word-items list are place held-within page read value
+
+    left-is : (at : ℕ) → left_at written at ≡ left_at list at
+    left-is = left-after list are place held-within page read (with_word list are place held-within page read value) (word-long list are place held-within page read value) refl
+
+    pub value-list : list_of written ≡ with_value (list_of list) place value
+    value-list =
+        after-list list are place held-within page read (with_word list are place held-within page read value) (word-long list are place held-within page read value) refl _ items-is
+        ∙ ap (λ spots. record (list_of list) { spots = spots })
+        (ap (freed list.spare list.free) (value-spots value) ∙ freed-set place (held value (text_of (spot_at (list_of list) place))) list.spare list.free (all list are) is)
+
+    pub value-are : AreRecords written
+    value-are = after-are list are place held-within page read (with_word list are place held-within page read value) (word-long list are place held-within page read value) refl
+        (subst (λ spots. AreChained list.spare list.free spots) (sym (ap (spots_in list.count list.size) items-is ∙ value-spots value)) (chained-set place (held value (text_of (spot_at (list_of list) place))) list.spare list.free (all list are) is are.chained))
 
   -- None there: the place is free.
-  pub removed-list : list_of (record list { words = with_item list.words (place * (list.size + 1)) list.free; free = place; spare = list.spare + 1 }) ≡ taken_out (list_of list) place
-  removed-list =
-      ap (λ spots. record (list_of list) { spots = spots; first = place })
-      (ap (λ n. freed n place (spots_in list.count list.size (set list.words.items (place * (list.size + 1)) list.free))) (add-one list.spare)
-      ∙ ap (freed (suc list.spare) place) (value-spots list.free)
-      ∙ freed-more list.spare list.free (all list are) place is (text_of (spot_at (list_of list) place)))
+  module _ (page : Vec ℕ Global) (read : page ≡ get_or list.pages.items (place / 128) page) where
+    abbrev without : Inside
+    without = record list { pages = with_item list.pages (place / 128) (with_word list are place held-within page read list.free); free = place; spare = list.spare + 1 }
 
-  pub removed-are : AreRecords (record list { words = with_item list.words (place * (list.size + 1)) list.free; free = place; spare = list.spare + 1 })
-  removed-are = record {
-    long = length-set list.words.items (place * (list.size + 1)) list.free ∙ are.long;
-    chained = subst (λ n. AreChained n place (spots_in list.count list.size (set list.words.items (place * (list.size + 1)) list.free))) (sym (add-one list.spare))
-        (subst (λ spots. AreChained (suc list.spare) place spots) (sym (value-spots list.free)) (chained-more list.spare list.free (all list are) place is (text_of (spot_at (list_of list) place)) are.chained));
-    size_within = are.size_within;
-  }
+    pub removed-list : list_of without ≡ taken_out (list_of list) place
+    removed-list =
+        (λ i. record {
+          size = list.size;
+          spots = freed (add-one list.spare i) place (spots_in list.count list.size (items-is page read list.free i));
+          first = place;
+          capacity = list.count * (list.size + 1) + left-is page read list.free list.count i;
+        })
+        ∙ ap (λ spots. record (list_of list) { spots = spots; first = place })
+        (ap (freed (suc list.spare) place) (value-spots list.free) ∙ freed-more list.spare list.free (all list are) place is (text_of (spot_at (list_of list) place)))
+
+    pub removed-are : AreRecords without
+    removed-are =
+        let kept = value-are page read list.free in
+        record {
+          pages = kept.pages;
+          within = kept.within;
+          most = kept.most;
+          chained = subst (λ n. AreChained n place (spots_in list.count list.size (items_of without))) (sym (add-one list.spare))
+              (subst (λ spots. AreChained (suc list.spare) place spots) (sym (ap (spots_in list.count list.size) (items-is page read list.free) ∙ value-spots list.free)) (chained-more list.spare list.free (all list are) place is (text_of (spot_at (list_of list) place)) are.chained));
+          size_within = kept.size_within;
+        }
 
   -- Whether another one is left.
   pub removed-last : list.spare + 1 ≡ list.count → removed (list_of list) place ≡ empty_list list.size
@@ -135,15 +262,32 @@ module _ (list : Inside) (are : AreRecords list) {seen : RecordList} (view_is : 
   pub seen-held : IsHeld (spot_at (list_of list) place)
   seen-held = subst (λ list. IsHeld (spot_at list place)) (sym view_is) is
 
-  pub seen-inside : place * (list.size + 1) + (list.size + 1) ≤ length list.words.items
-  seen-inside = word-inside list are place seen-held
+  pub seen-within : place < list.count
+  seen-within = held-within list are place seen-held
 
-  pub seen-value : {value : ℕ} → value ≡ get_or list.words.items (place * (list.size + 1)) value → value ≡ value_of (spot_at seen place)
-  seen-value read =
-      let inside = seen-inside in
-      get_or_read_under list.words.items _ _ _ 0 read (omega (arith, inside, list.words.ok)) list.words.ok.0
-      ∙ sym (word-value list are place seen-held)
-      ∙ ap (λ list. value_of (spot_at list place)) view_is
+  pub seen-there : place / 128 < length list.pages.items
+  seen-there = page-there list are place seen-within
+
+  module _ (page : Vec ℕ Global) (read : page ≡ get_or list.pages.items (place / 128) page) where
+    pub seen-long : place % 128 * (list.size + 1) + (list.size + 1) ≤ length (page_words page)
+    seen-long = long-read list are place seen-within page read
+
+    pub seen-value : get_or (page_words page) (place % 128 * (list.size + 1)) 0 ≡ value_of (spot_at seen place)
+    seen-value =
+        sym (first-read list are place seen-within page read)
+        ∙ sym (word-value list are place seen-held)
+        ∙ ap (λ list. value_of (spot_at list place)) view_is
+
+    pub seen-read : {value : ℕ} → value ≡ get_or (page_words page) (place % 128 * (list.size + 1)) value → value ≡ value_of (spot_at seen place)
+    seen-read is =
+        let long = seen-long in
+        get_or_read (page_words page) (place % 128 * (list.size + 1)) _ (omega (arith, long)) is 0 ∙ seen-value
+
+    pub seen-text : take list.size (drop (place % 128 * (list.size + 1) + 1) (page_words page)) ≡ text_of (spot_at seen place)
+    seen-text =
+        sym (text-read list are place seen-within page read)
+        ∙ sym (word-text list are place seen-held)
+        ∙ ap (λ list. text_of (spot_at list place)) view_is
 
 -- ---- room
 
@@ -174,19 +318,273 @@ room-to count spare more stride capacity long e within room = elim (cases_lt spa
 
 -- There is room where the words that are lacking fit, and only there.
 module _ (list : Inside) (are : AreRecords list) (more : ℕ) where
-  numbers : HasRoom (list_of list) more ≡ ((list.count + more) * (list.size + 1) ≤ vec_capacity list.words + list.spare * (list.size + 1))
-  numbers = λ i. (spots-long list are i + more) * (list.size + 1) ≤ vec_capacity list.words + links-counted list are i * (list.size + 1)
+  pub room-numbers : HasRoom (list_of list) more ≡ ((list.count + more) * (list.size + 1) ≤ (list_of list).capacity + list.spare * (list.size + 1))
+  room-numbers = λ i. (spots-long list are i + more) * (list.size + 1) ≤ (list_of list).capacity + links-counted list are i * (list.size + 1)
 
-  pub has-room : (more - list.spare) * (list.size + 1) ≤ vec_capacity list.words - vec_len list.words → HasRoom (list_of list) more
-  has-room fits = subst (λ (T : Type 0). T) (sym numbers) (room-from list.count list.spare more (list.size + 1) (vec_capacity list.words) (vec_len list.words) (list.words.ok.0 ∙ are.long) list.words.ok.1 fits)
+  pub has-room : (more - list.spare) * (list.size + 1) ≤ left_at list list.count → HasRoom (list_of list) more
+  has-room fits =
+      subst (λ (T : Type 0). T) (sym room-numbers)
+      (room-from list.count list.spare more (list.size + 1) (list.count * (list.size + 1) + left_at list list.count) (list.count * (list.size + 1)) refl (omega arith) (omega (arith, fits)))
 
-  pub room-has : HasRoom (list_of list) more → (more - list.spare) * (list.size + 1) ≤ vec_capacity list.words - vec_len list.words
-  room-has room = room-to list.count list.spare more (list.size + 1) (vec_capacity list.words) (vec_len list.words) (list.words.ok.0 ∙ are.long) list.words.ok.1 (subst (λ (T : Type 0). T) numbers room)
+  pub room-has : HasRoom (list_of list) more → (more - list.spare) * (list.size + 1) ≤ left_at list list.count
+  room-has room =
+      let has = room-to list.count list.spare more (list.size + 1) (list.count * (list.size + 1) + left_at list list.count) (list.count * (list.size + 1)) refl (omega arith) (subst (λ (T : Type 0). T) room-numbers room) in
+      omega (arith, has)
 
--- What follows from what holds on success holds on success.
-pub on-ok : {A E : Type 0} {P Q : Type 0} (r : Result A E) → OnOk r P → (P → Q) → OnOk r Q
-on-ok (Ok x) holds follows = follows holds
-on-ok (Err e) holds follows = tt
+-- Where a record came, there is room for one less.
+module _ (list : Inside) (are : AreRecords list) (after : Inside) (after_are : AreRecords after) (same_size : after.size ≡ list.size) (capacity : (list_of after).capacity ≡ (list_of list).capacity) (more : ℕ) (room : HasRoom (list_of list) (more + 1)) where
+  room-before : (list.count + (more + 1)) * (list.size + 1) ≤ (list_of list).capacity + list.spare * (list.size + 1)
+  room-before = subst (λ (T : Type 0). T) (room-numbers list are (more + 1)) room
+
+  -- It came to the end,
+  pub room-more : after.count ≡ list.count + 1 → after.spare ≡ list.spare → HasRoom (list_of after) more
+  room-more one same =
+      let has = room-before in
+      let count : (after.count + more) * (after.size + 1) ≡ (list.count + 1 + more) * (list.size + 1) = λ i. (one i + more) * (same_size i + 1) in
+      let moved : (list.count + 1 + more) * (list.size + 1) ≡ (list.count + (more + 1)) * (list.size + 1) = ap (λ n. n * (list.size + 1)) (omega arith) in
+      let spare : after.spare * (after.size + 1) ≡ list.spare * (list.size + 1) = λ i. same i * (same_size i + 1) in
+      subst (λ (T : Type 0). T) (sym (room-numbers after after_are more)) (omega (arith, has, count, moved, spare, capacity))
+
+  -- or to a free place.
+  pub room-fewer : after.count ≡ list.count → after.spare + 1 ≡ list.spare → HasRoom (list_of after) more
+  room-fewer same one =
+      let has = room-before in
+      let count : (after.count + more) * (after.size + 1) ≡ (list.count + more) * (list.size + 1) = λ i. (same i + more) * (same_size i + 1) in
+      let parts : (list.count + (more + 1)) * (list.size + 1) ≡ (list.count + more) * (list.size + 1) + (list.size + 1) = grind arith in
+      let spare : (after.spare + 1) * (list.size + 1) ≡ after.spare * (list.size + 1) + (list.size + 1) = grind arith in
+      let whole = ap (λ n. n * (list.size + 1)) one in
+      let sizes = ap (λ n. after.spare * (n + 1)) same_size in
+      subst (λ (T : Type 0). T) (sym (room-numbers after after_are more)) (omega (arith, has, count, parts, spare, whole, sizes, capacity))
+
+-- Where no place is free and there is room for a record, its page is there and has memory for it.
+module _ (list : Inside) (are : AreRecords list) (none : list.spare ≡ 0) (room : HasRoom (list_of list) 1) where
+  pub room-left : list.size + 1 ≤ left_at list list.count
+  room-left =
+      let has = room-has list are 1 room in
+      let one : (1 - list.spare) * (list.size + 1) ≡ 1 * (list.size + 1) = ap (λ n. (1 - n) * (list.size + 1)) none in
+      omega (arith, has, one)
+
+  pub room-there : list.count / 128 < length list.pages.items
+  room-there = elim (cases_lt (list.count / 128) (length list.pages.items)) [
+    | inl less ↦ less
+    | inr past ↦
+        let long = length-map list.pages.items page_room in
+        let nothing = get_or_past (rooms_of list) (list.count / 128) 0 (omega (arith, past, long)) in
+        let left = room-left in
+        absurd (omega (arith, nothing, left))
+  ]
+
+-- ---- the page of the next record
+
+module _ (list : Inside) (are : AreRecords list) (there : list.count / 128 < length list.pages.items) (page : Vec ℕ Global) (read : page ≡ get_or list.pages.items (list.count / 128) page) where
+  last-there : list.count / 128 < length (pages_of list)
+  last-there = (let long = length-map list.pages.items page_words in omega (arith, there, long))
+
+  last-words : page_words page ≡ get_or (pages_of list) (list.count / 128) []
+  last-words = ap page_words read ∙ sym (get_or-map page_words list.pages.items (list.count / 128) page [] there)
+
+  last-room : page_room page ≡ get_or (rooms_of list) (list.count / 128) 0
+  last-room = ap page_room read ∙ sym (get_or-map page_room list.pages.items (list.count / 128) page 0 there)
+
+  pub last-long : length (page_words page) ≡ list.count % 128 * (list.size + 1)
+  last-long = ap length last-words ∙ are.pages.last
+
+  pub last-within : page_room page ≤ 128 * (list.size + 1)
+  last-within = subst (λ room. room ≤ 128 * (list.size + 1)) (sym last-room) (are.within (list.count / 128))
+
+  -- It isn't full.
+  pub last-part : length (page_words page) + (list.size + 1) ≤ 128 * (list.size + 1)
+  last-part =
+      let long = last-long in
+      let within = place-within (list.count % 128) 128 (list.size + 1) (omega arith) in
+      omega (arith, long, within)
+
+  pub last-left : left_at list list.count ≡ page_room page - length (page_words page)
+  last-left = λ i. sym last-room i - length (sym last-words i)
+
+  -- It gets more memory.
+  module _ (new : Vec ℕ Global) (same : page_words new ≡ page_words page) (within : page_room new ≤ 128 * (list.size + 1)) where
+    abbrev pub widened : Inside
+    widened = record list { pages = with_item list.pages (list.count / 128) new }
+
+    pages-same : pages_of widened ≡ pages_of list
+    pages-same =
+        map-set page_words list.pages.items (list.count / 128) new
+        ∙ ap (set (pages_of list) (list.count / 128)) (same ∙ last-words)
+        ∙ set-get_or (pages_of list) (list.count / 128) []
+
+    rooms-new : rooms_of widened ≡ set (rooms_of list) (list.count / 128) (page_room new)
+    rooms-new = map-set page_room list.pages.items (list.count / 128) new
+
+    rooms-within : (at : ℕ) → get_or (set (rooms_of list) (list.count / 128) (page_room new)) at 0 ≤ 128 * (list.size + 1)
+    rooms-within at = elim (cases_eq at (list.count / 128)) [
+      | inl here ↦
+          let long = length-map list.pages.items page_room in
+          let is = ap (λ n. get_or (set (rooms_of list) (list.count / 128) (page_room new)) n 0) here ∙ get_or-set_same (rooms_of list) (list.count / 128) (page_room new) 0 (omega (arith, there, long)) in
+          omega (arith, is, within)
+      | inr apart ↦
+          let is = get_or-set_other (rooms_of list) (list.count / 128) at (page_room new) 0 apart in
+          let was = are.within at in
+          omega (arith, is, was)
+    ]
+
+    pub widened-are : AreRecords widened
+    widened-are = record {
+      pages = subst (λ pages. ArePages pages list.count (list.size + 1)) (sym pages-same) are.pages;
+      within = subst (λ (rooms : List ℕ). (at : ℕ) → get_or rooms at 0 ≤ 128 * (list.size + 1)) (sym rooms-new) rooms-within;
+      most = (let long = length-set list.pages.items (list.count / 128) new in let most = are.most in omega (arith, long, most));
+      chained = subst (λ pages. AreChained list.spare list.free (spots_in list.count list.size (joined pages))) (sym pages-same) are.chained;
+      size_within = are.size_within;
+    }
+
+    pub widened-left : left_at widened list.count ≡ page_room new - length (page_words page)
+    widened-left =
+        let long = length-map list.pages.items page_room in
+        let room = ap (λ rooms. get_or rooms (list.count / 128) 0) rooms-new ∙ get_or-set_same (rooms_of list) (list.count / 128) (page_room new) 0 (omega (arith, there, long)) in
+        λ i. room i - length ((ap (λ pages. get_or pages (list.count / 128) []) pages-same ∙ sym last-words) i)
+
+    pub widened-list : list_of widened ≡ with_capacity (list_of list) (list_of widened).capacity
+    widened-list = ap (λ pages. record (with_capacity (list_of list) (list_of widened).capacity) { spots = freed list.spare list.free (spots_in list.count list.size (joined pages)) }) pages-same
+
+  -- A record comes to it.
+  module _ (new : Vec ℕ Global) (words : List ℕ) (long : length words ≡ list.size + 1) (is : page_words new ≡ page_words page ++ words) (room : page_room new ≡ page_room page) where
+    abbrev pub pushed : Inside
+    pushed = record list { pages = with_item list.pages (list.count / 128) new; count = list.count + 1 }
+
+    pages-pushed : pages_of pushed ≡ set (pages_of list) (list.count / 128) (get_or (pages_of list) (list.count / 128) [] ++ words)
+    pages-pushed =
+        map-set page_words list.pages.items (list.count / 128) new
+        ∙ ap (set (pages_of list) (list.count / 128)) (is ∙ ap (λ front. front ++ words) last-words)
+
+    rooms-same : rooms_of pushed ≡ rooms_of list
+    rooms-same =
+        map-set page_room list.pages.items (list.count / 128) new
+        ∙ ap (set (rooms_of list) (list.count / 128)) (room ∙ last-room)
+        ∙ set-get_or (rooms_of list) (list.count / 128) 0
+
+    pub pushed-all : items_of pushed ≡ items_of list ++ words
+    pushed-all = ap joined pages-pushed ∙ pushed-joined (pages_of list) list.count (list.size + 1) are.pages last-there words long
+
+    pub pushed-are : AreChained list.spare list.free (spots_in (list.count + 1) list.size (items_of pushed)) → AreRecords pushed
+    pushed-are chained = record {
+      pages = subst (λ pages. ArePages pages (list.count + 1) (list.size + 1)) (sym pages-pushed) (pushed-pages (pages_of list) list.count (list.size + 1) are.pages last-there words long);
+      within = subst (λ (rooms : List ℕ). (at : ℕ) → get_or rooms at 0 ≤ 128 * (list.size + 1)) (sym rooms-same) are.within;
+      most = (let same = length-set list.pages.items (list.count / 128) new in let most = are.most in omega (arith, same, most));
+      chained = chained;
+      size_within = are.size_within;
+    }
+
+    -- There is memory for as many words in all as before.
+    pub pushed-capacity : list.size + 1 ≤ left_at list list.count → (list_of pushed).capacity ≡ (list_of list).capacity
+    pushed-capacity fits = elim (cases_lt (list.count / 128) ((list.count + 1) / 128)) [
+      | inl less ↦
+          let parts : (list.count + 1) * (list.size + 1) ≡ list.count * (list.size + 1) + (list.size + 1) = grind arith in
+          let few = are.pages.few in
+          let pages-long = length-map list.pages.items page_words in
+          let rooms-long = length-map list.pages.items page_room in
+          let nothing = ap (λ rooms. get_or rooms ((list.count + 1) / 128) 0) rooms-same ∙ get_or_past (rooms_of list) ((list.count + 1) / 128) 0 (omega (arith, less, few, pages-long, rooms-long)) in
+          let left = last-left in
+          let whole : list.count % 128 ≡ 127 = omega (arith, less) in
+          let before = last-long ∙ ap (λ n. n * (list.size + 1)) whole in
+          let most = last-within in
+          omega (arith, parts, nothing, left, before, most, fits)
+      | inr most ↦
+          let parts : (list.count + 1) * (list.size + 1) ≡ list.count * (list.size + 1) + (list.size + 1) = grind arith in
+          let here : (list.count + 1) / 128 ≡ list.count / 128 = omega (arith, most) in
+          let now = ap (λ rooms. get_or rooms ((list.count + 1) / 128) 0) rooms-same ∙ ap (λ n. get_or (rooms_of list) n 0) here ∙ sym last-room in
+          let words-now =
+          ap (λ pages. length (get_or pages ((list.count + 1) / 128) [])) pages-pushed
+          ∙ ap (λ n. length (get_or (set (pages_of list) (list.count / 128) (get_or (pages_of list) (list.count / 128) [] ++ words)) n [])) here
+          ∙ ap length (get_or-set_same (pages_of list) (list.count / 128) (get_or (pages_of list) (list.count / 128) [] ++ words) [] last-there)
+          ∙ length-append (get_or (pages_of list) (list.count / 128) []) words
+          ∙ ap (λ n. n + length words) (ap length (sym last-words)) in
+          let left = last-left in
+          omega (arith, parts, now, words-now, left, long, fits)
+    ]
+
+-- A list without a record and without a page.
+module _ (list : Inside) (none : list.pages.items ≡ []) (no_records : list.count ≡ 0) (no_spare : list.spare ≡ 0) where
+  pub empty-are : list.size ≤ 2305843009213693952 → AreRecords list
+  empty-are size = record {
+    pages = subst (λ (items : List (Vec ℕ Global)). ArePages (map page_words items) list.count (list.size + 1)) (sym none) (subst (λ n. ArePages [] n (list.size + 1)) (sym no_records) (none-are (list.size + 1)));
+    within = subst (λ (items : List (Vec ℕ Global)). (at : ℕ) → get_or (map page_room items) at 0 ≤ 128 * (list.size + 1)) (sym none) (λ at. omega arith);
+    most = (let long = ap length none in omega (arith, long));
+    chained = subst (λ n. AreChained n list.free (spots_in list.count list.size (items_of list))) (sym no_spare) tt;
+    size_within = size;
+  }
+
+  pub empty-capacity : (list_of list).capacity ≡ 0
+  empty-capacity =
+      let count = ap (λ n. n * (list.size + 1)) no_records in
+      let room = ap (λ (items : List (Vec ℕ Global)). get_or (map page_room items) (list.count / 128) 0) none in
+      omega (arith, count, room)
+
+-- There is a page for the next record now.
+none-more : (rooms : List ℕ) (at : ℕ) → get_or (rooms ++ 0 ∷ []) at 0 ≡ get_or rooms at 0
+none-more [] zero = refl
+none-more [] (suc at) = refl
+none-more (room ∷ rest) zero = refl
+none-more (room ∷ rest) (suc at) = none-more rest at
+
+module _ (list : Inside) (are : AreRecords list) (pages : Vec (Vec ℕ Global) Global) where
+  abbrev pub extended : Inside
+  extended = record list { pages = pages }
+
+  -- The pages are the same.
+  module _ (same : pages.items ≡ list.pages.items) where
+    pub same-are : AreRecords extended
+    same-are = record {
+      pages = subst (λ (items : List (Vec ℕ Global)). ArePages (map page_words items) list.count (list.size + 1)) (sym same) are.pages;
+      within = subst (λ (items : List (Vec ℕ Global)). (at : ℕ) → get_or (map page_room items) at 0 ≤ 128 * (list.size + 1)) (sym same) are.within;
+      most = (let long = ap length same in let most = are.most in omega (arith, long, most));
+      chained = subst (λ (items : List (Vec ℕ Global)). AreChained list.spare list.free (spots_in list.count list.size (joined (map page_words items)))) (sym same) are.chained;
+      size_within = are.size_within;
+    }
+
+    pub same-list : list_of extended ≡ list_of list
+    same-list = λ i. record {
+      size = list.size;
+      spots = freed list.spare list.free (spots_in list.count list.size (joined (map page_words (same i))));
+      first = list.free;
+      capacity = list.count * (list.size + 1) + (get_or (map page_room (same i)) (list.count / 128) 0 - length (get_or (map page_words (same i)) (list.count / 128) []));
+    }
+
+  -- What it keeps, and that its words are the same.
+  pub record IsExtended : Type 0 where
+    pub is_are : AreRecords extended
+    pub there : list.count / 128 < length pages.items
+    pub items : items_of extended ≡ items_of list
+
+  pub extends : IsReached list.pages.items pages.items (list.count / 128) → IsExtended
+  extends (inl was) = record {
+    is_are = same-are was.1;
+    there = (let long = ap length was.1 in omega (arith, long, was.0));
+    items = ap (λ (items : List (Vec ℕ Global)). joined (map page_words items)) was.1;
+  }
+  extends (inr begun) =
+      let end = begun.0 in
+      let few = begun.1 in
+      let page = begun.2 in
+      let none = begun.3 in
+      let no_room = begun.4 in
+      let is = begun.5 in
+      let pages-now : map page_words pages.items ≡ pages_of list ++ [] ∷ [] = ap (map page_words) is ∙ map_push page_words list.pages.items page ∙ ap (λ words. pages_of list ++ words ∷ []) none in
+      let rooms-now : map page_room pages.items ≡ rooms_of list ++ 0 ∷ [] = ap (map page_room) is ∙ map_push page_room list.pages.items page ∙ ap (λ room. rooms_of list ++ room ∷ []) no_room in
+      let long = length-map list.pages.items page_words in
+      let at-end : list.count / 128 ≡ length (pages_of list) = omega (arith, end, long) in
+      let items : joined (map page_words pages.items) ≡ items_of list = ap joined pages-now ∙ begun-joined (pages_of list) list.count (list.size + 1) are.pages at-end in
+      let longer = ap length is ∙ length_push list.pages.items page in
+      record {
+        is_are = record {
+          pages = subst (λ pages. ArePages pages list.count (list.size + 1)) (sym pages-now) (begun-are (pages_of list) list.count (list.size + 1) are.pages at-end);
+          within = subst (λ (rooms : List ℕ). (at : ℕ) → get_or rooms at 0 ≤ 128 * (list.size + 1)) (sym rooms-now) (λ at. subst (λ room. room ≤ 128 * (list.size + 1)) (sym (none-more (rooms_of list) at)) (are.within at));
+          most = omega (arith, longer, end, few);
+          chained = subst (λ items. AreChained list.spare list.free (spots_in list.count list.size items)) (sym items) are.chained;
+          size_within = are.size_within;
+        };
+        there = omega (arith, longer, end);
+        items = items;
+      }
 
 -- ---- one more record
 
@@ -194,7 +592,7 @@ module _ (list : Inside) (are : AreRecords list) (value : ℕ) (bytes : List ℕ
   abbrev pub words : List ℕ
   words = value ∷ words_in list.size bytes
 
-  words-long : length words ≡ list.size + 1
+  pub words-long : length words ≡ list.size + 1
   words-long = (let long = length-words list.size bytes in omega (arith, long))
 
   words-spot : first_spot list.size words ≡ held value (words_of bytes)
@@ -203,46 +601,54 @@ module _ (list : Inside) (are : AreRecords list) (value : ℕ) (bytes : List ℕ
 
   -- At the end, where no place is free.
   module _ (none : list.spare ≡ 0) where
-    pub pushed-items : spots_in (list.count + 1) list.size (list.words.items ++ words) ≡ all list are ++ held value (words_of bytes) ∷ []
-    pushed-items = spots-push list.count list.size list.words.items are.long words words-long ∙ ap (λ spot. all list are ++ spot ∷ []) words-spot
+    pub last-items : spots_in (list.count + 1) list.size (items_of list ++ words) ≡ all list are ++ held value (words_of bytes) ∷ []
+    last-items = spots-push list.count list.size (items_of list) (items-long list are) words words-long ∙ ap (λ spot. all list are ++ spot ∷ []) words-spot
 
-    pub pushed-long : length (list.words.items ++ words) ≡ (list.count + 1) * (list.size + 1)
+    pub pushed-long : length (items_of list ++ words) ≡ (list.count + 1) * (list.size + 1)
     pushed-long =
-        let long = length-append list.words.items words in
+        let long = length-append (items_of list) words in
         let parts : (list.count + 1) * (list.size + 1) ≡ list.count * (list.size + 1) + (list.size + 1) = grind arith in
         let own = words-long in
-        let are_long = are.long in
+        let are_long = items-long list are in
         omega (arith, long, parts, own, are_long)
 
-    pub pushed-chained : (spots : List Spot) → AreChained list.spare list.free spots
-    pushed-chained spots = subst (λ n. AreChained n list.free spots) (sym none) tt
+    pub none-chained : (spots : List Spot) → AreChained list.spare list.free spots
+    none-chained spots = subst (λ n. AreChained n list.free spots) (sym none) tt
 
-    pub pushed-list : record (list_of list) { spots = freed list.spare list.free (spots_in (list.count + 1) list.size (list.words.items ++ words)) } ≡ put_in (list_of list) (held value (words_of bytes))
+    pub pushed-list : record (list_of list) { spots = freed list.spare list.free (spots_in (list.count + 1) list.size (items_of list ++ words)) } ≡ put_in (list_of list) (held value (words_of bytes))
     pushed-list =
-        ap (λ spots. record (list_of list) { spots = spots }) (none-freed (spots_in (list.count + 1) list.size (list.words.items ++ words)) list.free list.spare none ∙ pushed-items)
+        ap (λ spots. record (list_of list) { spots = spots }) (none-freed (spots_in (list.count + 1) list.size (items_of list ++ words)) list.free list.spare none ∙ last-items)
         ∙ ap (λ (spots : List Spot). record (list_of list) { spots = spots ++ held value (words_of bytes) ∷ [] }) (sym (none-freed (all list are) list.free list.spare none))
-        ∙ ap (λ link. put_by link (list_of list) (held value (words_of bytes))) (sym (none-linked (all list are) list.free (spots-taken list.count list.size list.words.items) list.spare are.chained none))
+        ∙ ap (λ link. put_by link (list_of list) (held value (words_of bytes))) (sym (none-linked (all list are) list.free (spots-taken list.count list.size (items_of list)) list.spare are.chained none))
 
   -- Over the words of a place.
   module _ (place : ℕ) (within : place < list.count) where
     abbrev pub placed : List ℕ
-    placed = before list.count list.size list.words.items are.long place within ++ (words ++ behind list.count list.size list.words.items are.long place within)
+    placed = before list.count list.size (items_of list) (items-long list are) place within ++ (words ++ behind list.count list.size (items_of list) (items-long list are) place within)
 
     placed-spots : spots_in list.count list.size placed ≡ set (all list are) place (held value (words_of bytes))
-    placed-spots = spots-place list.count list.size list.words.items are.long place within words words-long ∙ ap (set (all list are) place) words-spot
+    placed-spots = spots-place list.count list.size (items_of list) (items-long list are) place within words words-long ∙ ap (set (all list are) place) words-spot
 
     pub placed-long : length placed ≡ list.count * (list.size + 1)
     placed-long =
         let start = place * (list.size + 1) in
         let inside = place-within place list.count (list.size + 1) within in
-        let all_long = are.long in
-        let front = length-take-le start list.words.items (omega (arith, inside, all_long)) in
-        let long = length-append (take start list.words.items) (words ++ drop (list.size + 1) (drop start list.words.items)) in
-        let rest = length-append words (drop (list.size + 1) (drop start list.words.items)) in
-        let past = length-drop (list.size + 1) (drop start list.words.items) in
-        let left = length-drop start list.words.items in
+        let all_long = items-long list are in
+        let front = length-take-le start (items_of list) (omega (arith, inside, all_long)) in
+        let long = length-append (take start (items_of list)) (words ++ drop (list.size + 1) (drop start (items_of list))) in
+        let rest = length-append words (drop (list.size + 1) (drop start (items_of list))) in
+        let past = length-drop (list.size + 1) (drop start (items_of list)) in
+        let left = length-drop start (items_of list) in
         let own = words-long in
         omega (arith, inside, front, long, rest, past, left, own, all_long)
+
+  -- A record stands in a page that was written, whatever is free then.
+  pub written-are : {place : ℕ} (inside : place < list.count) (page : Vec ℕ Global) (read : page ≡ get_or list.pages.items (place / 128) page) (new : Vec ℕ Global) (long : length (page_words new) ≡ length (page_words page)) (room : page_room new ≡ page_room page) (spare first : ℕ)
+      → AreChained spare first (spots_in list.count list.size (items_of (after list are place inside page read new long room)))
+      → AreRecords (record (after list are place inside page read new long room) { spare = spare; free = first })
+  written-are {place} inside page read new long room spare first chained =
+      let kept = after-kept list are place inside page read new long room in
+      record { pages = kept.0; within = kept.1; most = kept.2; chained = chained; size_within = are.size_within }
 
   -- In the place of a record that stands.
   module _ (place : ℕ) (is : IsHeld (spot_at (list_of list) place)) where
@@ -261,17 +667,17 @@ module _ (list : Inside) (are : AreRecords list) (value : ℕ) (bytes : List ℕ
     pub free-within : list.free < list.count
     free-within =
         let inside = some-inside (all list are) list.free list.spare are.chained some in
-        let long = length-spots list.count list.size list.words.items in
+        let long = length-spots list.count list.size (items_of list) in
         omega (arith, inside, long)
 
-    pub free-inside : list.free * (list.size + 1) + (list.size + 1) ≤ length list.words.items
-    free-inside = (let within = place-within list.free list.count (list.size + 1) free-within in let long = are.long in omega (arith, within, long))
+    pub free-inside : list.free * (list.size + 1) + (list.size + 1) ≤ length (items_of list)
+    free-inside = (let within = place-within list.free list.count (list.size + 1) free-within in let long = items-long list are in omega (arith, within, long))
 
     -- The next free place stands in the words of the first one.
-    pub free-next : get_or list.words.items (list.free * (list.size + 1)) 0 ≡ next_of (all list are) list.free
+    pub free-next : get_or (items_of list) (list.free * (list.size + 1)) 0 ≡ next_of (all list are) list.free
     free-next =
         let e : list.free * (list.size + 1) + 0 ≡ list.free * (list.size + 1) = omega arith in
-        sym (ap value_of (get-spots list.count list.size list.words.items list.free (free 0) free-within) ∙ get_or-drop (list.free * (list.size + 1)) list.words.items 0 0 ∙ ap (λ n. get_or list.words.items n 0) e)
+        sym (ap value_of (get-spots list.count list.size (items_of list) list.free (free 0) free-within) ∙ get_or-drop (list.free * (list.size + 1)) (items_of list) 0 0 ∙ ap (λ n. get_or (items_of list) n 0) e)
 
     pub written-chained : AreChained (list.spare - 1) (next_of (all list are) list.free) (spots_in list.count list.size (placed list.free free-within))
     written-chained = subst (λ spots. AreChained (list.spare - 1) (next_of (all list are) list.free) spots) (sym (placed-spots list.free free-within)) (some-freed (all list are) list.free list.spare are.chained some (held value (words_of bytes))).1
@@ -280,7 +686,7 @@ module _ (list : Inside) (are : AreRecords list) (value : ℕ) (bytes : List ℕ
     written-list =
         ap (λ spots. record (list_of list) { spots = spots; first = next_of (all list are) list.free })
         (ap (freed (list.spare - 1) (next_of (all list are) list.free)) (placed-spots list.free free-within) ∙ (some-freed (all list are) list.free list.spare are.chained some (held value (words_of bytes))).0)
-        ∙ ap (λ link. put_by link (list_of list) (held value (words_of bytes))) (sym (some-linked (all list are) list.free (spots-taken list.count list.size list.words.items) list.spare are.chained some))
+        ∙ ap (λ link. put_by link (list_of list) (held value (words_of bytes))) (sym (some-linked (all list are) list.free (spots-taken list.count list.size (items_of list)) list.spare are.chained some))
 
     pub written-long : length (placed list.free free-within) ≡ list.count * (list.size + 1)
     written-long = placed-long list.free free-within

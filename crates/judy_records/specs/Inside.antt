@@ -1,7 +1,8 @@
 -- How a list of records stands in words: record after record, each its value and then its text. The value of a free record is the place that
--- was free first before it, and the list knows the first free one and how many are free.
-use Rattle.std.specs.Prelude.{◌≡◌, ◌≤◌, ◌+◌, ◌*◌, ℕ, zero, suc, List, [], ◌∷◌, length, get_or, set, take, drop, vec_capacity}
+-- was free first before it, and the list knows the first free one and how many are free. The words stand in pages: each but the last has 128 records.
+use Rattle.std.specs.Prelude.{◌≤◌, ◌+◌, ◌-◌, ◌*◌, ◌/◌, ◌^◌, ℕ, zero, suc, List, [], ◌∷◌, length, get_or, set, take, drop, map}
 use Rattle.judy_records.specs.declared.records.Records.TheInside.{Inside}
+use Rattle.judy_records.specs.Pages.{joined, page_words, page_room, ArePages}
 use Rattle.judy_records.specs.Spots.{Spot, free, held, RecordList, IsHeld, value_of}
 
 -- The record with which words begin.
@@ -23,17 +24,34 @@ abbrev pub AreChained : ℕ → ℕ → List Spot → Type 0
 AreChained zero first all = Unit {0}
 AreChained (suc count) first all = IsHeld (get_or (freed count (value_of (get_or all first (free 0))) all) first (free 0)) × AreChained count (value_of (get_or all first (free 0))) all
 
+-- The words of each page, and for how many words each has memory.
+abbrev pub pages_of : Inside → List (List ℕ)
+pages_of list = map page_words list.pages.items
+
+abbrev pub rooms_of : Inside → List ℕ
+rooms_of list = map page_room list.pages.items
+
+-- The words of all.
+abbrev pub items_of : Inside → List ℕ
+items_of list = joined (pages_of list)
+
+-- For how many more words the page of a place has memory.
+abbrev pub left_at : Inside → ℕ → ℕ
+left_at list place = get_or (rooms_of list) (place / 128) 0 - length (get_or (pages_of list) (place / 128) [])
+
 -- The list that fields stand for.
 abbrev pub list_of : Inside → RecordList
 list_of list = record {
   size = list.size;
-  spots = freed list.spare list.free (spots_in list.count list.size list.words.items);
+  spots = freed list.spare list.free (spots_in list.count list.size (items_of list));
   first = list.free;
-  capacity = vec_capacity list.words;
+  capacity = list.count * (list.size + 1) + left_at list list.count;
 }
 
 -- What always holds of the fields.
 pub record AreRecords (list : Inside) : Type 0 where
-  pub long : length list.words.items ≡ list.count * (list.size + 1)
-  pub chained : AreChained list.spare list.free (spots_in list.count list.size list.words.items)
+  pub pages : ArePages (pages_of list) list.count (list.size + 1)
+  pub within : (at : ℕ) → get_or (rooms_of list) at 0 ≤ 128 * (list.size + 1)
+  pub most : length list.pages.items ≤ 2 ^ 48
+  pub chained : AreChained list.spare list.free (spots_in list.count list.size (items_of list))
   pub size_within : list.size ≤ 2305843009213693952

@@ -6,6 +6,7 @@
 #![tactic(auto)]
 
 pub mod laws;
+mod pages;
 mod records;
 mod text;
 mod words;

@@ -1,4 +1,4 @@
-//! Records of one length.
+//! Records of one length, in pages.
 
 ghost use Rattle.std.specs.Prelude.{◌≡◌, ◌≤◌, ◌+◌, ◌*◌, ◌↔◌, ℕ, IsTrue, IsOk, IfOk, OnOk, length};
 ghost use Rattle.std.specs.Borrow.{sem};
@@ -7,18 +7,16 @@ ghost use Rattle.judy_places.specs.Places.{NoneLost};
 ghost use Rattle.judy_records.specs.Texts.{words_of, words_for, bytes_in};
 ghost use Rattle.judy_records.specs.Spots.{held, spot_at, IsHeld, value_of, text_of, links_of, empty_list, HasRoom, next_place, with_capacity, with_spot, put_in, taken_out, removed};
 
-use crate::{text, words};
+use crate::pages::PAGE;
+use crate::{pages, text, words};
 use std::alloc::{AllocError, Global};
 use std::cmp::Ordering;
 use std::marker::Model;
 
-// A list with fewer words than this grows by a half.
-const SHORT: usize = 1024;
-
 /// Records of one length, each a value and a text of so many words. To contracts it is a `RecordList`.
 #[derive(Drop)]
 pub struct Records {
-    words: Vec<u64>,
+    pages: Vec<Vec<u64>>,
     size: usize,
     count: usize,
     free: usize,
@@ -47,7 +45,7 @@ impl Records {
         ensures { result ≡ empty_list size }
     {
         Records {
-            words: Vec::new(alloc),
+            pages: Vec::new(alloc),
             size,
             count: 0,
             free: 0,
@@ -62,15 +60,23 @@ impl Records {
         self.size
     }
 
-    /// Does nothing: it tells a caller's proof that no free place is lost, that values are words, and that there is memory for what the list holds.
+    /// Does nothing: it tells a caller's proof that no free place is lost, and that there is memory for what the list holds.
     pub fn told(&self)
         ensures none_lost { NoneLost (links_of self.now) self.now.first }
-        ensures values { (place : ℕ) → IsHeld (spot_at self.now place)
-            → IsWord (value_of (spot_at self.now place)) }
         ensures size { self.now.size ≤ 2305843009213693952 }
         ensures within { length self.now.spots * (self.now.size + 1) ≤ self.now.capacity }
     {
-        words::told(&self.words);
+        let _size = self.size;
+    }
+
+    /// Does nothing: it tells a caller's proof that values are words.
+    pub fn values_told(&self)
+        ensures { (place : ℕ) → IsHeld (spot_at self.now place)
+            → IsWord (value_of (spot_at self.now place)) }
+    {
+        for page in &self.pages {
+            words::told(page);
+        }
     }
 
     /// The value of the record at a place.
@@ -78,7 +84,8 @@ impl Records {
         requires { IsHeld (spot_at self.now place) }
         ensures { result ≡ value_of (spot_at self.now place) }
     {
-        self.words[place * (self.size + 1)]
+        let page = &self.pages[place / PAGE];
+        page[place % PAGE * (self.size + 1)]
     }
 
     /// Lends the value of the record at a place; all else stays.
@@ -87,7 +94,8 @@ impl Records {
         ensures* writes_back { sem 𝓛 (LendsValue self.entry place result) }
         ensures value { result.now ≡ value_of (spot_at self.old place) }
     {
-        &mut self.words[place * (self.size + 1)]
+        let page = &mut self.pages[place / PAGE];
+        &mut page[place % PAGE * (self.size + 1)]
     }
 
     /// The words of the text at a place.
@@ -95,8 +103,9 @@ impl Records {
         requires { IsHeld (spot_at self.now place) }
         ensures { result.now ≡ text_of (spot_at self.now place) }
     {
-        let start = place * (self.size + 1) + 1;
-        &self.words[start..start + self.size]
+        let page = &self.pages[place / PAGE];
+        let start = place % PAGE * (self.size + 1) + 1;
+        &page[start..start + self.size]
     }
 
     /// Whether the text at a place is that of the bytes. A loop over words.
@@ -125,21 +134,19 @@ impl Records {
         words::bytes_in(alloc, self.text(place), count)
     }
 
-    /// Makes room for so many more records. Those for which places are free need none, so nothing is asked for where they suffice. For
-    /// the others the list grows by an eighth at least, and by a half where it is short. The error is want of memory, and leaves the list as it was.
-    pub fn reserve(&mut self, more: usize) -> Result<(), AllocError>
+    /// Makes room for one more record. Where a place is free it needs none, so nothing is asked for. Else the last page grows by an eighth of all
+    /// records at least, and by a half where these are few, or a page is begun. The error is want of memory, or 2^55 records, and leaves the list as it was.
+    pub fn reserve(&mut self) -> Result<(), AllocError>
         ensures same { self.new ≡ with_capacity self.old self.new.capacity }
-        ensures room { OnOk result (HasRoom self.new more) }
-        ensures unasked { HasRoom self.old more → (self.new ≡ self.old) × IsOk result }
+        ensures room { OnOk result (HasRoom self.new 1) }
+        ensures unasked { HasRoom self.old 1 → (self.new ≡ self.old) × IsOk result }
     {
-        let lacking = more
-            .saturating_sub(self.spare)
-            .saturating_mul(self.size + 1);
-        if self.words.capacity() - self.words.len() >= lacking {
+        if self.spare != 0 {
             return Ok(());
         }
-        self.words
-            .reserve_exact(lacking.saturating_add(part_more(self.words.len())))
+        let at = self.count / PAGE;
+        pages::reach(&mut self.pages, at)?;
+        pages::widen(&mut self.pages[at], self.count, self.size)
     }
 
     /// The place that the next record takes: the first free one, or the end of the list.
@@ -164,15 +171,16 @@ impl Records {
     {
         if self.spare == 0 {
             let place = self.count;
-            text::push_record(&mut self.words, value, self.size, bytes);
+            text::push_record(&mut self.pages[place / PAGE], value, self.size, bytes);
             self.count += 1;
             return place;
         }
         let place = self.free;
-        let start = place * (self.size + 1);
-        self.free = self.words[start] as usize;
+        let page = &mut self.pages[place / PAGE];
+        let start = place % PAGE * (self.size + 1);
+        self.free = page[start] as usize;
         self.spare -= 1;
-        text::write_record(&mut self.words, start, self.size, value, bytes);
+        text::write_record(page, start, self.size, value, bytes);
         place
     }
 
@@ -182,8 +190,9 @@ impl Records {
         requires fits { words_for (length bytes.now) ≡ self.old.size }
         ensures { self.new ≡ with_spot self.old place (held value (words_of bytes.now)) }
     {
-        let start = place * (self.size + 1);
-        text::write_record(&mut self.words, start, self.size, value, bytes);
+        let page = &mut self.pages[place / PAGE];
+        let start = place % PAGE * (self.size + 1);
+        text::write_record(page, start, self.size, value, bytes);
     }
 
     /// Takes the record at a place out. The place is the next to be taken; where no other record is left the list is given back. It asks
@@ -193,8 +202,8 @@ impl Records {
         ensures { self.new ≡ removed self.old place }
     {
         if self.spare + 1 == self.count {
-            let alloc = *self.words.allocator();
-            self.words = Vec::new(alloc);
+            let alloc = *self.pages.allocator();
+            self.pages = Vec::new(alloc);
             self.count = 0;
             self.free = 0;
             self.spare = 0;
@@ -208,16 +217,9 @@ impl Records {
         requires { IsHeld (spot_at self.old place) }
         ensures { self.new ≡ taken_out self.old place }
     {
-        self.words[place * (self.size + 1)] = self.free as u64;
+        let page = &mut self.pages[place / PAGE];
+        page[place % PAGE * (self.size + 1)] = self.free as u64;
         self.free = place;
         self.spare += 1;
     }
-}
-
-// By how many words beside those that it lacks a list of so many grows: by a half of them where it is short, so that it isn't moved at every few records,
-// and by an eighth where it is long, where a half would be much memory.
-fn part_more(words: usize) -> usize
-    ensures { result ≤ words }
-{
-    if words < SHORT { words / 2 } else { words / 8 }
 }

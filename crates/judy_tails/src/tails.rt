@@ -124,7 +124,7 @@ impl Tails {
         self.reach(number, text.len())?;
         let list = &mut self.lists[number];
         list.told();
-        list.reserve(1)?;
+        list.reserve()?;
         let place = list.next_place();
         if place as u64 >= MOST {
             return Err(AllocError);
@@ -147,7 +147,7 @@ impl Tails {
             → IsWord tail.1 }
     {
         for list in &self.lists {
-            list.told();
+            list.values_told();
         }
     }
 

@@ -1,4 +1,4 @@
-use Rattle.std.proofs.Common.{◌*◌, [], length, drop, get_or, refl, sym, ap, ◌∙◌, arith}
+use Rattle.std.proofs.Common.{◌*◌, length, drop, get_or, refl, sym, ap, ◌∙◌, arith}
 use Rattle.std.proofs.lemmas.Bool.{false≢true}
 use Rattle.judy_records.specs.Texts.{words_for}
 use Rattle.judy_records.proofs.TextLemmas.{length-words, same-more, both-true}

@@ -1,4 +1,4 @@
-use Rattle.std.proofs.Common.{◌*◌, [], length, drop, set, refl, ap, ◌∙◌, arith}
+use Rattle.std.proofs.Common.{◌*◌, length, drop, set, refl, ap, ◌∙◌, arith}
 use Rattle.judy_records.proofs.TextLemmas.{words-written}
 use Rattle.judy_records.proofs.ChunkLemmas.{read-word, last-written}
 use Rattle.judy_records.proofs.text.write.Goals as goal

@@ -1,115 +1,170 @@
-use Rattle.std.proofs.Common.{◌≡◌, ℕ, ◌+◌, ◌-◌, ◌*◌, ◌<◌, ◌≤◌, length, vec_len, vec_capacity, ap, sym, ◌∙◌, arith, subst}
-use Rattle.std.proofs.lemmas.List.{get_or_read_under}
+use Rattle.std.proofs.Common.{◌+◌, ◌-◌, ◌*◌, ◌%◌, ◌<◌, ap, sym, ◌∙◌, refl, arith, subst}
+use Rattle.std.proofs.lemmas.List.{get_or_read}
+use Rattle.judy_records.specs.Pages.{page_words}
 use Rattle.judy_records.specs.Spots.{held, HasRoom, next_place, put_in}
 use Rattle.judy_records.specs.Texts.{words_of}
-use Rattle.judy_records.specs.Inside.{spots_in, freed, AreChained}
+use Rattle.judy_records.specs.Inside.{spots_in, freed, items_of, AreChained}
 use Rattle.judy_records.proofs.FreeLemmas.{next_of}
-use Rattle.judy_records.proofs.RecordLemmas.{all, has-room, room-has, next-free, next-end, pushed-long, pushed-chained, pushed-list, free-inside, free-next, written-chained, written-long, written-list}
+use Rattle.judy_records.proofs.RecordLemmas.{all, words, words-long, next-free, next-end, room-left, room-there, room-more, room-fewer, last-left, pushed-all, pushed-are, pushed-capacity, pushed-list, none-chained, free-within, free-next, page-there, long-read, first-read, record-long, record-items, left-after, after, written-are, written-chained, written-list}
 use Rattle.judy_records.proofs.records.Records.put.Goals as goal
-
--- One record more takes the room of one.
-pushed-fits : (more count spare stride capacity now long longer : ℕ) → spare ≡ 0 → (more + 1 - spare) * stride ≤ capacity - long → now ≡ capacity → long ≡ count * stride → longer ≡ (count + 1) * stride → (more - spare) * stride ≤ now - longer
-pushed-fits more count spare stride capacity now long longer none has same is then =
-    let one : (more + 1 - spare) * stride ≡ (more - spare) * stride + stride =
-    (let e : more + 1 - spare ≡ more - spare + 1 = omega (arith, none) in let parts : (more - spare + 1) * stride ≡ (more - spare) * stride + stride = grind arith in ap (λ n. n * stride) e ∙ parts) in
-    let next : (count + 1) * stride ≡ count * stride + stride = grind arith in
-    omega (arith, has, same, is, then, one, next)
 
 -- ---- at the end
 
+pub index_mut-requires : goal.index_mut-requires
+index_mut-requires c =
+    let there = room-there c.self.inside c.self.invariant c.if-self-eq0.true (subst (λ list. HasRoom list 1) (sym c.self.view_is) c.requires.room) in
+    omega (arith, there, c.self.inside.pages.ok)
+
 pub push_record-requires-clause-room : goal.push_record-requires-clause-room
 push_record-requires-clause-room c =
-    let has = room-has c.self.inside c.self.invariant 1 (subst (λ list. HasRoom list 1) (sym c.self.view_is) c.requires.room) in
-    let one : (1 - c.self.inside.spare) * (c.self.inside.size + 1) ≡ 1 * (c.self.inside.size + 1) = (let e : 1 - c.self.inside.spare ≡ 1 = omega (arith, c.if-self-eq0.true) in ap (λ n. n * (c.self.inside.size + 1)) e) in
-    omega (arith, has, one, c.self.inside.words.ok)
+    let room = subst (λ list. HasRoom list 1) (sym c.self.view_is) c.requires.room in
+    let there = room-there c.self.inside c.self.invariant c.if-self-eq0.true room in
+    let fits = room-left c.self.inside c.self.invariant c.if-self-eq0.true room in
+    let left = last-left c.self.inside c.self.invariant there c.index_mut.result.now c.index_mut.ensures.value in
+    omega (arith, fits, left, c.index_mut.result.now.ok)
 
 pub push_record-requires-clause-fits : goal.push_record-requires-clause-fits
 push_record-requires-clause-fits c = c.requires.fits ∙ ap (λ list. list.size) (sym c.self.view_is)
 
 pub invariant_of-self : goal.invariant_of-self
-invariant_of-self c = record {
-  long = ap length c.push_record.ensures.words ∙ pushed-long c.self.inside c.self.invariant c.args.value c.args.bytes.now (c.requires.fits ∙ ap (λ list. list.size) (sym c.self.view_is)) c.if-self-eq0.true;
-  chained = pushed-chained c.self.inside c.self.invariant c.args.value c.args.bytes.now (c.requires.fits ∙ ap (λ list. list.size) (sym c.self.view_is)) c.if-self-eq0.true (spots_in (c.self.inside.count + 1) c.self.inside.size c.push_record.new.words.items);
-  size_within = c.self.invariant.size_within;
-}
+invariant_of-self c =
+    let list = c.self.inside in
+    let are = c.self.invariant in
+    let room = subst (λ list. HasRoom list 1) (sym c.self.view_is) c.requires.room in
+    let there = room-there list are c.if-self-eq0.true room in
+    let size = c.requires.fits ∙ ap (λ list. list.size) (sym c.self.view_is) in
+    pushed-are list are there c.index_mut.result.now c.index_mut.ensures.value c.push_record.new.words (words list are c.args.value c.args.bytes.now size) (words-long list are c.args.value c.args.bytes.now size) c.push_record.ensures.words c.push_record.ensures.capacity
+    (none-chained list are c.args.value c.args.bytes.now size c.if-self-eq0.true _)
 
 pub returns-then-self-eq0-clause-place : goal.returns-then-self-eq0-clause-place
 returns-then-self-eq0-clause-place c = sym (next-end c.self.inside c.self.invariant c.if-self-eq0.true) ∙ ap (λ list. next_place list) c.self.view_is
 
 pub returns-then-self-eq0-clause-put : goal.returns-then-self-eq0-clause-put
 returns-then-self-eq0-clause-put c =
+    let list = c.self.inside in
+    let are = c.self.invariant in
+    let room = subst (λ list. HasRoom list 1) (sym c.self.view_is) c.requires.room in
+    let there = room-there list are c.if-self-eq0.true room in
+    let fits = room-left list are c.if-self-eq0.true room in
+    let size = c.requires.fits ∙ ap (λ list. list.size) (sym c.self.view_is) in
+    let new = c.push_record.new.words in
+    let record_words = words list are c.args.value c.args.bytes.now size in
+    let long = words-long list are c.args.value c.args.bytes.now size in
+    let items = pushed-all list are there c.index_mut.result.now c.index_mut.ensures.value new record_words long c.push_record.ensures.words c.push_record.ensures.capacity in
+    let capacity = pushed-capacity list are there c.index_mut.result.now c.index_mut.ensures.value new record_words long c.push_record.ensures.words c.push_record.ensures.capacity fits in
     (λ i. record {
-      size = c.self.inside.size;
-      spots = freed c.self.inside.spare c.self.inside.free (spots_in (c.self.inside.count + 1) c.self.inside.size (c.push_record.ensures.words i));
-      first = c.self.inside.free;
-      capacity = c.push_record.ensures.capacity i;
+      size = list.size;
+      spots = freed list.spare list.free (spots_in (list.count + 1) list.size (items i));
+      first = list.free;
+      capacity = capacity i;
     })
-    ∙ pushed-list c.self.inside c.self.invariant c.args.value c.args.bytes.now (c.requires.fits ∙ ap (λ list. list.size) (sym c.self.view_is)) c.if-self-eq0.true
+    ∙ pushed-list list are c.args.value c.args.bytes.now size c.if-self-eq0.true
     ∙ ap (λ list. put_in list (held c.args.value (words_of c.args.bytes.now))) c.self.view_is
 
 pub returns-then-self-eq0-clause-room : goal.returns-then-self-eq0-clause-room
-returns-then-self-eq0-clause-room c = λ more room.
-    let has = room-has c.self.inside c.self.invariant (more + 1) (subst (λ list. HasRoom list (more + 1)) (sym c.self.view_is) room) in
-    let long = pushed-long c.self.inside c.self.invariant c.args.value c.args.bytes.now (c.requires.fits ∙ ap (λ list. list.size) (sym c.self.view_is)) c.if-self-eq0.true in
-    has-room (record c.self.inside { words = c.push_record.new.words; count = c.self.inside.count + 1 }) (invariant_of-self c) more
-    (pushed-fits more c.self.inside.count c.self.inside.spare (c.self.inside.size + 1) (vec_capacity c.self.inside.words) (vec_capacity c.push_record.new.words) (vec_len c.self.inside.words) (vec_len c.push_record.new.words) c.if-self-eq0.true has c.push_record.ensures.capacity (c.self.inside.words.ok.0 ∙ c.self.invariant.long) (c.push_record.new.words.ok.0 ∙ ap length c.push_record.ensures.words ∙ long))
+returns-then-self-eq0-clause-room c = λ more more_room.
+    let list = c.self.inside in
+    let are = c.self.invariant in
+    let room = subst (λ list. HasRoom list 1) (sym c.self.view_is) c.requires.room in
+    let there = room-there list are c.if-self-eq0.true room in
+    let fits = room-left list are c.if-self-eq0.true room in
+    let size = c.requires.fits ∙ ap (λ list. list.size) (sym c.self.view_is) in
+    let new = c.push_record.new.words in
+    let record_words = words list are c.args.value c.args.bytes.now size in
+    let long = words-long list are c.args.value c.args.bytes.now size in
+    let capacity = pushed-capacity list are there c.index_mut.result.now c.index_mut.ensures.value new record_words long c.push_record.ensures.words c.push_record.ensures.capacity fits in
+    room-more list are _ (invariant_of-self c) refl capacity more (subst (λ list. HasRoom list (more + 1)) (sym c.self.view_is) more_room) refl refl
 
 -- ---- at the first free place
 
+pub index_mut-page-requires : goal.index_mut-page-requires
+index_mut-page-requires c =
+    let some : 0 < c.self.inside.spare = omega (arith, c.if-self-eq0.false) in
+    let there = page-there c.self.inside c.self.invariant c.self.inside.free (free-within c.self.inside c.self.invariant c.args.value c.args.bytes.now (c.requires.fits ∙ ap (λ list. list.size) (sym c.self.view_is)) some) in
+    omega (arith, there, c.self.inside.pages.ok)
+
 pub overflow_mul-start : goal.overflow_mul-start
 overflow_mul-start c =
-    let inside = free-inside c.self.inside c.self.invariant c.args.value c.args.bytes.now (c.requires.fits ∙ ap (λ list. list.size) (sym c.self.view_is)) (omega (arith, c.if-self-eq0.false)) in
-    omega (arith, inside, c.self.inside.words.ok, c.self.inside.words.small)
+    let some : 0 < c.self.inside.spare = omega (arith, c.if-self-eq0.false) in
+    let inside = free-within c.self.inside c.self.invariant c.args.value c.args.bytes.now (c.requires.fits ∙ ap (λ list. list.size) (sym c.self.view_is)) some in
+    let long = long-read c.self.inside c.self.invariant c.self.inside.free inside c.index_mut-page.result.now c.index_mut-page.ensures.value in
+    omega (arith, long, c.index_mut-page.result.now.ok, c.index_mut-page.result.now.small)
 
 pub index-requires : goal.index-requires
 index-requires c =
-    let inside = free-inside c.self.inside c.self.invariant c.args.value c.args.bytes.now (c.requires.fits ∙ ap (λ list. list.size) (sym c.self.view_is)) (omega (arith, c.if-self-eq0.false)) in
-    omega (arith, inside, c.self.inside.words.ok)
+    let some : 0 < c.self.inside.spare = omega (arith, c.if-self-eq0.false) in
+    let inside = free-within c.self.inside c.self.invariant c.args.value c.args.bytes.now (c.requires.fits ∙ ap (λ list. list.size) (sym c.self.view_is)) some in
+    let long = long-read c.self.inside c.self.invariant c.self.inside.free inside c.index_mut-page.result.now c.index_mut-page.ensures.value in
+    omega (arith, long, c.index_mut-page.result.now.ok)
 
 pub write_record-requires-clause-within : goal.write_record-requires-clause-within
 write_record-requires-clause-within c =
-    let inside = free-inside c.self.inside c.self.invariant c.args.value c.args.bytes.now (c.requires.fits ∙ ap (λ list. list.size) (sym c.self.view_is)) (omega (arith, c.if-self-eq0.false)) in
-    omega (arith, inside, c.self.inside.words.ok)
+    let some : 0 < c.self.inside.spare = omega (arith, c.if-self-eq0.false) in
+    let inside = free-within c.self.inside c.self.invariant c.args.value c.args.bytes.now (c.requires.fits ∙ ap (λ list. list.size) (sym c.self.view_is)) some in
+    let long = long-read c.self.inside c.self.invariant c.self.inside.free inside c.index_mut-page.result.now c.index_mut-page.ensures.value in
+    omega (arith, long, c.index_mut-page.result.now.ok)
 
 pub write_record-requires-clause-fits : goal.write_record-requires-clause-fits
 write_record-requires-clause-fits c = c.requires.fits ∙ ap (λ list. list.size) (sym c.self.view_is)
 
 pub invariant_of-self-2 : goal.invariant_of-self-2
 invariant_of-self-2 c =
-    let some : 0 < c.self.inside.spare = omega (arith, c.if-self-eq0.false) in
-    let inside = free-inside c.self.inside c.self.invariant c.args.value c.args.bytes.now (c.requires.fits ∙ ap (λ list. list.size) (sym c.self.view_is)) some in
-    let next = get_or_read_under c.self.inside.words.items _ _ _ 0 c.index.ensures (omega (arith, inside, c.self.inside.words.ok)) c.self.inside.words.ok.0 ∙ free-next c.self.inside c.self.invariant c.args.value c.args.bytes.now (c.requires.fits ∙ ap (λ list. list.size) (sym c.self.view_is)) some in
-    record {
-      long = ap length c.write_record.ensures.words ∙ written-long c.self.inside c.self.invariant c.args.value c.args.bytes.now (c.requires.fits ∙ ap (λ list. list.size) (sym c.self.view_is)) some;
-      chained = subst (λ n. AreChained (c.self.inside.spare - 1) n (spots_in c.self.inside.count c.self.inside.size c.write_record.new.words.items)) (sym next)
-          (subst (λ items. AreChained (c.self.inside.spare - 1) (next_of (all c.self.inside c.self.invariant) c.self.inside.free) (spots_in c.self.inside.count c.self.inside.size items)) (sym c.write_record.ensures.words) (written-chained c.self.inside c.self.invariant c.args.value c.args.bytes.now (c.requires.fits ∙ ap (λ list. list.size) (sym c.self.view_is)) some));
-      size_within = c.self.invariant.size_within;
-    }
+    let list = c.self.inside in
+    let are = c.self.invariant in
+    let size = c.requires.fits ∙ ap (λ list. list.size) (sym c.self.view_is) in
+    let some : 0 < list.spare = omega (arith, c.if-self-eq0.false) in
+    let inside = free-within list are c.args.value c.args.bytes.now size some in
+    let page = c.index_mut-page.result.now in
+    let read = c.index_mut-page.ensures.value in
+    let new = c.write_record.new.words in
+    let record_words = words list are c.args.value c.args.bytes.now size in
+    let long = record-long list are list.free inside page read new record_words (words-long list are c.args.value c.args.bytes.now size) c.write_record.ensures.words in
+    let items = record-items list are list.free inside page read new record_words c.write_record.ensures.words in
+    let within = long-read list are list.free inside page read in
+    let next = get_or_read (page_words page) (list.free % 128 * (list.size + 1)) _ (omega (arith, within)) c.index.ensures 0 ∙ sym (first-read list are list.free inside page read) ∙ free-next list are c.args.value c.args.bytes.now size some in
+    written-are list are c.args.value c.args.bytes.now size inside page read new long c.write_record.ensures.capacity (list.spare - 1) _
+    (subst (λ n. AreChained (list.spare - 1) n (spots_in list.count list.size (items_of (after list are list.free inside page read new long c.write_record.ensures.capacity)))) (sym next)
+    (subst (λ words. AreChained (list.spare - 1) (next_of (all list are) list.free) (spots_in list.count list.size words)) (sym items) (written-chained list are c.args.value c.args.bytes.now size some)))
 
 pub returns-clause-place : goal.returns-clause-place
 returns-clause-place c = sym (next-free c.self.inside c.self.invariant (omega (arith, c.if-self-eq0.false))) ∙ ap (λ list. next_place list) c.self.view_is
 
 pub returns-clause-put : goal.returns-clause-put
 returns-clause-put c =
-    let some : 0 < c.self.inside.spare = omega (arith, c.if-self-eq0.false) in
-    let inside = free-inside c.self.inside c.self.invariant c.args.value c.args.bytes.now (c.requires.fits ∙ ap (λ list. list.size) (sym c.self.view_is)) some in
-    let next = get_or_read_under c.self.inside.words.items _ _ _ 0 c.index.ensures (omega (arith, inside, c.self.inside.words.ok)) c.self.inside.words.ok.0 ∙ free-next c.self.inside c.self.invariant c.args.value c.args.bytes.now (c.requires.fits ∙ ap (λ list. list.size) (sym c.self.view_is)) some in
+    let list = c.self.inside in
+    let are = c.self.invariant in
+    let size = c.requires.fits ∙ ap (λ list. list.size) (sym c.self.view_is) in
+    let some : 0 < list.spare = omega (arith, c.if-self-eq0.false) in
+    let inside = free-within list are c.args.value c.args.bytes.now size some in
+    let page = c.index_mut-page.result.now in
+    let read = c.index_mut-page.ensures.value in
+    let new = c.write_record.new.words in
+    let record_words = words list are c.args.value c.args.bytes.now size in
+    let long = record-long list are list.free inside page read new record_words (words-long list are c.args.value c.args.bytes.now size) c.write_record.ensures.words in
+    let items = record-items list are list.free inside page read new record_words c.write_record.ensures.words in
+    let within = long-read list are list.free inside page read in
+    let next = get_or_read (page_words page) (list.free % 128 * (list.size + 1)) _ (omega (arith, within)) c.index.ensures 0 ∙ sym (first-read list are list.free inside page read) ∙ free-next list are c.args.value c.args.bytes.now size some in
+    let left = left-after list are list.free inside page read new long c.write_record.ensures.capacity list.count in
     (λ i. record {
-      size = c.self.inside.size;
-      spots = freed (c.self.inside.spare - 1) (next i) (spots_in c.self.inside.count c.self.inside.size (c.write_record.ensures.words i));
+      size = list.size;
+      spots = freed (list.spare - 1) (next i) (spots_in list.count list.size (items i));
       first = next i;
-      capacity = c.write_record.ensures.capacity i;
+      capacity = list.count * (list.size + 1) + left i;
     })
-    ∙ written-list c.self.inside c.self.invariant c.args.value c.args.bytes.now (c.requires.fits ∙ ap (λ list. list.size) (sym c.self.view_is)) some
+    ∙ written-list list are c.args.value c.args.bytes.now size some
     ∙ ap (λ list. put_in list (held c.args.value (words_of c.args.bytes.now))) c.self.view_is
 
 pub returns-clause-room : goal.returns-clause-room
-returns-clause-room c = λ more room.
-    let has = room-has c.self.inside c.self.invariant (more + 1) (subst (λ list. HasRoom list (more + 1)) (sym c.self.view_is) room) in
-    let same : more - (c.self.inside.spare - 1) ≡ more + 1 - c.self.inside.spare = omega (arith, c.if-self-eq0.false) in
-    let words = ap (λ n. n * (c.self.inside.size + 1)) same in
-    let is = invariant_of-self-2 c in
-    let after = is.long in
-    let before = c.self.invariant.long in
-    has-room (record c.self.inside { words = c.write_record.new.words; free = c.index.result.now; spare = c.self.inside.spare - 1 }) is more
-    (omega (arith, has, words, after, before, c.self.inside.words.ok, c.write_record.new.words.ok, c.write_record.ensures.capacity))
+returns-clause-room c = λ more more_room.
+    let list = c.self.inside in
+    let are = c.self.invariant in
+    let size = c.requires.fits ∙ ap (λ list. list.size) (sym c.self.view_is) in
+    let some : 0 < list.spare = omega (arith, c.if-self-eq0.false) in
+    let inside = free-within list are c.args.value c.args.bytes.now size some in
+    let page = c.index_mut-page.result.now in
+    let read = c.index_mut-page.ensures.value in
+    let new = c.write_record.new.words in
+    let record_words = words list are c.args.value c.args.bytes.now size in
+    let long = record-long list are list.free inside page read new record_words (words-long list are c.args.value c.args.bytes.now size) c.write_record.ensures.words in
+    let left = left-after list are list.free inside page read new long c.write_record.ensures.capacity list.count in
+    room-fewer list are _ (invariant_of-self-2 c) refl (ap (λ n. list.count * (list.size + 1) + n) left) more (subst (λ list. HasRoom list (more + 1)) (sym c.self.view_is) more_room) refl (omega arith)

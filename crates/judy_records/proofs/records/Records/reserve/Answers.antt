@@ -1,25 +1,100 @@
-use Rattle.std.proofs.Common.{◌+◌, ◌*◌, ap, length, sym, ◌∙◌, arith, subst}
-use Rattle.judy_records.specs.Spots.{HasRoom}
-use Rattle.judy_records.specs.Inside.{spots_in, AreChained}
-use Rattle.judy_records.proofs.RecordLemmas.{has-room, room-has, on-ok}
+use Rattle.std.proofs.Common.{◌≡◌, ◌<◌, ◌+◌, ◌-◌, ◌*◌, ◌/◌, ℕ, List, length, set, inl, inr, Result, Ok, Err, OnOk, is_ok, ap, sym, ◌∙◌, arith, subst}
+use Rattle.std.specs.Vec.{with_item}
+use Rattle.std.specs.declared.vec.Vec.{Vec}
+use Rattle.std.proofs.lemmas.Bool.{false≢true}
+use Rattle.std.proofs.lemmas.List.{length-map, set-get_or}
+use Rattle.judy_records.specs.Pages.{page_words, IsReached}
+use Rattle.judy_records.specs.Spots.{HasRoom, with_capacity}
+use Rattle.judy_records.specs.Inside.{spots_in, freed, list_of}
+use Rattle.judy_records.proofs.RecordLemmas.{has-room, room-left, room-there, same-list, extended, extends, last-part, last-left, widened-are, widened-left, widened-list}
 use Rattle.judy_records.proofs.records.Records.reserve.Goals as goal
 
-pub returns-then-capacity-len-clause-room : goal.returns-then-capacity-len-clause-room
-returns-then-capacity-len-clause-room c =
-    subst (λ list. HasRoom list c.args.more) c.self.view_is
-    (has-room c.self.inside c.self.invariant c.args.more
-    (let e = ap (λ n. n * (c.self.inside.size + 1)) (sym c.saturating_sub.ensures) in
-    omega (arith, e, c.saturating_mul-lacking.ensures, c.if-capacity-len.true, c.capacity.ensures, c.len.ensures, c.self.inside.words.ok, c.self.inside.words.small)))
+-- What follows from what holds on success holds on success.
+on-ok : {A E : Type 0} {P Q : Type 0} (r : Result A E) → OnOk r P → (P → Q) → OnOk r Q
+on-ok (Ok x) holds follows = follows holds
+on-ok (Err e) holds follows = tt
+
+-- A page that was there is the same.
+reached-same : {Z : Type 0} {before after : List (Vec ℕ Z)} {at : ℕ} → at < length before → IsReached before after at → after ≡ before
+reached-same there (inl was) = was.1
+reached-same there (inr begun) = absurd (omega (arith, there, begun.0))
+
+-- ---- a place is free
+
+pub returns-then-self-ne0-clause-room : goal.returns-then-self-ne0-clause-room
+returns-then-self-ne0-clause-room c =
+    subst (λ list. HasRoom list 1) c.self.view_is
+    (has-room c.self.inside c.self.invariant 1
+    (let none : 1 - c.self.inside.spare ≡ 0 = omega (arith, c.if-self-ne0.true) in let words = ap (λ n. n * (c.self.inside.size + 1)) none in omega (arith, words)))
+
+-- ---- the page
+
+pub reach-requires : goal.reach-requires
+reach-requires c =
+    let enough = c.self.invariant.pages.enough in
+    let long = length-map c.self.inside.pages.items page_words in
+    omega (arith, enough, long)
+
+pub returns-in_err-reach-clause-unasked : goal.returns-in_err-reach-clause-unasked
+returns-in_err-reach-clause-unasked c = λ room.
+    let there = room-there c.self.inside c.self.invariant (omega (arith, c.if-self-ne0.false)) (subst (λ list. HasRoom list 1) (sym c.self.view_is) room) in
+    absurd (false≢true (sym (ap is_ok c.in_err-reach.was) ∙ c.reach.ensures.there there))
+
+-- ---- its memory
+
+pub widen-requires-clause-part : goal.widen-requires-clause-part
+widen-requires-clause-part c =
+    let after = extends c.self.inside c.self.invariant c.reach.new.pages c.in_ok-reach.ensures.reached in
+    let part = last-part (extended c.self.inside c.self.invariant c.reach.new.pages) after.is_are after.there c.index_mut.result.now c.index_mut.ensures.value in
+    omega (arith, part, c.index_mut.result.now.ok)
+
+pub invariant_of-self-2 : goal.invariant_of-self-2
+invariant_of-self-2 c =
+    let after = extends c.self.inside c.self.invariant c.reach.new.pages c.in_ok-reach.ensures.reached in
+    widened-are (extended c.self.inside c.self.invariant c.reach.new.pages) after.is_are after.there c.index_mut.result.now c.index_mut.ensures.value c.widen.new.page c.widen.ensures.items c.widen.ensures.within
+
+pub returns-clause-same : goal.returns-clause-same
+returns-clause-same c =
+    let after = extends c.self.inside c.self.invariant c.reach.new.pages c.in_ok-reach.ensures.reached in
+    let list = c.self.inside in
+    let widened = widened-list (extended list c.self.invariant c.reach.new.pages) after.is_are after.there c.index_mut.result.now c.index_mut.ensures.value c.widen.new.page c.widen.ensures.items c.widen.ensures.within in
+    widened
+    ∙ ap (λ items. record {
+      size = list.size;
+      spots = freed list.spare list.free (spots_in list.count list.size items);
+      first = list.free;
+      capacity = (list_of (record list { pages = with_item c.reach.new.pages (list.count / 128) c.widen.new.page })).capacity;
+    }) after.items
+    ∙ ap (λ seen. with_capacity seen (list_of (record list { pages = with_item c.reach.new.pages (list.count / 128) c.widen.new.page })).capacity) c.self.view_is
 
 pub returns-clause-room : goal.returns-clause-room
 returns-clause-room c =
-    on-ok c.reserve_exact.result c.reserve_exact.ensures.ok
-    (λ ok. has-room (record c.self.inside { words = c.reserve_exact.new.self }) (record { long = ap length c.reserve_exact.ensures.items ∙ c.self.invariant.long; chained = subst (λ items. AreChained c.self.inside.spare c.self.inside.free (spots_in c.self.inside.count c.self.inside.size items)) (sym c.reserve_exact.ensures.items) c.self.invariant.chained; size_within = c.self.invariant.size_within }) c.args.more
-    (let e = ap (λ n. n * (c.self.inside.size + 1)) (sym c.saturating_sub.ensures) in
-    omega (arith, e, ok, c.saturating_mul-lacking.ensures, c.saturating_add.ensures, c.len-2.ensures, c.reserve_exact.ensures.len, c.reserve_exact.new.self.ok, c.reserve_exact.new.self.small)))
+    let after = extends c.self.inside c.self.invariant c.reach.new.pages c.in_ok-reach.ensures.reached in
+    let list = extended c.self.inside c.self.invariant c.reach.new.pages in
+    let page = c.index_mut.result.now in
+    let read = c.index_mut.ensures.value in
+    let left = widened-left list after.is_are after.there page read c.widen.new.page c.widen.ensures.items c.widen.ensures.within in
+    let none : 1 - list.spare ≡ 1 = omega (arith, c.if-self-ne0.false) in
+    let words = ap (λ n. n * (list.size + 1)) none in
+    let same = ap length c.widen.ensures.items in
+    on-ok c.widen.result c.widen.ensures.room (λ ok. has-room _ (invariant_of-self-2 c) 1 (omega (arith, ok, left, words, same, c.widen.new.page.ok)))
 
 pub returns-clause-unasked : goal.returns-clause-unasked
 returns-clause-unasked c = λ room.
-    let has = room-has c.self.inside c.self.invariant c.args.more (subst (λ list. HasRoom list c.args.more) (sym c.self.view_is) room) in
-    let e = ap (λ n. n * (c.self.inside.size + 1)) (sym c.saturating_sub.ensures) in
-    absurd (omega (arith, e, has, c.saturating_mul-lacking.ensures, c.if-capacity-len.false, c.capacity.ensures, c.len.ensures))
+    let after = extends c.self.inside c.self.invariant c.reach.new.pages c.in_ok-reach.ensures.reached in
+    let list = c.self.inside in
+    let are = c.self.invariant in
+    let none : list.spare ≡ 0 = omega (arith, c.if-self-ne0.false) in
+    let has = subst (λ list. HasRoom list 1) (sym c.self.view_is) room in
+    let there = room-there list are none has in
+    let same = reached-same there c.in_ok-reach.ensures.reached in
+    let grown = extended list are c.reach.new.pages in
+    let page = c.index_mut.result.now in
+    let read = c.index_mut.ensures.value in
+    let is_same = same-list list are c.reach.new.pages same in
+    let fits = room-left grown after.is_are none (subst (λ list. HasRoom list 1) (sym is_same) has) in
+    let left = last-left grown after.is_are after.there page read in
+    let unasked = c.widen.ensures.unasked (omega (arith, fits, left, page.ok)) in
+    let items : set c.reach.new.pages.items (list.count / 128) c.widen.new.page ≡ c.reach.new.pages.items =
+    ap (set c.reach.new.pages.items (list.count / 128)) (unasked.0 ∙ read) ∙ set-get_or c.reach.new.pages.items (list.count / 128) page in
+    (same-list grown after.is_are (with_item c.reach.new.pages (list.count / 128) c.widen.new.page) items ∙ is_same ∙ c.self.view_is, unasked.1)

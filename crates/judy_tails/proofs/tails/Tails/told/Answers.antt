@@ -13,7 +13,7 @@ loop-list-preserved c = λ number index before. ⊎_elim
     (λ last.
     let here : number ≡ c.loop-list.list-index = omega (arith, before, last) in
     let read = get_or_read c.deref-list-items.result.now c.loop-list.list-index c.list-item.result c.loop-list-test.true c.list-item.is (empty_list 0) ∙ ap (list_at c.deref-list-items.result.now) (sym here) in
-    subst (λ (list : RecordList). IsHeld (spot_at list index) → IsWord (value_of (spot_at list index))) read (c.told.ensures.values index))
+    subst (λ (list : RecordList). IsHeld (spot_at list index) → IsWord (value_of (spot_at list index))) read (c.values_told.ensures index))
     (cases_lt number c.loop-list.list-index)
 
 pub returns : goal.returns
