@@ -1,5 +1,5 @@
 -- A key that is tried as one whose first piece leads nowhere.
-use Rattle.std.proofs.Common.{◌≡◌, ℕ, ◌-◌, ◌≤◌, List, length, drop, None, refl, sym, ap, ◌∙◌, arith}
+use Rattle.std.proofs.Common.{◌≡◌, ℕ, ◌-◌, ◌<◌, ◌≤◌, List, length, drop, None, refl, sym, ap, subst, ◌∙◌, arith}
 use Rattle.std.specs.FinMap.{get, insert}
 use Rattle.judy_model.specs.Keys.{word_order, IsStringKey}
 use Rattle.judy_model.specs.Arrays.{ArrayOf, with_map}
@@ -15,6 +15,7 @@ use Rattle.judy_sl.proofs.PieceLemmas.{text_of_key}
 use Rattle.judy_sl.proofs.OnWay.{on-start, on-gap}
 use Rattle.judy_sl.proofs.Keeping.{gap-none}
 use Rattle.judy_sl.proofs.Maps.{get-map}
+use Rattle.judy_sl.proofs.Filled.{fills-last}
 use Rattle.judy_sl.proofs.Tailed.{filled-tail}
 
 module _ (arena : Arena) (is : IsArena arena) (key : List ℕ) (is_key : IsStringKey key) (piece : ℕ) (piece_is : piece ≡ piece_of key) (none : get arena.root.map piece ≡ None) where
@@ -26,7 +27,13 @@ module _ (arena : Arena) (is : IsArena arena) (key : List ℕ) (is_key : IsStrin
   pub first-absent : get (map_of arena) key ≡ None
   first-absent = get-map arena key is_key ∙ gap-none (world_of arena) key (Root piece) (length key) first-gap
 
-  -- and with the piece and its tail it is there. The piece came first, but the order is free: the tail could have been put in before it.
+  -- and with the piece it is there, where that is its only one,
+  pub short-added : (words : ArrayOf word_order) → words ≡ with_map arena.root (insert arena.root.map piece 0) → length key < 8 → IsAdded arena (record arena { root = words }) key (Root piece)
+  short-added words words_is short =
+      subst (λ (root : ArrayOf word_order). IsAdded arena (record arena { root = root }) key (Root piece)) (sym words_is)
+      (fills-last arena is key is_key (Root piece) (length key) first-gap short)
+
+  -- or with the piece and its tail. The piece came first, but the order is free: the tail could have been put in before it.
   module _ (words : ArrayOf word_order) (after : Arena) (at : ℕ) (rest : List ℕ × ℕ) (words_is : words ≡ with_map arena.root (insert arena.root.map piece at)) (put : IsPut (record arena { root = words }) after (Tail rest) at) where
     abbrev pub placed : Arena
     placed = record after { root = arena.root }

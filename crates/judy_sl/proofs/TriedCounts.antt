@@ -17,7 +17,7 @@ use Rattle.judy_sl.specs.Grown.{IsPut, IsAdded}
 use Rattle.judy_sl.proofs.Tried.{first-gap, put-first, after-first}
 use Rattle.judy_sl.proofs.OnWay.{pieces-head}
 use Rattle.judy_sl.proofs.PassedLevels.{passed-none}
-use Rattle.judy_sl.proofs.Growing.{grows-tail, gap-counted}
+use Rattle.judy_sl.proofs.Growing.{grows-last, grows-tail, gap-counted}
 
 -- A word that is there stays with its value.
 pub put-present : (map : FinMap word_order ℕ) (word value : ℕ) → false ≡ not (contains_key map word) → with_new map word value ≡ map
@@ -39,4 +39,11 @@ module _ (arena : Arena) (is : IsArena arena) (led : AllLed (world_of arena)) (c
       let but = gap-counted arena is led counted key is_key (Root piece) (length key) gap after made added (
       grows-tail arena key (Root piece) (length key) gap (record after { root = arena.root }) after at rest (put-first arena is key is_key piece piece_is none words after at rest words_is put) (after-first arena is key is_key piece piece_is none words after at rest words_is put)
       ) in
+      λ k. (subst (AreCountedBut after) none-passed but).others k (λ among. among)
+
+  pub short-counted : (words : ArrayOf word_order) → words ≡ with_map arena.root (insert arena.root.map piece 0) → IsAdded arena (record arena { root = words }) key (Root piece) → AreCounted (record arena { root = words })
+  short-counted words words_is added =
+      let gap = first-gap arena is key is_key piece piece_is none in
+      let after : Arena = record arena { root = words } in
+      let but = gap-counted arena is led counted key is_key (Root piece) (length key) gap after (Root piece) added (grows-last arena key (Root piece) (length key) gap after (ap (λ (root : ArrayOf word_order). record arena { root = root }) words_is)) in
       λ k. (subst (AreCountedBut after) none-passed but).others k (λ among. among)

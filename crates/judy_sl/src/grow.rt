@@ -2,7 +2,7 @@
 //! which nothing leads yet; then comes at most one insert into a level of the array, the last step that can be refused, and where it is, the tail
 //! is taken out again. Only where a key is tried as a new one does that insert come first.
 
-ghost use Rattle.std.specs.Prelude.{ℕ, List, [], ◌≡◌, ◌+◌, ◌≤◌, None, IfOk, IsOk, OnOk, IfErr, OnErr, IfSome, IsSome, IsTrue, length};
+ghost use Rattle.std.specs.Prelude.{ℕ, List, [], ◌≡◌, ◌+◌, ◌<◌, ◌≤◌, None, IfOk, IsOk, OnOk, IfErr, OnErr, IfSome, IsSome, IsTrue, length};
 ghost use Rattle.std.specs.FinMap as map;
 ghost use Rattle.judy_word.specs.Writes.{with_value};
 ghost use Rattle.judy_tails.specs.Tails.{next_place, HasFree};
@@ -100,6 +100,35 @@ impl Arena {
         }
     }
 
+    // Tries a key of fewer than eight bytes as an absent one, and puts it in with the value 0 if so, by one way down the first level. Answers as `try_add`.
+    fn try_short(&mut self, key: &[u8]) -> Result<Option<Place>, SlError>
+        requires is_arena { IsArena self.old }
+        requires counted { AreCounted self.old }
+        requires led { AllLed (world_of self.old) }
+        requires few { map.len (map_of self.old) ≤ 4294967295 }
+        requires short { length key.now < 8 }
+        ensures counted { AreCounted self.new }
+        ensures key { IfShown result (IsStringKey key.now) }
+        ensures absent { IfShown result (map.get (map_of self.old) key.now ≡ None) }
+        ensures added { IfOk result
+            (λ found. IfSome found (λ place. IsAdded self.old self.new key.now place)) }
+        ensures first { IfOk result
+            (λ found. IfSome found (λ place. beginning (map_of self.old) (piece_of key.now) ≡ 0)) }
+        ensures open { IfOk result (λ found. found ≡ None → self.new ≡ self.old) }
+        ensures refused { IfErr result (λ error. IsSame self.old self.new × (error ≡ NoMemory)) }
+    {
+        if !is_key(key) {
+            return Ok(None);
+        }
+        let piece = first_piece(key);
+        match self.root.put_if_absent(piece, 0) {
+            Ok(true) => Ok(Some(Place::Root(piece))),
+            Ok(false) => Ok(None),
+            Err(InsertError::Full) => unreachable!(),
+            Err(InsertError::NoMemory) => Err(SlError::NoMemory),
+        }
+    }
+
     // Tries a key as one whose first piece leads nowhere, and puts it in with the value 0 if so: one way down the first level shows that and
     // puts the piece in. Only then is more memory asked for, so that none is for a key that is there; where it is refused, the piece goes
     // again. Answers where the key stands, and `None` where it isn't to be tried or its piece leads somewhere: then it is to be looked up.
@@ -121,7 +150,13 @@ impl Arena {
         ensures open { IfOk result (λ found. found ≡ None → self.new ≡ self.old) }
         ensures refused { IfErr result (λ error. IsSame self.old self.new × (error ≡ NoMemory)) }
     {
-        if !tries || key.len() < 8 || !is_key(key) {
+        if !tries {
+            return Ok(None);
+        }
+        if key.len() < 8 {
+            return self.try_short(key);
+        }
+        if !is_key(key) {
             return Ok(None);
         }
         let next = self.tails.next_place(key.len() - 8);

@@ -28,9 +28,11 @@ pub struct JudySl {
     pub(crate) arena: Arena,
     // How many keys begin with each first piece, less one.
     pub(crate) firsts: Sums,
-    // Whether the last insert put a key in whose first piece led nowhere. The next one is then tried as such a one, which finds its place and
-    // puts it in by one way down the first level.
+    // Whether one of the last two inserts put a key in whose first piece led nowhere. The next one is then tried as such a one, which finds its place
+    // and puts it in by one way down the first level.
     adds: bool,
+    // Whether the last one did.
+    added: bool,
 }
 
 impl Model for JudySl {
@@ -69,6 +71,7 @@ impl JudySl {
             arena: Arena::new(alloc),
             firsts: Sums::new(alloc),
             adds: true,
+            added: true,
         }
     }
 
@@ -86,6 +89,7 @@ impl JudySl {
             arena,
             firsts,
             adds: true,
+            added: true,
         }
     }
 
@@ -129,6 +133,7 @@ impl JudySl {
         match self.arena.try_add(key, tries) {
             Ok(Some(place)) => {
                 self.count += 1;
+                self.added = true;
                 Ok(self.arena.lend(place))
             }
             Err(error) => Err(error),
@@ -136,7 +141,8 @@ impl JudySl {
                 let mut passed = Passed::<N>::new();
                 match self.arena.walk(key, &mut passed) {
                     Way::At(place) => {
-                        self.adds = false;
+                        self.adds = self.added;
+                        self.added = false;
                         Ok(self.arena.lend(place))
                     }
                     way => {
@@ -150,7 +156,9 @@ impl JudySl {
                         match firsts::add(&mut self.arena, &mut self.firsts, key, way, passed) {
                             Ok(made) => {
                                 self.count += 1;
-                                self.adds = way.ends_first();
+                                let first = way.ends_first();
+                                self.adds = first | self.added;
+                                self.added = first;
                                 Ok(self.arena.lend(made))
                             }
                             Err(error) => Err(error),
