@@ -1,14 +1,19 @@
 -- Key tokens by `hex` and by the definitions.
-use Rattle.std.proofs.Common.{◌≡◌, ℕ, ◌+◌, ◌*◌, ◌/◌, ◌%◌, ◌<◌, ◌==◌, Bool, true, false, cond, not, nat_le, List, [], ◌∷◌, length, Option, Some, None, Result, Ok, Err, ok_or, suc, refl, sym, ap, ◌∙◌, arith, IfSome}
-use Rattle.std.specs.Prelude.{MatchResult, ◌&&◌}
+use Rattle.std.proofs.Common.{◌≡◌, ℕ, ◌+◌, ◌*◌, ◌/◌, ◌%◌, ◌<◌, ◌==◌, Bool, true, false, cond, not, nat_le, List, [], ◌∷◌, length, Option, Some, None, Result, Ok, Err, ok_or, suc, refl, sym, ap, ◌∙◌, arith, IfSome, take, drop}
+use Rattle.std.specs.Prelude.{MatchResult, ◌&&◌, IfOk}
+use Rattle.std.proofs.lemmas.Bool.{and_parts, eqb-true, false≢true}
+use Rattle.std.proofs.lemmas.List.{take-append-drop}
+use Rattle.std.proofs.lemmas.List.Folds.{list_all-append}
 use Rattle.std.specs.List.{list_all}
 use Rattle.std.specs.Result.{result_ok, is_err}
 use Rattle.hex.specs.Hex.{hex_digit_value, digit_or_error, decode_pairs, decode_sized, ◌>>=◌}
 use Rattle.hex.specs.declared.error.FromHexError.{FromHexError}
 use Rattle.hex.proofs.HexLemmas.{decode_sized-twice, decode_of-even}
-use Rattle.judy_model.specs.KeyTokens.{digit_value, with_byte, bytes_of_digits, is_bytes_key, is_string_key, passing}
+use Rattle.judy_model.specs.KeyTokens.{is_shown, key_of, digit_value, with_byte, bytes_of_digits, is_bytes_key, is_string_key, passing}
 use Rattle.judy_model.specs.Replies.{Refusal, bad_key}
+use Rattle.judy_command.specs.declared.reply.Refusal as refusals
 use Rattle.judy_command.specs.KeyReads.{key_or_refusal}
+use Rattle.judy_command.specs.Slots.{said}
 
 -- ---- keys without a zero byte
 
@@ -35,6 +40,46 @@ refused_by false whole said refusal h = h
 pub string_key-refused : (said : Option (List ℕ)) (refusal : Refusal) → key_or_refusal said ≡ Err refusal → string_key said ≡ Err refusal
 string_key-refused None refusal h = h
 string_key-refused (Some said) refusal h = refused_by (is_bytes_key said) (without_zero said) said refusal h
+
+-- ---- bytes that stand for themselves
+
+pub shown_in_parts : (signs : List ℕ) (count : ℕ) → list_all is_shown signs ≡ (list_all is_shown (take count signs) && list_all is_shown (drop count signs))
+shown_in_parts signs count =
+    ap (list_all is_shown) (sym (take-append-drop count signs)) ∙ list_all-append is_shown (take count signs) (drop count signs)
+
+-- such a byte isn't zero
+shown_not_zero : (byte : ℕ) → is_shown byte ≡ true → not (byte == 0) ≡ true
+shown_not_zero byte is =
+    elim (byte == 0) as (λ b. (byte == 0) ≡ b → not b ≡ true) [
+      | true ↦ λ zero. absurd (false≢true (ap is_shown (sym (eqb-true byte 0 zero)) ∙ is))
+      | false ↦ λ _. refl
+    ] refl
+
+pub shown_without_zero : (signs : List ℕ) → list_all is_shown signs ≡ true → without_zero signs ≡ true
+shown_without_zero [] are = refl
+shown_without_zero (byte ∷ signs) are =
+    let parts = and_parts (is_shown byte) (list_all is_shown signs) are in
+    rw (shown_not_zero byte parts.0, shown_without_zero signs parts.1) refl
+
+by_length : (short whole : Bool) (signs : List ℕ) → whole ≡ true → ok_or (cond short (Some signs) None) bad_key ≡ ok_or (cond (short && whole) (Some signs) None) bad_key
+by_length true whole signs h = rw h refl
+by_length false whole signs h = refl
+
+-- so they are a key of a judysl array where they are one of a judyhs array
+pub signs_of_string : (signs : List ℕ) → key_or_refusal (cond (list_all is_shown signs) (Some signs) None) ≡ string_key (cond (list_all is_shown signs) (Some signs) None)
+signs_of_string signs =
+    elim (list_all is_shown signs) as (λ b. list_all is_shown signs ≡ b → key_or_refusal (cond b (Some signs) None) ≡ string_key (cond b (Some signs) None)) [
+      | true ↦ λ are. by_length (is_bytes_key signs) (without_zero signs) signs (shown_without_zero signs are)
+      | false ↦ λ _. refl
+    ] refl
+
+pub string_of_signs : (token signs : List ℕ) → token ≡ 61 ∷ signs → key_or_refusal (cond (list_all is_shown signs) (Some signs) None) ≡ string_key (key_of token)
+string_of_signs token signs is = signs_of_string signs ∙ ap (λ token. string_key (key_of token)) (sym is)
+
+-- what holds of the key that was said holds of the key
+pub IfOk-said : {A K : Type 0} (key_of : A → K) (P : K → Type 0) (key : Result A refusals.Refusal) → IfOk (said key_of key) P → IfOk key (λ key. P (key_of key))
+IfOk-said key_of P (Ok key) h = h
+IfOk-said key_of P (Err refusal) h = tt
 
 -- ---- hexadecimal digits
 

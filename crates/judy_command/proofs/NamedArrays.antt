@@ -45,15 +45,21 @@ is_there : (is : Bool) (store : Store) (token : List ℕ) (array : ArrayValue) �
 is_there true store token array e = (refl, there store token array (array_named store token) e)
 is_there false store token array e = absurd (cc)
 
+-- the array that a token names, and why there is none
+pub named-found : (entries : Entries) (token : List ℕ) → is_name token ≡ true → (array : Array) → array_named entries token ≡ Some array → named (store_of entries) token ≡ Ok (value_of array)
+named-found entries token is array here = rw (is, array_named-store_of entries token, here) refl
+
+pub named-none : (entries : Entries) (token : List ℕ) → array_named entries token ≡ None → (refusal : Refusal) → refusal ≡ cond (is_name token) no_such_array bad_name → Err refusal ≡ named (store_of entries) token
+named-none entries token none refusal is =
+    let missing : array_named (store_of entries) token ≡ None = array_named-store_of entries token ∙ ap (option_map value_of) none in
+    elim (is_name token) as (λ b. refusal ≡ cond b no_such_array bad_name → Err refusal ≡ (ok_or (cond b (Some token) None) bad_name >>= array_at (store_of entries))) [
+      | true ↦ λ e. rw (missing, e) refl
+      | false ↦ λ e. ap Err e
+    ] is
+
 module _ (entries : Entries) (token : List ℕ) where
-  -- the array of a name that the token says, and none
+  -- the name that the token says
   module _ (name : List ℕ) (said : name_at token ≡ Ok name) where
-    pub named-Some : (array : Array) → array_named entries name ≡ Some array → named (store_of entries) token ≡ Ok (value_of array)
-    named-Some array here = rw (said, array_named-store_of entries name, here) refl
-
-    pub named-None : array_named entries name ≡ None → named (store_of entries) token ≡ Err no_such_array
-    named-None none = rw (said, array_named-store_of entries name, none) refl
-
     -- an array that is dropped, and one that isn't there
     pub Follows-dropped : (array : Array) (left : Entries) → array_named entries name ≡ Some array → left ≡ without_array entries name → Follows (store_of entries) (dropped (store_of entries) token) (Ok (freed (len_of (value_of array)))) (store_of left)
     Follows-dropped array left here same =

@@ -1,13 +1,15 @@
 //! Commands of one array, which a token names.
 
-ghost use Rattle.std.specs.Prelude.{◌≡◌};
+ghost use Rattle.std.specs.Prelude.{◌≡◌, if◌then◌else◌};
 ghost use Rattle.std.specs.Borrow.{sem};
 ghost use Rattle.judy_model.specs.Commands as model;
+ghost use Rattle.judy_model.specs.Replies as replies;
+ghost use Rattle.judy_model.specs.Tokens.{is_name};
 ghost use Rattle.judy_shelf.specs.Arrays.{value_of};
 ghost use Rattle.judy_shelf.specs.Shelves.{store_of};
 ghost use Rattle.judy_command.specs.CommandsOf.{key_command_of, pair_command_of};
 ghost use Rattle.judy_command.specs.Lends.{LendsNamed, lent_array, named};
-ghost use Rattle.judy_command.specs.Replies.{checked, reply_of};
+ghost use Rattle.judy_command.specs.Replies.{checked, refusal_of, reply_of};
 ghost use Rattle.judy_command.specs.Follows.{Follows};
 
 use crate::command::{KeyCommand, PairCommand};
@@ -32,10 +34,20 @@ fn array_at<'a>(shelf: &'a mut Shelf, token: &[u8]) -> Result<&'a mut Array, Ref
     ensures* writes_back { sem 𝓛 (LendsNamed shelf.entry token.now result) }
     ensures value { lent_array result ≡ named (store_of shelf.old) token.now }
 {
-    let name = name_at(token)?;
-    match shelf.get_mut(&name) {
+    match shelf.named_mut(token) {
         Some(array) => Ok(array),
-        None => Err(Refusal::NoSuchArray),
+        None => Err(unnamed(token)),
+    }
+}
+
+// Why a token that names no array is refused.
+fn unnamed(token: &[u8]) -> Refusal
+    ensures { refusal_of result
+        ≡ (if is_name token.now then replies.no_such_array else replies.bad_name) }
+{
+    match Name::new(token) {
+        Some(_) => Refusal::NoSuchArray,
+        None => Refusal::BadName,
     }
 }
 

@@ -38,22 +38,41 @@ pub(crate) fn read_string_key(token: &[u8], key: &mut KeyBuf) -> Result<(), Refu
     Ok(())
 }
 
-/// The key of a judyhs array that a token says, put into the buffer.
-pub(crate) fn bytes_key<'k>(token: &[u8], key: &'k mut KeyBuf) -> Result<&'k [u8], Refusal>
+/// The key of a judyhs array that a token says. Where its bytes stand for themselves it is the token's, else it is put into the
+/// buffer.
+pub(crate) fn bytes_key<'k>(token: &'k [u8], key: &'k mut KeyBuf) -> Result<&'k [u8], Refusal>
     ensures said { said (λ bytes. bytes.now) result ≡ bytes_key_at token.now }
     ensures key { IfOk result (λ bytes. IsBytesKey bytes.now) }
 {
+    if let [b'=', signs @ ..] = token {
+        return signs_key(signs);
+    }
     read_bytes_key(token, key)?;
     Ok(key.as_slice())
 }
 
-/// The key of a judysl array that a token says, put into the buffer.
-pub(crate) fn string_key<'k>(token: &[u8], key: &'k mut KeyBuf) -> Result<&'k [u8], Refusal>
+/// The key of a judysl array that a token says, which stands where that of a judyhs array does.
+pub(crate) fn string_key<'k>(token: &'k [u8], key: &'k mut KeyBuf) -> Result<&'k [u8], Refusal>
     ensures said { said (λ bytes. bytes.now) result ≡ string_key_at token.now }
     ensures key { IfOk result (λ bytes. IsStringKey bytes.now) }
 {
+    // A byte that stands for itself isn't zero.
+    if let [b'=', signs @ ..] = token {
+        return signs_key(signs);
+    }
     read_string_key(token, key)?;
     Ok(key.as_slice())
+}
+
+// The key of bytes that stand for themselves, where they stand.
+fn signs_key(signs: &[u8]) -> Result<&[u8], Refusal>
+    ensures { said (λ bytes. bytes.now) result
+        ≡ key_or_refusal (if list_all is_shown signs.now then Some signs.now else None) }
+{
+    if signs.len() > MAX_KEY_LEN || !are_shown(signs) {
+        return Err(Refusal::BadKey);
+    }
+    Ok(signs)
 }
 
 // Puts bytes that stand for themselves into the buffer.
@@ -94,11 +113,31 @@ fn put(bytes: &[u8], key: &mut KeyBuf) -> Result<(), Refusal>
     Ok(())
 }
 
-// Whether each byte stands for itself in a key token.
+// Whether each byte stands for itself in a key token. Most are tested by eights: a length that the compiler knows needs no test
+// behind each byte, and it tests eight at once.
 fn are_shown(signs: &[u8]) -> bool
     ensures { result ≡ list_all is_shown signs.now }
 {
-    signs.iter().all(|sign| sign.is_ascii_graphic())
+    let mut rest = signs;
+    'chunks: while let Some((chunk, after)) = rest.split_first_chunk::<8>() {
+        if !few_are_shown(chunk) {
+            return false;
+        }
+        rest = after;
+    }
+    few_are_shown(rest)
+}
+
+// The same of a few. It leaves at no byte.
+#[inline(always)]
+fn few_are_shown(signs: &[u8]) -> bool
+    ensures { result ≡ list_all is_shown signs.now }
+{
+    let mut are = true;
+    for sign in signs {
+        are &= sign.is_ascii_graphic();
+    }
+    are
 }
 
 // Whether none of the bytes is zero.

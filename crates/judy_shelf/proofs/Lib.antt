@@ -14,3 +14,4 @@ pub mod KeyReads
 pub mod EntryReads
 pub mod ArrayReads
 pub mod SortedLemmas
+pub mod PlaceLemmas

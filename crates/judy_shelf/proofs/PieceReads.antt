@@ -8,7 +8,7 @@ use Rattle.judy_model.specs.Keys.{IsByteString}
 use Rattle.judy_model.specs.Fields.{truncated, bytes, followed_by, ◌>>=◌, done, Fault}
 use Rattle.judy_pipe.specs.Pipe.{grown}
 use Rattle.judy_shelf.specs.declared.fault.LoadFault.{LoadFault}
-use Rattle.judy_shelf.specs.Reads.{Drawn, cause_of, Nowhere, Reads, ReadsValue, ReadsFault}
+use Rattle.judy_shelf.specs.Reads.{Drawn, cause_of, Nowhere, Reads}
 use Rattle.judy_shelf.proofs.Rooms.{filled_long, filled_more}
 use Rattle.judy_shelf.proofs.ReadLemmas.{Reading, reading_fault, reading_value, fault_first, value_then, value_done}
 

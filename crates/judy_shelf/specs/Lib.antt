@@ -9,3 +9,4 @@ pub mod Writes
 pub mod Reads
 pub mod LastKeys
 pub mod Faults
+pub mod Places

@@ -1,12 +1,14 @@
 //! The named arrays, in order of making.
 
-ghost use Rattle.std.specs.Prelude.{◌≡◌, ◌<◌, ◌≤◌, OnOk, OnErr, IfErr, None, Some, length, option_map, option_copied, slice_get};
+ghost use Rattle.std.specs.Prelude.{◌≡◌, ◌<◌, ◌≤◌, OnOk, OnErr, IfErr, IfSome, IsTrue, None, Some, length, bytes_eq, option_map, option_copied, slice_get};
 ghost use Rattle.std.specs.Borrow.{sem};
 ghost use Rattle.std.specs.Option.{option_copied_mut};
 ghost use Rattle.std.specs.Map.Iter.{deref_pair};
+ghost use Rattle.judy_model.specs.Tokens.{is_name};
 ghost use Rattle.judy_model.specs.Stores.{IsStore, array_named, with_array, with_new_array, without_array};
 ghost use Rattle.judy_shelf.specs.Kinds.{empty_of_kind};
 ghost use Rattle.judy_shelf.specs.Makes.{make_refusal, IsMakeRefusal};
+ghost use Rattle.judy_shelf.specs.Places.{place_of};
 ghost use Rattle.judy_shelf.specs.Shelves.{IsShelf, store_of};
 
 use crate::array::{Array, new_array};
@@ -22,6 +24,9 @@ pub const MAX_ARRAYS: usize = 64;
 
 /// The greatest limit that `make` and `load` give an array. (This project's own.)
 pub const MAX_LIMIT: u64 = 4294967295;
+
+// Of so many arrays the names are compared one by one.
+const FEW_ARRAYS: usize = 8;
 
 /// Named arrays in order of making: at most 64, whose names differ. In contracts it is the list of its
 /// pairs of name and array.
@@ -130,6 +135,48 @@ impl Shelf {
         ensures value { option_copied_mut result ≡ array_named self.old name.now }
     {
         self.arrays.get_mut(name)
+    }
+
+    /// The array that bytes name, to be changed: it alone changes, and every other stays as it is. Where they are no name none
+    /// has it.
+    pub fn named_mut(&mut self, bytes: &[u8]) -> Option<&mut Array>
+        ensures* writes_back { sem 𝓛 (LendsNamed self.entry bytes.now result) }
+        ensures value { option_copied_mut result ≡ array_named self.old bytes.now }
+        ensures name { IfSome result (λ _. IsTrue (is_name bytes.now)) }
+    {
+        let place = self.place_of(bytes);
+        self.arrays.get_index_mut(place)
+    }
+
+    // The place of the array that bytes name; the number of arrays where there is none. Few names are compared one by one, which is
+    // done sooner than a hash.
+    fn place_of(&self, bytes: &[u8]) -> usize
+        ensures place { result ≡ place_of (bytes_eq bytes.now) self.now }
+        ensures name { result < length self.now → IsTrue (is_name bytes.now) }
+    {
+        if self.len() > FEW_ARRAYS
+            && let Some(name) = Name::new(bytes)
+        {
+            return self.place_by_hash(&name);
+        }
+        let mut place = 0;
+        'arrays: while let Some((name, _)) = self.at(place) {
+            if bytes == name.bytes() {
+                return place;
+            }
+            place += 1;
+        }
+        place
+    }
+
+    // The place of the array of that name; the number of arrays where there is none.
+    fn place_by_hash(&self, name: &Name) -> usize
+        ensures { result ≡ place_of (bytes_eq name.now) self.now }
+    {
+        match self.arrays.get_index_of(name) {
+            Some(place) => place,
+            None => self.len(),
+        }
     }
 
     /// Takes out the array of that name and answers it; the rest keep their order. None, and nothing

@@ -1,4 +1,4 @@
-use Rattle.std.proofs.Common.{◌≡◌, ℕ, ◌+◌, ◌-◌, ◌*◌, ◌<◌, ◌^◌, true, false, length, take, get_or, sym, ap, subst, ◌∙◌, arith, refl}
+use Rattle.std.proofs.Common.{◌+◌, ◌-◌, ◌*◌, ◌<◌, ◌^◌, length, get_or, sym, subst, arith, refl}
 use Rattle.std.specs.Char.{is_ascii_digit, digit_value}
 use Rattle.std.proofs.lemmas.List.Folds.{list_all_at}
 use Rattle.judy_command.proofs.Numerals.{failed, passed, one_more, next_power, fits_word}

@@ -1,4 +1,4 @@
-use Rattle.std.proofs.Common.{◌≡◌, true, false, ◌&&◌, ◌^◌, nat_lt, take, get_or, sym, ap, ◌∙◌, refl}
+use Rattle.std.proofs.Common.{◌&&◌, ◌^◌, nat_lt, take, get_or, sym, ◌∙◌, refl}
 use Rattle.std.specs.List.{list_all}
 use Rattle.std.specs.Char.{is_ascii_digit}
 use Rattle.std.specs.Str.Parse.{digits_value}

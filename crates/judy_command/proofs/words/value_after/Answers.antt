@@ -1,5 +1,5 @@
-use Rattle.std.proofs.Common.{◌≡◌, ℕ, ◌+◌, ◌-◌, ◌*◌, ◌<◌, ◌^◌, true, length, take, get_or, sym, ap, subst, ◌∙◌, arith}
-use Rattle.std.specs.Char.{is_ascii_digit, digit_value}
+use Rattle.std.proofs.Common.{◌≡◌, ◌+◌, ◌-◌, ◌*◌, ◌<◌, ◌^◌, length, get_or, sym, subst, ◌∙◌, arith}
+use Rattle.std.specs.Char.{digit_value}
 use Rattle.judy_command.proofs.Numerals.{next_power, fits_word}
 use Rattle.judy_command.proofs.DigitLemmas.{after_more, digit_at, digit_is_small, digit_value_is}
 use Rattle.judy_command.proofs.words.value_after.Goals as goal

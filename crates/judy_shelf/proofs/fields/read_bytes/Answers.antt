@@ -1,4 +1,4 @@
-use Rattle.std.proofs.Common.{◌≡◌, ◌-◌, ◌+◌, ◌≤◌, length, take, drop, ap, subst, sym, ◌∙◌, arith, ◌<◌, ◌++◌, All, ℕ, [], refl, length-drop}
+use Rattle.std.proofs.Common.{◌≡◌, ◌-◌, ◌+◌, ◌≤◌, length, take, drop, ap, subst, sym, ◌∙◌, arith, ◌<◌, ◌++◌, All, [], refl, length-drop}
 use Rattle.std.proofs.lemmas.Bool.{eqb-true}
 use Rattle.std.proofs.lemmas.List.{take_all, take_at, take_rest, length-take-le}
 use Rattle.std.proofs.lemmas.List.Elements.{All-take, All-nil}
