@@ -56,27 +56,28 @@ impl Command {
         if word == b"bycount".as_slice() {
             return Some(Command::Key(KeyCommand::ByCount));
         }
+        // They are compared one after the other, so those that scripts have most come first.
         Some(match word {
-            b"make" => Command::Make,
-            b"list" => Command::List,
-            b"drop" => Command::Drop,
-            b"free" => Command::Free,
-            b"set" => Command::Key(KeyCommand::Set),
-            b"unset" => Command::Key(KeyCommand::Unset),
-            b"test" => Command::Key(KeyCommand::Test),
             b"get" => Command::Key(KeyCommand::Get),
+            b"ins" => Command::Pair(PairCommand::Ins),
+            b"test" => Command::Key(KeyCommand::Test),
+            b"set" => Command::Key(KeyCommand::Set),
             b"del" => Command::Key(KeyCommand::Del),
+            b"put" => Command::Pair(PairCommand::Put),
+            b"unset" => Command::Key(KeyCommand::Unset),
             b"first" => Command::Key(KeyCommand::First),
             b"next" => Command::Key(KeyCommand::Next),
             b"last" => Command::Key(KeyCommand::Last),
             b"prev" => Command::Key(KeyCommand::Prev),
+            b"count" => Command::Pair(PairCommand::Count),
             b"fe" => Command::Key(KeyCommand::FirstEmpty),
             b"ne" => Command::Key(KeyCommand::NextEmpty),
             b"le" => Command::Key(KeyCommand::LastEmpty),
             b"pe" => Command::Key(KeyCommand::PrevEmpty),
-            b"ins" => Command::Pair(PairCommand::Ins),
-            b"put" => Command::Pair(PairCommand::Put),
-            b"count" => Command::Pair(PairCommand::Count),
+            b"make" => Command::Make,
+            b"list" => Command::List,
+            b"drop" => Command::Drop,
+            b"free" => Command::Free,
             _ => return None,
         })
     }
