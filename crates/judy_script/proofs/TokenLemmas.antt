@@ -1,16 +1,14 @@
 -- The tokens of a text by its first space.
-use Rattle.std.proofs.Common.{◌≡◌, ℕ, ◌<◌, Bool, true, false, cond, not, ◌&&◌, ◌==◌, nat_lt, List, [], ◌∷◌, ◌++◌, length, Option, Some, None, refl, sym, ap, arith, take, drop, get_or, zero, suc, ◌∙◌, ◌≤◌}
+use Rattle.std.proofs.Common.{◌≡◌, ◌≢◌, ℕ, ◌<◌, Bool, true, false, cond, not, ◌&&◌, ◌==◌, nat_lt, List, [], ◌∷◌, ◌++◌, length, Option, Some, None, refl, sym, ap, arith, take, drop, get_or, zero, suc, ◌∙◌, ◌≤◌}
 use Rattle.std.specs.Prelude.{filter, unwrap_or}
 use Rattle.std.specs.List.{slice_split, onto_first}
 use Rattle.std.proofs.Common.{◌+◌, add-one, drop-cons}
-use Rattle.std.proofs.Math.Seq.{take-length, drop-length, take-add}
-use Rattle.std.proofs.lemmas.List.{length-take-le, length-drop, get_or-drop, drop-drop}
-use Rattle.std.proofs.lemmas.List.Folds.{list_all-append}
-use Rattle.std.proofs.lemmas.Bool.{lt-ltb, ltb-true, ltb-false, eqb-true}
+use Rattle.std.proofs.Math.Seq.{take-length, drop-length}
+use Rattle.std.proofs.lemmas.List.{length-take-le}
+use Rattle.std.proofs.lemmas.Bool.{lt-ltb, ltb-true, ltb-false}
 use Rattle.judy_model.specs.Tokens.{tokens_of}
 use Rattle.judy_script.proofs.CutLemmas.{around_place}
-use Rattle.std.specs.List.{list_all}
-use Rattle.judy_script.specs.Cuts.{is_without, IsCutAt, is_space}
+use Rattle.judy_script.specs.Cuts.{is_without, IsCutAt}
 
 first_of_both : (a b : Bool) → (a && b) ≡ true → a ≡ true
 first_of_both true b h = refl
@@ -45,21 +43,13 @@ tokens_of-cut text piece None h =
 tokens_of-cut text piece (Some rest) h =
     rw h.0 (ap (filter (λ token. nat_lt 0 (length token))) (slice_split-at 32 piece rest h.1 refl))
 
--- spaces at the front of a text are no part of a token
-pub tokens_of-spaces : (text : List ℕ) (count : ℕ) → list_all (is_space true) (take count text) ≡ true → tokens_of (drop count text) ≡ tokens_of text
-tokens_of-spaces text zero h = refl
-tokens_of-spaces [] (suc count) h = refl
-tokens_of-spaces (byte ∷ text) (suc count) h =
-    let space : (byte == 32) ≡ true = first_of_both (byte == 32) _ h in
-    tokens_of-spaces text count (second_of_both (byte == 32) _ h) ∙ rw space refl
-
-is_the_space : (b : Bool) → not b ≡ false → b ≡ true
-is_the_space true h = refl
-is_the_space false h = sym h
+-- a space at the front of a text is no part of a token
+pub tokens_of-space : (text : List ℕ) → tokens_of (32 ∷ text) ≡ tokens_of text
+tokens_of-space text = refl
 
 -- what stands before the first space of a text that begins with none is its first token
-pub tokens_of-front : (text : List ℕ) (count : ℕ) → 0 < count → count ≤ length text → list_all (is_space false) (take count text) ≡ true
-    → (count < length text → is_space false (get_or text count 0) ≡ false) → tokens_of text ≡ take count text ∷ tokens_of (drop count text)
+pub tokens_of-front : (text : List ℕ) (count : ℕ) → 0 < count → count ≤ length text → is_without 32 (take count text) ≡ true
+    → (count < length text → get_or text count 0 ≡ 32) → tokens_of text ≡ take count text ∷ tokens_of (drop count text)
 tokens_of-front text count some within front end =
     elim (nat_lt count (length text)) as (λ b. nat_lt count (length text) ≡ b → tokens_of text ≡ take count text ∷ tokens_of (drop count text)) [
       | true ↦ λ inside. to_space (ltb-true count (length text) inside)
@@ -71,8 +61,8 @@ tokens_of-front text count some within front end =
 
     to_space : count < length text → tokens_of text ≡ take count text ∷ tokens_of (drop count text)
     to_space inside =
-        let space : (get_or text count 0 == 32) ≡ true = is_the_space (get_or text count 0 == 32) (end inside) in
-        let there : get_or text count 0 ≡ 32 = eqb-true (get_or text count 0) 32 space in
+        let there : get_or text count 0 ≡ 32 = end inside in
+        let space : (get_or text count 0 == 32) ≡ true = rw there refl in
         let rest : drop count text ≡ 32 ∷ drop (count + 1) text = drop-cons text count 0 inside ∙ rw (there, add-one) refl in
         tokens_of-cut text (take count text) (Some (drop (count + 1) text)) (around_place 32 text count inside space, front) ∙ rw (is_token, rest) refl
 
@@ -82,28 +72,7 @@ tokens_of-front text count some within front end =
         let none : drop count text ≡ [] = ap (λ n. drop n text) all ∙ drop-length text in
         tokens_of-cut text (take count text) None (sym whole, front) ∙ rw (is_token, none) refl
 
-one_of_both : (b : Bool) → b ≡ false → not b ≡ false → ⊥
-one_of_both true h k = cc
-one_of_both false h k = cc
-
--- behind the spaces at the front of a text its first token has a byte
-pub token_begins : (text : List ℕ) (spaces count : ℕ) → spaces < length text → is_space true (get_or text spaces 0) ≡ false
-    → (count < length (drop spaces text) → is_space false (get_or (drop spaces text) count 0) ≡ false) → 0 < count
-token_begins text spaces zero inside first end =
-    let some : 0 < length (drop spaces text) = omega (arith, length-drop spaces text) in
-    let same : get_or (drop spaces text) 0 0 ≡ get_or text spaces 0 = get_or-drop spaces text 0 0 ∙ ap (λ at. get_or text at 0) (omega arith) in
-    absurd (one_of_both (get_or text spaces 0 == 32) first (ap (λ byte. not (byte == 32)) (sym same) ∙ end some))
-token_begins text spaces (suc count) inside first end = omega arith
-
--- what stands at the front of a text and goes on in the rest behind it
-module _ (spaces : Bool) (text rest : List ℕ) (count : ℕ) (rest_is : rest ≡ drop count text) where
-  pub front_longer : (here : ℕ) → list_all (is_space spaces) (take count text) ≡ true → list_all (is_space spaces) (take here rest) ≡ true → list_all (is_space spaces) (take (count + here) text) ≡ true
-  front_longer here front more =
-      ap (list_all (is_space spaces)) (take-add count here text ∙ ap (λ t. take count text ++ take here t) (sym rest_is))
-      ∙ list_all-append (is_space spaces) (take count text) (take here rest) ∙ (λ t. front t && more t)
-
-  pub rest_at : (here : ℕ) → get_or rest here 0 ≡ get_or text (count + here) 0
-  rest_at here = ap (λ t. get_or t here 0) rest_is ∙ get_or-drop count text here 0
-
-  pub rest_behind : (here : ℕ) → drop here rest ≡ drop (count + here) text
-  rest_behind here = ap (drop here) rest_is ∙ drop-drop here count text
+-- a text that begins with no space has a byte before its first space
+pub token_begins : (text : List ℕ) (count : ℕ) → get_or text 0 0 ≢ 32 → 0 < length text → (count < length text → get_or text count 0 ≡ 32) → 0 < count
+token_begins text zero first some end = absurd (first (end some))
+token_begins text (suc count) first some end = omega arith

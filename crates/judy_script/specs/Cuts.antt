@@ -1,5 +1,5 @@
 -- How a text is cut at the first place of a byte.
-use Rattle.std.specs.Prelude.{◌≡◌, ℕ, Bool, true, false, not, ◌==◌, List, ◌∷◌, ◌++◌, IsTrue, Option, Some, None}
+use Rattle.std.specs.Prelude.{◌≡◌, ℕ, Bool, not, ◌==◌, List, ◌∷◌, ◌++◌, IsTrue, Option, Some, None}
 use Rattle.std.specs.List.{list_all}
 
 -- The byte is nowhere in the text.
@@ -10,8 +10,3 @@ is_without byte text = list_all (λ other. not (other == byte)) text
 abbrev pub IsCutAt : ℕ → List ℕ → List ℕ → Option (List ℕ) → Type 0
 IsCutAt byte text front None = (text ≡ front) × IsTrue (is_without byte front)
 IsCutAt byte text front (Some rest) = (text ≡ front ++ byte ∷ rest) × IsTrue (is_without byte front)
-
--- Whether a byte is a space, or whether it is none.
-abbrev pub is_space : Bool → ℕ → Bool
-is_space true byte = byte == 32
-is_space false byte = not (byte == 32)

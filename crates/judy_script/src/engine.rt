@@ -174,7 +174,6 @@ fn whole_line_reply<'k>(
     ensures cleared { Holds line.new [] }
 {
     if line.is_empty() {
-        line.clear();
         return line_reply(head, true, shelf, key);
     }
     line.push(head);
@@ -201,8 +200,7 @@ fn put_out<W: Sink>(
     ensures failures { let before = (W.tally sink.old).failures in
         (W.tally sink.new).failures ≡ (if is_ok result then before else before + 1) }
 {
-    print(reply, shelf, text);
-    match write_all(sink, text.as_slice()) {
+    match write_all(sink, print(reply, shelf, text)) {
         Ok(()) => Ok(()),
         Err(_) => Err(RunFault::Write),
     }

@@ -82,7 +82,8 @@ impl LineBuffer {
 
     /// Whether no byte of the line came yet.
     pub(crate) fn is_empty(&self) -> bool
-        ensures { (bytes : List ℕ) → Holds self.now bytes → result ≡ (length bytes == 0) }
+        ensures told { (bytes : List ℕ) → Holds self.now bytes → result ≡ (length bytes == 0) }
+        ensures empty { IsTrue result → Holds self.now [] }
     {
         self.bytes.is_empty() && !self.is_long
     }

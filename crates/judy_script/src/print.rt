@@ -1,72 +1,96 @@
 //! Replies as text.
 
-ghost use Rattle.std.specs.Prelude.{◌≡◌, ◌+◌, ◌*◌, ◌≤◌, ◌++◌, length, decimal, flat_map, codes, Ok, [], ◌∷◌};
+ghost use Rattle.std.specs.Prelude.{◌≡◌, ◌+◌, ◌*◌, ◌≤◌, ◌++◌, length, decimal, flat_map, codes, Ok, Err, [], ◌∷◌};
 ghost use Rattle.judy_model.specs.KeyTokens.{is_shown, printed_key, digits_of};
 ghost use Rattle.std.specs.List.{list_all};
+ghost use Rattle.judy_model.specs.Replies as replies;
 ghost use Rattle.judy_model.specs.Replies.{output_of, listed, listing_text};
 ghost use Rattle.judy_shelf.specs.Arrays.{value_of};
 ghost use Rattle.judy_shelf.specs.Shelves.{store_of};
-ghost use Rattle.judy_command.specs.Replies.{line_reply_of, answer_of};
+ghost use Rattle.judy_command.specs.Replies.{line_reply_of, answer_of, refusal_of};
 
 use crate::text::Text;
-use judy_command::{Answer, LineReply};
+use judy_command::{Answer, LineReply, Refusal};
 use judy_shelf::{Array, Name, Shelf};
 use judy_sl::KeyBuf;
 
-/// Puts the reply into the buffer, in the place of what it held. The shelf is as the line left it.
-pub(crate) fn print(reply: LineReply<'_>, shelf: &Shelf, text: &mut Text)
-    ensures { text.new ≡ output_of (line_reply_of (store_of shelf.now) reply.entry) }
+/// The reply as text, in the buffer in the place of what it held, where it isn't the same always. The shelf is as the line left
+/// it.
+pub(crate) fn print<'t>(reply: LineReply<'_>, shelf: &Shelf, text: &'t mut Text) -> &'t [u8]
+    ensures { result.now ≡ output_of (line_reply_of (store_of shelf.now) reply.entry) }
 {
-    text.clear();
     match reply {
-        LineReply::Silent => {}
-        LineReply::Listed => print_list(shelf, text),
+        LineReply::Silent => b"",
+        LineReply::Listed => {
+            print_list(shelf, text);
+            text.as_slice()
+        }
         LineReply::Said(Ok(answer)) => print_answer(answer, text),
         LineReply::Said(Err(refusal)) => {
-            text.append(b"error ");
-            text.append(refusal.word());
-            text.append(b"\n");
+            print_refusal(refusal, text);
+            text.as_slice()
         }
     }
 }
 
-// Puts the answer into the empty buffer, with its LF.
-fn print_answer(answer: Answer<'_>, text: &mut Text)
-    requires { text.old ≡ [] }
-    ensures { text.new ≡ output_of (Ok (answer_of answer.entry)) }
+// Puts the refusal into the buffer, with its LF.
+fn print_refusal(refusal: Refusal, text: &mut Text)
+    ensures { text.new ≡ output_of (Err (refusal_of refusal)) }
+{
+    text.clear();
+    text.append(b"error ");
+    text.append(refusal.word());
+    text.append(b"\n");
+}
+
+// The answer as text, with its LF.
+fn print_answer<'t>(answer: Answer<'_>, text: &'t mut Text) -> &'t [u8]
+    ensures { result.now ≡ output_of (Ok (answer_of answer.entry)) }
 {
     match answer {
-        Answer::Done => text.append(b"ok\n"),
-        Answer::Was(value) => {
-            text.append(b"was ");
-            append_last(text, value);
-        }
-        Answer::Flag(true) => text.append(b"1\n"),
-        Answer::Flag(false) => text.append(b"0\n"),
-        Answer::Number(value) => append_last(text, value),
+        Answer::Done => b"ok\n",
+        Answer::Was(value) => text.number_line(b"was ", value),
+        Answer::Flag(true) => b"1\n",
+        Answer::Flag(false) => b"0\n",
+        Answer::Number(value) => text.number_line(b"", value),
         Answer::Entry(key, value) => {
-            append_number(text, key);
-            text.append(b" ");
-            append_last(text, value);
+            print_entry(key, value, text);
+            text.as_slice()
         }
         Answer::StringEntry(key, value) => {
-            append_key(text, key);
-            text.append(b" ");
-            append_last(text, value);
+            print_string_entry(key, value, text);
+            text.as_slice()
         }
-        Answer::Freed(count) => {
-            text.append(b"freed ");
-            append_last(text, count);
-        }
-        Answer::Nothing => text.append(b"none\n"),
+        Answer::Freed(count) => text.number_line(b"freed ", count),
+        Answer::Nothing => b"none\n",
     }
+}
+
+// Puts a key and its value into the buffer, with an LF.
+fn print_entry(key: u64, value: u64, text: &mut Text)
+    ensures { text.new ≡ output_of (Ok (replies.entry key value)) }
+{
+    text.clear();
+    append_number(text, key);
+    text.append(b" ");
+    append_last(text, value);
+}
+
+// The same of a key of bytes.
+fn print_string_entry(key: &KeyBuf, value: u64, text: &mut Text)
+    ensures { text.new ≡ output_of (Ok (replies.string_entry key.now.items value)) }
+{
+    text.clear();
+    append_key(text, key);
+    text.append(b" ");
+    append_last(text, value);
 }
 
 // The arrays in the order of making. At most 64 of at most 61 bytes each fit the buffer.
 fn print_list(shelf: &Shelf, text: &mut Text)
-    requires { text.old ≡ [] }
     ensures { text.new ≡ output_of (Ok (listed (store_of shelf.now))) }
 {
+    text.clear();
     text.append(b"names");
     let mut place = 0;
     'arrays: while let Some((name, array)) = shelf.at(place) {

@@ -1,18 +1,25 @@
 //! The text of an answer line.
 
-ghost use Rattle.std.specs.Prelude.{◌≡◌, ◌+◌, ◌≤◌, ◌++◌, [], length};
+ghost use Rattle.std.specs.Prelude.{◌≡◌, ◌+◌, ◌≤◌, ◌++◌, [], ◌∷◌, length, decimal};
 
+use itoa::write_digits;
 use std::marker::Model;
 
 // The most bytes of an answer line. (docs/FORMATS.md says why no answer has more.)
 const MAX_TEXT_LEN: usize = 8192;
 
+// The bytes of a line of one number: its head, at most 20 digits and the LF, which stands last.
+const NUMBER_LEN: usize = 32;
+
 /// The bytes of an answer line, in a buffer that is made once a run and takes no memory. To begin the next line
 /// costs nothing: what stands behind the bytes stays as it was. In contracts it is the list of its bytes.
+///
+/// Beside it stands a line of one number, which is no part of these.
 #[derive(Drop)]
 pub(crate) struct Text {
     bytes: [u8; MAX_TEXT_LEN],
     len: usize,
+    number: [u8; NUMBER_LEN],
 }
 
 impl Model for Text {
@@ -33,6 +40,7 @@ impl Text {
         Text {
             bytes: [0; MAX_TEXT_LEN],
             len: 0,
+            number: [0; NUMBER_LEN],
         }
     }
 
@@ -54,10 +62,34 @@ impl Text {
         self.len = end;
     }
 
+    /// A line of a head, the number in decimal and an LF, beside the bytes. It is written from its end on, where it stays.
+    #[inline(always)]
+    pub(crate) fn number_line(&mut self, head: &[u8], number: u64) -> &[u8]
+        requires { length head.now ≤ 8 }
+        ensures { result.now ≡ head.now ++ decimal number ++ 10 ∷ [] }
+    {
+        write_line(&mut self.number, head, number)
+    }
+
     /// The bytes.
     pub(crate) fn as_slice(&self) -> &[u8]
         ensures { result.now ≡ self.now }
     {
         &self.bytes[..self.len]
     }
+}
+
+// Writes a head, the number and an LF to the end of a room for them, and lends what it wrote.
+#[inline(always)]
+fn write_line<'a>(room: &'a mut [u8; NUMBER_LEN], head: &[u8], number: u64) -> &'a [u8]
+    requires head { length head.now ≤ 8 }
+    requires room { length room.old ≡ 32 }
+    ensures { result.now ≡ head.now ++ decimal number ++ 10 ∷ [] }
+{
+    let end = NUMBER_LEN - 1;
+    room[end] = b'\n';
+    let digits = write_digits(number, room, end);
+    let from = digits - head.len();
+    room[from..digits].copy_from_slice(head);
+    &room[from..]
 }

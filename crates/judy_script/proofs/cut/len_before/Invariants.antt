@@ -1,14 +1,13 @@
 use Rattle.std.proofs.Common.{◌≡◌, ◌+◌, true, length, take, drop}
-use Rattle.std.specs.List.{list_all}
-use Rattle.judy_script.specs.Cuts.{is_space}
-use Rattle.judy_script.proofs.tokens.front_len.Given as goal
+use Rattle.judy_script.specs.Cuts.{is_without}
+use Rattle.judy_script.proofs.cut.len_before.Given as goal
 
--- the bytes counted so far are all spaces, or none is one, and the rest stands behind them
+-- the bytes counted so far are without the byte, and the rest stands behind them
 abbrev pub invariant-chunks : goal.invariant-chunks
 invariant-chunks l = record {
   counted : l.count + length l.rest ≡ length l.text;
   rest : l.rest ≡ drop l.count l.text;
-  front : list_all (is_space l.spaces) (take l.count l.text) ≡ true;
+  front : is_without l.byte (take l.count l.text) ≡ true;
 }
 
 abbrev pub decreases-chunks : goal.decreases-chunks
