@@ -5,7 +5,7 @@ ghost use Rattle.judy_bits.specs.ByteSets as set;
 ghost use Rattle.judy_bits.specs.ByteSets.{IsByteSet};
 ghost use Rattle.judy_bits.specs.BitWords.{members_of};
 
-use crate::bits::{count, ones_below_one};
+use crate::bits::{count, fewer_ones, ones_below_one};
 use crate::bits_ref::BitsRef;
 use std::marker::Model;
 
@@ -114,6 +114,18 @@ impl Bits256 {
             Some(here) => Some(front + here as usize),
             None => None,
         }
+    }
+
+    /// How many members are below the byte, where it is known how many are below its word's first byte.
+    // As `place_behind`.
+    #[inline(always)]
+    pub(crate) fn rank_behind(&self, byte: u8, front: usize) -> usize
+        requires front { front ≡ set.rank self.now (64 * (byte / 64)) }
+        requires small { front < 256 }
+        ensures { result ≡ set.rank self.now byte }
+    {
+        let here = self.words[(byte / 64) as usize] & fewer_ones((byte % 64) as usize);
+        front + here.count_ones() as usize
     }
 
     /// The member at a place, counted from 0; none from the number of members on.

@@ -97,13 +97,14 @@ impl ByteSet {
     }
 
     /// How many members are below the byte.
+    // A call, since the ways down ask it of a byte without a child alone: compiled into them it costs each step some instructions.
+    #[inline(never)]
     pub fn rank(&self, byte: u8) -> usize
         ensures { result ≡ set.rank self.now byte }
     {
         match &self.members {
             Members::Linear(few) => few.rank(byte),
-            Members::Bitmap(_, bits) => bits.rank(byte),
-            Members::Full(_, bits) => bits.rank(byte),
+            Members::Bitmap(fronts, bits) | Members::Full(fronts, bits) => fronts.rank(bits, byte),
         }
     }
 

@@ -36,4 +36,14 @@ impl Fronts {
     {
         bits.place_behind(byte, usize::from(self.counts[(byte / 64) as usize]))
     }
+
+    /// How many members of that set are below the byte.
+    // As `place`.
+    #[inline(always)]
+    pub(crate) fn rank(&self, bits: &Bits256, byte: u8) -> usize
+        requires { AreFronts self.now.counts bits.now }
+        ensures { result ≡ set.rank bits.now byte }
+    {
+        bits.rank_behind(byte, usize::from(self.counts[(byte / 64) as usize]))
+    }
 }
