@@ -33,14 +33,8 @@ const CUTS: [(usize, usize, &[u64]); 8] = [
     (0, 5, &[]),
 ];
 
-// Blocks that take a copy of 3 words in a block of 4: smaller, equal and larger, with fewer words and with more.
-const COPIES: [(usize, &[u64]); 5] = [
-    (3, &[7, 7, 7]),
-    (4, &[]),
-    (4, &[7]),
-    (5, &[7, 7, 7, 7, 7]),
-    (65_535, &[7, 7]),
-];
+// Capacities of blocks that are made of 3 words.
+const ROOMS: [usize; 4] = [3, 4, 5, 65_535];
 
 // Tags that a block is given one after another.
 const TAGS: [u32; 5] = [1, 0xFFFF, 0x1_0000, 0, u32::MAX];
@@ -183,21 +177,23 @@ fn words_are_taken_out(rt: HostRuntime) -> Result<(), AllocError> {
     Ok(())
 }
 
-fn copy(rt: &impl Abort, block: &mut Block, other: &Block) {
-    assert!(rt; other.len() <= block.capacity());
-    block.copy_from(other);
+fn made_of(
+    rt: &impl Abort,
+    alloc: Global,
+    capacity: usize,
+    tag: u32,
+    words: &[u64],
+) -> Result<Block, AllocError> {
+    assert!(rt; words.len() <= capacity && 1 <= capacity && capacity <= 65_535);
+    Block::of_words(alloc, capacity, tag, words)
 }
 
 #[test]
-fn a_copy_has_the_words_and_the_tag(rt: HostRuntime) -> Result<(), AllocError> {
-    let mut other = block_of(&rt, rt.alloc(), 4, &[1, 2, 3])?;
-    other.set_tag(0xFEDC_BA98);
-    for &(capacity, words) in &COPIES {
-        let mut block = block_of(&rt, rt.alloc(), capacity, words)?;
-        copy(&rt, &mut block, &other);
+fn a_block_is_made_of_words_and_a_tag(rt: HostRuntime) -> Result<(), AllocError> {
+    for &capacity in &ROOMS {
+        let block = made_of(&rt, rt.alloc(), capacity, 0xFEDC_BA98, &[1, 2, 3])?;
         expect(&rt, &block, &[1, 2, 3], capacity, 0xFEDC_BA98, 0, capacity);
     }
-    expect(&rt, &other, &[1, 2, 3], 4, 0xFEDC_BA98, 0, 4);
     Ok(())
 }
 

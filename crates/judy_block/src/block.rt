@@ -48,6 +48,28 @@ impl Block {
         Ok(Block { cells, deed, alloc })
     }
 
+    /// A block of such words and with such a tag, with room for `capacity` words, from 1 to 65,535, into which the words have to fit. The
+    /// error is want of memory; nothing is kept then.
+    // Mostly the number of words is known where this is called, so that all is a few stores there.
+    #[inline(always)]
+    pub fn of_words(
+        alloc: Global,
+        capacity: usize,
+        tag: u32,
+        words: &[u64],
+    ) -> Result<Block, AllocError>
+        requires within { (1 ≤ capacity) × (capacity ≤ 65535) }
+        requires fits { length words.now ≤ capacity }
+        ensures { IfOk result
+            (λ block. block ≡ record { words = words.now; capacity = capacity; tag = tag }) }
+    {
+        let (mut cells, deed) = Cells::allocate(&alloc, 1 + capacity)?;
+        let front = cells.front_mut(1 + words.len());
+        front[0] = Header::new(words.len(), capacity, tag).bits;
+        front[1..].copy_from_slice(words);
+        Ok(Block { cells, deed, alloc })
+    }
+
     /// The number of words, at most the capacity.
     pub fn len(&self) -> usize
         ensures count { result ≡ length self.now.words }
@@ -161,18 +183,6 @@ impl Block {
         let cells = self.cells.front_mut(1 + used);
         cells[0] = header.with_used(used - n).bits;
         cells[1..].copy_within(i + n..used, i);
-    }
-
-    /// Takes the words and the tag of `other`, whose words have to fit; the capacity stays.
-    pub fn copy_from(&mut self, other: &Block)
-        requires { length other.now.words ≤ self.old.capacity }
-        ensures { self.new ≡ record self.old { words = other.now.words; tag = other.now.tag } }
-    {
-        let words = other.words();
-        let header = Header::new(words.len(), self.capacity(), other.tag());
-        let cells = self.cells.front_mut(1 + words.len());
-        cells[0] = header.bits;
-        cells[1..].copy_from_slice(words);
     }
 
     // The header, whose parts are the number of words, the capacity and the tag.

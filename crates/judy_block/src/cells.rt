@@ -47,7 +47,8 @@ impl Cells {
     ghost use Rattle.judy_block.specs.Lends.{lends_front, lends_word};
 
     // As many zeros in memory of their own, with the right to give it back. The error is want of memory;
-    // nothing is kept then.
+    // nothing is kept then. Where the number is known when this is compiled, the zeros are a few stores.
+    #[inline(always)]
     pub(crate) fn allocate<A: Allocator>(
         alloc: &A,
         count: usize,

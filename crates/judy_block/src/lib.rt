@@ -3,8 +3,8 @@
 //! A [`Block`] is one allocation behind one pointer. What a contract sees of it is a record: the list of
 //! its words, its capacity, and a tag, a number that the block keeps for the crate above. The calls are
 //! those of a small vector whose capacity is fixed: a gap of zeros is opened among the words or closed
-//! again, a word is read, written or lent, two words are put in, and all words are copied from another block. Only
-//! [`Block::new`] asks for memory; where it is refused, nothing is kept. A block is freed at its end.
+//! again, a word is read, written or lent, and two words are put in. Only [`Block::new`] and [`Block::of_words`] ask for
+//! memory; where it is refused, nothing is kept. A block is freed at its end.
 //!
 //! The layout is this project's own. The first word of the allocation is a header, with the number of
 //! words in use, the capacity and the tag (header.rt); the words in use follow, and then spare words.

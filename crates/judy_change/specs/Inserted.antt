@@ -24,10 +24,10 @@ IsInserted key value old new (Ok true) = IsAdded key value old new
 IsInserted key value old new (Ok false) = (has_key key old ≡ true) × (new ≡ old)
 IsInserted key value old new (Err refused) = (has_key key old ≡ false) × (new ≡ old)
 
--- A key may have no room in a node: it is an immediate, a full leaf, or a bitmap leaf or a branch that skips bytes that the key doesn't
+-- A key has no room in a node, or is there already: it is a full leaf, or a bitmap leaf or a branch that skips bytes that the key doesn't
 -- begin with.
 abbrev pub IsPast : {V : _} → ℕ → KindOf V → Type 0
-IsPast key (Imm head word) = Unit {0}
+IsPast key (Imm head word) = ⊥
 IsPast key (Leaf count block) = 32 ≤ count
 IsPast key (Bit skipped block) = key / 256 ≢ skipped
 IsPast key (Branch b) = key / 256 ^ (1 + b.value.width) ≢ number_of b.value.skip

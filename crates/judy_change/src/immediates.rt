@@ -12,7 +12,7 @@ ghost use Rattle.judy_change.specs.Inserted.{IsInserted};
 use crate::gap::put_at;
 use crate::inserts::in_order;
 use judy_leaf::{ImmOf, Words};
-use judy_node::{Head, KindOf, imm_of, kind_of_sorted, leaf_of_sorted};
+use judy_node::{Head, KindOf, imm_of, kind_of_sorted, leaf_of_two};
 use std::alloc::{AllocError, Global};
 
 // The node of an immediate whose keys have no values.
@@ -29,41 +29,50 @@ pub(crate) fn keys_kind<V: Words + Drop>(imm: ImmOf<V>) -> KindOf<V>
     KindOf::Imm(Head::of_keys(count, width), keys)
 }
 
-// Puts a key with its value into an immediate; where it is full, a leaf takes its place. The error is want of memory for that; the
-// immediate stays then.
+// Puts a key with its value into an immediate, which is given by its two words and stands at a place; where it is full, a leaf takes that
+// place. The error is want of memory for the leaf; the immediate stays then.
+#[inline(always)]
 pub(crate) fn into_immediate<V: Words + Drop>(
     alloc: Global,
-    head: Head,
+    kind: &mut KindOf<V>,
+    head: u64,
     word: u64,
     width: u8,
     key: u64,
     value: u64,
-) -> (KindOf<V>, Result<bool, AllocError>)
+) -> Result<bool, AllocError>
     requires one { V.WORDS ≤ 1 }
-    requires level { IsImm V.WORDS head word }
+    requires level { IsLevel V.WORDS kind.old }
+    requires here { tree_of V.WORDS kind.old ≡ imm_tree V.WORDS head word }
+    requires immediate { IsImm V.WORDS head word }
     requires child { IsChild V.WORDS width (imm_tree V.WORDS head word) }
     requires fits { key < 256 ^ width }
     requires no_value { V.WORDS ≡ 0 → value ≡ 0 }
-    ensures level { IsLevel V.WORDS result.0 }
-    ensures child { IsChild V.WORDS width (tree_of V.WORDS result.0) }
+    ensures level { IsLevel V.WORDS kind.new }
+    ensures child { IsChild V.WORDS width (tree_of V.WORDS kind.new) }
     ensures inserted { IsInserted key value (imm_tree V.WORDS head word)
-        (tree_of V.WORDS result.0) result.1 }
+        (tree_of V.WORDS kind.new) result }
 {
-    let mut imm = imm_of::<V>(width, head.number(), word);
+    let mut imm = imm_of::<V>(width, head, word);
     if imm.find(key).is_some() {
-        return (KindOf::Imm(head, word), Ok(false));
+        return Ok(false);
     }
     if imm.is_full() {
         return match past_immediate(alloc, &imm, width, key, value) {
-            Ok(kind) => (kind, Ok(true)),
-            Err(refused) => (KindOf::Imm(head, word), Err(refused)),
+            Ok(leaf) => {
+                *kind = leaf;
+                Ok(true)
+            }
+            Err(refused) => Err(refused),
         };
     }
     imm.insert_pair(key, value);
-    (keys_kind(imm), Ok(true))
+    *kind = keys_kind(imm);
+    Ok(true)
 }
 
 // The leaf of a full immediate's keys and one more. The error is want of memory. Mostly the immediate has one key.
+#[inline(always)]
 fn past_immediate<V: Words + Drop>(
     alloc: Global,
     full: &ImmOf<V>,
@@ -85,8 +94,8 @@ fn past_immediate<V: Words + Drop>(
     if full.len() != 1 {
         return past_few(alloc, full, width, key, value);
     }
-    let both = in_order((full.key_at(0), full.value_at(0)), (key, value));
-    leaf_of_sorted(alloc, width, &both)
+    let (low, high) = in_order((full.key_at(0), full.value_at(0)), (key, value));
+    leaf_of_two(alloc, width, low, high)
 }
 
 // The same where there may be more keys than one.

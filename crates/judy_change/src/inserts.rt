@@ -12,7 +12,7 @@ ghost use Rattle.judy_change.specs.Inserted.{has_key, IsInserted};
 
 use crate::way_down::{into_childless, into_kind};
 use judy_leaf::Words;
-use judy_node::{ChildOf, KindOf, NodeOf, RootOf, kind_of_sorted};
+use judy_node::{ChildOf, KindOf, NodeOf, RootOf, leaf_of_two};
 use std::alloc::{AllocError, Global};
 
 /// Puts a key into a tree. True: it was absent, and stands there with the value 0. False: it was there, with its value, and
@@ -130,21 +130,21 @@ pub(crate) fn beside_one<V: Words + Drop>(
     if only == key {
         return (RootOf::One(only, there), Ok(false));
     }
-    let both = in_order((only, there), (key, value));
-    match kind_of_sorted(alloc, 8, &both) {
+    let (low, high) = in_order((only, there), (key, value));
+    match leaf_of_two(alloc, 8, low, high) {
         Ok(kind) => (RootOf::Many(ChildOf::close(kind)), Ok(true)),
         Err(refused) => (RootOf::One(only, there), Err(refused)),
     }
 }
 
 // Two pairs by ascending key.
-pub(crate) fn in_order(one: (u64, u64), more: (u64, u64)) -> [(u64, u64); 2]
+pub(crate) fn in_order(one: (u64, u64), more: (u64, u64)) -> ((u64, u64), (u64, u64))
     requires { one.0 ≢ more.0 }
-    ensures { result ≡ with_pair more.0 more.1 (one ∷ []) }
+    ensures { result.0 ∷ result.1 ∷ [] ≡ with_pair more.0 more.1 (one ∷ []) }
 {
     if one.0 < more.0 {
-        [one, more]
+        (one, more)
     } else {
-        [more, one]
+        (more, one)
     }
 }

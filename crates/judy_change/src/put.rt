@@ -11,19 +11,20 @@ ghost use Rattle.judy_node.specs.Populations.{AreSums};
 ghost use Rattle.judy_change.specs.Inserted.{IsAdded, IsInserted};
 
 use judy_leaf::Words;
-use judy_node::{BranchOf, ChildOf, immediate_of_sorted, make_room};
+use judy_node::{BranchOf, ChildOf, immediate_of_one, make_room};
 use std::alloc::{AllocError, Global};
 
-// The node of one key, read by its lowest bytes, with its value. It takes no memory.
+// The node of one key with its value. It takes no memory.
 pub(crate) fn one_key<V: Words + Drop>(width: u8, key: u64, value: u64) -> ChildOf<V>
     requires one { V.WORDS ≤ 1 }
     requires width { (1 ≤ width) × (width ≤ 7) }
+    requires fits { key < 256 ^ width }
     requires no_value { V.WORDS ≡ 0 → value ≡ 0 }
     ensures child { IsChild V.WORDS width result }
-    ensures pairs { result.pairs ≡ (key % 256 ^ width, value) ∷ [] }
+    ensures pairs { result.pairs ≡ (key, value) ∷ [] }
     ensures tight { IsTight result }
 {
-    ChildOf::close(immediate_of_sorted(width, &[(key, value)]))
+    ChildOf::close(immediate_of_one(width, key, value))
 }
 
 // Moves the last of some values to a place before it; those from there on move up by one, by one `memmove`.
@@ -127,6 +128,8 @@ pub(crate) fn put_child<V: Words + Drop>(
         return Err(AllocError);
     }
     put_key(branch, place, byte, rest, value);
-    branch.sums = branch.sums_of_children(alloc);
+    if branch.children.len() == 256 {
+        branch.sums = branch.sums_of_children(alloc);
+    }
     Ok(true)
 }

@@ -95,6 +95,10 @@ pub(crate) fn into_childless<V: Words + Drop>(
         (tree_of V.WORDS kind.new) result }
 {
     match kind {
+        KindOf::Imm(head, word) => {
+            let (head, word) = (head.number(), *word);
+            into_immediate(alloc, kind, head, word, width, key, value)
+        }
         KindOf::Leaf(count, block) => {
             if usize::from(*count) < LEAF_ROOM {
                 into_leaf::<V>(alloc, count, block, width, key, value)
@@ -109,11 +113,11 @@ pub(crate) fn into_childless<V: Words + Drop>(
                 replaced(alloc, kind, width, key, value)
             }
         }
-        _ => replaced(alloc, kind, width, key, value),
+        KindOf::Branch(_) => unreachable!(),
     }
 }
 
-// The same for a node that may become one of another kind: an immediate, or a node in which the key has no room.
+// The same for a node in which the key has no room, so that one of another kind takes its place.
 pub(crate) fn replaced<V: Words + Drop>(
     alloc: Global,
     kind: &mut KindOf<V>,
@@ -162,7 +166,7 @@ fn replacement<V: Words + Drop>(
         (tree_of V.WORDS result.0) result.1 }
 {
     match kind {
-        KindOf::Imm(head, word) => into_immediate(alloc, head, word, width, key, value),
+        KindOf::Imm(_, _) => unreachable!(),
         KindOf::Leaf(count, block) => into_full_leaf(alloc, count, block, width, key, value),
         KindOf::Bit(head, block) => past_bit(alloc, head, block, width, key, value),
         KindOf::Branch(branch) => past_branch(alloc, branch, key, value),

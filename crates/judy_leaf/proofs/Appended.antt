@@ -1,7 +1,7 @@
 -- The pairs of a leaf written into its block one part after the other: the values, then the keys.
 use Rattle.std.proofs.Common.{◌≡◌, ℕ, zero, suc, ◌+◌, ◌-◌, ◌*◌, ◌/◌, ◌%◌, ◌^◌, ◌<◌, ◌≤◌, List, [], ◌∷◌, ◌++◌, length, take, drop, replicate, get_or, set, refl, ap, sym, ◌∙◌, subst, arith, append_assoc, length-append}
 use Rattle.std.specs.List.{AllByRecursion, insert}
-use Rattle.std.proofs.Math.Nat.{div-eq_of_lt}
+use Rattle.std.proofs.Math.Nat.{div-eq_of_lt, div-eq_of_lt-le, mod-eq_of_lt}
 use Rattle.std.proofs.lemmas.Nat.{mod_below}
 use Rattle.std.proofs.lemmas.List.{append-nil, take_all, drop_all, take_more, take_more_set, length-replicate, take-append-le}
 use Rattle.judy_block.specs.Contents.{Contents, with_gap}
@@ -145,6 +145,23 @@ module _ (width : ℕ) (is_width : IsWidth width) (one : 8 / width ≡ 1) where
   all_tight [] below = tt
   all_tight (key ∷ keys) below = (fits_word width is_width one key below.0, all_tight keys below.1)
 
+  -- Keys behind all words.
+  pub keys_appended : (start n : ℕ) (keys : List ℕ) (before after : Contents) → after.words ≡ before.words ++ keys → start ≡ length before.words
+      → after.capacity ≡ before.capacity → after.tag ≡ before.tag → length keys ≡ n → n ≤ 32 → AllByRecursion (λ key. key < 256 ^ width) keys → IsKeyChange width start 0 n (λ _. keys) before after
+  keys_appended start n keys before after words is capacity tag many few below =
+      let back : drop start after.words ≡ keys = ap (drop start) words ∙ drop_front before.words keys start is in
+      let as_many = words_are width is_width one n in
+      let sum = ap length words ∙ length-append before.words keys in
+      let exact : length after.words ≡ start + words_for width n = omega arith in
+      let packed : IsPacked width n (drop start after.words) = subst (IsPacked width n) (sym back) (packed_words width is_width one n keys many (all_tight keys below)) in
+      record {
+        capacity = capacity;
+        tag = tag;
+        front = ap (take start) words ∙ take-append-le start before.words keys (omega arith);
+        keys = record { few = few; exact = exact; packed = packed };
+        changed = keys_are width is_width one n (drop start after.words) packed ∙ ap (take n) back ∙ take_all n keys (omega arith);
+      }
+
   -- All keys written.
   pub keys_written : (start n at : ℕ) (keys : List ℕ) (before gap after : Contents) → gap ≡ record before { words = with_gap start n before.words } → start ≡ length before.words
       → after.capacity ≡ gap.capacity → after.tag ≡ gap.tag → length after.words ≡ length gap.words → at ≡ n → length keys ≡ n → n ≤ 32
@@ -154,18 +171,7 @@ module _ (width : ℕ) (is_width : IsWidth width) (one : 8 / width ≡ 1) where
       let all = ap length behind ∙ gap_length before.words n in
       let front : take start gap.words ≡ before.words = ap (take start) behind ∙ gap_front before.words start n is in
       let words : after.words ≡ before.words ++ keys = sym (take_all (start + at) after.words (omega arith)) ∙ so_far ∙ (λ t. front t ++ take_all at keys (omega arith) t) in
-      let back : drop start after.words ≡ keys = ap (drop start) words ∙ drop_front before.words keys start is in
-      let as_many = words_are width is_width one n in
-      let sum = ap length words ∙ length-append before.words keys in
-      let exact : length after.words ≡ start + words_for width n = omega arith in
-      let packed : IsPacked width n (drop start after.words) = subst (IsPacked width n) (sym back) (packed_words width is_width one n keys many (all_tight keys below)) in
-      record {
-        capacity = capacity ∙ ap (λ b. b.capacity) opened;
-        tag = tag ∙ ap (λ b. b.tag) opened;
-        front = ap (take start) words ∙ take-append-le start before.words keys (omega arith);
-        keys = record { few = few; exact = exact; packed = packed };
-        changed = keys_are width is_width one n (drop start after.words) packed ∙ ap (take n) back ∙ take_all n keys (omega arith);
-      }
+      keys_appended start n keys before after words is (capacity ∙ ap (λ b. b.capacity) opened) (tag ∙ ap (λ b. b.tag) opened) many few below
 
 -- ---- pairs
 
@@ -210,3 +216,32 @@ put_keys_alone words width pairs before after none tagged zeros put =
           ∙ ap (λ keys. pairs_of keys []) put.changed
           ∙ keys_alone (256 ^ width) pairs zeros,
     )
+
+-- ---- values and keys in a block at once, where a word has one key
+
+low_same : (unit : ℕ) (pairs : List (ℕ × ℕ)) → AllByRecursion (λ key. key < unit) (keys_of pairs) → low_pairs unit pairs ≡ pairs
+low_same unit [] below = refl
+low_same unit (pair ∷ pairs) below = let same = mod-eq_of_lt below.0 in λ t. (same t, pair.1) ∷ low_same unit pairs below.1 t
+
+module _ (words width : ℕ) (pairs : List (ℕ × ℕ)) (block : Contents) (wide : 4 < width) (most : width ≤ 8) (tagged : block.tag ≡ width) (few : length pairs ≤ 32)
+    (below : AllByRecursion (λ key. key < 256 ^ width) (keys_of pairs)) where
+  same_keys : keys_of (low_pairs (256 ^ width) pairs) ≡ keys_of pairs
+  same_keys = ap keys_of (low_same (256 ^ width) pairs below)
+
+  keys_behind : (front : List ℕ) → block.words ≡ front ++ keys_of pairs
+      → IsKeyChange width (length front) 0 (length pairs) (λ _. keys_of (low_pairs (256 ^ width) pairs)) (record block { words = front }) block
+  keys_behind front is =
+      let one : 8 / width ≡ 1 = div-eq_of_lt-le width (omega arith) (omega arith) in
+      keys_appended width (record { some = omega arith; most = most }) one (length front) (length pairs) (keys_of (low_pairs (256 ^ width) pairs)) (record block { words = front }) block
+      (is ∙ ap (λ l. front ++ l) (sym same_keys)) refl refl refl (length-keys_low (256 ^ width) pairs) few (subst (AllByRecursion (λ key. key < 256 ^ width)) (sym same_keys) below)
+
+  pub made_with_values : words ≡ 1 → block.words ≡ values_of pairs ++ keys_of pairs
+      → (block.tag ≡ width) × AreKeysFrom width (length pairs) (words * length pairs) block × ((leaf_list words (length pairs) block).pairs ≡ low_pairs (256 ^ width) pairs)
+  made_with_values one is =
+      let mid : Contents = record block { words = values_of pairs } in
+      put_with_values words width pairs mid block one tagged refl
+      (subst (λ n. IsKeyChange width n 0 (length pairs) (λ _. keys_of (low_pairs (256 ^ width) pairs)) mid block) (length-values pairs) (keys_behind (values_of pairs) is))
+
+  pub made_alone : words ≡ 0 → AllByRecursion (λ pair. pair.1 ≡ 0) pairs → block.words ≡ keys_of pairs
+      → (block.tag ≡ width) × AreKeysFrom width (length pairs) (words * length pairs) block × ((leaf_list words (length pairs) block).pairs ≡ low_pairs (256 ^ width) pairs)
+  made_alone none zeros is = put_keys_alone words width pairs (record block { words = [] }) block none tagged zeros (keys_behind [] is)

@@ -119,7 +119,7 @@ impl<V: Words + Drop> ImmOf<V> {
         if V::WORDS == 1 {
             self.count == 1
         } else {
-            self.count == one_word::room(self.width)
+            one_word::is_full(self.width, self.count)
         }
     }
 

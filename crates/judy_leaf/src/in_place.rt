@@ -49,14 +49,31 @@ pub fn put_in_leaf<V: Words + Drop>(
     let width = usize::from(width);
     let before = usize::from(*count);
     let needed = V::WORDS * (before + 1) + keys::words_of(width, before + 1);
-    pairs::give_room(block, alloc, needed, roomy(needed))?;
+    let capacity = roomy_for::<V>(width, before + 1, needed);
+    pairs::give_room(block, alloc, needed, capacity)?;
     pairs::put::<V>(block, width, before, at, key, value);
     *count += 1;
     Ok(())
 }
 
-// The capacity of a block that outgrew its own: whole fours of words, or whole eights where there are many, so that a leaf with values
-// doesn't grow at every second key.
+// The capacity of a block that outgrew its own, for so many keys that need so many words. Keys of eight bytes stand in a root alone.
+#[inline(always)]
+fn roomy_for<V: Words + Drop>(width: usize, count: usize, needed: usize) -> usize
+    requires words { V.WORDS ≤ 1 }
+    requires few { count ≤ 32 }
+    requires some { 1 ≤ needed }
+    requires needed { needed ≤ V.WORDS * count + count }
+    ensures room { needed ≤ result }
+    ensures within { (1 ≤ result) × (result ≤ 72) }
+{
+    if width == 8 {
+        roomy_root::<V>(count)
+    } else {
+        roomy(needed)
+    }
+}
+
+// Whole fours of words, or whole eights where there are many, so that a leaf with values doesn't grow at every second key.
 fn roomy(needed: usize) -> usize
     requires { needed ≤ 66 }
     ensures fours { (needed + 3) / 4 * 4 ≤ result }
@@ -66,6 +83,33 @@ fn roomy(needed: usize) -> usize
         (needed + 3) / 4 * 4
     } else {
         (needed + 7) / 8 * 8
+    }
+}
+
+// A root's leaf grows in few steps, since each array has but one.
+fn roomy_root<V: Words + Drop>(count: usize) -> usize
+    requires words { V.WORDS ≤ 1 }
+    requires few { count ≤ 32 }
+    ensures room { V.WORDS * count + count ≤ result }
+    ensures within { (1 ≤ result) × (result ≤ 72) }
+{
+    let keys = keys_of_root(count);
+    V::WORDS * keys + keys
+}
+
+// For how many keys a root's leaf has room that is to hold so many.
+fn keys_of_root(count: usize) -> usize
+    requires { count ≤ 32 }
+    ensures room { count ≤ result }
+    ensures within { (1 ≤ result) × (result ≤ 32) }
+{
+    match count {
+        0..=4 => 4,
+        5..=7 => 7,
+        8..=10 => 10,
+        11..=16 => 16,
+        17..=24 => 24,
+        _ => 32,
     }
 }
 

@@ -377,7 +377,7 @@ pub(crate) fn words_of(width: usize, count: usize) -> usize
     requires width { IsWidth width }
     requires few { count ≤ 33 }
     ensures value { result ≡ words_for width count }
-    ensures within { result ≤ 33 }
+    ensures within { result ≤ count }
 {
     at_width!(width, call, words_for, count)
 }

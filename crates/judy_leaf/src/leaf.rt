@@ -1,6 +1,6 @@
 //! A leaf: up to 32 keys of one width in a block.
 
-ghost use Rattle.std.specs.Prelude.{◌≡◌, ◌+◌, ◌*◌, ◌<◌, ◌≤◌, ◌^◌, length, slice_index, IfOk, OnOk, OnErr, IsFalse};
+ghost use Rattle.std.specs.Prelude.{◌≡◌, ◌+◌, ◌*◌, ◌<◌, ◌≤◌, ◌^◌, [], ◌∷◌, length, slice_index, IfOk, OnOk, OnErr, IsFalse};
 ghost use Rattle.std.specs.List.{remove, AllByRecursion};
 ghost use Rattle.judy_bits.specs.ByteSets as set;
 ghost use Rattle.judy_leaf.specs.KeyLists.{keys_of, values_of, with_pair, with_value_at, low_pairs, IsKeyList};
@@ -159,6 +159,37 @@ impl<V: Words + Drop> LeafOf<V> {
     {
         let needed = LeafOf::<V>::words_needed(width, pairs);
         LeafOf::filled(alloc, width, pairs, (needed.max(1) + 1) / 2 * 2)
+    }
+
+    /// The leaf of two pairs whose keys ascend and have `width` bytes, 1 to 8; else as `from_sorted`.
+    // Where a word has one key, as in small arrays, the words of the block are those at hand.
+    #[inline(always)]
+    pub fn of_two(
+        alloc: Global,
+        width: u8,
+        low: (u64, u64),
+        high: (u64, u64),
+    ) -> Result<LeafOf<V>, AllocError>
+        requires words { V.WORDS ≤ 1 }
+        requires list { IsKeyList
+            (record { width = width; pairs = low_pairs (256 ^ width) (low ∷ high ∷ []) }) }
+        requires below_low { low.0 < 256 ^ width }
+        requires below_high { high.0 < 256 ^ width }
+        requires no_values { V.WORDS ≡ 0
+            → AllByRecursion (λ pair. pair.1 ≡ 0) (low ∷ high ∷ []) }
+        ensures { IfOk result
+            (λ leaf. leaf
+            ≡ record { width = width; pairs = low_pairs (256 ^ width) (low ∷ high ∷ []) }) }
+    {
+        if width <= 4 {
+            return LeafOf::from_sorted(alloc, width, &[low, high]);
+        }
+        let block = pairs::two_words::<V>(alloc, width, low, high)?;
+        Ok(LeafOf {
+            count: 2,
+            block,
+            words: PhantomData,
+        })
     }
 
     // How many words of a block the pairs take.

@@ -3,7 +3,7 @@
 //! Where there is one key, the word is that key, and a look-up is one comparison: so the calls on its way stand inside their callers, who
 //! mostly know whether there is one.
 
-ghost use Rattle.std.specs.Prelude.{◌≡◌, ◌+◌, ◌-◌, ◌/◌, ◌<◌, ◌≤◌, ◌^◌, MatchOption, [], ◌∷◌, slice_index};
+ghost use Rattle.std.specs.Prelude.{◌≡◌, ◌+◌, ◌-◌, ◌/◌, ◌<◌, ◌≤◌, ◌^◌, ◌==◌, MatchOption, [], ◌∷◌, slice_index};
 ghost use Rattle.std.specs.List.{insert, remove};
 ghost use Rattle.std.specs.List.Sorted.{IsStrictlySortedBy};
 ghost use Rattle.judy_model.specs.Keys.{word_order};
@@ -18,12 +18,13 @@ use crate::packed::{find_in, key_of, next_in, previous_in, rank_in};
 use crate::place;
 use crate::widths::{at_width, call};
 
-// How many keys a word holds.
-pub(crate) fn room(width: u8) -> u8
-    requires { IsWidth width }
-    ensures { result ≡ 8 / width }
+// Whether a word that holds so many keys has no place for another. A product tells it sooner than a quotient.
+pub(crate) fn is_full(width: u8, count: u8) -> bool
+    requires width { IsWidth width }
+    requires within { count ≤ 8 / width }
+    ensures { result ≡ (count == 8 / width) }
 {
-    8 / width
+    8 < (count + 1) * width
 }
 
 // How many of the keys are below a key.

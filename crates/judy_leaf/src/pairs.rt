@@ -1,6 +1,6 @@
 //! Changes of a leaf's block: a pair of key and value more, or one less.
 
-ghost use Rattle.std.specs.Prelude.{◌≡◌, ◌+◌, ◌-◌, ◌*◌, ◌<◌, ◌≤◌, ◌^◌, length, [], OnOk, OnErr};
+ghost use Rattle.std.specs.Prelude.{◌≡◌, ◌+◌, ◌-◌, ◌*◌, ◌<◌, ◌≤◌, ◌^◌, length, [], ◌∷◌, IfOk, OnOk, OnErr};
 ghost use Rattle.std.specs.List.{AllByRecursion};
 ghost use Rattle.judy_leaf.specs.KeyLists.{low_pairs, IsKeyList};
 ghost use Rattle.judy_leaf.specs.Leaves.{words_for, leaf_list, AreKeysFrom};
@@ -38,8 +38,7 @@ fn grow(block: &mut Block, alloc: Global, capacity: usize) -> Result<(), AllocEr
     ensures room { OnOk result (HasRoom capacity block.old block.new) }
     ensures unchanged { OnErr result (block.new ≡ block.old) }
 {
-    let mut larger = Block::new(alloc, capacity)?;
-    larger.copy_from(block);
+    let larger = Block::of_words(alloc, capacity, block.tag(), block.words())?;
     *block = larger;
     Ok(())
 }
@@ -129,4 +128,32 @@ pub(crate) fn put_all<V: Words + Drop>(block: &mut Block, width: usize, pairs: &
     } else {
         keys::append(width, block, 0, pairs);
     }
+}
+
+// The block of a leaf of two pairs, where a word has one key: the values, if there are any, and the keys. The error is want of memory.
+#[inline(always)]
+pub(crate) fn two_words<V: Words + Drop>(
+    alloc: Global,
+    width: u8,
+    low: (u64, u64),
+    high: (u64, u64),
+) -> Result<Block, AllocError>
+    requires one { V.WORDS ≤ 1 }
+    requires wide { (4 < width) × (width ≤ 8) }
+    requires below_low { low.0 < 256 ^ width }
+    requires below_high { high.0 < 256 ^ width }
+    requires no_values { V.WORDS ≡ 0
+        → AllByRecursion (λ pair. pair.1 ≡ 0) (low ∷ high ∷ []) }
+    ensures tag { IfOk result (λ block. block.tag ≡ width) }
+    ensures keys { IfOk result (λ block. AreKeysFrom width 2 (V.WORDS * 2) block) }
+    ensures pairs { IfOk result (λ block. (leaf_list V.WORDS 2 block).pairs
+        ≡ low_pairs (256 ^ width) (low ∷ high ∷ [])) }
+{
+    let tag = u32::from(width);
+    if V::WORDS == 1 {
+        let block = Block::of_words(alloc, 8, tag, &[low.1, high.1, low.0, high.0])?;
+        return Ok(block);
+    }
+    let block = Block::of_words(alloc, 4, tag, &[low.0, high.0])?;
+    Ok(block)
 }

@@ -109,6 +109,24 @@ pub fn immediate_of_sorted<V: Words + Drop>(width: u8, pairs: &[(u64, u64)]) -> 
     }
 }
 
+/// The immediate of one pair, whose key has `width` bytes, 1 to 7. It takes no memory.
+#[inline(always)]
+pub fn immediate_of_one<V: Words + Drop>(width: u8, key: u64, value: u64) -> KindOf<V>
+    requires one { V.WORDS ≤ 1 }
+    requires width { (1 ≤ width) × (width ≤ 7) }
+    requires fits { key < 256 ^ width }
+    requires no_value { V.WORDS ≡ 0 → value ≡ 0 }
+    ensures level { IsLevel V.WORDS result }
+    ensures built { IsBuilt V.WORDS width ((key, value) ∷ []) (tree_of V.WORDS result) }
+{
+    if V::WORDS == 0 {
+        let (count, keys) = ImmOf::<V>::one(width, key, value).into_parts();
+        KindOf::Imm(Head::of_keys(count, width), keys)
+    } else {
+        KindOf::Imm(Head::new(key), value)
+    }
+}
+
 /// The leaf of sorted pairs, more than an immediate holds and at most 32, whose keys are read by their lowest bytes, `width` of them.
 /// The error is want of memory; nothing is kept then.
 #[inline(always)]
@@ -129,7 +147,30 @@ pub fn leaf_of_sorted<V: Words + Drop>(
     Ok(KindOf::Leaf(count, block))
 }
 
-// The same in a block that has room for hardly more, for a leaf that stands behind all others when it is made.
+/// The leaf of two pairs, of which an immediate holds but one; their keys ascend and have `width` bytes, 1 to 8. The error is want of
+/// memory; nothing is kept then.
+#[inline(always)]
+pub fn leaf_of_two<V: Words + Drop>(
+    alloc: Global,
+    width: u8,
+    low: (u64, u64),
+    high: (u64, u64),
+) -> Result<KindOf<V>, AllocError>
+    requires one { V.WORDS ≤ 1 }
+    requires width { (1 ≤ width) × (width ≤ 8) }
+    requires more { immediate_limit V.WORDS width < 2 }
+    requires below_low { low.0 < 256 ^ width }
+    requires below_high { high.0 < 256 ^ width }
+    requires map { IsMap V.WORDS 0 (256 ^ width) (low_pairs (256 ^ width) (low ∷ high ∷ [])) }
+    ensures level { IfOk result (λ kind. IsLevel V.WORDS kind) }
+    ensures built { IfOk result
+        (λ kind. IsBuilt V.WORDS width (low ∷ high ∷ []) (tree_of V.WORDS kind)) }
+{
+    let (count, block) = LeafOf::<V>::of_two(alloc, width, low, high)?.into_parts();
+    Ok(KindOf::Leaf(count, block))
+}
+
+// As `leaf_of_sorted`, in a block that has room for hardly more, for a leaf that stands behind all others when it is made.
 fn snug_leaf<V: Words + Drop>(
     alloc: Global,
     width: u8,

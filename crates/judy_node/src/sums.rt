@@ -31,14 +31,10 @@ impl Sums {
         requires { population children.now < 2 ^ 64 }
         ensures { AreSums result children.now }
     {
-        if children.len() != 256 {
-            return Sums::none();
-        }
-        match Box::new(alloc, groups_of(children)) {
-            Ok(groups) => Sums {
-                groups: Some(groups),
-            },
-            Err(_) => Sums::none(),
+        if children.len() == 256 {
+            all_sums(alloc, children)
+        } else {
+            Sums::none()
         }
     }
 
@@ -66,6 +62,22 @@ impl Sums {
         if let Some(groups) = &mut self.groups {
             groups[place / 16] -= 1;
         }
+    }
+}
+
+// The sums of 256 children; none where there is no memory for them. They are seldom made: compiled into the callers, room for them on the
+// stack is made ready at each child.
+#[inline(never)]
+fn all_sums<V: Words + Drop>(alloc: Global, children: &[ChildOf<V>]) -> Sums
+    requires all { length children.now ≡ 256 }
+    requires fits { population children.now < 2 ^ 64 }
+    ensures { AreSums result children.now }
+{
+    match Box::new(alloc, groups_of(children)) {
+        Ok(groups) => Sums {
+            groups: Some(groups),
+        },
+        Err(_) => Sums::none(),
     }
 }
 

@@ -5,7 +5,7 @@ use Rattle.judy_leaf.specs.KeyLists.{keys_of, values_of, with_pair}
 use Rattle.judy_node.specs.Trees.{Pairs}
 use Rattle.judy_node.specs.Kinds.{tree_of}
 use Rattle.judy_node.specs.Built.{IsBuilt}
-use Rattle.judy_change.proofs.Added.{more-low}
+use Rattle.judy_change.proofs.Added.{more-map, more-low}
 use Rattle.judy_change.proofs.immediates.past_immediate.Goals as goal
 
 -- The only pair of a list, by its key and its value.
@@ -23,24 +23,44 @@ apart : (pairs : Pairs) (only key : ℕ) → length pairs ≡ 1 → only ≡ get
 apart [] only key one first absent same = absurd (omega arith)
 apart (pair ∷ pairs) only key one first absent same = true≢false (sym (ap (λ b. b || has (keys_of pairs) key) (eq-eqb pair.0 key (sym first ∙ same))) ∙ absent)
 
-pub in_order-both-requires : goal.in_order-both-requires
-in_order-both-requires g c =
+pub in_order-requires : goal.in_order-requires
+in_order-requires g c =
     let one = c.if-len-ne1.false in
     let counted = c.len.ensures.count in
     apart c.args.full.now.pairs c.key_at.result c.args.key (omega arith) c.key_at.ensures c.requires.absent
 
-pub leaf_of_sorted-requires-clause-map : goal.leaf_of_sorted-requires-clause-map
-leaf_of_sorted-requires-clause-map g c =
+pub leaf_of_two-requires-clause-below_low : goal.leaf_of_two-requires-clause-below_low
+leaf_of_two-requires-clause-below_low g c =
     let list = c.args.full.now.pairs in
     let one = c.if-len-ne1.false in
     let counted = c.len.ensures.count in
-    let both = both_are list c.in_order-both.result c.args.key c.args.value c.key_at.result c.value_at.result (omega arith) c.key_at.ensures c.value_at.ensures c.in_order-both.ensures in
-    more-low g.V.Words.WORDS c.args.width c.args.key c.args.value list c.requires.map c.requires.absent c.requires.fits c.requires.no_value c.in_order-both.result both
+    let pairs : Pairs = c.in_order.result.0 ∷ c.in_order.result.1 ∷ [] in
+    let both = both_are list pairs c.args.key c.args.value c.key_at.result c.value_at.result (omega arith) c.key_at.ensures c.value_at.ensures c.in_order.ensures in
+    (more-map g.V.Words.WORDS c.args.width c.args.key c.args.value list c.requires.map c.requires.absent c.requires.fits c.requires.no_value pairs both).1
+
+pub leaf_of_two-requires-clause-below_high : goal.leaf_of_two-requires-clause-below_high
+leaf_of_two-requires-clause-below_high g c =
+    let list = c.args.full.now.pairs in
+    let one = c.if-len-ne1.false in
+    let counted = c.len.ensures.count in
+    let pairs : Pairs = c.in_order.result.0 ∷ c.in_order.result.1 ∷ [] in
+    let both = both_are list pairs c.args.key c.args.value c.key_at.result c.value_at.result (omega arith) c.key_at.ensures c.value_at.ensures c.in_order.ensures in
+    (more-map g.V.Words.WORDS c.args.width c.args.key c.args.value list c.requires.map c.requires.absent c.requires.fits c.requires.no_value pairs both).3.1
+
+pub leaf_of_two-requires-clause-map : goal.leaf_of_two-requires-clause-map
+leaf_of_two-requires-clause-map g c =
+    let list = c.args.full.now.pairs in
+    let one = c.if-len-ne1.false in
+    let counted = c.len.ensures.count in
+    let pairs : Pairs = c.in_order.result.0 ∷ c.in_order.result.1 ∷ [] in
+    let both = both_are list pairs c.args.key c.args.value c.key_at.result c.value_at.result (omega arith) c.key_at.ensures c.value_at.ensures c.in_order.ensures in
+    more-low g.V.Words.WORDS c.args.width c.args.key c.args.value list c.requires.map c.requires.absent c.requires.fits c.requires.no_value pairs both
 
 pub returns-clause-built : goal.returns-clause-built
 returns-clause-built g c =
     let list = c.args.full.now.pairs in
     let one = c.if-len-ne1.false in
     let counted = c.len.ensures.count in
-    let both = both_are list c.in_order-both.result c.args.key c.args.value c.key_at.result c.value_at.result (omega arith) c.key_at.ensures c.value_at.ensures c.in_order-both.ensures in
-    subst (λ (ps : Pairs). IfOk c.leaf_of_sorted.result (λ kind. IsBuilt g.V.Words.WORDS c.args.width ps (tree_of g.V.Words.WORDS kind))) both c.leaf_of_sorted.ensures.built
+    let pairs : Pairs = c.in_order.result.0 ∷ c.in_order.result.1 ∷ [] in
+    let both = both_are list pairs c.args.key c.args.value c.key_at.result c.value_at.result (omega arith) c.key_at.ensures c.value_at.ensures c.in_order.ensures in
+    subst (λ (ps : Pairs). IfOk c.leaf_of_two.result (λ kind. IsBuilt g.V.Words.WORDS c.args.width ps (tree_of g.V.Words.WORDS kind))) both c.leaf_of_two.ensures.built

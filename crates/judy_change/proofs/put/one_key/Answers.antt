@@ -1,7 +1,6 @@
-use Rattle.std.proofs.Common.{◌^◌, arith}
-use Rattle.std.proofs.lemmas.Nat.{mod_below}
-use Rattle.judy_model.proofs.ByteLemmas.{unit_pos}
+use Rattle.std.proofs.Common.{◌∷◌, [], ap, ◌∙◌}
+use Rattle.std.proofs.Math.Nat.{mod-eq_of_lt}
 use Rattle.judy_change.proofs.put.one_key.Goals as goal
 
-pub immediate_of_sorted-requires-clause-map : goal.immediate_of_sorted-requires-clause-map
-immediate_of_sorted-requires-clause-map g c = (omega arith, mod_below c.args.key (256 ^ c.args.width) (unit_pos c.args.width), c.requires.no_value, tt)
+pub returns-clause-pairs : goal.returns-clause-pairs
+returns-clause-pairs g c = ap (λ tree. tree.pairs) c.close.ensures ∙ c.immediate_of_one.ensures.built.same ∙ (λ t. (mod-eq_of_lt c.requires.fits t, c.args.value) ∷ [])

@@ -1,5 +1,4 @@
-use Rattle.std.proofs.Common.{◌≡◌, ◌+◌, ◌*◌, ◌^◌, ◌<◌, [], ◌∷◌, length, sym, ap, ◌∙◌, subst, arith}
-use Rattle.std.proofs.Math.Nat.{mod-eq_of_lt}
+use Rattle.std.proofs.Common.{◌≡◌, ◌+◌, ◌*◌, ◌^◌, ◌<◌, length, sym, ap, ◌∙◌, subst, arith}
 use Rattle.std.specs.List.{insert}
 use Rattle.judy_model.specs.WordBytes.{number_of}
 use Rattle.judy_model.specs.Forms.{loose_in}
@@ -29,7 +28,7 @@ returns g c =
     let small : c.args.byte < 256 = omega (arith, c.ranges.byte) in
     let set = children-IsByteSet words b.width 0 b.bytes b.children.items c.requires.level.parts.children in
     let bytes = made.bytes ∙ with_other b.bytes c.args.byte set.ascending c.requires.absent in
-    let pairs = c.one_key-child.ensures.pairs ∙ (λ t. (mod-eq_of_lt c.requires.fits t, c.args.value) ∷ []) in
+    let pairs = c.one_key-child.ensures.pairs in
     let same : record { width = b.width; skip = b.skip; bytes = insert b.bytes (rank b.bytes c.args.byte) c.args.byte; kids = insert b.children.items (rank b.bytes c.args.byte) c.one_key-child.result; count = b.population + 1 }
     ≡ record { width = c.add_child.new.branch.width; skip = c.add_child.new.branch.skip; bytes = c.add_child.new.branch.bytes; kids = c.add_child.new.branch.children.items; count = c.add_child.new.branch.population + 1 } =
     λ t. record { width = sym made.width t; skip = sym made.skip t; bytes = sym bytes t; kids = sym made.children t; count = sym made.population t + 1 } in
