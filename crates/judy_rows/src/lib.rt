@@ -5,24 +5,4 @@
 #![tactic(auto)]
 
 #[cfg(test)]
-mod arrays;
-#[cfg(test)]
-mod bad_pairs;
-#[cfg(test)]
-mod check;
-#[cfg(test)]
-mod dump_checks;
-#[cfg(test)]
-mod dumps;
-#[cfg(test)]
-mod faults;
-#[cfg(test)]
-mod keys;
-#[cfg(test)]
-mod lines;
-#[cfg(test)]
-mod refusals;
-#[cfg(test)]
-mod scripts;
-#[cfg(test)]
-mod second_format;
+mod rows;

@@ -1,6 +1,6 @@
 //! Rows of whole scripts.
 
-use crate::check::{check_answers, check_len, check_value};
+use super::check::{check_answers, check_len, check_value};
 use judy_shelf::Shelf;
 
 pub const FIRST_SCRIPT: &[u8; 59] =

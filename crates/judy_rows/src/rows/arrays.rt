@@ -1,6 +1,6 @@
 //! Rows of arrays over words.
 
-use crate::check::{check_answers, check_len, check_lines, check_table};
+use super::check::{check_answers, check_len, check_lines, check_table};
 use judy_shelf::{Array, Kind, Name, Shelf};
 use judy_word::{InsertError, Judy1};
 use std::process::Abort;
@@ -115,12 +115,6 @@ drop s > freed 0
 list > names
 ";
 
-// Each command of a set, by what it answers before and after a change.
-#[test]
-fn every_command_of_a_set(rt: HostRuntime) {
-    check_table(&rt, rt.alloc(), EVERY_COMMAND_OF_A_SET);
-}
-
 const EVERY_COMMAND_OF_A_MAP: &[u8] = b"\
 make l judyl > ok
 ins l 7 70 > was 0
@@ -148,10 +142,12 @@ drop l > freed 1
 list > names
 ";
 
-// The same of a map.
+// Each command of a set and of a map, by what it answers before and after a change.
 #[test]
-fn every_command_of_a_map(rt: HostRuntime) {
-    check_table(&rt, rt.alloc(), EVERY_COMMAND_OF_A_MAP);
+fn every_command(rt: HostRuntime) {
+    for table in [EVERY_COMMAND_OF_A_SET, EVERY_COMMAND_OF_A_MAP] {
+        check_table(&rt, rt.alloc(), table);
+    }
 }
 
 const LISTING: &[u8] = b"\

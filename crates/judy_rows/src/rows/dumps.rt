@@ -1,9 +1,9 @@
 //! Rows of dumps: the bytes of a store, the faults of bytes that are none, and pipes that fail.
 
-use crate::check::check_answers;
-use crate::dump_checks::{
-    Format, MOST, check_all_changed, check_bytes, check_cut_off, check_dump, check_failing,
-    check_fault, check_load, check_reload, loaded,
+use super::check::check_answers;
+use super::dump_checks::{
+    Format, check_all_changed, check_bytes, check_change, check_cut_off, check_dump, check_failing,
+    check_load, check_reload, loaded,
 };
 use judy_pipe::{MemSink, SinkTrouble, SourceTrouble};
 use judy_shelf::{Array, DumpFault, LoadFault, Name, Shelf, dump};
@@ -28,53 +28,6 @@ fn smallest_dumps(rt: HostRuntime) {
     check_bytes(&rt, &Shelf::new(rt.alloc()), Format::First, empty);
     check_bytes(&rt, &smallest(&rt, rt.alloc()), Format::First, SMALLEST);
     check_reload(&rt, rt.alloc(), Format::First, SMALLEST, 1);
-}
-
-// Bytes that are no dump: a front of the smallest, and what stands behind it, with their fault.
-const FAULTY: [(usize, &[u8], LoadFault); 13] = [
-    (0, b"", LoadFault::Truncated),
-    (0, b"JDY3\0\0\0\0", LoadFault::BadMagic),
-    (4, b"\0\0\0A", LoadFault::TooMany),
-    (35, b"\0", LoadFault::Trailing),
-    (8, b"\0", LoadFault::BadName),
-    (8, b"!", LoadFault::BadName),
-    (9, b"!", LoadFault::BadName),
-    (10, b"\x05", LoadFault::BadKind),
-    (11, b"\0\0\0\0\0\0\0\0", LoadFault::BadLimit),
-    (19, b"\0\0\0\x01\0\0\0\0", LoadFault::BadCount),
-    (
-        19,
-        b"\0\0\0\0\0\0\0\x02\0\0\0\0\0\0\0\x02\0\0\0\0\0\0\0\x01",
-        LoadFault::BadOrder,
-    ),
-    (
-        19,
-        b"\0\0\0\0\0\0\0\x02\0\0\0\0\0\0\0\x01\0\0\0\0\0\0\0\x01",
-        LoadFault::BadOrder,
-    ),
-    (
-        4,
-        b"\0\0\0\x02\x01a\x01\0\0\0\0\xff\xff\xff\xff\0\0\0\0\0\0\0\0\x01a",
-        LoadFault::SameName,
-    ),
-];
-
-// A front of the smallest dump with other bytes behind it has this fault.
-fn check_front(rt: &impl Abort, alloc: Global, len: usize, bytes: &[u8], fault: LoadFault) {
-    assert!(rt; len <= SMALLEST.len() && bytes.len() <= MOST - SMALLEST.len());
-    let mut changed = [0; MOST];
-    changed[..len].copy_from_slice(&SMALLEST[..len]);
-    changed[len..len + bytes.len()].copy_from_slice(bytes);
-    check_fault(rt, alloc, &changed[..len + bytes.len()], fault);
-}
-
-#[test]
-fn dump_faults(rt: HostRuntime) {
-    for (len, bytes, fault) in FAULTY {
-        check_front(&rt, rt.alloc(), len, bytes, fault);
-    }
-    check_change(&rt, rt.alloc(), SMALLEST, 0, b"K", LoadFault::BadMagic);
-    check_cut_off(&rt, rt.alloc(), SMALLEST);
 }
 
 #[test]
@@ -121,51 +74,68 @@ fn dump_and_sorted(rt: HostRuntime) {
     check_reload(&rt, rt.alloc(), Format::First, DUMP_OF_THREE, 64);
 }
 
-// Other bytes at a place of the dump of the store of three, with their fault.
-const CHANGES: [(usize, &[u8], LoadFault); 5] = [
-    (62, b"\x04\x01", LoadFault::BadKey),
-    (75, b"\x00", LoadFault::BadKey),
-    (126, b"\x00", LoadFault::BadOrder),
-    (44, b"l", LoadFault::SameName),
-    (46, b"\x00\x00\x00\x00\x00\x00\x00\x01", LoadFault::BadCount),
+// Other bytes in the place of those of a dump from one place up to another, with the fault of what that gives.
+// In the dump of three the number of arrays ends at byte 7, the number of keys of `l` at byte 26.
+const CHANGES: [(&[u8], usize, usize, &[u8], LoadFault); 23] = [
+    (SMALLEST, 0, 35, b"", LoadFault::Truncated),
+    (SMALLEST, 0, 35, b"JDY3\0\0\0\0", LoadFault::BadMagic),
+    (SMALLEST, 0, 1, b"K", LoadFault::BadMagic),
+    (SMALLEST, 4, 35, b"\0\0\0A", LoadFault::TooMany),
+    (SMALLEST, 35, 35, b"\0", LoadFault::Trailing),
+    (SMALLEST, 8, 35, b"\0", LoadFault::BadName),
+    (SMALLEST, 8, 35, b"!", LoadFault::BadName),
+    (SMALLEST, 9, 35, b"!", LoadFault::BadName),
+    (SMALLEST, 10, 35, b"\x05", LoadFault::BadKind),
+    (SMALLEST, 11, 35, b"\0\0\0\0\0\0\0\0", LoadFault::BadLimit),
+    (SMALLEST, 19, 35, b"\0\0\0\x01\0\0\0\0", LoadFault::BadCount),
+    (DUMP_OF_THREE, 62, 64, b"\x04\x01", LoadFault::BadKey),
+    (DUMP_OF_THREE, 75, 76, b"\0", LoadFault::BadKey),
+    (DUMP_OF_THREE, 126, 127, b"\0", LoadFault::BadOrder),
+    (DUMP_OF_THREE, 44, 45, b"l", LoadFault::SameName),
+    (DUMP_OF_THREE, 7, 8, b"\x02", LoadFault::Trailing),
+    (DUMP_OF_THREE, 7, 8, b"\x04", LoadFault::Truncated),
+    (DUMP_OF_THREE, 26, 27, b"\x02", LoadFault::BadName),
+    (DUMP_OF_THREE, 26, 27, b"\0", LoadFault::BadName),
+    (
+        DUMP_OF_THREE,
+        46,
+        54,
+        b"\0\0\0\0\0\0\0\x01",
+        LoadFault::BadCount,
+    ),
+    (
+        SMALLEST,
+        19,
+        35,
+        b"\0\0\0\0\0\0\0\x02\0\0\0\0\0\0\0\x02\0\0\0\0\0\0\0\x01",
+        LoadFault::BadOrder,
+    ),
+    (
+        SMALLEST,
+        19,
+        35,
+        b"\0\0\0\0\0\0\0\x02\0\0\0\0\0\0\0\x01\0\0\0\0\0\0\0\x01",
+        LoadFault::BadOrder,
+    ),
+    (
+        SMALLEST,
+        4,
+        35,
+        b"\0\0\0\x02\x01a\x01\0\0\0\0\xff\xff\xff\xff\0\0\0\0\0\0\0\0\x01a",
+        LoadFault::SameName,
+    ),
 ];
-
-// A dump with other bytes at a place has this fault.
-fn check_change(
-    rt: &impl Abort,
-    alloc: Global,
-    dump: &[u8],
-    at: usize,
-    bytes: &[u8],
-    fault: LoadFault,
-) {
-    assert!(rt; dump.len() <= MOST && bytes.len() <= dump.len() && at <= dump.len() - bytes.len());
-    let mut changed = [0; MOST];
-    changed[..dump.len()].copy_from_slice(dump);
-    changed[at..at + bytes.len()].copy_from_slice(bytes);
-    check_fault(rt, alloc, &changed[..dump.len()], fault);
-}
 
 #[test]
-fn faults_in_store_of_three(rt: HostRuntime) {
-    for (at, bytes, fault) in CHANGES {
-        check_change(&rt, rt.alloc(), DUMP_OF_THREE, at, bytes, fault);
+fn dump_faults(rt: HostRuntime) {
+    for (dump, from, to, bytes, fault) in CHANGES {
+        check_change(&rt, rt.alloc(), dump, from, to, bytes, fault);
     }
 }
-
-// The number of arrays ends at byte 7, the number of keys of `l` at byte 26.
-const OTHER_NUMBERS: [(usize, &[u8], LoadFault); 4] = [
-    (7, b"\x02", LoadFault::Trailing),
-    (7, b"\x04", LoadFault::Truncated),
-    (26, b"\x02", LoadFault::BadName),
-    (26, b"\x00", LoadFault::BadName),
-];
 
 #[test]
 fn changed_dumps(rt: HostRuntime) {
-    for (at, bytes, fault) in OTHER_NUMBERS {
-        check_change(&rt, rt.alloc(), DUMP_OF_THREE, at, bytes, fault);
-    }
+    check_cut_off(&rt, rt.alloc(), SMALLEST);
     check_cut_off(&rt, rt.alloc(), DUMP_OF_THREE);
     check_all_changed(&rt, rt.alloc(), Format::First, DUMP_OF_THREE);
 }

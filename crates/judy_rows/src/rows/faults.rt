@@ -1,7 +1,7 @@
 //! Rows of readers and writers that fail.
 
-use crate::check::{check_len, check_run, check_value, same_bytes, same_end};
-use crate::scripts::{FIRST_ANSWERS, FIRST_SCRIPT};
+use super::check::{check_len, check_run, check_value, same_bytes, same_end};
+use super::scripts::{FIRST_ANSWERS, FIRST_SCRIPT};
 use judy_pipe::{MemSink, MemSource, SinkTrouble, SourceTrouble};
 use judy_script::{RunFault, run_bytes};
 use judy_shelf::Shelf;

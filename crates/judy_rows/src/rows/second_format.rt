@@ -1,11 +1,11 @@
 //! Rows of dumps in the second format, in which a key of a judysl array is told by the one before it.
 
-use crate::check::check_answers;
-use crate::dump_checks::{
-    Format, check_all_changed, check_bytes, check_cut_off, check_failing, check_fault,
-    check_reload, loaded,
+use super::check::check_answers;
+use super::dump_checks::{
+    Format, check_all_changed, check_bytes, check_change, check_cut_off, check_failing,
+    check_fault, check_reload, loaded,
 };
-use crate::dumps::store_of_three;
+use super::dumps::store_of_three;
 use judy_shelf::{LoadFault, Shelf};
 use std::alloc::Global;
 use std::process::Abort;
@@ -44,6 +44,7 @@ fn second_format(rt: HostRuntime) {
     let empty = b"JDY2\x00\x00\x00\x00";
     check_bytes(&rt, &Shelf::new(rt.alloc()), Format::Second, empty);
     check_fault(&rt, rt.alloc(), b"JDY3", LoadFault::BadMagic);
+    check_failing(&rt, rt.alloc(), &shelf, Format::Second, SECOND);
 }
 
 // Loads a dump in either format, and dumps what it gives in both.
@@ -64,16 +65,6 @@ fn migration(rt: HostRuntime) {
     check_both(&rt, rt.alloc(), SECOND);
 }
 
-// Loads the dump in the second format with another last entry.
-fn check_last_entry(rt: &impl Abort, alloc: Global, entry: &[u8], fault: LoadFault) {
-    assert!(rt; entry.len() <= 27);
-    let mut changed = [0; 80];
-    let len = LAST_ENTRY + entry.len();
-    changed[..LAST_ENTRY].copy_from_slice(&SECOND[..LAST_ENTRY]);
-    changed[LAST_ENTRY..len].copy_from_slice(entry);
-    check_fault(rt, alloc, &changed[..len], fault);
-}
-
 // Last entries that are none, with their fault.
 const FAULTY_ENTRIES: [(&[u8], LoadFault); 5] = [
     (
@@ -86,25 +77,14 @@ const FAULTY_ENTRIES: [(&[u8], LoadFault); 5] = [
     (b"\x00\x02\x03\xff", LoadFault::BadKey),
 ];
 
-// The first key shares nothing.
-fn check_first_key(rt: &impl Abort, alloc: Global) {
-    let mut changed = *SECOND;
-    changed[28] = 1;
-    check_fault(rt, alloc, &changed, LoadFault::BadPrefix);
-}
-
+// Each of them, and a first key that is told to share a byte.
 #[test]
 fn prefix_faults(rt: HostRuntime) {
     for (entry, fault) in FAULTY_ENTRIES {
-        check_last_entry(&rt, rt.alloc(), entry, fault);
+        check_change(&rt, rt.alloc(), SECOND, LAST_ENTRY, 66, entry, fault);
     }
-    check_first_key(&rt, rt.alloc());
-}
-
-#[test]
-fn second_format_failing_at_each_byte(rt: HostRuntime) {
-    let shelf = three_prefixes(&rt, rt.alloc());
-    check_failing(&rt, rt.alloc(), &shelf, Format::Second, SECOND);
+    let shares = LoadFault::BadPrefix;
+    check_change(&rt, rt.alloc(), SECOND, 28, 29, b"\x01", shares);
 }
 
 // The store of three is dumped in the second format, which is loaded and dumped as the same bytes.

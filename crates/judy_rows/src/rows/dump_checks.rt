@@ -1,6 +1,6 @@
 //! How dumps of either format are checked.
 
-use crate::check::same_bytes;
+use super::check::same_bytes;
 use judy_pipe::{MemSink, MemSource, SinkTrouble, SourceTrouble};
 use judy_shelf::{DumpFault, LoadFault, Shelf, dump, dump2, load};
 use std::alloc::Global;
@@ -13,8 +13,8 @@ pub enum Format {
     Second,
 }
 
-/// The most bytes that a dump has here.
-pub const MOST: usize = 139;
+// The most bytes that a dump has here.
+const MOST: usize = 139;
 
 // Compares how a dump ends with what is wanted.
 fn same_end(rt: &impl Abort, found: Result<(), DumpFault>, wanted: Result<(), DumpFault>) {
@@ -64,6 +64,27 @@ pub fn check_load(
 /// Loads bytes that are no dump, and compares the fault.
 pub fn check_fault(rt: &impl Abort, alloc: Global, bytes: &[u8], fault: LoadFault) {
     check_load(rt, alloc, bytes, SourceTrouble::Never, Some(fault));
+}
+
+/// Loads a dump with other bytes in the place of those from one place up to another, and compares the fault.
+pub fn check_change(
+    rt: &impl Abort,
+    alloc: Global,
+    dump: &[u8],
+    from: usize,
+    to: usize,
+    bytes: &[u8],
+    fault: LoadFault,
+) {
+    assert!(rt; from <= to && to <= dump.len() && dump.len() <= MOST && bytes.len() <= MOST);
+    let behind = from + bytes.len();
+    let len = behind + (dump.len() - to);
+    assert!(rt; len <= MOST);
+    let mut changed = [0; MOST];
+    changed[..from].copy_from_slice(&dump[..from]);
+    changed[from..behind].copy_from_slice(bytes);
+    changed[behind..len].copy_from_slice(&dump[to..]);
+    check_fault(rt, alloc, &changed[..len], fault);
 }
 
 /// Loads a dump, so many bytes at a time.

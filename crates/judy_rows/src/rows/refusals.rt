@@ -1,6 +1,6 @@
 //! Rows of refusals.
 
-use crate::check::{check_len, check_table, check_value};
+use super::check::{check_len, check_table, check_value};
 
 const FIRST_REFUSALS: &[u8] = b"\
 make a judyl 1 > ok

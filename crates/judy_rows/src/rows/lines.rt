@@ -1,7 +1,7 @@
 //! Rows of lines.
 
-use crate::check::{check_answers, check_run};
-use crate::scripts::FIRST_ANSWERS;
+use super::check::{check_answers, check_run};
+use super::scripts::FIRST_ANSWERS;
 use judy_pipe::{MemSource, SourceTrouble};
 use judy_shelf::Shelf;
 use std::alloc::Global;

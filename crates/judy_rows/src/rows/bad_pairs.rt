@@ -1,7 +1,7 @@
 //! Lines with two bad arguments or more: the first refusal in the order of the refusals is the answer. Each command is tried with each pair
 //! of its arguments that can be bad.
 
-use crate::check::{check_answers, check_len};
+use super::check::{check_answers, check_len};
 use judy_shelf::Shelf;
 use std::alloc::Global;
 use std::process::Abort;

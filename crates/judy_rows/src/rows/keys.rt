@@ -1,6 +1,6 @@
 //! Rows of scripts over byte strings.
 
-use crate::check::{check_answers, check_lines, check_table};
+use super::check::{check_answers, check_lines, check_table};
 use judy_shelf::Shelf;
 use std::process::Abort;
 
