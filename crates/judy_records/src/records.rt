@@ -109,6 +109,8 @@ impl Records {
     }
 
     /// Whether the text at a place is that of the bytes. A loop over words.
+    // Within its caller, which mostly asks for the record's value next: its page is looked up once for both.
+    #[inline(always)]
     pub fn is_of(&self, place: usize, bytes: &[u8]) -> bool
         requires { IsHeld (spot_at self.now place) }
         ensures { IsTrue result ↔ text_of (spot_at self.now place) ≡ words_of bytes.now }

@@ -50,6 +50,7 @@ impl<'a> Tail<'a> {
     }
 
     /// Whether the text is these bytes, of which the last isn't zero. A loop over words.
+    #[inline(always)]
     pub fn is(&self, bytes: &[u8]) -> bool
         requires { slice_get bytes.now (length bytes.now - 1) ≢ Some 0 }
         ensures { IsTrue result ↔ self.now.0 ≡ bytes.now }
