@@ -93,12 +93,30 @@ fn roomy_root<V: Words + Drop>(count: usize) -> usize
     ensures room { V.WORDS * count + count ≤ result }
     ensures within { (1 ≤ result) × (result ≤ 72) }
 {
-    let keys = keys_of_root(count);
+    let keys = if V::WORDS == 0 {
+        keys_of_set(count)
+    } else {
+        keys_of_map(count)
+    };
     V::WORDS * keys + keys
 }
 
-// For how many keys a root's leaf has room that is to hold so many.
-fn keys_of_root(count: usize) -> usize
+// For how many keys a set's root leaf has room that is to hold so many.
+fn keys_of_set(count: usize) -> usize
+    requires { count ≤ 32 }
+    ensures room { count ≤ result }
+    ensures within { (1 ≤ result) × (result ≤ 32) }
+{
+    match count {
+        0..=4 => 4,
+        5..=10 => 10,
+        11..=20 => 20,
+        _ => 32,
+    }
+}
+
+// The same of a map, whose keys take twice as much: smaller steps.
+fn keys_of_map(count: usize) -> usize
     requires { count ≤ 32 }
     ensures room { count ≤ result }
     ensures within { (1 ≤ result) × (result ≤ 32) }
