@@ -186,10 +186,8 @@ impl<'a, V: Words + Drop> LeafRef<'a, V> {
         ensures { result ≡ pair_from self.now.pairs number }
     {
         let (width, block, start, count) = self.keys();
-        match keys::next(width, block, start, count, number) {
-            Some((at, key)) => Some((key, self.value_at(at))),
-            None => None,
-        }
+        let (at, key) = keys::next(width, block, start, count, number)?;
+        Some((key, self.value_at(at)))
     }
 
     /// The nearest key at or below a number, with its value; none where all keys are above.
@@ -199,10 +197,8 @@ impl<'a, V: Words + Drop> LeafRef<'a, V> {
         ensures { result ≡ pair_up_to self.now.pairs number }
     {
         let (width, block, start, count) = self.keys();
-        match keys::previous(width, block, start, count, number) {
-            Some((at, key)) => Some((key, self.value_at(at))),
-            None => None,
-        }
+        let (at, key) = keys::previous(width, block, start, count, number)?;
+        Some((key, self.value_at(at)))
     }
 
     /// The nearest number at or above another that is no key, among those that a key of this width could be; none where all these

@@ -180,10 +180,6 @@ pub(crate) fn previous_in<const W: usize>(
     ensures { MatchOption result (set.count_up_to (keys_in W count words.now) number ≡ 0)
         (λ found. IsPreviousAt (keys_in W count words.now) number found) }
 {
-    let past = up_to_in::<W>(count, words, number);
-    if past == 0 {
-        None
-    } else {
-        Some((past - 1, key_of::<W>(words, past - 1)))
-    }
+    let last = up_to_in::<W>(count, words, number).checked_sub(1)?;
+    Some((last, key_of::<W>(words, last)))
 }

@@ -9,16 +9,20 @@ pub key_of-requires-clause-inside : goal.key_of-requires-clause-inside
 key_of-requires-clause-inside g c =
     let most = length-filter-le (λ key. is_le (word_order key c.args.number)) (keys_in g.row.W c.args.count c.args.words.now) in
     let long = length-keys g.row.W c.args.count c.args.words.now c.requires.packed in
-    let is = c.up_to_in-past.ensures in
+    let is = c.up_to_in.ensures in
     let enough = c.requires.packed.enough in
-    let some = c.if-past-eq0.false in
+    let last = c.in_ok-last.ensures in
+    let some = last.0 in
+    let before = last.1 in
     omega arith
 
-pub returns-else-past-eq0 : goal.returns-else-past-eq0
-returns-else-past-eq0 g c =
+pub returns : goal.returns
+returns g c =
     let most = length-filter-le (λ key. is_le (word_order key c.args.number)) (keys_in g.row.W c.args.count c.args.words.now) in
     let long = length-keys g.row.W c.args.count c.args.words.now c.requires.packed in
-    let is = c.up_to_in-past.ensures in
-    let some = c.if-past-eq0.false in
-    let back : c.up_to_in-past.result - 1 + 1 ≡ c.up_to_in-past.result = omega arith in
-    record { place = back ∙ is; key = there_in g.row.W c.args.count c.args.words.now c.requires.packed (c.up_to_in-past.result - 1) c.key_of.result (omega arith) c.key_of.ensures }
+    let is = c.up_to_in.ensures in
+    let last = c.in_ok-last.ensures in
+    let some = last.0 in
+    let before = last.1 in
+    let back : c.in_ok-last.last + 1 ≡ c.up_to_in.result = omega arith in
+    record { place = back ∙ is; key = there_in g.row.W c.args.count c.args.words.now c.requires.packed c.in_ok-last.last c.key_of.result (omega arith) c.key_of.ensures }
