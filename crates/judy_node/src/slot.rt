@@ -12,7 +12,7 @@ ghost use Rattle.std.specs.Option.{option_copied_mut};
 
 use crate::child::{BranchOf, ChildOf, KindOf};
 use crate::node::{NodeOf, RootOf};
-use crate::seat::{AnyKey, PresentKey, Sought};
+use crate::seat::{AnyKey, PresentKey, Seat, Sought};
 use judy_leaf::Words;
 use std::marker::PhantomData;
 
@@ -21,39 +21,39 @@ impl<V: Words + Drop> KindOf<V> {
     ghost use Rattle.judy_node.specs.contracts.child.KindOf.{the_row};
     ghost use Rattle.judy_node.specs.Seats.{kind_written};
 
-    // The slot at a place; below a branch, that of what is left of the key.
+    // The slot at a seat; below a branch, that of what is left of the key.
     #[inline(always)]
-    fn slot_at<L: Level, K: Sought>(&mut self, at: usize, rest: u64) -> Option<&mut u64>
+    fn slot_at<L: Level, K: Sought>(&mut self, seat: Seat) -> Option<&mut u64>
         requires words { V.WORDS ≡ 1 }
-        requires seat { HasSeat V.WORDS L.DEPTH self.old at }
-        requires known { K.known (value_at self.old at rest) }
+        requires seat { HasSeat V.WORDS L.DEPTH self.old seat.at }
+        requires known { K.known (value_at self.old seat.at seat.rest) }
         ensures* changes { sem 𝓛
             (LendsIf (the_row V.row V.Words) word self.entry result
-            (kind_written self.entry.now at rest) self.entry.now) }
-        ensures value { option_copied_mut result ≡ value_at self.old at rest }
+            (kind_written self.entry.now seat.at seat.rest) self.entry.now) }
+        ensures value { option_copied_mut result ≡ value_at self.old seat.at seat.rest }
     {
         match self {
             KindOf::Imm(_, value) => Some(value),
-            KindOf::Leaf(_, block) => Some(block.slot(at)),
-            KindOf::Bit(_, block) => Some(block.slot(at)),
-            KindOf::Branch(branch) => branch.slot_at::<L, K>(at, rest),
+            KindOf::Leaf(_, block) => Some(block.slot(seat.at)),
+            KindOf::Bit(_, block) => Some(block.slot(seat.at)),
+            KindOf::Branch(branch) => branch.slot_at::<L, K>(seat),
         }
     }
 
     // The same in a node that has no node below it, where nothing is left of the key.
     #[inline(always)]
-    fn slot_in_leaf(&mut self, at: usize, _rest: u64) -> Option<&mut u64>
+    fn slot_in_leaf(&mut self, seat: Seat) -> Option<&mut u64>
         requires words { V.WORDS ≡ 1 }
-        requires seat { HasSeat V.WORDS 0 self.old at }
+        requires seat { HasSeat V.WORDS 0 self.old seat.at }
         ensures* changes { sem 𝓛
             (LendsIf (the_row V.row V.Words) word self.entry result
-            (kind_written self.entry.now at _rest) self.entry.now) }
-        ensures value { option_copied_mut result ≡ value_at self.old at _rest }
+            (kind_written self.entry.now seat.at seat.rest) self.entry.now) }
+        ensures value { option_copied_mut result ≡ value_at self.old seat.at seat.rest }
     {
         match self {
             KindOf::Imm(_, value) => Some(value),
-            KindOf::Leaf(_, block) => Some(block.slot(at)),
-            KindOf::Bit(_, block) => Some(block.slot(at)),
+            KindOf::Leaf(_, block) => Some(block.slot(seat.at)),
+            KindOf::Bit(_, block) => Some(block.slot(seat.at)),
             KindOf::Branch(_) => unreachable!(),
         }
     }
@@ -79,52 +79,52 @@ impl<V: Words + Drop> BranchOf<V> {
 
     // The slot of a key of the child at a place.
     #[inline(always)]
-    fn slot_at<L: Level, K: Sought>(&mut self, at: usize, rest: u64) -> Option<&mut u64>
+    fn slot_at<L: Level, K: Sought>(&mut self, seat: Seat) -> Option<&mut u64>
         requires words { V.WORDS ≡ 1 }
-        requires inside { at < length self.old.children.items }
-        requires child { IsChild V.WORDS self.old.width (child_at self.old at) }
+        requires inside { seat.at < length self.old.children.items }
+        requires child { IsChild V.WORDS self.old.width (child_at self.old seat.at) }
         requires depth { self.old.width ≤ L.DEPTH }
-        requires known { K.known (value_of rest (child_at self.old at).pairs) }
+        requires known { K.known (value_of seat.rest (child_at self.old seat.at).pairs) }
         ensures* changes { sem 𝓛
             (LendsIf (the_row V.row V.Words) word self.entry result
-            (branch_written self.entry.now at rest) self.entry.now) }
-        ensures value { option_copied_mut result ≡ value_of rest (child_at self.old at).pairs }
+            (branch_written self.entry.now seat.at seat.rest) self.entry.now) }
+        ensures value { option_copied_mut result ≡ value_of seat.rest (child_at self.old seat.at).pairs }
     {
-        L::slot::<V, K>(self, at, rest)
+        L::slot::<V, K>(self, seat)
     }
 
     // The same where the children may be branches of a lower level.
     #[inline(always)]
-    fn slot_below<L: Level, K: Sought>(&mut self, at: usize, rest: u64) -> Option<&mut u64>
+    fn slot_below<L: Level, K: Sought>(&mut self, seat: Seat) -> Option<&mut u64>
         requires words { V.WORDS ≡ 1 }
-        requires inside { at < length self.old.children.items }
-        requires child { IsChild V.WORDS self.old.width (child_at self.old at) }
+        requires inside { seat.at < length self.old.children.items }
+        requires child { IsChild V.WORDS self.old.width (child_at self.old seat.at) }
         requires depth { self.old.width ≤ L.DEPTH + 1 }
-        requires known { K.known (value_of rest (child_at self.old at).pairs) }
+        requires known { K.known (value_of seat.rest (child_at self.old seat.at).pairs) }
         ensures* changes { sem 𝓛
             (LendsIf (the_row V.row V.Words) word self.entry result
-            (branch_written self.entry.now at rest) self.entry.now) }
-        ensures value { option_copied_mut result ≡ value_of rest (child_at self.old at).pairs }
+            (branch_written self.entry.now seat.at seat.rest) self.entry.now) }
+        ensures value { option_copied_mut result ≡ value_of seat.rest (child_at self.old seat.at).pairs }
     {
         let width = self.width;
-        self.child_at(at).slot_at::<L, K>(width, rest)
+        self.child_at(seat.at).slot_at::<L, K>(width, seat.rest)
     }
 
     // The same where no child has a node below it.
     #[inline(always)]
-    fn slot_of_leaf<K: Sought>(&mut self, at: usize, rest: u64) -> Option<&mut u64>
+    fn slot_of_leaf<K: Sought>(&mut self, seat: Seat) -> Option<&mut u64>
         requires words { V.WORDS ≡ 1 }
-        requires inside { at < length self.old.children.items }
-        requires child { IsChild V.WORDS self.old.width (child_at self.old at) }
+        requires inside { seat.at < length self.old.children.items }
+        requires child { IsChild V.WORDS self.old.width (child_at self.old seat.at) }
         requires depth { self.old.width ≤ 1 }
-        requires known { K.known (value_of rest (child_at self.old at).pairs) }
+        requires known { K.known (value_of seat.rest (child_at self.old seat.at).pairs) }
         ensures* changes { sem 𝓛
             (LendsIf (the_row V.row V.Words) word self.entry result
-            (branch_written self.entry.now at rest) self.entry.now) }
-        ensures value { option_copied_mut result ≡ value_of rest (child_at self.old at).pairs }
+            (branch_written self.entry.now seat.at seat.rest) self.entry.now) }
+        ensures value { option_copied_mut result ≡ value_of seat.rest (child_at self.old seat.at).pairs }
     {
         let width = self.width;
-        self.child_at(at).slot_of_byte::<K>(width, rest)
+        self.child_at(seat.at).slot_of_byte::<K>(width, seat.rest)
     }
 }
 
@@ -146,7 +146,7 @@ impl<V: Words + Drop> ChildOf<V> {
     {
         let kind = self.place.kind_mut();
         let seat = K::seat(kind, width, key)?;
-        kind.slot_at::<L, K>(seat.at, seat.rest)
+        kind.slot_at::<L, K>(seat)
     }
 
     // The same of a node whose keys have one byte, which has no node below it.
@@ -163,7 +163,7 @@ impl<V: Words + Drop> ChildOf<V> {
     {
         let kind = self.place.kind_mut();
         let seat = K::seat(kind, width, key)?;
-        kind.slot_in_leaf(seat.at, seat.rest)
+        kind.slot_in_leaf(seat)
     }
 }
 
@@ -176,20 +176,16 @@ pub trait Level {
     ghost use Rattle.judy_node.specs.Seats.{branch_written, child_at};
 
     // The slot of a key of the child at a place.
-    fn slot<V: Words + Drop, K: Sought>(
-        branch: &mut BranchOf<V>,
-        at: usize,
-        rest: u64,
-    ) -> Option<&mut u64>
+    fn slot<V: Words + Drop, K: Sought>(branch: &mut BranchOf<V>, seat: Seat) -> Option<&mut u64>
         requires words { V.WORDS ≡ 1 }
-        requires inside { at < length branch.old.children.items }
-        requires child { IsChild V.WORDS branch.old.width (child_at branch.old at) }
+        requires inside { seat.at < length branch.old.children.items }
+        requires child { IsChild V.WORDS branch.old.width (child_at branch.old seat.at) }
         requires depth { branch.old.width ≤ DEPTH }
-        requires known { K.known (value_of rest (child_at branch.old at).pairs) }
+        requires known { K.known (value_of seat.rest (child_at branch.old seat.at).pairs) }
         ensures* changes { sem 𝓛
             (LendsIf (the_row V.row V.Words) word branch.entry result
-            (branch_written branch.entry.now at rest) branch.entry.now) }
-        ensures value { option_copied_mut result ≡ value_of rest (child_at branch.old at).pairs };
+            (branch_written branch.entry.now seat.at seat.rest) branch.entry.now) }
+        ensures value { option_copied_mut result ≡ value_of seat.rest (child_at branch.old seat.at).pairs };
 }
 
 // The lowest level, that of branches whose children have keys of one byte.
@@ -199,12 +195,8 @@ impl Level for Bottom {
     ghost DEPTH = { 1 };
 
     #[inline(always)]
-    fn slot<V: Words + Drop, K: Sought>(
-        branch: &mut BranchOf<V>,
-        at: usize,
-        rest: u64,
-    ) -> Option<&mut u64> {
-        branch.slot_of_leaf::<K>(at, rest)
+    fn slot<V: Words + Drop, K: Sought>(branch: &mut BranchOf<V>, seat: Seat) -> Option<&mut u64> {
+        branch.slot_of_leaf::<K>(seat)
     }
 }
 
@@ -215,12 +207,8 @@ impl<L: Level> Level for Above<L> {
     ghost DEPTH = { L.DEPTH + 1 };
 
     #[inline(always)]
-    fn slot<V: Words + Drop, K: Sought>(
-        branch: &mut BranchOf<V>,
-        at: usize,
-        rest: u64,
-    ) -> Option<&mut u64> {
-        branch.slot_below::<L, K>(at, rest)
+    fn slot<V: Words + Drop, K: Sought>(branch: &mut BranchOf<V>, seat: Seat) -> Option<&mut u64> {
+        branch.slot_below::<L, K>(seat)
     }
 }
 
