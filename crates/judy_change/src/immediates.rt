@@ -11,7 +11,7 @@ ghost use Rattle.judy_change.specs.Inserted.{IsInserted};
 
 use crate::gap::put_at;
 use crate::inserts::in_order;
-use judy_leaf::{ImmOf, Words};
+use judy_leaf::{ImmOf, Room, Words};
 use judy_node::{Head, KindOf, imm_of, kind_of_sorted, leaf_of_two};
 use std::alloc::{AllocError, Global};
 
@@ -121,5 +121,5 @@ fn past_few<V: Words + Drop>(
     let count = full.len();
     full.fill(0, &mut pairs[..count]);
     put_at(&mut pairs[..count + 1], full.rank(key), (key, value));
-    kind_of_sorted(alloc, width, &pairs[..count + 1])
+    kind_of_sorted(alloc, width, &pairs[..count + 1], Room::Ample)
 }

@@ -12,7 +12,7 @@ ghost use Rattle.judy_change.specs.Inserted.{IsInserted};
 
 use crate::gap::put_at;
 use judy_block::Block;
-use judy_leaf::{LEAF_ROOM, LeafOf, LeafRef, Words, put_in_leaf};
+use judy_leaf::{LEAF_ROOM, LeafOf, LeafRef, Room, Words, put_in_leaf};
 use judy_node::{KindOf, kind_of_sorted};
 use std::alloc::{AllocError, Global};
 
@@ -114,5 +114,5 @@ fn past_leaf<V: Words + Drop>(
     let mut pairs = [(0, 0); ONE_MORE];
     full.fill(0, &mut pairs[..LEAF_ROOM]);
     put_at(&mut pairs, at, (key, value));
-    kind_of_sorted(alloc, width, &pairs)
+    kind_of_sorted(alloc, width, &pairs, Room::Ample)
 }

@@ -4,7 +4,7 @@ ghost use Rattle.std.specs.Prelude.{◌≡◌, ◌≤◌, length, IfOk};
 ghost use Rattle.judy_leaf.specs.Immediates.{imm_room};
 
 use crate::imm::ImmOf;
-use crate::leaf::LeafOf;
+use crate::leaf::{LeafOf, Room};
 use crate::leaf_ref::LeafRef;
 use crate::words::Words;
 use std::alloc::{AllocError, Global};
@@ -34,6 +34,6 @@ impl<V: Words + Drop> ImmOf<V> {
         let mut room = [(0, 0); 8];
         let pairs = &mut room[..self.len()];
         self.fill(0, pairs);
-        LeafOf::from_sorted(alloc, self.width(), pairs)
+        LeafOf::from_sorted(alloc, self.width(), pairs, Room::Ample)
     }
 }

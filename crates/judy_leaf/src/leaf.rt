@@ -28,6 +28,30 @@ pub type Leaf<const W: usize> = LeafOf<Width<W>>;
 
 const _: () = prove!(size_of::<Leaf<1>>() == 16);
 
+/// How much room the block of a new leaf has for keys to come.
+#[derive(Clone, Copy)]
+pub enum Room {
+    /// Some: whole fours of words, and always one word more than the leaf takes.
+    Ample,
+    /// Hardly any: with its header the block fills what the allocator gives, 8 bytes beside whole sixteens.
+    Snug,
+}
+
+impl Room {
+    // The capacity of the block of a leaf that takes so many words.
+    #[inline(always)]
+    fn capacity(self, needed: usize) -> usize
+        requires { needed ≤ 65 }
+        ensures room { needed ≤ result }
+        ensures within { (1 ≤ result) × (result ≤ 68) }
+    {
+        match self {
+            Room::Ample => needed / 4 * 4 + 4,
+            Room::Snug => (needed.max(1) + 1) / 2 * 2,
+        }
+    }
+}
+
 impl<V: Words + Drop> Model for LeafOf<V> {
     ghost use Rattle.judy_leaf.specs.KeyLists.{KeyList};
 
@@ -123,13 +147,14 @@ impl<V: Words + Drop> LeafOf<V> {
         self.count -= 1;
     }
 
-    /// The leaf of at most 32 pairs. Of each key the lowest `width` bytes count, 1 to 8; by these the keys strictly ascend. Where
-    /// keys have no value, each value is 0. The error is want of memory; nothing is kept then.
+    /// The leaf of at most 32 pairs, with so much room. Of each key the lowest `width` bytes count, 1 to 8; by these the keys strictly
+    /// ascend. Where keys have no value, each value is 0. The error is want of memory; nothing is kept then.
     #[inline(always)]
     pub fn from_sorted(
         alloc: Global,
         width: u8,
         pairs: &[(u64, u64)],
+        room: Room,
     ) -> Result<LeafOf<V>, AllocError>
         requires words { V.WORDS ≤ 1 }
         requires list { IsKeyList
@@ -140,25 +165,14 @@ impl<V: Words + Drop> LeafOf<V> {
             (λ leaf. leaf ≡ record { width = width; pairs = low_pairs (256 ^ width) pairs.now }) }
     {
         let needed = LeafOf::<V>::words_needed(width, pairs);
-        LeafOf::filled(alloc, width, pairs, needed / 4 * 4 + 4)
-    }
-
-    /// The same in a block that has room for hardly more: with its header it fills what the allocator gives, 8 bytes beside whole sixteens.
-    pub fn snug_from_sorted(
-        alloc: Global,
-        width: u8,
-        pairs: &[(u64, u64)],
-    ) -> Result<LeafOf<V>, AllocError>
-        requires words { V.WORDS ≤ 1 }
-        requires list { IsKeyList
-            (record { width = width; pairs = low_pairs (256 ^ width) pairs.now }) }
-        requires few { length pairs.now ≤ 32 }
-        requires no_values { V.WORDS ≡ 0 → AllByRecursion (λ pair. pair.1 ≡ 0) pairs.now }
-        ensures { IfOk result
-            (λ leaf. leaf ≡ record { width = width; pairs = low_pairs (256 ^ width) pairs.now }) }
-    {
-        let needed = LeafOf::<V>::words_needed(width, pairs);
-        LeafOf::filled(alloc, width, pairs, (needed.max(1) + 1) / 2 * 2)
+        let mut block = Block::new(alloc, room.capacity(needed))?;
+        block.set_tag(u32::from(width));
+        pairs::put_all::<V>(&mut block, usize::from(width), pairs);
+        Ok(LeafOf {
+            count: pairs.len() as u8,
+            block,
+            words: PhantomData,
+        })
     }
 
     /// The leaf of two pairs whose keys ascend and have `width` bytes, 1 to 8; else as `from_sorted`.
@@ -182,7 +196,7 @@ impl<V: Words + Drop> LeafOf<V> {
             ≡ record { width = width; pairs = low_pairs (256 ^ width) (low ∷ high ∷ []) }) }
     {
         if width <= 4 {
-            return LeafOf::from_sorted(alloc, width, &[low, high]);
+            return LeafOf::from_sorted(alloc, width, &[low, high], Room::Ample);
         }
         let block = pairs::two_words::<V>(alloc, width, low, high)?;
         Ok(LeafOf {
@@ -202,35 +216,6 @@ impl<V: Words + Drop> LeafOf<V> {
         ensures within { result ≤ 65 }
     {
         V::WORDS * pairs.len() + keys::words_of(usize::from(width), pairs.len())
-    }
-
-    // The same in a block of a capacity, into which they fit.
-    #[inline(always)]
-    fn filled(
-        alloc: Global,
-        width: u8,
-        pairs: &[(u64, u64)],
-        capacity: usize,
-    ) -> Result<LeafOf<V>, AllocError>
-        requires words { V.WORDS ≤ 1 }
-        requires list { IsKeyList
-            (record { width = width; pairs = low_pairs (256 ^ width) pairs.now }) }
-        requires few { length pairs.now ≤ 32 }
-        requires no_values { V.WORDS ≡ 0 → AllByRecursion (λ pair. pair.1 ≡ 0) pairs.now }
-        requires some { 1 ≤ capacity }
-        requires within { capacity ≤ 65535 }
-        requires room { V.WORDS * length pairs.now + words_for width (length pairs.now) ≤ capacity }
-        ensures { IfOk result
-            (λ leaf. leaf ≡ record { width = width; pairs = low_pairs (256 ^ width) pairs.now }) }
-    {
-        let mut block = Block::new(alloc, capacity)?;
-        block.set_tag(u32::from(width));
-        pairs::put_all::<V>(&mut block, usize::from(width), pairs);
-        Ok(LeafOf {
-            count: pairs.len() as u8,
-            block,
-            words: PhantomData,
-        })
     }
 
     /// Lends the value at a place below the number of keys, where keys have values; nothing else changes.

@@ -4,14 +4,16 @@ ghost use Rattle.std.specs.Prelude.{◌≡◌, ℕ, suc, ◌+◌, ◌-◌, ◌*�
 ghost use Rattle.judy_model.specs.Shapes.{immediate_limit};
 ghost use Rattle.judy_leaf.specs.KeyLists.{low_pairs};
 ghost use Rattle.judy_node.specs.Trees.{Tree, IsMap, IsChild, AreParts, branch_tree};
+ghost use Rattle.judy_node.specs.Branches.{IsWholeBranch, tree_below};
 ghost use Rattle.judy_node.specs.Kinds.{tree_of, IsLevel, IsDeep, behind};
+ghost use Rattle.judy_node.specs.Populations.{AreSums};
 ghost use Rattle.judy_node.specs.Built.{sharing, middle, IsBuilt, AreMade};
 
 use crate::child::{BranchOf, ChildOf, KindOf};
 use crate::head::Head;
 use crate::sums::Sums;
 use judy_bits::{Bits256, ByteSet, Skip, low_part, moved_up, without_tail};
-use judy_leaf::{BitLeafOf, ImmOf, LEAF_ROOM, LeafOf, Words, bit_width, widen_bits};
+use judy_leaf::{BitLeafOf, ImmOf, LEAF_ROOM, LeafOf, Room, Words, bit_width, widen_bits};
 use std::alloc::{AllocError, Global};
 use std::marker::PhantomData;
 
@@ -127,26 +129,6 @@ pub fn immediate_of_one<V: Words + Drop>(width: u8, key: u64, value: u64) -> Kin
     }
 }
 
-/// The leaf of sorted pairs, more than an immediate holds and at most 32, whose keys are read by their lowest bytes, `width` of them.
-/// The error is want of memory; nothing is kept then.
-#[inline(always)]
-pub fn leaf_of_sorted<V: Words + Drop>(
-    alloc: Global,
-    width: u8,
-    pairs: &[(u64, u64)],
-) -> Result<KindOf<V>, AllocError>
-    requires one { V.WORDS ≤ 1 }
-    requires width { (1 ≤ width) × (width ≤ 8) }
-    requires more { immediate_limit V.WORDS width < length pairs.now }
-    requires within { length pairs.now ≤ 32 }
-    requires map { IsMap V.WORDS 0 (256 ^ width) (low_pairs (256 ^ width) pairs.now) }
-    ensures level { IfOk result (λ kind. IsLevel V.WORDS kind) }
-    ensures built { IfOk result (λ kind. IsBuilt V.WORDS width pairs.now (tree_of V.WORDS kind)) }
-{
-    let (count, block) = LeafOf::<V>::from_sorted(alloc, width, pairs)?.into_parts();
-    Ok(KindOf::Leaf(count, block))
-}
-
 /// The leaf of two pairs, of which an immediate holds but one; their keys ascend and have `width` bytes, 1 to 8. The error is want of
 /// memory; nothing is kept then.
 #[inline(always)]
@@ -167,24 +149,6 @@ pub fn leaf_of_two<V: Words + Drop>(
         (λ kind. IsBuilt V.WORDS width (low ∷ high ∷ []) (tree_of V.WORDS kind)) }
 {
     let (count, block) = LeafOf::<V>::of_two(alloc, width, low, high)?.into_parts();
-    Ok(KindOf::Leaf(count, block))
-}
-
-// As `leaf_of_sorted`, in a block that has room for hardly more, for a leaf that stands behind all others when it is made.
-fn snug_leaf<V: Words + Drop>(
-    alloc: Global,
-    width: u8,
-    pairs: &[(u64, u64)],
-) -> Result<KindOf<V>, AllocError>
-    requires one { V.WORDS ≤ 1 }
-    requires width { (1 ≤ width) × (width ≤ 8) }
-    requires more { immediate_limit V.WORDS width < length pairs.now }
-    requires within { length pairs.now ≤ 32 }
-    requires map { IsMap V.WORDS 0 (256 ^ width) (low_pairs (256 ^ width) pairs.now) }
-    ensures level { IfOk result (λ kind. IsLevel V.WORDS kind) }
-    ensures built { IfOk result (λ kind. IsBuilt V.WORDS width pairs.now (tree_of V.WORDS kind)) }
-{
-    let (count, block) = LeafOf::<V>::snug_from_sorted(alloc, width, pairs)?.into_parts();
     Ok(KindOf::Leaf(count, block))
 }
 
@@ -272,10 +236,10 @@ fn add_child<V: Words + Drop>(
         let child = ChildOf::close(immediate_of_sorted(width, pairs));
         return pushed(children, child);
     }
-    let Ok(child) = larger_child(alloc, width, pairs) else {
+    let Ok(kind) = kind_of_sorted(alloc, width, pairs, Room::Snug) else {
         return Err(AllocError);
     };
-    pushed(children, child)
+    pushed(children, ChildOf::close(kind))
 }
 
 /// The tight node of sorted pairs, whose keys are read by their lowest bytes, `width` of them. The error is want of
@@ -294,36 +258,18 @@ pub fn child_of_sorted<V: Words + Drop>(
     if fits_immediate::<V>(pairs.len(), width) {
         return Ok(ChildOf::close(immediate_of_sorted(width, pairs)));
     }
-    larger_child(alloc, width, pairs)
-}
-
-// As `child_of_sorted`, for more pairs than an immediate holds.
-#[cycle(build)]
-#[inline(never)]
-fn larger_child<V: Words + Drop>(
-    alloc: Global,
-    width: u8,
-    pairs: &[(u64, u64)],
-) -> Result<ChildOf<V>, AllocError>
-    requires one { V.WORDS ≤ 1 }
-    requires width { (1 ≤ width) × (width ≤ 7) }
-    requires more { immediate_limit V.WORDS width < length pairs.now }
-    requires map { IsMap V.WORDS 0 (256 ^ width) (low_pairs (256 ^ width) pairs.now) }
-    ensures { IfOk result (λ child. IsBuilt V.WORDS width pairs.now child) }
-{
-    if pairs.len() <= LEAF_ROOM {
-        let leaf = snug_leaf(alloc, width, pairs)?;
-        return Ok(ChildOf::close(leaf));
-    }
-    let kind = many(alloc, width, pairs)?;
+    let kind = kind_of_sorted(alloc, width, pairs, Room::Snug)?;
     Ok(ChildOf::close(kind))
 }
 
-/// The same for more pairs than an immediate holds, by the node's kind; `width` may be 8 here.
+/// The same for more pairs than an immediate holds, by the node's kind; `width` may be 8 here. Where it is a leaf, it has so much room.
+#[cycle(build)]
+#[inline(never)]
 pub fn kind_of_sorted<V: Words + Drop>(
     alloc: Global,
     width: u8,
     pairs: &[(u64, u64)],
+    room: Room,
 ) -> Result<KindOf<V>, AllocError>
     requires one { V.WORDS ≤ 1 }
     requires width { (1 ≤ width) × (width ≤ 8) }
@@ -332,11 +278,12 @@ pub fn kind_of_sorted<V: Words + Drop>(
     ensures level { IfOk result (λ kind. IsLevel V.WORDS kind) }
     ensures built { IfOk result (λ kind. IsBuilt V.WORDS width pairs.now (tree_of V.WORDS kind)) }
 {
-    if pairs.len() <= LEAF_ROOM {
-        return leaf_of_sorted(alloc, width, pairs);
+    if pairs.len() > LEAF_ROOM {
+        let kind = many(alloc, width, pairs)?;
+        return Ok(kind);
     }
-    let kind = many(alloc, width, pairs)?;
-    Ok(kind)
+    let (count, block) = LeafOf::<V>::from_sorted(alloc, width, pairs, room)?.into_parts();
+    Ok(KindOf::Leaf(count, block))
 }
 
 // A bitmap leaf or a branch of more than 32 sorted pairs.
@@ -359,7 +306,8 @@ fn many<V: Words + Drop>(
     let below = width - 1;
     let byte = byte_above(pairs[0].0, below);
     if !all_have::<V>(pairs, below, byte) {
-        return split(alloc, below, pairs);
+        let branch = split(alloc, below, pairs)?;
+        return Ok(KindOf::Branch(branch));
     }
     let kind = many(alloc, below, pairs)?;
     Ok(kind.behind(byte))
@@ -371,7 +319,7 @@ fn split<V: Words + Drop>(
     alloc: Global,
     below: u8,
     pairs: &[(u64, u64)],
-) -> Result<KindOf<V>, AllocError>
+) -> Result<Box<BranchOf<V>>, AllocError>
     requires one { V.WORDS ≤ 1 }
     requires width { (1 ≤ below) × (below ≤ 7) }
     requires more { 32 < length pairs.now }
@@ -379,9 +327,11 @@ fn split<V: Words + Drop>(
         (middle (256 ^ below) 256 (slice_index_or pairs.now 0 (0, 0)).0) pairs.now
         < length pairs.now }
     requires map { IsMap V.WORDS 0 (256 ^ (below + 1)) (low_pairs (256 ^ (below + 1)) pairs.now) }
-    ensures level { IfOk result (λ kind. IsLevel V.WORDS kind × IsDeep kind) }
+    ensures level { IfOk result (λ branch. IsWholeBranch V.WORDS branch.value) }
+    ensures sums { IfOk result
+        (λ branch. AreSums branch.value.sums branch.value.children.items) }
     ensures built { IfOk result
-        (λ kind. IsBuilt V.WORDS (below + 1) pairs.now (tree_of V.WORDS kind)) }
+        (λ branch. IsBuilt V.WORDS (below + 1) pairs.now (tree_below branch.value)) }
 {
     let Ok(mut children) = Vec::with_capacity(alloc, bytes_above(pairs, below)) else {
         return Err(AllocError);
@@ -405,7 +355,7 @@ fn split<V: Words + Drop>(
     };
     branch.sums = branch.sums_of_children(alloc);
     match Box::new(alloc, branch) {
-        Ok(branch) => Ok(KindOf::Branch(branch)),
+        Ok(branch) => Ok(branch),
         Err(_) => Err(AllocError),
     }
 }

@@ -37,8 +37,8 @@ mod view;
 mod whole;
 
 pub use build::{
-    child_of_sorted, immediate_of_one, immediate_of_sorted, kind_of_sorted, leaf_of_sorted,
-    leaf_of_two, most_in_immediate,
+    child_of_sorted, immediate_of_one, immediate_of_sorted, kind_of_sorted, leaf_of_two,
+    most_in_immediate,
 };
 pub use child::{BranchOf, Child, ChildOf, KindOf, PlaceOf, imm_of};
 pub use head::Head;

@@ -12,7 +12,7 @@ use crate::child::ChildOf;
 use crate::shape::Shape;
 use crate::view::ViewOf;
 use judy_bits::Meter;
-use judy_leaf::{Width, Words};
+use judy_leaf::{Room, Width, Words};
 use judy_unmetered::Unmetered;
 use std::alloc::{AllocError, Global};
 use std::marker::Model;
@@ -167,7 +167,7 @@ impl<V: Words + Drop> NodeOf<V> {
             let (key, value) = pairs[0];
             return Ok(NodeOf::close(RootOf::One(key, value)));
         }
-        let kind = kind_of_sorted(alloc, 8, pairs)?;
+        let kind = kind_of_sorted(alloc, 8, pairs, Room::Ample)?;
         Ok(NodeOf::close(RootOf::Many(ChildOf::close(kind))))
     }
 }

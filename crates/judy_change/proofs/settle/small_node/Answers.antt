@@ -9,8 +9,8 @@ pub returns-then-pairs-most_in_immediate : goal.returns-then-pairs-most_in_immed
 returns-then-pairs-most_in_immediate g c =
     tight_of g.V.Words.WORDS c.args.width c.args.pairs.now (tree_of g.V.Words.WORDS c.immediate_of_sorted.result) c.close.result c.immediate_of_sorted.ensures.built c.requires.map c.close.ensures
 
-pub leaf_of_sorted-requires-clause-map : goal.leaf_of_sorted-requires-clause-map
-leaf_of_sorted-requires-clause-map g c = low_map g.V.Words.WORDS c.args.width c.args.pairs.now c.requires.map
+pub kind_of_sorted-requires-clause-map : goal.kind_of_sorted-requires-clause-map
+kind_of_sorted-requires-clause-map g c = low_map g.V.Words.WORDS c.args.width c.args.pairs.now c.requires.map
 
 pub returns-in-Ok : goal.returns-in-Ok
 returns-in-Ok g c =

@@ -7,6 +7,8 @@ use Rattle.judy_node.specs.Kinds.{tree_of}
 use Rattle.judy_node.specs.Populations.{AreSums}
 use Rattle.judy_node.specs.Built.{sharing, IsBuilt, AreMade}
 use Rattle.judy_node.proofs.Groups.{with_byte-push}
+use Rattle.judy_node.proofs.Leaves.{map_list, map_free}
+use Rattle.judy_node.proofs.BuiltFacts.{leaf_made, leaf_built}
 use Rattle.judy_node.proofs.MadeFacts.{made_none, group_map, group_some, made_more, made_branch, made_built, byte_before, behind_built, one_byte_map, length_none}
 use Rattle.judy_node.proofs.build.+build.Goals as goal
 
@@ -66,19 +68,35 @@ add_group-returns-clause-made g t c =
           c.byte_above-byte.ensures (omega (arith, c.byte_above-byte.type_inv)) c.group_end-end.ensures put.1 c.requires.two))),
     )
 
-pub add_child-larger_child-requires : goal.add_child-larger_child-requires
-add_child-larger_child-requires g t c κs within =
+pub add_child-kind_of_sorted-requires : goal.add_child-kind_of_sorted-requires
+add_child-kind_of_sorted-requires g t c κs within =
     let more = c.fits_immediate.ensures.more c.if-fits_immediate.false in
+    let high = c.requires.width.1 in
     let falls = c.decreases in
-    (omega arith, (within, (omega arith, (c.requires.one, (c.requires.width, (omega arith, c.requires.map))))))
+    (omega arith, (within, (c.requires.one, ((c.requires.width.0, omega arith), (more, c.requires.map)))))
 
-pub larger_child-many-requires : goal.larger_child-many-requires
-larger_child-many-requires g t c κs within =
-    let width = c.requires.width in
-    let high = width.1 in
-    let many = c.if-pairs-le-LEAF_ROOM.false in
+pub kind_of_sorted-many-requires : goal.kind_of_sorted-many-requires
+kind_of_sorted-many-requires g t c κs within =
+    let many = c.if-pairs-gt-LEAF_ROOM.true in
     let falls = c.decreases in
-    (omega arith, (within, (c.requires.one, ((width.0, omega arith), (omega arith, c.requires.map)))))
+    (omega arith, (within, (c.requires.one, (c.requires.width, (omega arith, c.requires.map)))))
+
+pub kind_of_sorted-from_sorted-requires-clause-list : goal.kind_of_sorted-from_sorted-requires-clause-list
+kind_of_sorted-from_sorted-requires-clause-list g t c = map_list g.V.Words.WORDS c.args.width (low_pairs (256 ^ c.args.width) c.args.pairs.now) c.requires.width.0 c.requires.width.1 c.requires.map
+
+pub kind_of_sorted-from_sorted-requires-clause-no_values : goal.kind_of_sorted-from_sorted-requires-clause-no_values
+kind_of_sorted-from_sorted-requires-clause-no_values g t c = map_free g.V.Words.WORDS 0 (256 ^ c.args.width) (256 ^ c.args.width) c.args.pairs.now c.requires.map
+
+pub kind_of_sorted-returns-clause-level : goal.kind_of_sorted-returns-clause-level
+kind_of_sorted-returns-clause-level g t c =
+    let made = c.into_parts-count.ensures in
+    leaf_made g.V.Words.WORDS c.args.width c.into_parts-count.result.0 c.into_parts-count.result.1 c.args.pairs.now made.parts (made.list ∙ c.in_ok-from_sorted.ensures) c.requires.more
+
+pub kind_of_sorted-returns-clause-built : goal.kind_of_sorted-returns-clause-built
+kind_of_sorted-returns-clause-built g t c =
+    let made = c.into_parts-count.ensures in
+    leaf_built g.V.Words.WORDS c.args.width c.into_parts-count.result.0 c.into_parts-count.result.1 c.args.pairs.now made.parts (made.list ∙ c.in_ok-from_sorted.ensures) c.requires.more
+    c.requires.width.0 c.requires.width.1 c.requires.map
 
 pub many-split-requires : goal.many-split-requires
 many-split-requires g t c κs within =
@@ -174,16 +192,14 @@ split-returns-in-Ok-new-clause-level g t c =
     let made = c.loop-rest.invariant in
     let kids = c.loop-rest.children.items in
     let n = length c.args.pairs.now in
-    let over = length_none c.loop-rest.rest.now (eqb-true (length c.loop-rest.rest.now) 0 (sym c.is_empty.ensures ∙ c.loop-rest-test.false)) in (
-      (
-        subst (λ v. IsBranch words v.width v.skip v.bytes v.children.items v.population) (sym c.in-Ok-new.ensures.ok)
-            (subst (λ s. IsBranch words c.args.below s c.of_bits.result kids n) (sym c.new.ensures)
-            (subst (λ bs. IsBranch words c.args.below [] bs kids n) (sym c.of_bits.ensures)
-            (made_branch words c.args.below c.args.pairs.now c.loop-rest.rest.now c.loop-rest.bytes kids made.0 made.1 over c.requires.width.0 c.requires.width.1 c.requires.more))),
-        subst (λ v. AreSums v.sums v.children.items) (sym c.in-Ok-new.ensures.ok) c.sums_of_children.ensures,
-      ),
-      tt,
-    )
+    let over = length_none c.loop-rest.rest.now (eqb-true (length c.loop-rest.rest.now) 0 (sym c.is_empty.ensures ∙ c.loop-rest-test.false)) in
+    subst (λ v. IsBranch words v.width v.skip v.bytes v.children.items v.population) (sym c.in-Ok-new.ensures.ok)
+    (subst (λ s. IsBranch words c.args.below s c.of_bits.result kids n) (sym c.new.ensures)
+    (subst (λ bs. IsBranch words c.args.below [] bs kids n) (sym c.of_bits.ensures)
+    (made_branch words c.args.below c.args.pairs.now c.loop-rest.rest.now c.loop-rest.bytes kids made.0 made.1 over c.requires.width.0 c.requires.width.1 c.requires.more)))
+
+pub split-returns-in-Ok-new-clause-sums : goal.split-returns-in-Ok-new-clause-sums
+split-returns-in-Ok-new-clause-sums g t c = subst (λ v. AreSums v.sums v.children.items) (sym c.in-Ok-new.ensures.ok) c.sums_of_children.ensures
 
 pub split-returns-in-Ok-new-clause-built : goal.split-returns-in-Ok-new-clause-built
 split-returns-in-Ok-new-clause-built g t c =

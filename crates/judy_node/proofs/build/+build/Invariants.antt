@@ -8,8 +8,8 @@ decreases-add_group g l = 5 * l.below + 3
 abbrev pub decreases-add_child : goal.decreases-add_child
 decreases-add_child g l = 5 * l.width + 2
 
-abbrev pub decreases-larger_child : goal.decreases-larger_child
-decreases-larger_child g l = 5 * l.width + 1
+abbrev pub decreases-kind_of_sorted : goal.decreases-kind_of_sorted
+decreases-kind_of_sorted g l = 5 * l.width + 1
 
 abbrev pub decreases-many : goal.decreases-many
 decreases-many g l = 5 * l.width

@@ -4,7 +4,7 @@ use Rattle.judy_model.specs.Keys.{word_order}
 use Rattle.judy_leaf.specs.KeyLists.{keys_of, low_pairs}
 use Rattle.judy_leaf.specs.Leaves.{AreKeysFrom, keys_from}
 use Rattle.judy_leaf.proofs.LeafLists.{keys_of-pairs_of}
-use Rattle.judy_leaf.proofs.leaf.LeafOf.filled.Goals as goal
+use Rattle.judy_leaf.proofs.leaf.LeafOf.from_sorted.Goals as goal
 
 pub invariant_of-result : goal.invariant_of-result
 invariant_of-result g c =
