@@ -1,7 +1,6 @@
 //! The reading of a bitmap leaf whose block stands in a node.
 
 ghost use Rattle.std.specs.Prelude.{◌≡◌, ◌+◌, ◌<◌, ◌≤◌, ◌==◌, length, slice_index, slice_get, Some};
-ghost use Rattle.std.specs.List.{AllByRecursion};
 ghost use Rattle.judy_model.specs.Keys.{word_order};
 ghost use Rattle.judy_model.specs.Nearest.{IsFirst, IsLast};
 ghost use Rattle.judy_bits.specs.ByteSets as set;
@@ -71,14 +70,6 @@ impl<'a, V: Words + Drop> BitRef<'a, V> {
     /// A law, told by a call that does nothing: the keys are a set of bytes.
     pub fn told(&self)
         ensures { IsByteSet (keys_of self.now.pairs) }
-    {
-        let _ = &self.block;
-    }
-
-    /// A law, told by a call that does nothing: a key has at most one word of value, and where it has none, each value is 0.
-    pub fn told_values(&self)
-        ensures words { V.WORDS ≤ 1 }
-        ensures none { V.WORDS ≡ 0 → AllByRecursion (λ pair. pair.1 ≡ 0) self.now.pairs }
     {
         let _ = &self.block;
     }
@@ -159,7 +150,7 @@ impl<'a, V: Words + Drop> BitRef<'a, V> {
         ensures below { result < 256 }
     {
         self.told();
-        match self.next_from(byte as u8) {
+        match self.bits().next_from(byte as u8) {
             Some(key) => u64::from(key),
             None => unreachable!(),
         }
@@ -197,7 +188,7 @@ impl<'a, V: Words + Drop> BitRef<'a, V> {
     {
         self.told();
         let last = number.min(255) as u8;
-        match self.prev_from(last) {
+        match self.bits().prev_from(last) {
             Some(key) => Some((
                 u64::from(key),
                 self.value_at(self.count_up_to(u64::from(last)) - 1),
@@ -211,7 +202,7 @@ impl<'a, V: Words + Drop> BitRef<'a, V> {
         ensures { IsFirst word_order (is_absent 256 (keys_of self.now.pairs)) number result }
     {
         if number < 256 {
-            as_word(self.next_absent(number as u8))
+            as_word(self.bits().next_absent(number as u8))
         } else {
             None
         }
@@ -221,7 +212,7 @@ impl<'a, V: Words + Drop> BitRef<'a, V> {
     pub fn absent_at_or_before(&self, number: u64) -> Option<u64>
         ensures { IsLast word_order (is_absent 256 (keys_of self.now.pairs)) number result }
     {
-        as_word(self.prev_absent(number.min(255) as u8))
+        as_word(self.bits().prev_absent(number.min(255) as u8))
     }
 
     // How many keys are at or below a number.
@@ -236,34 +227,6 @@ impl<'a, V: Words + Drop> BitRef<'a, V> {
         } else {
             self.len()
         }
-    }
-
-    /// The nearest key at or above a byte; none where all are below.
-    pub fn next_from(&self, byte: u8) -> Option<u8>
-        ensures { result ≡ set.next_from (keys_of self.now.pairs) byte }
-    {
-        self.bits().next_from(byte)
-    }
-
-    /// The nearest key at or below a byte; none where all are above.
-    pub fn prev_from(&self, byte: u8) -> Option<u8>
-        ensures { result ≡ set.prev_from (keys_of self.now.pairs) byte }
-    {
-        self.bits().prev_from(byte)
-    }
-
-    /// The nearest byte at or above the given one that is no key; none where all of these are keys.
-    pub fn next_absent(&self, byte: u8) -> Option<u8>
-        ensures { result ≡ set.next_absent (keys_of self.now.pairs) byte }
-    {
-        self.bits().next_absent(byte)
-    }
-
-    /// The nearest byte at or below the given one that is no key; none where all of these are keys.
-    pub fn prev_absent(&self, byte: u8) -> Option<u8>
-        ensures { result ≡ set.prev_absent (keys_of self.now.pairs) byte }
-    {
-        self.bits().prev_absent(byte)
     }
 }
 
