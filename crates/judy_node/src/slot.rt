@@ -88,7 +88,8 @@ impl<V: Words + Drop> BranchOf<V> {
         ensures* changes { sem 𝓛
             (LendsIf (the_row V.row V.Words) word self.entry result
             (branch_written self.entry.now seat.at seat.rest) self.entry.now) }
-        ensures value { option_copied_mut result ≡ value_of seat.rest (child_at self.old seat.at).pairs }
+        ensures value { option_copied_mut result
+            ≡ value_of seat.rest (child_at self.old seat.at).pairs }
     {
         L::slot::<V, K>(self, seat)
     }
@@ -104,7 +105,8 @@ impl<V: Words + Drop> BranchOf<V> {
         ensures* changes { sem 𝓛
             (LendsIf (the_row V.row V.Words) word self.entry result
             (branch_written self.entry.now seat.at seat.rest) self.entry.now) }
-        ensures value { option_copied_mut result ≡ value_of seat.rest (child_at self.old seat.at).pairs }
+        ensures value { option_copied_mut result
+            ≡ value_of seat.rest (child_at self.old seat.at).pairs }
     {
         let width = self.width;
         self.child_at(seat.at).slot_at::<L, K>(width, seat.rest)
@@ -121,7 +123,8 @@ impl<V: Words + Drop> BranchOf<V> {
         ensures* changes { sem 𝓛
             (LendsIf (the_row V.row V.Words) word self.entry result
             (branch_written self.entry.now seat.at seat.rest) self.entry.now) }
-        ensures value { option_copied_mut result ≡ value_of seat.rest (child_at self.old seat.at).pairs }
+        ensures value { option_copied_mut result
+            ≡ value_of seat.rest (child_at self.old seat.at).pairs }
     {
         let width = self.width;
         self.child_at(seat.at).slot_of_byte::<K>(width, seat.rest)
@@ -185,7 +188,8 @@ pub trait Level {
         ensures* changes { sem 𝓛
             (LendsIf (the_row V.row V.Words) word branch.entry result
             (branch_written branch.entry.now seat.at seat.rest) branch.entry.now) }
-        ensures value { option_copied_mut result ≡ value_of seat.rest (child_at branch.old seat.at).pairs };
+        ensures value { option_copied_mut result
+            ≡ value_of seat.rest (child_at branch.old seat.at).pairs };
 }
 
 // The lowest level, that of branches whose children have keys of one byte.
