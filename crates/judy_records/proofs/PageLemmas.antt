@@ -4,7 +4,8 @@ use Rattle.std.proofs.lemmas.Bool.{cases_lt, cases_eq}
 use Rattle.std.proofs.lemmas.List.{append-nil, length-append, length-drop, length-set, length-take-le, length_push, take-append-drop, take-append-le, drop-append-le, drop-drop, drop_at, drop_all, drop_more, get_or-append-add, get_or_append_left, get_or_past, get_or_push, get_or-set_same, get_or-set_other, set-append_left, set-append_right, set_split}
 use Rattle.std.proofs.lemmas.List.Concat.{flat_map-append}
 use Rattle.judy_records.specs.Pages.{joined, ArePages}
-use Rattle.judy_records.proofs.SpotLemmas.{place-within}
+use Rattle.judy_records.specs.Inside.{first_spot}
+use Rattle.judy_records.proofs.SpotLemmas.{place-within, first-append}
 
 -- ---- one page among others
 
@@ -121,7 +122,7 @@ module _ (pages : List (List ℕ)) (count stride : ℕ) (are : ArePages pages co
         ∙ ap (drop (place % 128 * stride)) (ap (drop (place / 128 * (128 * stride))) whole ∙ drop_at front (page ++ behind) (place / 128 * (128 * stride)) front-is)
         ∙ drop-append-le (place % 128 * stride) page behind (omega (arith, long))
 
-    -- where its first word is found, and the others,
+    -- where its first word is found, and all of it,
     pub page-read : 0 < stride → get_or (joined pages) (place * stride) 0 ≡ get_or page (place % 128 * stride) 0
     page-read some =
         let long = page-long in
@@ -130,18 +131,11 @@ module _ (pages : List (List ℕ)) (count stride : ℕ) (are : ArePages pages co
         ∙ get_or-append-add front (page ++ behind) (place % 128 * stride) 0
         ∙ get_or_append_left page behind 0 (place % 128 * stride) (omega (arith, long, some))
 
-    pub page-text : (size : ℕ) → size + 1 ≡ stride → take size (drop (place * stride + 1) (joined pages)) ≡ take size (drop (place % 128 * stride + 1) page)
-    page-text size is =
+    pub page-spot : (size : ℕ) → size + 1 ≡ stride → first_spot size (drop (place * stride) (joined pages)) ≡ first_spot size (drop (place % 128 * stride) page)
+    page-spot size is =
         let long = page-long in
-        let one = length-drop (place % 128 * stride) page in
-        let other = length-drop (place % 128 * stride + 1) page in
-        ap (take size) (
-        sym (drop-drop 1 (place * stride) (joined pages))
-        ∙ ap (drop 1) from-start
-        ∙ drop-append-le 1 (drop (place % 128 * stride) page) behind (omega (arith, long, one, is))
-        ∙ ap (λ rest. rest ++ behind) (drop-drop 1 (place % 128 * stride) page)
-        )
-        ∙ take-append-le size (drop (place % 128 * stride + 1) page) behind (omega (arith, long, other, is))
+        let left = length-drop (place % 128 * stride) page in
+        ap (first_spot size) from-start ∙ first-append size (drop (place % 128 * stride) page) behind (omega (arith, long, left, is))
 
     -- and where it is written.
     pub page-set : 0 < stride → (value : ℕ) → joined (set pages (place / 128) (set page (place % 128 * stride) value)) ≡ set (joined pages) (place * stride) value

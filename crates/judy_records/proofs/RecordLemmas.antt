@@ -6,7 +6,7 @@ use Rattle.std.specs.Vec.{with_item}
 use Rattle.std.proofs.lemmas.Bool.{eq-eqb, cases_lt, cases_eq}
 use Rattle.std.proofs.lemmas.Nat.{mul-le}
 use Rattle.std.proofs.lemmas.Bool.Decides.{eqb_tells}
-use Rattle.std.proofs.lemmas.List.{get_or-map, get_or-drop, get_or_past, get_or_read, get_or-set_same, get_or-set_other, map_push, length_push, drop-drop, map-set, set-get_or, length-set, length-map, length-append, length-drop, length-take-le, take_all}
+use Rattle.std.proofs.lemmas.List.{get_or-map, get_or-drop, get_or_past, get_or_read, get_or-set_same, get_or-set_other, map_push, length_push, drop-drop, map-set, set-get_or, length-set, length-map, length-append, take_all}
 use Rattle.judy_places.specs.Places.{NoneLost, free_places}
 use Rattle.judy_records.specs.declared.records.Records.TheInside.{Inside}
 use Rattle.judy_records.specs.Texts.{words_for, words_in, words_of}
@@ -14,7 +14,7 @@ use Rattle.judy_records.specs.Pages.{joined, page_words, page_room, ArePages, Is
 use Rattle.judy_records.specs.Spots.{Spot, RecordList, free, held, spot_at, IsHeld, value_of, text_of, link_of, links_of, empty_list, with_spot, with_value, HasRoom, free_or, next_place, put_by, put_in, taken_out, removed, with_capacity}
 use Rattle.judy_records.specs.Inside.{first_spot, spots_in, freed, pages_of, rooms_of, items_of, left_at, list_of, AreRecords, AreChained}
 use Rattle.judy_records.proofs.SpotLemmas.{length-spots, place-within, get-spots, spots-value, spots-push, spots-place, before, behind}
-use Rattle.judy_records.proofs.PageLemmas.{all-long, page-inside, page-long, page-read, page-text, page-set, page-write, write-long, set-lengths, set-are, pushed-joined, pushed-pages, begun-joined, begun-are, none-are}
+use Rattle.judy_records.proofs.PageLemmas.{all-long, page-inside, page-long, page-read, page-spot, page-set, page-write, write-long, set-lengths, set-are, pushed-joined, pushed-pages, begun-joined, begun-are, none-are}
 use Rattle.judy_records.proofs.TextLemmas.{length-words}
 use Rattle.judy_records.proofs.FreeLemmas.{length-freed, held-inside, freed-held, freed-set, chained-set, freed-more, chained-more, spots-taken, freed-linked, free-counted, free-most, none-linked, none-freed, some-linked, some-freed, some-inside, next_of}
 
@@ -92,10 +92,10 @@ module _ (list : Inside) (are : AreRecords list) (place : ℕ) (inside : place <
         page-read (pages_of list) list.count (list.size + 1) are.pages place inside (omega arith)
         ∙ ap (λ words. get_or words (place % 128 * (list.size + 1)) 0) (sym words-read)
 
-    pub text-read : take list.size (drop (place * (list.size + 1) + 1) (items_of list)) ≡ take list.size (drop (place % 128 * (list.size + 1) + 1) (page_words page))
-    text-read =
-        page-text (pages_of list) list.count (list.size + 1) are.pages place inside list.size (omega arith)
-        ∙ ap (λ words. take list.size (drop (place % 128 * (list.size + 1) + 1) words)) (sym words-read)
+    pub spot-read : first_spot list.size (drop (place * (list.size + 1)) (items_of list)) ≡ first_spot list.size (drop (place % 128 * (list.size + 1)) (page_words page))
+    spot-read =
+        page-spot (pages_of list) list.count (list.size + 1) are.pages place inside list.size (omega arith)
+        ∙ ap (λ words. first_spot list.size (drop (place % 128 * (list.size + 1)) words)) (sym words-read)
 
     -- Another page that is as long, with as much memory, in its stead.
     module _ (new : Vec ℕ Global) (long : length (page_words new) ≡ length (page_words page)) (room : page_room new ≡ page_room page) where
@@ -283,11 +283,11 @@ module _ (list : Inside) (are : AreRecords list) {seen : RecordList} (view_is : 
         let long = seen-long in
         get_or_read (page_words page) (place % 128 * (list.size + 1)) _ (omega (arith, long)) is 0 ∙ seen-value
 
-    pub seen-text : take list.size (drop (place % 128 * (list.size + 1) + 1) (page_words page)) ≡ text_of (spot_at seen place)
-    seen-text =
-        sym (text-read list are place seen-within page read)
-        ∙ sym (word-text list are place seen-held)
-        ∙ ap (λ list. text_of (spot_at list place)) view_is
+    pub seen-spot : first_spot list.size (drop (place % 128 * (list.size + 1)) (page_words page)) ≡ spot_at seen place
+    seen-spot =
+        sym (spot-read list are place seen-within page read)
+        ∙ sym (spot-is list are place seen-held)
+        ∙ ap (λ list. spot_at list place) view_is
 
 -- ---- room
 
@@ -629,19 +629,6 @@ module _ (list : Inside) (are : AreRecords list) (value : ℕ) (bytes : List ℕ
     placed-spots : spots_in list.count list.size placed ≡ set (all list are) place (held value (words_of bytes))
     placed-spots = spots-place list.count list.size (items_of list) (items-long list are) place within words words-long ∙ ap (set (all list are) place) words-spot
 
-    pub placed-long : length placed ≡ list.count * (list.size + 1)
-    placed-long =
-        let start = place * (list.size + 1) in
-        let inside = place-within place list.count (list.size + 1) within in
-        let all_long = items-long list are in
-        let front = length-take-le start (items_of list) (omega (arith, inside, all_long)) in
-        let long = length-append (take start (items_of list)) (words ++ drop (list.size + 1) (drop start (items_of list))) in
-        let rest = length-append words (drop (list.size + 1) (drop start (items_of list))) in
-        let past = length-drop (list.size + 1) (drop start (items_of list)) in
-        let left = length-drop start (items_of list) in
-        let own = words-long in
-        omega (arith, inside, front, long, rest, past, left, own, all_long)
-
   -- A record stands in a page that was written, whatever is free then.
   pub written-are : {place : ℕ} (inside : place < list.count) (page : Vec ℕ Global) (read : page ≡ get_or list.pages.items (place / 128) page) (new : Vec ℕ Global) (long : length (page_words new) ≡ length (page_words page)) (room : page_room new ≡ page_room page) (spare first : ℕ)
       → AreChained spare first (spots_in list.count list.size (items_of (after list are place inside page read new long room)))
@@ -687,6 +674,3 @@ module _ (list : Inside) (are : AreRecords list) (value : ℕ) (bytes : List ℕ
         ap (λ spots. record (list_of list) { spots = spots; first = next_of (all list are) list.free })
         (ap (freed (list.spare - 1) (next_of (all list are) list.free)) (placed-spots list.free free-within) ∙ (some-freed (all list are) list.free list.spare are.chained some (held value (words_of bytes))).0)
         ∙ ap (λ link. put_by link (list_of list) (held value (words_of bytes))) (sym (some-linked (all list are) list.free (spots-taken list.count list.size (items_of list)) list.spare are.chained some))
-
-    pub written-long : length (placed list.free free-within) ≡ list.count * (list.size + 1)
-    written-long = placed-long list.free free-within

@@ -1,7 +1,7 @@
 -- Records in words, one after the other: each of them, a new one behind them, and another one in the place of one.
 use Rattle.std.proofs.Common.{◌≡◌, ℕ, zero, suc, ◌+◌, ◌-◌, ◌*◌, ◌<◌, ◌≤◌, List, [], ◌∷◌, ◌++◌, length, take, drop, get_or, set, refl, sym, ap, ◌∙◌, arith}
 use Rattle.std.proofs.lemmas.Nat.{mul-le}
-use Rattle.std.proofs.lemmas.List.{length-drop, length-take-le, nil_from_length, drop-append-le, take-append-le, take-append-drop, get_or_append_left, drop-drop, set_at, set_split, take_all}
+use Rattle.std.proofs.lemmas.List.{get_or-take, drop-take, length-drop, length-take-le, nil_from_length, drop-append-le, take-append-le, take-append-drop, get_or_append_left, drop-drop, set_at, set_split, take_all}
 use Rattle.judy_records.specs.Spots.{Spot, held}
 use Rattle.judy_records.specs.Inside.{first_spot, spots_in}
 
@@ -29,11 +29,19 @@ get-spots (suc count) size words (suc at) d inside =
     ∙ ap (first_spot size) (drop-drop (at * (size + 1)) (size + 1) words ∙ ap (λ n. drop n words) (step at size))
 
 -- What follows a record doesn't matter to it.
-first-append : (size : ℕ) (xs ys : List ℕ) → size + 1 ≤ length xs → first_spot size (xs ++ ys) ≡ first_spot size xs
+pub first-append : (size : ℕ) (xs ys : List ℕ) → size + 1 ≤ length xs → first_spot size (xs ++ ys) ≡ first_spot size xs
 first-append size xs ys long =
     let left = length-drop 1 xs in
     let value = get_or_append_left xs ys 0 0 (omega arith) in
     let text = ap (take size) (drop-append-le 1 xs ys (omega arith)) ∙ take-append-le size (drop 1 xs) ys (omega arith) in
+    λ i. held (value i) (text i)
+
+-- It is its own words, the value first.
+pub first-taken : (size : ℕ) (words : List ℕ) → held (get_or (take (size + 1) words) 0 0) (drop 1 (take (size + 1) words)) ≡ first_spot size words
+first-taken size words =
+    let e : size + 1 ≡ 1 + size = omega arith in
+    let value = get_or-take (size + 1) words 0 0 (omega arith) in
+    let text = ap (λ n. drop 1 (take n words)) e ∙ drop-take 1 size words in
     λ i. held (value i) (text i)
 
 -- Records behind others.

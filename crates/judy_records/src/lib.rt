@@ -7,9 +7,11 @@
 
 pub mod laws;
 mod pages;
+mod record;
 mod records;
 mod text;
 mod words;
 
+pub use record::Record;
 pub use records::Records;
 pub use words::{first_word, words_for};

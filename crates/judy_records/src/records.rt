@@ -2,15 +2,15 @@
 
 ghost use Rattle.std.specs.Prelude.{◌≡◌, ◌≤◌, ◌+◌, ◌*◌, ◌↔◌, ℕ, IsTrue, IsOk, IfOk, OnOk, length};
 ghost use Rattle.std.specs.Borrow.{sem};
-ghost use Rattle.judy_model.specs.Keys.{byte_order, IsWord};
+ghost use Rattle.judy_model.specs.Keys.{IsWord};
 ghost use Rattle.judy_places.specs.Places.{NoneLost};
 ghost use Rattle.judy_records.specs.Texts.{words_of, words_for, bytes_in};
 ghost use Rattle.judy_records.specs.Spots.{held, spot_at, IsHeld, value_of, text_of, links_of, empty_list, HasRoom, next_place, with_capacity, with_spot, put_in, taken_out, removed};
 
 use crate::pages::PAGE;
+use crate::record::Record;
 use crate::{pages, text, words};
 use std::alloc::{AllocError, Global};
-use std::cmp::Ordering;
 use std::marker::Model;
 
 /// Records of one length, each a value and a text of so many words. To contracts it is a `RecordList`.
@@ -98,14 +98,14 @@ impl Records {
         &mut page[place % PAGE * (self.size + 1)]
     }
 
-    /// The words of the text at a place.
-    pub fn text(&self, place: usize) -> &[u64]
+    /// The record at a place.
+    pub fn at(&self, place: usize) -> Record<'_>
         requires { IsHeld (spot_at self.now place) }
-        ensures { result.now ≡ text_of (spot_at self.now place) }
+        ensures { result ≡ spot_at self.now place }
     {
         let page = &self.pages[place / PAGE];
-        let start = place % PAGE * (self.size + 1) + 1;
-        &page[start..start + self.size]
+        let start = place % PAGE * (self.size + 1);
+        Record::new(&page[start..start + (self.size + 1)])
     }
 
     /// Whether the text at a place is that of the bytes. A loop over words.
@@ -115,15 +115,7 @@ impl Records {
         requires { IsHeld (spot_at self.now place) }
         ensures { IsTrue result ↔ text_of (spot_at self.now place) ≡ words_of bytes.now }
     {
-        text::is_of(self.text(place), bytes)
-    }
-
-    /// How the text at a place compares with that of the bytes. A loop over words.
-    pub fn order(&self, place: usize, bytes: &[u8]) -> Ordering
-        requires { IsHeld (spot_at self.now place) }
-        ensures { result ≡ byte_order (text_of (spot_at self.now place)) (words_of bytes.now) }
-    {
-        text::order(self.text(place), bytes)
+        self.at(place).is_of(bytes)
     }
 
     /// A copy of the first so many bytes of the text at a place: where a byte string of that length was put in, it is that. A loop over
@@ -133,7 +125,7 @@ impl Records {
         ensures { IfOk result
             (λ bytes. bytes.items ≡ bytes_in count (text_of (spot_at self.now place))) }
     {
-        words::bytes_in(alloc, self.text(place), count)
+        words::bytes_in(alloc, self.at(place).text(), count)
     }
 
     /// Makes room for one more record. Where a place is free it needs none, so nothing is asked for. Else the last page grows by an eighth of all

@@ -2,20 +2,19 @@
 
 ghost use Rattle.std.specs.Prelude.{◌≡◌, ◌≢◌, ◌↔◌, ◌+◌, ◌++◌, ◌-◌, ◌%◌, ◌≤◌, [], ◌∷◌, IsTrue, length, slice_get, Some};
 ghost use Rattle.judy_model.specs.Keys.{byte_order};
-ghost use Rattle.judy_records.specs.Spots.{spot_at, value_of, text_of};
+ghost use Rattle.judy_records.specs.Spots.{value_of, text_of};
 ghost use Rattle.judy_records.specs.Texts.{IsText, text_in};
 ghost use Rattle.judy_tails.specs.Inside.{IsWhole};
 
 use arrayvec::ArrayVec;
-use judy_records::Records;
+use judy_records::Record;
 use std::cmp::Ordering;
 use std::marker::Model;
 
 /// A tail where it stands. To contracts it is the pair of its text and its value.
 #[derive(Drop)]
 pub struct Tail<'a> {
-    list: &'a Records,
-    place: usize,
+    stored: Record<'a>,
 }
 
 impl<'a> Model for Tail<'a> {
@@ -23,30 +22,29 @@ impl<'a> Model for Tail<'a> {
 
     ghost Value = { List ℕ × ℕ };
 
-    ghost use Rattle.judy_records.specs.Spots.{spot_at, value_of, text_of};
+    ghost use Rattle.judy_records.specs.Spots.{value_of, text_of};
     ghost use Rattle.judy_records.specs.Texts.{text_in};
     ghost use Rattle.judy_tails.specs.Inside.{IsWhole};
 
-    ghost view = { λ t. (text_in (text_of (spot_at t.list.now t.place)), value_of (spot_at t.list.now t.place)) };
+    ghost view = { λ t. (text_in (text_of t.stored), value_of t.stored) };
 
-    ghost invariant = { λ t. IsWhole (spot_at t.list.now t.place) };
+    ghost invariant = { λ t. IsWhole t.stored };
 }
 
 impl<'a> Tail<'a> {
-    // The tail at a place of a list.
-    pub(crate) fn new(list: &'a Records, place: usize) -> Tail<'a>
-        requires { IsWhole (spot_at list.now place) }
-        ensures { result
-            ≡ (text_in (text_of (spot_at list.now place)), value_of (spot_at list.now place)) }
+    // The tail of a record.
+    pub(crate) fn new(stored: Record<'a>) -> Tail<'a>
+        requires { IsWhole stored }
+        ensures { result ≡ (text_in (text_of stored.entry), value_of stored.entry) }
     {
-        Tail { list, place }
+        Tail { stored }
     }
 
     /// The value.
     pub fn value(&self) -> u64
         ensures { result ≡ self.now.1 }
     {
-        self.list.value(self.place)
+        self.stored.value()
     }
 
     /// Whether the text is these bytes, of which the last isn't zero. A loop over words.
@@ -55,7 +53,7 @@ impl<'a> Tail<'a> {
         requires { slice_get bytes.now (length bytes.now - 1) ≢ Some 0 }
         ensures { IsTrue result ↔ self.now.0 ≡ bytes.now }
     {
-        self.list.is_of(self.place, bytes)
+        self.stored.is_of(bytes)
     }
 
     /// How the text compares with another one. A loop over words.
@@ -63,7 +61,7 @@ impl<'a> Tail<'a> {
         requires { IsText text.now }
         ensures { result ≡ byte_order self.now.0 text.now }
     {
-        self.list.order(self.place, text)
+        self.stored.order(text)
     }
 
     /// Puts the text behind the bytes of a buffer that has room for it. A loop over words.
@@ -71,7 +69,7 @@ impl<'a> Tail<'a> {
         requires { length buffer.old.items + length self.now.0 ≤ 1024 }
         ensures { buffer.new.items ≡ buffer.old.items ++ self.now.0 }
     {
-        for word in self.list.text(self.place) {
+        for word in self.stored.text() {
             push_bytes(buffer, *word);
         }
     }

@@ -47,7 +47,7 @@ impl Tails {
         requires { IsSome (tail_at self.now place) }
         ensures { tail_at self.now place ≡ Some result }
     {
-        Tail::new(&self.lists[(place % 256) as usize], (place / 256) as usize)
+        Tail::new(self.lists[(place % 256) as usize].at((place / 256) as usize))
     }
 
     /// Lends the value of the tail at a place; all else stays.

@@ -1,6 +1,5 @@
 use Rattle.std.proofs.Common.{◌++◌, ◌%◌, ◌≢◌, subst, [], ◌∷◌, get_or, take, length, ap, sym, ◌∙◌, arith}
 use Rattle.std.proofs.lemmas.List.{length-append, append_assoc, append-nil, take_all}
-use Rattle.judy_records.specs.Spots.{spot_at}
 use Rattle.judy_records.specs.Texts.{text_in}
 use Rattle.judy_tails.proofs.TailLemmas.{text-none, text-more, text-within, whole-full}
 use Rattle.judy_tails.proofs.tail.Tail.push_to.Goals as goal
@@ -14,7 +13,7 @@ push_bytes-requires-clause-full c = λ some.
     let at = c.loop-word.word-index in
     let same = c.text-word-items.ensures in
     ap (λ words. length (text_in (get_or words at 0 ∷ []))) same
-    ∙ whole-full (spot_at c.self.inside.list.now c.self.inside.place) c.self.invariant at (omega (arith, c.loop-word-test.true, ap length same)) (subst (λ words. get_or words at 0 % 256 ≢ 0) same some)
+    ∙ whole-full c.self.inside.stored c.self.invariant at (omega (arith, c.loop-word-test.true, ap length same)) (subst (λ words. get_or words at 0 % 256 ≢ 0) same some)
 
 pub push_bytes-requires-clause-room : goal.push_bytes-requires-clause-room
 push_bytes-requires-clause-room c =
