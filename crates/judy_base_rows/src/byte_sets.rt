@@ -115,13 +115,14 @@ impl Bytes for Bits256 {
     }
 
     fn answers(&self, byte: u8) -> [usize; 5] {
-        let place = self.place(byte).unwrap_or(NONE);
-        let (next, prev) = (number(self.next_from(byte)), number(self.prev_from(byte)));
-        [self.has(byte) as usize, self.rank(byte), place, next, prev]
+        let bits = self.by_ref();
+        let place = bits.place(byte).unwrap_or(NONE);
+        let (next, prev) = (number(bits.next_from(byte)), number(bits.prev_from(byte)));
+        [bits.has(byte) as usize, bits.rank(byte), place, next, prev]
     }
 
     fn member_at(&self, place: usize) -> usize {
-        number(self.nth(place))
+        number(self.by_ref().nth(place))
     }
 }
 
@@ -189,7 +190,7 @@ fn expect_len(rt: &impl Abort, len: usize, wanted: usize, count: usize) {
 
 fn take(rt: &impl Abort, set: &mut Bits256, byte: u8, count: usize) {
     set.take(byte);
-    assert!(rt; !set.has(byte), "byte {byte} of {count}");
+    assert!(rt; !set.by_ref().has(byte), "byte {byte} of {count}");
 }
 
 fn take_all(rt: &impl Abort, set: &mut Bits256, plain: &[bool; 256], count: usize) {

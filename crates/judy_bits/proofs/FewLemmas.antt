@@ -4,15 +4,15 @@ use Rattle.std.specs.List.{AllByRecursion, All, insert, remove}
 use Rattle.std.proofs.lemmas.Bool.{false_from_ne_true}
 use Rattle.std.proofs.lemmas.List.{take_all}
 use Rattle.std.proofs.lemmas.List.Elements.{All-head, All-tail}
-use Rattle.std.proofs.lemmas.Option.{slice_get_past, slice_get_within, same_Some}
+use Rattle.std.proofs.lemmas.Option.{slice_get_within, same_Some}
 use Rattle.judy_model.specs.Keys.{word_order}
 use Rattle.judy_model.proofs.WordOrder.{is_le_word}
 use Rattle.judy_model.proofs.Places.{length-filter-le, find_before_count, before_place-suc, le-IsDownward}
 use Rattle.std.specs.Cmp.{nat_cmp_total}
-use Rattle.judy_bits.specs.ByteSets.{IsByteSet, has, rank, count_up_to, place, next_from, prev_from, with_byte, without_byte}
+use Rattle.judy_bits.specs.ByteSets.{IsByteSet, has, rank, count_up_to, place, prev_from, with_byte, without_byte}
 use Rattle.judy_bits.specs.Paddings.{IsPadded, length-meant}
 use Rattle.judy_bits.proofs.SetLaws.{place-nth}
-use Rattle.judy_bits.proofs.SetLemmas.{filter_all, slice_get-rank, next_from-rank, with_other, without_at, with_byte-IsByteSet, without_byte-IsByteSet}
+use Rattle.judy_bits.proofs.SetLemmas.{filter_all, slice_get-rank, with_other, without_at, with_byte-IsByteSet, without_byte-IsByteSet}
 use Rattle.judy_bits.proofs.PaddingLemmas.{meant_at, count_by-padded, opened, length-opened, closed, length-closed, IsPadded-from, take-from}
 
 all_by_recursion : (P : ℕ → Type 0) (xs : List ℕ) → All P xs → AllByRecursion P xs
@@ -52,12 +52,6 @@ module _ (array : List ℕ) (count : ℕ) (padded : IsPadded 255 array count) (i
   -- A byte that stands at a place.
   pub place-there : (byte at : ℕ) → at < count → get_or array at 0 ≡ byte → Some at ≡ place (take count array) byte
   place-there byte at inside same = sym ((place-nth (take count array) byte at is).1 (meant_at 255 array count at padded inside ∙ ap Some same))
-
-  pub next-there : (byte at : ℕ) → at ≡ rank (take count array) byte → at < count → Some (get_or array at 0) ≡ next_from (take count array) byte
-  next-there byte at ranked inside = sym (meant_at 255 array count at padded inside) ∙ ap (slice_get (take count array)) ranked ∙ sym (next_from-rank (take count array) is.ascending byte)
-
-  pub next-none : (byte at : ℕ) → at ≡ rank (take count array) byte → count ≤ at → None ≡ next_from (take count array) byte
-  next-none byte at ranked past = sym (slice_get_past (take count array) at (let h = long in omega arith)) ∙ ap (slice_get (take count array)) ranked ∙ sym (next_from-rank (take count array) is.ascending byte)
 
   pub upto-le : (byte : ℕ) → count_up_to (take count array) byte ≤ count
   upto-le byte = let kept = length-filter-le (λ member. is_le (word_order member byte)) (take count array) in let h = long in omega arith

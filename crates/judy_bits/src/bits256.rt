@@ -36,8 +36,8 @@ impl Bits256 {
         Bits256 { words }
     }
 
-    // The set to read.
-    fn by_ref(&self) -> BitsRef<'_>
+    /// The set to read: what it has, and where, is asked of that.
+    pub fn by_ref(&self) -> BitsRef<'_>
         ensures { result ≡ self.now }
     {
         BitsRef::of_words(&self.words)
@@ -48,13 +48,6 @@ impl Bits256 {
         ensures { members_of result ≡ self.now }
     {
         self.words
-    }
-
-    /// Whether the byte is a member.
-    pub fn has(&self, byte: u8) -> bool
-        ensures { result ≡ set.has self.now byte }
-    {
-        self.by_ref().has(byte)
     }
 
     /// Makes the byte a member; one that is a member changes nothing.
@@ -88,20 +81,6 @@ impl Bits256 {
         (count(first) + count(second) + count(third) + count(fourth)) as usize
     }
 
-    /// How many members are below the byte.
-    pub fn rank(&self, byte: u8) -> usize
-        ensures { result ≡ set.rank self.now byte }
-    {
-        self.by_ref().rank(byte)
-    }
-
-    /// The place of a member, which is its rank; none where the byte isn't a member.
-    pub fn place(&self, byte: u8) -> Option<usize>
-        ensures { result ≡ set.place self.now byte }
-    {
-        self.by_ref().place(byte)
-    }
-
     /// The place of a member, where it is known how many members are below its word's first byte; none where the byte isn't a member.
     // As a set's: a call would cost as much as the count.
     #[inline(always)]
@@ -126,40 +105,5 @@ impl Bits256 {
     {
         let here = self.words[(byte / 64) as usize] & fewer_ones((byte % 64) as usize);
         front + here.count_ones() as usize
-    }
-
-    /// The member at a place, counted from 0; none from the number of members on.
-    pub fn nth(&self, at: usize) -> Option<u8>
-        ensures { result ≡ set.nth self.now at }
-    {
-        self.by_ref().nth(at)
-    }
-
-    /// The nearest byte at or above the given one that is no member; none where all of these are members.
-    pub fn next_absent(&self, byte: u8) -> Option<u8>
-        ensures { result ≡ set.next_absent self.now byte }
-    {
-        self.by_ref().next_absent(byte)
-    }
-
-    /// The nearest byte at or below the given one that is no member; none where all of these are members.
-    pub fn prev_absent(&self, byte: u8) -> Option<u8>
-        ensures { result ≡ set.prev_absent self.now byte }
-    {
-        self.by_ref().prev_absent(byte)
-    }
-
-    /// The nearest member at or above the byte; none where all are below.
-    pub fn next_from(&self, byte: u8) -> Option<u8>
-        ensures { result ≡ set.next_from self.now byte }
-    {
-        self.by_ref().next_from(byte)
-    }
-
-    /// The nearest member at or below the byte; none where all are above.
-    pub fn prev_from(&self, byte: u8) -> Option<u8>
-        ensures { result ≡ set.prev_from self.now byte }
-    {
-        self.by_ref().prev_from(byte)
     }
 }

@@ -1,4 +1,4 @@
-//! A set of bytes as 256 bits in four words that stand elsewhere, where they are read one by one and not copied.
+//! A set of bytes as 256 bits in four words, where they are read one by one and not copied.
 
 ghost use Rattle.std.specs.Prelude.{◌≡◌, ◌+◌, ◌%◌, ◌^◌, ◌≤◌, if◌then◌else◌, nat_lt, count_ones, slice_index, length};
 ghost use Rattle.judy_bits.specs.ByteSets as set;
@@ -110,14 +110,14 @@ impl<'a> BitsRef<'a> {
     pub fn next_absent(&self, byte: u8) -> Option<u8>
         ensures { result ≡ set.next_absent self.now byte }
     {
-        self.absent().next_from(byte)
+        self.absent().by_ref().next_from(byte)
     }
 
     /// The nearest byte at or below the given one that is no member; none where all of these are members.
     pub fn prev_absent(&self, byte: u8) -> Option<u8>
         ensures { result ≡ set.prev_absent self.now byte }
     {
-        self.absent().prev_from(byte)
+        self.absent().by_ref().prev_from(byte)
     }
 
     /// The nearest member at or above the byte; none where all are below.

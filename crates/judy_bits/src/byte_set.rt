@@ -108,36 +108,14 @@ impl ByteSet {
         }
     }
 
-    /// The nearest byte at or above the given one that is no member; none where all of these are members.
-    pub fn next_absent(&self, byte: u8) -> Option<u8>
-        ensures { result ≡ set.next_absent self.now byte }
-    {
-        match &self.members {
-            Members::Linear(few) => bits_of(few).next_absent(byte),
-            Members::Bitmap(_, bits) => bits.next_absent(byte),
-            Members::Full(_, bits) => bits.next_absent(byte),
-        }
-    }
-
-    /// The nearest byte at or below the given one that is no member; none where all of these are members.
-    pub fn prev_absent(&self, byte: u8) -> Option<u8>
-        ensures { result ≡ set.prev_absent self.now byte }
-    {
-        match &self.members {
-            Members::Linear(few) => bits_of(few).prev_absent(byte),
-            Members::Bitmap(_, bits) => bits.prev_absent(byte),
-            Members::Full(_, bits) => bits.prev_absent(byte),
-        }
-    }
-
     /// The nearest member at or above the byte; none where all are below.
     pub fn next_from(&self, byte: u8) -> Option<u8>
         ensures { result ≡ set.next_from self.now byte }
     {
         match &self.members {
             Members::Linear(few) => few.next_from(byte),
-            Members::Bitmap(_, bits) => bits.next_from(byte),
-            Members::Full(_, bits) => bits.next_from(byte),
+            Members::Bitmap(_, bits) => bits.by_ref().next_from(byte),
+            Members::Full(_, bits) => bits.by_ref().next_from(byte),
         }
     }
 
@@ -147,8 +125,8 @@ impl ByteSet {
     {
         match &self.members {
             Members::Linear(few) => few.prev_from(byte),
-            Members::Bitmap(_, bits) => bits.prev_from(byte),
-            Members::Full(_, bits) => bits.prev_from(byte),
+            Members::Bitmap(_, bits) => bits.by_ref().prev_from(byte),
+            Members::Full(_, bits) => bits.by_ref().prev_from(byte),
         }
     }
 
@@ -158,8 +136,8 @@ impl ByteSet {
     {
         match &self.members {
             Members::Linear(few) => few.nth(at),
-            Members::Bitmap(_, bits) => bits.nth(at),
-            Members::Full(_, bits) => bits.nth(at),
+            Members::Bitmap(_, bits) => bits.by_ref().nth(at),
+            Members::Full(_, bits) => bits.by_ref().nth(at),
         }
     }
 
@@ -189,7 +167,7 @@ fn add_to(members: &mut Members, byte: u8)
             if few.len() < 7 {
                 few.add(byte);
             } else {
-                *members = bits_with(bits_of(few), byte);
+                *members = bits_with(few.to_bits(), byte);
             }
         }
         Members::Bitmap(fronts, bits) => {
@@ -275,24 +253,10 @@ fn few_of(bits: &Bits256) -> FewBytes
 {
     let mut few = FewBytes::new();
     for at in 0..bits.len() {
-        let Some(byte) = bits.nth(at) else {
+        let Some(byte) = bits.by_ref().nth(at) else {
             unreachable!()
         };
         few.add(byte);
     }
     few
-}
-
-/// A list of members, as bits.
-fn bits_of(few: &FewBytes) -> Bits256
-    ensures { result ≡ few.now }
-{
-    let mut bits = Bits256::new();
-    for at in 0..few.len() {
-        let Some(byte) = few.nth(at) else {
-            unreachable!()
-        };
-        bits.add(byte);
-    }
-    bits
 }

@@ -5,6 +5,7 @@ ghost use Rattle.std.specs.List.{remove};
 ghost use Rattle.judy_bits.specs.ByteSets as set;
 ghost use Rattle.judy_bits.specs.ByteSets.{IsByteSet};
 
+use crate::bits256::Bits256;
 use std::marker::Model;
 use std::simd::prelude::*;
 
@@ -82,6 +83,17 @@ impl FewBytes {
         self.count as usize
     }
 
+    /// The members as bits.
+    pub(crate) fn to_bits(&self) -> Bits256
+        ensures { result ≡ self.now }
+    {
+        let mut bits = Bits256::new();
+        for byte in &self.bytes[..self.count as usize] {
+            bits.add(*byte);
+        }
+        bits
+    }
+
     /// How many members are below the byte.
     pub(crate) fn rank(&self, byte: u8) -> usize
         ensures { result ≡ set.rank self.now byte }
@@ -116,7 +128,8 @@ impl FewBytes {
 
     /// The member at a place, counted from 0; none from the number of members on.
     pub(crate) fn nth(&self, at: usize) -> Option<u8>
-        ensures { result ≡ set.nth self.now at }
+        ensures member { result ≡ set.nth self.now at }
+        ensures is_set { IsByteSet self.now }
     {
         if at < self.count as usize {
             Some(self.bytes[at])
@@ -129,12 +142,7 @@ impl FewBytes {
     pub(crate) fn next_from(&self, byte: u8) -> Option<u8>
         ensures { result ≡ set.next_from self.now byte }
     {
-        let at = self.rank(byte);
-        if at < self.count as usize {
-            Some(self.bytes[at])
-        } else {
-            None
-        }
+        self.nth(self.rank(byte))
     }
 
     /// The nearest member at or below the byte: it stands before the first that is above it.

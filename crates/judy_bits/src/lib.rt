@@ -6,7 +6,7 @@
 //! [`Skip`] is the list of its bytes, and a [`Meter`] a number. The definitions of a word's bytes (word.rt) and
 //! their laws are judy_model's, since strings and formats speak of them too.
 //!
-//! A [`Bits256`] is four words of bits (bits256.rt), and a [`BitsRef`] reads four words that stand elsewhere
+//! A [`Bits256`] is four words of bits (bits256.rt), and a [`BitsRef`] reads them, or four words that stand elsewhere
 //! (bits_ref.rt), both by the steps on one word in bits.rt; specs/BitWords.antt says which members four words
 //! have. A [`ByteSet`] (byte_set.rt) shows no words: it is up to seven bytes (few_bytes.rt) or bits, and its
 //! [`Form`] (form.rt) follows from the number of its members. The crate stands on judy_model, and the crates of the
