@@ -12,6 +12,7 @@ pub mod RoomSteps
 pub mod SideRooms
 pub mod AbsentSides
 pub mod TurnFacts
+mod TurnSides
 pub mod NearFacts
 pub mod WalkFacts
 mod ScanFacts

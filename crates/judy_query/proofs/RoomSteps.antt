@@ -1,5 +1,5 @@
 -- Rooms along the way down a tree.
-use Rattle.std.proofs.Common.{◌≡◌, ◌≢◌, ℕ, ◌+◌, ◌-◌, ◌*◌, ◌<◌, ◌≤◌, ◌^◌, length, get_or, slice_get, Some, sym, refl, ap, ◌∙◌, arith, false}
+use Rattle.std.proofs.Common.{◌≡◌, ◌≢◌, ℕ, ◌+◌, ◌-◌, ◌*◌, ◌<◌, ◌≤◌, ◌^◌, length, get_or, slice_get, Some, sym, refl, ap, ◌∙◌, subst, arith, false}
 use Rattle.std.proofs.lemmas.Option.{slice_get-get_or}
 use Rattle.judy_model.specs.WordBytes.{number_of}
 use Rattle.judy_bits.specs.ByteSets.{has}
@@ -14,7 +14,7 @@ use Rattle.judy_node.proofs.Maps.{map-length}
 use Rattle.judy_query.specs.declared.rooms.Room.{Room}
 use Rattle.judy_query.specs.declared.rooms.Room.TheVariants.{Nowhere, At, In}
 use Rattle.judy_query.specs.Parts.{IsDown, width_of}
-use Rattle.judy_query.specs.Rooms.{IsRun, IsWindow, HasRoom, IsFirstAbsent, IsLastAbsent, IsRoomFrom, IsRoomUpTo, nearer}
+use Rattle.judy_query.specs.Rooms.{IsRun, IsWindow, HasRoom, IsFirstAbsent, IsLastAbsent, IsRoomFrom, IsRoomUpTo, OrElse}
 use Rattle.judy_query.proofs.Downs.{child_inside}
 use Rattle.judy_query.proofs.Runs.{run-full, run-later, window-part, window-window, window-shift, run-join, run-window}
 use Rattle.judy_query.proofs.BranchRooms.{block_within, kid_window, kid_is}
@@ -64,11 +64,23 @@ room-behind words all from middle top Nowhere run room = run-join all from middl
 room-behind words all from middle top (At word) run room = (room.0, run-join all from middle word run room.1, room.2)
 room-behind words all from middle top (In child width start) run room = (room.0, run-join all from middle start run room.1, room.2)
 
+-- A room that isn't nowhere is the one.
+pub own_room : {V : _} (Holds : Room V → Type 0) (room : Room V) → (room ≡ Nowhere → ⊥) → OrElse room Holds room
+own_room Holds Nowhere some = absurd (some refl)
+own_room Holds (At word) some = refl
+own_room Holds (In child width start) some = refl
+
+pub or_else : {V : _} (Holds Told : Room V → Type 0) (room result : Room V) → ((other : Room V) → Holds other → Told other) → OrElse room Holds result → OrElse room Told result
+or_else Holds Told Nowhere result so is = so result is
+or_else Holds Told (At word) result so is = is
+or_else Holds Told (In child width start) result so is = is
+
 -- The nearer of two rooms.
-pub room-nearer : {V : _} (words : ℕ) (all : Pairs) (from middle top : ℕ) (room other : Room V) → middle ≤ top → IsRoomFrom words all from middle room → IsRoomFrom words all middle top other → IsRoomFrom words all from top (nearer room other)
-room-nearer words all from middle top Nowhere other within run later = room-behind words all from middle top other run later
-room-nearer words all from middle top (At word) other within room later = let small = room.0 in (omega arith, room.1, room.2)
-room-nearer words all from middle top (In child width start) other within room later = let small = room.0 in (omega arith, room.1, room.2)
+pub room-nearer : {V : _} (words : ℕ) (all : Pairs) (from middle top : ℕ) (room result : Room V) → middle ≤ top → IsRoomFrom words all from middle room → OrElse room (λ (other : Room V). IsRoomFrom words all middle top other) result
+    → IsRoomFrom words all from top result
+room-nearer words all from middle top Nowhere result within run later = room-behind words all from middle top result run later
+room-nearer words all from middle top (At word) result within room is = let small = room.0 in subst (IsRoomFrom words all from top) (sym is) (omega arith, room.1, room.2)
+room-nearer words all from middle top (In child width start) result within room is = let small = room.0 in subst (IsRoomFrom words all from top) (sym is) (omega arith, room.1, room.2)
 
 -- The word in a child's room.
 pub word-in : (words : ℕ) (all : Pairs) (from top : ℕ) (kid : Tree) (width start word : ℕ) → start + 256 ^ width ≤ top → IsRun all from start → HasRoom words all kid width start → IsFirstAbsent kid.pairs 0 (256 ^ width) (Some word) → IsFirstAbsent all from top (Some (start + word))
@@ -100,10 +112,11 @@ room-before words all from middle to Nowhere run room = run-join all from middle
 room-before words all from middle to (At word) run room = (room.0, run-join all (word + 1) middle to room.1 run, room.2)
 room-before words all from middle to (In child width start) run room = (room.0, run-join all (start + 256 ^ width) middle to room.1 run, room.2)
 
-pub room-nearer-down : {V : _} (words : ℕ) (all : Pairs) (from middle to : ℕ) (room other : Room V) → from ≤ middle → IsRoomUpTo words all middle to room → IsRoomUpTo words all from middle other → IsRoomUpTo words all from to (nearer room other)
-room-nearer-down words all from middle to Nowhere other within run earlier = room-before words all from middle to other run earlier
-room-nearer-down words all from middle to (At word) other within room earlier = let low = room.0 in (omega arith, room.1, room.2)
-room-nearer-down words all from middle to (In child width start) other within room earlier = let low = room.0 in (omega arith, room.1, room.2)
+pub room-nearer-down : {V : _} (words : ℕ) (all : Pairs) (from middle to : ℕ) (room result : Room V) → from ≤ middle → IsRoomUpTo words all middle to room → OrElse room (λ (other : Room V). IsRoomUpTo words all from middle other) result
+    → IsRoomUpTo words all from to result
+room-nearer-down words all from middle to Nowhere result within run earlier = room-before words all from middle to result run earlier
+room-nearer-down words all from middle to (At word) result within room is = let low = room.0 in subst (IsRoomUpTo words all from to) (sym is) (omega arith, room.1, room.2)
+room-nearer-down words all from middle to (In child width start) result within room is = let low = room.0 in subst (IsRoomUpTo words all from to) (sym is) (omega arith, room.1, room.2)
 
 pub word-in-last : (words : ℕ) (all : Pairs) (from to : ℕ) (kid : Tree) (width start word : ℕ) → from ≤ start → IsRun all (start + 256 ^ width) to → HasRoom words all kid width start → IsLastAbsent kid.pairs 0 (256 ^ width) (Some word) → IsLastAbsent all from to (Some (start + word))
 word-in-last words all from to kid width start word low run room told =

@@ -15,10 +15,10 @@ use Rattle.judy_query.specs.declared.sides.Side.{Side}
 use Rattle.judy_query.specs.declared.sides.Side.TheVariants.{Up, Down}
 use Rattle.judy_query.specs.Maps.{map_of}
 use Rattle.judy_query.specs.Parts.{IsDown, IsShown, width_of}
-use Rattle.judy_query.specs.Rooms.{IsRun, IsWindow, HasRoom, IsFirstAbsent, IsLastAbsent, IsRoomFrom, IsRoomUpTo, nearer, room_of, low_of, high_of, end_of, IsAbsent, IsRoom, IsRoomPast, nearest_empty}
+use Rattle.judy_query.specs.Rooms.{IsRun, IsWindow, HasRoom, IsFirstAbsent, IsLastAbsent, IsRoomFrom, IsRoomUpTo, OrElse, IsRoomOrElse, room_of, low_of, high_of, end_of, IsAbsent, IsRoom, IsRoomPast, nearest_empty}
 use Rattle.judy_query.proofs.Downs.{down_branch, view_width, is_shown}
 use Rattle.judy_query.proofs.Runs.{run-none, run-later, run-join, run-window, full-run, first-empty, last-empty}
-use Rattle.judy_query.proofs.RoomSteps.{room-window, room-behind, room-nearer, word-in, room-window-down, room-before, room-nearer-down, word-in-last, run-back, down_window, down_word, down_last, down_run_last, down_run, full_behind, full_before}
+use Rattle.judy_query.proofs.RoomSteps.{or_else, room-window, room-behind, room-nearer, word-in, room-window-down, room-before, room-nearer-down, word-in-last, run-back, down_window, down_word, down_last, down_run_last, down_run, full_behind, full_before}
 
 -- ---- words
 
@@ -105,29 +105,29 @@ module _ {V : _} (words : ℕ) (tree : Pairs) (view : ViewOf V) (key left : ℕ)
 module _ {V : _} (words : ℕ) (tree : Pairs) (b : _) (key left : ℕ) (down : IsDown {V = V} words tree (Branch b) key left)
     (byte place rest : ℕ) (steps : IsStep (256 ^ b.now.width) (number_of b.now.skip * 256) b.now.bytes left (Child byte place rest)) where
   -- The nearest room past the child.
-  child_past : (side : Side) (room other : Room V)
+  child_past : (side : Side) (room result : Room V)
       → IsRoomPast side words (shift (key - left) (branch_pairs b.now.width b.now.skip b.now.bytes b.now.children.items)) (key - left) (key - left + 256 ^ (length b.now.skip + 1 + b.now.width)) (key - left + (number_of b.now.skip * 256 + byte) * 256 ^ b.now.width) (256 ^ b.now.width) room
-      → IsRoomPast side words tree 0 (2 ^ 64) (key - left) (256 ^ (length b.now.skip + 1 + b.now.width)) other → IsRoomPast side words tree 0 (2 ^ 64) (key - rest) (256 ^ b.now.width) (nearer room other)
-  child_past Up room other told past =
+      → OrElse room (λ (other : Room V). IsRoomPast side words tree 0 (2 ^ 64) (key - left) (256 ^ (length b.now.skip + 1 + b.now.width)) other) result → IsRoomPast side words tree 0 (2 ^ 64) (key - rest) (256 ^ b.now.width) result
+  child_past Up room result told past =
       let unit = 256 ^ b.now.width in
       let top = 256 ^ (length b.now.skip + 1 + b.now.width) in
       let is_key = steps.0.key_is in
       let above = down.above in
       let fits = down.part.fits in
       let start : key - left + (number_of b.now.skip * 256 + byte) * unit ≡ key - rest = omega arith in
-      room-nearer words tree (key - rest + unit) (key - left + top) (2 ^ 64) room other (omega arith)
+      room-nearer words tree (key - rest + unit) (key - left + top) (2 ^ 64) room result (omega arith)
       (subst (λ n. IsRoomFrom words tree (n + unit) (key - left + top) room) start
       (room-window words tree (branch_pairs b.now.width b.now.skip b.now.bytes b.now.children.items) (key - left) top (key - left + (number_of b.now.skip * 256 + byte) * unit + unit) room (omega arith)
       (down_window words tree (Branch b) key left down) told))
       past
-  child_past Down room other told past =
+  child_past Down room result told past =
       let unit = 256 ^ b.now.width in
       let top = 256 ^ (length b.now.skip + 1 + b.now.width) in
       let is_key = steps.0.key_is in
       let above = down.above in
       let inside = down.inside in
       let start : key - left + (number_of b.now.skip * 256 + byte) * unit ≡ key - rest = omega arith in
-      room-nearer-down words tree 0 (key - left) (key - rest) room other (omega arith)
+      room-nearer-down words tree 0 (key - left) (key - rest) room result (omega arith)
       (subst (λ n. IsRoomUpTo words tree (key - left) n room) start
       (room-window-down words tree (branch_pairs b.now.width b.now.skip b.now.bytes b.now.children.items) (key - left) top (key - left + (number_of b.now.skip * 256 + byte) * unit) room (omega arith)
       (down_window words tree (Branch b) key left down) told))
@@ -139,16 +139,17 @@ module _ {V : _} (words : ℕ) (tree : Pairs) (b : _) (key left : ℕ) (down : I
   full_past Up kid room is full past = room-behind words tree key (key - rest + 256 ^ b.now.width) (2 ^ 64) room (full_behind words tree b key left down byte place rest steps kid is full) past
   full_past Down kid room is full past = room-before words tree 0 (key - rest) (key + 1) room (full_before words tree b key left down byte place rest steps kid is full) past
 
--- The nearest room once a way has gone from a branch to a child: past that child, or else the one that was remembered.
+-- The nearest room once a way has gone from a branch to a child: past that child, or else one that is past the branch.
 pub room_passed : {V : _} {words : ℕ} {tree : Pairs} {view : ViewOf V} {b : _} {key left : ℕ} (down : IsDown words tree view key left) (is : view ≡ Branch b)
-    (byte place rest : ℕ) (steps : IsStep (256 ^ b.now.width) (number_of b.now.skip * 256) b.now.bytes left (Child byte place rest)) (side : Side) (room other result : Room V)
-    → result ≡ nearer room other
-    → IsRoomPast side words (shift (key - left) (branch_pairs b.now.width b.now.skip b.now.bytes b.now.children.items)) (key - left) (key - left + 256 ^ (length b.now.skip + 1 + b.now.width)) (key - left + (number_of b.now.skip * 256 + byte) * 256 ^ b.now.width) (256 ^ b.now.width) room
-    → IsRoomPast side words tree 0 (2 ^ 64) (key - left) (256 ^ width_of view) other → IsRoomPast side words tree 0 (2 ^ 64) (key - rest) (256 ^ b.now.width) result
-room_passed {words = words} {tree = tree} {b = b} {key = key} {left = left} down is byte place rest steps side room other result or told past =
-    subst (IsRoomPast side words tree 0 (2 ^ 64) (key - rest) (256 ^ b.now.width)) (sym or)
-    (child_past words tree b key left (down_branch down is) byte place rest steps side room other told
-    (subst (λ v. IsRoomPast side words tree 0 (2 ^ 64) (key - left) (256 ^ width_of v) other) is past))
+    (byte place rest : ℕ) (steps : IsStep (256 ^ b.now.width) (number_of b.now.skip * 256) b.now.bytes left (Child byte place rest)) (edge : ℕ) (same : edge ≡ byte) (side : Side) (Holds : Room V → Type 0) (result : Room V)
+    → IsRoomOrElse side words (record { branch = b; place = place; base = key - left; edge = edge }) Holds result
+    → ((other : Room V) → Holds other → IsRoomPast side words tree 0 (2 ^ 64) (key - left) (256 ^ width_of view) other) → IsRoomPast side words tree 0 (2 ^ 64) (key - rest) (256 ^ b.now.width) result
+room_passed {V} {words = words} {tree = tree} {b = b} {key = key} {left = left} down is byte place rest steps edge same side Holds result told past =
+    let unit = 256 ^ b.now.width in
+    let top = length b.now.skip + 1 + b.now.width in
+    child_past words tree b key left (down_branch down is) byte place rest steps side told.0 result
+    (subst (λ n. IsRoomPast side words (shift (key - left) (branch_pairs b.now.width b.now.skip b.now.bytes b.now.children.items)) (key - left) (key - left + 256 ^ top) (key - left + (number_of b.now.skip * 256 + n) * unit) unit told.0) same told.1)
+    (or_else Holds (λ (other : Room V). IsRoomPast side words tree 0 (2 ^ 64) (key - left) (256 ^ top) other) told.0 result (λ other holds. subst (λ v. IsRoomPast side words tree 0 (2 ^ 64) (key - left) (256 ^ width_of v) other) is (past other holds)) told.2)
 
 -- ---- in a child with room
 

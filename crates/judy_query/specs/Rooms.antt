@@ -4,15 +4,15 @@ use Rattle.std.specs.FinMap.{FinMap}
 use Rattle.judy_model.specs.Keys.{word_order}
 use Rattle.judy_model.specs.Empties.{first_empty, last_empty}
 use Rattle.judy_model.specs.WordBytes.{number_of}
-use Rattle.judy_bits.specs.ByteSets.{has}
+use Rattle.judy_bits.specs.ByteSets.{has, rank}
 use Rattle.judy_leaf.specs.KeyLists.{keys_of, shift}
 use Rattle.judy_node.specs.Trees.{Pairs, Tree, IsChild, branch_pairs}
 use Rattle.judy_node.specs.Branches.{IsWholeBranch}
 use Rattle.judy_query.specs.declared.rooms.Room.{Room}
 use Rattle.judy_query.specs.declared.rooms.Room.TheVariants.{Nowhere, At, In}
-use Rattle.judy_query.specs.declared.sides.Passed.{Passed}
 use Rattle.judy_query.specs.declared.sides.Side.{Side}
 use Rattle.judy_query.specs.declared.sides.Side.TheVariants.{Up, Down}
+use Rattle.judy_query.specs.declared.turns.Turn.{Turn}
 
 -- Each word from one up to another, which isn't included, is a key.
 pub record IsRun (pairs : Pairs) (from to : ℕ) : Type 0 where
@@ -63,11 +63,32 @@ abbrev pub room_of : {V : _} → Option ℕ → Room V
 room_of None = Nowhere
 room_of (Some word) = At word
 
--- A room, or another one where it is nowhere.
-abbrev pub nearer : {V : _} → Room V → Room V → Room V
-nearer Nowhere other = other
-nearer (At word) other = At word
-nearer (In child width start) other = In child width start
+-- A room or, where that is nowhere, one of which something holds.
+abbrev pub OrElse : {V : _} → Room V → (Room V → Type 0) → Room V → Type 0
+OrElse Nowhere Holds room = Holds room
+OrElse (At word) Holds room = room ≡ At word
+OrElse (In child width start) Holds room = room ≡ In child width start
+
+-- ---- in a branch
+
+-- A turn is to a place in a branch, before which are just the children below its edge; the branch's words begin at a base.
+pub record IsEdge {V : _} (words : ℕ) (turn : Turn V) : Type 0 where
+  pub branch : IsWholeBranch words turn.branch.now
+  pub edge : turn.edge ≤ 256
+  pub place : turn.place ≡ rank turn.branch.now.bytes turn.edge
+  pub fits : turn.base + 256 ^ (length turn.branch.now.skip + 1 + turn.branch.now.width) ≤ 2 ^ 64
+
+-- The pairs of that branch, as the tree has them.
+abbrev pub branch_words : {V : _} → Turn V → Pairs
+branch_words turn = shift turn.base (branch_pairs turn.branch.now.width turn.branch.now.skip turn.branch.now.bytes turn.branch.now.children.items)
+
+-- The first word of the block of its edge, or the one behind all blocks.
+abbrev pub edge_word : {V : _} → Turn V → ℕ
+edge_word turn = turn.base + (number_of turn.branch.now.skip * 256 + turn.edge) * 256 ^ turn.branch.now.width
+
+-- The word behind all of the branch.
+abbrev pub words_end : {V : _} → Turn V → ℕ
+words_end turn = turn.base + 256 ^ (length turn.branch.now.skip + 1 + turn.branch.now.width)
 
 -- ---- on either side
 
@@ -101,24 +122,25 @@ abbrev pub IsRoomPast : {V : _} → Side → ℕ → Pairs → ℕ → ℕ → �
 IsRoomPast Up words all from top start unit room = IsRoomFrom words all (start + unit) top room
 IsRoomPast Down words all from top start unit room = IsRoomUpTo words all from start room
 
--- The child of a byte stands at a place of a branch, whose words begin at a base.
-pub record IsPassed {V : _} (words : ℕ) (passed : Passed V) : Type 0 where
+-- A turn is to a child that was passed by: its edge is the child's own byte, and its branch's words begin at a base.
+pub record IsPassed {V : _} (words : ℕ) (passed : Turn V) : Type 0 where
   pub branch : IsWholeBranch words passed.branch.now
-  pub child : slice_get passed.branch.now.bytes passed.place ≡ Some passed.byte
+  pub child : slice_get passed.branch.now.bytes passed.place ≡ Some passed.edge
+  pub small : passed.edge < 256
   pub fits : passed.base + 256 ^ (length passed.branch.now.skip + 1 + passed.branch.now.width) ≤ 2 ^ 64
 
 -- A room of that branch is the nearest past the child.
-abbrev pub IsRoomBeside : {V : _} → Side → ℕ → Passed V → Room V → Type 0
-IsRoomBeside side words passed room =
-    let b = passed.branch.now in
-    let unit = 256 ^ b.width in
-    let block = number_of b.skip * 256 in
-    IsRoomPast side words (shift passed.base (branch_pairs b.width b.skip b.bytes b.children.items)) passed.base (passed.base + 256 ^ (length b.skip + 1 + b.width)) (passed.base + (block + passed.byte) * unit) unit room
+abbrev pub IsRoomBeside : {V : _} → Side → ℕ → Turn V → Room V → Type 0
+IsRoomBeside side words passed room = IsRoomPast side words (branch_words passed) passed.base (words_end passed) (edge_word passed) (256 ^ passed.branch.now.width) room
+
+-- The nearest room past a child or, where its branch has none there, one of which something holds.
+abbrev pub IsRoomOrElse : {V : _} → Side → ℕ → Turn V → (Room V → Type 0) → Room V → Type 0
+IsRoomOrElse {V} side words passed Holds room = (past : Room V) × IsRoomBeside side words passed past × OrElse past Holds room
 
 -- The nearest room past a child, where one was passed, or else another one.
-abbrev pub IsNearestRoom : {V : _} → Side → ℕ → Option (Passed V) → Room V → Room V → Type 0
+abbrev pub IsNearestRoom : {V : _} → Side → ℕ → Option (Turn V) → Room V → Room V → Type 0
 IsNearestRoom side words None beside room = room ≡ beside
-IsNearestRoom {V} side words (Some passed) beside room = (past : Room V) × (room ≡ nearer past beside) × IsRoomBeside side words passed past
+IsNearestRoom {V} side words (Some passed) beside room = IsRoomOrElse side words passed (λ (other : Room V). other ≡ beside) room
 
 -- The nearest word from a key on that is no key of a map.
 abbrev pub nearest_empty : Side → FinMap word_order ℕ → ℕ → Option ℕ

@@ -4,7 +4,12 @@ use Rattle.judy_model.specs.WordBytes.{number_of}
 use Rattle.judy_bits.specs.ByteSets.{rank}
 use Rattle.judy_leaf.specs.KeyLists.{shift}
 use Rattle.judy_node.specs.Trees.{Pairs, join, IsBranch}
+use Rattle.judy_node.specs.declared.child.BranchOf.{BranchOf}
+use Rattle.judy_node.specs.declared.step.Step.{Step}
+use Rattle.judy_query.specs.declared.sides.Side.{Side}
+use Rattle.judy_query.specs.declared.sides.Side.TheVariants.{Up, Down}
 use Rattle.judy_query.specs.declared.turns.Turn.{Turn}
+use Rattle.judy_query.specs.Parts.{passed, reached, byte_passed, byte_behind}
 
 -- The pairs of the child that a turn leads to, as the tree has them.
 abbrev pub turn_pairs : {V : _} → Turn V → Pairs
@@ -47,3 +52,46 @@ IsLater words (Some turn) = IsTurn words turn × IsFirst turn
 abbrev pub IsEarlier : {V : _} → ℕ → Option (Turn V) → Type 0
 IsEarlier words None = Unit {0}
 IsEarlier words (Some turn) = IsTurn words turn × IsLast turn
+
+-- ---- on either side
+
+-- The edge of the turn to the nearest child beside a key, by the key's step.
+abbrev pub edge_of : Side → Step → ℕ
+edge_of Up step = byte_behind step
+edge_of Down step = byte_passed step
+
+-- Those children of a branch are below that edge that the step tells.
+abbrev pub IsStepEdge : {V : _} → Side → BranchOf V → Step → Type 0
+IsStepEdge Up branch step = reached (length branch.children.items) step ≡ rank branch.bytes (byte_behind step)
+IsStepEdge Down branch step = (passed (length branch.children.items) step ≡ rank branch.bytes (byte_passed step)) × (byte_passed step ≤ 256)
+
+-- The place of that child, of so many in all; none where there is none on that side.
+abbrev pub IsPlaceBeside : Side → ℕ → Step → Option ℕ → Type 0
+IsPlaceBeside Up all step None = all ≤ reached all step
+IsPlaceBeside Up all step (Some place) = (place ≡ reached all step) × (place < all)
+IsPlaceBeside Down all step None = passed all step ≡ 0
+IsPlaceBeside Down all step (Some place) = place + 1 ≡ passed all step
+
+-- A turn, where there is one, to what is beside the way.
+abbrev pub IsTurnTo : {V : _} → Side → ℕ → Option (Turn V) → Type 0
+IsTurnTo Up words turn = IsLater words turn
+IsTurnTo Down words turn = IsEarlier words turn
+
+-- What is beside the way, at its nearest.
+abbrev pub turn_pair : {V : _} → Side → Option (Turn V) → Option (ℕ × ℕ)
+turn_pair Up turn = later_pair turn
+turn_pair Down turn = earlier_pair turn
+
+-- The pair among others that is met first from that side of a way.
+abbrev pub nearest_pair : Side → Pairs → Option (ℕ × ℕ)
+nearest_pair Up pairs = slice_get pairs 0
+nearest_pair Down pairs = last_pair pairs
+
+-- The pairs of the children beside a key in a branch, by the key's step, where the branch's keys begin at a base.
+abbrev pub pairs_beside : {V : _} → Side → BranchOf V → Step → ℕ → Pairs
+pairs_beside Up branch step base =
+    let first = reached (length branch.children.items) step in
+    shift base (join (256 ^ branch.width) (number_of branch.skip * 256) (drop first branch.bytes) (drop first branch.children.items))
+pairs_beside Down branch step base =
+    let count = passed (length branch.children.items) step in
+    shift base (join (256 ^ branch.width) (number_of branch.skip * 256) (take count branch.bytes) (take count branch.children.items))

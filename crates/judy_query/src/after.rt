@@ -6,7 +6,8 @@ ghost use Rattle.judy_query.specs.Visits.{most_visits_near};
 
 use crate::Entry;
 use crate::ends::{from_in, from_other, value_in_dense};
-use crate::turns::{later_turn, pair_behind};
+use crate::sides::Side;
+use crate::turns::{pair_behind, turn_to};
 use judy_bits::Meter;
 use judy_leaf::Words;
 use judy_node::{NodeOf, Step, ViewOf};
@@ -39,7 +40,7 @@ pub fn entry_at_or_after<V: Words + Drop>(
         };
         match branch.children[place].enter(branch.width, meter) {
             ViewOf::Branch(below) => {
-                later = later_turn(branch, step, key - left, later);
+                later = turn_to(Side::Up, branch, step, key - left, later);
                 at = (below, rest);
             }
             view => {

@@ -6,7 +6,8 @@ ghost use Rattle.judy_query.specs.Visits.{most_visits_near};
 
 use crate::Entry;
 use crate::ends::up_to_in;
-use crate::turns::{earlier_turn, greatest};
+use crate::sides::Side;
+use crate::turns::{greatest, turn_to};
 use judy_bits::Meter;
 use judy_leaf::Words;
 use judy_node::{NodeOf, Step, ViewOf};
@@ -34,7 +35,7 @@ pub fn entry_at_or_before<V: Words + Drop>(
     'down: loop {
         let (branch, left) = at;
         let step = branch.step(left);
-        earlier = earlier_turn(branch, step, key - left, earlier);
+        earlier = turn_to(Side::Down, branch, step, key - left, earlier);
         let Step::Child(_, place, rest) = step else {
             return greatest(earlier, meter);
         };

@@ -3,12 +3,13 @@
 ghost use Rattle.std.specs.Prelude.{◌≡◌, ◌+◌, ◌-◌, ◌^◌, ◌<◌, ◌≤◌, MatchOption, Some, length};
 ghost use Rattle.judy_node.specs.Trees.{IsMap, IsChild};
 ghost use Rattle.judy_query.specs.Maps.{map_of};
-ghost use Rattle.judy_query.specs.Rooms.{IsAbsent, IsRoom, IsNearestRoom, IsPassed, low_of, high_of, nearest_empty};
+ghost use Rattle.judy_query.specs.Rooms.{IsAbsent, IsRoom, IsNearestRoom, IsRoomOrElse, IsPassed, low_of, high_of, nearest_empty};
 ghost use Rattle.judy_query.specs.Visits.{most_visits_down, most_visits_near};
 
 use crate::rooms::{Room, is_full};
-use crate::sides::{Passed, Side};
+use crate::sides::Side;
 use crate::sparing::{Inner, Sparing, Top};
+use crate::turns::Turn;
 use judy_bits::Meter;
 use judy_leaf::Words;
 use judy_node::{ChildOf, NodeOf, Step, ViewOf};
@@ -53,7 +54,8 @@ pub(crate) fn empty_beside<V: Words + Drop, M: Sparing>(
 }
 
 // Goes down the way of a key as far as nodes aren't full. Mostly the word is met where the way ends, so what is beside the way is looked for
-// only where it ends in a run of keys; but of a third branch on, what is beside the first is looked for as it is passed, so that no list is kept.
+// only where it ends in a run of keys, and beside the branch above only where the last one has no room. But of a third branch on, what is
+// beside the first is looked for as it is passed, so that no list is kept.
 #[inline(always)]
 fn seek<'a, V: Words + Drop, M: Sparing>(
     side: Side,
@@ -79,26 +81,25 @@ fn seek<'a, V: Words + Drop, M: Sparing>(
         let Step::Child(byte, place, rest) = branch.step(left) else {
             return Room::At(key);
         };
-        let base = key - left;
-        let passed = Some(Passed {
+        let passed = Turn {
             branch,
             place,
-            byte,
-            base,
-        });
+            base: key - left,
+            edge: u64::from(byte),
+        };
         let child = &branch.children[place];
         if is_full(child, branch.width) {
-            return nearest_room(side, passed, nearest_room(side, above, beside));
+            return room_beside(side, passed, above, beside);
         }
         match meter.enter(Inner(child), branch.width) {
             ViewOf::Branch(below) => {
                 beside = nearest_room(side, above, beside);
-                above = passed;
+                above = Some(passed);
                 at = (below, rest);
             }
             view => {
                 let Some(word) = side.absent(&view, branch.width, rest) else {
-                    return nearest_room(side, passed, nearest_room(side, above, beside));
+                    return room_beside(side, passed, above, beside);
                 };
                 return Room::At(key - rest + word);
             }
@@ -106,11 +107,30 @@ fn seek<'a, V: Words + Drop, M: Sparing>(
     }
 }
 
+// The nearest room past a child, and where its branch has none there, past the child that was passed above it.
+#[inline(never)]
+fn room_beside<'a, V: Words + Drop>(
+    side: Side,
+    passed: Turn<'a, V>,
+    above: Option<Turn<'a, V>>,
+    beside: Room<'a, V>,
+) -> Room<'a, V>
+    requires passed { IsPassed V.WORDS passed }
+    requires above { MatchOption above Unit (IsPassed V.WORDS) }
+    ensures { IsRoomOrElse side V.WORDS passed.entry
+        (IsNearestRoom side V.WORDS above.entry beside.entry) result }
+{
+    match side.room_past(passed) {
+        Room::Nowhere => nearest_room(side, above, beside),
+        room => room,
+    }
+}
+
 // The nearest room past a child, where one was passed, or else the one that is known beside its branch.
 #[inline(always)]
 fn nearest_room<'a, V: Words + Drop>(
     side: Side,
-    passed: Option<Passed<'a, V>>,
+    passed: Option<Turn<'a, V>>,
     beside: Room<'a, V>,
 ) -> Room<'a, V>
     requires { MatchOption passed Unit (IsPassed V.WORDS) }
@@ -126,7 +146,7 @@ fn nearest_room<'a, V: Words + Drop>(
 #[inline(never)]
 fn room_past<'a, V: Words + Drop>(
     side: Side,
-    passed: Passed<'a, V>,
+    passed: Turn<'a, V>,
     beside: Room<'a, V>,
 ) -> Room<'a, V>
     requires { IsPassed V.WORDS passed }

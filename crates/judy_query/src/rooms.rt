@@ -1,14 +1,12 @@
 //! Where a branch has room: its first and its last word that is no key, from a byte on. Children that are full are passed over by the
 //! number of their keys.
 
-ghost use Rattle.std.specs.Prelude.{◌≡◌, ◌+◌, ◌-◌, ◌*◌, ◌^◌, ◌<◌, ◌≤◌, ◌==◌, nat_lt, Some, length, slice_get};
+ghost use Rattle.std.specs.Prelude.{◌≡◌, ◌+◌, ◌-◌, ◌*◌, ◌^◌, ◌<◌, ◌≤◌, ◌==◌, nat_lt, length};
 ghost use Rattle.judy_model.specs.WordBytes.{number_of};
-ghost use Rattle.judy_bits.specs.ByteSets as set;
-ghost use Rattle.judy_leaf.specs.KeyLists.{shift};
-ghost use Rattle.judy_node.specs.Trees.{IsChild, branch_pairs};
 ghost use Rattle.judy_node.specs.Branches.{IsWholeBranch};
-ghost use Rattle.judy_query.specs.Rooms.{HasWidth, IsRoomFrom, IsRoomUpTo, nearer, room_of};
+ghost use Rattle.judy_query.specs.Rooms.{HasWidth, IsEdge, IsRoomFrom, IsRoomUpTo, branch_words, edge_word, words_end, OrElse, room_of};
 
+use crate::turns::Turn;
 use judy_bits::{moved_up, without_low};
 use judy_leaf::Words;
 use judy_node::{BranchOf, ChildOf};
@@ -37,7 +35,7 @@ impl<'a, V: Words + Drop> Room<'a, V> {
 
     /// This room, or the other one where this is nowhere.
     pub fn or(self, other: Room<'a, V>) -> Room<'a, V>
-        ensures { result ≡ nearer self.entry other.entry }
+        ensures { OrElse self.entry (λ room. room ≡ other.entry) result }
     {
         match self {
             Room::Nowhere => other,
@@ -81,27 +79,17 @@ pub fn has_next(number: u64, bytes: usize) -> bool
     number < without_low(u64::MAX, 8 - bytes)
 }
 
-/// The first room of a branch from a byte on, or from behind them all, which is 256. The branch's words begin at a base, and so many
-/// children as `place` have lesser bytes.
-pub fn room_from<V: Words + Drop>(
-    branch: &BranchOf<V>,
-    place: usize,
-    first: u64,
-    base: u64,
-) -> Room<'_, V>
-    requires branch { IsWholeBranch V.WORDS branch.now }
-    requires first { first ≤ 256 }
-    requires place { place ≡ set.rank branch.now.bytes first }
-    requires fits { base + 256 ^ (length branch.now.skip + 1 + branch.now.width) ≤ 2 ^ 64 }
-    ensures width { HasWidth branch.now.width result }
-    ensures room { IsRoomFrom V.WORDS
-        (shift base (branch_pairs branch.now.width branch.now.skip branch.now.bytes
-        branch.now.children.items))
-        (base + (number_of branch.now.skip * 256 + first) * 256 ^ branch.now.width) (base + 256 ^ (length branch.now.skip + 1 + branch.now.width)) result }
+/// The first room of a branch from an edge on, a byte or 256, which is behind them all. So many children as the place have lesser bytes.
+pub(crate) fn room_from<V: Words + Drop>(first: Turn<'_, V>) -> Room<'_, V>
+    requires { IsEdge V.WORDS first }
+    ensures width { HasWidth first.entry.branch.now.width result }
+    ensures room { IsRoomFrom V.WORDS (branch_words first.entry) (edge_word first.entry)
+        (words_end first.entry) result }
 {
-    let mut byte = first;
-    for at in place..branch.children.len() {
-        let start = start_of(branch, byte, base);
+    let branch = first.branch;
+    let mut byte = first.edge;
+    for at in first.place..branch.children.len() {
+        let start = start_of(branch, byte, first.base);
         if u64::from(branch.byte_at(at)) != byte {
             return Room::At(start);
         }
@@ -112,38 +100,29 @@ pub fn room_from<V: Words + Drop>(
         byte += 1;
     }
     if byte < 256 {
-        return Room::At(start_of(branch, byte, base));
+        return Room::At(start_of(branch, byte, first.base));
     }
     if has_next(branch.skip.number(), branch.skip.len()) {
-        Room::At(start_of(branch, 256, base))
+        Room::At(start_of(branch, 256, first.base))
     } else {
         Room::Nowhere
     }
 }
 
-/// The last room of a branch below a byte, which is 256 for all of them. Else as `room_from`.
-pub fn room_up_to<V: Words + Drop>(
-    branch: &BranchOf<V>,
-    place: usize,
-    end: u64,
-    base: u64,
-) -> Room<'_, V>
-    requires branch { IsWholeBranch V.WORDS branch.now }
-    requires end { end ≤ 256 }
-    requires place { place ≡ set.rank branch.now.bytes end }
-    requires fits { base + 256 ^ (length branch.now.skip + 1 + branch.now.width) ≤ 2 ^ 64 }
-    ensures width { HasWidth branch.now.width result }
-    ensures room { IsRoomUpTo V.WORDS
-        (shift base (branch_pairs branch.now.width branch.now.skip branch.now.bytes
-        branch.now.children.items))
-        base (base + (number_of branch.now.skip * 256 + end) * 256 ^ branch.now.width) result }
+/// The last room of a branch below an edge. Else as `room_from`.
+pub(crate) fn room_up_to<V: Words + Drop>(end: Turn<'_, V>) -> Room<'_, V>
+    requires { IsEdge V.WORDS end }
+    ensures width { HasWidth end.entry.branch.now.width result }
+    ensures room { IsRoomUpTo V.WORDS (branch_words end.entry) end.entry.base
+        (edge_word end.entry) result }
 {
-    let mut byte = end;
-    let mut at = place;
+    let branch = end.branch;
+    let mut byte = end.edge;
+    let mut at = end.place;
     while at > 0 {
         at -= 1;
         byte -= 1;
-        let start = start_of(branch, byte, base);
+        let start = start_of(branch, byte, end.base);
         if u64::from(branch.byte_at(at)) != byte {
             return Room::At(start + last_word(branch.width));
         }
@@ -152,8 +131,8 @@ pub fn room_up_to<V: Words + Drop>(
             return Room::In(child, branch.width, start);
         }
     }
-    let start = start_of(branch, byte, base);
-    if start > base {
+    let start = start_of(branch, byte, end.base);
+    if start > end.base {
         Room::At(start - 1)
     } else {
         Room::Nowhere

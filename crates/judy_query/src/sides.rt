@@ -7,6 +7,7 @@ ghost use Rattle.judy_node.specs.Branches.{IsWholeBranch};
 ghost use Rattle.judy_query.specs.Rooms.{HasWidth, IsPassed, IsRoom, IsRoomBeside, end_of};
 
 use crate::rooms::{Room, has_next, last_word, room_from, room_up_to};
+use crate::turns::Turn;
 use judy_leaf::Words;
 use judy_node::BranchOf;
 
@@ -17,15 +18,6 @@ pub enum Side {
     Up,
     /// From the key down.
     Down,
-}
-
-/// A child that is passed by: its place and its byte in a branch whose words begin at a base.
-#[derive(Drop)]
-pub(crate) struct Passed<'a, V: Words + Drop> {
-    pub(crate) branch: &'a BranchOf<V>,
-    pub(crate) place: usize,
-    pub(crate) byte: u8,
-    pub(crate) base: u64,
 }
 
 impl Side {
@@ -41,21 +33,20 @@ impl Side {
         }
     }
 
-    /// The nearest room of a branch past a child.
+    /// The nearest room of a branch past a child, whose own byte is the edge.
     #[inline(always)]
-    pub(crate) fn room_past<'a, V: Words + Drop>(self, passed: Passed<'a, V>) -> Room<'a, V>
+    pub(crate) fn room_past<'a, V: Words + Drop>(self, passed: Turn<'a, V>) -> Room<'a, V>
         requires { IsPassed V.WORDS passed }
         ensures { IsRoomBeside self V.WORDS passed.entry result }
     {
-        let Passed {
-            branch,
-            place,
-            byte,
-            base,
-        } = passed;
         match self {
-            Side::Up => room_from(branch, place + 1, u64::from(byte) + 1, base),
-            Side::Down => room_up_to(branch, place, u64::from(byte), base),
+            Side::Up => room_from(Turn {
+                branch: passed.branch,
+                place: passed.place + 1,
+                base: passed.base,
+                edge: passed.edge + 1,
+            }),
+            Side::Down => room_up_to(passed),
         }
     }
 
@@ -80,9 +71,19 @@ impl Side {
         let number = branch.skip.number();
         match self {
             Side::Up if number > 0 => Room::At(base),
-            Side::Up => room_from(branch, 0, 0, base),
+            Side::Up => room_from(Turn {
+                branch,
+                place: 0,
+                base,
+                edge: 0,
+            }),
             Side::Down if has_next(number, branch.skip.len()) => Room::At(base + last_word(wide)),
-            Side::Down => room_up_to(branch, branch.children.len(), 256, base),
+            Side::Down => room_up_to(Turn {
+                branch,
+                place: branch.children.len(),
+                base,
+                edge: 256,
+            }),
         }
     }
 }

@@ -10,7 +10,8 @@ ghost use Rattle.judy_query.specs.Visits.{most_visits_near};
 
 use crate::Entry;
 use crate::ends::{from_other, value_in, value_in_imm};
-use crate::turns::{later_turn, pair_behind};
+use crate::sides::Side;
+use crate::turns::{pair_behind, turn_to};
 use judy_bits::Meter;
 use judy_leaf::{LeafRef, Words};
 use judy_node::{NodeOf, Step, ViewOf};
@@ -44,7 +45,7 @@ pub fn around<V: Words + Drop>(
         };
         match branch.children[place].enter(branch.width, meter) {
             ViewOf::Branch(below) => {
-                later = later_turn(branch, step, key - left, later);
+                later = turn_to(Side::Up, branch, step, key - left, later);
                 at = (below, rest);
             }
             view => {

@@ -1,26 +1,27 @@
 //! Where the search for a neighbour turns off the way of its key: to the nearest child beside the way, on the neighbour's side.
 
-ghost use Rattle.std.specs.Prelude.{◌≡◌, ◌+◌, ◌-◌, ◌*◌, ◌^◌, ◌<◌, ◌≤◌, length, take, drop, slice_get, Some};
+ghost use Rattle.std.specs.Prelude.{◌≡◌, ◌+◌, ◌-◌, ◌*◌, ◌^◌, ◌<◌, ◌≤◌, length, drop, slice_get, Some};
 ghost use Rattle.std.specs.Option.{option_or};
 ghost use Rattle.judy_model.specs.WordBytes.{number_of};
 ghost use Rattle.judy_bits.specs.ByteSets as set;
 ghost use Rattle.judy_leaf.specs.KeyLists.{shift};
 ghost use Rattle.judy_node.specs.Trees.{join};
 ghost use Rattle.judy_node.specs.Branches.{IsWholeBranch};
-ghost use Rattle.judy_query.specs.Parts.{passed, reached, byte_passed, byte_behind, IsStart};
-ghost use Rattle.judy_query.specs.Turns.{turn_pairs, IsTurn, IsLater, IsEarlier, last_pair, later_pair, earlier_pair};
+ghost use Rattle.judy_query.specs.Parts.{passed, reached, byte_behind, IsStart};
+ghost use Rattle.judy_query.specs.Turns.{turn_pairs, IsTurn, IsLater, IsEarlier, later_pair, earlier_pair, IsStepEdge, IsPlaceBeside, IsTurnTo, edge_of, pairs_beside, nearest_pair, turn_pair};
 ghost use Rattle.judy_query.specs.Visits.{most_visits_below};
 
 use crate::Entry;
 use crate::branches::{byte_behind, byte_passed, passed, reached, start_below, start_from};
 use crate::places::entry_below;
+use crate::sides::Side;
 use judy_bits::Meter;
 use judy_leaf::Words;
 use judy_node::{BranchOf, Step};
 
 /// A child beside the way: its branch, its place there, and where the keys of the branch begin. Its own byte is found without a count,
 /// from its edge: the byte from which on it is the first child, for what is behind the way, or below which it is the last, for what is
-/// in front.
+/// in front. The search for a word that is no key turns off at a child of its way, whose edge is its own byte.
 #[derive(Drop)]
 pub(crate) struct Turn<'a, V: Words + Drop> {
     pub(crate) branch: &'a BranchOf<V>,
@@ -29,9 +30,12 @@ pub(crate) struct Turn<'a, V: Words + Drop> {
     pub(crate) edge: u64,
 }
 
-/// The turn to the first child behind a key in a branch whose keys begin at `base`, by the key's step there; where there is none, the
-/// one before.
-pub(crate) fn later_turn<'a, V: Words + Drop>(
+/// The turn to the nearest child beside a key, on one side, in a branch whose keys begin at `base`, by the key's step there; where there is
+/// none, the one before.
+// The side is known where this is asked for.
+#[inline(always)]
+pub(crate) fn turn_to<'a, V: Words + Drop>(
+    side: Side,
     branch: &'a BranchOf<V>,
     step: Step,
     base: u64,
@@ -40,65 +44,58 @@ pub(crate) fn later_turn<'a, V: Words + Drop>(
     requires branch { IsWholeBranch V.WORDS branch.now }
     requires inside { passed (length branch.now.children.items) step
         ≤ length branch.now.children.items }
-    requires step { reached (length branch.now.children.items) step
-        ≡ set.rank branch.now.bytes (byte_behind step) }
+    requires step { IsStepEdge side branch.now step }
     requires fits { base + 256 ^ (length branch.now.skip + 1 + branch.now.width) ≤ 256 ^ 8 }
-    requires before { IsLater V.WORDS before }
-    ensures turn { IsLater V.WORDS result }
-    ensures pair { later_pair result
-        ≡ option_or (slice_get
-        (shift base (join (256 ^ branch.now.width) (number_of branch.now.skip * 256)
-        (drop (reached (length branch.now.children.items) step) branch.now.bytes)
-        (drop (reached (length branch.now.children.items) step) branch.now.children.items)))
-        0) (later_pair before.entry) }
+    requires before { IsTurnTo side V.WORDS before }
+    ensures turn { IsTurnTo side V.WORDS result }
+    ensures pair { turn_pair side result
+        ≡ option_or (nearest_pair side (pairs_beside side branch.now step base))
+        (turn_pair side before.entry) }
 {
-    let place = reached(branch, step);
-    if place < branch.children.len() {
-        Some(Turn {
+    match side.place_beside(branch, step) {
+        Some(place) => Some(Turn {
             branch,
             place,
             base,
-            edge: byte_behind(step),
-        })
-    } else {
-        before
+            edge: side.edge(step),
+        }),
+        None => before,
     }
 }
 
-/// The turn to the last child before a key in a branch whose keys begin at `base`, by the key's step there; where there is none, the one
-/// before.
-pub(crate) fn earlier_turn<'a, V: Words + Drop>(
-    branch: &'a BranchOf<V>,
-    step: Step,
-    base: u64,
-    before: Option<Turn<'a, V>>,
-) -> Option<Turn<'a, V>>
-    requires branch { IsWholeBranch V.WORDS branch.now }
-    requires inside { passed (length branch.now.children.items) step
-        ≤ length branch.now.children.items }
-    requires step { passed (length branch.now.children.items) step
-        ≡ set.rank branch.now.bytes (byte_passed step) }
-    requires small { byte_passed step ≤ 256 }
-    requires fits { base + 256 ^ (length branch.now.skip + 1 + branch.now.width) ≤ 256 ^ 8 }
-    requires before { IsEarlier V.WORDS before }
-    ensures turn { IsEarlier V.WORDS result }
-    ensures pair { earlier_pair result
-        ≡ option_or (last_pair
-        (shift base (join (256 ^ branch.now.width) (number_of branch.now.skip * 256)
-        (take (passed (length branch.now.children.items) step) branch.now.bytes)
-        (take (passed (length branch.now.children.items) step) branch.now.children.items))))
-        (earlier_pair before.entry) }
-{
-    let place = passed(branch, step);
-    if place > 0 {
-        Some(Turn {
-            branch,
-            place: place - 1,
-            base,
-            edge: byte_passed(step),
-        })
-    } else {
-        before
+impl Side {
+    // The place of the nearest child beside a key, on this side, by the key's step; none where there is none.
+    #[inline(always)]
+    fn place_beside<V: Words + Drop>(self, branch: &BranchOf<V>, step: Step) -> Option<usize>
+        requires { passed (length branch.now.children.items) step
+            ≤ length branch.now.children.items }
+        ensures { IsPlaceBeside self (length branch.now.children.items) step result }
+    {
+        match self {
+            Side::Up => {
+                let place = reached(branch, step);
+                if place < branch.children.len() {
+                    Some(place)
+                } else {
+                    None
+                }
+            }
+            Side::Down => {
+                let before = passed(branch, step);
+                if before > 0 { Some(before - 1) } else { None }
+            }
+        }
+    }
+
+    // The edge of the turn there.
+    #[inline(always)]
+    fn edge(self, step: Step) -> u64
+        ensures { result ≡ edge_of self step }
+    {
+        match self {
+            Side::Up => byte_behind(step),
+            Side::Down => byte_passed(step),
+        }
     }
 }
 

@@ -19,23 +19,21 @@ down-init g c =
     let narrow = down.shown.narrow in
     (down, refl, tt, omega (arith, c.enter.ensures.visits), omega (arith, c.enter.ensures.visits))
 
-pub earlier_turn-earlier-requires-clause-inside : goal.earlier_turn-earlier-requires-clause-inside
-earlier_turn-earlier-requires-clause-inside g c =
+pub turn_to-earlier-requires-clause-inside : goal.turn_to-earlier-requires-clause-inside
+turn_to-earlier-requires-clause-inside g c =
     let words = g.V.Words.WORDS in
     let b = c.down.at.0.now in
     passed_few words b.width b.skip b.bytes b.children.items b.population c.down.at.1 c.step-step.result (branch_is c.down.invariant.0) c.step-step.ensures
 
-pub earlier_turn-earlier-requires-clause-step : goal.earlier_turn-earlier-requires-clause-step
-earlier_turn-earlier-requires-clause-step g c =
+pub turn_to-earlier-requires-clause-step : goal.turn_to-earlier-requires-clause-step
+turn_to-earlier-requires-clause-step g c =
     let words = g.V.Words.WORDS in
     let b = c.down.at.0.now in
-    passed_rank words b.width b.skip b.bytes b.children.items b.population (branch_is c.down.invariant.0) c.down.at.1 c.step-step.result c.step-step.ensures
-
-pub earlier_turn-earlier-requires-clause-small : goal.earlier_turn-earlier-requires-clause-small
-earlier_turn-earlier-requires-clause-small g c =
-    let words = g.V.Words.WORDS in
-    let b = c.down.at.0.now in
-    passed_small words b.width b.skip b.bytes b.children.items b.population (branch_is c.down.invariant.0) c.down.at.1 c.step-step.result c.step-step.ensures
+    let branch = branch_is c.down.invariant.0 in
+    let left = c.down.at.1 in (
+      passed_rank words b.width b.skip b.bytes b.children.items b.population branch left c.step-step.result c.step-step.ensures,
+      passed_small words b.width b.skip b.bytes b.children.items b.population branch left c.step-step.result c.step-step.ensures,
+    )
 
 pub returns-in_default-step : goal.returns-in_default-step
 returns-in_default-step g c =
@@ -48,7 +46,7 @@ returns-in_default-step g c =
     let part = down_gap way.0 c.step-step.result beside c.step-step.ensures in
     let some = way.0.shown.some in
     record {
-      entry = c.greatest.ensures.entry ∙ c.earlier_turn-earlier.ensures.pair
+      entry = c.greatest.ensures.entry ∙ c.turn_to-earlier.ensures.pair
           ∙ (λ t. option_or (last_pair (shift base (first_of (256 ^ b.width) (number_of b.skip * 256) b.bytes b.children.items (passed (length b.children.items) c.step-step.result)))) (sym way.1 t))
           ∙ sym (last_pair-append way.0.front (shift base (first_of (256 ^ b.width) (number_of b.skip * 256) b.bytes b.children.items (passed (length b.children.items) c.step-step.result))))
           ∙ sym (part-up_to words (256 ^ 8) pairs c.args.key 1 0 c.args.key [] _ _ part (omega arith) (omega arith));
@@ -78,8 +76,8 @@ down-preserved g c =
       next.down,
       ap (λ ps. last_pair ps) next.front_is ∙ last_pair-append way.0.front (shift base (first_of (256 ^ b.width) (number_of b.skip * 256) b.bytes b.children.items c.in-Child.place))
           ∙ (λ t. option_or (last_pair (shift base (first_of (256 ^ b.width) (number_of b.skip * 256) b.bytes b.children.items (sym place t)))) (way.1 t))
-          ∙ sym c.earlier_turn-earlier.ensures.pair,
-      c.earlier_turn-earlier.ensures.turn,
+          ∙ sym c.turn_to-earlier.ensures.pair,
+      c.turn_to-earlier.ensures.turn,
       omega arith,
       omega (arith, visits, way.4),
     )
@@ -98,7 +96,7 @@ returns-in_default-up_to_in g c =
     let some = next.down.shown.some in
     let visits = c.enter-in-down.ensures.visits in
     record {
-      entry = c.greatest-in_default-up_to_in.ensures.entry ∙ c.earlier_turn-earlier.ensures.pair ∙ (λ t. option_or (last_pair (front (place t))) (sym way.1 t)) ∙ sym (last_pair-append way.0.front (front c.in-Child.place)) ∙ sym (ap (λ ps. last_pair ps) next.front_is)
+      entry = c.greatest-in_default-up_to_in.ensures.entry ∙ c.turn_to-earlier.ensures.pair ∙ (λ t. option_or (last_pair (front (place t))) (sym way.1 t)) ∙ sym (last_pair-append way.0.front (front c.in-Child.place)) ∙ sym (ap (λ ps. last_pair ps) next.front_is)
           ∙ down_up_to words pairs view c.args.key c.in-Child.rest next.down None (sym c.in_default-up_to_in.is ∙ c.up_to_in-in_default-enter.ensures);
       no_fewer = omega (arith, way.4, c.greatest-in_default-up_to_in.ensures.no_fewer, visits);
       visits = omega (arith, way.3, c.greatest-in_default-up_to_in.ensures.visits, next.width_is);

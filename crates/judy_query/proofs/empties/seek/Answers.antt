@@ -1,4 +1,4 @@
-use Rattle.std.proofs.Common.{◌+◌, ◌-◌, ◌^◌, ◌<◌, length, Some, sym, ap, subst, refl, arith}
+use Rattle.std.proofs.Common.{◌+◌, ◌-◌, ◌^◌, ◌<◌, length, Some, sym, ap, ◌∙◌, subst, refl, arith}
 use Rattle.judy_node.specs.Views.{view_pairs}
 use Rattle.judy_node.specs.declared.view.ViewOf.TheVariants.{Branch}
 use Rattle.judy_query.specs.Parts.{width_of}
@@ -44,10 +44,8 @@ returns-then-is_full-clause-room g c =
     let b = c.down.at.0 in
     let side = c.args.side in
     let full = all_full (length c.index-child.result.now.pairs) (256 ^ b.now.width) c.is_full.result c.is_full.ensures c.if-is_full.true in
-    let inner = c.nearest_room in
-    let past = c.nearest_room-then-is_full.ensures in
-    full_past g.V.Words.WORDS c.args.tree.now.pairs b c.args.key c.down.at.1 c.down.invariant.0 c.in-Child.byte c.in-Child.place c.in-Child.rest c.in-Child.ensures side c.index-child.result.now c.nearest_room-then-is_full.result c.index-child.ensures full
-    (room_passed c.down.invariant.0 refl c.in-Child.byte c.in-Child.place c.in-Child.rest c.in-Child.ensures side past.0 inner.result c.nearest_room-then-is_full.result past.1 past.2 (c.down.invariant.1 inner.result inner.ensures))
+    full_past g.V.Words.WORDS c.args.tree.now.pairs b c.args.key c.down.at.1 c.down.invariant.0 c.in-Child.byte c.in-Child.place c.in-Child.rest c.in-Child.ensures side c.index-child.result.now c.room_beside.result c.index-child.ensures full
+    (room_passed c.down.invariant.0 refl c.in-Child.byte c.in-Child.place c.in-Child.rest c.in-Child.ensures c.from.result c.from.ensures side _ c.room_beside.result c.room_beside.ensures c.down.invariant.1)
 
 pub enter-requires-clause-child : goal.enter-requires-clause-child
 enter-requires-clause-child g c = child_is c.down.invariant.0 c.in-Child.byte c.in-Child.place c.in-Child.rest c.in-Child.ensures c.index-child.ensures
@@ -69,8 +67,9 @@ down-preserved g c =
     let further = c.nearest_room-beside in (
       next.down,
       (λ room past. subst (λ w. IsRoomPast side g.V.Words.WORDS c.args.tree.now.pairs 0 (2 ^ 64) (c.args.key - c.in-Child.rest) (256 ^ w) room) (sym less)
-          (room_passed c.down.invariant.0 refl c.in-Child.byte c.in-Child.place c.in-Child.rest c.in-Child.ensures side past.0 further.result room past.1 past.2 (c.down.invariant.1 further.result further.ensures))),
-      record { branch = branch_is c.down.invariant.0; child = c.in-Child.ensures.1; fits = omega (arith, c.down.invariant.0.part.fits) },
+          (room_passed c.down.invariant.0 refl c.in-Child.byte c.in-Child.place c.in-Child.rest c.in-Child.ensures c.from.result c.from.ensures side _ room past
+          (λ other is. subst (IsRoomPast side g.V.Words.WORDS c.args.tree.now.pairs 0 (2 ^ 64) (c.args.key - c.down.at.1) (256 ^ width_of (Branch c.down.at.0))) (sym is) (c.down.invariant.1 further.result further.ensures)))),
+      record { branch = branch_is c.down.invariant.0; child = c.in-Child.ensures.1 ∙ ap Some (sym c.from.ensures); small = omega (arith, c.from.ensures, c.in-Child.ensures.0.byte_is); fits = omega (arith, c.down.invariant.0.part.fits) },
       omega arith,
       omega (arith, visits, c.down.invariant.4),
     )
@@ -94,14 +93,13 @@ returns-in_default-absent g c =
     let rest = c.in-Child.rest in
     let view = c.enter.result in
     let next = down_child c.down.invariant.0 c.in-Child.byte c.in-Child.place rest c.in-Child.ensures c.index-child.ensures c.enter.ensures.view in
-    let inner = c.nearest_room-in_default-absent in
-    let past = c.nearest_room-in_default-absent-2.ensures in
+    let beside = c.room_beside-in_default-absent in
     let told = subst (IsAbsent side (view_pairs view) (low_of side rest) (high_of side rest (256 ^ width_of view))) c.in_default-absent.is (subst (λ w. IsAbsent side (view_pairs view) (low_of side rest) (high_of side rest (256 ^ w)) c.absent-in_default-enter.result) (sym next.width_is) c.absent-in_default-enter.ensures) in
     let some = next.down.shown.some in
     record {
-      room = down_past words all view c.args.key rest next.down side c.nearest_room-in_default-absent-2.result told
-          (subst (λ w. IsRoomPast side words all 0 (2 ^ 64) (c.args.key - rest) (256 ^ w) c.nearest_room-in_default-absent-2.result) (sym next.width_is)
-          (room_passed c.down.invariant.0 refl c.in-Child.byte c.in-Child.place rest c.in-Child.ensures side past.0 inner.result c.nearest_room-in_default-absent-2.result past.1 past.2 (c.down.invariant.1 inner.result inner.ensures)));
+      room = down_past words all view c.args.key rest next.down side beside.result told
+          (subst (λ w. IsRoomPast side words all 0 (2 ^ 64) (c.args.key - rest) (256 ^ w) beside.result) (sym next.width_is)
+          (room_passed c.down.invariant.0 refl c.in-Child.byte c.in-Child.place rest c.in-Child.ensures c.from.result c.from.ensures side _ beside.result beside.ensures c.down.invariant.1));
       no_fewer = omega (arith, c.down.invariant.4, c.enter.ensures.visits);
       visits = omega (arith, c.down.invariant.3, c.enter.ensures.visits, next.width_is);
     }

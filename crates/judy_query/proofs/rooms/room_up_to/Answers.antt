@@ -11,23 +11,23 @@ use Rattle.judy_query.proofs.BranchRooms.{missing_before, missing_first, rank_be
 use Rattle.judy_query.proofs.rooms.room_up_to.Goals as goal
 
 pub overflow_sub-byte : goal.overflow_sub-byte
-overflow_sub-byte g c = omega (arith, (previous c.args.branch.now.bytes c.loop-at.byte c.loop-at.at c.loop-at.invariant.1 (omega (arith, c.loop-at-test.true)) c.loop-at.invariant.0).byte_is)
+overflow_sub-byte g c = omega (arith, (previous c.args.end.branch.now.bytes c.loop-at.byte c.loop-at.at c.loop-at.invariant.1 (omega (arith, c.loop-at-test.true)) c.loop-at.invariant.0).byte_is)
 
 pub start_of-start-requires-clause-within : goal.start_of-start-requires-clause-within
 start_of-start-requires-clause-within g c =
-    let b = c.args.branch.now in
+    let b = c.args.end.branch.now in
     let back = previous b.bytes c.loop-at.byte c.loop-at.at c.loop-at.invariant.1 (omega (arith, c.loop-at-test.true)) c.loop-at.invariant.0 in
-    word_fits g.V.Words.WORDS b.width b.skip b.bytes b.children.items b.population c.requires.branch c.args.base (c.loop-at.byte - 1) back.small c.requires.fits
+    word_fits g.V.Words.WORDS b.width b.skip b.bytes b.children.items b.population c.requires.branch c.args.end.base (c.loop-at.byte - 1) back.small c.requires.fits
 
 pub byte_at-requires-clause-place : goal.byte_at-requires-clause-place
 byte_at-requires-clause-place g c =
-    let b = c.args.branch.now in
+    let b = c.args.end.branch.now in
     let back = previous b.bytes c.loop-at.byte c.loop-at.at c.loop-at.invariant.1 (omega (arith, c.loop-at-test.true)) c.loop-at.invariant.0 in
     omega (arith, back.inside, as_many g.V.Words.WORDS b.width b.skip b.bytes b.children.items b.population c.requires.branch)
 
 pub overflow_add-result : goal.overflow_add-result
 overflow_add-result g c =
-    let b = c.args.branch.now in
+    let b = c.args.end.branch.now in
     let back = previous b.bytes c.loop-at.byte c.loop-at.at c.loop-at.invariant.1 (omega (arith, c.loop-at-test.true)) c.loop-at.invariant.0 in
     let fits = block_within g.V.Words.WORDS b.width b.skip b.bytes b.children.items b.population c.requires.branch (c.loop-at.byte - 1) back.small in
     omega (arith, c.start_of-start.ensures, c.last_word.ensures.value, unit_pos b.width, c.requires.fits)
@@ -35,12 +35,12 @@ overflow_add-result g c =
 pub returns-then-from-byte-clause-room : goal.returns-then-from-byte-clause-room
 returns-then-from-byte-clause-room g c =
     let words = g.V.Words.WORDS in
-    let b = c.args.branch.now in
+    let b = c.args.end.branch.now in
     let n = c.loop-at.byte - 1 in
     let back = previous b.bytes c.loop-at.byte c.loop-at.at c.loop-at.invariant.1 (omega (arith, c.loop-at-test.true)) c.loop-at.invariant.0 in
-    let all = shift c.args.base (branch_pairs b.width b.skip b.bytes b.children.items) in
-    let end = c.args.base + (number_of b.skip * 256 + c.args.end) * 256 ^ b.width in
-    let run = previous_run all c.args.base (number_of b.skip * 256) c.loop-at.byte (256 ^ b.width) c.start_of-start.result end back.byte_is c.start_of-start.ensures c.loop-at.invariant.2 in
+    let all = shift c.args.end.base (branch_pairs b.width b.skip b.bytes b.children.items) in
+    let end = c.args.end.base + (number_of b.skip * 256 + c.args.end.edge) * 256 ^ b.width in
+    let run = previous_run all c.args.end.base (number_of b.skip * 256) c.loop-at.byte (256 ^ b.width) c.start_of-start.result end back.byte_is c.start_of-start.ensures c.loop-at.invariant.2 in
     let unit = unit_pos b.width in
     let last = c.last_word.ensures.value in
     let start = c.start_of-start.ensures in
@@ -48,46 +48,46 @@ returns-then-from-byte-clause-room g c =
     let past : c.start_of-start.result + 256 ^ b.width ≡ c.start_of-start.result + c.last_word.result + 1 = omega arith in (
       omega arith,
       subst (λ m. IsRun all m end) past run,
-      last_absent words b.width b.skip b.bytes b.children.items b.population c.requires.branch c.args.base n c.start_of-start.result (c.start_of-start.result + c.last_word.result) start (omega arith) back.small absent,
+      last_absent words b.width b.skip b.bytes b.children.items b.population c.requires.branch c.args.end.base n c.start_of-start.result (c.start_of-start.result + c.last_word.result) start (omega arith) back.small absent,
     )
 
 pub index-child-requires : goal.index-child-requires
 index-child-requires g c =
-    let b = c.args.branch.now in
+    let b = c.args.end.branch.now in
     let back = previous b.bytes c.loop-at.byte c.loop-at.at c.loop-at.invariant.1 (omega (arith, c.loop-at-test.true)) c.loop-at.invariant.0 in
     omega (arith, back.inside, as_many g.V.Words.WORDS b.width b.skip b.bytes b.children.items b.population c.requires.branch, b.children.ok.0)
 
 pub returns-then-not-is_full-clause-room : goal.returns-then-not-is_full-clause-room
 returns-then-not-is_full-clause-room g c =
     let words = g.V.Words.WORDS in
-    let b = c.args.branch.now in
+    let b = c.args.end.branch.now in
     let n = c.loop-at.byte - 1 in
     let at = c.loop-at.at - 1 in
     let back = previous b.bytes c.loop-at.byte c.loop-at.at c.loop-at.invariant.1 (omega (arith, c.loop-at-test.true)) c.loop-at.invariant.0 in
     let long = as_many words b.width b.skip b.bytes b.children.items b.population c.requires.branch in
     let there = slice_get-get_or b.children.items at c.index-child.result.now (omega (arith, back.inside)) ∙ ap Some (sym c.index-child.ensures) in
     let here = c.byte_at.ensures ∙ ap Some (sym c.from.ensures ∙ c.if-from-byte.false) in
-    let room = kid_room words b.width b.skip b.bytes b.children.items b.population c.requires.branch c.args.base n at c.index-child.result.now here there c.start_of-start.result c.start_of-start.ensures (not_full (length c.index-child.result.now.pairs) (256 ^ b.width) c.is_full.result c.is_full.ensures c.if-not-is_full.true) in
+    let room = kid_room words b.width b.skip b.bytes b.children.items b.population c.requires.branch c.args.end.base n at c.index-child.result.now here there c.start_of-start.result c.start_of-start.ensures (not_full (length c.index-child.result.now.pairs) (256 ^ b.width) c.is_full.result c.is_full.ensures c.if-not-is_full.true) in
     let start = c.start_of-start.ensures in (
       omega arith,
-      previous_run (shift c.args.base (branch_pairs b.width b.skip b.bytes b.children.items)) c.args.base (number_of b.skip * 256) c.loop-at.byte (256 ^ b.width) c.start_of-start.result (c.args.base + (number_of b.skip * 256 + c.args.end) * 256 ^ b.width) back.byte_is start c.loop-at.invariant.2,
+      previous_run (shift c.args.end.base (branch_pairs b.width b.skip b.bytes b.children.items)) c.args.end.base (number_of b.skip * 256) c.loop-at.byte (256 ^ b.width) c.start_of-start.result (c.args.end.base + (number_of b.skip * 256 + c.args.end.edge) * 256 ^ b.width) back.byte_is start c.loop-at.invariant.2,
       room.1,
     )
 
 pub loop-at-preserved : goal.loop-at-preserved
 loop-at-preserved g c =
     let words = g.V.Words.WORDS in
-    let b = c.args.branch.now in
+    let b = c.args.end.branch.now in
     let n = c.loop-at.byte - 1 in
     let at = c.loop-at.at - 1 in
     let back = previous b.bytes c.loop-at.byte c.loop-at.at c.loop-at.invariant.1 (omega (arith, c.loop-at-test.true)) c.loop-at.invariant.0 in
     let long = as_many words b.width b.skip b.bytes b.children.items b.population c.requires.branch in
     let there = slice_get-get_or b.children.items at c.index-child.result.now (omega (arith, back.inside)) ∙ ap Some (sym c.index-child.ensures) in
     let here = c.byte_at.ensures ∙ ap Some (sym c.from.ensures ∙ c.if-from-byte.false) in
-    let all = shift c.args.base (branch_pairs b.width b.skip b.bytes b.children.items) in
-    let end = c.args.base + (number_of b.skip * 256 + c.args.end) * 256 ^ b.width in
-    let run = previous_run all c.args.base (number_of b.skip * 256) c.loop-at.byte (256 ^ b.width) c.start_of-start.result end back.byte_is c.start_of-start.ensures c.loop-at.invariant.2 in
-    let before = kid_run words b.width b.skip b.bytes b.children.items b.population c.requires.branch c.args.base n at c.index-child.result.now here there c.start_of-start.result c.start_of-start.ensures (all_full (length c.index-child.result.now.pairs) (256 ^ b.width) c.is_full.result c.is_full.ensures c.if-not-is_full.false) in (
+    let all = shift c.args.end.base (branch_pairs b.width b.skip b.bytes b.children.items) in
+    let end = c.args.end.base + (number_of b.skip * 256 + c.args.end.edge) * 256 ^ b.width in
+    let run = previous_run all c.args.end.base (number_of b.skip * 256) c.loop-at.byte (256 ^ b.width) c.start_of-start.result end back.byte_is c.start_of-start.ensures c.loop-at.invariant.2 in
+    let before = kid_run words b.width b.skip b.bytes b.children.items b.population c.requires.branch c.args.end.base n at c.index-child.result.now here there c.start_of-start.result c.start_of-start.ensures (all_full (length c.index-child.result.now.pairs) (256 ^ b.width) c.is_full.result c.is_full.ensures c.if-not-is_full.false) in (
       omega (arith, c.loop-at.invariant.0),
       rank_before b.bytes n at (bytes_ascend words b.width b.skip b.bytes b.children.items b.population c.requires.branch) here,
       subst (λ m. IsRun all m end) c.start_of-start.ensures (run-join all c.start_of-start.result (c.start_of-start.result + 256 ^ b.width) end before run),
@@ -96,26 +96,26 @@ loop-at-preserved g c =
 pub start_of-start-requires-2-clause-within : goal.start_of-start-requires-2-clause-within
 start_of-start-requires-2-clause-within g c =
     let words = g.V.Words.WORDS in
-    let b = c.args.branch.now in
+    let b = c.args.end.branch.now in
     let none : rank b.bytes c.loop-at.byte ≡ 0 = omega (arith, c.loop-at.invariant.1, c.loop-at-test.false) in
     let small = first_small words b.width b.skip b.bytes b.children.items b.population c.loop-at.byte c.requires.branch none c.loop-at.invariant.0 in
-    word_fits words b.width b.skip b.bytes b.children.items b.population c.requires.branch c.args.base c.loop-at.byte small c.requires.fits
+    word_fits words b.width b.skip b.bytes b.children.items b.population c.requires.branch c.args.end.base c.loop-at.byte small c.requires.fits
 
-pub returns-then-start-base-clause-room : goal.returns-then-start-base-clause-room
-returns-then-start-base-clause-room g c =
+pub returns-then-start-end-clause-room : goal.returns-then-start-end-clause-room
+returns-then-start-end-clause-room g c =
     let words = g.V.Words.WORDS in
-    let b = c.args.branch.now in
+    let b = c.args.end.branch.now in
     let none : rank b.bytes c.loop-at.byte ≡ 0 = omega (arith, c.loop-at.invariant.1, c.loop-at-test.false) in
-    let above = c.if-start-base.true in (
+    let above = c.if-start-end.true in (
       omega arith,
-      subst (λ m. IsRun (shift c.args.base (branch_pairs b.width b.skip b.bytes b.children.items)) m (c.args.base + (number_of b.skip * 256 + c.args.end) * 256 ^ b.width)) (sym c.start_of-start-2.ensures ∙ (let e : c.start_of-start-2.result ≡ c.start_of-start-2.result - 1 + 1 = omega arith in e)) c.loop-at.invariant.2,
-      before_absent words b.width b.skip b.bytes b.children.items b.population c.requires.branch c.args.base c.loop-at.byte c.start_of-start-2.result c.start_of-start-2.ensures above c.loop-at.invariant.0
+      subst (λ m. IsRun (shift c.args.end.base (branch_pairs b.width b.skip b.bytes b.children.items)) m (c.args.end.base + (number_of b.skip * 256 + c.args.end.edge) * 256 ^ b.width)) (sym c.start_of-start-2.ensures ∙ (let e : c.start_of-start-2.result ≡ c.start_of-start-2.result - 1 + 1 = omega arith in e)) c.loop-at.invariant.2,
+      before_absent words b.width b.skip b.bytes b.children.items b.population c.requires.branch c.args.end.base c.loop-at.byte c.start_of-start-2.result c.start_of-start-2.ensures above c.loop-at.invariant.0
           (λ forerunner e. missing_first b.bytes forerunner (bytes_ascend words b.width b.skip b.bytes b.children.items b.population c.requires.branch) (ap (rank b.bytes) e ∙ none)),
     )
 
-pub returns-else-start-base-clause-room : goal.returns-else-start-base-clause-room
-returns-else-start-base-clause-room g c =
-    let b = c.args.branch.now in
-    let below = c.if-start-base.false in
+pub returns-else-start-end-clause-room : goal.returns-else-start-end-clause-room
+returns-else-start-end-clause-room g c =
+    let b = c.args.end.branch.now in
+    let below = c.if-start-end.false in
     let start = c.start_of-start-2.ensures in
-    subst (λ m. IsRun (shift c.args.base (branch_pairs b.width b.skip b.bytes b.children.items)) m (c.args.base + (number_of b.skip * 256 + c.args.end) * 256 ^ b.width)) (let e : c.args.base + (number_of b.skip * 256 + c.loop-at.byte) * 256 ^ b.width ≡ c.args.base = omega arith in e) c.loop-at.invariant.2
+    subst (λ m. IsRun (shift c.args.end.base (branch_pairs b.width b.skip b.bytes b.children.items)) m (c.args.end.base + (number_of b.skip * 256 + c.args.end.edge) * 256 ^ b.width)) (let e : c.args.end.base + (number_of b.skip * 256 + c.loop-at.byte) * 256 ^ b.width ≡ c.args.end.base = omega arith in e) c.loop-at.invariant.2

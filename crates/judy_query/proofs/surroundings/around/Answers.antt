@@ -82,13 +82,13 @@ pub enter-requires-in-down : goal.enter-requires-in-down
 enter-requires-in-down g c =
     (omega arith, (omega (arith, c.down.invariant.3, c.requires), child_is c.down.invariant.0 c.in-Child.field-0 c.in-Child.place c.in-Child.rest c.in-Child.ensures c.index.ensures))
 
-pub later_turn-later-requires-clause-inside : goal.later_turn-later-requires-clause-inside
-later_turn-later-requires-clause-inside g c =
+pub turn_to-later-requires-clause-inside : goal.turn_to-later-requires-clause-inside
+turn_to-later-requires-clause-inside g c =
     let inside = child_inside c.down.invariant.0 c.in-Child.field-0 c.in-Child.place c.in-Child.rest c.in-Child.ensures in
     omega arith
 
-pub later_turn-later-requires-clause-step : goal.later_turn-later-requires-clause-step
-later_turn-later-requires-clause-step g c =
+pub turn_to-later-requires-clause-step : goal.turn_to-later-requires-clause-step
+turn_to-later-requires-clause-step g c =
     let words = g.V.Words.WORDS in
     let b = c.down.at.0.now in
     reached_rank words b.width b.skip b.bytes b.children.items b.population (branch_is c.down.invariant.0) c.down.at.1
@@ -106,8 +106,8 @@ down-preserved g c =
       next.down,
       ap (λ ps. slice_get ps 0) next.back_is ∙ head-append (shift base (rest_of (256 ^ b.width) (number_of b.skip * 256) b.bytes b.children.items (suc c.in-Child.place))) way.0.back
           ∙ (λ t. option_or (slice_get (shift base (rest_of (256 ^ b.width) (number_of b.skip * 256) b.bytes b.children.items (suc c.in-Child.place))) 0) (way.1 t))
-          ∙ sym c.later_turn-later.ensures.pair,
-      c.later_turn-later.ensures.turn,
+          ∙ sym c.turn_to-later.ensures.pair,
+      c.turn_to-later.ensures.turn,
       omega arith,
       omega (arith, visits, way.4),
     )

@@ -11,15 +11,15 @@ use Rattle.judy_query.proofs.BranchRooms.{rank_zero, rank_all, as_many, least_to
 use Rattle.judy_query.proofs.SideRooms.{room_told}
 use Rattle.judy_query.proofs.sides.Side.room_of.Goals as goal
 
-pub room_from-requires-clause-place : goal.room_from-requires-clause-place
-room_from-requires-clause-place g c = sym (rank_zero c.args.branch.now.bytes)
+pub room_from-requires : goal.room_from-requires
+room_from-requires g c = record { branch = c.requires.branch; edge = omega arith; place = sym (rank_zero c.args.branch.now.bytes); fits = c.requires.fits }
 
-pub room_up_to-requires-clause-place : goal.room_up_to-requires-clause-place
-room_up_to-requires-clause-place g c =
+pub room_up_to-requires : goal.room_up_to-requires
+room_up_to-requires g c =
     let b = c.args.branch.now in
     let all_below = rank_all g.V.Words.WORDS b.width b.skip b.bytes b.children.items b.population c.requires.branch in
     let many = as_many g.V.Words.WORDS b.width b.skip b.bytes b.children.items b.population c.requires.branch in
-    omega (arith, c.len-in-Down-2.ensures, b.children.ok.0)
+    record { branch = c.requires.branch; edge = omega arith; place = omega (arith, c.len-in-Down-2.ensures, b.children.ok.0); fits = c.requires.fits }
 
 pub returns-in-Up-clause-room : goal.returns-in-Up-clause-room
 returns-in-Up-clause-room g c =
