@@ -7,8 +7,8 @@
 // byte strings and the script layer stand on this crate.
 //
 // Both are a `WordArray`, with no word of value a key or with one: word_array.rt has what they have alike, and judy1.rt and judyl.rt below it the rest. What lies below it
-// is a `TreeArray`, which is a limit, a tree of judy_node and whether that may be loose: each public call hands on to its calls. tree_array.rt has it, and in the folder of that name stand what is asked of a key (counts.rt), neighbours, the same
-// with values (entries.rt) and empties, all over judy_query; changes, and those that answer the value that was there (values.rt), over judy_change; slots; arrays made at once of keys that
+// is a `TreeArray`, which is a limit, a tree of judy_node and whether that may be loose: each public call hands on to its calls. tree_array.rt has it, and in the folder of that name stand what is asked of a key (counts.rt), neighbours
+// with their values (entries.rt) and empties, all over judy_query; changes, and those that answer the value that was there (values.rt), over judy_change; slots; arrays made at once of keys that
 // ascend (sorted.rt, in src too); fronts of such lists put in (fronts.rt, and filling.rt in src, arrays that are filled by keys that ascend); and the law of what every array keeps (kept.rt). laws.rt has laws of nodes. iter.rt has the iterators, and how an array is printed.
 #![tactic(auto)]
 

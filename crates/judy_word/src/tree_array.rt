@@ -19,7 +19,6 @@ mod empties;
 mod entries;
 mod fronts;
 mod kept;
-mod neighbours;
 mod slots;
 mod sorted;
 mod values;

@@ -81,6 +81,8 @@ impl<V: Words + Drop> WordArray<V> {
         self.tree.by_count(n)
     }
 
+    // Each neighbour is asked for with its value, which isn't read where nobody asks for it.
+
     /// The least key from `i` on: `i` itself where it is there. `None` where no key is left.
     /// (Manual: J1F and JLF, Judy1First and JudyLFirst.)
     // Compiled into the caller, as the search is: the answer doesn't go through memory then.
@@ -88,7 +90,8 @@ impl<V: Words + Drop> WordArray<V> {
     pub fn first(&self, i: u64) -> Option<u64>
         ensures { result ≡ neighbours.first self.now.map i }
     {
-        self.tree.first(i)
+        let (key, _) = self.tree.first_entry(i)?;
+        Some(key)
     }
 
     /// The least key above `i`; `None` where no key is above it, so always above the word 2^64 - 1.
@@ -98,7 +101,8 @@ impl<V: Words + Drop> WordArray<V> {
     pub fn next(&self, i: u64) -> Option<u64>
         ensures { result ≡ neighbours.next self.now.map i }
     {
-        self.tree.next(i)
+        let (key, _) = self.tree.next_entry(i)?;
+        Some(key)
     }
 
     /// The greatest key up to `i`: `i` itself where it is there. `None` where each key is above it.
@@ -106,7 +110,8 @@ impl<V: Words + Drop> WordArray<V> {
     pub fn last(&self, i: u64) -> Option<u64>
         ensures { result ≡ neighbours.last self.now.map i }
     {
-        self.tree.last(i)
+        let (key, _) = self.tree.last_entry(i)?;
+        Some(key)
     }
 
     /// The greatest key below `i`; `None` where no key is below it, so always below 0.
@@ -114,7 +119,8 @@ impl<V: Words + Drop> WordArray<V> {
     pub fn prev(&self, i: u64) -> Option<u64>
         ensures { result ≡ neighbours.prev self.now.map i }
     {
-        self.tree.prev(i)
+        let (key, _) = self.tree.prev_entry(i)?;
+        Some(key)
     }
 
     /// The least word from `i` on that is no key: `i` itself where it is absent. `None` where each word from

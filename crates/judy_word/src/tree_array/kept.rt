@@ -13,11 +13,10 @@ impl<V: Words + Drop> TreeArray<V> {
         ensures { array.IsArrayOf IsWord (array_in self.now) }
     {
         are_words(self.len(), self.limit());
-        let mut found = self.first(0);
-        'keys: while let Some(key) = found {
-            let value = self.get(key).unwrap_or(0);
+        let mut found = self.first_entry(0);
+        'keys: while let Some((key, value)) = found {
             are_words(key, value);
-            found = self.next(key);
+            found = self.next_entry(key);
         }
     }
 }

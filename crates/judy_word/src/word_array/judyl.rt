@@ -128,7 +128,6 @@ impl JudyL {
         ensures* writes_back { sem 𝓛 (LendsSlot self.entry i result) }
         ensures value { option_copied_mut result ≡ map.get self.old.map i }
     {
-        self.tree.told();
         self.tree.slot(i)
     }
 
@@ -140,7 +139,6 @@ impl JudyL {
         ensures* writes_back { sem 𝓛 (LendsSlotOf self.entry i result) }
         ensures value { Some result.now ≡ map.get self.old.map i }
     {
-        self.tree.told();
         self.tree.slot_of(i)
     }
 

@@ -13,5 +13,6 @@ returns g c =
       record {
         changes = tt;
         value = c.slot.ensures.value ∙ sym (get-value g.V.Words.WORDS (256 ^ 8) _ c.told.ensures.map c.args.key ∙ value_in-is c.args.key _);
+        held = record { node = c.told.ensures; bounded = c.self.invariant };
       },
     )
