@@ -108,8 +108,26 @@ fn seek<'a, V: Words + Drop, M: Sparing>(
 }
 
 // The nearest room past a child, and where its branch has none there, past the child that was passed above it.
-#[inline(never)]
+// Within its caller, but a function: what the call is given and answers through memory is written there only where it is made.
+#[inline(always)]
 fn room_beside<'a, V: Words + Drop>(
+    side: Side,
+    passed: Turn<'a, V>,
+    above: Option<Turn<'a, V>>,
+    beside: Room<'a, V>,
+) -> Room<'a, V>
+    requires passed { IsPassed V.WORDS passed }
+    requires above { MatchOption above Unit (IsPassed V.WORDS) }
+    ensures { IsRoomOrElse side V.WORDS passed.entry
+        (IsNearestRoom side V.WORDS above.entry beside.entry) result }
+{
+    first_room(side, passed, above, beside)
+}
+
+// The same by a call, which is rare.
+#[cold]
+#[inline(never)]
+fn first_room<'a, V: Words + Drop>(
     side: Side,
     passed: Turn<'a, V>,
     above: Option<Turn<'a, V>>,

@@ -1,7 +1,7 @@
 use Rattle.std.proofs.Common.{sym, subst}
 use Rattle.judy_query.specs.Rooms.{OrElse, IsNearestRoom}
 use Rattle.judy_query.proofs.RoomSteps.{own_room}
-use Rattle.judy_query.proofs.empties.room_beside.Goals as goal
+use Rattle.judy_query.proofs.empties.first_room.Goals as goal
 
 pub returns-in-Nowhere : goal.returns-in-Nowhere
 returns-in-Nowhere g c =
