@@ -1,5 +1,5 @@
 -- A key that is given another value: in a node without children, and below a branch.
-use Rattle.std.proofs.Common.{◌≡◌, ℕ, ◌+◌, ◌*◌, ◌^◌, ◌<◌, ◌≤◌, ◌||◌, Bool, true, false, cond, eqb, List, [], ◌∷◌, length, set, get_or, Some, None, Option, Result, Ok, Err, refl, sym, ap, ◌∙◌, subst, ⊎_elim, arith}
+use Rattle.std.proofs.Common.{◌≡◌, ℕ, ◌+◌, ◌*◌, ◌^◌, ◌<◌, ◌≤◌, ◌||◌, Bool, true, false, cond, eqb, List, [], ◌∷◌, length, set, get_or, Some, None, Ok, refl, sym, ap, ◌∙◌, subst, ⊎_elim, arith}
 use Rattle.std.proofs.lemmas.Bool.{cases_order}
 use Rattle.judy_model.specs.WordBytes.{number_of}
 use Rattle.judy_model.specs.Forms.{branch}
@@ -20,8 +20,10 @@ use Rattle.judy_node.proofs.SumFacts.{sums-same}
 use Rattle.judy_node.proofs.SeatFacts.{bit-below, leaf-seat, bit-seat}
 use Rattle.judy_node.proofs.SlotFacts.{written-length, join-value, join-written, children-written, forms-written}
 use Rattle.judy_change.specs.Inserted.{has_key, IsAdded, IsInserted}
-use Rattle.judy_change.specs.Exchanged.{IsExchanged}
-use Rattle.judy_change.proofs.KidInserts.{IsKid, kid_within}
+use Rattle.judy_change.specs.Put.{IsThere, IsPut}
+use Rattle.judy_change.specs.declared.present.Put.{Put}
+use Rattle.judy_change.specs.declared.present.Put.TheVariants.{Added, There, Refused}
+use Rattle.judy_change.proofs.KidInserts.{IsKid, kid_within, kid_has, kid_same, kids_same}
 use Rattle.judy_change.proofs.PairPlaces.{length-with_pair}
 
 -- An insert of an absent key adds it.
@@ -30,14 +32,17 @@ added_absent E key value old new true absent is = is
 added_absent E key value old new false absent is = let never : true ≡ false = sym is.0 ∙ absent in cc
 
 -- A tree has no fewer keys than before.
-pub no_fewer : (E : Type 0) (key value : ℕ) (old new : Tree) (answer : Result (Option ℕ) E) → IsExchanged {E = E} key value old new answer → length old.pairs ≤ length new.pairs
-no_fewer E key value old new (Ok None) is =
+pub no_fewer : (replaces : Bool) (key value : ℕ) (old new : Tree) (answer : Put) → IsPut replaces key value old new answer → length old.pairs ≤ length new.pairs
+no_fewer replaces key value old new Added is =
     let longer = ap length is.pairs ∙ length-with_pair key value old.pairs in
     omega arith
-no_fewer E key value old new (Ok (Some was)) is =
+no_fewer true key value old new (There was) is =
     let same = ap (λ (tree : Tree). length tree.pairs) is.1 ∙ written-length key value old.pairs in
     omega arith
-no_fewer E key value old new (Err refused) is =
+no_fewer false key value old new (There was) is =
+    let same = ap (λ (tree : Tree). length tree.pairs) is.1 in
+    omega arith
+no_fewer replaces key value old new Refused is =
     let same = ap (λ (tree : Tree). length tree.pairs) is.1 in
     omega arith
 
@@ -76,7 +81,7 @@ module _ {words width : ℕ} {skipped bytes : List ℕ} {kids : List Tree} {coun
   whole_key = (number_of skipped * 256 + byte) * 256 ^ width + rest
 
   -- The value of the key is the child's.
-  pub kid_value : value_of whole_key (branch_pairs width skipped bytes kids) ≡ value_of rest kid.pairs
+  kid_value : value_of whole_key (branch_pairs width skipped bytes kids) ≡ value_of rest kid.pairs
   kid_value =
       join-value words width 0 (number_of skipped * 256) at byte rest bytes kids kid it.is.parts.children it.here it.fits
       ∙ ap (λ (k : Tree). value_of rest k.pairs) (sym it.kid_is)
@@ -94,10 +99,10 @@ module _ {words width : ℕ} {skipped bytes : List ℕ} {kids : List Tree} {coun
     now_forms = ap forms_in now_set ∙ forms-written at rest value kids kid
 
     -- The branch is the old one with that value.
-    pub kid_over : branch_tree width skipped bytes (set kids at new) count ≡ with_value (branch_tree width skipped bytes kids count) whole_key value
+    kid_over : branch_tree width skipped bytes (set kids at new) count ≡ with_value (branch_tree width skipped bytes kids count) whole_key value
     kid_over = λ t. record { width = length skipped + 1 + width; pairs = now_pairs t; form = branch skipped bytes count ∷ now_forms t }
 
-    pub kid_over_branch : IsBranch words width skipped bytes (set kids at new) count
+    kid_over_branch : IsBranch words width skipped bytes (set kids at new) count
     kid_over_branch =
         record {
           parts = record {
@@ -110,7 +115,22 @@ module _ {words width : ℕ} {skipped bytes : List ℕ} {kids : List Tree} {coun
           holds = it.is.holds;
         }
 
-    pub kid_over_sums : (sums : Sums) → AreSums sums kids → AreSums sums (set kids at new)
+    kid_over_sums : (sums : Sums) → AreSums sums kids → AreSums sums (set kids at new)
     kid_over_sums sums =
         sums-same sums kids at new kid (kid_within it)
         (ap (λ (k : Tree). length k.pairs) same ∙ written-length rest value kid.pairs ∙ ap (λ (k : Tree). length k.pairs) it.kid_is)
+
+  -- ---- a child that had the key, whether its value is another or not
+
+  pub kid_there_put : (replaces : Bool) → (replaces ≡ true → words ≡ 1) → (value was : ℕ) (new : Tree) → IsThere replaces rest value was kid new
+      → IsThere replaces whole_key value was (branch_tree width skipped bytes kids count) (branch_tree width skipped bytes (set kids at new) count)
+  kid_there_put true one value was new is = (kid_value ∙ is.0, kid_over (one refl) value new is.1)
+  kid_there_put false one value was new is = (kid_has it ∙ is.0, kid_same it new is.1)
+
+  pub kid_there_branch : (replaces : Bool) → (replaces ≡ true → words ≡ 1) → (value was : ℕ) (new : Tree) → IsThere replaces rest value was kid new → IsBranch words width skipped bytes (set kids at new) count
+  kid_there_branch true one value was new is = kid_over_branch (one refl) value new is.1
+  kid_there_branch false one value was new is = subst (λ ks. IsBranch words width skipped bytes ks count) (sym (kids_same it new is.1)) it.is
+
+  pub kid_there_sums : (replaces : Bool) → (replaces ≡ true → words ≡ 1) → (value was : ℕ) (new : Tree) → IsThere replaces rest value was kid new → (sums : Sums) → AreSums sums kids → AreSums sums (set kids at new)
+  kid_there_sums true one value was new is = kid_over_sums (one refl) value new is.1
+  kid_there_sums false one value was new is = λ sums are. subst (AreSums sums) (sym (kids_same it new is.1)) are

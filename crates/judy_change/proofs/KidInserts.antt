@@ -56,8 +56,11 @@ module _ {words width : ℕ} {skipped bytes : List ℕ} {kids : List Tree} {coun
       omega arith
 
   -- A child that stays keeps the branch.
+  pub kids_same : (new : Tree) → new ≡ kid → set kids at new ≡ kids
+  kids_same new same = ap (set kids at) same ∙ set-there kids at kid kid_there
+
   pub kid_same : (new : Tree) → new ≡ kid → branch_tree width skipped bytes (set kids at new) count ≡ branch
-  kid_same new same = ap (λ ks. branch_tree width skipped bytes ks count) (ap (set kids at) same ∙ set-there kids at kid kid_there)
+  kid_same new same = ap (λ ks. branch_tree width skipped bytes ks count) (kids_same new same)
 
   module _ (value : ℕ) (new : Tree) (added : IsAdded rest value kid new) where
     pub kid_branch : IsChild words width new → IsBranch words width skipped bytes (set kids at new) (count + 1)

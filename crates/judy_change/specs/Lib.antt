@@ -2,5 +2,6 @@ pub mod Removals
 pub mod LeafTrees
 pub mod Inserted
 pub mod Exchanged
+pub mod Put
 pub mod Splits
 pub mod Appended

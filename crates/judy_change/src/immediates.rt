@@ -9,8 +9,7 @@ ghost use Rattle.judy_node.specs.Kinds.{tree_of, imm_tree, IsLevel, IsImm};
 ghost use Rattle.judy_node.specs.Built.{IsBuilt};
 ghost use Rattle.judy_change.specs.Inserted.{IsInserted};
 
-use crate::gap::put_at;
-use crate::inserts::in_order;
+use crate::gap::{in_order, put_at};
 use judy_leaf::{ImmOf, Room, Words};
 use judy_node::{Head, KindOf, imm_of, kind_of_sorted, leaf_of_two};
 use std::alloc::{AllocError, Global};

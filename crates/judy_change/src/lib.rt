@@ -8,11 +8,11 @@
 //! leaves the tree as it was, its form included. A removal is never refused: where there is no memory for a smaller node, the larger
 //! one stays, loose. Else a tight tree stays tight. specs/Inserted.antt and specs/Removals.antt say what each leaves.
 //!
-//! inserts.rt has the calls that put a key in or lend a slot, exchanges.rt the call that gives a key a value and answers the one that was
-//! there, specs/Exchanged.antt what it leaves, and way_down.rt the way of an insert. It ends at a node that takes the key
-//! or gives way to a larger one (immediates.rt, leaves.rt, bitmaps.rt), at a branch that gets a child (put.rt), or at a node that
-//! skips other bytes than the key begins with, which gets a branch above it (split.rt); gap.rt puts a pair among others, and appends.rt many
-//! behind all others, a new node at once. removals.rt has
+//! inserts.rt has the calls that put a key in, give it a value or lend its slot. An insert and an exchange are one way down
+//! (way_down.rt); present.rt tells of either what becomes of a value that is there, and specs/Put.antt what both leave. The way ends at a
+//! node without children (childless.rt), which takes the key or gives way to a larger one (immediates.rt, leaves.rt, bitmaps.rt,
+//! replaced.rt), at a branch that gets a child (put.rt), or at a node that skips other bytes than the key begins with, which gets a branch
+//! above it (split.rt). gap.rt puts a pair among others, and appends.rt many behind all others, a new node at once. removals.rt has
 //! the way of a removal, remove_leaf.rt its end, settle.rt the smaller nodes, removed.rt what is answered.
 //!
 //! The crate stands on judy_model, judy_bits, judy_block, judy_leaf and judy_node, of which it uses the parts for writing; judy_word
@@ -21,22 +21,23 @@
 
 mod appends;
 mod bitmaps;
-mod exchanges;
+mod childless;
 mod gap;
 mod immediates;
 mod inserts;
 pub mod laws;
 mod leaves;
+mod present;
 mod put;
 mod removals;
 mod remove_leaf;
 mod removed;
+mod replaced;
 mod settle;
 mod split;
 mod way_down;
 
 pub use appends::append;
-pub use exchanges::exchange;
-pub use inserts::{insert, insert_with, slot};
+pub use inserts::{exchange, insert, insert_with, slot};
 pub use removals::remove;
 pub use removed::Removed;

@@ -1,56 +1,137 @@
-//! A key put into a node below the root, down the key's way.
+//! A key put into a tree, down the key's way.
 
-ghost use Rattle.std.specs.Prelude.{◌≡◌, ◌≢◌, ◌+◌, ◌-◌, ◌*◌, ◌/◌, ◌^◌, ◌<◌, ◌≤◌, false, length, Some, slice_get};
+ghost use Rattle.std.specs.Prelude.{◌≡◌, ◌+◌, ◌-◌, ◌*◌, ◌^◌, ◌<◌, ◌≤◌, true, false, [], length, Some, slice_get};
 ghost use Rattle.judy_model.specs.WordBytes.{number_of};
 ghost use Rattle.judy_node.specs.Trees.{IsChild};
 ghost use Rattle.judy_node.specs.Branches.{IsWholeBranch, tree_below};
 ghost use Rattle.judy_node.specs.Populations.{AreSums};
-ghost use Rattle.judy_node.specs.Kinds.{tree_of, bit_tree, IsLevel, IsBit};
-ghost use Rattle.judy_change.specs.Removals.{IsChildless, width_of};
-ghost use Rattle.judy_change.specs.Inserted.{has_key, IsInserted, IsPast};
+ghost use Rattle.judy_node.specs.Kinds.{tree_of, IsLevel};
+ghost use Rattle.judy_node.specs.Roots.{root_tree, one_tree, IsRoot};
+ghost use Rattle.judy_change.specs.Inserted.{has_key};
+ghost use Rattle.judy_change.specs.declared.present.Put.TheVariants.{Added};
+ghost use Rattle.judy_change.specs.Put.{IsPut};
 
-use crate::bitmaps::into_bitmap;
-use crate::immediates::into_immediate;
-use crate::leaves::{into_full_leaf, into_leaf};
+use crate::childless::put_in_childless;
+use crate::gap::in_order;
+use crate::present::{Present, Put};
 use crate::put::put_child;
-use crate::split::{Skipped, split};
-use judy_bits::without_low;
-use judy_block::Block;
-use judy_leaf::{LEAF_ROOM, Words};
-use judy_node::{BranchOf, ChildOf, Head, KindOf, Step};
-use std::alloc::{AllocError, Global};
-use std::mem;
+use crate::replaced::replaced;
+use judy_leaf::Words;
+use judy_node::{BranchOf, ChildOf, KindOf, RootOf, Step, leaf_of_two};
+use std::alloc::Global;
 
-// Puts a key with its value into a node below the root, whose keys have `width` bytes. The answer is that of `insert`.
-#[cycle(insert)]
-fn insert_in<V: Words + Drop>(
+// Puts a key with its value into a root, which is changed where it stands.
+#[inline(always)]
+pub(crate) fn put_in_root<V: Words + Drop, P: Present>(
+    alloc: Global,
+    root: &mut RootOf<V>,
+    key: u64,
+    value: u64,
+) -> Put
+    requires one { V.WORDS ≤ 1 }
+    requires words { P.REPLACES ≡ true → V.WORDS ≡ 1 }
+    requires root { IsRoot V.WORDS root.old }
+    requires no_value { V.WORDS ≡ 0 → value ≡ 0 }
+    requires room { has_key key (root_tree root.old) ≡ false
+        → length (root_tree root.old).pairs < 2 ^ 64 - 1 }
+    ensures root { IsRoot V.WORDS root.new }
+    ensures put { IsPut P.REPLACES key value (root_tree root.old) (root_tree root.new) result }
+    ensures first { (root_tree root.old).pairs ≡ [] → result ≡ Added }
+{
+    match root {
+        RootOf::Empty => {
+            *root = RootOf::One(key, value);
+            Put::Added
+        }
+        RootOf::One(only, there) => {
+            let (new, answer) = beside_one::<V, P>(alloc, *only, *there, key, value);
+            *root = new;
+            answer
+        }
+        RootOf::Many(child) => put_in_many::<V, P>(alloc, child, key, value),
+    }
+}
+
+// Beside the one pair of a root.
+fn beside_one<V: Words + Drop, P: Present>(
+    alloc: Global,
+    only: u64,
+    there: u64,
+    key: u64,
+    value: u64,
+) -> (RootOf<V>, Put)
+    requires one { V.WORDS ≤ 1 }
+    requires words { P.REPLACES ≡ true → V.WORDS ≡ 1 }
+    requires no_value { V.WORDS ≡ 0 → (there ≡ 0) × (value ≡ 0) }
+    ensures root { IsRoot V.WORDS result.0 }
+    ensures put { IsPut P.REPLACES key value (one_tree only there) (root_tree result.0) result.1 }
+{
+    if only == key {
+        let left = if P::REPLACES { value } else { there };
+        return (RootOf::One(only, left), Put::There(there));
+    }
+    let (low, high) = in_order((only, there), (key, value));
+    match leaf_of_two(alloc, 8, low, high) {
+        Ok(kind) => (RootOf::Many(ChildOf::close(kind)), Put::Added),
+        Err(_) => (RootOf::One(only, there), Put::Refused),
+    }
+}
+
+// In the node below a root. In small arrays that is a leaf, and here the width of its keys is known when this is compiled.
+#[inline(always)]
+fn put_in_many<V: Words + Drop, P: Present>(
+    alloc: Global,
+    child: &mut ChildOf<V>,
+    key: u64,
+    value: u64,
+) -> Put
+    requires one { V.WORDS ≤ 1 }
+    requires words { P.REPLACES ≡ true → V.WORDS ≡ 1 }
+    requires child { IsChild V.WORDS 8 child.old }
+    requires no_value { V.WORDS ≡ 0 → value ≡ 0 }
+    requires room { has_key key child.old ≡ false → length child.old.pairs < 2 ^ 64 - 1 }
+    ensures child { IsChild V.WORDS 8 child.new }
+    ensures put { IsPut P.REPLACES key value child.old child.new result }
+{
+    let kind = child.place.kind_mut();
+    match kind {
+        KindOf::Leaf(_, _) => put_in_childless::<V, P>(alloc, kind, 8, key, value),
+        _ => put_in_kind::<V, P>(alloc, kind, 8, key, value),
+    }
+}
+
+// Puts a key with its value into a node below the root, whose keys have `width` bytes.
+#[cycle(put)]
+fn put_in<V: Words + Drop, P: Present>(
     alloc: Global,
     child: &mut ChildOf<V>,
     width: u8,
     key: u64,
     value: u64,
-) -> Result<bool, AllocError>
+) -> Put
     requires one { V.WORDS ≤ 1 }
+    requires words { P.REPLACES ≡ true → V.WORDS ≡ 1 }
     requires child { IsChild V.WORDS width child.old }
     requires fits { key < 256 ^ width }
     requires no_value { V.WORDS ≡ 0 → value ≡ 0 }
     requires room { has_key key child.old ≡ false → length child.old.pairs < 2 ^ 64 - 1 }
     ensures child { IsChild V.WORDS width child.new }
-    ensures inserted { IsInserted key value child.old child.new result }
+    ensures put { IsPut P.REPLACES key value child.old child.new result }
 {
-    into_kind(alloc, child.place.kind_mut(), width, key, value)
+    put_in_kind::<V, P>(alloc, child.place.kind_mut(), width, key, value)
 }
 
 // The same by the node's kind. A branch on the key's way and a leaf that stays a leaf are changed where they stand.
-#[cycle(insert)]
-pub(crate) fn into_kind<V: Words + Drop>(
+#[cycle(put)]
+fn put_in_kind<V: Words + Drop, P: Present>(
     alloc: Global,
     kind: &mut KindOf<V>,
     width: u8,
     key: u64,
     value: u64,
-) -> Result<bool, AllocError>
+) -> Put
     requires one { V.WORDS ≤ 1 }
+    requires words { P.REPLACES ≡ true → V.WORDS ≡ 1 }
     requires level { IsLevel V.WORDS kind.old }
     requires child { IsChild V.WORDS width (tree_of V.WORDS kind.old) }
     requires fits { key < 256 ^ width }
@@ -59,189 +140,41 @@ pub(crate) fn into_kind<V: Words + Drop>(
         → length (tree_of V.WORDS kind.old).pairs < 2 ^ 64 - 1 }
     ensures level { IsLevel V.WORDS kind.new }
     ensures child { IsChild V.WORDS width (tree_of V.WORDS kind.new) }
-    ensures inserted { IsInserted key value (tree_of V.WORDS kind.old)
+    ensures put { IsPut P.REPLACES key value (tree_of V.WORDS kind.old)
         (tree_of V.WORDS kind.new) result }
 {
     match kind {
         KindOf::Branch(branch) => match branch.step(key) {
-            Step::Child(byte, place, rest) => into_child(alloc, branch, byte, place, rest, value),
-            Step::Missing(byte, place, rest) => put_child(alloc, branch, place, byte, rest, value),
-            Step::Below | Step::Above => replaced(alloc, kind, width, key, value),
+            Step::Child(byte, place, rest) => put_in_child::<V, P>(
+                alloc, branch, byte, place, rest, value,
+            ),
+            Step::Missing(byte, place, rest) => {
+                match put_child(alloc, branch, place, byte, rest, value) {
+                    Ok(_) => Put::Added,
+                    Err(_) => Put::Refused,
+                }
+            }
+            Step::Below | Step::Above => match replaced(alloc, kind, width, key, value) {
+                Ok(_) => Put::Added,
+                Err(_) => Put::Refused,
+            },
         },
-        _ => into_childless(alloc, kind, width, key, value),
+        _ => put_in_childless::<V, P>(alloc, kind, width, key, value),
     }
-}
-
-// The same for a node without children.
-#[inline(always)]
-pub(crate) fn into_childless<V: Words + Drop>(
-    alloc: Global,
-    kind: &mut KindOf<V>,
-    width: u8,
-    key: u64,
-    value: u64,
-) -> Result<bool, AllocError>
-    requires one { V.WORDS ≤ 1 }
-    requires level { IsLevel V.WORDS kind.old }
-    requires child { IsChild V.WORDS width (tree_of V.WORDS kind.old) }
-    requires childless { IsChildless kind.old }
-    requires fits { key < 256 ^ width }
-    requires no_value { V.WORDS ≡ 0 → value ≡ 0 }
-    requires room { has_key key (tree_of V.WORDS kind.old) ≡ false
-        → length (tree_of V.WORDS kind.old).pairs < 2 ^ 64 - 1 }
-    ensures level { IsLevel V.WORDS kind.new }
-    ensures child { IsChild V.WORDS width (tree_of V.WORDS kind.new) }
-    ensures inserted { IsInserted key value (tree_of V.WORDS kind.old)
-        (tree_of V.WORDS kind.new) result }
-{
-    match kind {
-        KindOf::Imm(head, word) => {
-            let (head, word) = (head.number(), *word);
-            into_immediate(alloc, kind, head, word, width, key, value)
-        }
-        KindOf::Leaf(count, block) => {
-            if usize::from(*count) < LEAF_ROOM {
-                into_leaf::<V>(alloc, count, block, width, key, value)
-            } else {
-                replaced(alloc, kind, width, key, value)
-            }
-        }
-        KindOf::Bit(head, block) => {
-            if without_low(key, 1) == head.number() {
-                into_bitmap::<V>(alloc, head, block, width, key, value)
-            } else {
-                replaced(alloc, kind, width, key, value)
-            }
-        }
-        KindOf::Branch(_) => unreachable!(),
-    }
-}
-
-// The same for a node in which the key has no room, so that one of another kind takes its place.
-pub(crate) fn replaced<V: Words + Drop>(
-    alloc: Global,
-    kind: &mut KindOf<V>,
-    width: u8,
-    key: u64,
-    value: u64,
-) -> Result<bool, AllocError>
-    requires one { V.WORDS ≤ 1 }
-    requires level { IsLevel V.WORDS kind.old }
-    requires child { IsChild V.WORDS width (tree_of V.WORDS kind.old) }
-    requires past { IsPast key kind.old }
-    requires fits { key < 256 ^ width }
-    requires no_value { V.WORDS ≡ 0 → value ≡ 0 }
-    requires room { has_key key (tree_of V.WORDS kind.old) ≡ false
-        → length (tree_of V.WORDS kind.old).pairs < 2 ^ 64 - 1 }
-    ensures level { IsLevel V.WORDS kind.new }
-    ensures child { IsChild V.WORDS width (tree_of V.WORDS kind.new) }
-    ensures inserted { IsInserted key value (tree_of V.WORDS kind.old)
-        (tree_of V.WORDS kind.new) result }
-{
-    let old = mem::replace(kind, KindOf::Imm(Head::new(0), 0));
-    let (new, answer) = replacement(alloc, old, width, key, value);
-    *kind = new;
-    answer
-}
-
-// The same for such a node taken out of its place.
-fn replacement<V: Words + Drop>(
-    alloc: Global,
-    kind: KindOf<V>,
-    width: u8,
-    key: u64,
-    value: u64,
-) -> (KindOf<V>, Result<bool, AllocError>)
-    requires one { V.WORDS ≤ 1 }
-    requires level { IsLevel V.WORDS kind }
-    requires child { IsChild V.WORDS width (tree_of V.WORDS kind) }
-    requires past { IsPast key kind }
-    requires fits { key < 256 ^ width }
-    requires no_value { V.WORDS ≡ 0 → value ≡ 0 }
-    requires room { has_key key (tree_of V.WORDS kind) ≡ false
-        → length (tree_of V.WORDS kind).pairs < 2 ^ 64 - 1 }
-    ensures level { IsLevel V.WORDS result.0 }
-    ensures child { IsChild V.WORDS width (tree_of V.WORDS result.0) }
-    ensures inserted { IsInserted key value (tree_of V.WORDS kind)
-        (tree_of V.WORDS result.0) result.1 }
-{
-    match kind {
-        KindOf::Imm(_, _) => unreachable!(),
-        KindOf::Leaf(count, block) => into_full_leaf(alloc, count, block, width, key, value),
-        KindOf::Bit(head, block) => past_bit(alloc, head, block, width, key, value),
-        KindOf::Branch(branch) => past_branch(alloc, branch, key, value),
-    }
-}
-
-// Puts a key with its value beside a bitmap leaf that skips other bytes than the key begins with.
-fn past_bit<V: Words + Drop>(
-    alloc: Global,
-    head: Head,
-    block: Block,
-    width: u8,
-    key: u64,
-    value: u64,
-) -> (KindOf<V>, Result<bool, AllocError>)
-    requires one { V.WORDS ≤ 1 }
-    requires level { IsBit V.WORDS head block }
-    requires child { IsChild V.WORDS width (bit_tree V.WORDS head block) }
-    requires fits { key < 256 ^ width }
-    requires apart { key / 256 ≢ head }
-    requires no_value { V.WORDS ≡ 0 → value ≡ 0 }
-    requires room { has_key key (bit_tree V.WORDS head block) ≡ false
-        → length (bit_tree V.WORDS head block).pairs < 2 ^ 64 - 1 }
-    ensures level { IsLevel V.WORDS result.0 }
-    ensures child { IsChild V.WORDS width (tree_of V.WORDS result.0) }
-    ensures inserted { IsInserted key value (bit_tree V.WORDS head block)
-        (tree_of V.WORDS result.0) result.1 }
-{
-    let skipped = Skipped {
-        number: head.number(),
-        count: width - 1,
-        tail: 1,
-    };
-    split(alloc, KindOf::Bit(head, block), skipped, key, value)
-}
-
-// Puts a key with its value beside a branch that skips other bytes than the key begins with.
-fn past_branch<V: Words + Drop>(
-    alloc: Global,
-    branch: Box<BranchOf<V>>,
-    key: u64,
-    value: u64,
-) -> (KindOf<V>, Result<bool, AllocError>)
-    requires one { V.WORDS ≤ 1 }
-    requires level { IsWholeBranch V.WORDS branch.value }
-    requires sums { AreSums branch.value.sums branch.value.children.items }
-    requires fits { key < 256 ^ width_of branch.value }
-    requires apart { key / 256 ^ (1 + branch.value.width) ≢ number_of branch.value.skip }
-    requires no_value { V.WORDS ≡ 0 → value ≡ 0 }
-    requires room { has_key key (tree_below branch.value) ≡ false
-        → branch.value.population < 2 ^ 64 - 1 }
-    ensures level { IsLevel V.WORDS result.0 }
-    ensures child { IsChild V.WORDS (width_of branch.value) (tree_of V.WORDS result.0) }
-    ensures inserted { IsInserted key value (tree_below branch.value)
-        (tree_of V.WORDS result.0) result.1 }
-{
-    let skipped = Skipped {
-        number: branch.skip.number(),
-        count: branch.skip.len() as u8,
-        tail: 1 + branch.width,
-    };
-    split(alloc, KindOf::Branch(branch), skipped, key, value)
 }
 
 // The same for the child of a branch at a place, whose byte is given with what is left of the key.
-#[cycle(insert)]
-fn into_child<V: Words + Drop>(
+#[cycle(put)]
+fn put_in_child<V: Words + Drop, P: Present>(
     alloc: Global,
     branch: &mut BranchOf<V>,
     byte: u8,
     place: usize,
     rest: u64,
     value: u64,
-) -> Result<bool, AllocError>
+) -> Put
     requires one { V.WORDS ≤ 1 }
+    requires words { P.REPLACES ≡ true → V.WORDS ≡ 1 }
     requires level { IsWholeBranch V.WORDS branch.old }
     requires sums { AreSums branch.old.sums branch.old.children.items }
     requires here { slice_get branch.old.bytes place ≡ Some byte }
@@ -254,24 +187,24 @@ fn into_child<V: Words + Drop>(
     ensures sums { AreSums branch.new.sums branch.new.children.items }
     ensures skip { branch.new.skip ≡ branch.old.skip }
     ensures width { branch.new.width ≡ branch.old.width }
-    ensures inserted { IsInserted
+    ensures put { IsPut P.REPLACES
         ((number_of branch.old.skip * 256 + byte) * 256 ^ branch.old.width + rest) value
         (tree_below branch.old)
         (tree_below branch.new) result }
 {
-    match insert_in(
+    match put_in::<V, P>(
         alloc,
         &mut branch.children[place],
         branch.width,
         rest,
         value,
     ) {
-        Ok(true) => {
+        Put::Added => {
             branch.population += 1;
             branch.sums.add(place);
-            Ok(true)
+            Put::Added
         }
-        Ok(false) => Ok(false),
-        Err(refused) => Err(refused),
+        Put::There(was) => Put::There(was),
+        Put::Refused => Put::Refused,
     }
 }

@@ -6,105 +6,117 @@ use Rattle.judy_node.specs.Steps.{IsStep}
 use Rattle.judy_node.specs.declared.step.Step.TheVariants.{Missing}
 use Rattle.judy_node.proofs.Counts.{branch_population}
 use Rattle.judy_change.specs.Inserted.{IsAdded, IsInserted}
-use Rattle.judy_change.specs.Exchanged.{IsExchanged}
 use Rattle.judy_node.specs.Branches.{tree_below}
 use Rattle.judy_change.proofs.InsertFacts.{still_child, missing_room, missing_absent, past_apart, apart_absent}
 use Rattle.judy_change.proofs.KidInserts.{place_within, kid_of, kid_within, kid_child, kid_has, kid_room, kid_same, kid_branch, kid_added, kid_spare, kid_grown}
-use Rattle.judy_change.proofs.GivenValues.{added_absent, kid_value, kid_over, kid_over_branch, kid_over_sums}
-use Rattle.judy_change.proofs.exchanges.+exchange.Goals as goal
+use Rattle.judy_change.proofs.GivenValues.{added_absent, kid_there_put, kid_there_branch, kid_there_sums}
+use Rattle.judy_change.proofs.way_down.+put.Goals as goal
 
-pub in_child-index_mut-requires : goal.in_child-index_mut-requires
-in_child-index_mut-requires g t c =
+pub put_in_child-index_mut-requires : goal.put_in_child-index_mut-requires
+put_in_child-index_mut-requires g t c =
     let b = c.args.branch.now in
     let within = place_within c.requires.level c.requires.here in
     let held = b.children.ok.0 in
     omega arith
 
-pub in_child-exchange_in-requires : goal.in_child-exchange_in-requires
-in_child-exchange_in-requires g t c κs within =
+pub put_in_child-put_in-requires : goal.put_in_child-put_in-requires
+put_in_child-put_in-requires g t c κs within =
     let kid = kid_of c.requires.level c.requires.fits c.requires.here c.index_mut.ensures.value in
     let falls = c.decreases in (
       omega arith,
       (
-        within,
+        within.0,
         (
-          omega arith,
-          (c.requires.words, (kid_child kid, (c.requires.fits, kid_room kid c.requires.room))),
+          within.1,
+          (
+            omega arith,
+            (
+              c.requires.one,
+              (
+                c.requires.words,
+                (
+                  kid_child kid,
+                  (c.requires.fits, (c.requires.no_value, kid_room kid c.requires.room)),
+                ),
+              ),
+            ),
+          ),
         ),
       ),
     )
 
-pub in_child-overflow_add-branch : goal.in_child-overflow_add-branch
-in_child-overflow_add-branch g t c =
+pub put_in_child-overflow_add-branch : goal.put_in_child-overflow_add-branch
+put_in_child-overflow_add-branch g t c =
     let kid = kid_of c.requires.level c.requires.fits c.requires.here c.index_mut.ensures.value in
-    let added = subst (λ answer. IsExchanged {E = AllocError} c.args.rest c.args.value c.index_mut.result.now c.exchange_in.new.child (Ok answer)) c.in-Ok-None.field-0-is c.in-Ok-None.ensures.exchanged in
-    let spare = kid_spare kid c.args.value c.exchange_in.new.child added c.requires.room in
+    let added = c.in-Added.ensures.put in
+    let spare = kid_spare kid c.args.value c.put_in.new.child added c.requires.room in
     omega arith
 
-pub in_child-add-requires : goal.in_child-add-requires
-in_child-add-requires g t c =
+pub put_in_child-add-requires : goal.put_in_child-add-requires
+put_in_child-add-requires g t c =
     let b = c.args.branch.now in
     let kid = kid_of c.requires.level c.requires.fits c.requires.here c.index_mut.ensures.value in
-    let added = subst (λ answer. IsExchanged {E = AllocError} c.args.rest c.args.value c.index_mut.result.now c.exchange_in.new.child (Ok answer)) c.in-Ok-None.field-0-is c.in-Ok-None.ensures.exchanged in
-    let spare = kid_spare kid c.args.value c.exchange_in.new.child added c.requires.room in
+    let added = c.in-Added.ensures.put in
+    let spare = kid_spare kid c.args.value c.put_in.new.child added c.requires.room in
     let all = branch_population g.V.Words.WORDS b.width b.skip b.bytes b.children.items b.population c.requires.level in
     (b.children.items, c.requires.sums, kid_within kid, subst (λ n. n < 18446744073709551615) all spare)
 
-pub in_child-returns-in-Ok-None : goal.in_child-returns-in-Ok-None
-in_child-returns-in-Ok-None g t c =
+pub put_in_child-returns-in-Added : goal.put_in_child-returns-in-Added
+put_in_child-returns-in-Added g t c =
     let kid = kid_of c.requires.level c.requires.fits c.requires.here c.index_mut.ensures.value in
-    let added = subst (λ answer. IsExchanged {E = AllocError} c.args.rest c.args.value c.index_mut.result.now c.exchange_in.new.child (Ok answer)) c.in-Ok-None.field-0-is c.in-Ok-None.ensures.exchanged in
+    let added = c.in-Added.ensures.put in
     let b = c.args.branch.now in
     record {
-      level = kid_branch kid c.args.value c.exchange_in.new.child added c.in-Ok-None.ensures.child;
-      sums = c.add.ensures b.children.items c.exchange_in.new.child c.requires.sums
-          (kid_within kid) (kid_grown kid c.args.value c.exchange_in.new.child added c.exchange_in.new.child);
+      level = kid_branch kid c.args.value c.put_in.new.child added c.in-Added.ensures.child;
+      sums = c.add.ensures b.children.items c.put_in.new.child c.requires.sums
+          (kid_within kid) (kid_grown kid c.args.value c.put_in.new.child added c.put_in.new.child);
       skip = refl;
       width = refl;
-      exchanged = kid_added kid c.args.value c.exchange_in.new.child added;
+      put = kid_added kid c.args.value c.put_in.new.child added;
     }
 
-pub in_child-returns-in-Ok-Some : goal.in_child-returns-in-Ok-Some
-in_child-returns-in-Ok-Some g t c =
+pub put_in_child-returns-in-There : goal.put_in_child-returns-in-There
+put_in_child-returns-in-There g t c =
+    let replaces = g.P.Present.REPLACES in
     let kid = kid_of c.requires.level c.requires.fits c.requires.here c.index_mut.ensures.value in
-    let over = subst (λ answer. IsExchanged {E = AllocError} c.args.rest c.args.value c.index_mut.result.now c.exchange_in.new.child (Ok answer)) c.in-Ok-Some.field-0-is c.in-Ok-Some.ensures.exchanged in
+    let there = c.in-There.ensures.put in
     let b = c.args.branch.now in
     record {
-      level = kid_over_branch kid c.requires.words c.args.value c.exchange_in.new.child over.1;
-      sums = kid_over_sums kid c.requires.words c.args.value c.exchange_in.new.child over.1 b.sums c.requires.sums;
+      level = kid_there_branch kid replaces c.requires.words c.args.value c.in-There.was c.put_in.new.child there;
+      sums = kid_there_sums kid replaces c.requires.words c.args.value c.in-There.was c.put_in.new.child there b.sums c.requires.sums;
       skip = refl;
       width = refl;
-      exchanged = (kid_value kid ∙ over.0, kid_over kid c.requires.words c.args.value c.exchange_in.new.child over.1);
+      put = kid_there_put kid replaces c.requires.words c.args.value c.in-There.was c.put_in.new.child there;
     }
 
-pub in_child-returns-in-Err-clause-exchanged : goal.in_child-returns-in-Err-clause-exchanged
-in_child-returns-in-Err-clause-exchanged g t c =
+pub put_in_child-returns-in-Refused-clause-put : goal.put_in_child-returns-in-Refused-clause-put
+put_in_child-returns-in-Refused-clause-put g t c =
     let kid = kid_of c.requires.level c.requires.fits c.requires.here c.index_mut.ensures.value in
-    let kept = c.in-Err.ensures.exchanged in
-    (kid_has kid ∙ kept.0, kid_same kid c.exchange_in.new.child kept.1)
+    let kept = c.in-Refused.ensures.put in
+    (kid_has kid ∙ kept.0, kid_same kid c.put_in.new.child kept.1)
 
-pub in_kind-put_child-requires-clause-room : goal.in_kind-put_child-requires-clause-room
-in_kind-put_child-requires-clause-room g t c =
+pub put_in_kind-put_child-requires-clause-room : goal.put_in_kind-put_child-requires-clause-room
+put_in_kind-put_child-requires-clause-room g t c =
     missing_room g.V.Words.WORDS c.args.key c.args.kind.now c.in-Branch.branch c.deref.result.now c.deref_mut-in-Missing.result.now c.in-Missing.byte c.in-Missing.place c.in-Missing.rest
     c.in-Branch.is c.requires.level c.deref.ensures c.in-Missing.ensures c.requires.room c.deref_mut-in-Missing.ensures.value
 
-pub in_kind-replaced-requires-clause-past : goal.in_kind-replaced-requires-clause-past
-in_kind-replaced-requires-clause-past g t c =
+pub put_in_kind-replaced-requires-clause-past : goal.put_in_kind-replaced-requires-clause-past
+put_in_kind-replaced-requires-clause-past g t c =
     past_apart g.V.Words.WORDS c.args.key c.in-Branch.branch.value (subst (IsLevel g.V.Words.WORDS) c.in-Branch.is c.requires.level).0
     c.step.result (subst (λ b. IsStep (256 ^ b.width) (number_of b.skip * 256) b.bytes c.args.key c.step.result) c.deref.ensures c.step.ensures) c.in-Below.is
 
-pub in_kind-returns-in-Child-clause-child : goal.in_kind-returns-in-Child-clause-child
-in_kind-returns-in-Child-clause-child g t c =
-    still_child g.V.Words.WORDS c.args.width c.args.kind.now c.in-Branch.branch c.deref_mut.result.now c.in_child.new.branch c.in-Branch.is c.requires.child c.deref_mut.ensures.value
-    c.in_child.ensures.skip c.in_child.ensures.width c.in_child.ensures.level
+pub put_in_kind-returns-in-Child-clause-child : goal.put_in_kind-returns-in-Child-clause-child
+put_in_kind-returns-in-Child-clause-child g t c =
+    still_child g.V.Words.WORDS c.args.width c.args.kind.now c.in-Branch.branch c.deref_mut.result.now c.put_in_child.new.branch c.in-Branch.is c.requires.child c.deref_mut.ensures.value
+    c.put_in_child.ensures.skip c.put_in_child.ensures.width c.put_in_child.ensures.level
 
-pub in_kind-returns-in-Ok-clause-child : goal.in_kind-returns-in-Ok-clause-child
-in_kind-returns-in-Ok-clause-child g t c =
+pub put_in_kind-returns-in-Ok-clause-child : goal.put_in_kind-returns-in-Ok-clause-child
+put_in_kind-returns-in-Ok-clause-child g t c =
     still_child g.V.Words.WORDS c.args.width c.args.kind.now c.in-Branch.branch c.deref_mut-in-Missing.result.now c.put_child.new.branch c.in-Branch.is c.requires.child c.deref_mut-in-Missing.ensures.value
     c.put_child.ensures.skip c.put_child.ensures.width c.put_child.ensures.level
 
-pub in_kind-returns-in-Ok-clause-exchanged : goal.in_kind-returns-in-Ok-clause-exchanged
-in_kind-returns-in-Ok-clause-exchanged g t c =
+pub put_in_kind-returns-in-Ok-clause-put : goal.put_in_kind-returns-in-Ok-clause-put
+put_in_kind-returns-in-Ok-clause-put g t c =
     let words = g.V.Words.WORDS in
     let branch = c.in-Branch.branch.value in
     let level = (subst (IsLevel words) c.in-Branch.is c.requires.level).0 in
@@ -115,8 +127,8 @@ in_kind-returns-in-Ok-clause-exchanged g t c =
     let whole = subst (λ k. IsInserted {E = AllocError} k c.args.value (tree_below branch) (tree_below n) (Ok c.in-Ok.field-0)) (sym step.0.key_is) here in
     subst (λ k. IsAdded c.args.key c.args.value (tree_of words k) (tree_below n)) (sym c.in-Branch.is) (added_absent AllocError c.args.key c.args.value (tree_below branch) (tree_below n) c.in-Ok.field-0 absent whole)
 
-pub in_kind-returns-in-Ok-replaced-clause-exchanged : goal.in_kind-returns-in-Ok-replaced-clause-exchanged
-in_kind-returns-in-Ok-replaced-clause-exchanged g t c =
+pub put_in_kind-returns-in-Ok-replaced-clause-put : goal.put_in_kind-returns-in-Ok-replaced-clause-put
+put_in_kind-returns-in-Ok-replaced-clause-put g t c =
     let words = g.V.Words.WORDS in
     let branch = c.in-Branch.branch.value in
     let level = (subst (IsLevel words) c.in-Branch.is c.requires.level).0 in

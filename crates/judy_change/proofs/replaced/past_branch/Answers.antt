@@ -4,7 +4,7 @@ use Rattle.judy_node.specs.Branches.{tree_below}
 use Rattle.judy_node.proofs.Shaped.{branch-child}
 use Rattle.judy_change.specs.Removals.{width_of}
 use Rattle.judy_change.proofs.InsertFacts.{apart_absent}
-use Rattle.judy_change.proofs.way_down.past_branch.Goals as goal
+use Rattle.judy_change.proofs.replaced.past_branch.Goals as goal
 
 pub split-requires-clause-child : goal.split-requires-clause-child
 split-requires-clause-child g c =

@@ -1,5 +1,5 @@
 use Rattle.judy_change.proofs.InsertFacts.{bit_absent}
-use Rattle.judy_change.proofs.way_down.past_bit.Goals as goal
+use Rattle.judy_change.proofs.replaced.past_bit.Goals as goal
 
 pub split-requires-clause-absent : goal.split-requires-clause-absent
 split-requires-clause-absent g c = bit_absent g.V.Words.WORDS c.args.head c.args.key c.args.block c.requires.apart

@@ -7,7 +7,7 @@ use Rattle.judy_node.specs.Seats.{HasSeat, kind_written, value_at}
 use Rattle.judy_node.proofs.SeatFacts.{kind-level, kind-tree, kind-value, kind-seat, child-narrow, bit-none, bit-seat}
 use Rattle.judy_change.specs.Inserted.{has_key}
 use Rattle.judy_change.proofs.GivenValues.{there_valued, bit_front, leaf_spot, bit_spot}
-use Rattle.judy_change.proofs.exchanges.overwrite.Goals as goal
+use Rattle.judy_change.proofs.childless.overwrite.Goals as goal
 
 pub slot-requires : goal.slot-requires
 slot-requires g c =
