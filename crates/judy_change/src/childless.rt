@@ -11,40 +11,38 @@ ghost use Rattle.judy_change.specs.Put.{IsPut};
 use crate::bitmaps::into_bitmap;
 use crate::immediates::into_immediate;
 use crate::leaves::into_leaf;
+use crate::pair::{Inserted, Pair};
 use crate::present::{Present, Put};
 use crate::replaced::replaced;
 use judy_bits::without_low;
 use judy_leaf::{BIT_WORDS, BitRef, LEAF_ROOM, LeafRef, Words};
 use judy_node::KindOf;
-use std::alloc::{AllocError, Global};
 use std::mem;
 
 // Puts a key with its value into a node without children, whose keys have `width` bytes.
 #[inline(always)]
 pub(crate) fn put_in_childless<V: Words + Drop, P: Present>(
-    alloc: Global,
     kind: &mut KindOf<V>,
     width: u8,
-    key: u64,
-    value: u64,
+    pair: Pair,
 ) -> Put
     requires one { V.WORDS ≤ 1 }
     requires words { P.REPLACES ≡ true → V.WORDS ≡ 1 }
     requires level { IsLevel V.WORDS kind.old }
     requires child { IsChild V.WORDS width (tree_of V.WORDS kind.old) }
     requires childless { IsChildless kind.old }
-    requires fits { key < 256 ^ width }
-    requires no_value { V.WORDS ≡ 0 → value ≡ 0 }
-    requires room { has_key key (tree_of V.WORDS kind.old) ≡ false
+    requires fits { pair.key < 256 ^ width }
+    requires no_value { V.WORDS ≡ 0 → pair.value ≡ 0 }
+    requires room { has_key pair.key (tree_of V.WORDS kind.old) ≡ false
         → length (tree_of V.WORDS kind.old).pairs < 2 ^ 64 - 1 }
     ensures level { IsLevel V.WORDS kind.new }
     ensures child { IsChild V.WORDS width (tree_of V.WORDS kind.new) }
-    ensures put { IsPut P.REPLACES key value (tree_of V.WORDS kind.old)
+    ensures put { IsPut P.REPLACES pair.key pair.value (tree_of V.WORDS kind.old)
         (tree_of V.WORDS kind.new) result }
 {
-    match into_childless(alloc, kind, width, key, value) {
+    match into_childless(kind, width, pair) {
         Ok(true) => Put::Added,
-        Ok(false) if P::REPLACES => Put::There(overwrite(kind, width, key, value)),
+        Ok(false) if P::REPLACES => Put::There(overwrite(kind, width, pair.key, pair.value)),
         Ok(false) => Put::There(0),
         Err(_) => Put::Refused,
     }
@@ -52,43 +50,37 @@ pub(crate) fn put_in_childless<V: Words + Drop, P: Present>(
 
 // The same where a key that is there keeps its value. The answer is whether it was absent.
 #[inline(always)]
-fn into_childless<V: Words + Drop>(
-    alloc: Global,
-    kind: &mut KindOf<V>,
-    width: u8,
-    key: u64,
-    value: u64,
-) -> Result<bool, AllocError>
+fn into_childless<V: Words + Drop>(kind: &mut KindOf<V>, width: u8, pair: Pair) -> Inserted
     requires one { V.WORDS ≤ 1 }
     requires level { IsLevel V.WORDS kind.old }
     requires child { IsChild V.WORDS width (tree_of V.WORDS kind.old) }
     requires childless { IsChildless kind.old }
-    requires fits { key < 256 ^ width }
-    requires no_value { V.WORDS ≡ 0 → value ≡ 0 }
-    requires room { has_key key (tree_of V.WORDS kind.old) ≡ false
+    requires fits { pair.key < 256 ^ width }
+    requires no_value { V.WORDS ≡ 0 → pair.value ≡ 0 }
+    requires room { has_key pair.key (tree_of V.WORDS kind.old) ≡ false
         → length (tree_of V.WORDS kind.old).pairs < 2 ^ 64 - 1 }
     ensures level { IsLevel V.WORDS kind.new }
     ensures child { IsChild V.WORDS width (tree_of V.WORDS kind.new) }
-    ensures inserted { IsInserted key value (tree_of V.WORDS kind.old)
+    ensures inserted { IsInserted pair.key pair.value (tree_of V.WORDS kind.old)
         (tree_of V.WORDS kind.new) result }
 {
     match kind {
         KindOf::Imm(head, word) => {
             let (head, word) = (head.number(), *word);
-            into_immediate(alloc, kind, head, word, width, key, value)
+            into_immediate(kind, head, word, width, pair)
         }
         KindOf::Leaf(count, block) => {
             if usize::from(*count) < LEAF_ROOM {
-                into_leaf::<V>(alloc, count, block, width, key, value)
+                into_leaf::<V>(count, block, width, pair)
             } else {
-                replaced(alloc, kind, width, key, value)
+                replaced(kind, width, pair)
             }
         }
         KindOf::Bit(head, block) => {
-            if without_low(key, 1) == head.number() {
-                into_bitmap::<V>(alloc, head, block, width, key, value)
+            if without_low(pair.key, 1) == head.number() {
+                into_bitmap::<V>(head, block, width, pair)
             } else {
-                replaced(alloc, kind, width, key, value)
+                replaced(kind, width, pair)
             }
         }
         KindOf::Branch(_) => unreachable!(),

@@ -10,9 +10,10 @@ ghost use Rattle.judy_node.specs.Built.{IsBuilt};
 ghost use Rattle.judy_change.specs.Inserted.{IsInserted};
 
 use crate::gap::{in_order, put_at};
+use crate::pair::{Inserted, Pair};
 use judy_leaf::{ImmOf, Room, Words};
 use judy_node::{Head, KindOf, imm_of, kind_of_sorted, leaf_of_two};
-use std::alloc::{AllocError, Global};
+use std::alloc::AllocError;
 
 // The node of an immediate whose keys have no values.
 pub(crate) fn keys_kind<V: Words + Drop>(imm: ImmOf<V>) -> KindOf<V>
@@ -32,32 +33,30 @@ pub(crate) fn keys_kind<V: Words + Drop>(imm: ImmOf<V>) -> KindOf<V>
 // place. The error is want of memory for the leaf; the immediate stays then.
 #[inline(always)]
 pub(crate) fn into_immediate<V: Words + Drop>(
-    alloc: Global,
     kind: &mut KindOf<V>,
     head: u64,
     word: u64,
     width: u8,
-    key: u64,
-    value: u64,
-) -> Result<bool, AllocError>
+    pair: Pair,
+) -> Inserted
     requires one { V.WORDS ≤ 1 }
     requires level { IsLevel V.WORDS kind.old }
     requires here { tree_of V.WORDS kind.old ≡ imm_tree V.WORDS head word }
     requires immediate { IsImm V.WORDS head word }
     requires child { IsChild V.WORDS width (imm_tree V.WORDS head word) }
-    requires fits { key < 256 ^ width }
-    requires no_value { V.WORDS ≡ 0 → value ≡ 0 }
+    requires fits { pair.key < 256 ^ width }
+    requires no_value { V.WORDS ≡ 0 → pair.value ≡ 0 }
     ensures level { IsLevel V.WORDS kind.new }
     ensures child { IsChild V.WORDS width (tree_of V.WORDS kind.new) }
-    ensures inserted { IsInserted key value (imm_tree V.WORDS head word)
+    ensures inserted { IsInserted pair.key pair.value (imm_tree V.WORDS head word)
         (tree_of V.WORDS kind.new) result }
 {
     let mut imm = imm_of::<V>(width, head, word);
-    if imm.find(key).is_some() {
+    if imm.find(pair.key).is_some() {
         return Ok(false);
     }
     if imm.is_full() {
-        return match past_immediate(alloc, &imm, width, key, value) {
+        return match past_immediate(&imm, width, pair) {
             Ok(leaf) => {
                 *kind = leaf;
                 Ok(true)
@@ -65,7 +64,7 @@ pub(crate) fn into_immediate<V: Words + Drop>(
             Err(refused) => Err(refused),
         };
     }
-    imm.insert_pair(key, value);
+    imm.insert_pair(pair.key, pair.value);
     *kind = keys_kind(imm);
     Ok(true)
 }
@@ -73,52 +72,54 @@ pub(crate) fn into_immediate<V: Words + Drop>(
 // The leaf of a full immediate's keys and one more. The error is want of memory. Mostly the immediate has one key.
 #[inline(always)]
 fn past_immediate<V: Words + Drop>(
-    alloc: Global,
     full: &ImmOf<V>,
     width: u8,
-    key: u64,
-    value: u64,
+    pair: Pair,
 ) -> Result<KindOf<V>, AllocError>
     requires one { V.WORDS ≤ 1 }
     requires full { length full.now.pairs ≡ imm_room V.WORDS width }
     requires wide { full.now.width ≡ width }
     requires map { IsMap V.WORDS 0 (256 ^ width) full.now.pairs }
-    requires absent { set.has (keys_of full.now.pairs) key ≡ false }
-    requires fits { key < 256 ^ width }
-    requires no_value { V.WORDS ≡ 0 → value ≡ 0 }
+    requires absent { set.has (keys_of full.now.pairs) pair.key ≡ false }
+    requires fits { pair.key < 256 ^ width }
+    requires no_value { V.WORDS ≡ 0 → pair.value ≡ 0 }
     ensures level { IfOk result (λ kind. IsLevel V.WORDS kind) }
     ensures built { IfOk result
-        (λ kind. IsBuilt V.WORDS width (with_pair key value full.now.pairs) (tree_of V.WORDS kind)) }
+        (λ kind. IsBuilt V.WORDS width (with_pair pair.key pair.value full.now.pairs)
+        (tree_of V.WORDS kind)) }
 {
     if full.len() != 1 {
-        return past_few(alloc, full, width, key, value);
+        return past_few(full, width, pair);
     }
-    let (low, high) = in_order((full.key_at(0), full.value_at(0)), (key, value));
-    leaf_of_two(alloc, width, low, high)
+    let (low, high) = in_order((full.key_at(0), full.value_at(0)), (pair.key, pair.value));
+    leaf_of_two(pair.alloc, width, low, high)
 }
 
 // The same where there may be more keys than one.
 fn past_few<V: Words + Drop>(
-    alloc: Global,
     full: &ImmOf<V>,
     width: u8,
-    key: u64,
-    value: u64,
+    pair: Pair,
 ) -> Result<KindOf<V>, AllocError>
     requires one { V.WORDS ≤ 1 }
     requires full { length full.now.pairs ≡ imm_room V.WORDS width }
     requires wide { full.now.width ≡ width }
     requires map { IsMap V.WORDS 0 (256 ^ width) full.now.pairs }
-    requires absent { set.has (keys_of full.now.pairs) key ≡ false }
-    requires fits { key < 256 ^ width }
-    requires no_value { V.WORDS ≡ 0 → value ≡ 0 }
+    requires absent { set.has (keys_of full.now.pairs) pair.key ≡ false }
+    requires fits { pair.key < 256 ^ width }
+    requires no_value { V.WORDS ≡ 0 → pair.value ≡ 0 }
     ensures level { IfOk result (λ kind. IsLevel V.WORDS kind) }
     ensures built { IfOk result
-        (λ kind. IsBuilt V.WORDS width (with_pair key value full.now.pairs) (tree_of V.WORDS kind)) }
+        (λ kind. IsBuilt V.WORDS width (with_pair pair.key pair.value full.now.pairs)
+        (tree_of V.WORDS kind)) }
 {
     let mut pairs = [(0, 0); 9];
     let count = full.len();
     full.fill(0, &mut pairs[..count]);
-    put_at(&mut pairs[..count + 1], full.rank(key), (key, value));
-    kind_of_sorted(alloc, width, &pairs[..count + 1], Room::Ample)
+    put_at(
+        &mut pairs[..count + 1],
+        full.rank(pair.key),
+        (pair.key, pair.value),
+    );
+    kind_of_sorted(pair.alloc, width, &pairs[..count + 1], Room::Ample)
 }

@@ -8,6 +8,7 @@ ghost use Rattle.judy_node.specs.contracts.node.NodeOf.{the_row};
 ghost use Rattle.judy_change.specs.Inserted.{has_key, IsInserted};
 ghost use Rattle.judy_change.specs.Exchanged.{IsExchanged};
 
+use crate::pair::Pair;
 use crate::present::{Kept, Put, Replaced};
 use crate::way_down::put_in_root;
 use judy_leaf::Words;
@@ -45,7 +46,7 @@ pub fn insert_with<V: Words + Drop>(
     ensures inserted { IsInserted key value node.old node.new result }
     ensures first { node.old.pairs ≡ [] → result ≡ Ok true }
 {
-    match put_in_root::<V, Kept>(alloc, node.place.kind_mut(), key, value) {
+    match put_in_root::<V, Kept>(node.place.kind_mut(), Pair { alloc, key, value }) {
         Put::Added => Ok(true),
         Put::There(_) => Ok(false),
         Put::Refused => Err(AllocError),
@@ -69,7 +70,7 @@ pub fn exchange<V: Words + Drop>(
     ensures exchanged { IsExchanged key value node.old node.new result }
     ensures first { node.old.pairs ≡ [] → result ≡ Ok None }
 {
-    match put_in_root::<V, Replaced>(alloc, node.place.kind_mut(), key, value) {
+    match put_in_root::<V, Replaced>(node.place.kind_mut(), Pair { alloc, key, value }) {
         Put::Added => Ok(None),
         Put::There(was) => Ok(Some(was)),
         Put::Refused => Err(AllocError),

@@ -11,10 +11,11 @@ ghost use Rattle.judy_change.specs.LeafTrees.{one_leaf};
 ghost use Rattle.judy_change.specs.Inserted.{IsInserted};
 
 use crate::gap::put_at;
+use crate::pair::{Inserted, Pair};
 use judy_block::Block;
 use judy_leaf::{LEAF_ROOM, LeafOf, LeafRef, Room, Words, put_in_leaf};
 use judy_node::{KindOf, kind_of_sorted};
-use std::alloc::{AllocError, Global};
+use std::alloc::AllocError;
 
 // The node of a leaf.
 pub(crate) fn leaf_kind<V: Words + Drop>(leaf: LeafOf<V>) -> KindOf<V>
@@ -29,26 +30,26 @@ pub(crate) fn leaf_kind<V: Words + Drop>(leaf: LeafOf<V>) -> KindOf<V>
 // Puts a key with its value into a leaf that isn't full, where the leaf stands. The error is want of memory; the leaf is unchanged then.
 #[inline(always)]
 pub(crate) fn into_leaf<V: Words + Drop>(
-    alloc: Global,
     count: &mut u8,
     block: &mut Block,
     width: u8,
-    key: u64,
-    value: u64,
-) -> Result<bool, AllocError>
+    pair: Pair,
+) -> Inserted
     requires level { IsLeaf V.WORDS count.old block.old }
     requires child { IsChild V.WORDS width (leaf_tree V.WORDS count.old block.old) }
     requires room { count.old < 32 }
-    requires fits { key < 256 ^ width }
-    requires no_value { V.WORDS ≡ 0 → value ≡ 0 }
+    requires fits { pair.key < 256 ^ width }
+    requires no_value { V.WORDS ≡ 0 → pair.value ≡ 0 }
     ensures level { IsLeaf V.WORDS count.new block.new }
     ensures child { IsChild V.WORDS width (leaf_tree V.WORDS count.new block.new) }
-    ensures inserted { IsInserted key value (leaf_tree V.WORDS count.old block.old)
+    ensures inserted { IsInserted pair.key pair.value (leaf_tree V.WORDS count.old block.old)
         (leaf_tree V.WORDS count.new block.new) result }
 {
-    match LeafRef::<V>::new(*count, width, block).search(key) {
+    match LeafRef::<V>::new(*count, width, block).search(pair.key) {
         Ok(_) => Ok(false),
-        Err(at) => match put_in_leaf::<V>(alloc, count, block, width, at, key, value) {
+        Err(at) => match put_in_leaf::<V>(
+            pair.alloc, count, block, width, at, pair.key, pair.value,
+        ) {
             Ok(()) => Ok(true),
             Err(refused) => Err(refused),
         },
@@ -57,29 +58,27 @@ pub(crate) fn into_leaf<V: Words + Drop>(
 
 // Puts a key with its value into a full leaf, whose place a larger node takes. Where memory is short, the leaf stays.
 pub(crate) fn into_full_leaf<V: Words + Drop>(
-    alloc: Global,
     count: u8,
     block: Block,
     width: u8,
-    key: u64,
-    value: u64,
-) -> (KindOf<V>, Result<bool, AllocError>)
+    pair: Pair,
+) -> (KindOf<V>, Inserted)
     requires one { V.WORDS ≤ 1 }
     requires level { IsLeaf V.WORDS count block }
     requires child { IsChild V.WORDS width (leaf_tree V.WORDS count block) }
     requires full { 32 ≤ count }
-    requires fits { key < 256 ^ width }
-    requires no_value { V.WORDS ≡ 0 → value ≡ 0 }
+    requires fits { pair.key < 256 ^ width }
+    requires no_value { V.WORDS ≡ 0 → pair.value ≡ 0 }
     ensures level { IsLevel V.WORDS result.0 }
     ensures child { IsChild V.WORDS width (tree_of V.WORDS result.0) }
-    ensures inserted { IsInserted key value (leaf_tree V.WORDS count block)
+    ensures inserted { IsInserted pair.key pair.value (leaf_tree V.WORDS count block)
         (tree_of V.WORDS result.0) result.1 }
 {
-    match LeafRef::<V>::new(count, width, &block).search(key) {
+    match LeafRef::<V>::new(count, width, &block).search(pair.key) {
         Ok(_) => (KindOf::Leaf(count, block), Ok(false)),
         Err(at) => {
             let full = LeafRef::<V>::new(count, width, &block);
-            match past_leaf(alloc, full, width, at, key, value) {
+            match past_leaf(full, width, at, pair) {
                 Ok(kind) => (kind, Ok(true)),
                 Err(refused) => (KindOf::Leaf(count, block), Err(refused)),
             }
@@ -92,27 +91,25 @@ const ONE_MORE: usize = LEAF_ROOM + 1;
 
 // The node of a full leaf's pairs and one more, whose key's place is given. The error is want of memory.
 fn past_leaf<V: Words + Drop>(
-    alloc: Global,
     full: LeafRef<'_, V>,
     width: u8,
     at: usize,
-    key: u64,
-    value: u64,
+    pair: Pair,
 ) -> Result<KindOf<V>, AllocError>
     requires one { V.WORDS ≤ 1 }
     requires full { length full.pairs ≡ 32 }
     requires child { IsChild V.WORDS width (one_leaf full) }
-    requires absent { set.has (keys_of full.pairs) key ≡ false }
-    requires place { at ≡ set.rank (keys_of full.pairs) key }
-    requires fits { key < 256 ^ width }
-    requires no_value { V.WORDS ≡ 0 → value ≡ 0 }
+    requires absent { set.has (keys_of full.pairs) pair.key ≡ false }
+    requires place { at ≡ set.rank (keys_of full.pairs) pair.key }
+    requires fits { pair.key < 256 ^ width }
+    requires no_value { V.WORDS ≡ 0 → pair.value ≡ 0 }
     ensures level { IfOk result (λ kind. IsLevel V.WORDS kind) }
     ensures built { IfOk result
-        (λ kind. IsBuilt V.WORDS width (with_pair key value full.entry.pairs)
+        (λ kind. IsBuilt V.WORDS width (with_pair pair.key pair.value full.entry.pairs)
         (tree_of V.WORDS kind)) }
 {
     let mut pairs = [(0, 0); ONE_MORE];
     full.fill(0, &mut pairs[..LEAF_ROOM]);
-    put_at(&mut pairs, at, (key, value));
-    kind_of_sorted(alloc, width, &pairs, Room::Ample)
+    put_at(&mut pairs, at, (pair.key, pair.value));
+    kind_of_sorted(pair.alloc, width, &pairs, Room::Ample)
 }

@@ -27,6 +27,7 @@ mod immediates;
 mod inserts;
 pub mod laws;
 mod leaves;
+mod pair;
 mod present;
 mod put;
 mod removals;

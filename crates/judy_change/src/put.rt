@@ -10,9 +10,10 @@ ghost use Rattle.judy_node.specs.Branches.{IsWholeBranch, tree_below};
 ghost use Rattle.judy_node.specs.Populations.{AreSums};
 ghost use Rattle.judy_change.specs.Inserted.{IsAdded, IsInserted};
 
+use crate::pair::{Inserted, Pair};
 use judy_leaf::Words;
 use judy_node::{BranchOf, ChildOf, immediate_of_one, make_room};
-use std::alloc::{AllocError, Global};
+use std::alloc::AllocError;
 
 // The node of one key with its value. It takes no memory.
 pub(crate) fn one_key<V: Words + Drop>(width: u8, key: u64, value: u64) -> ChildOf<V>
@@ -100,36 +101,34 @@ pub(crate) fn put_key<V: Words + Drop>(
 // The same, with room asked for first. The error is want of memory; the branch is the old one then. Where the last of 256 children comes,
 // they are summed, if there is memory for that too.
 pub(crate) fn put_child<V: Words + Drop>(
-    alloc: Global,
     branch: &mut BranchOf<V>,
     place: usize,
     byte: u8,
-    rest: u64,
-    value: u64,
-) -> Result<bool, AllocError>
+    pair: Pair,
+) -> Inserted
     requires one { V.WORDS ≤ 1 }
     requires level { IsWholeBranch V.WORDS branch.old }
     requires sums { AreSums branch.old.sums branch.old.children.items }
     requires absent { set.has branch.old.bytes byte ≡ false }
     requires place { place ≡ set.rank branch.old.bytes byte }
-    requires fits { rest < 256 ^ branch.old.width }
-    requires no_value { V.WORDS ≡ 0 → value ≡ 0 }
+    requires fits { pair.key < 256 ^ branch.old.width }
+    requires no_value { V.WORDS ≡ 0 → pair.value ≡ 0 }
     requires room { branch.old.population < 2 ^ 64 - 1 }
     ensures level { IsWholeBranch V.WORDS branch.new }
     ensures sums { AreSums branch.new.sums branch.new.children.items }
     ensures skip { branch.new.skip ≡ branch.old.skip }
     ensures width { branch.new.width ≡ branch.old.width }
     ensures inserted { IsInserted
-        ((number_of branch.old.skip * 256 + byte) * 256 ^ branch.old.width + rest) value
+        ((number_of branch.old.skip * 256 + byte) * 256 ^ branch.old.width + pair.key) pair.value
         (tree_below branch.old)
         (tree_below branch.new) result }
 {
     if make_room(&mut branch.children).is_err() {
         return Err(AllocError);
     }
-    put_key(branch, place, byte, rest, value);
+    put_key(branch, place, byte, pair.key, pair.value);
     if branch.children.len() == 256 {
-        branch.sums = branch.sums_of_children(alloc);
+        branch.sums = branch.sums_of_children(pair.alloc);
     }
     Ok(true)
 }

@@ -8,6 +8,7 @@ ghost use Rattle.judy_node.specs.Kinds.{tree_of, IsLevel};
 ghost use Rattle.judy_change.specs.Splits.{IsSkipping, IsShorter, IsAbove};
 ghost use Rattle.judy_change.specs.Inserted.{has_key, IsInserted};
 
+use crate::pair::{Inserted, Pair};
 use crate::put::{add_child, put_key};
 use judy_bits::{ByteSet, Skip, low_part, without_low};
 use judy_leaf::{Words, set_bit_width};
@@ -123,34 +124,38 @@ fn above<V: Words + Drop>(
 // Puts a key with its value into a node that skips other bytes than the key begins with: a branch for both takes its place. The error
 // is want of memory; the node stays then.
 pub(crate) fn split<V: Words + Drop>(
-    alloc: Global,
     kind: KindOf<V>,
     skipped: Skipped,
-    key: u64,
-    value: u64,
-) -> (KindOf<V>, Result<bool, AllocError>)
+    pair: Pair,
+) -> (KindOf<V>, Inserted)
     requires one { V.WORDS ≤ 1 }
     requires level { IsLevel V.WORDS kind }
     requires child { IsChild V.WORDS (skipped.count + skipped.tail) (tree_of V.WORDS kind) }
     requires skips { IsSkipping skipped.number skipped.count skipped.tail kind }
-    requires fits { key < 256 ^ (skipped.count + skipped.tail) }
-    requires apart { key / 256 ^ skipped.tail ≢ skipped.number }
-    requires absent { has_key key (tree_of V.WORDS kind) ≡ false }
-    requires no_value { V.WORDS ≡ 0 → value ≡ 0 }
+    requires fits { pair.key < 256 ^ (skipped.count + skipped.tail) }
+    requires apart { pair.key / 256 ^ skipped.tail ≢ skipped.number }
+    requires absent { has_key pair.key (tree_of V.WORDS kind) ≡ false }
+    requires no_value { V.WORDS ≡ 0 → pair.value ≡ 0 }
     requires room { length (tree_of V.WORDS kind).pairs < 2 ^ 64 - 1 }
     ensures level { IsLevel V.WORDS result.0 }
     ensures child { IsChild V.WORDS (skipped.count + skipped.tail) (tree_of V.WORDS result.0) }
-    ensures inserted { IsInserted key value (tree_of V.WORDS kind)
+    ensures inserted { IsInserted pair.key pair.value (tree_of V.WORDS kind)
         (tree_of V.WORDS result.0) result.1 }
 {
-    let other = without_low(key, usize::from(skipped.tail));
+    let other = without_low(pair.key, usize::from(skipped.tail));
     let left = left_of_apart(skipped.number, other, skipped.count);
     let width = usize::from(left) + usize::from(skipped.tail);
-    match above(alloc, kind, skipped, left) {
+    match above(pair.alloc, kind, skipped, left) {
         Ok(mut branch) => {
-            let byte = low_part(without_low(key, width), 1) as u8;
+            let byte = low_part(without_low(pair.key, width), 1) as u8;
             let place = branch.bytes.rank(byte);
-            put_key(&mut branch, place, byte, low_part(key, width), value);
+            put_key(
+                &mut branch,
+                place,
+                byte,
+                low_part(pair.key, width),
+                pair.value,
+            );
             (KindOf::Branch(branch), Ok(true))
         }
         Err(kind) => (kind, Err(AllocError)),

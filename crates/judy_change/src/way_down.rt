@@ -13,65 +13,56 @@ ghost use Rattle.judy_change.specs.Put.{IsPut};
 
 use crate::childless::put_in_childless;
 use crate::gap::in_order;
+use crate::pair::Pair;
 use crate::present::{Present, Put};
 use crate::put::put_child;
 use crate::replaced::replaced;
 use judy_leaf::Words;
 use judy_node::{BranchOf, ChildOf, KindOf, RootOf, Step, leaf_of_two};
-use std::alloc::Global;
 
 // Puts a key with its value into a root, which is changed where it stands.
 #[inline(always)]
-pub(crate) fn put_in_root<V: Words + Drop, P: Present>(
-    alloc: Global,
-    root: &mut RootOf<V>,
-    key: u64,
-    value: u64,
-) -> Put
+pub(crate) fn put_in_root<V: Words + Drop, P: Present>(root: &mut RootOf<V>, pair: Pair) -> Put
     requires one { V.WORDS ≤ 1 }
     requires words { P.REPLACES ≡ true → V.WORDS ≡ 1 }
     requires root { IsRoot V.WORDS root.old }
-    requires no_value { V.WORDS ≡ 0 → value ≡ 0 }
-    requires room { has_key key (root_tree root.old) ≡ false
+    requires no_value { V.WORDS ≡ 0 → pair.value ≡ 0 }
+    requires room { has_key pair.key (root_tree root.old) ≡ false
         → length (root_tree root.old).pairs < 2 ^ 64 - 1 }
     ensures root { IsRoot V.WORDS root.new }
-    ensures put { IsPut P.REPLACES key value (root_tree root.old) (root_tree root.new) result }
+    ensures put { IsPut P.REPLACES pair.key pair.value (root_tree root.old)
+        (root_tree root.new) result }
     ensures first { (root_tree root.old).pairs ≡ [] → result ≡ Added }
 {
     match root {
         RootOf::Empty => {
-            *root = RootOf::One(key, value);
+            *root = RootOf::One(pair.key, pair.value);
             Put::Added
         }
         RootOf::One(only, there) => {
-            let (new, answer) = beside_one::<V, P>(alloc, *only, *there, key, value);
+            let (new, answer) = beside_one::<V, P>(*only, *there, pair);
             *root = new;
             answer
         }
-        RootOf::Many(child) => put_in_many::<V, P>(alloc, child, key, value),
+        RootOf::Many(child) => put_in_many::<V, P>(child, pair),
     }
 }
 
 // Beside the one pair of a root.
-fn beside_one<V: Words + Drop, P: Present>(
-    alloc: Global,
-    only: u64,
-    there: u64,
-    key: u64,
-    value: u64,
-) -> (RootOf<V>, Put)
+fn beside_one<V: Words + Drop, P: Present>(only: u64, there: u64, pair: Pair) -> (RootOf<V>, Put)
     requires one { V.WORDS ≤ 1 }
     requires words { P.REPLACES ≡ true → V.WORDS ≡ 1 }
-    requires no_value { V.WORDS ≡ 0 → (there ≡ 0) × (value ≡ 0) }
+    requires no_value { V.WORDS ≡ 0 → (there ≡ 0) × (pair.value ≡ 0) }
     ensures root { IsRoot V.WORDS result.0 }
-    ensures put { IsPut P.REPLACES key value (one_tree only there) (root_tree result.0) result.1 }
+    ensures put { IsPut P.REPLACES pair.key pair.value (one_tree only there)
+        (root_tree result.0) result.1 }
 {
-    if only == key {
-        let left = if P::REPLACES { value } else { there };
+    if only == pair.key {
+        let left = if P::REPLACES { pair.value } else { there };
         return (RootOf::One(only, left), Put::There(there));
     }
-    let (low, high) = in_order((only, there), (key, value));
-    match leaf_of_two(alloc, 8, low, high) {
+    let (low, high) = in_order((only, there), (pair.key, pair.value));
+    match leaf_of_two(pair.alloc, 8, low, high) {
         Ok(kind) => (RootOf::Many(ChildOf::close(kind)), Put::Added),
         Err(_) => (RootOf::One(only, there), Put::Refused),
     }
@@ -79,126 +70,104 @@ fn beside_one<V: Words + Drop, P: Present>(
 
 // In the node below a root. In small arrays that is a leaf, and here the width of its keys is known when this is compiled.
 #[inline(always)]
-fn put_in_many<V: Words + Drop, P: Present>(
-    alloc: Global,
-    child: &mut ChildOf<V>,
-    key: u64,
-    value: u64,
-) -> Put
+fn put_in_many<V: Words + Drop, P: Present>(child: &mut ChildOf<V>, pair: Pair) -> Put
     requires one { V.WORDS ≤ 1 }
     requires words { P.REPLACES ≡ true → V.WORDS ≡ 1 }
     requires child { IsChild V.WORDS 8 child.old }
-    requires no_value { V.WORDS ≡ 0 → value ≡ 0 }
-    requires room { has_key key child.old ≡ false → length child.old.pairs < 2 ^ 64 - 1 }
+    requires no_value { V.WORDS ≡ 0 → pair.value ≡ 0 }
+    requires room { has_key pair.key child.old ≡ false → length child.old.pairs < 2 ^ 64 - 1 }
     ensures child { IsChild V.WORDS 8 child.new }
-    ensures put { IsPut P.REPLACES key value child.old child.new result }
+    ensures put { IsPut P.REPLACES pair.key pair.value child.old child.new result }
 {
     let kind = child.place.kind_mut();
     match kind {
-        KindOf::Leaf(_, _) => put_in_childless::<V, P>(alloc, kind, 8, key, value),
-        _ => put_in_kind::<V, P>(alloc, kind, 8, key, value),
+        KindOf::Leaf(_, _) => put_in_childless::<V, P>(kind, 8, pair),
+        _ => put_in_kind::<V, P>(kind, 8, pair),
     }
 }
 
 // Puts a key with its value into a node below the root, whose keys have `width` bytes.
 #[cycle(put)]
-fn put_in<V: Words + Drop, P: Present>(
-    alloc: Global,
-    child: &mut ChildOf<V>,
-    width: u8,
-    key: u64,
-    value: u64,
-) -> Put
+fn put_in<V: Words + Drop, P: Present>(child: &mut ChildOf<V>, width: u8, pair: Pair) -> Put
     requires one { V.WORDS ≤ 1 }
     requires words { P.REPLACES ≡ true → V.WORDS ≡ 1 }
     requires child { IsChild V.WORDS width child.old }
-    requires fits { key < 256 ^ width }
-    requires no_value { V.WORDS ≡ 0 → value ≡ 0 }
-    requires room { has_key key child.old ≡ false → length child.old.pairs < 2 ^ 64 - 1 }
+    requires fits { pair.key < 256 ^ width }
+    requires no_value { V.WORDS ≡ 0 → pair.value ≡ 0 }
+    requires room { has_key pair.key child.old ≡ false → length child.old.pairs < 2 ^ 64 - 1 }
     ensures child { IsChild V.WORDS width child.new }
-    ensures put { IsPut P.REPLACES key value child.old child.new result }
+    ensures put { IsPut P.REPLACES pair.key pair.value child.old child.new result }
 {
-    put_in_kind::<V, P>(alloc, child.place.kind_mut(), width, key, value)
+    put_in_kind::<V, P>(child.place.kind_mut(), width, pair)
 }
 
 // The same by the node's kind. A branch on the key's way and a leaf that stays a leaf are changed where they stand.
 #[cycle(put)]
-fn put_in_kind<V: Words + Drop, P: Present>(
-    alloc: Global,
-    kind: &mut KindOf<V>,
-    width: u8,
-    key: u64,
-    value: u64,
-) -> Put
+fn put_in_kind<V: Words + Drop, P: Present>(kind: &mut KindOf<V>, width: u8, pair: Pair) -> Put
     requires one { V.WORDS ≤ 1 }
     requires words { P.REPLACES ≡ true → V.WORDS ≡ 1 }
     requires level { IsLevel V.WORDS kind.old }
     requires child { IsChild V.WORDS width (tree_of V.WORDS kind.old) }
-    requires fits { key < 256 ^ width }
-    requires no_value { V.WORDS ≡ 0 → value ≡ 0 }
-    requires room { has_key key (tree_of V.WORDS kind.old) ≡ false
+    requires fits { pair.key < 256 ^ width }
+    requires no_value { V.WORDS ≡ 0 → pair.value ≡ 0 }
+    requires room { has_key pair.key (tree_of V.WORDS kind.old) ≡ false
         → length (tree_of V.WORDS kind.old).pairs < 2 ^ 64 - 1 }
     ensures level { IsLevel V.WORDS kind.new }
     ensures child { IsChild V.WORDS width (tree_of V.WORDS kind.new) }
-    ensures put { IsPut P.REPLACES key value (tree_of V.WORDS kind.old)
+    ensures put { IsPut P.REPLACES pair.key pair.value (tree_of V.WORDS kind.old)
         (tree_of V.WORDS kind.new) result }
 {
     match kind {
-        KindOf::Branch(branch) => match branch.step(key) {
+        KindOf::Branch(branch) => match branch.step(pair.key) {
             Step::Child(byte, place, rest) => put_in_child::<V, P>(
-                alloc, branch, byte, place, rest, value,
+                branch,
+                byte,
+                place,
+                Pair { key: rest, ..pair },
             ),
             Step::Missing(byte, place, rest) => {
-                match put_child(alloc, branch, place, byte, rest, value) {
+                match put_child(branch, place, byte, Pair { key: rest, ..pair }) {
                     Ok(_) => Put::Added,
                     Err(_) => Put::Refused,
                 }
             }
-            Step::Below | Step::Above => match replaced(alloc, kind, width, key, value) {
+            Step::Below | Step::Above => match replaced(kind, width, pair) {
                 Ok(_) => Put::Added,
                 Err(_) => Put::Refused,
             },
         },
-        _ => put_in_childless::<V, P>(alloc, kind, width, key, value),
+        _ => put_in_childless::<V, P>(kind, width, pair),
     }
 }
 
 // The same for the child of a branch at a place, whose byte is given with what is left of the key.
 #[cycle(put)]
 fn put_in_child<V: Words + Drop, P: Present>(
-    alloc: Global,
     branch: &mut BranchOf<V>,
     byte: u8,
     place: usize,
-    rest: u64,
-    value: u64,
+    pair: Pair,
 ) -> Put
     requires one { V.WORDS ≤ 1 }
     requires words { P.REPLACES ≡ true → V.WORDS ≡ 1 }
     requires level { IsWholeBranch V.WORDS branch.old }
     requires sums { AreSums branch.old.sums branch.old.children.items }
     requires here { slice_get branch.old.bytes place ≡ Some byte }
-    requires fits { rest < 256 ^ branch.old.width }
-    requires no_value { V.WORDS ≡ 0 → value ≡ 0 }
+    requires fits { pair.key < 256 ^ branch.old.width }
+    requires no_value { V.WORDS ≡ 0 → pair.value ≡ 0 }
     requires room { has_key
-        ((number_of branch.old.skip * 256 + byte) * 256 ^ branch.old.width + rest)
+        ((number_of branch.old.skip * 256 + byte) * 256 ^ branch.old.width + pair.key)
         (tree_below branch.old) ≡ false → branch.old.population < 2 ^ 64 - 1 }
     ensures level { IsWholeBranch V.WORDS branch.new }
     ensures sums { AreSums branch.new.sums branch.new.children.items }
     ensures skip { branch.new.skip ≡ branch.old.skip }
     ensures width { branch.new.width ≡ branch.old.width }
     ensures put { IsPut P.REPLACES
-        ((number_of branch.old.skip * 256 + byte) * 256 ^ branch.old.width + rest) value
+        ((number_of branch.old.skip * 256 + byte) * 256 ^ branch.old.width + pair.key) pair.value
         (tree_below branch.old)
         (tree_below branch.new) result }
 {
-    match put_in::<V, P>(
-        alloc,
-        &mut branch.children[place],
-        branch.width,
-        rest,
-        value,
-    ) {
+    match put_in::<V, P>(&mut branch.children[place], branch.width, pair) {
         Put::Added => {
             branch.population += 1;
             branch.sums.add(place);

@@ -12,9 +12,9 @@ returns-in-Ok-clause-inserted g c =
     let words = g.V.Words.WORDS in
     let old = imm_tree words c.args.head c.args.word in
     let seen = ap (λ l. l.pairs) c.imm_of-imm.ensures in
-    let absent = absent-find (keys_of old.pairs) c.args.key c.find.result (c.find.ensures ∙ ap (λ ps. place (keys_of ps) c.args.key) seen) (sym c.is_some.ensures ∙ c.if-is_some.false) in
-    more-added words c.args.width c.args.key c.args.value old c.requires.child absent c.requires.fits c.requires.no_value (with_pair c.args.key c.args.value c.imm_of-imm.result.pairs)
-    (ap (with_pair c.args.key c.args.value) seen) (tree_of words c.in-Ok.leaf) c.in-Ok.ensures.built
+    let absent = absent-find (keys_of old.pairs) c.args.pair.key c.find.result (c.find.ensures ∙ ap (λ ps. place (keys_of ps) c.args.pair.key) seen) (sym c.is_some.ensures ∙ c.if-is_some.false) in
+    more-added words c.args.width c.args.pair.key c.args.pair.value old c.requires.child absent c.requires.fits c.requires.no_value (with_pair c.args.pair.key c.args.pair.value c.imm_of-imm.result.pairs)
+    (ap (with_pair c.args.pair.key c.args.pair.value) seen) (tree_of words c.in-Ok.leaf) c.in-Ok.ensures.built
 
 pub insert_pair-requires-clause-room : goal.insert_pair-requires-clause-room
 insert_pair-requires-clause-room g c =
@@ -29,8 +29,8 @@ returns-clause-child g c =
     let words = g.V.Words.WORDS in
     let old = imm_tree words c.args.head c.args.word in
     let seen = ap (λ l. l.pairs) c.imm_of-imm.ensures in
-    let absent = absent-find (keys_of old.pairs) c.args.key c.find.result (c.find.ensures ∙ ap (λ ps. place (keys_of ps) c.args.key) seen) (sym c.is_some.ensures ∙ c.if-is_some.false) in
+    let absent = absent-find (keys_of old.pairs) c.args.pair.key c.find.result (c.find.ensures ∙ ap (λ ps. place (keys_of ps) c.args.pair.key) seen) (sym c.is_some.ensures ∙ c.if-is_some.false) in
     let made = c.keys_kind.ensures in
     let wide = made.width ∙ ap (λ l. l.width) c.insert_pair.ensures ∙ ap (λ l. l.width) c.imm_of-imm.ensures in
-    child-told words c.args.width c.args.key c.args.value old c.keys_kind.result c.requires.child made.level (λ _. wide)
-    (made.pairs ∙ ap (λ l. l.pairs) c.insert_pair.ensures ∙ ap (with_pair c.args.key c.args.value) seen) absent c.requires.fits c.requires.no_value
+    child-told words c.args.width c.args.pair.key c.args.pair.value old c.keys_kind.result c.requires.child made.level (λ _. wide)
+    (made.pairs ∙ ap (λ l. l.pairs) c.insert_pair.ensures ∙ ap (with_pair c.args.pair.key c.args.pair.value) seen) absent c.requires.fits c.requires.no_value

@@ -27,7 +27,7 @@ pub in_order-requires : goal.in_order-requires
 in_order-requires g c =
     let one = c.if-len-ne1.false in
     let counted = c.len.ensures.count in
-    apart c.args.full.now.pairs c.key_at.result c.args.key (omega arith) c.key_at.ensures c.requires.absent
+    apart c.args.full.now.pairs c.key_at.result c.args.pair.key (omega arith) c.key_at.ensures c.requires.absent
 
 pub leaf_of_two-requires-clause-below_low : goal.leaf_of_two-requires-clause-below_low
 leaf_of_two-requires-clause-below_low g c =
@@ -35,8 +35,8 @@ leaf_of_two-requires-clause-below_low g c =
     let one = c.if-len-ne1.false in
     let counted = c.len.ensures.count in
     let pairs : Pairs = c.in_order.result.0 ∷ c.in_order.result.1 ∷ [] in
-    let both = both_are list pairs c.args.key c.args.value c.key_at.result c.value_at.result (omega arith) c.key_at.ensures c.value_at.ensures c.in_order.ensures in
-    (more-map g.V.Words.WORDS c.args.width c.args.key c.args.value list c.requires.map c.requires.absent c.requires.fits c.requires.no_value pairs both).1
+    let both = both_are list pairs c.args.pair.key c.args.pair.value c.key_at.result c.value_at.result (omega arith) c.key_at.ensures c.value_at.ensures c.in_order.ensures in
+    (more-map g.V.Words.WORDS c.args.width c.args.pair.key c.args.pair.value list c.requires.map c.requires.absent c.requires.fits c.requires.no_value pairs both).1
 
 pub leaf_of_two-requires-clause-below_high : goal.leaf_of_two-requires-clause-below_high
 leaf_of_two-requires-clause-below_high g c =
@@ -44,8 +44,8 @@ leaf_of_two-requires-clause-below_high g c =
     let one = c.if-len-ne1.false in
     let counted = c.len.ensures.count in
     let pairs : Pairs = c.in_order.result.0 ∷ c.in_order.result.1 ∷ [] in
-    let both = both_are list pairs c.args.key c.args.value c.key_at.result c.value_at.result (omega arith) c.key_at.ensures c.value_at.ensures c.in_order.ensures in
-    (more-map g.V.Words.WORDS c.args.width c.args.key c.args.value list c.requires.map c.requires.absent c.requires.fits c.requires.no_value pairs both).3.1
+    let both = both_are list pairs c.args.pair.key c.args.pair.value c.key_at.result c.value_at.result (omega arith) c.key_at.ensures c.value_at.ensures c.in_order.ensures in
+    (more-map g.V.Words.WORDS c.args.width c.args.pair.key c.args.pair.value list c.requires.map c.requires.absent c.requires.fits c.requires.no_value pairs both).3.1
 
 pub leaf_of_two-requires-clause-map : goal.leaf_of_two-requires-clause-map
 leaf_of_two-requires-clause-map g c =
@@ -53,8 +53,8 @@ leaf_of_two-requires-clause-map g c =
     let one = c.if-len-ne1.false in
     let counted = c.len.ensures.count in
     let pairs : Pairs = c.in_order.result.0 ∷ c.in_order.result.1 ∷ [] in
-    let both = both_are list pairs c.args.key c.args.value c.key_at.result c.value_at.result (omega arith) c.key_at.ensures c.value_at.ensures c.in_order.ensures in
-    more-low g.V.Words.WORDS c.args.width c.args.key c.args.value list c.requires.map c.requires.absent c.requires.fits c.requires.no_value pairs both
+    let both = both_are list pairs c.args.pair.key c.args.pair.value c.key_at.result c.value_at.result (omega arith) c.key_at.ensures c.value_at.ensures c.in_order.ensures in
+    more-low g.V.Words.WORDS c.args.width c.args.pair.key c.args.pair.value list c.requires.map c.requires.absent c.requires.fits c.requires.no_value pairs both
 
 pub returns-clause-built : goal.returns-clause-built
 returns-clause-built g c =
@@ -62,5 +62,5 @@ returns-clause-built g c =
     let one = c.if-len-ne1.false in
     let counted = c.len.ensures.count in
     let pairs : Pairs = c.in_order.result.0 ∷ c.in_order.result.1 ∷ [] in
-    let both = both_are list pairs c.args.key c.args.value c.key_at.result c.value_at.result (omega arith) c.key_at.ensures c.value_at.ensures c.in_order.ensures in
+    let both = both_are list pairs c.args.pair.key c.args.pair.value c.key_at.result c.value_at.result (omega arith) c.key_at.ensures c.value_at.ensures c.in_order.ensures in
     subst (λ (ps : Pairs). IfOk c.leaf_of_two.result (λ kind. IsBuilt g.V.Words.WORDS c.args.width ps (tree_of g.V.Words.WORDS kind))) both c.leaf_of_two.ensures.built

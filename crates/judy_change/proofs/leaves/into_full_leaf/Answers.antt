@@ -20,6 +20,6 @@ returns-in-Ok-past_leaf-clause-inserted g c =
     let words = g.V.Words.WORDS in
     let old = leaf_tree words c.args.count c.args.block in
     let tree = tree_of words c.in-Ok-past_leaf.kind in
-    let absent : has (keys_of old.pairs) c.args.key ≡ false = ap (λ (l : KeyList). has (keys_of l.pairs) c.args.key) (sym c.new.ensures) ∙ c.in-Err.ensures.0 in
-    more-added words c.args.width c.args.key c.args.value old c.requires.child absent c.requires.fits c.requires.no_value (with_pair c.args.key c.args.value old.pairs) refl tree
-    (subst (λ (l : KeyList). IsBuilt words c.args.width (with_pair c.args.key c.args.value l.pairs) tree) c.new-full.ensures c.in-Ok-past_leaf.ensures.built)
+    let absent : has (keys_of old.pairs) c.args.pair.key ≡ false = ap (λ (l : KeyList). has (keys_of l.pairs) c.args.pair.key) (sym c.new.ensures) ∙ c.in-Err.ensures.0 in
+    more-added words c.args.width c.args.pair.key c.args.pair.value old c.requires.child absent c.requires.fits c.requires.no_value (with_pair c.args.pair.key c.args.pair.value old.pairs) refl tree
+    (subst (λ (l : KeyList). IsBuilt words c.args.width (with_pair c.args.pair.key c.args.pair.value l.pairs) tree) c.new-full.ensures c.in-Ok-past_leaf.ensures.built)

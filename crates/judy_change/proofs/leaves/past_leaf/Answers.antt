@@ -18,7 +18,7 @@ fill-requires-clause-fits g c =
 
 pub put_at-requires : goal.put_at-requires
 put_at-requires g c =
-    let most = rank-most c.args.key c.args.full.pairs in
+    let most = rank-most c.args.pair.key c.args.full.pairs in
     let place = c.requires.place in
     let full = c.requires.full in
     let filled = ap length c.fill.ensures in
@@ -29,10 +29,10 @@ put_at-requires g c =
 -- The pairs that the new node is made of.
 pub kind_of_sorted-requires-clause-map : goal.kind_of_sorted-requires-clause-map
 kind_of_sorted-requires-clause-map g c =
-    more-low g.V.Words.WORDS c.args.width c.args.key c.args.value c.args.full.pairs c.requires.child.map c.requires.absent c.requires.fits c.requires.no_value c.put_at.new.pairs
-    (filled c.fill.new.out c.args.full.pairs c.put_at.new.pairs c.args.key c.args.value c.args.at (0, 0) c.fill.ensures c.requires.place c.put_at.ensures)
+    more-low g.V.Words.WORDS c.args.width c.args.pair.key c.args.pair.value c.args.full.pairs c.requires.child.map c.requires.absent c.requires.fits c.requires.no_value c.put_at.new.pairs
+    (filled c.fill.new.out c.args.full.pairs c.put_at.new.pairs c.args.pair.key c.args.pair.value c.args.at (0, 0) c.fill.ensures c.requires.place c.put_at.ensures)
 
 pub returns-clause-built : goal.returns-clause-built
 returns-clause-built g c =
     subst (λ (ps : Pairs). IfOk c.kind_of_sorted.result (λ kind. IsBuilt g.V.Words.WORDS c.args.width ps (tree_of g.V.Words.WORDS kind)))
-    (filled c.fill.new.out c.args.full.pairs c.put_at.new.pairs c.args.key c.args.value c.args.at (0, 0) c.fill.ensures c.requires.place c.put_at.ensures) c.kind_of_sorted.ensures.built
+    (filled c.fill.new.out c.args.full.pairs c.put_at.new.pairs c.args.pair.key c.args.pair.value c.args.at (0, 0) c.fill.ensures c.requires.place c.put_at.ensures) c.kind_of_sorted.ensures.built

@@ -12,7 +12,7 @@ pub returns-then-is_err-clause-inserted : goal.returns-then-is_err-clause-insert
 returns-then-is_err-clause-inserted g c =
     let b = c.args.branch.now in
     let small : c.args.byte < 256 = omega (arith, c.ranges.byte) in (
-      gap_absent g.V.Words.WORDS b.width b.skip b.bytes b.children.items b.population c.requires.level c.args.byte c.args.rest c.requires.fits small c.requires.absent,
+      gap_absent g.V.Words.WORDS b.width b.skip b.bytes b.children.items b.population c.requires.level c.args.byte c.args.pair.key c.requires.fits small c.requires.absent,
       λ t. branch_tree b.width b.skip b.bytes (c.make_room.ensures.items t) b.population,
     )
 
@@ -30,14 +30,14 @@ pub returns-then-len-eq256-clause-inserted : goal.returns-then-len-eq256-clause-
 returns-then-len-eq256-clause-inserted g c =
     let b = c.args.branch.now in
     let n = c.put_key.new.branch in
-    subst (λ ks. IsAdded ((number_of b.skip * 256 + c.args.byte) * 256 ^ b.width + c.args.rest) c.args.value (branch_tree b.width b.skip b.bytes ks b.population) (branch_tree n.width n.skip n.bytes n.children.items n.population))
+    subst (λ ks. IsAdded ((number_of b.skip * 256 + c.args.byte) * 256 ^ b.width + c.args.pair.key) c.args.pair.value (branch_tree b.width b.skip b.bytes ks b.population) (branch_tree n.width n.skip n.bytes n.children.items n.population))
     c.make_room.ensures.items c.put_key.ensures.added
 
 pub returns-else-len-eq256-clause-inserted : goal.returns-else-len-eq256-clause-inserted
 returns-else-len-eq256-clause-inserted g c =
     let b = c.args.branch.now in
     let n = c.put_key.new.branch in
-    subst (λ ks. IsAdded ((number_of b.skip * 256 + c.args.byte) * 256 ^ b.width + c.args.rest) c.args.value (branch_tree b.width b.skip b.bytes ks b.population) (branch_tree n.width n.skip n.bytes n.children.items n.population))
+    subst (λ ks. IsAdded ((number_of b.skip * 256 + c.args.byte) * 256 ^ b.width + c.args.pair.key) c.args.pair.value (branch_tree b.width b.skip b.bytes ks b.population) (branch_tree n.width n.skip n.bytes n.children.items n.population))
     c.make_room.ensures.items c.put_key.ensures.added
 
 -- Fewer than all 256 children have no sums, so there are none of any others.

@@ -16,9 +16,9 @@ split-requires-clause-child g c =
 
 pub split-requires-clause-absent : goal.split-requires-clause-absent
 split-requires-clause-absent g c =
-    apart_absent g.V.Words.WORDS c.args.key c.args.branch.value c.requires.level c.requires.apart
+    apart_absent g.V.Words.WORDS c.args.pair.key c.args.branch.value c.requires.level c.requires.apart
 
 pub split-requires-clause-room : goal.split-requires-clause-room
 split-requires-clause-room g c =
-    let room = c.requires.room (apart_absent g.V.Words.WORDS c.args.key c.args.branch.value c.requires.level c.requires.apart) in
+    let room = c.requires.room (apart_absent g.V.Words.WORDS c.args.pair.key c.args.branch.value c.requires.level c.requires.apart) in
     subst (λ n. n < 18446744073709551615) c.requires.level.parts.counted room

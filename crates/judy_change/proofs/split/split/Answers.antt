@@ -19,7 +19,7 @@ left_of_apart-left-requires-clause-own g c = number_small g.V.Words.WORDS c.args
 
 pub left_of_apart-left-requires-clause-other : goal.left_of_apart-left-requires-clause-other
 left_of_apart-left-requires-clause-other g c =
-    other_small c.args.key c.args.skipped.count c.args.skipped.tail c.without_low-other.result c.requires.fits (c.without_low-other.ensures ∙ ap (λ n. c.args.key / 256 ^ n) c.from.ensures)
+    other_small c.args.pair.key c.args.skipped.count c.args.skipped.tail c.without_low-other.result c.requires.fits (c.without_low-other.ensures ∙ ap (λ n. c.args.pair.key / 256 ^ n) c.from.ensures)
 
 -- The branch above both, and what stands in the key behind the bytes that it skips.
 module _ (g : Over) (c : After-low_part g) where
@@ -35,17 +35,17 @@ module _ (g : Over) (c : After-low_part g) where
   abbrev left : ℕ
   left = c.left_of_apart-left.result
 
-  other_is : c.without_low-other.result ≡ c.args.key / 256 ^ tail
-  other_is = c.without_low-other.ensures ∙ ap (λ n. c.args.key / 256 ^ n) c.from.ensures
+  other_is : c.without_low-other.result ≡ c.args.pair.key / 256 ^ tail
+  other_is = c.without_low-other.ensures ∙ ap (λ n. c.args.pair.key / 256 ^ n) c.from.ensures
 
   width_is : c.from-2.result + c.from-3.result ≡ left + tail
   width_is = λ t. c.from-2.ensures t + c.from-3.ensures t
 
-  byte_is : c.low_part-byte.result ≡ c.args.key / 256 ^ (left + tail) % 256
-  byte_is = c.low_part-byte.ensures ∙ ap (λ n. n % 256) (c.without_low.ensures ∙ ap (λ n. c.args.key / 256 ^ n) width_is)
+  byte_is : c.low_part-byte.result ≡ c.args.pair.key / 256 ^ (left + tail) % 256
+  byte_is = c.low_part-byte.ensures ∙ ap (λ n. n % 256) (c.without_low.ensures ∙ ap (λ n. c.args.pair.key / 256 ^ n) width_is)
 
-  rest_is : c.low_part.result ≡ c.args.key % 256 ^ (left + tail)
-  rest_is = c.low_part.ensures ∙ ap (λ n. c.args.key % 256 ^ n) width_is
+  rest_is : c.low_part.result ≡ c.args.pair.key % 256 ^ (left + tail)
+  rest_is = c.low_part.ensures ∙ ap (λ n. c.args.pair.key % 256 ^ n) width_is
 
   above_is : IsAbove g.V.Words.WORDS number count tail left (tree_of g.V.Words.WORDS c.args.kind) c.deref_mut.result.now.width c.deref_mut.result.now.skip c.deref_mut.result.now.bytes c.deref_mut.result.now.children.items c.deref_mut.result.now.population
   above_is = subst (λ b. IsAbove g.V.Words.WORDS number count tail left (tree_of g.V.Words.WORDS c.args.kind) b.width b.skip b.bytes b.children.items b.population) (sym c.deref_mut.ensures.value) c.in-Ok.ensures.above
@@ -54,12 +54,12 @@ pub put_key-requires-clause-absent : goal.put_key-requires-clause-absent
 put_key-requires-clause-absent g c =
     let found = c.left_of_apart-left.ensures in
     (λ t. has ((above_is g c).bytes_are t) (byte_is g c t))
-    ∙ split_absent (number g c) (count g c) (tail g c) (left g c) c.args.key c.without_low-other.result c.requires.fits (other_is g c) found.within found.apart found.same
+    ∙ split_absent (number g c) (count g c) (tail g c) (left g c) c.args.pair.key c.without_low-other.result c.requires.fits (other_is g c) found.within found.apart found.same
 
 pub put_key-requires-clause-fits : goal.put_key-requires-clause-fits
 put_key-requires-clause-fits g c =
     let width = left g c + tail g c in
-    subst (λ w. c.low_part.result < 256 ^ w) (sym (above_is g c).width_is) (subst (λ n. n < 256 ^ width) (sym (rest_is g c)) (mod_below c.args.key (256 ^ width) (unit_pos width)))
+    subst (λ w. c.low_part.result < 256 ^ w) (sym (above_is g c).width_is) (subst (λ n. n < 256 ^ width) (sym (rest_is g c)) (mod_below c.args.pair.key (256 ^ width) (unit_pos width)))
 
 pub returns-in-Ok : goal.returns-in-Ok
 returns-in-Ok g c =
@@ -78,13 +78,13 @@ returns-in-Ok g c =
     let skip = ap length (c.put_key.ensures.skip ∙ above.skip_is) in
     let wide = c.put_key.ensures.width ∙ above.width_is in
     let e : length n.skip + 1 + n.width ≡ count + tail = omega arith in
-    let key_is : (number_of now.skip * 256 + c.low_part-byte.result) * 256 ^ now.width + c.low_part.result ≡ c.args.key =
+    let key_is : (number_of now.skip * 256 + c.low_part-byte.result) * 256 ^ now.width + c.low_part.result ≡ c.args.pair.key =
     (λ t. (number_of (above.skip_is t) * 256 + byte_is g at t) * 256 ^ above.width_is t + rest_is g at t)
-    ∙ split_key number count tail left c.args.key c.without_low-other.result c.requires.fits (other_is g at) found.within found.apart found.same in
+    ∙ split_key number count tail left c.args.pair.key c.without_low-other.result c.requires.fits (other_is g at) found.within found.apart found.same in
     record {
       level = (c.put_key.ensures.level, subst (λ s. AreSums s n.children.items) (sym (c.put_key.ensures.sums ∙ ap (λ b. b.sums) c.deref_mut.ensures.value)) (c.in-Ok.ensures.sums n.children.items));
       child = subst (λ w. IsChild words w (branch_tree n.width n.skip n.bytes n.children.items n.population)) e (branch-child words n.width n.skip n.bytes n.children.items n.population c.put_key.ensures.level);
       inserted = split_added words number count tail left (tree_of words c.args.kind) now.width now.skip now.bytes now.children.items now.population above
-          ((number_of now.skip * 256 + c.low_part-byte.result) * 256 ^ now.width + c.low_part.result) c.args.key c.args.value key_is
+          ((number_of now.skip * 256 + c.low_part-byte.result) * 256 ^ now.width + c.low_part.result) c.args.pair.key c.args.pair.value key_is
           n.width n.skip n.bytes n.children.items n.population c.put_key.ensures.added c.put_key.ensures.population c.put_key.ensures.wider c.put_key.ensures.loose;
     }

@@ -49,7 +49,7 @@ pub put_in_child-overflow_add-branch : goal.put_in_child-overflow_add-branch
 put_in_child-overflow_add-branch g t c =
     let kid = kid_of c.requires.level c.requires.fits c.requires.here c.index_mut.ensures.value in
     let added = c.in-Added.ensures.put in
-    let spare = kid_spare kid c.args.value c.put_in.new.child added c.requires.room in
+    let spare = kid_spare kid c.args.pair.value c.put_in.new.child added c.requires.room in
     omega arith
 
 pub put_in_child-add-requires : goal.put_in_child-add-requires
@@ -57,7 +57,7 @@ put_in_child-add-requires g t c =
     let b = c.args.branch.now in
     let kid = kid_of c.requires.level c.requires.fits c.requires.here c.index_mut.ensures.value in
     let added = c.in-Added.ensures.put in
-    let spare = kid_spare kid c.args.value c.put_in.new.child added c.requires.room in
+    let spare = kid_spare kid c.args.pair.value c.put_in.new.child added c.requires.room in
     let all = branch_population g.V.Words.WORDS b.width b.skip b.bytes b.children.items b.population c.requires.level in
     (b.children.items, c.requires.sums, kid_within kid, subst (λ n. n < 18446744073709551615) all spare)
 
@@ -67,12 +67,12 @@ put_in_child-returns-in-Added g t c =
     let added = c.in-Added.ensures.put in
     let b = c.args.branch.now in
     record {
-      level = kid_branch kid c.args.value c.put_in.new.child added c.in-Added.ensures.child;
+      level = kid_branch kid c.args.pair.value c.put_in.new.child added c.in-Added.ensures.child;
       sums = c.add.ensures b.children.items c.put_in.new.child c.requires.sums
-          (kid_within kid) (kid_grown kid c.args.value c.put_in.new.child added c.put_in.new.child);
+          (kid_within kid) (kid_grown kid c.args.pair.value c.put_in.new.child added c.put_in.new.child);
       skip = refl;
       width = refl;
-      put = kid_added kid c.args.value c.put_in.new.child added;
+      put = kid_added kid c.args.pair.value c.put_in.new.child added;
     }
 
 pub put_in_child-returns-in-There : goal.put_in_child-returns-in-There
@@ -82,11 +82,11 @@ put_in_child-returns-in-There g t c =
     let there = c.in-There.ensures.put in
     let b = c.args.branch.now in
     record {
-      level = kid_there_branch kid replaces c.requires.words c.args.value c.in-There.was c.put_in.new.child there;
-      sums = kid_there_sums kid replaces c.requires.words c.args.value c.in-There.was c.put_in.new.child there b.sums c.requires.sums;
+      level = kid_there_branch kid replaces c.requires.words c.args.pair.value c.in-There.was c.put_in.new.child there;
+      sums = kid_there_sums kid replaces c.requires.words c.args.pair.value c.in-There.was c.put_in.new.child there b.sums c.requires.sums;
       skip = refl;
       width = refl;
-      put = kid_there_put kid replaces c.requires.words c.args.value c.in-There.was c.put_in.new.child there;
+      put = kid_there_put kid replaces c.requires.words c.args.pair.value c.in-There.was c.put_in.new.child there;
     }
 
 pub put_in_child-returns-in-Refused-clause-put : goal.put_in_child-returns-in-Refused-clause-put
@@ -97,13 +97,13 @@ put_in_child-returns-in-Refused-clause-put g t c =
 
 pub put_in_kind-put_child-requires-clause-room : goal.put_in_kind-put_child-requires-clause-room
 put_in_kind-put_child-requires-clause-room g t c =
-    missing_room g.V.Words.WORDS c.args.key c.args.kind.now c.in-Branch.branch c.deref.result.now c.deref_mut-in-Missing.result.now c.in-Missing.byte c.in-Missing.place c.in-Missing.rest
+    missing_room g.V.Words.WORDS c.args.pair.key c.args.kind.now c.in-Branch.branch c.deref.result.now c.deref_mut-in-Missing.result.now c.in-Missing.byte c.in-Missing.place c.in-Missing.rest
     c.in-Branch.is c.requires.level c.deref.ensures c.in-Missing.ensures c.requires.room c.deref_mut-in-Missing.ensures.value
 
 pub put_in_kind-replaced-requires-clause-past : goal.put_in_kind-replaced-requires-clause-past
 put_in_kind-replaced-requires-clause-past g t c =
-    past_apart g.V.Words.WORDS c.args.key c.in-Branch.branch.value (subst (IsLevel g.V.Words.WORDS) c.in-Branch.is c.requires.level).0
-    c.step.result (subst (λ b. IsStep (256 ^ b.width) (number_of b.skip * 256) b.bytes c.args.key c.step.result) c.deref.ensures c.step.ensures) c.in-Below.is
+    past_apart g.V.Words.WORDS c.args.pair.key c.in-Branch.branch.value (subst (IsLevel g.V.Words.WORDS) c.in-Branch.is c.requires.level).0
+    c.step.result (subst (λ b. IsStep (256 ^ b.width) (number_of b.skip * 256) b.bytes c.args.pair.key c.step.result) c.deref.ensures c.step.ensures) c.in-Below.is
 
 pub put_in_kind-returns-in-Child-clause-child : goal.put_in_kind-returns-in-Child-clause-child
 put_in_kind-returns-in-Child-clause-child g t c =
@@ -120,18 +120,18 @@ put_in_kind-returns-in-Ok-clause-put g t c =
     let words = g.V.Words.WORDS in
     let branch = c.in-Branch.branch.value in
     let level = (subst (IsLevel words) c.in-Branch.is c.requires.level).0 in
-    let step = subst (λ b. IsStep (256 ^ b.width) (number_of b.skip * 256) b.bytes c.args.key (Missing c.in-Missing.byte c.in-Missing.place c.in-Missing.rest)) c.deref.ensures c.in-Missing.ensures in
-    let absent = missing_absent words c.args.key branch level c.in-Missing.byte c.in-Missing.place c.in-Missing.rest step in
+    let step = subst (λ b. IsStep (256 ^ b.width) (number_of b.skip * 256) b.bytes c.args.pair.key (Missing c.in-Missing.byte c.in-Missing.place c.in-Missing.rest)) c.deref.ensures c.in-Missing.ensures in
+    let absent = missing_absent words c.args.pair.key branch level c.in-Missing.byte c.in-Missing.place c.in-Missing.rest step in
     let n = c.put_child.new.branch in
-    let here = subst (λ b. IsInserted {E = AllocError} ((number_of b.skip * 256 + c.in-Missing.byte) * 256 ^ b.width + c.in-Missing.rest) c.args.value (tree_below b) (tree_below n) (Ok c.in-Ok.field-0)) c.deref_mut-in-Missing.ensures.value c.in-Ok.ensures.inserted in
-    let whole = subst (λ k. IsInserted {E = AllocError} k c.args.value (tree_below branch) (tree_below n) (Ok c.in-Ok.field-0)) (sym step.0.key_is) here in
-    subst (λ k. IsAdded c.args.key c.args.value (tree_of words k) (tree_below n)) (sym c.in-Branch.is) (added_absent AllocError c.args.key c.args.value (tree_below branch) (tree_below n) c.in-Ok.field-0 absent whole)
+    let here = subst (λ b. IsInserted {E = AllocError} ((number_of b.skip * 256 + c.in-Missing.byte) * 256 ^ b.width + c.in-Missing.rest) c.args.pair.value (tree_below b) (tree_below n) (Ok c.in-Ok.field-0)) c.deref_mut-in-Missing.ensures.value c.in-Ok.ensures.inserted in
+    let whole = subst (λ k. IsInserted {E = AllocError} k c.args.pair.value (tree_below branch) (tree_below n) (Ok c.in-Ok.field-0)) (sym step.0.key_is) here in
+    subst (λ k. IsAdded c.args.pair.key c.args.pair.value (tree_of words k) (tree_below n)) (sym c.in-Branch.is) (added_absent AllocError c.args.pair.key c.args.pair.value (tree_below branch) (tree_below n) c.in-Ok.field-0 absent whole)
 
 pub put_in_kind-returns-in-Ok-replaced-clause-put : goal.put_in_kind-returns-in-Ok-replaced-clause-put
 put_in_kind-returns-in-Ok-replaced-clause-put g t c =
     let words = g.V.Words.WORDS in
     let branch = c.in-Branch.branch.value in
     let level = (subst (IsLevel words) c.in-Branch.is c.requires.level).0 in
-    let past = past_apart words c.args.key branch level c.step.result (subst (λ b. IsStep (256 ^ b.width) (number_of b.skip * 256) b.bytes c.args.key c.step.result) c.deref.ensures c.step.ensures) c.in-Below.is in
-    subst (λ k. IsAdded c.args.key c.args.value (tree_of words k) (tree_of words c.replaced.new.kind)) (sym c.in-Branch.is)
-    (added_absent AllocError c.args.key c.args.value (tree_below branch) (tree_of words c.replaced.new.kind) c.in-Ok-replaced.field-0 (apart_absent words c.args.key branch level past) c.in-Ok-replaced.ensures.inserted)
+    let past = past_apart words c.args.pair.key branch level c.step.result (subst (λ b. IsStep (256 ^ b.width) (number_of b.skip * 256) b.bytes c.args.pair.key c.step.result) c.deref.ensures c.step.ensures) c.in-Below.is in
+    subst (λ k. IsAdded c.args.pair.key c.args.pair.value (tree_of words k) (tree_of words c.replaced.new.kind)) (sym c.in-Branch.is)
+    (added_absent AllocError c.args.pair.key c.args.pair.value (tree_below branch) (tree_of words c.replaced.new.kind) c.in-Ok-replaced.field-0 (apart_absent words c.args.pair.key branch level past) c.in-Ok-replaced.ensures.inserted)
