@@ -17,6 +17,13 @@ use judy_node::{BranchOf, ChildOf, KindOf, NodeOf, RootOf, Step, child_of_sorted
 use std::alloc::Global;
 use std::mem;
 
+// Sorted pairs that are to be put behind those of a tree, and where memory for them is asked.
+#[derive(Clone, Copy)]
+struct More<'a> {
+    alloc: Global,
+    pairs: &'a [(u64, u64)],
+}
+
 /// Puts the first of sorted pairs behind all pairs of a tree, as many as make one new node, and answers how many: all of them where the
 /// tree has no keys; else those whose keys go below one byte with the first key, where a branch on that key's way has no child for that
 /// byte and none for a greater one.
@@ -31,33 +38,30 @@ pub fn append<V: Words + Drop>(alloc: Global, node: &mut NodeOf<V>, pairs: &[(u6
     ensures { IsAppended result pairs.now node.old node.new }
 {
     let root = mem::replace(node, NodeOf::empty()).open();
-    let (root, count) = to_root(alloc, root, pairs);
+    let (root, count) = to_root(root, More { alloc, pairs });
     *node = NodeOf::close(root);
     count
 }
 
 // To a root taken out of its place.
-fn to_root<V: Words + Drop>(
-    alloc: Global,
-    root: RootOf<V>,
-    pairs: &[(u64, u64)],
-) -> (RootOf<V>, usize)
+fn to_root<V: Words + Drop>(root: RootOf<V>, more: More) -> (RootOf<V>, usize)
     requires one { V.WORDS ≤ 1 }
-    requires some { 0 < length pairs.now }
+    requires some { 0 < length more.pairs.now }
     requires root { IsRoot V.WORDS root }
-    requires map { IsMap V.WORDS 0 (256 ^ 8) pairs.now }
-    requires room { length (root_tree root).pairs + length pairs.now < 2 ^ 64 }
+    requires map { IsMap V.WORDS 0 (256 ^ 8) more.pairs.now }
+    requires room { length (root_tree root).pairs + length more.pairs.now < 2 ^ 64 }
     ensures root { IsRoot V.WORDS result.0 }
-    ensures appended { IsAppended result.1 pairs.now (root_tree root) (root_tree result.0) }
+    ensures appended { IsAppended result.1 more.entry.pairs.now (root_tree root)
+        (root_tree result.0) }
 {
     match root {
-        RootOf::Empty => match NodeOf::from_sorted(alloc, pairs) {
-            Ok(tree) => (tree.open(), pairs.len()),
+        RootOf::Empty => match NodeOf::from_sorted(more.alloc, more.pairs) {
+            Ok(tree) => (tree.open(), more.pairs.len()),
             Err(_) => (RootOf::Empty, 0),
         },
         RootOf::One(key, value) => (RootOf::One(key, value), 0),
         RootOf::Many(mut child) => {
-            let count = append_in(alloc, &mut child, 8, pairs[0].0, pairs);
+            let count = append_in(&mut child, 8, more.pairs[0].0, more);
             (RootOf::Many(child), count)
         }
     }
@@ -65,52 +69,38 @@ fn to_root<V: Words + Drop>(
 
 // To a node below the root, whose keys have `width` bytes. `key` is what the first key is there.
 #[cycle(append)]
-fn append_in<V: Words + Drop>(
-    alloc: Global,
-    child: &mut ChildOf<V>,
-    width: u8,
-    key: u64,
-    pairs: &[(u64, u64)],
-) -> usize
+fn append_in<V: Words + Drop>(child: &mut ChildOf<V>, width: u8, key: u64, more: More) -> usize
     requires one { V.WORDS ≤ 1 }
     requires child { IsChild V.WORDS width child.old }
-    requires some { 0 < length pairs.now }
-    requires key { key ≡ first_key pairs.now % 256 ^ width }
-    requires map { IsMap V.WORDS 0 (256 ^ 8) pairs.now }
-    requires room { length child.old.pairs + length pairs.now < 2 ^ 64 }
+    requires some { 0 < length more.pairs.now }
+    requires key { key ≡ first_key more.pairs.now % 256 ^ width }
+    requires map { IsMap V.WORDS 0 (256 ^ 8) more.pairs.now }
+    requires room { length child.old.pairs + length more.pairs.now < 2 ^ 64 }
     ensures child { IsChild V.WORDS width child.new }
-    ensures longer { IsLonger width result pairs.now child.old child.new }
+    ensures longer { IsLonger width result more.entry.pairs.now child.old child.new }
 {
-    append_to_kind(alloc, child.place.kind_mut(), width, key, pairs)
+    append_to_kind(child.place.kind_mut(), width, key, more)
 }
 
 // The same by the node's kind: a node without children takes none.
 #[cycle(append)]
-fn append_to_kind<V: Words + Drop>(
-    alloc: Global,
-    kind: &mut KindOf<V>,
-    width: u8,
-    key: u64,
-    pairs: &[(u64, u64)],
-) -> usize
+fn append_to_kind<V: Words + Drop>(kind: &mut KindOf<V>, width: u8, key: u64, more: More) -> usize
     requires one { V.WORDS ≤ 1 }
     requires level { IsLevel V.WORDS kind.old }
     requires child { IsChild V.WORDS width (tree_of V.WORDS kind.old) }
-    requires some { 0 < length pairs.now }
-    requires key { key ≡ first_key pairs.now % 256 ^ width }
-    requires map { IsMap V.WORDS 0 (256 ^ 8) pairs.now }
-    requires room { length (tree_of V.WORDS kind.old).pairs + length pairs.now < 2 ^ 64 }
+    requires some { 0 < length more.pairs.now }
+    requires key { key ≡ first_key more.pairs.now % 256 ^ width }
+    requires map { IsMap V.WORDS 0 (256 ^ 8) more.pairs.now }
+    requires room { length (tree_of V.WORDS kind.old).pairs + length more.pairs.now < 2 ^ 64 }
     ensures level { IsLevel V.WORDS kind.new }
     ensures child { IsChild V.WORDS width (tree_of V.WORDS kind.new) }
-    ensures longer { IsLonger width result pairs.now (tree_of V.WORDS kind.old)
+    ensures longer { IsLonger width result more.entry.pairs.now (tree_of V.WORDS kind.old)
         (tree_of V.WORDS kind.new) }
 {
     match kind {
         KindOf::Branch(branch) => match branch.step(key) {
-            Step::Child(byte, place, rest) => append_to_child(
-                alloc, branch, byte, place, rest, pairs,
-            ),
-            Step::Missing(byte, place, _) => append_child(alloc, branch, byte, place, pairs),
+            Step::Child(byte, place, rest) => append_to_child(branch, byte, place, rest, more),
+            Step::Missing(byte, place, _) => append_child(branch, byte, place, more),
             Step::Below | Step::Above => 0,
         },
         _ => 0,
@@ -121,87 +111,81 @@ fn append_to_kind<V: Words + Drop>(
 // child.
 #[cycle(append)]
 fn append_to_child<V: Words + Drop>(
-    alloc: Global,
     branch: &mut BranchOf<V>,
     byte: u8,
     place: usize,
     rest: u64,
-    pairs: &[(u64, u64)],
+    more: More,
 ) -> usize
     requires one { V.WORDS ≤ 1 }
     requires level { IsWholeBranch V.WORDS branch.old }
     requires sums { AreSums branch.old.sums branch.old.children.items }
     requires here { slice_get branch.old.bytes place ≡ Some byte }
-    requires some { 0 < length pairs.now }
+    requires some { 0 < length more.pairs.now }
     requires head { first_key
-        pairs.now / 256 ^ branch.old.width % 256 ^ (length branch.old.skip + 1)
+        more.pairs.now / 256 ^ branch.old.width % 256 ^ (length branch.old.skip + 1)
         ≡ number_of branch.old.skip * 256 + byte }
-    requires key { rest ≡ first_key pairs.now % 256 ^ branch.old.width }
-    requires map { IsMap V.WORDS 0 (256 ^ 8) pairs.now }
-    requires room { branch.old.population + length pairs.now < 2 ^ 64 }
+    requires key { rest ≡ first_key more.pairs.now % 256 ^ branch.old.width }
+    requires map { IsMap V.WORDS 0 (256 ^ 8) more.pairs.now }
+    requires room { branch.old.population + length more.pairs.now < 2 ^ 64 }
     ensures level { IsWholeBranch V.WORDS branch.new }
     ensures sums { AreSums branch.new.sums branch.new.children.items }
     ensures skip { branch.new.skip ≡ branch.old.skip }
     ensures width { branch.new.width ≡ branch.old.width }
-    ensures longer { IsLonger (length branch.old.skip + 1 + branch.old.width) result pairs.now
+    ensures longer { IsLonger (length branch.old.skip + 1 + branch.old.width) result
+        more.entry.pairs.now
         (tree_below branch.old)
         (tree_below branch.new) }
 {
     if place + 1 < branch.children.len() {
         return 0;
     }
-    let count = append_in(
-        alloc,
-        &mut branch.children[place],
-        branch.width,
-        rest,
-        pairs,
-    );
+    let count = append_in(&mut branch.children[place], branch.width, rest, more);
     if count == 0 {
         return 0;
     }
     branch.population += count as u64;
-    branch.sums = branch.sums_of_children(alloc);
+    branch.sums = branch.sums_of_children(more.alloc);
     count
 }
 
 // The same as a child of a branch, of a byte that has none and whose place is given, where it comes behind all others.
 fn append_child<V: Words + Drop>(
-    alloc: Global,
     branch: &mut BranchOf<V>,
     byte: u8,
     place: usize,
-    pairs: &[(u64, u64)],
+    more: More,
 ) -> usize
     requires one { V.WORDS ≤ 1 }
     requires level { IsWholeBranch V.WORDS branch.old }
     requires sums { AreSums branch.old.sums branch.old.children.items }
     requires absent { set.has branch.old.bytes byte ≡ false }
     requires place { place ≡ set.rank branch.old.bytes byte }
-    requires some { 0 < length pairs.now }
+    requires some { 0 < length more.pairs.now }
     requires head { first_key
-        pairs.now / 256 ^ branch.old.width % 256 ^ (length branch.old.skip + 1)
+        more.pairs.now / 256 ^ branch.old.width % 256 ^ (length branch.old.skip + 1)
         ≡ number_of branch.old.skip * 256 + byte }
-    requires map { IsMap V.WORDS 0 (256 ^ 8) pairs.now }
-    requires room { branch.old.population + length pairs.now < 2 ^ 64 }
+    requires map { IsMap V.WORDS 0 (256 ^ 8) more.pairs.now }
+    requires room { branch.old.population + length more.pairs.now < 2 ^ 64 }
     ensures level { IsWholeBranch V.WORDS branch.new }
     ensures sums { AreSums branch.new.sums branch.new.children.items }
     ensures skip { branch.new.skip ≡ branch.old.skip }
     ensures width { branch.new.width ≡ branch.old.width }
-    ensures longer { IsLonger (length branch.old.skip + 1 + branch.old.width) result pairs.now
+    ensures longer { IsLonger (length branch.old.skip + 1 + branch.old.width) result
+        more.entry.pairs.now
         (tree_below branch.old)
         (tree_below branch.new) }
 {
-    let end = group_end(pairs, branch.width);
+    let end = group_end(more.pairs, branch.width);
     if end == 0 || place < branch.children.len() || make_room(&mut branch.children).is_err() {
         return 0;
     }
-    let Ok(child) = child_of_sorted(alloc, branch.width, &pairs[..end]) else {
+    let Ok(child) = child_of_sorted(more.alloc, branch.width, &more.pairs[..end]) else {
         return 0;
     };
     add_child(branch, place, byte, child);
     branch.population += end as u64;
-    branch.sums = branch.sums_of_children(alloc);
+    branch.sums = branch.sums_of_children(more.alloc);
     end
 }
 

@@ -57,7 +57,7 @@ append_to_child-sums_of_children-requires g t c =
     let kid = kid_of c.requires.level (unit_pos b.width) c.requires.here c.index_mut.ensures.value in
     let told = c.len.ensures in
     let beyond = c.if-place-len.false in
-    kid_level kid c.args.pairs.now c.requires.head (omega arith)
+    kid_level kid c.args.more.pairs.now c.requires.head (omega arith)
     c.append_in-count.result c.append_in-count.new.child c.append_in-count.ensures.longer c.append_in-count.ensures.child
 
 pub append_to_child-returns : goal.append_to_child-returns
@@ -67,12 +67,12 @@ append_to_child-returns g t c =
     let told = c.len.ensures in
     let beyond = c.if-place-len.false in
     record {
-      level = kid_level kid c.args.pairs.now c.requires.head (omega arith)
+      level = kid_level kid c.args.more.pairs.now c.requires.head (omega arith)
           c.append_in-count.result c.append_in-count.new.child c.append_in-count.ensures.longer c.append_in-count.ensures.child;
       sums = c.sums_of_children.ensures;
       skip = refl;
       width = refl;
-      longer = kid_longer kid c.args.pairs.now c.requires.head (omega arith)
+      longer = kid_longer kid c.args.more.pairs.now c.requires.head (omega arith)
           c.append_in-count.result c.append_in-count.new.child c.append_in-count.ensures.longer c.append_in-count.ensures.child c.if-count-eq0.false;
     }
 
@@ -80,7 +80,7 @@ pub append_to_kind-append_to_child-requires : goal.append_to_kind-append_to_chil
 append_to_kind-append_to_child-requires g t c κs within =
     let words = g.V.Words.WORDS in
     let branch = c.in-Branch.branch.value in
-    let pairs = c.args.pairs.now in
+    let pairs = c.args.more.pairs.now in
     let level = subst (IsLevel words) c.in-Branch.is c.requires.level in
     let child = subst (λ kind. IsChild words c.args.width (tree_of words kind)) c.in-Branch.is c.requires.child in
     let wide = branch_wide words c.args.width branch child in
@@ -124,7 +124,7 @@ pub append_to_kind-append_child-requires-clause-head : goal.append_to_kind-appen
 append_to_kind-append_child-requires-clause-head g t c =
     let words = g.V.Words.WORDS in
     let branch = c.in-Branch.branch.value in
-    let pairs = c.args.pairs.now in
+    let pairs = c.args.more.pairs.now in
     let child = subst (λ kind. IsChild words c.args.width (tree_of words kind)) c.in-Branch.is c.requires.child in
     let wide = branch_wide words c.args.width branch child in
     let step = subst (λ b. IsStep (256 ^ b.width) (number_of b.skip * 256) b.bytes c.args.key (Missing c.in-Missing.byte c.in-Missing.place c.in-Missing.field-2)) c.deref.ensures c.in-Missing.ensures in

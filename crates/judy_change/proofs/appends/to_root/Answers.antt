@@ -7,5 +7,5 @@ use Rattle.judy_change.proofs.appends.to_root.Goals as goal
 pub returns-in-Many-clause-appended : goal.returns-in-Many-clause-appended
 returns-in-Many-clause-appended g c =
     let new = c.append_in-count.new.child in
-    subst (λ root. IsAppended c.append_in-count.result c.args.pairs.now (root_tree root) (record new { width = 8 })) (sym c.in-Many.is)
-    (appended_root g.V.Words.WORDS c.append_in-count.result c.args.pairs.now c.in-Many.child new c.requires.map c.append_in-count.ensures.longer)
+    subst (λ root. IsAppended c.append_in-count.result c.args.more.pairs.now (root_tree root) (record new { width = 8 })) (sym c.in-Many.is)
+    (appended_root g.V.Words.WORDS c.append_in-count.result c.args.more.pairs.now c.in-Many.child new c.requires.map c.append_in-count.ensures.longer)
