@@ -73,6 +73,9 @@ impl<W: Sink + Drop, const N: usize> Sink for BufferedSink<W, N> {
 
     // Interruptions are tried again while it hands on, and counted there.
     fn write(&mut self, piece: &[u8]) -> Result<usize, Stop> {
+        if self.held.try_extend_from_slice(piece).is_ok() {
+            return Ok(piece.len());
+        }
         if self.held.is_full() && self.send().is_err() {
             return Err(Stop::Failed);
         }

@@ -54,7 +54,18 @@ pub fn write_all<W: Sink>(sink: &mut W, bytes: &[u8]) -> Result<(), BrokenPipe>
     ensures failures { let before = (W.tally sink.old).failures in
         (W.tally sink.new).failures ≡ (if is_ok result then before else before + 1) }
 {
-    let mut count = 0;
+    if bytes.is_empty() {
+        return Ok(());
+    }
+    // Mostly one write takes them all.
+    let before = sink.failures();
+    let mut count = sink.write(bytes).unwrap_or(0);
+    if count == bytes.len() {
+        return Ok(());
+    }
+    if sink.failures() > before {
+        return Err(BrokenPipe);
+    }
     write_on(sink, bytes, &mut count)
 }
 
