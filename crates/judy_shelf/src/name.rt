@@ -1,6 +1,6 @@
 //! Names of arrays: a fixed buffer, so that a name takes no memory of its own.
 
-ghost use Rattle.std.specs.Prelude.{◌≡◌, ◌≤◌, IsTrue, length};
+ghost use Rattle.std.specs.Prelude.{◌≡◌, ◌≤◌, IsTrue, length, bytes_eq};
 ghost use Rattle.std.specs.List.{list_all};
 ghost use Rattle.judy_model.specs.Tokens.{name_of, is_name, is_name_byte};
 
@@ -40,6 +40,18 @@ impl Name {
         let mut text = ArrayVec::new();
         text.try_extend_from_slice(bytes).ok()?;
         Some(Name { text })
+    }
+
+    // Whether these bytes spell the name. One that has a single byte is compared without a call.
+    #[inline(always)]
+    pub(crate) fn is(&self, bytes: &[u8]) -> bool
+        ensures same { result ≡ bytes_eq bytes.now self.now }
+        ensures name { IsTrue result → IsTrue (is_name bytes.now) }
+    {
+        match (bytes, self.bytes()) {
+            ([byte], [own]) => byte == own,
+            (bytes, own) => bytes == own,
+        }
     }
 
     /// The bytes that spell the name.

@@ -139,6 +139,7 @@ impl Shelf {
 
     /// The array that bytes name, to be changed: it alone changes, and every other stays as it is. Where they are no name none
     /// has it.
+    #[inline(always)]
     pub fn named_mut(&mut self, bytes: &[u8]) -> Option<&mut Array>
         ensures* writes_back { sem 𝓛 (LendsNamed self.entry bytes.now result) }
         ensures value { option_copied_mut result ≡ array_named self.old bytes.now }
@@ -150,6 +151,7 @@ impl Shelf {
 
     // The place of the array that bytes name; the number of arrays where there is none. Few names are compared one by one, which is
     // done sooner than a hash.
+    #[inline(always)]
     fn place_of(&self, bytes: &[u8]) -> usize
         ensures place { result ≡ place_of (bytes_eq bytes.now) self.now }
         ensures name { result < length self.now → IsTrue (is_name bytes.now) }
@@ -161,7 +163,7 @@ impl Shelf {
         }
         let mut place = 0;
         'arrays: while let Some((name, _)) = self.at(place) {
-            if bytes == name.bytes() {
+            if name.is(bytes) {
                 return place;
             }
             place += 1;

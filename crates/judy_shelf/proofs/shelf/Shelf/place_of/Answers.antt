@@ -1,13 +1,13 @@
-use Rattle.std.proofs.Common.{◌≡◌, ◌<◌, true, false, length, sym, ap, ◌∙◌, arith}
+use Rattle.std.proofs.Common.{◌≡◌, ◌<◌, true, false, length, sym, ◌∙◌, arith}
 use Rattle.std.specs.Prelude.{bytes_eq}
 use Rattle.std.proofs.lemmas.Option.{slice_get_within}
 use Rattle.judy_shelf.proofs.StoreLemmas.{past_all}
 use Rattle.judy_shelf.proofs.PlaceLemmas.{place_here, place_behind, place_past}
 use Rattle.judy_shelf.proofs.shelf.Shelf.place_of.Goals as goal
 
-pub returns-then-eq-clause-place : goal.returns-then-eq-clause-place
-returns-then-eq-clause-place c =
-    let passes : bytes_eq c.args.bytes.now c.in-Some-at.name.now ≡ true = ap (bytes_eq c.args.bytes.now) (sym c.bytes.ensures.same) ∙ sym c.eq.ensures ∙ c.if-eq.true in
+pub returns-then-is-clause-place : goal.returns-then-is-clause-place
+returns-then-is-clause-place c =
+    let passes : bytes_eq c.args.bytes.now c.in-Some-at.name.now ≡ true = sym c.is.ensures.same ∙ c.if-is.true in
     let here = place_here (bytes_eq c.args.bytes.now) c.args.self.now c.arrays.place (c.in-Some-at.name.now, c.in-Some-at.field-0-1.now) c.in-Some-at.ensures.entry passes in
     omega (arith, here, c.arrays.invariant.before)
 
@@ -18,7 +18,7 @@ arrays-smaller c =
 pub arrays-preserved : goal.arrays-preserved
 arrays-preserved c =
     let within : c.arrays.place < length c.args.self.now = slice_get_within c.args.self.now c.arrays.place _ (sym c.in-Some-at.ensures.entry) in
-    let fails : bytes_eq c.args.bytes.now c.in-Some-at.name.now ≡ false = ap (bytes_eq c.args.bytes.now) (sym c.bytes.ensures.same) ∙ sym c.eq.ensures ∙ c.if-eq.false in
+    let fails : bytes_eq c.args.bytes.now c.in-Some-at.name.now ≡ false = sym c.is.ensures.same ∙ c.if-is.false in
     let behind = place_behind (bytes_eq c.args.bytes.now) c.args.self.now c.arrays.place (c.in-Some-at.name.now, c.in-Some-at.field-0-1.now) c.in-Some-at.ensures.entry fails in
     record { within = omega arith; before = omega (arith, behind, c.arrays.invariant.before) }
 
