@@ -3,9 +3,9 @@ use Rattle.std.proofs.Common.{◌≡◌, ℕ, zero, suc, ◌+◌, ◌-◌, ◌*�
 use Rattle.std.specs.List.{list_all}
 use Rattle.std.specs.Char.{is_ascii_digit, digit_value}
 use Rattle.std.specs.Str.Parse.{digits_value_after}
-use Rattle.std.proofs.lemmas.Bool.{false≢true, and_parts, leb-true, le-ltb, lt-ltb}
+use Rattle.std.proofs.lemmas.Bool.{and_parts, leb-true, le-ltb, lt-ltb}
 use Rattle.std.proofs.lemmas.List.{take-append-drop}
-use Rattle.std.proofs.lemmas.List.Folds.{list_all-append, list_all_at}
+use Rattle.std.proofs.lemmas.List.Folds.{list_all-append}
 use Rattle.judy_command.specs.Digits.{number_after}
 use Rattle.judy_command.proofs.Numerals.{next_power}
 
@@ -48,19 +48,15 @@ module _ (number : ℕ) (bytes : List ℕ) (count : ℕ) where
   pub part_refused : list_all is_ascii_digit (take count bytes) ≡ false → number_after number bytes ≡ None
   part_refused not = rw (in_parts, not) refl
 
--- A byte among digits is one.
-pub digit_at : (bytes : List ℕ) (i : ℕ) → i < length bytes → list_all is_ascii_digit bytes ≡ true → is_ascii_digit (get_or bytes i 0) ≡ true
-digit_at bytes i here digits =
-    elim (is_ascii_digit (get_or bytes i 0)) as (λ b. is_ascii_digit (get_or bytes i 0) ≡ b → is_ascii_digit (get_or bytes i 0) ≡ true) [
-      | true ↦ λ is. is
-      | false ↦ λ is. absurd (false≢true (sym (list_all_at is_ascii_digit bytes i 0 here is) ∙ digits))
-    ] refl
-
+-- Between which bytes a digit stands, and its value.
 pub least_digit : (byte : ℕ) → is_ascii_digit byte ≡ true → 48 ≤ byte
 least_digit byte is = leb-true 48 byte (and_parts (leb 48 byte) (leb byte 57) is).0
+
+pub most_digit : (byte : ℕ) → is_ascii_digit byte ≡ true → byte ≤ 57
+most_digit byte is = leb-true byte 57 (and_parts (leb 48 byte) (leb byte 57) is).1
 
 pub digit_value_is : (byte : ℕ) → is_ascii_digit byte ≡ true → digit_value byte ≡ byte - 48
 digit_value_is byte is =
     let least = least_digit byte is in
-    let most = leb-true byte 57 (and_parts (leb 48 byte) (leb byte 57) is).1 in
+    let most = most_digit byte is in
     rw (le-ltb byte 48 least, lt-ltb byte 58 (omega arith)) refl

@@ -1,8 +1,8 @@
 -- Key tokens by `hex` and by the definitions.
-use Rattle.std.proofs.Common.{◌≡◌, ℕ, ◌+◌, ◌*◌, ◌/◌, ◌%◌, ◌<◌, ◌==◌, Bool, true, false, cond, not, nat_le, List, [], ◌∷◌, length, Option, Some, None, Result, Ok, Err, ok_or, suc, refl, sym, ap, ◌∙◌, arith, IfSome, take, drop}
+use Rattle.std.proofs.Common.{◌≡◌, ℕ, ◌+◌, ◌*◌, ◌-◌, ◌/◌, ◌%◌, ◌<◌, ◌≤◌, ◌==◌, Bool, true, false, cond, not, nat_le, List, [], ◌∷◌, length, Option, Some, None, Result, Ok, Err, ok_or, suc, refl, sym, ap, ◌∙◌, arith, IfSome, take, drop}
 use Rattle.std.specs.Prelude.{MatchResult, ◌&&◌, IfOk}
 use Rattle.std.proofs.lemmas.Bool.{and_parts, eqb-true, false≢true}
-use Rattle.std.proofs.lemmas.List.{take-append-drop}
+use Rattle.std.proofs.lemmas.List.{take-append-drop, drop-drop}
 use Rattle.std.proofs.lemmas.List.Folds.{list_all-append}
 use Rattle.std.specs.List.{list_all}
 use Rattle.std.specs.Result.{result_ok, is_err}
@@ -46,6 +46,23 @@ string_key-refused (Some said) refusal h = refused_by (is_bytes_key said) (witho
 pub shown_in_parts : (signs : List ℕ) (count : ℕ) → list_all is_shown signs ≡ (list_all is_shown (take count signs) && list_all is_shown (drop count signs))
 shown_in_parts signs count =
     ap (list_all is_shown) (sym (take-append-drop count signs)) ∙ list_all-append is_shown (take count signs) (drop count signs)
+
+-- where the bytes before a rest are such, the last few are where all are, if the rest is among them
+by_last : (all last rest front middle : Bool) → all ≡ (front && last) → last ≡ (middle && rest) → rest ≡ all → last ≡ all
+by_last true last rest true middle whole part same = sym whole
+by_last true last rest false middle whole part same = absurd (cc)
+by_last false last rest front true whole part same = part ∙ same
+by_last false last rest front false whole part same = part
+
+pub shown_by_last : (size : ℕ) (signs rest : List ℕ) → length rest ≤ size → size ≤ length signs → rest ≡ drop (length signs - length rest) signs → list_all is_shown rest ≡ list_all is_shown signs
+    → list_all is_shown (drop (length signs - size) signs) ≡ list_all is_shown signs
+shown_by_last size signs rest few many is same =
+    let last = drop (length signs - size) signs in
+    let among : drop (size - length rest) last ≡ rest = drop-drop (size - length rest) (length signs - size) signs ∙ ap (λ n. drop n signs) (omega arith) ∙ sym is in
+    by_last (list_all is_shown signs) (list_all is_shown last) (list_all is_shown rest) (list_all is_shown (take (length signs - size) signs)) (list_all is_shown (take (size - length rest) last))
+    (shown_in_parts signs (length signs - size))
+    (shown_in_parts last (size - length rest) ∙ ap (λ t. list_all is_shown (take (size - length rest) last) && list_all is_shown t) among)
+    same
 
 -- such a byte isn't zero
 shown_not_zero : (byte : ℕ) → is_shown byte ≡ true → not (byte == 0) ≡ true

@@ -1,5 +1,6 @@
 pub mod Numerals
 pub mod DigitLemmas
+pub mod DigitLanes
 pub mod NamedArrays
 pub mod MakeLemmas
 pub mod KeyReadLemmas

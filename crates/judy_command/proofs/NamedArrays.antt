@@ -28,14 +28,6 @@ Follows-within before name array after (Err first) (Ok answer) there h = h
 Follows-within before name array after (Err first) (Err refusal) there h =
     (h.0, ap (with_array before name) h.1 ∙ set_value_same (bytes_eq name) before array there)
 
--- a name is the token that says it
-same_name : (is : Bool) (token name : List ℕ) → ok_or (cond is (Some token) None) bad_name ≡ Ok name → name ≡ token
-same_name true token name e = cc
-same_name false token name e = absurd (cc)
-
-pub name_at-token : (token name : List ℕ) → name_at token ≡ Ok name → name ≡ token
-name_at-token token name = same_name (is_name token) token name
-
 -- what a token names is an array of the store, by that name
 there : (store : Store) (name : List ℕ) (array : ArrayValue) (found : Option ArrayValue) → Ok array ≡ ok_or found no_such_array → found ≡ Some array
 there store name array None e = absurd (cc)

@@ -30,6 +30,7 @@ pub(crate) fn name_at(token: &[u8]) -> Result<Name, Refusal>
 }
 
 // The array that a token names, to be changed.
+#[inline(always)]
 fn array_at<'a>(shelf: &'a mut Shelf, token: &[u8]) -> Result<&'a mut Array, Refusal>
     ensures* writes_back { sem 𝓛 (LendsNamed shelf.entry token.now result) }
     ensures value { lent_array result ≡ named (store_of shelf.old) token.now }

@@ -1,6 +1,6 @@
 //! Keys of the string kinds as tokens say them.
 
-ghost use Rattle.std.specs.Prelude.{◌≡◌, ◌==◌, not, if◌then◌else◌, Some, None, IfOk, OnOk};
+ghost use Rattle.std.specs.Prelude.{◌≡◌, ◌<◌, ◌≤◌, ◌==◌, not, if◌then◌else◌, Some, None, IfOk, OnOk};
 ghost use Rattle.std.specs.List.{list_all};
 ghost use Rattle.judy_model.specs.Keys.{IsBytesKey, IsStringKey};
 ghost use Rattle.judy_model.specs.KeyTokens.{is_shown, bytes_of_digits};
@@ -80,10 +80,7 @@ fn read_signs(signs: &[u8], key: &mut KeyBuf) -> Result<(), Refusal>
     ensures { read_into result key.new.items
         ≡ key_or_refusal (if list_all is_shown signs.now then Some signs.now else None) }
 {
-    if !are_shown(signs) {
-        return Err(Refusal::BadKey);
-    }
-    put(signs, key)
+    put(signs_key(signs)?, key)
 }
 
 // Puts the bytes that hexadecimal digits write into the buffer.
@@ -113,19 +110,36 @@ fn put(bytes: &[u8], key: &mut KeyBuf) -> Result<(), Refusal>
     Ok(())
 }
 
-// Whether each byte stands for itself in a key token. Most are tested by eights: a length that the compiler knows needs no test
-// behind each byte, and it tests eight at once.
+// Whether each byte stands for itself in a key token.
 fn are_shown(signs: &[u8]) -> bool
     ensures { result ≡ list_all is_shown signs.now }
 {
+    if signs.len() < 16 {
+        are_shown_by::<8>(signs)
+    } else {
+        are_shown_by::<16>(signs)
+    }
+}
+
+// The same, tested so many at once: a length that the compiler knows needs no test behind each byte. Of those at the end some are
+// tested twice, so that none is left to be tested alone.
+#[inline(always)]
+fn are_shown_by<const N: usize>(signs: &[u8]) -> bool
+    requires some { 0 < N }
+    requires few { N ≤ 16 }
+    ensures { result ≡ list_all is_shown signs.now }
+{
     let mut rest = signs;
-    'chunks: while let Some((chunk, after)) = rest.split_first_chunk::<8>() {
+    'chunks: while let Some((chunk, after)) = rest.split_first_chunk::<N>() {
         if !few_are_shown(chunk) {
             return false;
         }
         rest = after;
     }
-    few_are_shown(rest)
+    match signs.split_last_chunk::<N>() {
+        Some((_, last)) => few_are_shown(last),
+        None => few_are_shown(signs),
+    }
 }
 
 // The same of a few. It leaves at no byte.

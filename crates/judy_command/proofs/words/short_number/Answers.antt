@@ -16,9 +16,12 @@ chunks-init c =
     let one = powers 0 (19 - length c.args.digits.now) (omega arith) in
     record { few = c.requires; small = omega arith; same = refl }
 
-pub value_after-number-requires-clause-small : goal.value_after-number-requires-clause-small
-value_after-number-requires-clause-small c =
-    let least = powers (19 - length c.chunks.rest.now) (19 - length c.in-Some.chunk.now) (omega (arith, c.in-Some.ensures.cases.2, ap length c.in-Some.ensures.cases.0, length-take-le 8 c.chunks.rest.now (omega (arith, c.in-Some.ensures.cases.2)))) in
+pub value_after_eight-number-requires-clause-eight : goal.value_after_eight-number-requires-clause-eight
+value_after_eight-number-requires-clause-eight c = ap length c.in-Some.ensures.cases.0 ∙ length-take-le 8 c.chunks.rest.now (omega (arith, c.in-Some.ensures.cases.2))
+
+pub value_after_eight-number-requires-clause-small : goal.value_after_eight-number-requires-clause-small
+value_after_eight-number-requires-clause-small c =
+    let least = powers (19 - length c.chunks.rest.now) 11 (omega (arith, c.in-Some.ensures.cases.2)) in
     let small = c.chunks.invariant.small in omega arith
 
 pub returns-then-not-are_digits : goal.returns-then-not-are_digits
@@ -38,9 +41,9 @@ chunks-preserved c =
     let few = c.chunks.invariant.few in
     record {
       few = omega (arith, cut.2);
-      small = rw c.value_after-number.ensures (subst (λ n. digits_value_after 10 c.chunks.number chunk < 10 ^ n) (omega (arith, cut.2)) small);
+      small = rw c.value_after_eight-number.ensures (subst (λ n. digits_value_after 10 c.chunks.number chunk < 10 ^ n) (omega (arith, cut.2)) small);
       same =
-          (λ t. number_after (c.value_after-number.ensures t) (cut.1 t))
+          (λ t. number_after (c.value_after_eight-number.ensures t) (cut.1 t))
           ∙ (λ t. number_after (digits_value_after 10 c.chunks.number (cut.0 t)) (drop 8 rest))
           ∙ sym (parts_read c.chunks.number rest 8 (ap (list_all is_ascii_digit) (sym cut.0) ∙ digits))
           ∙ c.chunks.invariant.same;
