@@ -43,10 +43,6 @@ tokens_of-cut text piece None h =
 tokens_of-cut text piece (Some rest) h =
     rw h.0 (ap (filter (λ token. nat_lt 0 (length token))) (slice_split-at 32 piece rest h.1 refl))
 
--- a space at the front of a text is no part of a token
-pub tokens_of-space : (text : List ℕ) → tokens_of (32 ∷ text) ≡ tokens_of text
-tokens_of-space text = refl
-
 -- what stands before the first space of a text that begins with none is its first token
 pub tokens_of-front : (text : List ℕ) (count : ℕ) → 0 < count → count ≤ length text → is_without 32 (take count text) ≡ true
     → (count < length text → get_or text count 0 ≡ 32) → tokens_of text ≡ take count text ∷ tokens_of (drop count text)
