@@ -30,7 +30,11 @@ impl Model for FewBytes {
 
     ghost inverse = { λ meant. record { bytes = padded 255 meant; count = length meant } };
 
-    ghost inverse_ok = { λ a h. λ t. record { bytes = padded-take 255 a.bytes a.count h.0 t; count = length-meant 255 a.bytes a.count h.0 t } };
+    ghost inverse_ok = { λ a h. λ t.
+        record {
+          bytes = padded-take 255 a.bytes a.count h.0 t;
+          count = length-meant 255 a.bytes a.count h.0 t;
+        } };
 }
 
 /// Puts a byte at a place; the bytes from there on move up by one, and the last one is lost.

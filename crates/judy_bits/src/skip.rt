@@ -27,7 +27,8 @@ impl Model for Skip {
 
     ghost inverse = { λ meant. record { bytes = led meant; len = length meant } };
 
-    ghost inverse_ok = { λ a h. λ t. record { bytes = led-drop a.bytes a.len h t; len = length-led a.bytes a.len h t } };
+    ghost inverse_ok = { λ a h. λ t.
+        record { bytes = led-drop a.bytes a.len h t; len = length-led a.bytes a.len h t } };
 }
 
 impl Skip {

@@ -93,7 +93,8 @@ pub(crate) fn shrink_leaf<V: Words + Drop>(
 fn find_bit<V: Words + Drop>(skipped: u64, bits: BitRef<'_, V>, key: u64) -> Option<usize>
     ensures { MatchOption result
         (key / 256 ≡ skipped → set.place (keys_of bits.entry.pairs) (key % 256) ≡ None)
-        (λ at. (key / 256 ≡ skipped) × (set.place (keys_of bits.entry.pairs) (key % 256) ≡ Some at)) }
+        (λ at. (key / 256 ≡ skipped)
+        × (set.place (keys_of bits.entry.pairs) (key % 256) ≡ Some at)) }
 {
     if without_low(key, 1) != skipped {
         return None;

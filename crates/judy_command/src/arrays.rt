@@ -67,7 +67,8 @@ pub(crate) fn drop_array(shelf: &mut Shelf, name: &[u8]) -> Reply<'static>
 /// `free NAME`
 pub(crate) fn free_array(shelf: &mut Shelf, name: &[u8]) -> Reply<'static>
     ensures { let before = store_of shelf.old in
-        Follows before (model.at_name before name.now model.freed_whole) (reply_of result) (store_of shelf.new) }
+        Follows before (model.at_name before name.now model.freed_whole) (reply_of result)
+        (store_of shelf.new) }
 {
     Ok(Answer::Freed(array_at(shelf, name)?.free()))
 }
@@ -81,7 +82,8 @@ pub(crate) fn on_key_at<'k>(
     key: &'k mut KeyBuf,
 ) -> Reply<'k>
     ensures { let before = store_of shelf.old in
-        Follows before (model.at_name before name.now (model.on_key (key_command_of command) token.now)) (reply_of result) (store_of shelf.new) }
+        Follows before (model.at_name before name.now
+        (model.on_key (key_command_of command) token.now)) (reply_of result) (store_of shelf.new) }
 {
     on_key(array_at(shelf, name)?, command, token, key)
 }
@@ -94,7 +96,8 @@ fn on_key<'k>(
     key: &'k mut KeyBuf,
 ) -> Reply<'k>
     ensures { let before = value_of array.old in
-        Follows before (model.on_key (key_command_of command) token.now before) (reply_of result) (value_of array.new) }
+        Follows before (model.on_key (key_command_of command) token.now before) (reply_of result)
+        (value_of array.new) }
 {
     match array {
         Array::Judy1(set) => set_on_key(set, command, token),
@@ -114,7 +117,9 @@ pub(crate) fn on_pair_at(
     key: &mut KeyBuf,
 ) -> Reply<'static>
     ensures { let before = store_of shelf.old in
-        Follows before (model.at_name before name.now (model.on_pair (pair_command_of command) first.now second.now)) (reply_of result) (store_of shelf.new) }
+        Follows before (model.at_name before name.now
+        (model.on_pair (pair_command_of command) first.now second.now)) (reply_of result)
+        (store_of shelf.new) }
 {
     on_pair(array_at(shelf, name)?, command, first, second, key)
 }
@@ -128,7 +133,8 @@ fn on_pair(
     key: &mut KeyBuf,
 ) -> Reply<'static>
     ensures { let before = value_of array.old in
-        Follows before (model.on_pair (pair_command_of command) first.now second.now before) (reply_of result) (value_of array.new) }
+        Follows before (model.on_pair (pair_command_of command) first.now second.now before)
+        (reply_of result) (value_of array.new) }
 {
     match array {
         Array::Judy1(set) => set_on_pair(set, command, first, second),

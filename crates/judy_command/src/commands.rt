@@ -24,7 +24,8 @@ use judy_sl::KeyBuf;
 /// has more than three arguments. (This project's own script.)
 pub fn execute<'k>(shelf: &mut Shelf, tokens: &[&[u8]], key: &'k mut KeyBuf) -> LineReply<'k>
     ensures { let before = store_of shelf.old in let after = store_of shelf.new in
-        Follows before (outcome_of_tokens before (texts tokens.now)) (line_reply_of after result) after }
+        Follows before (outcome_of_tokens before (texts tokens.now))
+        (line_reply_of after result) after }
 {
     match tokens {
         [] => LineReply::Silent,
@@ -41,7 +42,8 @@ fn execute_word<'k>(
     key: &'k mut KeyBuf,
 ) -> LineReply<'k>
     ensures { let before = store_of shelf.old in let after = store_of shelf.new in
-        Follows before (carried_out_by_word before word.now (texts arguments.now)) (line_reply_of after result) after }
+        Follows before (carried_out_by_word before word.now (texts arguments.now))
+        (line_reply_of after result) after }
 {
     match Command::from_word(word) {
         Some(command) => carry_out(shelf, command, arguments, key),
@@ -57,7 +59,8 @@ fn carry_out<'k>(
     key: &'k mut KeyBuf,
 ) -> LineReply<'k>
     ensures { let before = store_of shelf.old in let after = store_of shelf.new in
-        Follows before (model.carried_out before (command_of command) (texts arguments.now)) (line_reply_of after result) after }
+        Follows before (model.carried_out before (command_of command) (texts arguments.now))
+        (line_reply_of after result) after }
 {
     LineReply::Said(match (command, arguments) {
         (Command::Make, [name, kind]) => make_array(shelf, name, kind, None),

@@ -19,7 +19,8 @@ pub(crate) fn make_array(
     limit: Option<&[u8]>,
 ) -> Reply<'static>
     ensures { let before = store_of shelf.old in
-        Follows before (model.made before name.now kind.now (option_copied limit.entry)) (reply_of result) (store_of shelf.new) }
+        Follows before (model.made before name.now kind.now (option_copied limit.entry))
+        (reply_of result) (store_of shelf.new) }
 {
     let name = name_at(name)?;
     let Some(kind) = Kind::from_word(kind) else {

@@ -77,7 +77,8 @@ pub(crate) trait ValueMap<K> {
 
     ghost is_antisymmetric: { IsAntisymmetric order };
 
-    ghost writes: { (array : Self) (key : K) (value : ℕ) → array_of (written array key value) ≡ with_value (array_of array) (key_of key) value };
+    ghost writes: { (array : Self) (key : K) (value : ℕ) →
+        array_of (written array key value) ≡ with_value (array_of array) (key_of key) value };
 }
 
 impl ValueMap<u64> for JudyL {

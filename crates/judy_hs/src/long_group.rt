@@ -44,9 +44,15 @@ impl Model for LongGroup {
 
     ghost use Rattle.judy_hs.specs.LongRecords.{all_pairs, AreLongRecords};
 
-    ghost view = { λ group. record { key_length = group.key_length; hashes = group.hashes; chains = all_pairs group.key_length group.chains group.records } };
+    ghost view = { λ group.
+        record {
+          key_length = group.key_length;
+          hashes = group.hashes;
+          chains = all_pairs group.key_length group.chains group.records;
+        } };
 
-    ghost invariant = { λ group. AreLongRecords group.hashes.map group.key_length group.chains group.records };
+    ghost invariant = { λ group.
+        AreLongRecords group.hashes.map group.key_length group.chains group.records };
 }
 
 // Whether the record at a place, which spells a key of so many bytes, spells this one. Their bytes decide, zero bytes at the end too.

@@ -223,7 +223,8 @@ impl<V: Words + Drop> LeafOf<V> {
         requires map { V.WORDS ≡ 1 }
         requires inside { at < length self.old.pairs }
         ensures* changes { sem 𝓛
-            (Lends (the_row V.row V.Words) word self.entry result (with_value_at at self.entry.now)) }
+            (Lends (the_row V.row V.Words) word self.entry result
+            (with_value_at at self.entry.now)) }
         ensures value { result.now ≡ slice_index (values_of self.old.pairs) at }
     {
         self.block.slot(at)

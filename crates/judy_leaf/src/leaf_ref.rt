@@ -39,7 +39,8 @@ impl<'a, V: Words + Drop> Model for LeafRef<'a, V> {
 
     ghost view = { λ l. leaf_list V.WORDS l.count l.block.now };
 
-    ghost invariant = { λ l. IsLeafParts V.WORDS l.count l.block.now × (l.block.now.tag ≡ l.width) };
+    ghost invariant = { λ l. IsLeafParts V.WORDS l.count l.block.now
+        × (l.block.now.tag ≡ l.width) };
 }
 
 impl<'a, V: Words + Drop> LeafRef<'a, V> {

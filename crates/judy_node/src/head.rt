@@ -23,7 +23,8 @@ impl Model for Head {
 
     ghost coded = { coded_ℕ };
 
-    ghost view = { λ h. from_le_bytes w32 h.low + 4294967296 * (from_le_bytes w16 h.middle + 65536 * h.high) };
+    ghost view = { λ h. from_le_bytes w32 h.low + 4294967296 *
+        (from_le_bytes w16 h.middle + 65536 * h.high) };
 }
 
 // One byte of a key in the head of an immediate whose keys have no values. What is below is the number of its keys.

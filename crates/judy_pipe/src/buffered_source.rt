@@ -21,7 +21,8 @@ pub struct BufferedSource<R: Source + Drop, const N: usize> {
     ghost ordered: { next ≤ end },
     ghost within: { end ≤ N },
     ghost reads: { 0 < N },
-    ghost keeps: { grown (without (R.given inner) (end - next)) (take (end - next) (drop next buffer)) ≡ R.given inner },
+    ghost keeps: { grown (without (R.given inner) (end - next))
+        (take (end - next) (drop next buffer)) ≡ R.given inner },
     ghost not_ended: { next < end → R.ended inner ≡ told (R.ended inner) false },
 }
 
@@ -128,9 +129,12 @@ impl<R: Source + Drop, const N: usize> Source for BufferedSource<R, N> {
 
     ghost tally = { λ s. record { failures = (R.tally s.inner).failures; interruptions = 0 } };
 
-    ghost gives_content = { λ s. ahead_in_order (R.content s.inner) (R.given s.inner) (R.ended s.inner) s.next s.end s.ordered s.not_ended (R.gives_content s.inner) };
+    ghost gives_content = { λ s.
+        ahead_in_order (R.content s.inner) (R.given s.inner)
+        (R.ended s.inner) s.next s.end s.ordered s.not_ended (R.gives_content s.inner) };
 
-    ghost never_fails = { λ s. none_failed_ahead (R.is_unfailing s.inner) (R.tally s.inner) (R.never_fails s.inner) };
+    ghost never_fails = { λ s.
+        none_failed_ahead (R.is_unfailing s.inner) (R.tally s.inner) (R.never_fails s.inner) };
 
     // Interruptions are tried again while it reads ahead, and counted there.
     #[inline(always)]

@@ -56,7 +56,8 @@ pub(crate) fn feed<W: Sink>(
     requires { (W.tally sink.old).failures < 2 ^ 64 - 1 }
     ensures ok { OnOk result ((first : Store) (fed : List ℕ) (before : Option (List ℕ)) →
         Fed first fed before buffers.old.line (W.taken sink.old) (store_of shelf.old) →
-        Fed first (fed ++ piece.now) before buffers.new.line (W.taken sink.new) (store_of shelf.new)) }
+        Fed first (fed ++ piece.now) before buffers.new.line (W.taken sink.new)
+        (store_of shelf.new)) }
     // Should the answers not get out, the last line that ended is the one whose answer was being written.
     ensures last { IfOk result
         (λ ended. IsTrue ended → (first : Store) (fed : List ℕ) (before : Option (List ℕ)) →
@@ -97,7 +98,8 @@ pub(crate) fn serve<W: Sink>(
     requires { (W.tally sink.old).failures < 2 ^ 64 - 1 }
     ensures ok { OnOk result ((first : Store) (fed : List ℕ) (before : Option (List ℕ)) →
         Fed first fed before buffers.old.line (W.taken sink.old) (store_of shelf.old) →
-        Fed first (fed ++ piece.now) before buffers.new.line (W.taken sink.new) (store_of shelf.new)) }
+        Fed first (fed ++ piece.now) before buffers.new.line (W.taken sink.new)
+        (store_of shelf.new)) }
     ensures err { OnErr result ((first : Store) (fed : List ℕ) (before : Option (List ℕ)) →
         Fed first fed before buffers.old.line (W.taken sink.old) (store_of shelf.old) →
         RanInWholeLines first (fed ++ piece.now) before (W.taken sink.new) (store_of shelf.new)) }
@@ -150,9 +152,11 @@ fn end_line<W: Sink>(
 ) -> Result<(), RunFault>
     requires { (W.tally sink.old).failures < 2 ^ 64 - 1 }
     ensures ok { OnOk result ((kept : List ℕ) → Holds buffers.old.line kept →
-        Served (store_of shelf.old) (record { bytes = kept ++ head.now; ended = true }) (W.taken sink.old) (W.taken sink.new) (store_of shelf.new)) }
+        Served (store_of shelf.old) (record { bytes = kept ++ head.now; ended = true })
+        (W.taken sink.old) (W.taken sink.new) (store_of shelf.new)) }
     ensures err { OnErr result ((kept : List ℕ) → Holds buffers.old.line kept →
-        ServedInPart (store_of shelf.old) (record { bytes = kept ++ head.now; ended = true }) (W.taken sink.old) (W.taken sink.new) (store_of shelf.new)) }
+        ServedInPart (store_of shelf.old) (record { bytes = kept ++ head.now; ended = true })
+        (W.taken sink.old) (W.taken sink.new) (store_of shelf.new)) }
     ensures cleared { Holds buffers.new.line [] }
     ensures fault { IfErr result (λ fault. fault ≡ Write) }
     ensures failures { let before = (W.tally sink.old).failures in
@@ -170,7 +174,8 @@ fn whole_line_reply<'k>(
     key: &'k mut KeyBuf,
 ) -> LineReply<'k>
     ensures step { (kept : List ℕ) → Holds line.old kept →
-        Step (store_of shelf.old) (record { bytes = kept ++ head.now; ended = true }) (line_reply_of (store_of shelf.new) result) (store_of shelf.new) }
+        Step (store_of shelf.old) (record { bytes = kept ++ head.now; ended = true })
+        (line_reply_of (store_of shelf.new) result) (store_of shelf.new) }
     ensures cleared { Holds line.new [] }
 {
     if line.is_empty() {

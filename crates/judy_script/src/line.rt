@@ -23,7 +23,8 @@ pub(crate) fn line_reply<'k>(
     key: &'k mut KeyBuf,
 ) -> LineReply<'k>
     ensures { let before = store_of shelf.old in
-        Step before (record { bytes = bytes.now; ended = ended }) (line_reply_of (store_of shelf.new) result) (store_of shelf.new) }
+        Step before (record { bytes = bytes.now; ended = ended })
+        (line_reply_of (store_of shelf.new) result) (store_of shelf.new) }
 {
     if bytes.len() > MAX_LINE_LEN {
         return LineReply::Said(Err(Refusal::LineTooLong));
@@ -96,7 +97,8 @@ impl LineBuffer {
         key: &'k mut KeyBuf,
     ) -> LineReply<'k>
         ensures { (bytes : List ℕ) → Holds self.now bytes →
-            Step (store_of shelf.old) (record { bytes = bytes; ended = ended }) (line_reply_of (store_of shelf.new) result) (store_of shelf.new) }
+            Step (store_of shelf.old) (record { bytes = bytes; ended = ended })
+            (line_reply_of (store_of shelf.new) result) (store_of shelf.new) }
     {
         if self.is_long {
             return LineReply::Said(Err(Refusal::LineTooLong));

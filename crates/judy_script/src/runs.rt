@@ -43,11 +43,14 @@ pub fn run<R: Source, W: Sink>(
     ensures run { OnOk result
         (Since (R.given source.old) (R.given source.new)
         (λ script. Since (W.taken sink.old) (W.taken sink.new) (λ output.
-        RanToEnd (store_of shelf.old) max_bytes script (R.ended source.new ≡ told (R.ended source.old) true) output (store_of shelf.new)))) }
+        RanToEnd (store_of shelf.old) max_bytes script
+        (R.ended source.new ≡ told (R.ended source.old) true) output (store_of shelf.new)))) }
     ensures left { IfErr result
         (λ fault. Since (R.given source.old) (R.given source.new)
         (λ bytes. Since (W.taken sink.old) (W.taken sink.new) (λ output.
-        LeftBy (store_of shelf.old) max_bytes bytes (R.ended source.new ≡ told (R.ended source.old) true) output (store_of shelf.new) (fault_of fault)))) }
+        LeftBy (store_of shelf.old) max_bytes bytes
+        (R.ended source.new ≡ told (R.ended source.old) true) output (store_of shelf.new)
+        (fault_of fault)))) }
     // No byte is taken behind the one that is too many.
     ensures one_more { result ≡ Err TooLong
         → Since (R.given source.old) (R.given source.new) (λ bytes. length bytes ≡ max_bytes + 1) }

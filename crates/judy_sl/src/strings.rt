@@ -50,7 +50,8 @@ impl Model for JudySl {
 
     ghost view = { λ a. array_of a.limit a.arena };
 
-    ghost invariant = { λ a. IsStrings a.limit a.count a.arena × AreCounted a.arena × AreFirsts (map_of a.arena) a.firsts };
+    ghost invariant = { λ a. IsStrings a.limit a.count a.arena × AreCounted a.arena
+        × AreFirsts (map_of a.arena) a.firsts };
 }
 
 impl JudySl {

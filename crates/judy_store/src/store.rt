@@ -31,10 +31,15 @@ pub fn run_store<R: Source, W: Sink>(
     requires source { (R.tally source.old).failures < 2 ^ 64 - 1 }
     requires sink { (W.tally sink.old).failures < 2 ^ 64 - 1 }
     ensures run { EndsRun
-        (Since (R.given source.old) (R.given source.new) (λ script. Since (W.taken sink.old) (W.taken sink.new) (λ output.
-        RanToEnd (store_of shelf.old) max_bytes script (R.ended source.new ≡ told (R.ended source.old) true) output (store_of shelf.new))))
-        (λ fault. Since (R.given source.old) (R.given source.new) (λ bytes. Since (W.taken sink.old) (W.taken sink.new) (λ output.
-        LeftBy (store_of shelf.old) max_bytes bytes (R.ended source.new ≡ told (R.ended source.old) true) output (store_of shelf.new) (fault_of fault))))
+        (Since (R.given source.old) (R.given source.new)
+        (λ script. Since (W.taken sink.old) (W.taken sink.new) (λ output.
+        RanToEnd (store_of shelf.old) max_bytes script
+        (R.ended source.new ≡ told (R.ended source.old) true) output (store_of shelf.new))))
+        (λ fault. Since (R.given source.old) (R.given source.new)
+        (λ bytes. Since (W.taken sink.old) (W.taken sink.new) (λ output.
+        LeftBy (store_of shelf.old) max_bytes bytes
+        (R.ended source.new ≡ told (R.ended source.old) true) output (store_of shelf.new)
+        (fault_of fault))))
         result }
     ensures handed_on { HandsOn (W.tally sink.old).failures result (W.kept sink.new)
         (W.tally sink.new).failures }

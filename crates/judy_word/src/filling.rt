@@ -45,7 +45,10 @@ impl<V: Words + Drop> Model for Filling<V> {
 
     ghost coded = { array_code coded_ℕ };
 
-    ghost view = { λ a. record { limit = a.tree.limit; map = with_all (map_in a.tree) a.kept.items } };
+    ghost view = { λ a. record {
+      limit = a.tree.limit;
+      map = with_all (map_in a.tree) a.kept.items;
+    } };
 
     ghost invariant = { λ a. IsFilling V.WORDS a.tree a.kept.items };
 }

@@ -40,7 +40,8 @@ pub fn one_store_per_dump()
 pub fn one_dump_per_store()
     ensures { (one_version other_version : Version) (store other : Store) → IsStore store
         → IsRegular store → IsStore other → IsRegular other →
-        dump_of one_version store ≡ dump_of other_version other → (one_version ≡ other_version) × (store ≡ other) }
+        dump_of one_version store ≡ dump_of other_version other →
+        (one_version ≡ other_version) × (store ≡ other) }
 {}
 
 /// What two byte strings share is a front of both, and no front of both is longer.

@@ -15,10 +15,12 @@ ghost use Rattle.judy_model.specs.Steps.{step, grows, Step};
 pub fn to_grow_is_to_hold_more()
     ensures more { (store : Store) (command : Command) (arguments : List (List ℕ))
         (outcome : Outcome Store) →
-        carried_out store command arguments ≡ Ok outcome → IsTrue outcome.grows ↔ (size_of store < size_of outcome.after) }
+        carried_out store command arguments ≡ Ok outcome →
+        IsTrue outcome.grows ↔ (size_of store < size_of outcome.after) }
     ensures one_more { (store : Store) (command : Command) (arguments : List (List ℕ))
         (outcome : Outcome Store) →
-        carried_out store command arguments ≡ Ok outcome → IsTrue outcome.grows → size_of outcome.after ≡ size_of store + 1 }
+        carried_out store command arguments ≡ Ok outcome → IsTrue outcome.grows →
+        size_of outcome.after ≡ size_of store + 1 }
 {}
 
 /// So a line grows exactly where it adds a key or an array.

@@ -38,5 +38,7 @@ pub fn a_store_has_an_array_a_name()
 /// A limit is regular exactly where a script can give it.
 pub fn a_regular_limit_is_one_that_a_script_gives()
     ensures { (limit : ℕ) → 1 ≤ limit → IsWord limit →
-        IsRegular (one_array limit) ↔ (carried_out [] make (codes "a" ∷ codes "judyl" ∷ decimal limit ∷ []) ≡ Ok (record { answer = done; after = one_array limit; grows = true })) }
+        IsRegular (one_array limit)
+        ↔ (carried_out [] make (codes "a" ∷ codes "judyl" ∷ decimal limit ∷ [])
+        ≡ Ok (record { answer = done; after = one_array limit; grows = true })) }
 {}

@@ -15,11 +15,13 @@ ghost use Rattle.judy_model.specs.Remaining.{remaining_lines, remaining_replies,
 pub fn refused_lines_drop_out()
     ensures lines { (before after : Store) (script output : List ℕ)
         (run : Run before script output after) →
-        (ample_replies before (remaining_lines (lines_of script) run.0) ≡ remaining_replies (lines_of script) run.0)
+        (ample_replies before (remaining_lines (lines_of script) run.0)
+        ≡ remaining_replies (lines_of script) run.0)
         × (ample_store before (remaining_lines (lines_of script) run.0) ≡ after) }
     ensures script { (before after : Store) (script output : List ℕ)
         (run : Run before script output after) →
-        (ample_output before (remaining_script script run.0) ≡ flat_map output_of (remaining_replies (lines_of script) run.0))
+        (ample_output before (remaining_script script run.0)
+        ≡ flat_map output_of (remaining_replies (lines_of script) run.0))
         × (store_after before (remaining_script script run.0) ≡ after) }
 {}
 
@@ -29,9 +31,11 @@ pub fn a_refused_line_drops_out_with_its_answer()
     ensures none { (remaining_lines [] [] ≡ []) × (remaining_replies [] [] ≡ []) }
     ensures refused { (line : Line) (lines : List Line) (replies : List Reply) →
         (remaining_lines (line ∷ lines) (Err no_memory ∷ replies) ≡ remaining_lines lines replies)
-        × (remaining_replies (line ∷ lines) (Err no_memory ∷ replies) ≡ remaining_replies lines replies) }
+        × (remaining_replies (line ∷ lines) (Err no_memory ∷ replies)
+        ≡ remaining_replies lines replies) }
     ensures others { (line : Line) (lines : List Line) (reply : Reply) (replies : List Reply)
         → reply ≢ Err no_memory →
         (remaining_lines (line ∷ lines) (reply ∷ replies) ≡ line ∷ remaining_lines lines replies)
-        × (remaining_replies (line ∷ lines) (reply ∷ replies) ≡ reply ∷ remaining_replies lines replies) }
+        × (remaining_replies (line ∷ lines) (reply ∷ replies)
+        ≡ reply ∷ remaining_replies lines replies) }
 {}

@@ -11,7 +11,8 @@ ghost use Rattle.judy_model.specs.RunEnds.{Fault, read, too_long, RanToEnd, Left
 pub fn what_a_fault_leaves_begins_a_run()
     ensures { (before after : Store) (max_bytes : ℕ) (given output : List ℕ) (at_end : Bool)
         (fault : Fault) → LeftBy before max_bytes given (IsTrue at_end) output after fault →
-        (whole : List ℕ) × (last : Store) × Run before (take max_bytes given) whole last × Begins output whole }
+        (whole : List ℕ) × (last : Store) × Run before (take max_bytes given) whole last
+        × Begins output whole }
 {}
 
 /// A run is done only where the reader came to its end within `max_bytes` bytes, and its script is too long

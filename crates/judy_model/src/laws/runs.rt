@@ -17,7 +17,8 @@ pub fn a_run_goes_line_by_line()
         ↔ ((output ≡ []) × (after ≡ before)) }
     ensures one { (before after : Store) (script output : List ℕ) (line : Line)
         → lines_of script ≡ line ∷ [] →
-        Run before script output after ↔ ((reply : Reply) × Step before line reply after × (output ≡ output_of reply)) }
+        Run before script output after
+        ↔ ((reply : Reply) × Step before line reply after × (output ≡ output_of reply)) }
 {}
 
 /// A run of whole lines and more is the run of the lines and then the run of the rest, and what they put out
@@ -25,7 +26,8 @@ pub fn a_run_goes_line_by_line()
 pub fn runs_follow_one_another()
     ensures { (before after : Store) (front rest output : List ℕ) → IsTrue (are_whole_lines front) →
         Run before (front ++ rest) output after ↔
-        ((between : Store) × (first second : List ℕ) × Run before front first between × Run between rest second after × (output ≡ first ++ second)) }
+        ((between : Store) × (first second : List ℕ) × Run before front first between
+        × Run between rest second after × (output ≡ first ++ second)) }
 {}
 
 /// Where no line is answered that there is no memory, a run is the fold of `step` over the lines, and so a
@@ -35,7 +37,8 @@ pub fn with_ample_memory_there_is_one_run()
         → Run before script (ample_output before script) (store_after before script) }
     ensures one { (before after : Store) (script output : List ℕ)
         (run : Run before script output after) →
-        All (λ reply. reply ≢ Err no_memory) run.0 → (output ≡ ample_output before script) × (after ≡ store_after before script) }
+        All (λ reply. reply ≢ Err no_memory) run.0 →
+        (output ≡ ample_output before script) × (after ≡ store_after before script) }
 {}
 
 /// A run is cut off where whole lines were run and answered and the next line was run and answered in part;

@@ -23,9 +23,12 @@ pub fn the_rule_leaves_nothing_loose()
 pub fn shared_bytes_are_skipped()
     ensures last_byte { (words : ℕ) (shared keys : List ℕ) → IsByteString shared → 32 < length keys
         → AllBelow 256 keys
-        → form_of words (length shared + 1) (raise (number_of shared * 256) keys) ≡ bitmap_leaf shared keys ∷ [] }
+        → form_of words (length shared + 1) (raise (number_of shared * 256) keys)
+        ≡ bitmap_leaf shared keys ∷ [] }
     ensures before { (words width total : ℕ) (shared : List ℕ) (groups : List Group) (keys : List ℕ)
         → total ≡ length shared + 1 + width → 1 ≤ width → IsByteString shared
-        → AreGroups (256 ^ width) 0 groups → 1 < length groups → keys ≡ keys_of_groups (256 ^ width) (number_of shared * 256) groups → 32 < length keys
-        → form_of words total keys ≡ branch shared (bytes_of groups) (length keys) ∷ forms_of (form_of words width) groups }
+        → AreGroups (256 ^ width) 0 groups → 1 < length groups →
+        keys ≡ keys_of_groups (256 ^ width) (number_of shared * 256) groups → 32 < length keys
+        → form_of words total keys
+        ≡ branch shared (bytes_of groups) (length keys) ∷ forms_of (form_of words width) groups }
 {}

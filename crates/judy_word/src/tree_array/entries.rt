@@ -52,7 +52,8 @@ impl<'a, V: Words + Drop> TreeEntries<'a, V> {
         requires places { length out.old < 2 ^ 60 }
         ensures count { result ≡ min (length out.old) (length self.old) }
         ensures out { out.new
-            ≡ take result (mapped (λ entry. E.made entry.0 entry.1) self.old) ++ drop result out.old }
+            ≡ take result (mapped (λ entry. E.made entry.0 entry.1) self.old)
+            ++ drop result out.old }
         ensures left { self.new ≡ drop result self.old }
     {
         self.walk.fill(out, &mut Meter::new(UNMETERED))

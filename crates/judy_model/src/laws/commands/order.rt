@@ -13,7 +13,8 @@ ghost use Rattle.judy_model.specs.CommandLaws.{Says, RefusesItsArguments, Refuse
 /// A word that is no command, and begins no comment, is refused whatever its arguments are.
 pub fn an_unknown_word_is_refused()
     ensures { (word : List ℕ) (arguments : List (List ℕ)) (store : Store) (line : Line) →
-        IsFalse (starts_with nat_eq word (59 ∷ [])) → command_named word ≡ None → Says line (word ∷ arguments) →
+        IsFalse (starts_with nat_eq word (59 ∷ [])) → command_named word ≡ None →
+        Says line (word ∷ arguments) →
         step store line ≡ (Err unknown_command, store) }
 {}
 
@@ -28,9 +29,11 @@ pub fn a_wrong_number_of_arguments_is_refused()
     ensures free { (arguments : List (List ℕ)) → length arguments ≢ 1
         → RefusesItsArguments (codes "free") arguments }
     ensures one { (which : KeyCommand) (word : List ℕ) (arguments : List (List ℕ)) →
-        command_named word ≡ Some (on_key which) → length arguments ≢ 2 → RefusesItsArguments word arguments }
+        command_named word ≡ Some (on_key which) → length arguments ≢ 2 →
+        RefusesItsArguments word arguments }
     ensures two { (which : PairCommand) (word : List ℕ) (arguments : List (List ℕ)) →
-        command_named word ≡ Some (on_pair which) → length arguments ≢ 3 → RefusesItsArguments word arguments }
+        command_named word ≡ Some (on_pair which) → length arguments ≢ 3 →
+        RefusesItsArguments word arguments }
 {}
 
 /// Then one whose first argument is no name.
@@ -50,5 +53,6 @@ pub fn a_missing_array_is_refused()
     ensures one { (which : KeyCommand) (word token : List ℕ)
         → command_named word ≡ Some (on_key which) → RefusesAMissingArray word (token ∷ []) }
     ensures two { (which : PairCommand) (word first second : List ℕ) →
-        command_named word ≡ Some (on_pair which) → RefusesAMissingArray word (first ∷ second ∷ []) }
+        command_named word ≡ Some (on_pair which) →
+        RefusesAMissingArray word (first ∷ second ∷ []) }
 {}

@@ -18,7 +18,8 @@ pub fn free_answers_how_many_keys_there_were()
 /// `drop` answers how many keys the array held, and leaves the store without it.
 pub fn drop_answers_how_many_keys_there_were()
     ensures { (array : ArrayValue) (store : Store) (name : List ℕ) (line : Line) →
-        IsTrue (is_name name) → array_named store name ≡ Some array → Says line (codes "drop" ∷ name ∷ []) →
+        IsTrue (is_name name) → array_named store name ≡ Some array →
+        Says line (codes "drop" ∷ name ∷ []) →
         step store line ≡ (Ok (freed (len_of array)), without_array store name) }
 {}
 
