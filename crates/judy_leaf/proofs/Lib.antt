@@ -24,7 +24,6 @@ pub mod SlotSteps
 pub mod Bounds
 pub mod AbsentRuns
 pub mod AbsentBytes
-pub mod SamePairs
 pub mod FirstByte
 pub mod HalfSteps
 pub mod WholeWords

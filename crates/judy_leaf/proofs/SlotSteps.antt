@@ -8,13 +8,11 @@ use Rattle.judy_block.specs.Contents.{Contents}
 use Rattle.judy_leaf.specs.Packing.{keys_in, IsPacked}
 use Rattle.judy_leaf.specs.KeyLists.{KeyList, pairs_of, valued, with_value_at}
 use Rattle.judy_leaf.specs.Leaves.{keys_from, leaf_list, IsLeafParts}
-use Rattle.judy_leaf.specs.Immediates.{imm_list, IsImm}
 use Rattle.judy_bits.specs.BitWords.{members_of}
 use Rattle.judy_leaf.specs.BitLeaves.{bit_keys, bit_list, IsBitParts}
 use Rattle.judy_leaf.proofs.BitLists.{bit_length, bit_value_inside}
 use Rattle.judy_leaf.proofs.BitSteps.{all_values, as_many}
 use Rattle.judy_leaf.proofs.LeafLists.{length-keys_from}
-use Rattle.judy_leaf.proofs.ImmLists.{imm_length, length-keys_in}
 
 valued-pairs_of : (keys values : List ℕ) (at value : ℕ) → at < length keys → at < length values → pairs_of keys (set values at value) ≡ valued at (pairs_of keys values) value
 valued-pairs_of [] values at value inside there = let never : ⊥ = omega arith in absurd never
@@ -40,27 +38,6 @@ leaf_valued words count at value block is one inside =
       },
       (λ t. record { width = block.tag; pairs = ((λ j. pairs_of (keys_in block.tag count (behind j)) (before j)) ∙ valued-pairs_of keys (take start block.words) at value (omega arith) (omega arith)) t }),
     )
-
--- The list that is seen, with the value.
-pub leaf_written : (words count at : ℕ) (block : Contents) (list : KeyList) → IsLeafParts words count block → leaf_list words count block ≡ list → words ≡ 1 → at < count → (value : ℕ)
-    → leaf_list words count (record block { words = set block.words at value }) ≡ with_value_at at list value
-leaf_written words count at block list is seen one inside value = (leaf_valued words count at value block is one inside).1 ∙ ap (λ l. with_value_at at l value) seen
-
-pub imm_written : (words width count keys value : ℕ) (is : IsImm words width count keys) (list : KeyList) (seen : imm_list words width count keys value ≡ list) (at : ℕ) → words ≡ 1 → at < length list.pairs → (new : ℕ)
-    → imm_list words width count keys new ≡ with_value_at at list new
-imm_written words width count keys value is list seen at one inside new =
-    let all = imm_length words width count keys value is list seen in
-    let few = is.few one in
-    let single : words * count ≡ 1 = ap (λ w. w * count) one ∙ omega arith in
-    let first : 0 ≡ at = omega arith in
-    let long = length-keys_in width count keys is.packed in
-    (λ t. record {
-      width = width;
-      pairs = (ap (λ n. pairs_of (keys_in width count (keys ∷ [])) (take n (new ∷ []))) single
-          ∙ valued-pairs_of (keys_in width count (keys ∷ [])) (value ∷ []) 0 new (omega arith) (omega arith)
-          ∙ (λ j. valued (first j) (pairs_of (keys_in width count (keys ∷ [])) (take (sym single j) (value ∷ []))) new)) t;
-    })
-    ∙ ap (λ l. with_value_at at l new) seen
 
 -- ---- a bitmap leaf
 

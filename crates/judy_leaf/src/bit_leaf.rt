@@ -58,9 +58,6 @@ pub(crate) fn capacity_for<V: Words + Drop>(count: usize) -> usize
 }
 
 impl<V: Words + Drop> BitLeafOf<V> {
-    ghost use Rattle.std.specs.Borrow.{sem, Lends, u64 as word};
-    ghost use Rattle.judy_leaf.specs.contracts.bit_leaf.BitLeafOf.{the_row};
-
     /// The bitmap leaf of a block that is laid out as one.
     pub fn of_parts(block: Block) -> BitLeafOf<V>
         requires { IsBitParts V.WORDS block }
@@ -86,31 +83,6 @@ impl<V: Words + Drop> BitLeafOf<V> {
         ensures { result ≡ self.now }
     {
         BitRef::new(&self.block)
-    }
-
-    /// Puts a key in, with the value 0. The key is absent and below 256.
-    /// The error is want of memory; the leaf is unchanged then.
-    pub fn insert(&mut self, alloc: Global, key: u64) -> Result<(), AllocError>
-        requires absent { IsFalse (set.has (keys_of self.old.pairs) key) }
-        requires below { key < 256 }
-        ensures added { OnOk result
-            (self.new ≡ record self.old { pairs = with_pair key 0 self.old.pairs }) }
-        ensures unchanged { OnErr result (self.new ≡ self.old) }
-    {
-        self.insert_pair(alloc, key, 0)
-    }
-
-    /// Puts a key in with its value, which is 0 where keys have no value; else as `insert`.
-    pub fn insert_pair(&mut self, alloc: Global, key: u64, value: u64) -> Result<(), AllocError>
-        requires absent { IsFalse (set.has (keys_of self.old.pairs) key) }
-        requires below { key < 256 }
-        requires no_value { V.WORDS ≡ 0 → value ≡ 0 }
-        ensures added { OnOk result
-            (self.new ≡ record self.old { pairs = with_pair key value self.old.pairs }) }
-        ensures unchanged { OnErr result (self.new ≡ self.old) }
-    {
-        let at = self.reading().rank(key);
-        put_in_bit_leaf::<V>(alloc, &mut self.block, at, key as u8, value)
     }
 
     /// Takes the key at a place out, with its value; the place is below the number of keys. No memory is asked for.
@@ -145,17 +117,5 @@ impl<V: Words + Drop> BitLeafOf<V> {
             block,
             words: PhantomData,
         })
-    }
-
-    /// Lends the value at a place below the number of keys, where keys have values; nothing else changes.
-    pub fn slot_at(&mut self, at: usize) -> &mut u64
-        requires map { V.WORDS ≡ 1 }
-        requires inside { at < length self.old.pairs }
-        ensures* changes { sem 𝓛
-            (Lends (the_row V.row V.Words) word self.entry result
-            (with_value_at at self.entry.now)) }
-        ensures value { result.now ≡ slice_index (values_of self.old.pairs) at }
-    {
-        self.block.slot(BIT_WORDS + at)
     }
 }

@@ -44,9 +44,6 @@ impl<V: Words + Drop> Model for ImmOf<V> {
 }
 
 impl<V: Words + Drop> ImmOf<V> {
-    ghost use Rattle.std.specs.Borrow.{sem, Lends, u64 as word};
-    ghost use Rattle.judy_leaf.specs.contracts.imm.ImmOf.{the_row};
-
     /// An immediate without keys, for keys of `width` bytes, 1 to 8.
     pub fn new(width: u8) -> ImmOf<V>
         requires words { V.WORDS ≤ 1 }
@@ -83,14 +80,6 @@ impl<V: Words + Drop> ImmOf<V> {
     /// A law, told by a call that does nothing: the keys ascend and have `width` bytes.
     pub fn told(&self)
         ensures { IsKeyList self.now }
-    {
-        let _ = &self.count;
-    }
-
-    /// A law, told by a call that does nothing: a key has at most one word of value, and where it has none, each value is 0.
-    pub fn told_values(&self)
-        ensures words { V.WORDS ≤ 1 }
-        ensures none { V.WORDS ≡ 0 → AllByRecursion (λ pair. pair.1 ≡ 0) self.now.pairs }
     {
         let _ = &self.count;
     }
@@ -207,17 +196,8 @@ impl<V: Words + Drop> ImmOf<V> {
         one_word::absent_up_to(self.width, usize::from(self.count), self.keys, number)
     }
 
-    /// Puts a key in, with the value 0. The key is absent and below 256 to the power of the width, and the immediate isn't full.
-    pub fn insert(&mut self, key: u64)
-        requires absent { IsFalse (set.has (keys_of self.old.pairs) key) }
-        requires room { length self.old.pairs < imm_room V.WORDS self.old.width }
-        requires below { key < 256 ^ self.old.width }
-        ensures { self.new ≡ record self.old { pairs = with_pair key 0 self.old.pairs } }
-    {
-        self.insert_pair(key, 0);
-    }
-
-    /// Puts a key in with its value, which is 0 where keys have no value; else as `insert`.
+    /// Puts a key in with its value, which is 0 where keys have no value. The key is absent and below 256 to the power of the width, and the
+    /// immediate isn't full.
     pub fn insert_pair(&mut self, key: u64, value: u64)
         requires absent { IsFalse (set.has (keys_of self.old.pairs) key) }
         requires room { length self.old.pairs < imm_room V.WORDS self.old.width }
@@ -309,17 +289,5 @@ impl<V: Words + Drop> ImmOf<V> {
         } else {
             (u64::from(self.count), self.keys)
         }
-    }
-
-    /// Lends the value at a place below the number of keys, where keys have values; nothing else changes.
-    pub fn slot_at(&mut self, at: usize) -> &mut u64
-        requires map { V.WORDS ≡ 1 }
-        requires inside { at < length self.old.pairs }
-        ensures* changes { sem 𝓛
-            (Lends (the_row V.row V.Words) word self.entry result
-            (with_value_at at self.entry.now)) }
-        ensures value { result.now ≡ slice_index (values_of self.old.pairs) at }
-    {
-        &mut self.value
     }
 }

@@ -65,9 +65,6 @@ impl<V: Words + Drop> Model for LeafOf<V> {
 }
 
 impl<V: Words + Drop> LeafOf<V> {
-    ghost use Rattle.std.specs.Borrow.{sem, Lends, u64 as word};
-    ghost use Rattle.judy_leaf.specs.contracts.leaf.LeafOf.{the_row};
-
     /// The leaf that is made of a number of keys and a block.
     pub fn of_parts(count: u8, block: Block) -> LeafOf<V>
         requires { IsLeafParts V.WORDS count block }
@@ -98,42 +95,6 @@ impl<V: Words + Drop> LeafOf<V> {
         ensures { result ≡ self.now }
     {
         LeafRef::new(self.count, self.block.tag() as u8, &self.block)
-    }
-
-    /// Puts a key in, with the value 0. The key is absent and below 256 to the power of the width, and there are fewer than 32.
-    /// The error is want of memory; the leaf is unchanged then.
-    pub fn insert(&mut self, alloc: Global, key: u64) -> Result<(), AllocError>
-        requires absent { IsFalse (set.has (keys_of self.old.pairs) key) }
-        requires room { length self.old.pairs < 32 }
-        requires below { key < 256 ^ self.old.width }
-        ensures added { OnOk result
-            (self.new ≡ record self.old { pairs = with_pair key 0 self.old.pairs }) }
-        ensures unchanged { OnErr result (self.new ≡ self.old) }
-    {
-        self.insert_pair(alloc, key, 0)
-    }
-
-    /// Puts a key in with its value, which is 0 where keys have no value; else as `insert`.
-    pub fn insert_pair(&mut self, alloc: Global, key: u64, value: u64) -> Result<(), AllocError>
-        requires absent { IsFalse (set.has (keys_of self.old.pairs) key) }
-        requires room { length self.old.pairs < 32 }
-        requires below { key < 256 ^ self.old.width }
-        requires no_value { V.WORDS ≡ 0 → value ≡ 0 }
-        ensures added { OnOk result
-            (self.new ≡ record self.old { pairs = with_pair key value self.old.pairs }) }
-        ensures unchanged { OnErr result (self.new ≡ self.old) }
-    {
-        let at = self.reading().rank(key);
-        let width = self.block.tag() as u8;
-        put_in_leaf::<V>(
-            alloc,
-            &mut self.count,
-            &mut self.block,
-            width,
-            at,
-            key,
-            value,
-        )
     }
 
     /// Takes the key at a place out, with its value; the place is below the number of keys. No memory is asked for.
@@ -216,17 +177,5 @@ impl<V: Words + Drop> LeafOf<V> {
         ensures within { result ≤ 65 }
     {
         V::WORDS * pairs.len() + keys::words_of(usize::from(width), pairs.len())
-    }
-
-    /// Lends the value at a place below the number of keys, where keys have values; nothing else changes.
-    pub fn slot_at(&mut self, at: usize) -> &mut u64
-        requires map { V.WORDS ≡ 1 }
-        requires inside { at < length self.old.pairs }
-        ensures* changes { sem 𝓛
-            (Lends (the_row V.row V.Words) word self.entry result
-            (with_value_at at self.entry.now)) }
-        ensures value { result.now ≡ slice_index (values_of self.old.pairs) at }
-    {
-        self.block.slot(at)
     }
 }

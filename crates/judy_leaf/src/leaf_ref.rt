@@ -65,14 +65,6 @@ impl<'a, V: Words + Drop> LeafRef<'a, V> {
         let _ = &self.count;
     }
 
-    /// A law, told by a call that does nothing: a key has at most one word of value, and where it has none, each value is 0.
-    pub fn told_values(&self)
-        ensures words { V.WORDS ≤ 1 }
-        ensures none { V.WORDS ≡ 0 → AllByRecursion (λ pair. pair.1 ≡ 0) self.now.pairs }
-    {
-        let _ = &self.count;
-    }
-
     /// How many keys there are, at most 32.
     pub fn len(&self) -> usize
         ensures count { result ≡ length self.now.pairs }

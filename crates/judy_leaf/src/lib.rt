@@ -16,16 +16,14 @@
 //! where keys have one byte or two and by halves.rt where they have eight, gaps.rt follows keys that are neighbours to a number that is no key, and edit.rt changes the words
 //! of a block, place by place. keys.rt and one_word.rt know the width at run time and hand on to these by the macros of widths.rt. layout.rt tells how many keys
 //! a leaf holds, and how a bitmap leaf's block is laid out. values.rt and pairs.rt put
-//! values beside the keys, fill.rt writes pairs into a slice, or what from_pair.rt makes of them, in_place.rt changes leaves whose parts stand in a node, convert.rt
-//! makes an immediate of a leaf's pairs and a leaf of an immediate's, next_bits.rt has the bits of a bitmap leaf in turn, and bit_edit.rt
-//! changes its block. The crate
-//! stands on judy_model, judy_bits and judy_block; the nodes of the tree stand on it.
+//! values beside the keys, fill.rt writes pairs into a slice, or what from_pair.rt makes of them, in_place.rt changes leaves whose parts stand in a node,
+//! next_bits.rt has the bits of a bitmap leaf in turn, and bit_edit.rt changes its block. The crate stands on judy_model, judy_bits
+//! and judy_block; the nodes of the tree stand on it.
 #![tactic(auto)]
 
 mod bit_edit;
 mod bit_leaf;
 mod bit_ref;
-mod convert;
 mod edit;
 mod fill;
 mod from_pair;

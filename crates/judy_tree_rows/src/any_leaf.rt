@@ -4,8 +4,8 @@ ghost use Rattle.std.specs.Prelude.{◌≡◌, ◌≤◌};
 ghost use Rattle.judy_leaf.specs.Immediates.{imm_room};
 
 use crate::leaves::{top_of, value_of};
-use crate::plain::{Answers, answers_of, beside, same_answer, same_len, same_pair, write_first};
-use judy_leaf::{BitLeafOf, ImmOf, LeafOf, Room, Words};
+use crate::plain::{Answers, answers_of, beside, same_answer, same_len, same_pair};
+use judy_leaf::{BitLeafOf, ImmOf, LeafOf, Room, Words, put_in_bit_leaf, put_in_leaf};
 use std::alloc::{AllocError, Global};
 use std::process::Abort;
 
@@ -74,6 +74,45 @@ pub(crate) fn room_of<V: Words + Drop>(width: u8) -> usize
     }
 }
 
+// A leaf with one key more, which is put in where its parts stand, as in a node.
+fn with_key<V: Words + Drop>(
+    rt: &impl Abort,
+    alloc: Global,
+    leaf: LeafOf<V>,
+    key: u64,
+) -> Result<LeafOf<V>, AllocError> {
+    let width = leaf.reading().width();
+    assert!(rt; key <= top_of(width));
+    assert!(rt; leaf.reading().find(key).is_none());
+    let at = leaf.reading().rank(key);
+    let (mut count, mut block) = leaf.into_parts();
+    assert!(rt; count < 32 && block.tag() == u32::from(width));
+    put_in_leaf::<V>(
+        alloc,
+        &mut count,
+        &mut block,
+        width,
+        at,
+        key,
+        value_of::<V>(key),
+    )?;
+    Ok(LeafOf::of_parts(count, block))
+}
+
+// The same of a bitmap leaf.
+fn with_byte<V: Words + Drop>(
+    rt: &impl Abort,
+    alloc: Global,
+    leaf: BitLeafOf<V>,
+    key: u64,
+) -> Result<BitLeafOf<V>, AllocError> {
+    assert!(rt; key < 256 && leaf.reading().find(key).is_none());
+    let at = leaf.reading().rank(key);
+    let mut block = leaf.into_parts();
+    put_in_bit_leaf::<V>(alloc, &mut block, at, key as u8, value_of::<V>(key))?;
+    Ok(BitLeafOf::of_parts(block))
+}
+
 impl<V: Words + Drop> AnyLeaf<V> {
     // A leaf of a kind and a width, without keys.
     pub(crate) fn empty(alloc: Global, kind: Kind, width: u8) -> Result<AnyLeaf<V>, AllocError>
@@ -122,10 +161,6 @@ impl<V: Words + Drop> AnyLeaf<V> {
         read!(self, leaf => leaf.len())
     }
 
-    fn rank(&self, word: u64) -> usize {
-        read!(self, leaf => leaf.rank(word))
-    }
-
     // The pair at a place, if there is one.
     fn pair_at(&self, at: usize) -> Option<(u64, u64)> {
         read!(self, leaf => if at < leaf.len() {
@@ -147,49 +182,23 @@ impl<V: Words + Drop> AnyLeaf<V> {
         })
     }
 
-    // Writes the value of the key at a place, which has none yet.
-    fn write(&mut self, rt: &impl Abort, at: usize, value: u64)
-        requires { V.WORDS ≡ 1 }
-    {
-        change_at!(rt, self, at, leaf => write_first(rt, leaf.slot_at(at), value))
-    }
-
-    // Puts an absent key in, where there is room, with its value: at once or through the slot, in an immediate always so.
+    // Puts an absent key in with its value, where there is room.
     pub(crate) fn put(
-        &mut self,
+        self,
         rt: &impl Abort,
         alloc: Global,
         key: u64,
-        at_once: bool,
-    ) -> Result<(), AllocError> {
-        let value = value_of::<V>(key);
-        match self {
-            AnyLeaf::Leaf(leaf) => {
-                assert!(rt; leaf.reading().len() < 32);
-                assert!(rt; key <= top_of(leaf.reading().width()));
-                assert!(rt; leaf.reading().find(key).is_none());
-                if at_once {
-                    return leaf.insert_pair(alloc, key, value);
-                }
-                leaf.insert(alloc, key)?;
-            }
-            AnyLeaf::Bits(leaf) => {
-                assert!(rt; key < 256 && leaf.reading().find(key).is_none());
-                if at_once {
-                    return leaf.insert_pair(alloc, key, value);
-                }
-                leaf.insert(alloc, key)?;
-            }
-            AnyLeaf::Imm(imm) => {
+    ) -> Result<AnyLeaf<V>, AllocError> {
+        Ok(match self {
+            AnyLeaf::Leaf(leaf) => AnyLeaf::Leaf(with_key(rt, alloc, leaf, key)?),
+            AnyLeaf::Bits(leaf) => AnyLeaf::Bits(with_byte(rt, alloc, leaf, key)?),
+            AnyLeaf::Imm(mut imm) => {
                 assert!(rt; imm.len() < room_of::<V>(imm.width()));
                 assert!(rt; key <= top_of(imm.width()) && imm.find(key).is_none());
-                imm.insert(key);
+                imm.insert_pair(key, value_of::<V>(key));
+                AnyLeaf::Imm(imm)
             }
-        }
-        if V::WORDS == 1 {
-            self.write(rt, self.rank(key), value);
-        }
-        Ok(())
+        })
     }
 
     // Takes out the key at a place, here and from the plain list.
@@ -213,25 +222,6 @@ impl<V: Words + Drop> AnyLeaf<V> {
                 let (head, word) = imm.into_parts();
                 AnyLeaf::Imm(ImmOf::of_parts(width, head, word))
             }
-        }
-    }
-
-    // Makes a full immediate a leaf, which it compares with the plain list, and that an immediate. Others are left alone.
-    pub(crate) fn through_leaf(
-        self,
-        rt: &impl Abort,
-        alloc: Global,
-        plain: &[(u64, u64)],
-    ) -> Result<AnyLeaf<V>, AllocError> {
-        match self {
-            AnyLeaf::Imm(imm) => {
-                assert!(rt; imm.is_full());
-                let leaf = imm.to_leaf(alloc)?;
-                let again = leaf.reading().to_immediate();
-                AnyLeaf::Leaf(leaf).check(rt, plain);
-                Ok(AnyLeaf::Imm(again))
-            }
-            other => Ok(other),
         }
     }
 

@@ -94,18 +94,19 @@ fn check_step<V: Words + Drop>(rt: &impl Abort, leaf: &AnyLeaf<V>, plain: &[(u64
 fn fill<V: Words + Drop>(
     rt: &impl Abort,
     alloc: Global,
-    leaf: &mut AnyLeaf<V>,
+    leaf: AnyLeaf<V>,
     plain: &mut Vec<(u64, u64)>,
     order: Order,
-) -> Result<(), AllocError> {
+) -> Result<AnyLeaf<V>, AllocError> {
     leaf.check(rt, plain);
+    let mut leaf = leaf;
     for step in 0..leaf.room() as u64 {
-        let key = order.key(leaf, step);
-        leaf.put(rt, alloc, key, step % 2 == 0)?;
+        let key = order.key(&leaf, step);
+        leaf = leaf.put(rt, alloc, key)?;
         note(rt, plain, key, value_of::<V>(key))?;
-        check_step(rt, leaf, plain);
+        check_step(rt, &leaf, plain);
     }
-    Ok(())
+    Ok(leaf)
 }
 
 // Takes the keys of a full leaf out, one by one.
@@ -134,10 +135,10 @@ fn check_order<V: Words + Drop>(
     requires most { width ≤ 8 }
 {
     let mut plain = Vec::new(alloc);
-    let mut leaf = AnyLeaf::<V>::empty(alloc, kind, width)?;
-    fill(rt, alloc, &mut leaf, &mut plain, order)?;
-    same_answer(rt, leaf.width() == width, true);
-    let mut leaf = leaf.put_together(rt).through_leaf(rt, alloc, &plain)?;
+    let empty = AnyLeaf::<V>::empty(alloc, kind, width)?;
+    let full = fill(rt, alloc, empty, &mut plain, order)?;
+    same_answer(rt, full.width() == width, true);
+    let mut leaf = full.put_together(rt);
     drain(rt, &mut leaf, &mut plain, order.end);
     Ok(())
 }

@@ -122,12 +122,6 @@ pub(crate) fn same_pairs(rt: &impl Abort, found: &[(u64, u64)], plain: &[(u64, u
     assert_eq!(rt; found, plain);
 }
 
-// Writes a value into a slot that has none yet.
-pub(crate) fn write_first(rt: &impl Abort, slot: &mut u64, value: u64) {
-    assert_eq!(rt; *slot, 0);
-    *slot = value;
-}
-
 // Compares the value of a word and the nearest pair above it.
 pub(crate) fn check_around(
     rt: &impl Abort,

@@ -1,4 +1,4 @@
-use Rattle.std.proofs.Common.{◌≡◌, ◌+◌, ◌-◌, is_le, ◌∙◌, arith}
+use Rattle.std.proofs.Common.{◌≡◌, ◌+◌, is_le, ◌∙◌, arith}
 use Rattle.judy_model.specs.Keys.{word_order}
 use Rattle.judy_model.proofs.Places.{length-filter-le}
 use Rattle.judy_leaf.specs.Packing.{keys_in}
