@@ -8,17 +8,28 @@
  * takes; `sellumaq_judyl_free` gives all its memory back, and leaves the empty array. Each call is proved to answer as a plain
  * finite set or map does (see the project's README). What the proof asks of the caller, and no compiler checks:
  *
- *   - No call changes an array while another is handed it. Calls that take a `const` handle leave the array as it is, so threads may
- *     read one at the same time, and each thread may change arrays of its own; the library has no data but the arrays'.
+ *   - One call at a time is made on an array; what threads may do besides is told below.
  *   - A copy of a handle's word is the same array, so after a change of the one the other must not be used.
- *   - A slot, the pointer to the value of a key, may be read and written until the next call that is handed the array to change
- *     it: `ins`, `put`, `insert`, `del`, `remove`, `from_sorted` or `free`.
+ *   - A slot, the pointer to the value of a key, may be read and written until the next call that may change the array: `ins`, `put`,
+ *     `insert`, `del`, `remove`, `from_sorted` or `free`.
  *   - A pointer through which a call answers points to a word of the caller's, and a pointer to a key or a buffer to as many bytes, keys
- *     or pairs as are told beside it; it isn't NULL, also where these are none. No two of one call overlap.
+ *     or pairs as are told beside it. It isn't NULL, also where these are none. No two of one call overlap.
  *   - No call is made from within a signal handler.
  *
- * Cost, proved of the queries of words: whatever the array holds, `test`, `get` and `by_count` enter at most 8 nodes of its tree, a search
- * for a neighbour, or for the nearest word that is no key, at most 15, and `count` at most 16.
+ * Threads may read one array together, by the calls whose handle is `const`, and each may change arrays of its own. A call that may change an
+ * array is the only one on it. The proofs are of one call at a time on an array. That threads may read one together is read off the code: these
+ * calls write nothing in an array, and the library has no data but the arrays'. It is tested by threads under helgrind. A write through a slot
+ * changes the array: no other thread may be in a call then that reads that value.
+ *
+ * Cost. Of the searches that the calls on words make it is proved how many nodes of the tree they enter, whatever the array holds. A look-up, a
+ * rank and a place enter at most 8, a neighbour and the nearest word that is no key at most 15. That `test`, `get`, `by_count`, `first`,
+ * `first_empty` and the fellows of these two make at most one search each, and `count` two, is read off the code.
+ *
+ * Memory. A map from strings or byte strings that lost most of its keys keeps the lists of their bytes, which may be about half of what it took,
+ * or more. To give that back copy the keys that are left. What a walk through all of them wrote is handed to `sellumaq_judysl_from_sorted` of the same
+ * map. Those of a `sellumaq_judyhs` are put into a new one, and the old one is freed.
+ *
+ * Machine: a processor of x86-64-v2, which has SSE4.2 and popcnt, and Linux with glibc.
  *
  * Calls that answer through a pointer write there only where they answer true, or SELLUMAQ_FOUND; `insert` where it answers SELLUMAQ_PRESENT, and
  * `from_sorted` where it answers SELLUMAQ_BAD_KEY.
@@ -39,21 +50,23 @@ extern "C" {
 
 /* What a call answers that has more to tell than yes and no. */
 enum {
-    SELLUMAQ_PRESENT = 0,   /* of `set` and `put`: the key was there */
-    SELLUMAQ_ADDED = 1,     /* of `set` and `put`: the key was absent, and is there now */
+    SELLUMAQ_PRESENT = 0,   /* of `set`, `put` and `insert`: the key was there */
+    SELLUMAQ_ADDED = 1,     /* of these: the key was absent, and is there now; of `from_sorted`: the array is made */
     SELLUMAQ_NONE = 0,      /* of strings: there is no such key */
-    SELLUMAQ_FOUND = 1,     /* of strings: the key is there, and what was asked of it is told */
-    SELLUMAQ_NO_MEMORY = 2, /* the key is absent, there is no memory for it, and nothing changed */
-    SELLUMAQ_FULL = 3,      /* the key is absent, and the map holds 4,294,967,295 keys */
-    SELLUMAQ_BAD_KEY = 4,   /* the bytes are no key; of `from_sorted`: a key isn't above the one before it */
-    SELLUMAQ_TOO_SMALL = 5  /* the key found doesn't fit the caller's buffer */
+    SELLUMAQ_FOUND = 1,     /* of strings and byte strings: the key is there, and what was asked of it is told */
+    SELLUMAQ_NO_MEMORY = 2, /* the key is absent, there is no memory for it, and nothing changed; of `from_sorted`: none for the keys */
+    SELLUMAQ_FULL = 3,      /* of strings and byte strings (words have no limit but memory): the key is absent, and the map holds 4,294,967,295
+                             * keys; of `from_sorted`: the keys are more than that */
+    SELLUMAQ_BAD_KEY = 4,   /* of strings and byte strings: the bytes are no key; of `from_sorted` also: a key isn't above the one before it */
+    SELLUMAQ_TOO_SMALL = 5  /* of strings: the key found doesn't fit the caller's buffer */
 };
 
 /* ---- sets of words ---- */
 
 typedef struct { void *array; } sellumaq_judy1;
 
-/* Puts a key in. A key that is there is never refused. */
+/* Puts a key in: SELLUMAQ_ADDED where it was absent, SELLUMAQ_PRESENT where it was there; SELLUMAQ_NO_MEMORY where it is absent and there is no
+ * memory for it, and nothing changed. A key that is there is never refused. */
 uint32_t sellumaq_judy1_set(sellumaq_judy1 *set, uint64_t key);
 
 /* Takes a key out; true where it was there. Never refused. After the last key the handle may still hold a little memory, up to `free`. */
@@ -86,9 +99,9 @@ bool sellumaq_judy1_prev_empty(const sellumaq_judy1 *set, uint64_t from, uint64_
 size_t sellumaq_judy1_walk(const sellumaq_judy1 *set, uint64_t from, uint64_t *keys, size_t capacity);
 
 /* Makes the set one of `count` keys that strictly ascend, in place of what it held, whose memory is given back: SELLUMAQ_ADDED. It takes a
- * part of the time of as many `set`, and 16 bytes more for each key while it is at work. Else the set is as it was: SELLUMAQ_BAD_KEY where
- * a key isn't above the one before it, and `*place` is the place of the first such key, counted from 0; SELLUMAQ_NO_MEMORY where the
- * keys ascend and there is no memory for them. */
+ * part of the time of as many `set`, and 16 bytes more for each key while it is at work. Else the set is as it was. SELLUMAQ_BAD_KEY: a key
+ * isn't above the one before it, and `*place` is the place of the first such key, counted from 0. SELLUMAQ_NO_MEMORY: the keys ascend, and there
+ * is no memory for them. */
 uint32_t sellumaq_judy1_from_sorted(sellumaq_judy1 *set, const uint64_t *keys, size_t count, size_t *place);
 
 /* How many keys there are. */
@@ -111,8 +124,8 @@ typedef struct { void *array; } sellumaq_judyl;
  * where the key is absent and there is no memory for it; nothing changed then. */
 bool sellumaq_judyl_ins(sellumaq_judyl *map, uint64_t key, uint64_t **slot);
 
-/* Gives a key a value, and answers as `sellumaq_judy1_set` does: SELLUMAQ_PRESENT where the key was there, whose value it replaces. A new
- * key takes less time by this than by its slot. */
+/* Gives a key a value, in place of the one that it had, and answers as `sellumaq_judy1_set` does. A new key takes less time by this than by
+ * its slot. */
 uint32_t sellumaq_judyl_put(sellumaq_judyl *map, uint64_t key, uint64_t value);
 
 /* The same, and where the key was there it tells the value that it had. It takes no second way down the map. */
@@ -125,7 +138,8 @@ bool sellumaq_judyl_get(const sellumaq_judyl *map, uint64_t key, uint64_t *value
 typedef struct { uint64_t value, there; } sellumaq_found;
 
 /* Looks up the keys of a list, as many as there is room for, and tells of each at its place what `sellumaq_judyl_get` answers; answers how
- * many these are. Up to 16 keys go down the map side by side and wait for memory together, which takes less time than a call each. */
+ * many these are. Up to 16 keys go down the map side by side and wait for memory together. In large maps of words far apart that takes less time
+ * than a call each, and in maps that stand in the caches more. */
 size_t sellumaq_judyl_get_many(const sellumaq_judyl *map, const uint64_t *keys, size_t count, sellumaq_found *found, size_t capacity);
 
 /* The slot of a key; false where the key is absent. */
@@ -250,16 +264,15 @@ uint32_t sellumaq_judysl_prev_slot(const sellumaq_judysl *map, uint8_t *buffer, 
 /* The keys from a string on, or those above it where `itself` is false, with their values, by ascending key. The bytes of the keys are written
  * to `bytes`, one key behind the other, and the length and the value of each to its place in `entries`; what stands behind them in both
  * stays. Answers how many keys it told. It ends where no key is left, or where the `room` bytes or the `capacity` entries have no place for
- * the next one: with SELLUMAQ_KEY_BYTES of room, and one entry, 0 says that no key is left. 0 too where a map can't hold the string. */
+ * the next one. With SELLUMAQ_KEY_BYTES of room, and one entry, 0 says that no key is left. 0 too where a map can't hold the string. */
 size_t sellumaq_judysl_walk(const sellumaq_judysl *map, const uint8_t *from, size_t length, bool itself,
                             uint8_t *bytes, size_t room, sellumaq_entry *entries, size_t capacity);
 
 /* Makes the map one of `count` strings that strictly ascend, each with its value, in place of what it held, whose memory is given back:
  * SELLUMAQ_ADDED. The strings stand one behind the other in the `room` bytes, and the length and the value of each in `entries`, as a walk
- * writes them. Else the map is as it was: SELLUMAQ_BAD_KEY where one goes beyond the bytes, and `*place` is the place of the first such one,
- * counted from 0; or where one is no key or isn't above the one before it, and `*place` is the place of the first such one; SELLUMAQ_FULL
- * where they are keys that ascend, and more than 4,294,967,295; SELLUMAQ_NO_MEMORY where there is no memory for them. It takes 24 bytes more
- * for each string while it is at work. */
+ * writes them. Else the map is as it was. SELLUMAQ_BAD_KEY: one goes beyond the bytes; or all are there, and one is no key or isn't above the
+ * one before it. `*place` is the place of the first such one, counted from 0. SELLUMAQ_FULL: they are keys that ascend, and more than
+ * 4,294,967,295. SELLUMAQ_NO_MEMORY: there is no memory for them. It takes 24 bytes more for each string while it is at work. */
 uint32_t sellumaq_judysl_from_sorted(sellumaq_judysl *map, const uint8_t *bytes, size_t room, const sellumaq_entry *entries, size_t count,
                                      size_t *place);
 
@@ -268,7 +281,7 @@ uint64_t sellumaq_judysl_len(const sellumaq_judysl *map);
 
 /* How many keys there are from one string to another, both included; 0 where the first is above the second, or where a map can't hold one of
  * the two. It takes at most two ways down the map, however many keys it counts. In the level where these part, if that isn't the first, the
- * entries between the two strings are read, or the others where they are fewer; in each level below, those on one side of the key's own, on
+ * entries between the two strings are read, or the others where they are fewer. In each level below those on one side of the key's own are, on
  * the side that has fewer. */
 uint64_t sellumaq_judysl_count(const sellumaq_judysl *map, const uint8_t *from, size_t from_length, const uint8_t *to, size_t to_length);
 
@@ -314,7 +327,8 @@ bool sellumaq_judyhs_remove(sellumaq_judyhs *map, const uint8_t *key, size_t len
 
 /* The keys with their values, by the lengths of the keys, and those of one length by their bytes, but for the first `behind` ones; they are
  * told as `sellumaq_judysl_walk` tells them, and `*count` is how many. The map keeps no order: each call makes a list of all keys and sorts it,
- * so that few calls with large buffers are better than many. Where no key was told and one is left, it has more than `room` bytes. False, and nothing is written, where there is no memory for the list. */
+ * so that few calls with large buffers are better than many. Where no key was told and one is left, it has more than `room` bytes. False, and
+ * nothing is written, where there is no memory for the list. */
 bool sellumaq_judyhs_walk(const sellumaq_judyhs *map, size_t behind, uint8_t *bytes, size_t room, sellumaq_entry *entries, size_t capacity, size_t *count);
 
 /* How many keys there are. */

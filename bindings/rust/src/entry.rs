@@ -41,8 +41,8 @@ macro_rules! entries {
         unsafe impl<$($k: $bound + Sync)?> Sync for OccupiedEntry<'_ $(, $k)?> {}
 
         impl $map {
-            /// The place of a key, to be looked at and filled. A key that is there takes one way down the map, an absent one
-            /// a second when it is put in.
+            /// The place of a key, to be looked at and filled. A key that is there takes one way down the map, and an absent
+            /// one more when it is put in.
             ///
             /// ```
             #[doc = concat!($sample, "\nassert_eq!(*map.entry(", $c, ").or_default(), 0);")]

@@ -229,8 +229,8 @@ impl JudyL {
         }
     }
 
-    /// The value of a key, to read and to change; the key is put in with the value 0 where it is absent. It is one way down
-    /// the map, where an absent key takes [`entry`](Self::entry) two.
+    /// The value of a key, to read and to change; the key is put in with the value 0 where it is absent. By this an absent key takes a
+    /// way down the map less than by [`entry`](Self::entry), and one that is there a way more.
     ///
     /// ```
     /// let mut map = sellumaq::JudyL::new();
@@ -256,7 +256,8 @@ impl JudyL {
     }
 
     /// Looks up many keys, as many as both slices have, and writes the value of each to its place; `None` where a key is absent. Up to
-    /// 16 keys go down the map side by side and wait for memory together, which takes less time than [`get`](Self::get) for each.
+    /// 16 keys go down the map side by side and wait for memory together. In large maps of words far apart that takes less time than
+    /// [`get`](Self::get) for each, and in maps that stand in the caches more.
     ///
     /// ```
     /// let map = sellumaq::JudyL::from([(3, 30), (5, 50)]);

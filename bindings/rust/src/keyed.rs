@@ -103,7 +103,7 @@ macro_rules! keyed_map {
             }
 
             /// Gives a key a value, and answers the one it had; at an error the map is as it was. A key that is there is
-            /// never refused. It is one way down the map.
+            /// never refused.
             ///
             /// ```
             #[doc = $sample]
@@ -123,8 +123,8 @@ macro_rules! keyed_map {
                 }
             }
 
-            /// The value of a key, to read and to change; the key is put in with the value 0 where it is absent. It is one
-            /// way down the map, where an absent key takes [`entry`](Self::entry) two.
+            /// The value of a key, to read and to change; the key is put in with the value 0 where it is absent. By this an
+            /// absent key takes a way down the map less than by [`entry`](Self::entry).
             ///
             /// ```
             #[doc = $sample]

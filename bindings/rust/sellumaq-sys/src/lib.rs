@@ -63,26 +63,27 @@ pub struct sellumaq_entry {
     pub value: u64,
 }
 
-/// The key was there, and nothing changed.
+/// The key was there.
 pub const SELLUMAQ_PRESENT: u32 = 0;
-/// The key was absent, and is there now.
+/// The key was absent, and is there now; of `from_sorted`: the array is made.
 pub const SELLUMAQ_ADDED: u32 = 1;
-/// The key was absent, there is no memory for it, and nothing changed.
+/// The key is absent, there is no memory for it, and nothing changed; of `from_sorted`: none for the keys.
 pub const SELLUMAQ_NO_MEMORY: u32 = 2;
 
 /// There is no such key.
 pub const SELLUMAQ_NONE: u32 = 0;
 /// The key is there, and what was asked of it is told.
 pub const SELLUMAQ_FOUND: u32 = 1;
-/// The key is absent, and the map holds 4,294,967,295 keys.
+/// Of strings and byte strings: the key is absent, and the map holds 4,294,967,295 keys; of `from_sorted`: the keys are more than that.
 pub const SELLUMAQ_FULL: u32 = 3;
-/// The bytes are no key.
+/// Of strings and byte strings: the bytes are no key; of `from_sorted` also: a key isn't above the one before it.
 pub const SELLUMAQ_BAD_KEY: u32 = 4;
 /// The key found doesn't fit the caller's buffer.
 pub const SELLUMAQ_TOO_SMALL: u32 = 5;
 
-/// The most bytes of a key.
+/// The most bytes of a key of a map from strings.
 pub const SELLUMAQ_KEY_BYTES: usize = 1024;
+/// The most bytes of a key of a map from byte strings.
 pub const SELLUMAQ_JUDYHS_KEY_BYTES: usize = isize::MAX as usize;
 
 // A set of words.
