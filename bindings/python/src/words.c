@@ -291,58 +291,6 @@ static PyObject *cursor(PyObject *self, PyTypeObject *defining, PyObject *const 
     {Py_sq_length, words_len},                \
     {Py_sq_contains, words_contains}
 
-/* How many keys are handed to an array at a time. */
-enum { GROUP = 256 };
-
-/* Keys that wait to be looked up together; one that can't be a key of the array waits too. */
-typedef struct {
-    int count;
-    bool could_be[GROUP];
-    uint64_t keys[GROUP];
-} Group;
-
-/* Looks the keys of a group up and puts what is told of each behind what a list has; false with an error set. */
-typedef bool Append(Words *self, const Group *group, PyObject *told);
-
-/* Puts an object of our own, which may be NULL with an error set, behind what a list has; false with an error set. */
-static bool append(PyObject *list, PyObject *object)
-{
-    bool put = object && PyList_Append(list, object) == 0;
-    Py_XDECREF(object);
-    return put;
-}
-
-/* Puts a key into a group that isn't full; false with an error set. */
-static bool wait_for(Group *group, PyObject *key)
-{
-    int at = group->count++;
-    group->keys[at] = 0;
-    int could_be = read_key(key, &group->keys[at]);
-    group->could_be[at] = could_be == 1;
-    return could_be >= 0;
-}
-
-/* What is told of the keys of an iterable, in a list. */
-static PyObject *look_up_many(PyObject *object, PyObject *keys, Append *append_told)
-{
-    Words *self = (Words *)object;
-    Group group = {.count = 0};
-    PyObject *each = PyObject_GetIter(keys), *told = each ? PyList_New(0) : NULL, *key;
-    bool well = told;
-    while (well && (key = PyIter_Next(each))) {
-        well = wait_for(&group, key);
-        if (well && group.count == GROUP) {
-            well = append_told(self, &group, told);
-            group.count = 0;
-        }
-        Py_DECREF(key);
-    }
-    Py_XDECREF(each);
-    if (!well || PyErr_Occurred() || !append_told(self, &group, told))
-        Py_CLEAR(told);
-    return told;
-}
-
 /* ---- sets ---- */
 
 static PyObject *set_add(PyObject *object, PyObject *key)
@@ -378,7 +326,7 @@ static bool append_whether(Words *self, const Group *group, PyObject *told)
     sellumaq_judy1_test_many(&self->handle.set, group->keys, (size_t)group->count, there, GROUP);
     bool put = true;
     for (int n = 0; put && n < group->count; n++)
-        put = append(told, PyBool_FromLong(group->could_be[n] && there[n]));
+        put = append_new(told, PyBool_FromLong(group->could_be[n] && there[n]));
     return put;
 }
 
@@ -465,7 +413,7 @@ static bool append_values(Words *self, const Group *group, PyObject *values)
     sellumaq_judyl_get_many(&self->handle.map, group->keys, (size_t)group->count, found, GROUP);
     bool put = true;
     for (int n = 0; put && n < group->count; n++)
-        put = append(values, number_or_none(group->could_be[n] && found[n].there, found[n].value));
+        put = append_new(values, number_or_none(group->could_be[n] && found[n].there, found[n].value));
     return put;
 }
 

@@ -38,6 +38,27 @@ bool put_words(Words *self, const uint64_t *item);
 PyObject *words_fill(PyObject *object, PyObject *items);
 PyObject *words_make(PyObject *object, PyObject *items);
 
+/* word_groups.c: keys that are looked up many at a time. */
+
+/* How many keys are handed to an array at a time. */
+enum { GROUP = 256 };
+
+/* Keys that wait to be looked up together; one that can't be a key of the array waits too. */
+typedef struct {
+    int count;
+    bool could_be[GROUP];
+    uint64_t keys[GROUP];
+} Group;
+
+/* Looks the keys of a group up and puts what is told of each behind what a list has; false with an error set. */
+typedef bool Append(Words *self, const Group *group, PyObject *told);
+
+/* Puts an object of our own, which may be NULL with an error set, behind what a list has; false with an error set. */
+bool append_new(PyObject *list, PyObject *object);
+
+/* What is told of the keys of an iterable, in a list. */
+PyObject *look_up_many(PyObject *object, PyObject *keys, Append *append_told);
+
 /* A cursor over the keys of `words` from one word to another, both included; it holds a reference to the array. */
 PyObject *new_word_cursor(PyTypeObject *type, Words *words, enum part part, uint64_t low, uint64_t high, bool reverse);
 

@@ -1,7 +1,7 @@
 //! Sets of each size beside a limit of a form, against a plain list; growing and shrinking through the limits;
 //! and each small tool once.
 
-use judy_bits::{Bits256, ByteSet, Form, Meter, Skip, byte_of};
+use judy_bits::{Bits256, ByteSet, Meter, SetForm, Skip, byte_of};
 use judy_unmetered::UNMETERED;
 use std::process::Abort;
 
@@ -9,17 +9,17 @@ use std::process::Abort;
 const COUNTS: [usize; 10] = [0, 1, 7, 8, 9, 127, 128, 129, 255, 256];
 
 // The same numbers, and the form of each.
-const FORMS: [(usize, Form); 10] = [
-    (0, Form::Linear),
-    (1, Form::Linear),
-    (7, Form::Linear),
-    (8, Form::Bitmap),
-    (9, Form::Bitmap),
-    (127, Form::Bitmap),
-    (128, Form::Full),
-    (129, Form::Full),
-    (255, Form::Full),
-    (256, Form::Full),
+const FORMS: [(usize, SetForm); 10] = [
+    (0, SetForm::Linear),
+    (1, SetForm::Linear),
+    (7, SetForm::Linear),
+    (8, SetForm::Bitmap),
+    (9, SetForm::Bitmap),
+    (127, SetForm::Bitmap),
+    (128, SetForm::Full),
+    (129, SetForm::Full),
+    (255, SetForm::Full),
+    (256, SetForm::Full),
 ];
 
 // In the place of a byte or a place, where there is none.
@@ -219,7 +219,7 @@ fn bits_as_a_plain_list(rt: HostRuntime) {
     }
 }
 
-fn expect_size(rt: &impl Abort, set: &ByteSet, count: usize, form: Form) {
+fn expect_size(rt: &impl Abort, set: &ByteSet, count: usize, form: SetForm) {
     expect_len(rt, set.len(), count, count);
     assert_eq!(rt; set.form(), form, "of {count}");
 }
@@ -284,11 +284,11 @@ fn grows_and_shrinks(rt: HostRuntime) {
 }
 
 // The table of forms.
-fn form_for(count: usize) -> Form {
+fn form_for(count: usize) -> SetForm {
     match count {
-        0..=7 => Form::Linear,
-        8..=127 => Form::Bitmap,
-        _ => Form::Full,
+        0..=7 => SetForm::Linear,
+        8..=127 => SetForm::Bitmap,
+        _ => SetForm::Full,
     }
 }
 

@@ -65,7 +65,7 @@ impl Bits256 {
     }
 
     /// A law, told by a call that does nothing: the members ascend, and all are bytes.
-    pub fn told(&self)
+    pub fn law(&self)
         ensures { IsByteSet self.now }
     {
         let _ = &self.words;

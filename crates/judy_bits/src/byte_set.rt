@@ -8,7 +8,7 @@ ghost use Rattle.judy_bits.specs.KeptMembers.{members_in, IsInForm};
 
 use crate::bits256::Bits256;
 use crate::few_bytes::FewBytes;
-use crate::form::Form;
+use crate::form::SetForm;
 use crate::fronts::Fronts;
 use std::marker::Model;
 
@@ -74,13 +74,13 @@ impl ByteSet {
     }
 
     /// The form, by the number of members.
-    pub fn form(&self) -> Form
+    pub fn form(&self) -> SetForm
         ensures { result ≡ form_of (length self.now) }
     {
         match &self.members {
-            Members::Linear(_) => Form::Linear,
-            Members::Bitmap(_, _) => Form::Bitmap,
-            Members::Full(_, _) => Form::Full,
+            Members::Linear(_) => SetForm::Linear,
+            Members::Bitmap(_, _) => SetForm::Bitmap,
+            Members::Full(_, _) => SetForm::Full,
         }
     }
 
@@ -179,7 +179,7 @@ fn add_to(members: &mut Members, byte: u8)
             }
         }
         Members::Full(fronts, bits) => {
-            bits.told();
+            bits.law();
             bits.add(byte);
             *fronts = Fronts::of(bits);
         }

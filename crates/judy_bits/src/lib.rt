@@ -9,7 +9,7 @@
 //! A [`Bits256`] is four words of bits (bits256.rt), and a [`BitsRef`] reads them, or four words that stand elsewhere
 //! (bits_ref.rt), both by the steps on one word in bits.rt; specs/BitWords.antt says which members four words
 //! have. A [`ByteSet`] (byte_set.rt) shows no words: it is up to seven bytes (few_bytes.rt) or bits, and its
-//! [`Form`] (form.rt) follows from the number of its members. The crate stands on judy_model, and the crates of the
+//! [`SetForm`] (form.rt) follows from the number of its members. The crate stands on judy_model, and the crates of the
 //! tree stand on it.
 #![tactic(auto)]
 
@@ -28,7 +28,7 @@ mod word;
 pub use bits_ref::BitsRef;
 pub use bits256::Bits256;
 pub use byte_set::ByteSet;
-pub use form::Form;
+pub use form::SetForm;
 pub use meter::Meter;
 pub use skip::Skip;
 pub use word::{byte_of, low_part, moved_up, tail, without_low, without_tail};

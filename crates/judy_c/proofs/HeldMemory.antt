@@ -20,7 +20,7 @@ use Rattle.std_heap.proofs.Global.TheLaws as heap_laws
 use Rattle.judy_c.specs.Owned.{held}
 use Rattle.judy_c.specs.declared.held.Held.{Held}
 use Rattle.judy_c.specs.contracts.held.Held.{the_row, the_type}
-use Rattle.judy_c.specs.contracts.loose.Loose as loose
+use Rattle.judy_c.specs.contracts.box_parts.BoxParts as parts
 
 module _ (X : RattleType) where
   abbrev pub args : Args
@@ -34,7 +34,7 @@ module _ (X : RattleType) where
   S = the_row R
 
   abbrev pub LooseR : RattleType
-  LooseR = loose.the_row R heap.the_row ghosts
+  LooseR = parts.the_row R heap.the_row ghosts
 
   -- the same box for the lemmas on boxes
   abbrev pub E : Laws X → Bx

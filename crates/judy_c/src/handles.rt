@@ -5,9 +5,9 @@ ghost use Rattle.std.specs.Fn.{FnOnceReturnsAt};
 ghost use Rattle.std.specs.Option.{option_copied_mut};
 
 use crate::arrays::Array;
+use crate::box_parts::BoxParts;
 use crate::bytes::Bytes;
 use crate::held::Held;
-use crate::loose::Loose;
 use crate::map::Map;
 use crate::set::Set;
 use crate::strings::Strings;
@@ -77,7 +77,7 @@ pub(crate) trait Handle {
     }
 
     // Puts an array into a null handle.
-    final fn fill(&mut self, array: Loose<Self::Array, Global>)
+    final fn fill(&mut self, array: BoxParts<Self::Array, Global>)
         requires { (held_by self.old).array ≡ None }
         ensures { (held_by self.new).array ≡ Some array.value }
     {

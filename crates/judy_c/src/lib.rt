@@ -17,11 +17,12 @@
 //! exchanges.rt those that tell the value that was there, walks.rt those that tell many keys at a time, looks.rt those
 //! that look many up, sorted.rt those that make an array at once, told.rt how a call answers a
 //! word or a slot that may not be there, answers.rt how one answers by a number, scans.rt the scans over strings, string_counts.rt
-//! their counts, and loose.rt a box as its pointer. The crate is a static library, and no other stands on it.
+//! their counts, and box_parts.rt a box as its pointer. The crate is a static library, and no other stands on it.
 #![tactic(auto)]
 
 mod answers;
 mod arrays;
+mod box_parts;
 mod bytes;
 mod entries;
 mod exchanges;
@@ -34,7 +35,6 @@ mod judysl;
 mod key_exchanges;
 mod key_walks;
 mod looks;
-mod loose;
 mod map;
 mod nearest_slots;
 mod scans;

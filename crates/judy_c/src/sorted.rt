@@ -7,8 +7,8 @@ ghost use Rattle.judy_c.specs.Maps.{map_of, set_of};
 ghost use Rattle.judy_c.specs.Sorted.{IsRefused, IsReplaced, entries_of, keys_in, most_keys};
 
 use crate::answers::{BAD_KEY, FULL, NO_MEMORY};
+use crate::box_parts::BoxParts;
 use crate::handles::Handle;
-use crate::loose::Loose;
 use crate::map::Map;
 use crate::set::Set;
 use crate::walks::Pair;
@@ -89,7 +89,7 @@ fn refused(fault: SortedError, place: &mut usize) -> u32
 }
 
 // The set of keys that ascend, in a box.
-fn set_of_sorted(alloc: Global, keys: &[u64]) -> Result<Loose<Judy1, Global>, SortedError>
+fn set_of_sorted(alloc: Global, keys: &[u64]) -> Result<BoxParts<Judy1, Global>, SortedError>
     ensures made { IfOk result (λ boxed. finmap.keys boxed.value.map ≡ keys.now) }
     ensures refused { IfErr result (IsFault most_keys keys.now) }
 {
@@ -97,11 +97,11 @@ fn set_of_sorted(alloc: Global, keys: &[u64]) -> Result<Loose<Judy1, Global>, So
     let Ok(boxed) = Box::new(alloc, array) else {
         return Err(SortedError::NoMemory);
     };
-    Ok(Loose::of(boxed))
+    Ok(BoxParts::of(boxed))
 }
 
 // The map of pairs whose keys ascend, in a box.
-fn map_of_sorted(alloc: Global, pairs: &[Pair]) -> Result<Loose<JudyL, Global>, SortedError>
+fn map_of_sorted(alloc: Global, pairs: &[Pair]) -> Result<BoxParts<JudyL, Global>, SortedError>
     ensures made { IfOk result (λ boxed. finmap.entries boxed.value.map ≡ entries_of pairs.now) }
     ensures refused { IfErr result (IsFault most_keys (keys_in pairs.now)) }
 {
@@ -115,7 +115,7 @@ fn map_of_sorted(alloc: Global, pairs: &[Pair]) -> Result<Loose<JudyL, Global>, 
     let Ok(boxed) = Box::new(alloc, array) else {
         return Err(SortedError::NoMemory);
     };
-    Ok(Loose::of(boxed))
+    Ok(BoxParts::of(boxed))
 }
 
 // The keys with their values, as an array takes them.

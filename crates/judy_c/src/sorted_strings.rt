@@ -9,9 +9,9 @@ ghost use Rattle.judy_c.specs.StringMaps.{array_in};
 
 use crate::answers::{BAD_KEY, FULL, NO_MEMORY};
 use crate::arrays::MOST_KEYS;
+use crate::box_parts::BoxParts;
 use crate::handles::Handle;
 use crate::key_walks::KeyEntry;
-use crate::loose::Loose;
 use crate::sorted::MADE;
 use crate::strings::Strings;
 use judy_sl::{JudySl, SlSortedError};
@@ -63,7 +63,7 @@ fn strings_of_sorted(
     alloc: Global,
     bytes: &[u8],
     entries: &[KeyEntry],
-) -> Result<Loose<JudySl, Global>, SlSortedError>
+) -> Result<BoxParts<JudySl, Global>, SlSortedError>
     ensures whole { OnOk result (AreWhole (page_of bytes.now entries.now)) }
     ensures made { IfOk result
         (λ boxed. finmap.entries boxed.value.map ≡ pairs_on bytes.now entries.now) }
@@ -75,7 +75,7 @@ fn strings_of_sorted(
     let Ok(boxed) = Box::new(alloc, array) else {
         return Err(SlSortedError::NoMemory);
     };
-    Ok(Loose::of(boxed))
+    Ok(BoxParts::of(boxed))
 }
 
 // The strings with their values, as an array takes them. One that goes beyond the bytes is told as no key.

@@ -11,7 +11,7 @@ ghost use Rattle.judy_change.specs.Inserted.{IsInserted};
 
 use crate::gap::{in_order, put_at};
 use crate::pair::{Inserted, Pair};
-use judy_leaf::{ImmOf, Room, Words};
+use judy_leaf::{ImmOf, Spare, Words};
 use judy_node::{Head, KindOf, imm_of, kind_of_sorted, leaf_of_two};
 use std::alloc::AllocError;
 
@@ -121,5 +121,5 @@ fn past_few<V: Words + Drop>(
         full.rank(pair.key),
         (pair.key, pair.value),
     );
-    kind_of_sorted(pair.alloc, width, &pairs[..count + 1], Room::Ample)
+    kind_of_sorted(pair.alloc, width, &pairs[..count + 1], Spare::Ample)
 }

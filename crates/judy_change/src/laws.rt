@@ -15,5 +15,5 @@ pub fn a_node_of_33_keys_is_what_the_clause_says<V: Words + Drop>(tree: &NodeOf<
     requires { IsTight tree.now }
     ensures { (key : ℕ) → Has33 8 tree.now.pairs key ↔ HoldsOnWay 33 key 8 tree.now.form }
 {
-    tree.told();
+    tree.law();
 }

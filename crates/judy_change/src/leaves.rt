@@ -13,7 +13,7 @@ ghost use Rattle.judy_change.specs.Inserted.{IsInserted};
 use crate::gap::put_at;
 use crate::pair::{Inserted, Pair};
 use judy_block::Block;
-use judy_leaf::{LEAF_ROOM, LeafOf, LeafRef, Room, Words, put_in_leaf};
+use judy_leaf::{LEAF_ROOM, LeafOf, LeafRef, Spare, Words, put_in_leaf};
 use judy_node::{KindOf, kind_of_sorted};
 use std::alloc::AllocError;
 
@@ -111,5 +111,5 @@ fn past_leaf<V: Words + Drop>(
     let mut pairs = [(0, 0); ONE_MORE];
     full.fill(0, &mut pairs[..LEAF_ROOM]);
     put_at(&mut pairs, at, (pair.key, pair.value));
-    kind_of_sorted(pair.alloc, width, &pairs, Room::Ample)
+    kind_of_sorted(pair.alloc, width, &pairs, Spare::Ample)
 }

@@ -7,7 +7,7 @@ ghost use Rattle.judy_node.specs.Populations.{AreSums};
 ghost use Rattle.judy_node.specs.Kinds.{tree_of, IsLevel, IsDeep, behind};
 ghost use Rattle.judy_change.specs.Removals.{IsTightOf, IsSettled, IsParent, IsNeeded, pairs_below, loose_below, loose_under, width_of};
 
-use judy_leaf::{LEAF_ROOM, Room, Words};
+use judy_leaf::{LEAF_ROOM, Spare, Words};
 use judy_node::{
     BranchOf, ChildOf, Head, KindOf, immediate_of_sorted, kind_of_sorted, most_in_immediate,
 };
@@ -32,7 +32,7 @@ fn small_node<V: Words + Drop>(
     if pairs.len() <= most_in_immediate::<V>(width) {
         return Ok(ChildOf::close(immediate_of_sorted(width, pairs)));
     }
-    match kind_of_sorted(alloc, width, pairs, Room::Ample) {
+    match kind_of_sorted(alloc, width, pairs, Spare::Ample) {
         Ok(kind) => Ok(ChildOf::close(kind)),
         Err(refused) => Err(refused),
     }

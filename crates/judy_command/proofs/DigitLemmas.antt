@@ -4,7 +4,8 @@ use Rattle.std.specs.List.{list_all}
 use Rattle.std.specs.Char.{is_ascii_digit, digit_value}
 use Rattle.std.specs.Str.Parse.{digits_value_after}
 use Rattle.std.proofs.lemmas.Bool.{and_parts, leb-true, le-ltb, lt-ltb}
-use Rattle.std.proofs.lemmas.List.{take-append-drop}
+use Rattle.std.proofs.lemmas.List.{take-append-drop, length-take-le, length-drop}
+use Rattle.std.proofs.Math.Nat.{pow-le-pow_right}
 use Rattle.std.proofs.lemmas.List.Folds.{list_all-append}
 use Rattle.judy_command.specs.Digits.{number_after}
 use Rattle.judy_command.proofs.Numerals.{next_power}
@@ -60,3 +61,20 @@ digit_value_is byte is =
     let least = least_digit byte is in
     let most = most_digit byte is in
     rw (le-ltb byte 48 least, lt-ltb byte 58 (omega arith)) refl
+
+-- The first of at most 19 digits were read at once, or one of them is none.
+module _ (bytes front rest : List ℕ) (count : ℕ) (front-is : front ≡ take count bytes) (rest-is : rest ≡ drop count bytes) where
+  pub front_small : count ≤ length bytes → length bytes ≤ 19 → list_all is_ascii_digit front ≡ true → digits_value_after 10 0 front < 10 ^ (19 - length rest)
+  front_small inside few digits =
+      let long : length front ≡ count = ap length front-is ∙ length-take-le count bytes inside in
+      let short : length rest ≡ length bytes - count = ap length rest-is ∙ length-drop count bytes in
+      let small = after_small 0 0 front (omega arith) digits in
+      let most : 10 ^ (0 + length front) ≤ 10 ^ (19 - length rest) = pow-le-pow_right {n = 10} (omega arith) {i = 0 + length front} {j = 19 - length rest} (omega arith) in
+      omega arith
+
+  pub front_read : list_all is_ascii_digit front ≡ true → number_after (digits_value_after 10 0 front) rest ≡ number_after 0 bytes
+  front_read digits =
+      (λ t. number_after (digits_value_after 10 0 (front-is t)) (rest-is t)) ∙ sym (parts_read 0 bytes count (ap (list_all is_ascii_digit) (sym front-is) ∙ digits))
+
+  pub front_refused : list_all is_ascii_digit front ≡ false → None ≡ number_after 0 bytes
+  front_refused not = sym (part_refused 0 bytes count (ap (list_all is_ascii_digit) (sym front-is) ∙ not))

@@ -11,6 +11,7 @@ use Rattle.hex.specs.declared.error.FromHexError.{FromHexError}
 use Rattle.hex.proofs.HexLemmas.{decode_sized-twice, decode_of-even}
 use Rattle.judy_model.specs.KeyTokens.{is_shown, key_of, digit_value, with_byte, bytes_of_digits, is_bytes_key, is_string_key, passing}
 use Rattle.judy_model.specs.Replies.{Refusal, bad_key}
+use Rattle.judy_model.specs.declared.keys.TheConstants.{LONGEST_KEY}
 use Rattle.judy_command.specs.declared.reply.Refusal as refusals
 use Rattle.judy_command.specs.KeyReads.{key_or_refusal}
 use Rattle.judy_command.specs.Slots.{said}
@@ -141,15 +142,15 @@ length-bytes_of_digits [] = refl
 length-bytes_of_digits (sign ∷ []) = tt
 length-bytes_of_digits (high ∷ low ∷ signs) = twice (digit_value high) (digit_value low) (length signs) (bytes_of_digits signs) (length-bytes_of_digits signs)
 
-too_long : (said : Option (List ℕ)) (count : ℕ) → 1024 < count / 2 → IfSome said (λ bytes. count ≡ 2 * length bytes) → Err bad_key ≡ key_or_refusal said
+too_long : (said : Option (List ℕ)) (count : ℕ) → LONGEST_KEY < count / 2 → IfSome said (λ bytes. count ≡ 2 * length bytes) → Err bad_key ≡ key_or_refusal said
 too_long None count long h = refl
 too_long (Some bytes) count long h =
-    let more : 1024 < length bytes = omega arith in
-    let over : nat_le (length bytes) 1024 ≡ false = grind (arith, more) in
+    let more : LONGEST_KEY < length bytes = omega arith in
+    let over : nat_le (length bytes) LONGEST_KEY ≡ false = grind (arith, more) in
     rw over refl
 
 -- more digits than a key has
-pub digits-too_long : (signs : List ℕ) → 1024 < length signs / 2 → Err bad_key ≡ key_or_refusal (bytes_of_digits signs)
+pub digits-too_long : (signs : List ℕ) → LONGEST_KEY < length signs / 2 → Err bad_key ≡ key_or_refusal (bytes_of_digits signs)
 digits-too_long signs long = too_long (bytes_of_digits signs) (length signs) long (length-bytes_of_digits signs)
 
 -- ---- what decoding into half as many bytes gives

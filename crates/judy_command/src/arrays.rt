@@ -42,6 +42,7 @@ fn array_at<'a>(shelf: &'a mut Shelf, token: &[u8]) -> Result<&'a mut Array, Ref
 }
 
 // Why a token that names no array is refused.
+#[inline(never)]
 fn unnamed(token: &[u8]) -> Refusal
     ensures { refusal_of result
         ≡ (if is_name token.now then replies.no_such_array else replies.bad_name) }
@@ -53,6 +54,7 @@ fn unnamed(token: &[u8]) -> Refusal
 }
 
 /// `drop NAME`
+#[inline(never)]
 pub(crate) fn drop_array(shelf: &mut Shelf, name: &[u8]) -> Reply<'static>
     ensures { let before = store_of shelf.old in
         Follows before (model.dropped before name.now) (reply_of result) (store_of shelf.new) }
@@ -65,6 +67,7 @@ pub(crate) fn drop_array(shelf: &mut Shelf, name: &[u8]) -> Reply<'static>
 }
 
 /// `free NAME`
+#[inline(never)]
 pub(crate) fn free_array(shelf: &mut Shelf, name: &[u8]) -> Reply<'static>
     ensures { let before = store_of shelf.old in
         Follows before (model.at_name before name.now model.freed_whole) (reply_of result)
@@ -74,6 +77,7 @@ pub(crate) fn free_array(shelf: &mut Shelf, name: &[u8]) -> Reply<'static>
 }
 
 /// A command that names one key or word.
+#[inline(always)]
 pub(crate) fn on_key_at<'k>(
     shelf: &mut Shelf,
     name: &[u8],
@@ -89,6 +93,7 @@ pub(crate) fn on_key_at<'k>(
 }
 
 // What it does to the array, by its kind.
+#[inline(always)]
 fn on_key<'k>(
     array: &mut Array,
     command: KeyCommand,
@@ -108,6 +113,7 @@ fn on_key<'k>(
 }
 
 /// A command that names a key and its value, or two keys.
+#[inline(always)]
 pub(crate) fn on_pair_at(
     shelf: &mut Shelf,
     name: &[u8],
@@ -125,6 +131,7 @@ pub(crate) fn on_pair_at(
 }
 
 // What it does to the array, by its kind.
+#[inline(always)]
 fn on_pair(
     array: &mut Array,
     command: PairCommand,

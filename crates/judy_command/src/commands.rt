@@ -22,6 +22,7 @@ use judy_sl::KeyBuf;
 /// A refusal is the first that applies, in the order of [`Refusal`], and leaves the shelf as it was.
 /// `NoMemory` comes only where the command would add a key or an array. The first five tokens say all: no command
 /// has more than three arguments. (This project's own script.)
+#[inline(always)]
 pub fn execute<'k>(shelf: &mut Shelf, tokens: &[&[u8]], key: &'k mut KeyBuf) -> LineReply<'k>
     ensures { let before = store_of shelf.old in let after = store_of shelf.new in
         Follows before (outcome_of_tokens before (texts tokens.now))
@@ -35,6 +36,7 @@ pub fn execute<'k>(shelf: &mut Shelf, tokens: &[&[u8]], key: &'k mut KeyBuf) -> 
 }
 
 // Carries out the command that a word names.
+#[inline(always)]
 fn execute_word<'k>(
     shelf: &mut Shelf,
     word: &[u8],
@@ -52,6 +54,7 @@ fn execute_word<'k>(
 }
 
 // Carries out a command, whose arguments must be as many as it takes.
+#[inline(always)]
 fn carry_out<'k>(
     shelf: &mut Shelf,
     command: Command,

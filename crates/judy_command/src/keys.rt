@@ -1,6 +1,6 @@
 //! Keys of the string kinds as tokens say them.
 
-ghost use Rattle.std.specs.Prelude.{◌≡◌, ◌<◌, ◌≤◌, ◌==◌, not, if◌then◌else◌, Some, None, IfOk, OnOk};
+ghost use Rattle.std.specs.Prelude.{◌≡◌, ◌<◌, ◌≤◌, if◌then◌else◌, Some, None, IfOk, OnOk};
 ghost use Rattle.std.specs.List.{list_all};
 ghost use Rattle.judy_model.specs.Keys.{IsBytesKey, IsStringKey};
 ghost use Rattle.judy_model.specs.KeyTokens.{is_shown, bytes_of_digits};
@@ -9,10 +9,8 @@ ghost use Rattle.judy_command.specs.KeyReads.{read_into, key_or_refusal};
 ghost use Rattle.judy_command.specs.Slots.{said};
 
 use crate::reply::Refusal;
-use judy_sl::KeyBuf;
-
-// The most bytes of a key. (This project's own.)
-const MAX_KEY_LEN: usize = 1024;
+use judy_model::keys::LONGEST_KEY;
+use judy_sl::{KeyBuf, are_nonzero};
 
 /// Puts the key of a judyhs array that a token says into the buffer: `=` and bytes from `!` to `~`, or `#` and
 /// hexadecimal digits, for at most 1,024 bytes. Else `BadKey`.
@@ -32,7 +30,7 @@ pub(crate) fn read_string_key(token: &[u8], key: &mut KeyBuf) -> Result<(), Refu
     ensures key { OnOk result (IsStringKey key.new.items) }
 {
     read_bytes_key(token, key)?;
-    if !are_non_zero(key) {
+    if !are_nonzero(key) {
         return Err(Refusal::BadKey);
     }
     Ok(())
@@ -69,7 +67,7 @@ fn signs_key(signs: &[u8]) -> Result<&[u8], Refusal>
     ensures { said (λ bytes. bytes.now) result
         ≡ key_or_refusal (if list_all is_shown signs.now then Some signs.now else None) }
 {
-    if signs.len() > MAX_KEY_LEN || !are_shown(signs) {
+    if signs.len() > LONGEST_KEY || !are_shown(signs) {
         return Err(Refusal::BadKey);
     }
     Ok(signs)
@@ -87,9 +85,9 @@ fn read_signs(signs: &[u8], key: &mut KeyBuf) -> Result<(), Refusal>
 fn read_digits(digits: &[u8], key: &mut KeyBuf) -> Result<(), Refusal>
     ensures { read_into result key.new.items ≡ key_or_refusal (bytes_of_digits digits.now) }
 {
-    let mut room = [0; MAX_KEY_LEN];
+    let mut room = [0; LONGEST_KEY];
     let count = digits.len() / 2;
-    if count > MAX_KEY_LEN {
+    if count > LONGEST_KEY {
         return Err(Refusal::BadKey);
     }
     let bytes = &mut room[..count];
@@ -110,8 +108,8 @@ fn put(bytes: &[u8], key: &mut KeyBuf) -> Result<(), Refusal>
     Ok(())
 }
 
-// Whether each byte stands for itself in a key token.
-fn are_shown(signs: &[u8]) -> bool
+/// Whether each byte stands for itself in a key token: `!` to `~`. Sixteen are tested at once, or eight of fewer.
+pub fn are_shown(signs: &[u8]) -> bool
     ensures { result ≡ list_all is_shown signs.now }
 {
     if signs.len() < 16 {
@@ -152,11 +150,4 @@ fn few_are_shown(signs: &[u8]) -> bool
         are &= sign.is_ascii_graphic();
     }
     are
-}
-
-// Whether none of the bytes is zero.
-fn are_non_zero(bytes: &[u8]) -> bool
-    ensures { result ≡ list_all (λ byte. not (byte == 0)) bytes.now }
-{
-    bytes.iter().all(|byte| *byte != 0)
 }

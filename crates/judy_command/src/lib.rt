@@ -29,4 +29,5 @@ mod values;
 mod words;
 
 pub use commands::execute;
+pub use keys::are_shown;
 pub use reply::{Answer, LineReply, Refusal, Reply};

@@ -12,6 +12,7 @@ use crate::words::word;
 use judy_shelf::{Kind, MAX_LIMIT, Shelf};
 
 /// `make NAME KIND [LIMIT]`
+#[inline(never)]
 pub(crate) fn make_array(
     shelf: &mut Shelf,
     name: &[u8],

@@ -19,6 +19,7 @@ use crate::words::{number_or_nothing, word};
 use judy_word::JudyL;
 
 /// What a command of one key or word does to the array.
+#[inline(always)]
 pub(crate) fn words_on_key(words: &mut JudyL, command: KeyCommand, token: &[u8]) -> Reply<'static>
     ensures { Follows (judyl (array_of words.old))
         (model.words_on_key (key_command_of command) (array_of words.old) token.now)
@@ -39,6 +40,7 @@ pub(crate) fn words_on_key(words: &mut JudyL, command: KeyCommand, token: &[u8])
 }
 
 /// What a command of two words does to the array.
+#[inline(always)]
 pub(crate) fn words_on_pair(
     words: &mut JudyL,
     command: PairCommand,

@@ -14,6 +14,7 @@ use crate::words::{number_or_nothing, word};
 use judy_word::Judy1;
 
 /// What a command of one key or word does to the set.
+#[inline(always)]
 pub(crate) fn set_on_key(set: &mut Judy1, command: KeyCommand, token: &[u8]) -> Reply<'static>
     ensures { Follows (judy1 (array_of set.old))
         (model.set_on_key (key_command_of command) (array_of set.old) token.now) (reply_of result)
@@ -37,6 +38,7 @@ pub(crate) fn set_on_key(set: &mut Judy1, command: KeyCommand, token: &[u8]) -> 
 }
 
 /// What a command of two words does to the set.
+#[inline(never)]
 pub(crate) fn set_on_pair(
     set: &Judy1,
     command: PairCommand,

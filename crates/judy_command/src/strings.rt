@@ -16,6 +16,7 @@ use crate::words::word;
 use judy_sl::{JudySl, KeyBuf};
 
 /// What a command of one key or number does to the array. A key that is found stands in the buffer.
+#[inline(never)]
 pub(crate) fn strings_on_key<'k>(
     strings: &mut JudySl,
     command: KeyCommand,
@@ -52,6 +53,7 @@ pub(crate) fn strings_on_key<'k>(
 }
 
 /// What a command of two keys, or of a key and its value, does to the array. The first key is put into the buffer.
+#[inline(never)]
 pub(crate) fn strings_on_pair(
     strings: &mut JudySl,
     command: PairCommand,

@@ -102,6 +102,7 @@ impl ValueMap<u64> for JudyL {
     ghost written = { words.with_value };
 
     // One way down the map tells the old value and leaves the new one.
+    #[inline(always)]
     fn insert(&mut self, key: u64, value: u64) -> Result<u64, Refusal> {
         Ok(JudyL::insert(self, key, value)?.unwrap_or(0))
     }
@@ -212,6 +213,7 @@ impl<'b> ValueMap<&'b [u8]> for JudyHs<Fnv1a> {
 }
 
 /// What a command of one key does to the array. The key is what a token said, or why it was refused.
+#[inline(always)]
 pub(crate) fn map_on_key<K: Drop, M: ValueMap<K>>(
     map: &mut M,
     command: KeyCommand,
@@ -229,6 +231,7 @@ pub(crate) fn map_on_key<K: Drop, M: ValueMap<K>>(
 }
 
 /// What a command of a key and a value does to the array.
+#[inline(always)]
 pub(crate) fn map_on_pair<K: Drop, M: ValueMap<K>>(
     map: &mut M,
     command: PairCommand,
@@ -248,6 +251,7 @@ pub(crate) fn map_on_pair<K: Drop, M: ValueMap<K>>(
 }
 
 // Gives the key, which is new or not, the value, and answers the one that it had.
+#[inline(always)]
 fn insert<K, M: ValueMap<K>>(map: &mut M, key: K, value: u64) -> Reply<'static>
     requires { M.IsKey (M.key_of key) }
     ensures { Follows (M.kind_of (M.array_of map.old))

@@ -22,31 +22,43 @@ pub(crate) fn word(token: &[u8]) -> Result<u64, Refusal>
     ensures said { checked result ≡ word_at token.now }
     ensures word { IfOk result IsWord }
 {
-    let number = match token.len() {
+    number(token).ok_or(Refusal::BadWord)
+}
+
+// The number of 1 to 20 decimal digits, where it is below 2^64. It is answered in registers, as a refusal beside it wouldn't be, and stands once: compiled
+// into its callers it would make them too large to be compiled into theirs.
+#[inline(never)]
+fn number(token: &[u8]) -> Option<u64>
+    ensures { result ≡ word_of token.now }
+{
+    match token.len() {
         0 => None,
         1..=SAFE_DIGITS => short_number(token),
         20 => long_number(token),
         _ => None,
-    };
-    number.ok_or(Refusal::BadWord)
+    }
 }
 
-// The number of at most 19 decimal digits. Most of them are read by eights: a length that the compiler knows needs no
-// test behind each digit, and it tests eight bytes at once.
+// The number of at most 19 decimal digits. Sixteen at the front are read at once, or eight where there are fewer: a length that the
+// compiler knows needs no test behind each digit.
+#[inline(always)]
 fn short_number(digits: &[u8]) -> Option<u64>
     requires { length digits.now ≤ 19 }
     ensures { result ≡ number_after 0 digits.now }
 {
-    let mut number = 0;
-    let mut rest = digits;
-    'chunks: while let Some((chunk, after)) = rest.split_first_chunk::<8>() {
-        if !are_digits(chunk) {
+    if let Some((front, rest)) = digits.split_first_chunk::<16>() {
+        if !are_digits(front) {
             return None;
         }
-        number = value_after_eight(number, *chunk);
-        rest = after;
+        return after_digits(value_of_sixteen(u8x16::from_array(*front)), rest);
     }
-    after_digits(number, rest)
+    if let Some((front, rest)) = digits.split_first_chunk::<8>() {
+        if !are_digits(front) {
+            return None;
+        }
+        return after_digits(value_of_eight(*front), rest);
+    }
+    after_digits(0, digits)
 }
 
 // Whether all bytes are decimal digits. It leaves at no byte, so that a few can be tested at once.
@@ -61,18 +73,36 @@ fn are_digits(bytes: &[u8]) -> bool
     are
 }
 
-// The number that eight decimal digits make behind those of a number. Each is a lane, and all are weighed by their places at once.
+// The number that sixteen decimal digits write. Two stand in each lane of 16 bits, the second in the upper half: the product adds ten times the
+// first to it. Then each lane takes the next, and fours are left in every other lane.
 #[inline(always)]
-fn value_after_eight(number: u64, digits: [u8; 8]) -> u64
-    requires eight { length digits ≡ 8 }
-    requires small { number < 10 ^ 11 }
+fn value_of_sixteen(digits: u8x16) -> u64
+    requires sixteen { length digits ≡ 16 }
     requires digits { IsTrue (list_all is_ascii_digit digits) }
-    ensures { result ≡ digits_value_after 10 number digits }
+    ensures { result ≡ digits_value_after 10 0 digits }
 {
-    let values = u8x8::from_array(digits).strict_sub(u8x8::splat(b'0'));
-    let places = u32x8::from_array([10_000_000, 1_000_000, 100_000, 10_000, 1_000, 100, 10, 1]);
-    let sum = values.cast::<u32>().strict_mul(places).strict_reduce_sum();
-    number * 100_000_000 + u64::from(sum)
+    let values = digits.strict_sub(u8x16::splat(b'0'));
+    let pairs = (u16x8::from_le_bytes(values) * u16x8::splat(2561)) >> u16x8::splat(8);
+    let weighed = pairs.strict_mul(u16x8::from_array([100, 1, 100, 1, 100, 1, 100, 1]));
+    let fours = weighed.strict_add(weighed.rotate_elements_left::<1>());
+    let [first, _, second, _, third, _, fourth, _] = fours.to_array();
+    let front = u64::from(first) * 10_000 + u64::from(second);
+    let back = u64::from(third) * 10_000 + u64::from(fourth);
+    front * 100_000_000 + back
+}
+
+// The number that eight decimal digits write, as that of sixteen of which the first eight are zeros.
+#[inline(always)]
+fn value_of_eight(digits: [u8; 8]) -> u64
+    requires eight { length digits ≡ 8 }
+    requires digits { IsTrue (list_all is_ascii_digit digits) }
+    ensures { result ≡ digits_value_after 10 0 digits }
+{
+    let (zeros, digits) = (u8x8::splat(b'0'), u8x8::from_array(digits));
+    value_of_sixteen(zeros.shuffle(
+        digits,
+        [0, 1, 2, 3, 4, 5, 6, 7, 8, 9, 10, 11, 12, 13, 14, 15],
+    ))
 }
 
 // The number that decimal digits make behind those of a number.

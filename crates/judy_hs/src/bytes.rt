@@ -258,10 +258,10 @@ impl<H: ByteHash + Drop> JudyHs<H> {
     /// A law of every array that a program holds, whatever was left in its slots: its keys are byte strings of at
     /// most `H::LONGEST` bytes, its limit and its values words, and it holds at most as many keys as its limit. It
     /// answers nothing and reads each value, for a caller whose proof is to know it.
-    pub fn is_array(&self)
+    pub fn array_law(&self)
         ensures { array.IsArrayOf (IsBytesKeyTo H.LONGEST) self.now }
     {
-        self.groups.are_words();
+        self.groups.words_law();
     }
 }
 

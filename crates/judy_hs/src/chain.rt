@@ -102,16 +102,16 @@ impl Chain {
     }
 
     // That its values are words.
-    pub fn are_words(&self)
+    pub fn words_law(&self)
         ensures { AreWords (value_in self.now) }
     {
         'entries: for (_, value) in &self.entries {
-            is_word(*value);
+            word_law(*value);
         }
     }
 }
 
 // A number of 64 bits is a word.
-pub fn is_word(_value: u64)
+pub fn word_law(_value: u64)
     ensures { IsWord _value }
 {}

@@ -208,12 +208,12 @@ impl GroupPlace {
     }
 
     // That the values of its keys are words.
-    pub fn are_words(&self)
+    pub fn words_law(&self)
         ensures { (part : ℕ) → AreWords (in_group (group_of self.now) part) }
     {
         match self {
-            GroupPlace::Short(words) => words.is_array(),
-            GroupPlace::Long(group) => group.are_words(),
+            GroupPlace::Short(words) => words.array_law(),
+            GroupPlace::Long(group) => group.words_law(),
             GroupPlace::Free(_) => {}
         }
     }

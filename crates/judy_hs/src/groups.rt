@@ -343,11 +343,11 @@ impl Groups {
     }
 
     // That the values of the keys are words.
-    pub fn are_words(&self)
+    pub fn words_law(&self)
         ensures { (part : ℕ) → AreWords (in_keyed self.now part) }
     {
         for group in &self.groups {
-            group.are_words();
+            group.words_law();
         }
     }
 }

@@ -1,8 +1,11 @@
 //! Hashes of byte strings.
 
 ghost use Rattle.std.specs.Prelude.{◌≡◌, List, ℕ, fold};
+ghost use Rattle.judy_model.specs.declared.keys.TheConstants.{LONGEST_KEY};
 ghost use Rattle.judy_hs.specs.Fnv.{fnv1a};
 ghost use Rattle.judy_hs.specs.Eights.{by_eights, last_step, word_step};
+
+use judy_model::keys::LONGEST_KEY;
 
 /// What the type of a `JudyHs` says of its keys: how long one may be, and a hash of them, a function of the bytes alone. A
 /// `JudyHs` is right for each, also for a hash that is the same for all bytes.
@@ -25,9 +28,9 @@ pub trait ByteHash {
 pub struct Fnv1a;
 
 impl ByteHash for Fnv1a {
-    const LONGEST: usize = 1024;
+    const LONGEST: usize = LONGEST_KEY;
 
-    ghost LONGEST = { 1024 };
+    ghost LONGEST = { LONGEST_KEY };
 
     ghost hash_of = { fnv1a };
 

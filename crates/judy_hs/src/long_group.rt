@@ -13,7 +13,7 @@ ghost use Rattle.judy_hs.specs.LongRecords.{IsSpelled, others_at, pairs_of};
 ghost use Rattle.judy_hs.specs.Chains.{value_in};
 ghost use Rattle.judy_hs.specs.Listed.{entries_in};
 
-use crate::chain::{Chain, is_word};
+use crate::chain::{Chain, word_law};
 use crate::entry::{HsEntry, HsKey, sort_from};
 use crate::shared::{join, leave, take_first};
 use crate::trial::Trial;
@@ -215,7 +215,7 @@ impl LongGroup {
         ensures added { IfAdded result (λ place. IsAdded self.old self.new hash key.now place) }
         ensures unchanged { UnlessAdded result (self.new ≡ self.old) }
     {
-        self.records.told();
+        self.records.law();
         let place = self.records.next_place();
         match self.hashes.put_if_absent(hash, place as u64) {
             Ok(true) => {}
@@ -341,22 +341,22 @@ impl LongGroup {
     }
 
     // That its values are words.
-    pub fn are_words(&self)
+    pub fn words_law(&self)
         ensures { (hash : ℕ) → AreWords (in_long self.now hash) }
     {
         'hashes: for (_, place) in &self.hashes {
-            self.are_words_at(place as usize);
+            self.words_law_at(place as usize);
         }
     }
 
     // That the values at a place are words.
-    fn are_words_at(&self, place: usize)
+    fn words_law_at(&self, place: usize)
         requires { chain_at self.now place ≢ [] }
         ensures { AreWords (value_of_place self.now place) }
     {
-        is_word(self.records.value(place));
+        word_law(self.records.value(place));
         if let Some(chain) = self.chains.get(&place) {
-            chain.are_words();
+            chain.words_law();
         }
     }
 }

@@ -5,7 +5,7 @@ use Rattle.std.proofs.Math.Nat.{div-eq_of_lt, div-eq_of_lt-le, mod-eq_of_lt}
 use Rattle.std.proofs.lemmas.Nat.{mod_below}
 use Rattle.std.proofs.lemmas.List.{append-nil, take_all, drop_all, take_more, take_more_set, length-replicate, take-append-le}
 use Rattle.judy_block.specs.Contents.{Contents, with_gap}
-use Rattle.judy_leaf.specs.Packing.{IsPacked, IsTight, IsWidth}
+use Rattle.judy_leaf.specs.Packing.{IsPacked, HasZeroPadding, IsWidth}
 use Rattle.judy_leaf.specs.KeyLists.{keys_of, values_of, pairs_of, low_pairs}
 use Rattle.judy_leaf.specs.Leaves.{words_for, keys_from, leaf_list, AreKeysFrom}
 use Rattle.judy_leaf.specs.KeyChanges.{IsKeyChange}
@@ -141,7 +141,7 @@ drop_front (x ∷ words) keys zero is = let never : ⊥ = omega arith in absurd 
 drop_front (x ∷ words) keys (suc start) is = drop_front words keys start (omega arith)
 
 module _ (width : ℕ) (is_width : IsWidth width) (one : 8 / width ≡ 1) where
-  all_tight : (keys : List ℕ) → AllByRecursion (λ key. key < 256 ^ width) keys → AllByRecursion (IsTight width) keys
+  all_tight : (keys : List ℕ) → AllByRecursion (λ key. key < 256 ^ width) keys → AllByRecursion (HasZeroPadding width) keys
   all_tight [] below = tt
   all_tight (key ∷ keys) below = (fits_word width is_width one key below.0, all_tight keys below.1)
 

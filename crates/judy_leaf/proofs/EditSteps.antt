@@ -5,7 +5,7 @@ use Rattle.std.proofs.Math.ListN.{set, length-set}
 use Rattle.std.proofs.lemmas.List.{append_assoc, append-nil, drop-set, take-set, take-take, drop-drop, take-append-drop, length-take-le, length-drop, drop_all, drop-take, get_or_append_left}
 use Rattle.std.proofs.lemmas.Nat.{div-add-mod'}
 use Rattle.judy_block.specs.Contents.{Contents}
-use Rattle.judy_leaf.specs.Packing.{places, places_of, pushed, pulled, IsTight, IsWidth}
+use Rattle.judy_leaf.specs.Packing.{places, places_of, pushed, pulled, HasZeroPadding, IsWidth}
 use Rattle.judy_leaf.specs.Edits.{IsEdit, IsFirstPlace}
 use Rattle.judy_leaf.proofs.KeysIn.{all_take, all_append}
 use Rattle.judy_leaf.proofs.Placed.{per_pos, length-places, length-places_of, places_of-append}
@@ -58,17 +58,17 @@ module _ (width : ℕ) (is_width : IsWidth width) where
   all_drop P (suc count) [] all = tt
   all_drop P (suc count) (x ∷ xs) all = all_drop P count xs all.1
 
-  pub tight_from : (words : List ℕ) (start word : ℕ) → start ≤ word → AllByRecursion (IsTight width) (drop start words) → AllByRecursion (IsTight width) (drop word words)
+  pub tight_from : (words : List ℕ) (start word : ℕ) → start ≤ word → AllByRecursion (HasZeroPadding width) (drop start words) → AllByRecursion (HasZeroPadding width) (drop word words)
   tight_from words start word from tight =
       let e : start + (word - start) ≡ word = omega arith in
-      subst (AllByRecursion (IsTight width)) (drop-drop (word - start) start words ∙ ap (λ n. drop n words) e) (all_drop (IsTight width) (word - start) (drop start words) tight)
+      subst (AllByRecursion (HasZeroPadding width)) (drop-drop (word - start) start words ∙ ap (λ n. drop n words) e) (all_drop (HasZeroPadding width) (word - start) (drop start words) tight)
 
-  pub tight_at : (words : List ℕ) (start word : ℕ) → start ≤ word → word < length words → AllByRecursion (IsTight width) (drop start words) → IsTight width (get_or words word 0)
-  tight_at words start word from inside tight = (subst (AllByRecursion (IsTight width)) (from_word words word inside) (tight_from words start word from tight)).0
+  pub tight_at : (words : List ℕ) (start word : ℕ) → start ≤ word → word < length words → AllByRecursion (HasZeroPadding width) (drop start words) → HasZeroPadding width (get_or words word 0)
+  tight_at words start word from inside tight = (subst (AllByRecursion (HasZeroPadding width)) (from_word words word inside) (tight_from words start word from tight)).0
 
   -- One word more is done.
   pub one_word : (word : ℕ) (change mine : List ℕ → List ℕ) (before mid : Contents) (new : ℕ) → word < length before.words → IsEdit width (word + 1) change before mid
-      → IsTight width new → places width new ++ change (places_of width (drop (word + 1) before.words)) ≡ mine (places width (get_or before.words word 0) ++ places_of width (drop (word + 1) before.words))
+      → HasZeroPadding width new → places width new ++ change (places_of width (drop (word + 1) before.words)) ≡ mine (places width (get_or before.words word 0) ++ places_of width (drop (word + 1) before.words))
       → IsEdit width word mine before (record mid { words = set mid.words word new })
   one_word word change mine before mid new inside edit tight joined =
       let long : length mid.words ≡ length before.words = edit.long in
@@ -80,7 +80,7 @@ module _ (width : ℕ) (is_width : IsWidth width) where
         long = length-set mid.words word new ∙ long;
         front = take-set mid.words word new ∙ sym (take-take word (word + 1) mid.words (omega arith)) ∙ ap (take word) edit.front ∙ take-take word (word + 1) before.words (omega arith);
         changed = ap (places_of width) behind ∙ ap (λ rest. places width new ++ rest) edit.changed ∙ joined ∙ ap mine (ap (places_of width) (sym old));
-        tight = subst (AllByRecursion (IsTight width)) (sym behind) (tight, edit.tight);
+        tight = subst (AllByRecursion (HasZeroPadding width)) (sym behind) (tight, edit.tight);
       }
 
   -- No word is done so far.
@@ -93,7 +93,7 @@ module _ (width : ℕ) (is_width : IsWidth width) where
         long = refl;
         front = refl;
         changed = ap (places_of width) rest ∙ sym none ∙ ap change (ap (places_of width) (sym rest));
-        tight = subst (AllByRecursion (IsTight width)) (sym rest) tt;
+        tight = subst (AllByRecursion (HasZeroPadding width)) (sym rest) tt;
       }
 
   -- A word that is to be read isn't changed yet.
@@ -102,13 +102,13 @@ module _ (width : ℕ) (is_width : IsWidth width) where
 
   -- Nor are its keys packed otherwise.
   pub tight_still : (at word start : ℕ) (change : List ℕ → List ℕ) (before mid : Contents) → IsEdit width at change before mid → word < at → start ≤ word → word < length before.words
-      → AllByRecursion (IsTight width) (drop start before.words) → IsTight width (get_or mid.words word 0)
-  tight_still at word start change before mid edit below from inside tight = subst (IsTight width) (sym (not_yet at word change before mid edit below)) (tight_at before.words start word from inside tight)
+      → AllByRecursion (HasZeroPadding width) (drop start before.words) → HasZeroPadding width (get_or mid.words word 0)
+  tight_still at word start change before mid edit below from inside tight = subst (HasZeroPadding width) (sym (not_yet at word change before mid edit below)) (tight_at before.words start word from inside tight)
 
   -- Keys that go up by a place: one word more.
   pub push_one : (word key : ℕ) (before mid : Contents) (at new : ℕ) → word < length before.words → at < 8 / width
       → IsEdit width (word + 1) (pushed zero (get_or (places width (get_or before.words word 0)) (8 / width - 1) 0)) before mid
-      → IsTight width new → places width new ≡ pushed at key (places width (get_or before.words word 0))
+      → HasZeroPadding width new → places width new ≡ pushed at key (places width (get_or before.words word 0))
       → IsEdit width word (pushed at key) before (record mid { words = set mid.words word new })
   push_one word key before mid at new inside there edit tight is =
       let here = places width (get_or before.words word 0) in
@@ -119,7 +119,7 @@ module _ (width : ℕ) (is_width : IsWidth width) where
 
   -- Keys that go down by a place: one word more.
   pub pull_one : (word first : ℕ) (before mid : Contents) (at new : ℕ) → word < length before.words → at < 8 / width → IsFirstPlace width (drop (word + 1) before.words) first
-      → IsEdit width (word + 1) (pulled zero 0) before mid → IsTight width new → places width new ≡ pulled at first (places width (get_or before.words word 0))
+      → IsEdit width (word + 1) (pulled zero 0) before mid → HasZeroPadding width new → places width new ≡ pulled at first (places width (get_or before.words word 0))
       → IsEdit width word (pulled at 0) before (record mid { words = set mid.words word new })
   pull_one word first before mid at new inside there is_first edit tight is =
       let here = places width (get_or before.words word 0) in
@@ -133,7 +133,7 @@ module _ (width : ℕ) (is_width : IsWidth width) where
 
   -- A change from a word on, seen from an earlier one.
   pub from_earlier : (start more : ℕ) (mine change : List ℕ → List ℕ) (before after : Contents) → start + more < length before.words → IsEdit width (start + more) change before after
-      → ((xs ys : List ℕ) → length xs ≡ more * (8 / width) → mine (xs ++ ys) ≡ xs ++ change ys) → AllByRecursion (IsTight width) (drop start before.words) → IsEdit width start mine before after
+      → ((xs ys : List ℕ) → length xs ≡ more * (8 / width) → mine (xs ++ ys) ≡ xs ++ change ys) → AllByRecursion (HasZeroPadding width) (drop start before.words) → IsEdit width start mine before after
   from_earlier start more mine change before after inside edit past tight =
       let between = take more (drop start before.words) in
       let rest = drop (start + more) before.words in
@@ -151,7 +151,7 @@ module _ (width : ℕ) (is_width : IsWidth width) where
         changed = ap (places_of width) new ∙ places_of-append width is_width between (drop (start + more) after.words)
             ∙ ap (λ l. places_of width between ++ l) edit.changed ∙ sym (past (places_of width between) (places_of width rest) count)
             ∙ ap mine (sym (places_of-append width is_width between rest) ∙ ap (places_of width) (sym old));
-        tight = subst (AllByRecursion (IsTight width)) (sym new) (all_append (IsTight width) between (drop (start + more) after.words) (all_take (IsTight width) more (drop start before.words) tight) edit.tight);
+        tight = subst (AllByRecursion (HasZeroPadding width)) (sym new) (all_append (HasZeroPadding width) between (drop (start + more) after.words) (all_take (HasZeroPadding width) more (drop start before.words) tight) edit.tight);
       }
 
   -- The place of a key, by its word and its place there.
@@ -159,13 +159,13 @@ module _ (width : ℕ) (is_width : IsWidth width) where
   by_word at count is = let whole = div-add-mod' at (8 / width) in omega arith
 
   -- Keys that go up by a place from a key on.
-  pub push_from : (start at key : ℕ) (before after : Contents) → start + at / (8 / width) < length before.words → AllByRecursion (IsTight width) (drop start before.words)
+  pub push_from : (start at key : ℕ) (before after : Contents) → start + at / (8 / width) < length before.words → AllByRecursion (HasZeroPadding width) (drop start before.words)
       → IsEdit width (start + at / (8 / width)) (pushed (at % (8 / width)) key) before after → IsEdit width start (pushed at key) before after
   push_from start at key before after inside tight edit =
       from_earlier start (at / (8 / width)) (pushed at key) (pushed (at % (8 / width)) key) before after inside edit
       (λ xs ys long. ap (λ n. pushed n key (xs ++ ys)) (by_word at (length xs) long) ∙ pushed-past (at % (8 / width)) key xs ys) tight
 
-  pub pull_from : (start at : ℕ) (before after : Contents) → start + at / (8 / width) < length before.words → AllByRecursion (IsTight width) (drop start before.words)
+  pub pull_from : (start at : ℕ) (before after : Contents) → start + at / (8 / width) < length before.words → AllByRecursion (HasZeroPadding width) (drop start before.words)
       → IsEdit width (start + at / (8 / width)) (pulled (at % (8 / width)) 0) before after → IsEdit width start (pulled at 0) before after
   pull_from start at before after inside tight edit =
       from_earlier start (at / (8 / width)) (pulled at 0) (pulled (at % (8 / width)) 0) before after inside edit

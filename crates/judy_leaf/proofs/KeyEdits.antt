@@ -4,7 +4,7 @@ use Rattle.std.specs.List.{AllByRecursion, insert, remove}
 use Rattle.std.proofs.Math.Nat.{div-eq_of_lt, mod-eq_of_lt}
 use Rattle.std.proofs.lemmas.List.{append-nil, take-append-le, drop-append-le, length-append, length-drop, length-take-le, drop_all, take-append-drop, drop-take, take-take}
 use Rattle.judy_block.specs.Contents.{Contents, with_gap, without_gap}
-use Rattle.judy_leaf.specs.Packing.{digits, places, places_of, keys_in, pushed, pulled, IsPacked, IsTight, IsWidth}
+use Rattle.judy_leaf.specs.Packing.{digits, places, places_of, keys_in, pushed, pulled, IsPacked, HasZeroPadding, IsWidth}
 use Rattle.judy_leaf.specs.Edits.{IsEdit}
 use Rattle.judy_leaf.specs.Leaves.{words_for, keys_from, AreKeysFrom}
 use Rattle.judy_leaf.specs.KeyChanges.{IsKeyChange, HasPlace}
@@ -56,13 +56,13 @@ module _ (width : ℕ) (is : IsWidth width) where
             enough = omega arith;
             clear = ap (drop count) parts ∙ drop-append-le count (places_of width xs) (replicate (8 / width) 0) within ∙ ap (λ l. l ++ replicate (8 / width) 0) packed.clear
                 ∙ replicate-add (length xs * (8 / width) - count) (8 / width) 0 ∙ ap (λ n. replicate n 0) sum;
-            tight = all_append (IsTight width) xs (0 ∷ []) packed.tight (power_pos (256 ^ width) (base_pos width is) (8 / width), tt);
+            tight = all_append (HasZeroPadding width) xs (0 ∷ []) packed.tight (power_pos (256 ^ width) (base_pos width is) (8 / width), tt);
           },
           ap (take count) parts ∙ take-append-le count (places_of width xs) (replicate (8 / width) 0) within,
         )
 
     -- A key more.
-    pub packed_with : (at key : ℕ) (ys : List ℕ) → at ≤ count → count + 1 ≤ length xs * (8 / width) → length ys ≡ length xs → places_of width ys ≡ pushed at key (places_of width xs) → AllByRecursion (IsTight width) ys
+    pub packed_with : (at key : ℕ) (ys : List ℕ) → at ≤ count → count + 1 ≤ length xs * (8 / width) → length ys ≡ length xs → places_of width ys ≡ pushed at key (places_of width xs) → AllByRecursion (HasZeroPadding width) ys
         → IsPacked width (count + 1) ys × (keys_in width (count + 1) ys ≡ insert (keys_in width count xs) at key)
     packed_with at key ys place room same changed tight =
         let h = long in
@@ -79,7 +79,7 @@ module _ (width : ℕ) (is : IsWidth width) where
         )
 
   -- A key less.
-  pub packed_without : (count : ℕ) (xs : List ℕ) → IsPacked width (count + 1) xs → (at : ℕ) (ys : List ℕ) → at ≤ count → length ys ≡ length xs → places_of width ys ≡ pulled at 0 (places_of width xs) → AllByRecursion (IsTight width) ys
+  pub packed_without : (count : ℕ) (xs : List ℕ) → IsPacked width (count + 1) xs → (at : ℕ) (ys : List ℕ) → at ≤ count → length ys ≡ length xs → places_of width ys ≡ pulled at 0 (places_of width xs) → AllByRecursion (HasZeroPadding width) ys
       → IsPacked width count ys × (keys_in width count ys ≡ remove (keys_in width (count + 1) xs) at)
   packed_without count xs packed at ys place same changed tight =
       let h = length-places_of width is xs in
@@ -109,7 +109,7 @@ module _ (width : ℕ) (is : IsWidth width) where
           is_width = is;
           enough = room;
           clear = front_of_zeros (drop count (places_of width xs)) (places_of width ys) (length (xs ++ ys) * (8 / width) - count) behind ∙ ap (λ n. replicate n 0) size;
-          tight = all_front (IsTight width) xs ys packed.tight;
+          tight = all_front (HasZeroPadding width) xs ys packed.tight;
         },
         sym (take-append-le count (places_of width xs) (places_of width ys) (omega arith)) ∙ ap (take count) (sym parts),
       )

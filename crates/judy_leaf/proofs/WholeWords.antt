@@ -4,7 +4,7 @@ use Rattle.std.specs.List.{AllByRecursion, insert, remove}
 use Rattle.std.proofs.Math.Nat.{pow-zero, pow-suc, mod-eq_of_lt}
 use Rattle.std.proofs.lemmas.List.{take_all, drop_all, length-drop}
 use Rattle.judy_block.specs.Contents.{Contents, with_gap, without_gap}
-use Rattle.judy_leaf.specs.Packing.{digits, places_of, keys_in, IsPacked, IsTight, IsWidth}
+use Rattle.judy_leaf.specs.Packing.{digits, places_of, keys_in, IsPacked, HasZeroPadding, IsWidth}
 use Rattle.judy_leaf.specs.Leaves.{words_for, keys_from, AreKeysFrom}
 use Rattle.judy_leaf.specs.KeyChanges.{IsKeyChange}
 use Rattle.judy_leaf.proofs.ValueSteps.{put_is, without_is, length-insert, length-remove}
@@ -40,17 +40,17 @@ all-remove P (x ∷ words) zero inside all = all.1
 all-remove P (x ∷ words) (suc at) inside all = (all.0, all-remove P words at (omega arith) all.1)
 
 module _ (width : ℕ) (is : IsWidth width) (one : 8 / width ≡ 1) where
-  room : (word : ℕ) → IsTight width word → word < 256 ^ width
+  room : (word : ℕ) → HasZeroPadding width word → word < 256 ^ width
   room word tight =
       let power : (256 ^ width) ^ (8 / width) ≡ 256 ^ width = ap (λ n. (256 ^ width) ^ n) one ∙ pow-suc (256 ^ width) 0 ∙ ap (λ n. n * 256 ^ width) (pow-zero (256 ^ width)) ∙ omega arith in
       subst (λ bound. word < bound) power tight
 
-  pub fits_word : (word : ℕ) → word < 256 ^ width → IsTight width word
+  pub fits_word : (word : ℕ) → word < 256 ^ width → HasZeroPadding width word
   fits_word word below =
       let power : (256 ^ width) ^ (8 / width) ≡ 256 ^ width = ap (λ n. (256 ^ width) ^ n) one ∙ pow-suc (256 ^ width) 0 ∙ ap (λ n. n * 256 ^ width) (pow-zero (256 ^ width)) ∙ omega arith in
       subst (λ bound. word < bound) (sym power) below
 
-  places_are : (words : List ℕ) → AllByRecursion (IsTight width) words → places_of width words ≡ words
+  places_are : (words : List ℕ) → AllByRecursion (HasZeroPadding width) words → places_of width words ≡ words
   places_are [] tight = refl
   places_are (word ∷ words) tight =
       let same = mod-eq_of_lt (room word tight.0) in
@@ -66,7 +66,7 @@ module _ (width : ℕ) (is : IsWidth width) (one : 8 / width ≡ 1) where
       whole : (n : ℕ) → (n + (1 - 1)) / 1 ≡ n
       whole n = omega arith
 
-  pub packed_words : (count : ℕ) (words : List ℕ) → length words ≡ count → AllByRecursion (IsTight width) words → IsPacked width count words
+  pub packed_words : (count : ℕ) (words : List ℕ) → length words ≡ count → AllByRecursion (HasZeroPadding width) words → IsPacked width count words
   packed_words count words long tight =
       let all : length words * (8 / width) ≡ count = ap (λ n. length words * n) one ∙ omega arith in
       record {
@@ -95,7 +95,7 @@ module _ (width : ℕ) (is : IsWidth width) (one : 8 / width ≡ 1) where
         let behind : drop start words ≡ insert (drop start before.words) at key = ap (drop start) new ∙ drop-insert_behind before.words start at key (omega arith) in
         let size : length (drop start words) ≡ count + 1 = ap length behind ∙ length-insert (drop start before.words) at key (omega arith) ∙ omega arith in
         let packed : IsPacked width (count + 1) (drop start words) =
-        packed_words (count + 1) (drop start words) size (subst (AllByRecursion (IsTight width)) (sym behind) (all-insert (IsTight width) (drop start before.words) at key (omega arith) (fits_word key below) keys.packed.tight)) in
+        packed_words (count + 1) (drop start words) size (subst (AllByRecursion (HasZeroPadding width)) (sym behind) (all-insert (HasZeroPadding width) (drop start before.words) at key (omega arith) (fits_word key below) keys.packed.tight)) in
         record {
           capacity = refl;
           tag = refl;
@@ -117,7 +117,7 @@ module _ (width : ℕ) (is : IsWidth width) (one : 8 / width ≡ 1) where
         let one_less = length-remove (drop start before.words) at (omega arith) in
         let size : length (drop start words) ≡ count - 1 = ap length behind ∙ omega arith in
         let packed : IsPacked width (count - 1) (drop start words) =
-        packed_words (count - 1) (drop start words) size (subst (AllByRecursion (IsTight width)) (sym behind) (all-remove (IsTight width) (drop start before.words) at (omega arith) keys.packed.tight)) in
+        packed_words (count - 1) (drop start words) size (subst (AllByRecursion (HasZeroPadding width)) (sym behind) (all-remove (HasZeroPadding width) (drop start before.words) at (omega arith) keys.packed.tight)) in
         let all_less = length-remove before.words (start + at) (omega arith) in
         record {
           capacity = refl;

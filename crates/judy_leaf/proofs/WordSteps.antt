@@ -2,7 +2,7 @@
 use Rattle.std.proofs.Common.{◌≡◌, ℕ, zero, suc, ◌+◌, ◌-◌, ◌*◌, ◌/◌, ◌%◌, ◌^◌, ◌<◌, ◌≤◌, List, length, get_or, ap, sym, ◌∙◌, subst, arith}
 use Rattle.std.proofs.Math.Nat.{pow-le-pow_right, mul-div-le, mul-le-mul_left, pow-zero, pow-suc, le-mul_of_pos_right}
 use Rattle.std.proofs.lemmas.Nat.{pow-add}
-use Rattle.judy_leaf.specs.Packing.{digits, places, IsTight, IsWidth, pushed, pulled}
+use Rattle.judy_leaf.specs.Packing.{digits, places, HasZeroPadding, IsWidth, pushed, pulled}
 use Rattle.judy_leaf.proofs.Digits.{power_pos, number, AreDigits, length-digits, digits-AreDigits, number-digits, digits-number, number-lt, digit_at, length-pushed, pushed-AreDigits, number-pushed, length-pulled, pulled-AreDigits, number-pulled}
 
 -- (256^width)^count has width * count bytes.
@@ -33,7 +33,7 @@ module _ (width : ℕ) (is : IsWidth width) where
   pub key_at_place : (word at : ℕ) → at < 8 / width → word / 256 ^ (width * at) % 256 ^ width ≡ get_or (places width word) at 0
   key_at_place word at inside = (λ t. word / sym (bytes_of width at) t % 256 ^ width) ∙ digit_at (256 ^ width) base_pos (8 / width) word at inside
 
-  module _ (word at key : ℕ) (inside : at < 8 / width) (small : key < 256 ^ width) (tight : IsTight width word) where
+  module _ (word at key : ℕ) (inside : at < 8 / width) (small : key < 256 ^ width) (tight : HasZeroPadding width word) where
     unit : ℕ
     unit = 256 ^ (width * at)
 
@@ -67,7 +67,7 @@ module _ (width : ℕ) (is : IsWidth width) where
     parts_fit low inner moved u some within all = let most = le-mul_of_pos_right inner some in (omega arith, omega arith, omega arith)
 
     from_number : (list : List ℕ) → length list ≡ length ds → AreDigits (256 ^ width) base_pos list → (value : ℕ) → value ≡ number (256 ^ width) base_pos list
-        → (value < 2 ^ 64) × (places width value ≡ list) × IsTight width value
+        → (value < 2 ^ 64) × (places width value ≡ list) × HasZeroPadding width value
     from_number list same digits_are value is =
         let below : number (256 ^ width) base_pos list < (256 ^ width) ^ length list = number-lt (256 ^ width) base_pos list digits_are in
         let count : length list ≡ 8 / width = same ∙ long in
@@ -86,7 +86,7 @@ module _ (width : ℕ) (is : IsWidth width) where
         (λ t. sym whole t % sym (bytes_of width at) t + (key + (sym whole t / sym (bytes_of width at) t % rest t) * 256 ^ width) * sym (bytes_of width at) t)
         ∙ number-pushed (256 ^ width) base_pos at key ds are within
 
-    put_result : (put_value < 2 ^ 64) × (places width put_value ≡ pushed at key ds) × IsTight width put_value
+    put_result : (put_value < 2 ^ 64) × (places width put_value ≡ pushed at key ds) × HasZeroPadding width put_value
     put_result = from_number (pushed at key ds) (length-pushed (256 ^ width) base_pos at key ds) (pushed-AreDigits (256 ^ width) base_pos at key ds small are) put_value put_number
 
     pub put_all : (high above up moved low : ℕ) → high ≡ word / 256 ^ (width * at) → above ≡ high % 256 ^ (width * (8 / width - 1 - at)) → up ≡ above * 256 ^ width
@@ -111,8 +111,8 @@ module _ (width : ℕ) (is : IsWidth width) where
     unfolding ds
     put_places value is = ap (places width) is ∙ put_result.1
 
-    pub put_tight : (value : ℕ) → value ≡ put_value → IsTight width value
-    put_tight value is = subst (IsTight width) (sym is) put_result.2
+    pub put_tight : (value : ℕ) → value ≡ put_value → HasZeroPadding width value
+    put_tight value is = subst (HasZeroPadding width) (sym is) put_result.2
 
     -- ---- a key taken out: what stands above it moves down by a place, and the new last key to its place
 
@@ -124,7 +124,7 @@ module _ (width : ℕ) (is : IsWidth width) where
         (λ t. sym whole t % sym (bytes_of width at) t + (sym whole t / sym (bytes_of width (at + 1)) t + key * rest t) * sym (bytes_of width at) t)
         ∙ number-pulled (256 ^ width) base_pos at key ds are within
 
-    left_result : (left_value < 2 ^ 64) × (places width left_value ≡ pulled at key ds) × IsTight width left_value
+    left_result : (left_value < 2 ^ 64) × (places width left_value ≡ pulled at key ds) × HasZeroPadding width left_value
     left_result = from_number (pulled at key ds) (length-pulled (256 ^ width) base_pos at key ds) (pulled-AreDigits (256 ^ width) base_pos at key ds small are) left_value left_number
 
     pub left_all : (high up moved low : ℕ) → high ≡ word / 256 ^ (width * (at + 1)) → up ≡ key * 256 ^ (width * (8 / width - 1 - at))
@@ -145,5 +145,5 @@ module _ (width : ℕ) (is : IsWidth width) where
     unfolding ds
     left_places value is = ap (places width) is ∙ left_result.1
 
-    pub left_tight : (value : ℕ) → value ≡ left_value → IsTight width value
-    left_tight value is = subst (IsTight width) (sym is) left_result.2
+    pub left_tight : (value : ℕ) → value ≡ left_value → HasZeroPadding width value
+    left_tight value is = subst (HasZeroPadding width) (sym is) left_result.2

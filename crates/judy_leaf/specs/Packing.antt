@@ -18,8 +18,8 @@ places_of width [] = []
 places_of width (word ∷ words) = places width word ++ places_of width words
 
 -- The bits of a word above its places are 0.
-abbrev pub IsTight : ℕ → ℕ → Type 0
-IsTight width word = word < (256 ^ width) ^ (8 / width)
+abbrev pub HasZeroPadding : ℕ → ℕ → Type 0
+HasZeroPadding width word = word < (256 ^ width) ^ (8 / width)
 
 -- A width is 1 to 8 bytes.
 pub record IsWidth (width : ℕ) : Type 0 where
@@ -35,7 +35,7 @@ pub record IsPacked (width count : ℕ) (words : List ℕ) : Type 0 where
   pub is_width : IsWidth width
   pub enough : count ≤ length words * (8 / width)
   pub clear : drop count (places_of width words) ≡ replicate (length words * (8 / width) - count) 0
-  pub tight : AllByRecursion (IsTight width) words
+  pub tight : AllByRecursion (HasZeroPadding width) words
 
 -- A list with an element put in at a place: those from there on move on by one, and the last falls out.
 abbrev pub pushed : ℕ → ℕ → List ℕ → List ℕ

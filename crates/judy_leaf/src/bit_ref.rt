@@ -68,7 +68,7 @@ impl<'a, V: Words + Drop> BitRef<'a, V> {
     }
 
     /// A law, told by a call that does nothing: the keys are a set of bytes.
-    pub fn told(&self)
+    pub fn law(&self)
         ensures { IsByteSet (keys_of self.now.pairs) }
     {
         let _ = &self.block;
@@ -149,7 +149,7 @@ impl<'a, V: Words + Drop> BitRef<'a, V> {
             ≡ set.rank (keys_of self.now.pairs) byte + 1 }
         ensures below { result < 256 }
     {
-        self.told();
+        self.law();
         match self.bits().next_from(byte as u8) {
             Some(key) => u64::from(key),
             None => unreachable!(),
@@ -172,7 +172,7 @@ impl<'a, V: Words + Drop> BitRef<'a, V> {
     pub fn at_or_after(&self, number: u64) -> Option<(u64, u64)>
         ensures { result ≡ pair_from self.now.pairs number }
     {
-        self.told();
+        self.law();
         if number > 255 {
             return None;
         }
@@ -186,7 +186,7 @@ impl<'a, V: Words + Drop> BitRef<'a, V> {
     pub fn at_or_before(&self, number: u64) -> Option<(u64, u64)>
         ensures { result ≡ pair_up_to self.now.pairs number }
     {
-        self.told();
+        self.law();
         let last = number.min(255) as u8;
         match self.bits().prev_from(last) {
             Some(key) => Some((

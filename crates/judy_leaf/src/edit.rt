@@ -3,7 +3,7 @@
 
 ghost use Rattle.std.specs.Prelude.{◌≡◌, ◌+◌, ◌-◌, ◌*◌, ◌/◌, ◌^◌, ◌<◌, ◌≤◌, ℕ, zero, length, slice_index, drop};
 ghost use Rattle.std.specs.List.{AllByRecursion};
-ghost use Rattle.judy_leaf.specs.Packing.{places, pushed, pulled, IsTight, IsWidth};
+ghost use Rattle.judy_leaf.specs.Packing.{places, pushed, pulled, HasZeroPadding, IsWidth};
 ghost use Rattle.judy_leaf.specs.Edits.{IsEdit, IsFirstPlace};
 
 use crate::place::{key_in, with_key, without_key};
@@ -13,7 +13,7 @@ use judy_block::Block;
 fn push_words<const W: usize>(block: &mut Block, word: usize)
     requires width { IsWidth W }
     requires inside { word < length block.old.words }
-    requires tight { AllByRecursion (IsTight W) (drop word block.old.words) }
+    requires tight { AllByRecursion (HasZeroPadding W) (drop word block.old.words) }
     ensures { IsEdit W (word + 1)
         (pushed zero (slice_index (places W (slice_index block.old.words word)) (8 / W - 1)))
         block.old block.new }
@@ -32,7 +32,7 @@ pub(crate) fn push_key<const W: usize>(block: &mut Block, start: usize, at: usiz
     requires inside { start + at / (8 / W) < length block.old.words }
     requires few { length block.old.words ≤ 65535 }
     requires below { key < 256 ^ W }
-    requires tight { AllByRecursion (IsTight W) (drop start block.old.words) }
+    requires tight { AllByRecursion (HasZeroPadding W) (drop start block.old.words) }
     ensures { IsEdit W start (pushed at key) block.old block.new }
 {
     let word = start + at / (8 / W);
@@ -45,7 +45,7 @@ pub(crate) fn push_key<const W: usize>(block: &mut Block, start: usize, at: usiz
 fn pull_words<const W: usize>(block: &mut Block, word: usize) -> u64
     requires width { IsWidth W }
     requires inside { word < length block.old.words }
-    requires tight { AllByRecursion (IsTight W) (drop word block.old.words) }
+    requires tight { AllByRecursion (HasZeroPadding W) (drop word block.old.words) }
     ensures edit { IsEdit W (word + 1) (pulled zero 0) block.old block.new }
     ensures first { IsFirstPlace W (drop (word + 1) block.old.words) result }
     ensures below { result < 256 ^ W }
@@ -65,7 +65,7 @@ pub(crate) fn pull_key<const W: usize>(block: &mut Block, start: usize, at: usiz
     requires width { IsWidth W }
     requires inside { start + at / (8 / W) < length block.old.words }
     requires few { length block.old.words ≤ 65535 }
-    requires tight { AllByRecursion (IsTight W) (drop start block.old.words) }
+    requires tight { AllByRecursion (HasZeroPadding W) (drop start block.old.words) }
     ensures { IsEdit W start (pulled at 0) block.old block.new }
 {
     let word = start + at / (8 / W);

@@ -78,7 +78,7 @@ impl<V: Words + Drop> ImmOf<V> {
     }
 
     /// A law, told by a call that does nothing: the keys ascend and have `width` bytes.
-    pub fn told(&self)
+    pub fn law(&self)
         ensures { IsKeyList self.now }
     {
         let _ = &self.count;

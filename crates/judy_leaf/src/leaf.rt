@@ -28,16 +28,16 @@ pub type Leaf<const W: usize> = LeafOf<Width<W>>;
 
 const _: () = prove!(size_of::<Leaf<1>>() == 16);
 
-/// How much room the block of a new leaf has for keys to come.
+/// How much the block of a new leaf has to spare for keys to come.
 #[derive(Clone, Copy)]
-pub enum Room {
+pub enum Spare {
     /// Some: whole fours of words, and always one word more than the leaf takes.
     Ample,
     /// Hardly any: with its header the block fills what the allocator gives, 8 bytes beside whole sixteens.
     Snug,
 }
 
-impl Room {
+impl Spare {
     // The capacity of the block of a leaf that takes so many words.
     #[inline(always)]
     fn capacity(self, needed: usize) -> usize
@@ -46,8 +46,8 @@ impl Room {
         ensures within { (1 ≤ result) × (result ≤ 68) }
     {
         match self {
-            Room::Ample => needed / 4 * 4 + 4,
-            Room::Snug => (needed.max(1) + 1) / 2 * 2,
+            Spare::Ample => needed / 4 * 4 + 4,
+            Spare::Snug => (needed.max(1) + 1) / 2 * 2,
         }
     }
 }
@@ -108,14 +108,14 @@ impl<V: Words + Drop> LeafOf<V> {
         self.count -= 1;
     }
 
-    /// The leaf of at most 32 pairs, with so much room. Of each key the lowest `width` bytes count, 1 to 8; by these the keys strictly
+    /// The leaf of at most 32 pairs, with so much to spare. Of each key the lowest `width` bytes count, 1 to 8; by these the keys strictly
     /// ascend. Where keys have no value, each value is 0. The error is want of memory; nothing is kept then.
     #[inline(always)]
     pub fn from_sorted(
         alloc: Global,
         width: u8,
         pairs: &[(u64, u64)],
-        room: Room,
+        spare: Spare,
     ) -> Result<LeafOf<V>, AllocError>
         requires words { V.WORDS ≤ 1 }
         requires list { IsKeyList
@@ -126,7 +126,7 @@ impl<V: Words + Drop> LeafOf<V> {
             (λ leaf. leaf ≡ record { width = width; pairs = low_pairs (256 ^ width) pairs.now }) }
     {
         let needed = LeafOf::<V>::words_needed(width, pairs);
-        let mut block = Block::new(alloc, room.capacity(needed))?;
+        let mut block = Block::new(alloc, spare.capacity(needed))?;
         block.set_tag(u32::from(width));
         pairs::put_all::<V>(&mut block, usize::from(width), pairs);
         Ok(LeafOf {
@@ -157,7 +157,7 @@ impl<V: Words + Drop> LeafOf<V> {
             ≡ record { width = width; pairs = low_pairs (256 ^ width) (low ∷ high ∷ []) }) }
     {
         if width <= 4 {
-            return LeafOf::from_sorted(alloc, width, &[low, high], Room::Ample);
+            return LeafOf::from_sorted(alloc, width, &[low, high], Spare::Ample);
         }
         let block = pairs::two_words::<V>(alloc, width, low, high)?;
         Ok(LeafOf {

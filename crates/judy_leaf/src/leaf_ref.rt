@@ -59,7 +59,7 @@ impl<'a, V: Words + Drop> LeafRef<'a, V> {
     }
 
     /// A law, told by a call that does nothing: the keys ascend and have `width` bytes.
-    pub fn told(&self)
+    pub fn law(&self)
         ensures { IsKeyList self.now }
     {
         let _ = &self.count;

@@ -51,6 +51,6 @@ pub use from_pair::FromPair;
 pub use imm::{Imm, ImmOf};
 pub use in_place::{put_in_bit_leaf, put_in_leaf, take_from_bit_leaf, take_from_leaf};
 pub use layout::{BIT_WORDS, LEAF_ROOM, bit_count, bit_width, set_bit_width, widen_bits};
-pub use leaf::{Leaf, LeafOf, Room};
+pub use leaf::{Leaf, LeafOf, Spare};
 pub use leaf_ref::LeafRef;
 pub use words::{Width, Words};

@@ -2,7 +2,7 @@
 //! program is compiled, and what stands here comes to a few shifts and masks.
 
 ghost use Rattle.std.specs.Prelude.{◌≡◌, ◌/◌, ◌^◌, ◌<◌, slice_index};
-ghost use Rattle.judy_leaf.specs.Packing.{places, IsTight, IsWidth, pushed, pulled};
+ghost use Rattle.judy_leaf.specs.Packing.{places, HasZeroPadding, IsWidth, pushed, pulled};
 
 use judy_bits::{low_part, moved_up, without_low};
 
@@ -21,9 +21,9 @@ pub(crate) fn with_key<const W: usize>(word: u64, at: usize, key: u64) -> u64
     requires width { IsWidth W }
     requires inside { at < 8 / W }
     requires below { key < 256 ^ W }
-    requires tight { IsTight W word }
+    requires tight { HasZeroPadding W word }
     ensures places { places W result ≡ pushed at key (places W word) }
-    ensures tight { IsTight W result }
+    ensures tight { HasZeroPadding W result }
 {
     let above = low_part(without_low(word, W * at), W * (8 / W - 1 - at));
     low_part(word, W * at) + moved_up(key + moved_up(above, W), W * at)
@@ -34,9 +34,9 @@ pub(crate) fn without_key<const W: usize>(word: u64, at: usize, last: u64) -> u6
     requires width { IsWidth W }
     requires inside { at < 8 / W }
     requires below { last < 256 ^ W }
-    requires tight { IsTight W word }
+    requires tight { HasZeroPadding W word }
     ensures places { places W result ≡ pulled at last (places W word) }
-    ensures tight { IsTight W result }
+    ensures tight { HasZeroPadding W result }
 {
     let above = without_low(word, W * (at + 1)) + moved_up(last, W * (8 / W - 1 - at));
     low_part(word, W * at) + moved_up(above, W * at)

@@ -8,6 +8,7 @@ use Rattle.std.proofs.lemmas.List.Splits.{slice_split_none}
 use Rattle.judy_model.specs.Keys.{IsByteString, IsBytesKey, IsStringKey}
 use Rattle.judy_model.specs.Tokens.{tokens_of}
 use Rattle.judy_model.specs.KeyTokens.{is_shown, digit_value, with_byte, bytes_of_digits, key_of, is_bytes_key, is_string_key, passing, bytes_key_of, string_key_of, digit_of, digits_of, printed_key}
+use Rattle.judy_model.specs.declared.keys.TheConstants.{LONGEST_KEY}
 
 -- what a test of each element says of them
 All-from_test : (test : ℕ → Bool) (P : ℕ → Type 0) → ((n : ℕ) → test n ≡ true → P n) → (xs : List ℕ) → list_all test xs ≡ true → All P xs
@@ -55,7 +56,7 @@ key_of-IsByteString (sign ∷ signs) =
     ]
 
 is_bytes_key-IsBytesKey : (key : List ℕ) → IsByteString key → is_bytes_key key ≡ true → IsBytesKey key
-is_bytes_key-IsBytesKey key bytes short = record { is_byte_string = bytes; within_limit = leb-true (length key) 1024 short }
+is_bytes_key-IsBytesKey key bytes short = record { is_byte_string = bytes; within_limit = leb-true (length key) LONGEST_KEY short }
 
 not_zero : (byte : ℕ) → not (byte == 0) ≡ true → byte ≢ 0
 not_zero byte other zero = absurd (cc)
@@ -108,7 +109,7 @@ test_from_All test P each [] all = refl
 test_from_All test P each (x ∷ xs) all = rw (each x (All-head P x xs all), test_from_All test P each xs (All-tail P x xs all)) refl
 
 IsBytesKey-test : (key : List ℕ) → IsBytesKey key → is_bytes_key key ≡ true
-IsBytesKey-test key is = le-leb (length key) 1024 is.within_limit
+IsBytesKey-test key is = le-leb (length key) LONGEST_KEY is.within_limit
 
 IsStringKey-test : (key : List ℕ) → IsStringKey key → is_string_key key ≡ true
 IsStringKey-test key is =

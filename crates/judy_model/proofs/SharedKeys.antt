@@ -10,6 +10,7 @@ use Rattle.judy_model.specs.DumpText as text
 use Rattle.judy_model.specs.DumpText.{Version, jdy1, jdy2, shared_length, beside_before}
 use Rattle.judy_model.specs.DumpGrammar as grammar
 use Rattle.judy_model.specs.DumpGrammar.{is_without_zero, is_longest_shared}
+use Rattle.judy_model.specs.declared.keys.TheConstants.{LONGEST_KEY}
 use Rattle.judy_model.proofs.FieldLemmas.{IsSpelled, Passes, sequence-IsSpelled, done-IsSpelled, field-IsSpelled, number-IsSpelled, bytes-IsSpelled}
 use Rattle.judy_model.proofs.EntryLemmas.{entries_text}
 use Rattle.judy_model.proofs.StringKeys.{All-without_zero, without_zero-All, string_without_zero-IsSpelled}
@@ -60,7 +61,7 @@ module _ (before : List ℕ) (was : IsStringKey before) where
   shared_checks = ((λ shared. leb shared (length before)), bad_prefix) ∷ []
 
   abbrev rest_checks : ℕ → List ((ℕ → Bool) × Fault)
-  rest_checks shared = ((λ rest. leb (shared + rest) 1024), bad_key) ∷ []
+  rest_checks shared = ((λ rest. leb (shared + rest) LONGEST_KEY), bad_key) ∷ []
 
   abbrev suffix_checks : ℕ → List ((List ℕ → Bool) × Fault)
   suffix_checks shared = (is_without_zero, bad_key) ∷ (is_longest_shared before shared, bad_prefix) ∷ []
@@ -86,7 +87,7 @@ module _ (before : List ℕ) (was : IsStringKey before) where
     front_long = length-take-le shared before inside
 
     -- A front of the key before and bytes behind it are a key.
-    made-IsStringKey : (suffix : List ℕ) → shared + length suffix ≤ 1024 → IsByteString suffix → is_without_zero suffix ≡ true → IsStringKey (take shared before ++ suffix)
+    made-IsStringKey : (suffix : List ℕ) → shared + length suffix ≤ LONGEST_KEY → IsByteString suffix → is_without_zero suffix ≡ true → IsStringKey (take shared before ++ suffix)
     made-IsStringKey suffix fits are without =
         let long = length-append (take shared before) suffix in
         let front = front_long in
@@ -98,7 +99,7 @@ module _ (before : List ℕ) (was : IsStringKey before) where
           without_zero = All-append (λ byte. byte ≢ 0) (take shared before) suffix (All-take (λ byte. byte ≢ 0) shared before was.without_zero) (without_zero-All suffix without);
         }
 
-    suffix-IsSpelled : (rest : ℕ) → shared + rest ≤ 1024 → IsSpelled (Rests shared rest) (drop shared) (suffix_part shared rest)
+    suffix-IsSpelled : (rest : ℕ) → shared + rest ≤ LONGEST_KEY → IsSpelled (Rests shared rest) (drop shared) (suffix_part shared rest)
     suffix-IsSpelled rest fits =
         sequence-IsSpelled (λ suffix. ((length suffix ≡ rest) × IsByteString suffix) × Passes (suffix_checks shared) suffix) (λ suffix. suffix) (field (bytes rest) (suffix_checks shared))
         (λ suffix key. key ≡ take shared before ++ suffix) (λ suffix key. []) (λ suffix. done (take shared before ++ suffix)) (Rests shared rest) (drop shared)
@@ -128,15 +129,15 @@ module _ (before : List ℕ) (was : IsStringKey before) where
         sequence-IsSpelled (λ rest. (rest < 256 ^ 2) × Passes (rest_checks shared) rest) (low_bytes 2) (field (number 2) (rest_checks shared))
         (λ rest key. Rests shared rest key) (λ rest key. drop shared key) (suffix_part shared) (Shares shared) (λ key. text.string (drop shared key))
         (field-IsSpelled _ (low_bytes 2) (number 2) (rest_checks shared) (number-IsSpelled 2))
-        (λ rest p. suffix-IsSpelled rest (leb-true (shared + rest) 1024 p.1.0))
+        (λ rest p. suffix-IsSpelled rest (leb-true (shared + rest) LONGEST_KEY p.1.0))
         (λ key is.
         let within = is.1.is_bytes_key.within_limit in
         let front = (shares_front before key).within_right in
         let same = is.0 in
         let long = length-drop shared key in
         let all : shared + length (drop shared key) ≡ length key = omega arith in
-        let few : shared + length (drop shared key) ≤ 1024 = omega arith in
-        (length (drop shared key), (omega arith, (le-leb (shared + length (drop shared key)) 1024 few, tt)), (is, all), refl))
+        let few : shared + length (drop shared key) ≤ LONGEST_KEY = omega arith in
+        (length (drop shared key), (omega arith, (le-leb (shared + length (drop shared key)) LONGEST_KEY few, tt)), (is, all), refl))
         (λ rest key p q.
         let all = q.1 in
         let long = length-drop shared key in

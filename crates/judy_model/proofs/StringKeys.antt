@@ -9,6 +9,7 @@ use Rattle.judy_model.specs.Fields.{Fault, bad_key, bytes, number, field}
 use Rattle.judy_model.specs.DumpText as text
 use Rattle.judy_model.specs.DumpGrammar as grammar
 use Rattle.judy_model.specs.DumpGrammar.{is_without_zero}
+use Rattle.judy_model.specs.declared.keys.TheConstants.{LONGEST_KEY}
 use Rattle.judy_model.proofs.FieldLemmas.{IsSpelled, sequence-IsSpelled, retold-IsSpelled, field-IsSpelled, number-IsSpelled, bytes-IsSpelled}
 
 -- ---- tests of each byte
@@ -48,13 +49,13 @@ word-IsSpelled = number-IsSpelled 8
 
 pub string-IsSpelled : IsSpelled IsBytesKey text.string grammar.string
 string-IsSpelled =
-    let checks : List ((ℕ → Bool) × Fault) = ((λ length. leb length 1024), bad_key) ∷ [] in
+    let checks : List ((ℕ → Bool) × Fault) = ((λ length. leb length LONGEST_KEY), bad_key) ∷ [] in
     sequence-IsSpelled _ (low_bytes 2) (field (number 2) checks) (λ long key. (length key ≡ long) × IsByteString key) (λ long key. key) bytes IsBytesKey text.string
     (field-IsSpelled _ (low_bytes 2) (number 2) checks (number-IsSpelled 2))
     (λ long _. bytes-IsSpelled long)
-    (λ key is. let within = is.within_limit in (length key, (omega arith, (le-leb (length key) 1024 within, tt)), (refl, is.is_byte_string), refl))
+    (λ key is. let within = is.within_limit in (length key, (omega arith, (le-leb (length key) LONGEST_KEY within, tt)), (refl, is.is_byte_string), refl))
     (λ long key p q.
-    let within = leb-true long 1024 p.1.0 in let same = q.0 in
+    let within = leb-true long LONGEST_KEY p.1.0 in let same = q.0 in
     (record { is_byte_string = q.1; within_limit = omega arith }, ap (λ n. low_bytes 2 n ++ key) same))
 
 pub string_without_zero-IsSpelled : IsSpelled IsStringKey text.string grammar.string_without_zero

@@ -14,6 +14,7 @@ use Rattle.judy_model.specs.Keys.{IsStringKey, byte_order}
 use Rattle.judy_model.specs.KeyLengths.{IsBytesKeyTo}
 use Rattle.judy_model.specs.Empties.{numbers_below}
 use Rattle.judy_model.specs.Tables.{strings_to, bytes_keys, string_keys, tabled, table}
+use Rattle.judy_model.specs.declared.keys.TheConstants.{LONGEST_KEY}
 use Rattle.judy_model.proofs.Orders.{same_from_tie}
 use Rattle.judy_model.proofs.Ascending.{Among, Among-filter, among_from_filter, Among-list_any, list_any-from_among, all_from_among, all_among}
 use Rattle.judy_model.proofs.EmptiesLemmas.{below_from_among, Among-numbers_below}
@@ -123,12 +124,12 @@ string_keys-all = record {
       (λ byte. (byte < 256) × (byte ≢ 0))
       byte_without_zero
       without_zero
-      1024
+      LONGEST_KEY
       key
       (λ k d within. (is.is_bytes_key.is_byte_string k d within, is.without_zero k d within))
       is.is_bytes_key.within_limit;
   only = λ key here.
-      let are = strings_to-only (filter (λ b. nat_lt 0 b) (numbers_below 256)) (λ byte. (byte < 256) × (byte ≢ 0)) without_zero 1024 key here in
+      let are = strings_to-only (filter (λ b. nat_lt 0 b) (numbers_below 256)) (λ byte. (byte < 256) × (byte ≢ 0)) without_zero LONGEST_KEY key here in
       record { is_bytes_key = record { is_byte_string = λ k d within. (are.0 k d within).0; within_limit = are.1 }; without_zero = λ k d within. (are.0 k d within).1 };
 }
 

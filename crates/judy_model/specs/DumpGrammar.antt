@@ -12,6 +12,7 @@ use Rattle.judy_model.specs.Tokens.{is_name_byte}
 use Rattle.judy_model.specs.Stores.{Store, array_named, with_new_array}
 use Rattle.judy_model.specs.Fields.{Fault, bad_magic, too_many, bad_name, same_name, bad_kind, bad_limit, bad_count, bad_key, bad_order, bad_prefix, Part, ◌>>=◌, done, bytes, number, field, end, value_of}
 use Rattle.judy_model.specs.DumpText.{Version, jdy1, jdy2, magic, shared_length, length_order}
+use Rattle.judy_model.specs.declared.keys.TheConstants.{LONGEST_KEY}
 
 -- ---- an array's head: its name, its kind, its limit, how many keys follow
 
@@ -66,7 +67,7 @@ no_value = done 0
 -- A byte string of at most 1,024 bytes behind its length, in two bytes.
 abbrev pub string : Part (List ℕ)
 string = do
-  length ← field (number 2) (((λ length. nat_le length 1024), bad_key) ∷ [])
+  length ← field (number 2) (((λ length. nat_le length LONGEST_KEY), bad_key) ∷ [])
   bytes length
 
 -- A key of a judysl array holds no zero byte.
@@ -85,7 +86,7 @@ is_longest_shared before shared suffix = shared_length before (take shared befor
 abbrev pub string_behind_front : List ℕ → Part (List ℕ)
 string_behind_front before = do
   shared ← field (number 2) (((λ shared. nat_le shared (length before)), bad_prefix) ∷ [])
-  rest ← field (number 2) (((λ rest. nat_le (shared + rest) 1024), bad_key) ∷ [])
+  rest ← field (number 2) (((λ rest. nat_le (shared + rest) LONGEST_KEY), bad_key) ∷ [])
   suffix ← field (bytes rest) ((is_without_zero, bad_key) ∷ (is_longest_shared before shared, bad_prefix) ∷ [])
   done (take shared before ++ suffix)
 

@@ -2,6 +2,7 @@
 use Rattle.std.specs.Prelude.{ℕ, ◌+◌, ◌-◌, ◌*◌, ◌/◌, ◌%◌, Bool, not, ◌&&◌, ◌==◌, nat_lt, nat_le, if◌then◌else◌, List, [], ◌∷◌, length, Option, Some, None}
 use Rattle.std.specs.List.{list_all}
 use Rattle.std.specs.Char.{is_ascii_graphic}
+use Rattle.judy_model.specs.declared.keys.TheConstants.{LONGEST_KEY}
 
 -- The bytes that stand for themselves in a key token: 33 to 126, the ASCII signs without the space.
 abbrev pub is_shown : ℕ → Bool
@@ -37,7 +38,7 @@ key_of (sign ∷ signs) =
 
 -- Whether a byte string may be a key of a judyhs array: it has at most 1,024 bytes.
 abbrev pub is_bytes_key : List ℕ → Bool
-is_bytes_key key = nat_le (length key) 1024
+is_bytes_key key = nat_le (length key) LONGEST_KEY
 
 -- Whether it may be one of a judysl array: it has no zero byte either.
 abbrev pub is_string_key : List ℕ → Bool

@@ -3,6 +3,7 @@ use Rattle.std.specs.Prelude.{ℕ, ◌^◌, ◌<◌, ◌≤◌, ◌≢◌, List,
 use Rattle.std.specs.declared.cmp.Ordering.{Ordering}
 use Rattle.std.specs.Ordering.{nat_cmp}
 use Rattle.std.specs.Cmp.Lexicographic.{slice_cmp}
+use Rattle.judy_model.specs.declared.keys.TheConstants.{LONGEST_KEY}
 
 -- A word is a whole number from 0 to 2^64 - 1. (The manual's index of Judy1 and JudyL, and every value.)
 abbrev pub IsWord : ℕ → Type 0
@@ -24,7 +25,7 @@ byte_order = slice_cmp nat_cmp
 -- A key of a judyhs array: a byte string of at most 1,024 bytes. (The limit is this project's own.)
 pub record IsBytesKey (key : List ℕ) : Type 0 where
   pub is_byte_string : IsByteString key
-  pub within_limit : length key ≤ 1024
+  pub within_limit : length key ≤ LONGEST_KEY
 
 -- A key of a judysl array: such a byte string that holds no zero byte, as in the manual's C strings.
 pub record IsStringKey (key : List ℕ) : Type 0 where

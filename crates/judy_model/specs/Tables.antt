@@ -6,6 +6,7 @@ use Rattle.std.specs.Option.{option_map}
 use Rattle.std.specs.FinMap.{FinMap, from_entries}
 use Rattle.judy_model.specs.Keys.{byte_order}
 use Rattle.judy_model.specs.Empties.{numbers_below}
+use Rattle.judy_model.specs.declared.keys.TheConstants.{LONGEST_KEY}
 
 -- All strings of at most so many bytes, each of an alphabet: the empty one, and each byte of the alphabet
 -- before each string of at most one byte less.
@@ -19,7 +20,7 @@ bytes_keys longest = strings_to (numbers_below 256) longest
 
 -- All keys of judysl arrays: those that hold no zero byte.
 unfoldable pub string_keys : List (List ℕ)
-string_keys = strings_to (filter (λ byte. nat_lt 0 byte) (numbers_below 256)) 1024
+string_keys = strings_to (filter (λ byte. nat_lt 0 byte) (numbers_below 256)) LONGEST_KEY
 
 -- The keys for which a function has an answer, each with that answer.
 abbrev pub tabled : (List ℕ → Option ℕ) → List (List ℕ) → List (List ℕ × ℕ)

@@ -19,4 +19,5 @@
 
 pub mod dump_examples;
 pub mod examples;
+pub mod keys;
 pub mod laws;

@@ -13,7 +13,7 @@ use crate::child::{BranchOf, ChildOf, KindOf};
 use crate::head::Head;
 use crate::sums::Sums;
 use judy_bits::{Bits256, ByteSet, Skip, low_part, moved_up, without_tail};
-use judy_leaf::{BitLeafOf, ImmOf, LEAF_ROOM, LeafOf, Room, Words, bit_width, widen_bits};
+use judy_leaf::{BitLeafOf, ImmOf, LEAF_ROOM, LeafOf, Spare, Words, bit_width, widen_bits};
 use std::alloc::{AllocError, Global};
 use std::marker::PhantomData;
 
@@ -236,7 +236,7 @@ fn add_child<V: Words + Drop>(
         let child = ChildOf::close(immediate_of_sorted(width, pairs));
         return pushed(children, child);
     }
-    let Ok(kind) = kind_of_sorted(alloc, width, pairs, Room::Snug) else {
+    let Ok(kind) = kind_of_sorted(alloc, width, pairs, Spare::Snug) else {
         return Err(AllocError);
     };
     pushed(children, ChildOf::close(kind))
@@ -258,18 +258,18 @@ pub fn child_of_sorted<V: Words + Drop>(
     if fits_immediate::<V>(pairs.len(), width) {
         return Ok(ChildOf::close(immediate_of_sorted(width, pairs)));
     }
-    let kind = kind_of_sorted(alloc, width, pairs, Room::Snug)?;
+    let kind = kind_of_sorted(alloc, width, pairs, Spare::Snug)?;
     Ok(ChildOf::close(kind))
 }
 
-/// The same for more pairs than an immediate holds, by the node's kind; `width` may be 8 here. Where it is a leaf, it has so much room.
+/// The same for more pairs than an immediate holds, by the node's kind; `width` may be 8 here. Where it is a leaf, it has so much to spare.
 #[cycle(build)]
 #[inline(never)]
 pub fn kind_of_sorted<V: Words + Drop>(
     alloc: Global,
     width: u8,
     pairs: &[(u64, u64)],
-    room: Room,
+    spare: Spare,
 ) -> Result<KindOf<V>, AllocError>
     requires one { V.WORDS ≤ 1 }
     requires width { (1 ≤ width) × (width ≤ 8) }
@@ -282,7 +282,7 @@ pub fn kind_of_sorted<V: Words + Drop>(
         let kind = many(alloc, width, pairs)?;
         return Ok(kind);
     }
-    let (count, block) = LeafOf::<V>::from_sorted(alloc, width, pairs, room)?.into_parts();
+    let (count, block) = LeafOf::<V>::from_sorted(alloc, width, pairs, spare)?.into_parts();
     Ok(KindOf::Leaf(count, block))
 }
 

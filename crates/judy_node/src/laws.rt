@@ -23,8 +23,8 @@ pub fn tight_trees_are_alike<V: Words + Drop>(left: &NodeOf<V>, right: &NodeOf<V
     requires same_keys { keys_of left.now.pairs ≡ keys_of right.now.pairs }
     ensures { left.now.form ≡ right.now.form }
 {
-    left.told();
-    right.told();
+    left.law();
+    right.law();
 }
 
 /// A tree is tight exactly where its form is that of the rule.
@@ -32,5 +32,5 @@ pub fn tight_is_the_rule<V: Words + Drop>(tree: &NodeOf<V>)
     ensures shaped { IsTight tree.now → tree.now.form ≡ form_of V.WORDS 8 (keys_of tree.now.pairs) }
     ensures tight { tree.now.form ≡ form_of V.WORDS 8 (keys_of tree.now.pairs) → IsTight tree.now }
 {
-    tree.told();
+    tree.law();
 }

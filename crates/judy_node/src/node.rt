@@ -12,7 +12,7 @@ use crate::child::ChildOf;
 use crate::shape::Shape;
 use crate::view::ViewOf;
 use judy_bits::Meter;
-use judy_leaf::{Room, Width, Words};
+use judy_leaf::{Spare, Width, Words};
 use judy_unmetered::Unmetered;
 use std::alloc::{AllocError, Global};
 use std::marker::Model;
@@ -66,7 +66,7 @@ impl<V: Words + Drop> NodeOf<V> {
     }
 
     /// A law, told by a call that does nothing, of what every tree keeps: its keys ascend, and where no node is loose, its form is that of the rule.
-    pub fn told(&self)
+    pub fn law(&self)
         ensures { IsNode V.WORDS self.now }
     {
         let _ = &self.place;
@@ -167,7 +167,7 @@ impl<V: Words + Drop> NodeOf<V> {
             let (key, value) = pairs[0];
             return Ok(NodeOf::close(RootOf::One(key, value)));
         }
-        let kind = kind_of_sorted(alloc, 8, pairs, Room::Ample)?;
+        let kind = kind_of_sorted(alloc, 8, pairs, Spare::Ample)?;
         Ok(NodeOf::close(RootOf::Many(ChildOf::close(kind))))
     }
 }

@@ -6,7 +6,7 @@ ghost use Rattle.judy_node.specs.Trees.{forms_in};
 ghost use Rattle.judy_node.specs.ShapeSums.{shape_as, plus, nodes_in};
 
 use crate::child::{BranchOf, ChildOf, KindOf};
-use judy_bits::{ByteSet, Form};
+use judy_bits::{ByteSet, SetForm};
 use judy_leaf::Words;
 
 /// The number of nodes of each kind.
@@ -47,9 +47,9 @@ impl Shape {
         ensures { shape_as self.new ≡ with_branch (length bytes.now) (shape_as self.old) }
     {
         match bytes.form() {
-            Form::Linear => self.linear += 1,
-            Form::Bitmap => self.bitmap += 1,
-            Form::Full => self.full += 1,
+            SetForm::Linear => self.linear += 1,
+            SetForm::Bitmap => self.bitmap += 1,
+            SetForm::Full => self.full += 1,
         }
     }
 }

@@ -1,12 +1,11 @@
 //! A sink that keeps bytes back and hands them on in large pieces.
 
-ghost use Rattle.std.specs.Prelude.{◌≡◌, ◌+◌, ◌-◌, ◌<◌, ◌≤◌, ◌^◌, [], drop, length, is_ok, if◌then◌else◌, IfOk, IfErr, OnOk};
+ghost use Rattle.std.specs.Prelude.{◌≡◌, ◌+◌, ◌-◌, ◌<◌, ◌≤◌, ◌^◌, [], take, drop, length, is_ok, if◌then◌else◌, IfOk, IfErr, OnOk};
 ghost use Rattle.judy_pipe.specs.declared.stop.Stop.TheVariants.{Failed};
 ghost use Rattle.judy_pipe.specs.Pipe.{grown, moved};
 
-use crate::sink::{Sink, write_on};
+use crate::sink::{SHORT_LEN, Sink, write_on};
 use crate::stop::{BrokenPipe, Stop};
-use arrayvec::ArrayVec;
 
 /// Keeps up to `N` bytes, and hands them on to another sink where a write finds it full and at each `flush`.
 ///
@@ -16,10 +15,12 @@ use arrayvec::ArrayVec;
 #[derive(Drop)]
 pub struct BufferedSink<W: Sink + Drop, const N: usize> {
     inner: W,
-    held: ArrayVec<u8, N>,
-    // How many of the held bytes the other sink has: some, where it failed in their midst.
+    // How many of the bytes before `end`, which are held, the other sink has: some, where it failed in their midst.
     sent: usize,
-    ghost within: { sent ≤ length held.items },
+    end: usize,
+    buffer: [u8; N],
+    ghost ordered: { sent ≤ end },
+    ghost within: { end ≤ N },
     ghost keeps: { 0 < N },
 }
 
@@ -34,8 +35,9 @@ impl<W: Sink + Drop, const N: usize> BufferedSink<W, N> {
     {
         BufferedSink {
             inner,
-            held: ArrayVec::new(),
             sent: 0,
+            end: 0,
+            buffer: [0; N],
         }
     }
 
@@ -49,39 +51,69 @@ impl<W: Sink + Drop, const N: usize> BufferedSink<W, N> {
     // Hands on what is kept.
     fn send(&mut self) -> Result<(), BrokenPipe>
         requires { (W.tally self.old.inner).failures < 2 ^ 64 - 1 }
-        ensures taken { grown (W.taken self.new.inner) (drop self.new.sent self.new.held.items)
-            ≡ grown (W.taken self.old.inner) (drop self.old.sent self.old.held.items) }
-        ensures sent { OnOk result (self.new.held.items ≡ []) }
+        ensures taken { grown (W.taken self.new.inner)
+            (take (self.new.end - self.new.sent) (drop self.new.sent self.new.buffer))
+            ≡ grown (W.taken self.old.inner)
+            (take (self.old.end - self.old.sent) (drop self.old.sent self.old.buffer)) }
+        ensures sent { OnOk result (self.new.end ≡ 0) }
         ensures failures { let before = (W.tally self.old.inner).failures in
             (W.tally self.new.inner).failures ≡ (if is_ok result then before else before + 1) }
     {
-        write_on(&mut self.inner, self.held.as_slice(), &mut self.sent)?;
-        self.held.clear();
+        write_on(&mut self.inner, &self.buffer[..self.end], &mut self.sent)?;
         self.sent = 0;
+        self.end = 0;
         Ok(())
+    }
+
+    // Keeps a piece that fits behind what is kept.
+    #[inline(always)]
+    fn keep(&mut self, piece: &[u8])
+        requires { self.old.end + length piece.now ≤ N }
+        ensures taken { grown (W.taken self.new.inner)
+            (take (self.new.end - self.new.sent) (drop self.new.sent self.new.buffer))
+            ≡ grown (grown (W.taken self.old.inner)
+            (take (self.old.end - self.old.sent) (drop self.old.sent self.old.buffer))) piece.now }
+        ensures inner { self.new.inner ≡ self.old.inner }
+    {
+        let end = self.end + piece.len();
+        let buffer = &mut self.buffer[..];
+        buffer[self.end..end].copy_from_slice(piece);
+        self.end = end;
     }
 }
 
 impl<W: Sink + Drop, const N: usize> Sink for BufferedSink<W, N> {
     ghost use Rattle.judy_pipe.specs.declared.tally.Tally.{Tally};
 
-    ghost taken = { λ s. grown (W.taken s.inner) (drop s.sent s.held.items) };
+    ghost taken = { λ s. grown (W.taken s.inner) (take (s.end - s.sent) (drop s.sent s.buffer)) };
 
-    ghost kept = { λ s. drop s.sent s.held.items };
+    ghost kept = { λ s. take (s.end - s.sent) (drop s.sent s.buffer) };
 
     ghost tally = { λ s. record { failures = (W.tally s.inner).failures; interruptions = 0 } };
 
     // Interruptions are tried again while it hands on, and counted there.
     fn write(&mut self, piece: &[u8]) -> Result<usize, Stop> {
-        if self.held.try_extend_from_slice(piece).is_ok() {
+        if piece.len() <= N - self.end {
+            self.keep(piece);
             return Ok(piece.len());
         }
-        if self.held.is_full() && self.send().is_err() {
+        if self.end == N && self.send().is_err() {
             return Err(Stop::Failed);
         }
-        let count = piece.len().min(self.held.remaining_capacity());
-        let _ = self.held.try_extend_from_slice(&piece[..count]);
+        let count = piece.len().min(N - self.end);
+        self.keep(&piece[..count]);
         Ok(count)
+    }
+
+    #[inline(always)]
+    fn take_short(&mut self, room: &[u8; SHORT_LEN], count: usize) -> bool {
+        if N - self.end < SHORT_LEN {
+            return false;
+        }
+        let buffer = &mut self.buffer[..];
+        buffer[self.end..self.end + SHORT_LEN].copy_from_slice(room);
+        self.end += count;
+        true
     }
 
     fn flush(&mut self) -> Result<(), BrokenPipe> {

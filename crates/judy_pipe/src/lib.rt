@@ -31,7 +31,7 @@ pub use buffered_sink::BufferedSink;
 pub use buffered_source::BufferedSource;
 pub use mem_sink::{MemSink, SinkTrouble};
 pub use mem_source::{MemSource, SourceTrouble};
-pub use sink::{Sink, write_all};
+pub use sink::{SHORT_LEN, Sink, write_all, write_short};
 pub use source::{Source, read_some};
 pub use stop::{BrokenPipe, Stop};
 pub use tally::Tally;

@@ -6,6 +6,9 @@ ghost use Rattle.judy_pipe.specs.Tally.{after_write};
 
 use crate::stop::{BrokenPipe, Stop};
 
+/// How many bytes stand in the room of a short piece.
+pub const SHORT_LEN: usize = 32;
+
 /// What takes bytes, a piece at a time.
 pub trait Sink {
     ghost use Rattle.judy_pipe.specs.declared.tally.Tally.{Tally};
@@ -27,6 +30,19 @@ pub trait Sink {
         ensures count { IfOk result (λ n. n ≤ length piece.now) }
         ensures taken { taken self.new ≡ grown (taken self.old) (moved result piece.now) }
         ensures tally { tally self.new ≡ after_write (tally self.old) piece.now result };
+
+    /// Takes the first `count` bytes of a room where it can do so at once, and answers whether it did; else it
+    /// took none. It copies the whole room, whose length is known, and that is done sooner than a copy of the
+    /// few bytes that count. It never fails.
+    #[inline(always)]
+    fn take_short(&mut self, room: &[u8; SHORT_LEN], count: usize) -> bool
+        requires { count ≤ 32 }
+        ensures taken { taken self.new
+            ≡ (if result then grown (taken self.old) (take count room.now) else taken self.old) }
+        ensures tally { tally self.new ≡ tally self.old }
+    {
+        false
+    }
 
     /// Hands on what it keeps in a buffer of its own, where it has one: its bytes are then with whom it
     /// writes to. It takes no byte by that. At the one error, `BrokenPipe`, it couldn't hand on all of
@@ -67,6 +83,27 @@ pub fn write_all<W: Sink>(sink: &mut W, bytes: &[u8]) -> Result<(), BrokenPipe>
         return Err(BrokenPipe);
     }
     write_on(sink, bytes, &mut count)
+}
+
+/// Writes the first `count` bytes of a room, as [`write_all`] does.
+#[inline(always)]
+pub fn write_short<W: Sink>(
+    sink: &mut W,
+    room: &[u8; SHORT_LEN],
+    count: usize,
+) -> Result<(), BrokenPipe>
+    requires within { count ≤ 32 }
+    requires failures { (W.tally sink.old).failures < 2 ^ 64 - 1 }
+    ensures ok { OnOk result (W.taken sink.new ≡ grown (W.taken sink.old) (take count room.now)) }
+    ensures err { OnErr result
+        (GrewByFront (W.taken sink.old) (take count room.now) (W.taken sink.new)) }
+    ensures failures { let before = (W.tally sink.old).failures in
+        (W.tally sink.new).failures ≡ (if is_ok result then before else before + 1) }
+{
+    if sink.take_short(room, count) {
+        return Ok(());
+    }
+    write_all(sink, &room[..count])
 }
 
 /// Writes what stands in `bytes` from place `count` on, trying an interrupted write again until the sink's

@@ -1,5 +1,5 @@
 -- Words that are no keys, beside runs of words that all are.
-use Rattle.std.specs.Prelude.{◌≡◌, ℕ, ◌+◌, ◌-◌, ◌*◌, ◌^◌, ◌<◌, ◌≤◌, IsTrue, IsFalse, Option, Some, None, length, slice_get}
+use Rattle.std.specs.Prelude.{◌≡◌, ℕ, ◌+◌, ◌-◌, ◌*◌, ◌^◌, ◌<◌, ◌≤◌, IsTrue, IsFalse, Option, Some, None, MatchOption, length, slice_get}
 use Rattle.std.specs.FinMap.{FinMap}
 use Rattle.judy_model.specs.Keys.{word_order}
 use Rattle.judy_model.specs.Empties.{first_empty, last_empty}
@@ -141,6 +141,14 @@ IsRoomOrElse {V} side words passed Holds room = (past : Room V) × IsRoomBeside 
 abbrev pub IsNearestRoom : {V : _} → Side → ℕ → Option (Turn V) → Room V → Room V → Type 0
 IsNearestRoom side words None beside room = room ≡ beside
 IsNearestRoom {V} side words (Some passed) beside room = IsRoomOrElse side words passed (λ (other : Room V). other ≡ beside) room
+
+-- The nearest room past a child or, where its branch has none there, past the one that was passed above it.
+abbrev pub IsFirstRoom : {V : _} → Side → ℕ → Turn V → Option (Turn V) → Room V → Room V → Type 0
+IsFirstRoom {V} side words passed above beside room = IsRoomOrElse side words passed (λ (other : Room V). IsNearestRoom side words above beside other) room
+
+-- Turns are to children that were passed by, the second where there is one.
+abbrev pub ArePassed : {V : _} → ℕ → Turn V → Option (Turn V) → Type 0
+ArePassed words passed above = IsPassed words passed × MatchOption above (Unit {0}) (IsPassed words)
 
 -- The nearest word from a key on that is no key of a map.
 abbrev pub nearest_empty : Side → FinMap word_order ℕ → ℕ → Option ℕ

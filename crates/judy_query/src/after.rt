@@ -26,7 +26,7 @@ pub fn entry_at_or_after<V: Words + Drop>(
     ensures no_fewer { meter.old ≤ meter.new }
     ensures visits { meter.new ≤ meter.old + most_visits_near }
 {
-    tree.told();
+    tree.law();
     let mut at = match tree.enter(meter) {
         ViewOf::Branch(top) => (top, key),
         view => return from_other(&view, key),

@@ -19,7 +19,7 @@ pub fn rank<V: Words + Drop>(tree: &NodeOf<V>, key: u64, meter: &mut Meter) -> u
     ensures no_fewer { meter.old ≤ meter.new }
     ensures visits { meter.new ≤ meter.old + most_visits_down }
 {
-    tree.told();
+    tree.law();
     if key == 0 {
         return 0;
     }

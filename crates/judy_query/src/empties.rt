@@ -3,7 +3,7 @@
 ghost use Rattle.std.specs.Prelude.{◌≡◌, ◌+◌, ◌-◌, ◌^◌, ◌<◌, ◌≤◌, MatchOption, Some, length};
 ghost use Rattle.judy_node.specs.Trees.{IsMap, IsChild};
 ghost use Rattle.judy_query.specs.Maps.{map_of};
-ghost use Rattle.judy_query.specs.Rooms.{IsAbsent, IsRoom, IsNearestRoom, IsRoomOrElse, IsPassed, low_of, high_of, nearest_empty};
+ghost use Rattle.judy_query.specs.Rooms.{IsAbsent, IsRoom, IsNearestRoom, IsFirstRoom, IsPassed, ArePassed, low_of, high_of, nearest_empty};
 ghost use Rattle.judy_query.specs.Visits.{most_visits_down, most_visits_near};
 
 use crate::rooms::{Room, is_full};
@@ -45,7 +45,7 @@ pub(crate) fn empty_beside<V: Words + Drop, M: Sparing>(
     ensures no_fewer { M.visits meter.old ≤ M.visits meter.new }
     ensures visits { M.visits meter.new ≤ M.visits meter.old + most_visits_near }
 {
-    tree.told();
+    tree.law();
     match seek(side, tree, key, meter) {
         Room::Nowhere => None,
         Room::At(word) => Some(word),
@@ -69,7 +69,7 @@ fn seek<'a, V: Words + Drop, M: Sparing>(
     ensures no_fewer { M.visits meter.old ≤ M.visits meter.new }
     ensures visits { M.visits meter.new ≤ M.visits meter.old + most_visits_down }
 {
-    tree.told();
+    tree.law();
     let mut at = match meter.enter_root(Top(tree)) {
         ViewOf::Branch(top) => (top, key),
         view => return Room::of(side.absent(&view, 8, key)),
@@ -116,10 +116,8 @@ fn room_beside<'a, V: Words + Drop>(
     above: Option<Turn<'a, V>>,
     beside: Room<'a, V>,
 ) -> Room<'a, V>
-    requires passed { IsPassed V.WORDS passed }
-    requires above { MatchOption above Unit (IsPassed V.WORDS) }
-    ensures { IsRoomOrElse side V.WORDS passed.entry
-        (IsNearestRoom side V.WORDS above.entry beside.entry) result }
+    requires { ArePassed V.WORDS passed above }
+    ensures { IsFirstRoom side V.WORDS passed.entry above.entry beside.entry result }
 {
     first_room(side, passed, above, beside)
 }
@@ -133,10 +131,8 @@ fn first_room<'a, V: Words + Drop>(
     above: Option<Turn<'a, V>>,
     beside: Room<'a, V>,
 ) -> Room<'a, V>
-    requires passed { IsPassed V.WORDS passed }
-    requires above { MatchOption above Unit (IsPassed V.WORDS) }
-    ensures { IsRoomOrElse side V.WORDS passed.entry
-        (IsNearestRoom side V.WORDS above.entry beside.entry) result }
+    requires { ArePassed V.WORDS passed above }
+    ensures { IsFirstRoom side V.WORDS passed.entry above.entry beside.entry result }
 {
     match side.room_past(passed) {
         Room::Nowhere => nearest_room(side, above, beside),

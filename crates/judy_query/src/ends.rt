@@ -39,7 +39,7 @@ pub(crate) fn value_in<V: Words + Drop>(view: &ViewOf<'_, V>, key: u64) -> Optio
 // The value at the place at which a list finds a key; none where it finds none.
 macro_rules! value_found {
     ($list:ident, $find:ident, $key:ident) => {{
-        $list.told();
+        $list.law();
         let at = $list.$find($key)?;
         Some($list.value_at(at))
     }};

@@ -39,7 +39,7 @@ pub fn lookup_many<V: Words + Drop>(
     ensures no_fewer { meter.old ≤ meter.new }
     ensures visits { meter.new ≤ meter.old + length keys.now * most_visits_down }
 {
-    tree.told();
+    tree.law();
     let mut ends = ArrayVec::new();
     go_down(tree, keys, &mut ends, meter);
     look_into(&ends, values);

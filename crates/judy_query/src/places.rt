@@ -22,7 +22,7 @@ pub fn entry_nth<V: Words + Drop>(tree: &NodeOf<V>, place: u64, meter: &mut Mete
     ensures no_fewer { meter.old ≤ meter.new }
     ensures visits { meter.new ≤ meter.old + most_visits_down }
 {
-    tree.told();
+    tree.law();
     if place >= tree.pop() {
         return None;
     }

@@ -49,6 +49,6 @@ fn behind<V: Words + Drop>(list: &BitRef<'_, V>, at: usize) -> u64
     requires { at < length list.now.pairs }
     ensures { set.rank (keys_of list.now.pairs) result ≡ at + 1 }
 {
-    list.told();
+    list.law();
     list.key_at(at) + 1
 }

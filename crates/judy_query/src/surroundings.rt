@@ -31,7 +31,7 @@ pub fn around<V: Words + Drop>(
     ensures no_fewer { meter.old ≤ meter.new }
     ensures visits { meter.new ≤ meter.old + most_visits_near }
 {
-    tree.told();
+    tree.law();
     let mut at = match tree.enter(meter) {
         ViewOf::Branch(top) => (top, key),
         view => return around_other(&view, key),

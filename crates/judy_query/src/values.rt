@@ -24,7 +24,7 @@ pub fn lookup<V: Words + Drop>(tree: &NodeOf<V>, key: u64, meter: &mut Meter) ->
     ensures no_fewer { meter.old ≤ meter.new }
     ensures visits { meter.new ≤ meter.old + most_visits_down }
 {
-    tree.told();
+    tree.law();
     let (end, left) = way_of(tree, key, meter)?;
     value_in(&end, left)
 }
@@ -52,7 +52,7 @@ pub fn lookup_start<'a, V: Words + Drop>(
     ensures start { IsBegun V.WORDS tree.now.pairs key result }
     ensures visits { meter.new ≡ meter.old + 1 }
 {
-    tree.told();
+    tree.law();
     match tree.enter(meter) {
         ViewOf::Leaf(list) => Start::Found(value_in_words(&list, key)),
         ViewOf::Branch(branch) => Start::Further(branch),
@@ -96,7 +96,7 @@ pub(crate) fn way_of<'a, V: Words + Drop>(
     ensures no_fewer { meter.old ≤ meter.new }
     ensures visits { meter.new ≤ meter.old + most_visits_down }
 {
-    tree.told();
+    tree.law();
     match tree.enter(meter) {
         ViewOf::Branch(branch) => end_of_way(branch, key, meter),
         end => Some((end, key)),

@@ -109,7 +109,7 @@ fn seek<'a, V: Words + Drop>(
     ensures no_fewer { meter.old ≤ meter.new }
     ensures visits { meter.new ≤ meter.old + most_visits_down }
 {
-    tree.told();
+    tree.law();
     let mut view = tree.enter(meter);
     let mut left = key;
     'down: while let ViewOf::Branch(branch) = view {

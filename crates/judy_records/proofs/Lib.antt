@@ -4,6 +4,7 @@ pub mod SpotLemmas
 pub mod PageLemmas
 pub mod FreeLemmas
 pub mod RecordLemmas
+pub mod RecordGrowth
 pub mod OrderLemmas
 pub mod PadLemmas
 pub mod BackLemmas

@@ -61,7 +61,7 @@ impl Records {
     }
 
     /// Does nothing: it tells a caller's proof that no free place is lost, and that there is memory for what the list holds.
-    pub fn told(&self)
+    pub fn law(&self)
         ensures none_lost { NoneLost (links_of self.now) self.now.first }
         ensures size { self.now.size ≤ 2305843009213693952 }
         ensures within { length self.now.spots * (self.now.size + 1) ≤ self.now.capacity }
@@ -70,12 +70,12 @@ impl Records {
     }
 
     /// Does nothing: it tells a caller's proof that values are words.
-    pub fn values_told(&self)
+    pub fn values_law(&self)
         ensures { (place : ℕ) → IsHeld (spot_at self.now place)
             → IsWord (value_of (spot_at self.now place)) }
     {
         for page in &self.pages {
-            words::told(page);
+            words::law(page);
         }
     }
 

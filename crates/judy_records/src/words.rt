@@ -109,6 +109,6 @@ pub fn bytes_in(alloc: Global, words: &[u64], count: usize) -> Result<Vec<u8>, A
 }
 
 // Does nothing: it tells a caller's proof that numbers of 64 bits are words.
-pub fn told(_words: &[u64])
+pub fn law(_words: &[u64])
     ensures { (at : ℕ) → IsWord (slice_index _words.now at) }
 {}

@@ -3,3 +3,4 @@ pub mod LineBuffers
 pub mod Feeds
 pub mod Faults
 pub mod RunEnds
+pub mod Lines

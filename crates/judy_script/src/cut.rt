@@ -17,38 +17,57 @@ pub(crate) fn cut_at(text: &[u8], byte: u8) -> (&[u8], Option<&[u8]>)
     (&text[..place], Some(&text[place + 1..]))
 }
 
-/// How many bytes of the text stand before the first `byte`, all where it isn't there. Sixteen are compared at once, with no branch
-/// on where it stands among them. Of those at the end some are compared twice, so that none is left to be compared alone.
+/// How many bytes of the text stand before the first `byte`, all where it isn't there. Several are compared at once, with no branch
+/// on where it stands among them: sixteen, eight or four, as many as there are.
 #[inline(always)]
 pub(crate) fn len_before(text: &[u8], byte: u8) -> usize
     ensures within { result ≤ length text.now }
     ensures front { IsTrue (is_without byte (take result text.now)) }
     ensures end { result < length text.now → get_or text.now result 0 ≡ byte }
 {
+    if text.len() < 8 {
+        len_before_by::<4>(text, byte)
+    } else if text.len() < 16 {
+        len_before_by::<8>(text, byte)
+    } else {
+        len_before_by::<16>(text, byte)
+    }
+}
+
+// The same, so many compared at once. Of those at the end some are compared twice, so that none is left to be compared alone.
+#[inline(always)]
+fn len_before_by<const N: usize>(text: &[u8], byte: u8) -> usize
+    requires some { 0 < N }
+    requires few { N ≤ 16 }
+    ensures within { result ≤ length text.now }
+    ensures front { IsTrue (is_without byte (take result text.now)) }
+    ensures end { result < length text.now → get_or text.now result 0 ≡ byte }
+{
     let mut count = 0;
     let mut rest = text;
-    'chunks: while let Some((chunk, after)) = rest.split_first_chunk::<16>() {
-        let here = first_place(*chunk, byte);
-        if here < 16 {
+    'chunks: while let Some((chunk, after)) = rest.split_first_chunk::<N>() {
+        let here = first_place::<N>(*chunk, byte);
+        if here < N {
             return count + here;
         }
-        count += 16;
+        count += N;
         rest = after;
     }
-    match text.split_last_chunk::<16>() {
-        Some((front, last)) => front.len() + first_place(*last, byte).min(16),
+    match text.split_last_chunk::<N>() {
+        Some((front, last)) => front.len() + first_place::<N>(*last, byte).min(N),
         None => short_len_before(text, byte),
     }
 }
 
-// The first of sixteen places that holds a byte; 16 or more where none does.
+// The first of so many places that holds a byte; as many or more where none does.
 #[inline(always)]
-fn first_place(bytes: [u8; 16], byte: u8) -> usize
-    requires { length bytes ≡ 16 }
-    ensures holds { result < 16 → get_or bytes result 0 ≡ byte }
-    ensures first { (at : ℕ) → at < 16 → at < result → get_or bytes at 0 ≢ byte }
+fn first_place<const N: usize>(bytes: [u8; N], byte: u8) -> usize
+    requires many { length bytes ≡ N }
+    requires few { N ≤ 16 }
+    ensures holds { result < N → get_or bytes.entry result 0 ≡ byte }
+    ensures first { (at : ℕ) → at < N → at < result → get_or bytes.entry at 0 ≢ byte }
 {
-    let equal = u8x16::from_array(bytes).simd_eq(u8x16::splat(byte));
+    let equal = Simd::<u8, N>::from_array(bytes).simd_eq(Simd::<u8, N>::splat(byte));
     equal.to_bitmask().trailing_zeros() as usize
 }
 

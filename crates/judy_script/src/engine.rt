@@ -8,6 +8,7 @@ ghost use Rattle.judy_pipe.specs.Pipe.{grown, GrewByFront};
 ghost use Rattle.judy_shelf.specs.Shelves.{store_of};
 ghost use Rattle.judy_command.specs.Replies.{line_reply_of};
 ghost use Rattle.judy_script.specs.LineBuffers.{Holds};
+ghost use Rattle.judy_script.specs.Lines.{bytes_of, IsWithin};
 ghost use Rattle.judy_script.specs.Feeds.{Fed, Served, ServedInPart, Ran, RanInPart, RanInWholeLines};
 ghost use Rattle.judy_script.specs.declared.fault.RunFault.TheVariants.{Write};
 
@@ -15,9 +16,9 @@ use crate::cut::cut_at;
 use crate::fault::RunFault;
 use crate::line::{LineBuffer, line_reply};
 use crate::print::print;
-use crate::text::Text;
+use crate::text::{Line, Text};
 use judy_command::LineReply;
-use judy_pipe::{Sink, write_all};
+use judy_pipe::{BrokenPipe, Sink, write_all, write_short};
 use judy_shelf::Shelf;
 use judy_sl::KeyBuf;
 
@@ -144,6 +145,7 @@ pub(crate) fn finish<W: Sink>(
 
 // Executes and answers the line that was kept, `head` and an LF behind it. A line that stands whole in
 // its piece isn't copied.
+#[inline(always)]
 fn end_line<W: Sink>(
     head: &[u8],
     buffers: &mut Buffers,
@@ -167,6 +169,7 @@ fn end_line<W: Sink>(
 }
 
 // What the line that was kept, with `head` and an LF behind it, does; the buffer begins the next line.
+#[inline(always)]
 fn whole_line_reply<'k>(
     head: &[u8],
     line: &mut LineBuffer,
@@ -188,6 +191,7 @@ fn whole_line_reply<'k>(
 }
 
 // Prints the reply of a line that left the shelf so, and writes it.
+#[inline(always)]
 fn put_out<W: Sink>(
     reply: LineReply<'_>,
     shelf: &Shelf,
@@ -205,8 +209,25 @@ fn put_out<W: Sink>(
     ensures failures { let before = (W.tally sink.old).failures in
         (W.tally sink.new).failures ≡ (if is_ok result then before else before + 1) }
 {
-    match write_all(sink, print(reply, shelf, text)) {
+    match write_line(print(reply, shelf, text), sink) {
         Ok(()) => Ok(()),
         Err(_) => Err(RunFault::Write),
+    }
+}
+
+// Writes the text of an answer.
+#[inline(always)]
+fn write_line<W: Sink>(line: Line<'_>, sink: &mut W) -> Result<(), BrokenPipe>
+    requires within { IsWithin line }
+    requires below { (W.tally sink.old).failures < 2 ^ 64 - 1 }
+    ensures ok { OnOk result (W.taken sink.new ≡ grown (W.taken sink.old) (bytes_of line.entry)) }
+    ensures err { OnErr result
+        (GrewByFront (W.taken sink.old) (bytes_of line.entry) (W.taken sink.new)) }
+    ensures failures { let before = (W.tally sink.old).failures in
+        (W.tally sink.new).failures ≡ (if is_ok result then before else before + 1) }
+{
+    match line {
+        Line::Short(room, count) => write_short(sink, room, count),
+        Line::Long(bytes) => write_all(sink, bytes),
     }
 }

@@ -16,6 +16,7 @@ use judy_sl::KeyBuf;
 pub(crate) const MAX_LINE_LEN: usize = 4096;
 
 /// What a line does: its bytes without the LF, and whether an LF ended it. `key` serves the line for its key.
+#[inline(always)]
 pub(crate) fn line_reply<'k>(
     bytes: &[u8],
     ended: bool,
@@ -65,6 +66,7 @@ impl LineBuffer {
     }
 
     /// Puts more bytes of the line behind those that came.
+    #[inline(never)]
     pub(crate) fn push(&mut self, more: &[u8])
         ensures { (bytes : List ℕ) → Holds self.old bytes → Holds self.new (bytes ++ more.now) }
     {
@@ -90,6 +92,7 @@ impl LineBuffer {
     }
 
     /// What the line does, now that it is whole.
+    #[inline(never)]
     pub(crate) fn reply<'k>(
         &self,
         ended: bool,

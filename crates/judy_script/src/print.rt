@@ -1,39 +1,43 @@
 //! Replies as text.
 
 ghost use Rattle.std.specs.Prelude.{◌≡◌, ◌+◌, ◌*◌, ◌≤◌, ◌++◌, length, decimal, flat_map, codes, Ok, Err, [], ◌∷◌};
-ghost use Rattle.judy_model.specs.KeyTokens.{is_shown, printed_key, digits_of};
-ghost use Rattle.std.specs.List.{list_all};
+ghost use Rattle.judy_model.specs.KeyTokens.{printed_key, digits_of};
 ghost use Rattle.judy_model.specs.Replies as replies;
 ghost use Rattle.judy_model.specs.Replies.{output_of, listed, listing_text};
 ghost use Rattle.judy_shelf.specs.Arrays.{value_of};
 ghost use Rattle.judy_shelf.specs.Shelves.{store_of};
 ghost use Rattle.judy_command.specs.Replies.{line_reply_of, answer_of, refusal_of};
+ghost use Rattle.judy_script.specs.Lines.{bytes_of, IsWithin};
 
-use crate::text::Text;
-use judy_command::{Answer, LineReply, Refusal};
+use crate::text::{Line, Text};
+use judy_command::{Answer, LineReply, Refusal, are_shown};
+use judy_model::keys::LONGEST_KEY;
 use judy_shelf::{Array, Name, Shelf};
 use judy_sl::KeyBuf;
 
 /// The reply as text, in the buffer in the place of what it held, where it isn't the same always. The shelf is as the line left
 /// it.
-pub(crate) fn print<'t>(reply: LineReply<'_>, shelf: &Shelf, text: &'t mut Text) -> &'t [u8]
-    ensures { result.now ≡ output_of (line_reply_of (store_of shelf.now) reply.entry) }
+#[inline(always)]
+pub(crate) fn print<'t>(reply: LineReply<'_>, shelf: &Shelf, text: &'t mut Text) -> Line<'t>
+    ensures text { bytes_of result ≡ output_of (line_reply_of (store_of shelf.now) reply.entry) }
+    ensures within { IsWithin result }
 {
     match reply {
-        LineReply::Silent => b"",
+        LineReply::Silent => Line::Long(b""),
         LineReply::Listed => {
             print_list(shelf, text);
-            text.as_slice()
+            Line::Long(text.as_slice())
         }
         LineReply::Said(Ok(answer)) => print_answer(answer, text),
         LineReply::Said(Err(refusal)) => {
             print_refusal(refusal, text);
-            text.as_slice()
+            Line::Long(text.as_slice())
         }
     }
 }
 
 // Puts the refusal into the buffer, with its LF.
+#[inline(never)]
 fn print_refusal(refusal: Refusal, text: &mut Text)
     ensures { text.new ≡ output_of (Err (refusal_of refusal)) }
 {
@@ -44,29 +48,31 @@ fn print_refusal(refusal: Refusal, text: &mut Text)
 }
 
 // The answer as text, with its LF.
-fn print_answer<'t>(answer: Answer<'_>, text: &'t mut Text) -> &'t [u8]
-    ensures { result.now ≡ output_of (Ok (answer_of answer.entry)) }
+#[inline(always)]
+fn print_answer<'t>(answer: Answer<'_>, text: &'t mut Text) -> Line<'t>
+    ensures text { bytes_of result ≡ output_of (Ok (answer_of answer.entry)) }
+    ensures within { IsWithin result }
 {
     match answer {
-        Answer::Done => b"ok\n",
+        Answer::Done => Line::Long(b"ok\n"),
         Answer::Was(value) => text.number_line(b"was ", value),
-        Answer::Flag(true) => b"1\n",
-        Answer::Flag(false) => b"0\n",
+        Answer::Flag(holds) => text.number_line(b"", u64::from(holds)),
         Answer::Number(value) => text.number_line(b"", value),
         Answer::Entry(key, value) => {
             print_entry(key, value, text);
-            text.as_slice()
+            Line::Long(text.as_slice())
         }
         Answer::StringEntry(key, value) => {
             print_string_entry(key, value, text);
-            text.as_slice()
+            Line::Long(text.as_slice())
         }
         Answer::Freed(count) => text.number_line(b"freed ", count),
-        Answer::Nothing => b"none\n",
+        Answer::Nothing => Line::Long(b"none\n"),
     }
 }
 
 // Puts a key and its value into the buffer, with an LF.
+#[inline(never)]
 fn print_entry(key: u64, value: u64, text: &mut Text)
     ensures { text.new ≡ output_of (Ok (replies.entry key value)) }
 {
@@ -77,6 +83,7 @@ fn print_entry(key: u64, value: u64, text: &mut Text)
 }
 
 // The same of a key of bytes.
+#[inline(never)]
 fn print_string_entry(key: &KeyBuf, value: u64, text: &mut Text)
     ensures { text.new ≡ output_of (Ok (replies.string_entry key.now.items value)) }
 {
@@ -87,6 +94,7 @@ fn print_string_entry(key: &KeyBuf, value: u64, text: &mut Text)
 }
 
 // The arrays in the order of making. At most 64 of at most 61 bytes each fit the buffer.
+#[inline(never)]
 fn print_list(shelf: &Shelf, text: &mut Text)
     ensures { text.new ≡ output_of (Ok (listed (store_of shelf.now))) }
 {
@@ -119,7 +127,7 @@ fn append_listing(text: &mut Text, name: &Name, array: &Array)
 fn append_key(text: &mut Text, key: &KeyBuf)
     requires { length text.old ≤ 4096 }
     ensures items { text.new ≡ text.old ++ printed_key key.now.items }
-    ensures len { length text.new ≤ length text.old + 2049 }
+    ensures len { length text.new ≤ length text.old + 1 + MOST_DIGITS }
 {
     let bytes = key.as_slice();
     if are_shown(bytes) {
@@ -131,21 +139,17 @@ fn append_key(text: &mut Text, key: &KeyBuf)
     }
 }
 
-// Whether each byte stands for itself in a key token.
-fn are_shown(bytes: &[u8]) -> bool
-    ensures { result ≡ list_all is_shown bytes.now }
-{
-    bytes.iter().all(|byte| byte.is_ascii_graphic())
-}
+// How many digits a key has at most.
+const MOST_DIGITS: usize = 2 * LONGEST_KEY;
 
 // Puts two hexadecimal digits a byte behind what the buffer holds.
 fn append_digits(text: &mut Text, bytes: &[u8])
-    requires fits { length bytes.now ≤ 1024 }
+    requires fits { length bytes.now ≤ LONGEST_KEY }
     requires room { length text.old ≤ 4097 }
     ensures items { text.new ≡ text.old ++ digits_of bytes.now }
     ensures len { length text.new ≡ length text.old + 2 * length bytes.now }
 {
-    let mut room = [0; 2048];
+    let mut room = [0; MOST_DIGITS];
     let digits = &mut room[..2 * bytes.len()];
     let _ = hex::encode_to_slice(bytes, digits);
     text.append(digits);

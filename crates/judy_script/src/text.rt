@@ -1,15 +1,26 @@
 //! The text of an answer line.
 
 ghost use Rattle.std.specs.Prelude.{◌≡◌, ◌+◌, ◌≤◌, ◌++◌, [], ◌∷◌, length, decimal};
+ghost use Rattle.judy_script.specs.Lines.{bytes_of, IsWithin};
 
 use itoa::write_digits;
+use judy_pipe::SHORT_LEN;
 use std::marker::Model;
 
 // The most bytes of an answer line. (docs/FORMATS.md says why no answer has more.)
 const MAX_TEXT_LEN: usize = 8192;
 
-// The bytes of a line of one number: its head, at most 20 digits and the LF, which stands last.
-const NUMBER_LEN: usize = 32;
+// Where the LF of a line of one number stands; before it are its head and at most 20 digits.
+const NUMBER_END: usize = SHORT_LEN - 1;
+
+// From any place up to the LF on there is room for a short piece.
+const NUMBER_LEN: usize = 2 * SHORT_LEN;
+
+/// The text of an answer: the first bytes of a room, so many, or the bytes themselves.
+pub(crate) enum Line<'t> {
+    Short(&'t [u8; SHORT_LEN], usize),
+    Long(&'t [u8]),
+}
 
 /// The bytes of an answer line, in a buffer that is made once a run and takes no memory. To begin the next line
 /// costs nothing: what stands behind the bytes stays as it was. In contracts it is the list of its bytes.
@@ -64,9 +75,10 @@ impl Text {
 
     /// A line of a head, the number in decimal and an LF, beside the bytes. It is written from its end on, where it stays.
     #[inline(always)]
-    pub(crate) fn number_line(&mut self, head: &[u8], number: u64) -> &[u8]
+    pub(crate) fn number_line(&mut self, head: &[u8], number: u64) -> Line<'_>
         requires { length head.now ≤ 8 }
-        ensures { result.now ≡ head.now ++ decimal number ++ 10 ∷ [] }
+        ensures text { bytes_of result ≡ head.now ++ decimal number ++ 10 ∷ [] }
+        ensures within { IsWithin result }
     {
         write_line(&mut self.number, head, number)
     }
@@ -79,17 +91,20 @@ impl Text {
     }
 }
 
-// Writes a head, the number and an LF to the end of a room for them, and lends what it wrote.
+// Writes a head, the number and an LF to the front half of a room for them, and lends it from there on.
 #[inline(always)]
-fn write_line<'a>(room: &'a mut [u8; NUMBER_LEN], head: &[u8], number: u64) -> &'a [u8]
+fn write_line<'a>(room: &'a mut [u8; NUMBER_LEN], head: &[u8], number: u64) -> Line<'a>
     requires head { length head.now ≤ 8 }
-    requires room { length room.old ≡ 32 }
-    ensures { result.now ≡ head.now ++ decimal number ++ 10 ∷ [] }
+    requires room { length room.old ≡ 64 }
+    ensures text { bytes_of result ≡ head.now ++ decimal number ++ 10 ∷ [] }
+    ensures within { IsWithin result }
 {
-    let end = NUMBER_LEN - 1;
-    room[end] = b'\n';
-    let digits = write_digits(number, room, end);
+    room[NUMBER_END] = b'\n';
+    let digits = write_digits(number, room, NUMBER_END);
     let from = digits - head.len();
     room[from..digits].copy_from_slice(head);
-    &room[from..]
+    match room[from..].first_chunk::<SHORT_LEN>() {
+        Some(line) => Line::Short(line, SHORT_LEN - from),
+        None => unreachable!(),
+    }
 }

@@ -5,6 +5,7 @@ use borrow.Rule.Slice.PartMut.{put_mid}
 use Rattle.judy_model.specs.Fields.{bad_key, bad_prefix, Part, bytes, number, field, ◌>>=◌, done}
 use Rattle.judy_model.specs.DumpGrammar as grammar
 use Rattle.judy_model.specs.DumpGrammar.{is_without_zero, is_longest_shared}
+use Rattle.judy_model.specs.declared.keys.TheConstants.{LONGEST_KEY}
 use Rattle.judy_shelf.specs.Reads.{Drawn, Cause, Nowhere, ReadsValue, ReadsFault}
 use Rattle.judy_shelf.proofs.ReadLemmas.{fault_first, fault_then, value_then, value_done}
 
@@ -13,7 +14,7 @@ module _ (before : List ℕ) where
   shared_field = field (number 2) (((λ shared. nat_le shared (length before)), bad_prefix) ∷ [])
 
   abbrev rest_field : ℕ → Part ℕ
-  rest_field shared = field (number 2) (((λ rest. nat_le (shared + rest) 1024), bad_key) ∷ [])
+  rest_field shared = field (number 2) (((λ rest. nat_le (shared + rest) LONGEST_KEY), bad_key) ∷ [])
 
   abbrev pub suffix_field : ℕ → ℕ → Part (List ℕ)
   suffix_field shared rest = field (bytes rest) ((is_without_zero, bad_key) ∷ (is_longest_shared before shared, bad_prefix) ∷ [])

@@ -105,14 +105,14 @@ impl Array {
     /// A law of every array that a program holds: it is one of the definitions, its keys those of its kind, its
     /// limit and values words, and no more keys than its limit. It answers nothing and reads what it holds, for a
     /// caller whose proof is to know it.
-    pub fn is_array(&self)
+    pub fn array_law(&self)
         ensures { IsArray (value_of self.now) }
     {
         match self {
-            Array::Judy1(set) => set.is_array(),
-            Array::JudyL(words) => words.is_array(),
-            Array::JudySl(strings) => strings.is_array(),
-            Array::JudyHs(bytes) => bytes.is_array(),
+            Array::Judy1(set) => set.array_law(),
+            Array::JudyL(words) => words.array_law(),
+            Array::JudySl(strings) => strings.array_law(),
+            Array::JudyHs(bytes) => bytes.array_law(),
         }
     }
 }

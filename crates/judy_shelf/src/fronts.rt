@@ -9,8 +9,9 @@ ghost use Rattle.judy_shelf.specs.Reads.{drawn, Reads};
 
 use crate::fault::LoadFault;
 use crate::fields::{read_bytes, read_u16};
-use crate::keys::is_without_zero;
+use judy_model::keys::LONGEST_KEY;
 use judy_pipe::Source;
+use judy_sl::are_nonzero;
 
 // How long the longest front is that two keys share.
 pub(crate) fn shared_len(before: &[u8], key: &[u8]) -> usize
@@ -32,10 +33,10 @@ pub(crate) fn read_string_behind_front<R: Source>(
     room: &mut [u8],
 ) -> Result<usize, LoadFault>
     requires below { (R.tally source.old).failures < 2 ^ 64 - 1 }
-    requires fits { length room.old ≡ 1024 }
-    requires short { length before.now ≤ 1024 }
-    ensures room { length room.new ≡ 1024 }
-    ensures most { IfOk result (λ len. len ≤ 1024) }
+    requires fits { length room.old ≡ LONGEST_KEY }
+    requires short { length before.now ≤ LONGEST_KEY }
+    ensures room { length room.new ≡ LONGEST_KEY }
+    ensures most { IfOk result (λ len. len ≤ LONGEST_KEY) }
     ensures read { Reads (λ len. take len room.new) (grammar.string_behind_front before.now)
         (drawn (R.given source.old) (R.ended source.old) (R.tally source.old).failures) result
         (drawn (R.given source.new) (R.ended source.new) (R.tally source.new).failures) }
@@ -67,15 +68,15 @@ fn read_shared_len<R: Source>(source: &mut R, before: &[u8]) -> Result<u16, Load
 // Reads how many bytes stand behind a front of so many.
 fn read_rest_len<R: Source>(source: &mut R, shared: usize) -> Result<u16, LoadFault>
     requires below { (R.tally source.old).failures < 2 ^ 64 - 1 }
-    requires short { shared ≤ 1024 }
-    ensures most { IfOk result (λ rest. shared + rest ≤ 1024) }
+    requires short { shared ≤ LONGEST_KEY }
+    ensures most { IfOk result (λ rest. shared + rest ≤ LONGEST_KEY) }
     ensures read { Reads (λ rest. rest)
-        (field (number 2) (((λ rest. nat_le (shared + rest) 1024), bad_key) ∷ []))
+        (field (number 2) (((λ rest. nat_le (shared + rest) LONGEST_KEY), bad_key) ∷ []))
         (drawn (R.given source.old) (R.ended source.old) (R.tally source.old).failures) result
         (drawn (R.given source.new) (R.ended source.new) (R.tally source.new).failures) }
 {
     let rest = read_u16(source)?;
-    if shared + rest as usize > 1024 {
+    if shared + rest as usize > LONGEST_KEY {
         return Err(LoadFault::BadKey);
     }
     Ok(rest)
@@ -98,7 +99,7 @@ fn read_suffix<R: Source>(
         (drawn (R.given source.new) (R.ended source.new) (R.tally source.new).failures) }
 {
     read_bytes(source, suffix)?;
-    if !is_without_zero(suffix) {
+    if !are_nonzero(suffix) {
         return Err(LoadFault::BadKey);
     }
     if !is_longest_shared(before, shared, suffix) {

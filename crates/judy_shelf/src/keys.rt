@@ -1,8 +1,7 @@
 //! The keys of a dump that are byte strings: each is read into one fixed buffer, and the one before it is kept in
 //! another.
 
-ghost use Rattle.std.specs.Prelude.{◌≡◌, ◌≢◌, ◌<◌, ◌≤◌, ◌-◌, ◌^◌, ◌∷◌, [], not, ◌==◌, IfOk, IsTrue, None, Some, length, take, nat_le, unwrap_or};
-ghost use Rattle.std.specs.List.{list_all};
+ghost use Rattle.std.specs.Prelude.{◌≡◌, ◌≢◌, ◌<◌, ◌≤◌, ◌-◌, ◌^◌, ◌∷◌, [], IfOk, IsTrue, None, Some, length, take, nat_le, unwrap_or};
 ghost use Rattle.judy_model.specs.Keys.{byte_order};
 ghost use Rattle.judy_model.specs.DumpText.{length_order};
 ghost use Rattle.judy_model.specs.Fields.{field, number, bad_key, bad_order};
@@ -16,11 +15,9 @@ use crate::fault::LoadFault;
 use crate::fields::{read_bytes, read_u16};
 use crate::fronts::read_string_behind_front;
 use crate::version::Version;
+use judy_model::keys::LONGEST_KEY;
 use judy_pipe::Source;
-use judy_sl::KeyBuf;
-
-// The most bytes of a key. (This project's own.)
-pub(crate) const MAX_KEY_LEN: usize = 1024;
+use judy_sl::{KeyBuf, are_nonzero};
 
 // The key that was read last, if there is one.
 #[derive(Drop)]
@@ -42,7 +39,7 @@ impl LastKey {
 
     // Keeps a copy of a key.
     pub(crate) fn keep(&mut self, key: &[u8])
-        requires { length key.now ≤ 1024 }
+        requires { length key.now ≤ LONGEST_KEY }
         ensures { last_key self.new ≡ Some key.now }
     {
         self.bytes.clear();
@@ -53,7 +50,7 @@ impl LastKey {
     // The bytes of the key, or none.
     pub(crate) fn front(&self) -> &[u8]
         ensures bytes { result.now ≡ unwrap_or (last_key self.now) [] }
-        ensures most { length result.now ≤ 1024 }
+        ensures most { length result.now ≤ LONGEST_KEY }
     {
         if self.is_some {
             self.bytes.as_slice()
@@ -81,14 +78,14 @@ impl LastKey {
 // Reads how long a key is.
 fn read_key_len<R: Source>(source: &mut R) -> Result<u16, LoadFault>
     requires { (R.tally source.old).failures < 2 ^ 64 - 1 }
-    ensures most { IfOk result (λ len. len ≤ 1024) }
+    ensures most { IfOk result (λ len. len ≤ LONGEST_KEY) }
     ensures read { Reads (λ len. len)
-        (field (number 2) (((λ length. nat_le length 1024), bad_key) ∷ []))
+        (field (number 2) (((λ length. nat_le length LONGEST_KEY), bad_key) ∷ []))
         (drawn (R.given source.old) (R.ended source.old) (R.tally source.old).failures) result
         (drawn (R.given source.new) (R.ended source.new) (R.tally source.new).failures) }
 {
     let len = read_u16(source)?;
-    if len > 1024 {
+    if len as usize > LONGEST_KEY {
         return Err(LoadFault::BadKey);
     }
     Ok(len)
@@ -97,9 +94,9 @@ fn read_key_len<R: Source>(source: &mut R) -> Result<u16, LoadFault>
 // Reads a key into the front of `room`, and answers how long it is.
 fn read_key<R: Source>(source: &mut R, room: &mut [u8]) -> Result<usize, LoadFault>
     requires below { (R.tally source.old).failures < 2 ^ 64 - 1 }
-    requires fits { length room.old ≡ 1024 }
-    ensures room { length room.new ≡ 1024 }
-    ensures most { IfOk result (λ len. len ≤ 1024) }
+    requires fits { length room.old ≡ LONGEST_KEY }
+    ensures room { length room.new ≡ LONGEST_KEY }
+    ensures most { IfOk result (λ len. len ≤ LONGEST_KEY) }
     ensures read { Reads (λ len. take len room.new) grammar.string
         (drawn (R.given source.old) (R.ended source.old) (R.tally source.old).failures) result
         (drawn (R.given source.new) (R.ended source.new) (R.tally source.new).failures) }
@@ -117,9 +114,9 @@ pub(crate) fn read_string_after<R: Source>(
     room: &mut [u8],
 ) -> Result<usize, LoadFault>
     requires below { (R.tally source.old).failures < 2 ^ 64 - 1 }
-    requires fits { length room.old ≡ 1024 }
-    ensures room { length room.new ≡ 1024 }
-    ensures most { IfOk result (λ len. len ≤ 1024) }
+    requires fits { length room.old ≡ LONGEST_KEY }
+    ensures room { length room.new ≡ LONGEST_KEY }
+    ensures most { IfOk result (λ len. len ≤ LONGEST_KEY) }
     ensures above { IfOk result
         (λ len. IsTrue (is_above byte_order (last_key last.now) (take len room.new))) }
     ensures read { Reads (λ len. take len room.new)
@@ -143,9 +140,9 @@ fn read_string<R: Source>(
     room: &mut [u8],
 ) -> Result<usize, LoadFault>
     requires below { (R.tally source.old).failures < 2 ^ 64 - 1 }
-    requires fits { length room.old ≡ 1024 }
-    ensures room { length room.new ≡ 1024 }
-    ensures most { IfOk result (λ len. len ≤ 1024) }
+    requires fits { length room.old ≡ LONGEST_KEY }
+    ensures room { length room.new ≡ LONGEST_KEY }
+    ensures most { IfOk result (λ len. len ≤ LONGEST_KEY) }
     ensures read { Reads (λ len. take len room.new)
         (grammar.string_key (format_of version) (last_key last.now))
         (drawn (R.given source.old) (R.ended source.old) (R.tally source.old).failures) result
@@ -160,15 +157,15 @@ fn read_string<R: Source>(
 // Reads a key of a judysl array that is written whole.
 fn read_whole_string<R: Source>(source: &mut R, room: &mut [u8]) -> Result<usize, LoadFault>
     requires below { (R.tally source.old).failures < 2 ^ 64 - 1 }
-    requires fits { length room.old ≡ 1024 }
-    ensures room { length room.new ≡ 1024 }
-    ensures most { IfOk result (λ len. len ≤ 1024) }
+    requires fits { length room.old ≡ LONGEST_KEY }
+    ensures room { length room.new ≡ LONGEST_KEY }
+    ensures most { IfOk result (λ len. len ≤ LONGEST_KEY) }
     ensures read { Reads (λ len. take len room.new) grammar.string_without_zero
         (drawn (R.given source.old) (R.ended source.old) (R.tally source.old).failures) result
         (drawn (R.given source.new) (R.ended source.new) (R.tally source.new).failures) }
 {
     let len = read_key(source, room)?;
-    if !is_without_zero(&room[..len]) {
+    if !are_nonzero(&room[..len]) {
         return Err(LoadFault::BadKey);
     }
     Ok(len)
@@ -181,9 +178,9 @@ pub(crate) fn read_bytes_after<R: Source>(
     room: &mut [u8],
 ) -> Result<usize, LoadFault>
     requires below { (R.tally source.old).failures < 2 ^ 64 - 1 }
-    requires fits { length room.old ≡ 1024 }
-    ensures room { length room.new ≡ 1024 }
-    ensures most { IfOk result (λ len. len ≤ 1024) }
+    requires fits { length room.old ≡ LONGEST_KEY }
+    ensures room { length room.new ≡ LONGEST_KEY }
+    ensures most { IfOk result (λ len. len ≤ LONGEST_KEY) }
     ensures above { IfOk result
         (λ len. IsTrue (is_above length_order (last_key last.now) (take len room.new))) }
     ensures read { Reads (λ len. take len room.new)
@@ -196,11 +193,4 @@ pub(crate) fn read_bytes_after<R: Source>(
         return Err(LoadFault::BadOrder);
     }
     Ok(len)
-}
-
-// Whether no byte of a key is zero.
-pub(crate) fn is_without_zero(key: &[u8]) -> bool
-    ensures { result ≡ list_all (λ byte. not (byte == 0)) key.now }
-{
-    key.iter().all(|byte| *byte != 0)
 }

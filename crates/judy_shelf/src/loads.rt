@@ -20,12 +20,13 @@ use crate::fields::{read_end, read_u64};
 use crate::head::{
     read_array_count, read_key_count, read_kind, read_limit, read_magic, read_name, read_word_after,
 };
-use crate::keys::{LastKey, MAX_KEY_LEN, read_bytes_after, read_string_after};
+use crate::keys::{LastKey, read_bytes_after, read_string_after};
 use crate::kind::Kind;
 use crate::name::Name;
 use crate::shelf::Shelf;
 use crate::version::Version;
 use judy_hs::{Fnv1a, JudyHs};
+use judy_model::keys::LONGEST_KEY;
 use judy_pipe::Source;
 use judy_sl::JudySl;
 use judy_word::{FillingMap, FillingSet, Judy1, JudyL};
@@ -94,7 +95,7 @@ macro_rules! fill_words {
 macro_rules! fill_strings {
     ($strings:ident, $source:ident, $count:ident, |$last:ident, $room:ident| $read:expr) => {{
         let mut $last = LastKey::new();
-        let mut $room = [0; MAX_KEY_LEN];
+        let mut $room = [0; LONGEST_KEY];
         'keys: for _ in 0..$count {
             let len = $read?;
             let value = read_u64($source)?;

@@ -201,20 +201,20 @@ impl Shelf {
     /// A law of every shelf that a program holds, whatever was lent of it: it is a store of the definitions,
     /// at most 64 arrays under names that differ. It answers nothing and reads each key and value, for a
     /// caller whose proof is to know it.
-    pub fn is_store(&self)
+    pub fn store_law(&self)
         ensures { IsStore (store_of self.now) }
     {
-        self.is_shelf();
+        self.shelf_law();
         let mut place = 0;
         'arrays: while let Some((name, array)) = self.at(place) {
             name.bytes();
-            array.is_array();
+            array.array_law();
             place += 1;
         }
     }
 
     // What every shelf keeps.
-    fn is_shelf(&self)
+    fn shelf_law(&self)
         ensures { IsShelf self.now }
     {
         let _ = &self.arrays;

@@ -26,7 +26,7 @@ use Rattle.judy_sl.proofs.Led.{led-moves}
 use Rattle.judy_sl.proofs.KeptLevels.{IsReached, reached-behind, all-reached}
 use Rattle.judy_sl.proofs.Linked.{node_with, world-with_place, texts-place, limits-place, root-place}
 use Rattle.judy_sl.proofs.Filled.{level-child, level-place}
-use Rattle.judy_sl.proofs.Loose.{freed}
+use Rattle.judy_sl.proofs.Orphans.{freed}
 use Rattle.judy_sl.proofs.Shrinks.{vacated-world}
 use Rattle.judy_sl.proofs.Growing.{was-place}
 use Rattle.judy_sl.proofs.Grafts.{Grafts, put-look, put-here, behind_put, IsBranch, up-fits, up-grafts}

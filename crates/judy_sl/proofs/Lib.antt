@@ -16,7 +16,7 @@ pub mod PlaceKinds
 pub mod Led
 pub mod Lone
 pub mod Written
-pub mod Loose
+pub mod Orphans
 pub mod Replaced
 pub mod Maps
 pub mod Keeping

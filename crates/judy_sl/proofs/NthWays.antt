@@ -7,6 +7,7 @@ use Rattle.std.proofs.lemmas.Bool.{cases_eq}
 use Rattle.std.proofs.lemmas.List.{append_assoc, length-append}
 use Rattle.std.proofs.lemmas.Option.{slice_get_cases, slice_get_within, slice_get-map, same_Some, none-some}
 use Rattle.judy_model.specs.Keys.{word_order, byte_order}
+use Rattle.judy_model.specs.declared.keys.TheConstants.{LONGEST_KEY}
 use Rattle.judy_model.proofs.TableLemmas.{byte_order_total, byte_order_same}
 use Rattle.judy_sums.proofs.Parts.{each_found}
 use Rattle.judy_sl.specs.declared.arena.Arena.{Arena}
@@ -59,7 +60,7 @@ pub record OnNth (world : World) (child place : ℕ) (before : List ℕ) (at lef
   pub rest : List ℕ
   pub value : ℕ
   pub stands : slice_get (entries (map_behind world (suc child))) place ≡ Some (rest, value)
-  pub room : length (before ++ rest) ≤ 1024
+  pub room : length (before ++ rest) ≤ LONGEST_KEY
   pub later : List ℕ
   pub here : slice_get (entries (map_behind world (suc at))) left ≡ Some (later, value)
   pub bytes_are : bytes ++ later ≡ before ++ rest
@@ -102,7 +103,7 @@ module _ (arena : Arena) (is_arena : IsArena arena) (child place : ℕ) (before 
         only (suc place) e = cc
 
     -- The buffer has room for it.
-    pub nth_tail_room : length bytes + length held ≤ 1024
+    pub nth_tail_room : length bytes + length held ≤ LONGEST_KEY
     nth_tail_room =
         let same = ap length (nth_last.0) in
         let long = length-append bytes on.later in
@@ -146,7 +147,7 @@ module _ (arena : Arena) (is_arena : IsArena arena) (child place : ℕ) (before 
       nth_goes inner = led_at (piece_bytes spot.piece) (entries (map_behind W (suc spot.value))) spot.place on.later on.value (ap (λ pairs. slice_get pairs spot.place) (sym (inner_keys W (spot.piece, spot.value) inner)) ∙ nth_entry)
 
       -- The buffer has room for the piece.
-      pub nth_room : length bytes + length (piece_bytes spot.piece) ≤ 1024
+      pub nth_room : length bytes + length (piece_bytes spot.piece) ≤ LONGEST_KEY
       nth_room = ⊎_elim
           (λ final.
           let same = ap length ((nth_ends final).0) in

@@ -19,7 +19,7 @@ use Rattle.judy_sl.proofs.Entries.{changes_behind}
 use Rattle.judy_sl.proofs.Written.{behind-leads}
 use Rattle.judy_sl.proofs.Linked.{insert-some, get-insert_here, get-insert_off}
 use Rattle.judy_sl.proofs.Lone.{last-same, led-once}
-use Rattle.judy_sl.proofs.Loose.{freed, freed-world, freed-look}
+use Rattle.judy_sl.proofs.Orphans.{freed, freed-world, freed-look}
 
 -- A level stands beside, to which no entry leads yet, behind the same pieces as a tail. All that stood in a world still stands, and what is
 -- new stands further down than the level that leads to the tail.

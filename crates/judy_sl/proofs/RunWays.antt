@@ -9,6 +9,7 @@ use Rattle.std.proofs.lemmas.Option.{same_Some}
 use Rattle.std.proofs.Math.Seq.{take-add}
 use Rattle.judy_model.specs.Arrays.{ArrayOf}
 use Rattle.judy_model.specs.Keys.{word_order}
+use Rattle.judy_model.specs.declared.keys.TheConstants.{LONGEST_KEY}
 use Rattle.judy_model.proofs.TableLemmas.{byte_order_total}
 use Rattle.judy_sl.specs.declared.scans.Look.{Look}
 use Rattle.judy_sl.specs.declared.scans.Turn.{Turn}
@@ -100,10 +101,10 @@ module _ (world : World) where
   along_some seat (piece ∷ front) (passed ∷ above) end along = along_some (suc along.0) front above end along.2
 
 -- What inner pieces lead to a level are few.
-pub front_short : {world : World} {behind : ℕ → List ℕ} (is_world : IsWorld world behind) (front : List ℕ) (seat : ℕ) (map : FinMap word_order ℕ) → AreInner front → walk world 0 front ≡ Some seat → world seat ≡ level map → 8 * length front ≤ 1024
+pub front_short : {world : World} {behind : ℕ → List ℕ} (is_world : IsWorld world behind) (front : List ℕ) (seat : ℕ) (map : FinMap word_order ℕ) → AreInner front → walk world 0 front ≡ Some seat → world seat ≡ level map → 8 * length front ≤ LONGEST_KEY
 front_short {world} {behind} is_world front seat map inner way is =
     let place : behind seat ≡ front = walk-behind world behind is_world 0 front seat inner way ∙ ap (λ place. place ++ front) is_world.first in
-    subst (λ (place : List ℕ). 8 * length place ≤ 1024) place (is_world.levels seat map is).short
+    subst (λ (place : List ℕ). 8 * length place ≤ LONGEST_KEY) place (is_world.levels seat map is).short
 
 -- ---- where pieces end in their key
 

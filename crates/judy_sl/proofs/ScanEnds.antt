@@ -5,6 +5,7 @@ use Rattle.std.specs.Cmp.{nat_cmp_total}
 use Rattle.std.proofs.lemmas.Bool.{cases_eq, cases_lt}
 use Rattle.std.proofs.lemmas.List.{append_assoc, append-nil, length-append, length-drop}
 use Rattle.judy_model.specs.Keys.{IsWord, IsStringKey, word_order}
+use Rattle.judy_model.specs.declared.keys.TheConstants.{LONGEST_KEY}
 use Rattle.judy_model.proofs.Ascending.{Among}
 use Rattle.judy_model.proofs.KeysLemmas.{length-keys, contains_key-from_among}
 use Rattle.judy_sl.specs.declared.arena.Place.TheVariants.{Below}
@@ -33,10 +34,10 @@ pub record TextBehind (ps : List ℕ) : Type 0 where
   pub bytes : List ℕ
   pub text : IsText bytes
   pub spells : pieces bytes ≡ ps
-  pub within : length bytes ≤ 1024
+  pub within : length bytes ≤ LONGEST_KEY
 
 -- What stands behind the first pieces of a text are the pieces of one.
-pub text_behind : (front : List ℕ) (piece : ℕ) (rest bytes : List ℕ) → IsText bytes → length bytes ≤ 1024 → pieces bytes ≡ front ++ piece ∷ rest → TextBehind (piece ∷ rest)
+pub text_behind : (front : List ℕ) (piece : ℕ) (rest bytes : List ℕ) → IsText bytes → length bytes ≤ LONGEST_KEY → pieces bytes ≡ front ++ piece ∷ rest → TextBehind (piece ∷ rest)
 text_behind [] piece rest bytes text within is = record { bytes = bytes; text = text; spells = is; within = within }
 text_behind (first ∷ front) piece rest bytes text within is = ⊎_elim
     (λ short. let both : piece_of bytes ∷ [] ≡ first ∷ front ++ piece ∷ rest = sym (pieces_short bytes short) ∙ is in let none : [] ≡ front ++ piece ∷ rest = cc in absurd (not_nil front piece rest none))
@@ -113,7 +114,7 @@ module _ {world : World} {behind : ℕ → List ℕ} (is_world : IsWorld world b
       record { rest = first.0 ∷ begun.rest; spelled = key; value = begun.value; found = lookup_inner world seat map is_level piece at (first.0 ∷ begun.rest) entry are ∙ begun.found }
 
   begins_entry : (seat : ℕ) (map : FinMap word_order ℕ) (piece at : ℕ) → world seat ≡ level map → get map piece ≡ Some at
-      → ((below : FinMap word_order ℕ) (next found : ℕ) → length (behind (suc at)) ≡ length (behind seat) + 1 → 8 * length (behind (suc at)) ≤ 1024 → world (suc at) ≡ level below → get below next ≡ Some found → Begins world (behind (suc at)) (suc at) next)
+      → ((below : FinMap word_order ℕ) (next found : ℕ) → length (behind (suc at)) ≡ length (behind seat) + 1 → 8 * length (behind (suc at)) ≤ LONGEST_KEY → world (suc at) ≡ level below → get below next ≡ Some found → Begins world (behind (suc at)) (suc at) next)
       → Begins world (behind seat) seat piece
   begins_entry seat map piece at is entry each = ⊎_elim
       (λ final. record { rest = []; spelled = (is_world.levels seat map is).ends piece at entry final; value = at; found = lookup_final world seat map is piece at entry })
@@ -177,7 +178,7 @@ module _ {look : Look} {world : World} {behind : ℕ → List ℕ} (is_world : I
       ∙ ap (λ front. front ++ (piece_bytes piece ++ spelling rest)) (sym on.spells) ∙ sym (append_assoc bytes (piece_bytes piece) (spelling rest))
 
   -- The buffer has room for the bytes of the piece.
-  pub follow_room : length bytes + length (piece_bytes piece) ≤ 1024
+  pub follow_room : length bytes + length (piece_bytes piece) ≤ LONGEST_KEY
   follow_room =
       let begun = begins is_world on.seat map piece on.is_level on.held in
       let spelled = subst (λ place. SpellKey (place ++ piece ∷ begun.rest)) place_is begun.spelled in
@@ -242,7 +243,7 @@ module _ {look : Look} {world : World} {behind : ℕ → List ℕ} (is_world : I
       tail_key = subst SpellKey (ap (λ place. place ++ pieces held) leads.0 ∙ append_assoc on.front (piece ∷ []) (pieces held)) (is_world.tails (suc at) (pieces held) value tailed)
 
       -- The buffer has room for it.
-      pub follow_tail_room : length (bytes ++ piece_bytes piece) + length held ≤ 1024
+      pub follow_tail_room : length (bytes ++ piece_bytes piece) + length held ≤ LONGEST_KEY
       follow_tail_room =
           let long = ap length (key_spelled (pieces held) tail_key) ∙ length-append (bytes ++ piece_bytes piece) (spelling (pieces held)) in
           let same = ap length (spelling-pieces held text) in

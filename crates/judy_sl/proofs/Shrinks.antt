@@ -16,7 +16,7 @@ use Rattle.judy_sl.specs.Worlds.{IsWorld, FitsBehind, AllLed}
 use Rattle.judy_sl.specs.Arenas.{world_of, node_of, child_at, IsArena, HasText, HasLimit}
 use Rattle.judy_sl.specs.Ways.{seat_of, piece_at, left_of}
 use Rattle.judy_sl.specs.Grown.{IsChange}
-use Rattle.judy_sl.specs.Shrunk.{without, child_without, place_without, IsVacated, EntryLone, NodeLone, IsLone, IsCutChild, IsCutWhere, IsLoose, IsLeft, IsCleared, IsShrunk}
+use Rattle.judy_sl.specs.Shrunk.{without, child_without, place_without, IsVacated, EntryLone, NodeLone, IsLone, IsCutChild, IsCutWhere, IsOrphan, IsLeft, IsCleared, IsShrunk}
 use Rattle.judy_sl.proofs.PieceLemmas.{piece-IsFinal, piece-IsInner, text-drop, pieces_are}
 use Rattle.judy_sl.proofs.Ways.{lookup-walk, lookup-level, pieces_short, pieces_long}
 use Rattle.judy_sl.proofs.Seats.{set_node, cond-same, cond-other, NodeFits, IsUsed}
@@ -25,7 +25,7 @@ use Rattle.judy_sl.proofs.Linked.{CanHold, world-with_child, world-with_root, ar
 use Rattle.judy_sl.proofs.Filled.{level-stands}
 use Rattle.judy_sl.proofs.PlaceKinds.{holds-level}
 use Rattle.judy_sl.proofs.Lone.{lone-found}
-use Rattle.judy_sl.proofs.Loose.{freed, freed-world, freed-look, freed-tail, freed-last, freed-on, used-left, fits-here, ends-change, ends-led, on-change, on-loose}
+use Rattle.judy_sl.proofs.Orphans.{freed, freed-world, freed-look, freed-tail, freed-last, freed-on, used-left, fits-here, ends-change, ends-led, on-change, on-orphan}
 
 -- ---- a place becomes free
 
@@ -60,7 +60,7 @@ module _ (arena after : Arena) (at : ℕ) (vacated : IsVacated arena after at) w
     | inr apart ↦ subst Holds (sym (vacated.elsewhere k apart)) (held k)
   ]
 
-  pub vacated-arena : (is : IsArena arena) (ps : List ℕ) → IsLoose (world_of arena) at ps → IsArena after
+  pub vacated-arena : (is : IsArena arena) (ps : List ℕ) → IsOrphan (world_of arena) at ps → IsArena after
   vacated-arena is ps loose = record {
     behind = is.behind;
     is_world = subst (λ w. IsWorld w is.behind) (sym vacated-world) (freed-world (world_of arena) at loose.unled is.behind is.is_world);
@@ -69,7 +69,7 @@ module _ (arena after : Arena) (at : ℕ) (vacated : IsVacated arena after at) w
     limits = vacated-all HasLimit tt is.limits;
   }
 
-  pub vacated-look : (ps : List ℕ) → IsLoose (world_of arena) at ps → (other : List ℕ) → ArePieces other → lookup (world_of after) 0 other ≡ lookup (world_of arena) 0 other
+  pub vacated-look : (ps : List ℕ) → IsOrphan (world_of arena) at ps → (other : List ℕ) → ArePieces other → lookup (world_of after) 0 other ≡ lookup (world_of arena) 0 other
   vacated-look ps loose other are =
       ap (λ (w : World). lookup w 0 other) vacated-world ∙ freed-look (world_of arena) at loose.unled 0 other (λ e. omega arith) are
 
@@ -79,7 +79,7 @@ module _ (arena after : Arena) (at : ℕ) (vacated : IsVacated arena after at) w
 pub record IsClearing (before now : Arena) (at : ℕ) (rest : List ℕ) : Type 0 where
   pub is_arena : IsArena now
   pub text : IsText rest
-  pub loose : IsLoose (world_of now) at (pieces rest)
+  pub loose : IsOrphan (world_of now) at (pieces rest)
   pub same : (ps : List ℕ) → ArePieces ps → lookup (world_of now) 0 ps ≡ lookup (world_of before) 0 ps
   pub left : IsLeft before now
 
@@ -145,7 +145,7 @@ module _ (before now after : Arena) (at : ℕ) (rest : List ℕ) (is : IsClearin
         record {
           is_arena = after-arena;
           text = text;
-          loose = subst (λ w. IsLoose w next (pieces (drop 8 rest))) (sym after-world) (freed-on (world_of now) at (pieces rest) is.loose words.map level-is (piece_of rest) lone.0 next (pieces (drop 8 rest)) entry (piece-IsInner rest is.text long) (pieces_are (drop 8 rest) text) (subst (IsLone (world_of now) next) (sym h.1) on));
+          loose = subst (λ w. IsOrphan w next (pieces (drop 8 rest))) (sym after-world) (freed-on (world_of now) at (pieces rest) is.loose words.map level-is (piece_of rest) lone.0 next (pieces (drop 8 rest)) entry (piece-IsInner rest is.text long) (pieces_are (drop 8 rest) text) (subst (IsLone (world_of now) next) (sym h.1) on));
           same = after-same;
           left = after-left;
         }
@@ -260,10 +260,10 @@ module _ (arena : Arena) (is : IsArena arena) (all : AllLed (world_of arena)) (k
       pub on-arena : IsArena after
       on-arena = out-arena at child-is.0
 
-      pub on-is_loose : IsLoose (world_of after) at (pieces (left_of key cut.left))
-      on-is_loose =
-          subst (λ w. IsLoose w at (pieces (left_of key cut.left))) (sym out-world) (subst (IsLoose (set_node (world_of arena) (seat_of cut.place) (level (remove cut_is.map (piece_at cut.place)))) at) child-is.3
-          (on-loose (world_of arena) is.behind is.is_world all arena.root.map refl key (seat_of cut.place) (piece_at cut.place) cut_is.rest cut_is.leads cut_is.map cut_is.is_level at child-is.0 child-is.1 rest-are (child-is.5 tt)))
+      pub on-is_orphan : IsOrphan (world_of after) at (pieces (left_of key cut.left))
+      on-is_orphan =
+          subst (λ w. IsOrphan w at (pieces (left_of key cut.left))) (sym out-world) (subst (IsOrphan (set_node (world_of arena) (seat_of cut.place) (level (remove cut_is.map (piece_at cut.place)))) at) child-is.3
+          (on-orphan (world_of arena) is.behind is.is_world all arena.root.map refl key (seat_of cut.place) (piece_at cut.place) cut_is.rest cut_is.leads cut_is.map cut_is.is_level at child-is.0 child-is.1 rest-are (child-is.5 tt)))
 
       pub shrunk-on : (done : Arena) → ArePieces (pieces key) → IsCleared after done → IsShrunk arena done key
       shrunk-on done key_are cleared_is =

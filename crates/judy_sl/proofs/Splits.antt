@@ -4,6 +4,7 @@ use Rattle.std.proofs.lemmas.Option.{none-some}
 use Rattle.std.proofs.lemmas.List.{take_rest, length-drop}
 use Rattle.std.specs.FinMap.{FinMap, get}
 use Rattle.judy_model.specs.Keys.{word_order, IsStringKey}
+use Rattle.judy_model.specs.declared.keys.TheConstants.{LONGEST_KEY}
 use Rattle.judy_sl.specs.Children.{Child, Free, Tail, Level, value_at, IsTaken}
 use Rattle.judy_sl.specs.declared.arena.Arena.{Arena}
 use Rattle.judy_sl.specs.declared.arena.Place.{Place}
@@ -69,14 +70,14 @@ module _ (arena : Arena) (key : List ℕ) (from : Place) (at left : ℕ) (clash 
 
   module _ (is : IsArena arena) where
     -- and its bytes are the rest of a key, so they aren't too many.
-    tail-short : (rest : List ℕ × ℕ) → child_at arena at ≡ Tail rest → length rest.0 ≤ 1024
+    tail-short : (rest : List ℕ × ℕ) → child_at arena at ≡ Tail rest → length rest.0 ≤ LONGEST_KEY
     tail-short rest e =
         let spells = is.is_world.tails (suc at) (pieces rest.0) rest.1 (ap node_of e) in
         let more : SpellKey (pieces rest.0) = rest-key clash.leads.front (pieces rest.0) spells.key clash.leads.inner spells.is_key (spells.spells ∙ ap (λ f. f ++ pieces rest.0) (behind-leads (world_of arena) is.behind is.is_world key (suc at) (pieces (left_of key left)) clash.leads)) in
         let same : more.key ≡ rest.0 = pieces_same more.key rest.0 (text_of_key more.key more.is_key) (subst HasText e (is.texts at)) more.spells in
-        subst (λ (bytes : List ℕ). length bytes ≤ 1024) same more.is_key.is_bytes_key.within_limit
+        subst (λ (bytes : List ℕ). length bytes ≤ LONGEST_KEY) same more.is_key.is_bytes_key.within_limit
 
-    pub clash-tail : (rest : List ℕ × ℕ) × (child_at arena at ≡ Tail rest) × (length rest.0 ≤ 1024)
+    pub clash-tail : (rest : List ℕ × ℕ) × (child_at arena at ≡ Tail rest) × (length rest.0 ≤ LONGEST_KEY)
     clash-tail =
         let there = tail-child (child_at arena at) clash.is_tail in
         (there.0, there.1, tail-short there.0 there.1)

@@ -11,6 +11,7 @@ use Rattle.judy_sl.specs.Arenas.{world_of, node_of, child_at, IsArena}
 use Rattle.std.specs.FinMap.{FinMap, contains_key}
 use Rattle.judy_model.specs.Keys.{word_order, IsStringKey}
 use Rattle.judy_model.specs.Arrays.{ArrayOf}
+use Rattle.judy_model.specs.declared.keys.TheConstants.{LONGEST_KEY}
 use Rattle.judy_word.specs.Writes.{with_value}
 use Rattle.judy_sl.specs.declared.branches.Twig.{Twig}
 use Rattle.judy_sl.specs.declared.branches.Branch.{Branch}
@@ -58,7 +59,7 @@ IsHung before after words linked (Some twig) (Some at) = IsPut before after (Tai
 -- The bytes of a twig are those of a tail.
 abbrev pub IsTwigText : Option Twig → Type 0
 IsTwigText None = Unit {0}
-IsTwigText (Some twig) = IsText twig.rest.now × (length twig.rest.now ≤ 1024)
+IsTwigText (Some twig) = IsText twig.rest.now × (length twig.rest.now ≤ LONGEST_KEY)
 
 -- The level has the entry that is to lead there.
 abbrev pub HasTwig : ArrayOf word_order → Option Twig → Type 0

@@ -4,6 +4,7 @@ use Rattle.std.specs.List.{flat_map}
 use Rattle.std.specs.FinMap.{FinMap, entries, get, len}
 use Rattle.judy_model.specs.Keys.{word_order}
 use Rattle.judy_model.specs.Counts.{nth}
+use Rattle.judy_model.specs.declared.keys.TheConstants.{LONGEST_KEY}
 use Rattle.judy_sums.specs.Pairs.{sum_below}
 use Rattle.judy_sums.specs.Levels.{part_len}
 use Rattle.judy_sl.specs.declared.nth.Mark.{Mark}
@@ -43,7 +44,7 @@ pub record IsSpotOf (world : World) (words : FinMap word_order ℕ) (place : ℕ
 
 -- Behind the bytes of a buffer there is room for each key behind a seat.
 abbrev pub KeysFit : World → ℕ → List ℕ → Type 0
-KeysFit world seat bytes = (rest : List ℕ) (value : ℕ) → get (map_behind world seat) rest ≡ Some value → length bytes + length rest ≤ 1024
+KeysFit world seat bytes = (rest : List ℕ) (value : ℕ) → get (map_behind world seat) rest ≡ Some value → length bytes + length rest ≤ LONGEST_KEY
 
 -- What is left of the key at a place behind a seat was put behind the bytes of a buffer, and its value answered.
 pub record IsNthBehind (world : World) (seat place : ℕ) (before after : List ℕ) (found : Option ℕ) : Type 0 where

@@ -102,7 +102,7 @@ abbrev pub IsLedOnce : World → Type 0
 IsLedOnce world = (seat other : ℕ) (map more : FinMap word_order ℕ) (piece next at : ℕ) → world seat ≡ level map → get map piece ≡ Some at → IsInner piece → world other ≡ level more → get more next ≡ Some at → IsInner next → seat ≡ other
 
 -- To one child alone no entry leads; there stands one key, with these pieces.
-pub record IsLoose (world : World) (at : ℕ) (ps : List ℕ) : Type 0 where
+pub record IsOrphan (world : World) (at : ℕ) (ps : List ℕ) : Type 0 where
   pub unled : IsUnled world at
   pub led : (other : ℕ) → other ≢ at → world (suc other) ≢ gone → IsLed world other
   pub once : IsLedOnce world

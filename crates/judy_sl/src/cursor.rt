@@ -2,6 +2,7 @@
 
 ghost use Rattle.std.specs.Prelude.{◌≡◌, ◌≤◌, length, unwrap_or};
 ghost use Rattle.judy_model.specs.Keys.{IsStringKey};
+ghost use Rattle.judy_model.specs.declared.keys.TheConstants.{LONGEST_KEY};
 ghost use Rattle.judy_model.specs.Neighbours as neighbours;
 ghost use Rattle.judy_sl.specs.Scans.{value_found};
 
@@ -41,7 +42,7 @@ impl<'a> KeyCursor<'a> {
     /// The bytes at which it stands: those with which it was made, and then the key that was found last.
     pub fn key(&self) -> &[u8]
         ensures key { result.now ≡ self.now.key }
-        ensures short { length result.now ≤ 1024 }
+        ensures short { length result.now ≤ LONGEST_KEY }
     {
         self.key.as_slice()
     }

@@ -7,6 +7,7 @@ ghost use Rattle.std.specs.FinMap as map;
 ghost use Rattle.judy_word.specs.Writes.{with_value};
 ghost use Rattle.judy_tails.specs.Tails.{next_place, HasFree};
 ghost use Rattle.judy_model.specs.Keys.{IsStringKey};
+ghost use Rattle.judy_model.specs.declared.keys.TheConstants.{LONGEST_KEY};
 ghost use Rattle.judy_sl.specs.declared.error.SlError.TheVariants.{NoMemory};
 ghost use Rattle.judy_sl.specs.Pieces.{piece_of, IsText};
 ghost use Rattle.judy_sl.specs.Children.{Tail, Level as LevelChild, IsTaken};
@@ -71,7 +72,7 @@ impl Arena {
     // Puts a tail in at the next place for its length, and answers that place. Where one of that length is free, no memory is asked for.
     pub fn put_tail(&mut self, rest: &[u8], value: u64) -> Result<u64, SlError>
         requires text { IsText rest.now }
-        requires short { length rest.now ≤ 1024 }
+        requires short { length rest.now ≤ LONGEST_KEY }
         ensures place { IfOk result (λ at. at ≡ next_place self.old.tails (length rest.now)) }
         ensures put { IfOk result (λ at. IsPut self.old self.new (Tail ((rest.now, value))) at) }
         ensures unasked { HasFree self.old.tails (length rest.now) → IsOk result }
@@ -88,7 +89,7 @@ impl Arena {
     #[inline(always)]
     fn put_tail_next(&mut self, at: u64, rest: &[u8], value: u64) -> Result<u64, SlError>
         requires text { IsText rest.now }
-        requires short { length rest.now ≤ 1024 }
+        requires short { length rest.now ≤ LONGEST_KEY }
         requires next { at ≡ next_place self.old.tails (length rest.now) }
         ensures place { IfOk result (λ place. place ≡ at) }
         ensures put { OnOk result (IsPut self.old self.new (Tail ((rest.now, value))) at) }
@@ -285,7 +286,7 @@ impl Arena {
     // Puts the bytes of the tail at a place into an empty buffer, and answers its value.
     fn read_tail(&self, at: u64, key: &mut KeyBuf) -> u64
         requires tail { (rest : List ℕ × ℕ) × (child_at self.now at ≡ Tail rest)
-            × (length rest.0 ≤ 1024) }
+            × (length rest.0 ≤ LONGEST_KEY) }
         requires empty { key.old.items ≡ [] }
         ensures { child_at self.now at ≡ Tail ((key.new.items, result)) }
     {

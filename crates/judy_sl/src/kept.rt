@@ -12,12 +12,12 @@ use crate::strings::JudySl;
 
 impl Arena {
     // The values of all seats are words.
-    fn has_words(&self)
+    fn words_law(&self)
         ensures { (seat : ℕ) → HasWords (world_of self.now seat) }
     {
-        self.root.is_array();
-        self.tails.told();
-        self.levels.told();
+        self.root.array_law();
+        self.tails.law();
+        self.levels.law();
     }
 }
 
@@ -25,15 +25,15 @@ impl JudySl {
     /// A law of every array that a program holds, whatever was left in its slots: its limit and values are words, its
     /// keys strings without a zero byte, and it holds at most as many keys as its limit. It answers nothing and reads
     /// each value, for a caller whose proof is to know it.
-    pub fn is_array(&self)
+    pub fn array_law(&self)
         ensures { array.IsArray (array.judysl self.now) }
     {
-        self.arena.has_words();
+        self.arena.words_law();
     }
 
     /// A law of every array that a program holds: its keys are strings without a zero byte. It answers nothing and
     /// reads nothing, for a caller whose proof is to know it.
-    pub fn holds_strings(&self)
+    pub fn strings_law(&self)
         ensures { (key : List ℕ) (value : ℕ) → get self.now.map key ≡ Some value → IsStringKey key }
     {
         let _arena = &self.arena;

@@ -136,12 +136,12 @@ impl LevelList {
     }
 
     // Does nothing but read: it tells a caller's proof that keys and values are words.
-    pub fn told(&self)
+    pub fn law(&self)
         ensures { (index : ℕ) (words : ArrayOf word_order)
             → words_in (slab.get self.now index) ≡ Some words → IsArrayOf IsWord words }
     {
         for (_, words) in self.words.iter() {
-            words.is_array();
+            words.array_law();
         }
     }
 }

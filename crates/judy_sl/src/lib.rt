@@ -43,3 +43,4 @@ pub use error::SlError;
 pub use keys::{KeyBuf, is_key};
 pub use sorted::{SlSortedError, check_sorted};
 pub use strings::JudySl;
+pub use zeros::are_nonzero;

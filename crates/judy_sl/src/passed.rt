@@ -3,12 +3,13 @@
 ghost use Rattle.std.specs.Prelude.{◌≡◌, ◌<◌, ◌≤◌, ◌↔◌, ℕ, IsTrue, List, [], ◌∷◌, ◌++◌, length};
 
 use arrayvec::ArrayVec;
+use judy_model::keys::LONGEST_KEY;
 
 // The places of the levels below the first on the way of a key: one for each whole piece at most.
 pub type Passed<const N: usize> = ArrayVec<u64, N>;
 
 // How many whole pieces a key has at most.
-pub const MOST_PIECES: usize = 128;
+pub const MOST_PIECES: usize = LONGEST_KEY / 8;
 
 // The same of a key of a usual length. A list is filled with zeros where it is made, so for such keys a short one is.
 pub const FEW_PIECES: usize = 16;

@@ -1,6 +1,7 @@
 //! Keys piece by piece.
 
 ghost use Rattle.std.specs.Prelude.{◌≡◌, ◌↔◌, ◌+◌, ◌≤◌, ◌++◌, IsFalse, length};
+ghost use Rattle.judy_model.specs.declared.keys.TheConstants.{LONGEST_KEY};
 ghost use Rattle.judy_sl.specs.Pieces.{piece_of, piece_bytes, EndsWell};
 
 use crate::keys::KeyBuf;
@@ -15,8 +16,10 @@ pub fn first_piece(bytes: &[u8]) -> u64
 }
 
 // Puts the bytes of a piece behind those of the buffer: the ones that aren't zero. Mostly none is, and then all eight are put there at once.
+// Within its callers, and what goes byte by byte is not: else each byte is made ready before that is asked.
+#[inline(always)]
 pub fn push_piece(key: &mut KeyBuf, piece: u64)
-    requires { length key.old.items + length (piece_bytes piece) ≤ 1024 }
+    requires { length key.old.items + length (piece_bytes piece) ≤ LONGEST_KEY }
     ensures { key.new.items ≡ key.old.items ++ piece_bytes piece }
 {
     let bytes = piece.to_be_bytes();
@@ -30,8 +33,9 @@ pub fn push_piece(key: &mut KeyBuf, piece: u64)
 }
 
 // The same byte by byte.
+#[inline(never)]
 fn push_each(key: &mut KeyBuf, piece: u64)
-    requires { length key.old.items + length (piece_bytes piece) ≤ 1024 }
+    requires { length key.old.items + length (piece_bytes piece) ≤ LONGEST_KEY }
     ensures { key.new.items ≡ key.old.items ++ piece_bytes piece }
 {
     for byte in piece.to_be_bytes() {

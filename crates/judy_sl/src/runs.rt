@@ -10,6 +10,7 @@ ghost use Rattle.judy_sl.specs.Runs.{AreBeyond, EntryLeads, RunLeads, IsNextEntr
 use crate::arena::Arena;
 use crate::child::ChildRef;
 use crate::keys::KeyBuf;
+use crate::passed::MOST_PIECES;
 use crate::pieces::{first_piece, push_piece};
 use crate::scans::Look;
 use arrayvec::ArrayVec;
@@ -17,7 +18,7 @@ use judy_word::{Entries, WordMap};
 use std::iter::Iterator;
 
 // The levels above one, the first level first: one for each piece that leads there. No place among them is empty.
-pub type Levels<'a> = ArrayVec<Option<&'a WordMap>, 128>;
+pub type Levels<'a> = ArrayVec<Option<&'a WordMap>, MOST_PIECES>;
 
 // A level, and its entries that are still to come, by ascending piece.
 #[derive(Drop)]

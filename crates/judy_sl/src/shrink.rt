@@ -12,7 +12,7 @@ ghost use Rattle.judy_sl.specs.Arenas.{world_of, child_at, IsArena};
 ghost use Rattle.judy_sl.specs.Places.{IsLevelPlace};
 ghost use Rattle.judy_sl.specs.Ways.{levels_passed};
 ghost use Rattle.judy_sl.specs.Counted.{AreCounted};
-ghost use Rattle.judy_sl.specs.Shrunk.{place_without, IsVacated, IsCut, IsDeeper, IsLoose, IsCleared, IsShrunk};
+ghost use Rattle.judy_sl.specs.Shrunk.{place_without, IsVacated, IsCut, IsDeeper, IsOrphan, IsCleared, IsShrunk};
 
 use crate::arena::{Arena, Place, place_in};
 use crate::child::{ChildRef, is_level};
@@ -121,7 +121,7 @@ impl Arena {
     fn clear(&mut self, at: u64, key: &[u8])
         requires is_arena { IsArena self.old }
         requires is_text { IsText key.now }
-        requires loose { IsLoose (world_of self.old) at (pieces key.now) }
+        requires loose { IsOrphan (world_of self.old) at (pieces key.now) }
         ensures cleared { IsCleared self.old self.new }
     {
         let mut at = at;
@@ -163,7 +163,7 @@ impl Arena {
 
     // The same, where so many levels at most are on the key's way.
     fn del_noted<const N: usize>(&mut self, key: &[u8]) -> Option<bool>
-        requires most { N ≤ 128 }
+        requires most { N ≤ MOST_PIECES }
         requires is_arena { IsArena self.old }
         requires counted { AreCounted self.old }
         requires led { AllLed (world_of self.old) }

@@ -120,7 +120,7 @@ impl JudySl {
 
     // The same for bytes of which the last isn't zero, where so many levels at most are on a key's way.
     fn ins_noted<const N: usize>(&mut self, key: &[u8]) -> Result<&mut u64, SlError>
-        requires most { N ≤ 128 }
+        requires most { N ≤ MOST_PIECES }
         requires ends { EndsWell key.now }
         requires few { IsStringKey key.now → length key.now < 8 * N + 8 }
         ensures* writes_back { sem 𝓛 (LendsIns self.entry key.now result) }

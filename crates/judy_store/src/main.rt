@@ -39,7 +39,7 @@ fn main(rt: HostRuntime) -> ExitCode {
         Ok(()) => End::Done,
         Err(end) => end,
     };
-    ExitCode::from(status(&told(&rt, end)))
+    ExitCode::from(status(&report(&rt, end)))
 }
 
 // Does what the command line asks.
@@ -61,7 +61,7 @@ fn words(rt: &HostRuntime) -> Result<Vec<String>, End> {
 // Tells the user of the end: help on standard output, all else on standard error. Help that can't be written ends
 // the program as answers do that can't. What is said is written in one piece where it fits, so that no other
 // program's words come between.
-fn told(rt: &HostRuntime, end: End) -> End {
+fn report(rt: &HostRuntime, end: End) -> End {
     let mut end = end;
     if let End::Help(_) = end {
         let mut output = BufferedSink::<_, LINE_LEN>::new(WriteSink::new(rt.stdout()));

@@ -227,7 +227,7 @@ fn check_long_keys(rt: &impl Abort, strings: &mut JudySl, p: &[u8; 1024], q: &[u
     check_scan(rt, strings, &p[..1023], Scan::Next, Some((p, 1)));
     check_value(rt, strings, p, Some(1));
     check_value(rt, strings, &p[..1023], None);
-    strings.is_array();
+    strings.array_law();
     check_len(rt, strings, 2);
 }
 

@@ -19,7 +19,7 @@ use Rattle.judy_records.proofs.FreeLemmas.{held-inside, free-most}
 use Rattle.judy_tails.specs.Tails.{TailLists, tail_at, Updates}
 use Rattle.judy_tails.specs.Tails as tails
 use Rattle.judy_tails.proofs.TailLemmas.{whole-is}
-use Rattle.judy_tails.specs.Inside.{tail_of, tails_in, size_of, lists_of, IsWhole, IsWholeOrFree, IsTailList, AreTails, AreSame}
+use Rattle.judy_tails.specs.Inside.{tail_of, tails_in, size_of, lists_of, IsPadded, IsPaddedOrFree, IsTailList, AreTails, AreSame}
 
 -- ---- one place
 
@@ -31,7 +31,7 @@ tail-held : (spot : Spot) → IsHeld spot → tail_of spot ≡ Some (text_in (te
 tail-held (free next) is = absurd is
 tail-held (held value words) is = refl
 
-pub whole-held : (spot : Spot) → IsHeld spot → IsWholeOrFree spot → IsWhole spot
+pub whole-held : (spot : Spot) → IsHeld spot → IsPaddedOrFree spot → IsPadded spot
 whole-held (free next) is whole = is
 whole-held (held value words) is whole = whole
 
@@ -59,7 +59,7 @@ module _ (lists : List RecordList) (place : ℕ) (some : IsSome (tail_at (lists_
       (λ past. absurd (subst (λ (list : RecordList). IsHeld (spot_at list (place / 256))) (get_or_past lists (place % 256) (empty_list 0) past) is-held))
       (cases_lt (place % 256) (length lists))
 
-  pub is-whole : AreTails lists → IsWhole (spot_at (list_at lists (place % 256)) (place / 256))
+  pub is-whole : AreTails lists → IsPadded (spot_at (list_at lists (place % 256)) (place / 256))
   is-whole are = whole-held (spot_at (list_at lists (place % 256)) (place / 256)) is-held ((are.each (place % 256)).whole (place / 256))
 
   pub is-tail : tail_at (lists_of lists) place ≡ Some (text_in (text_of (spot_at (list_at lists (place % 256)) (place / 256))), value_of (spot_at (list_at lists (place % 256)) (place / 256)))
@@ -127,9 +127,9 @@ module _ (list : RecordList) (index : ℕ) (is : IsHeld (spot_at list index)) (v
   value-are are = record {
     short = are.short;
     whole = λ other. ⊎_elim
-        (λ same. subst (λ n. IsWholeOrFree (spot_at (with_value list index value) n)) (sym same)
-        (subst IsWholeOrFree (sym (get_or-set_same list.spots index (held value (text_of (spot_at list index))) (free 0) (held-inside list.spots index is))) (whole-is (spot_at list index) (whole-held (spot_at list index) is (are.whole index)))))
-        (λ apart. subst IsWholeOrFree (sym (get_or-set_other list.spots index other (held value (text_of (spot_at list index))) (free 0) (λ e. ⊎_elim (λ less. omega (arith, less, e)) (λ more. omega (arith, more, e)) apart))) (are.whole other))
+        (λ same. subst (λ n. IsPaddedOrFree (spot_at (with_value list index value) n)) (sym same)
+        (subst IsPaddedOrFree (sym (get_or-set_same list.spots index (held value (text_of (spot_at list index))) (free 0) (held-inside list.spots index is))) (whole-is (spot_at list index) (whole-held (spot_at list index) is (are.whole index)))))
+        (λ apart. subst IsPaddedOrFree (sym (get_or-set_other list.spots index other (held value (text_of (spot_at list index))) (free 0) (λ e. ⊎_elim (λ less. omega (arith, less, e)) (λ more. omega (arith, more, e)) apart))) (are.whole other))
         (cases_order other index);
     long = (let same = length-set list.spots index (held value (text_of (spot_at list index))) in let long = are.long in omega (arith, same, long));
   }
@@ -217,8 +217,8 @@ module _ (list : RecordList) (index : ℕ) (is : IsHeld (spot_at list index)) wh
       (λ out. subst IsTailList (sym out) (record {
         short = are.short;
         whole = λ other. ⊎_elim
-            (λ same. subst (λ n. IsWholeOrFree (spot_at (taken_out list index) n)) (sym same) (subst IsWholeOrFree (sym (get_or-set_same list.spots index (free list.first) (free 0) (held-inside list.spots index is))) tt))
-            (λ apart. subst IsWholeOrFree (sym (get_or-set_other list.spots index other (free list.first) (free 0) (λ e. ⊎_elim (λ less. omega (arith, less, e)) (λ more. omega (arith, more, e)) apart))) (are.whole other))
+            (λ same. subst (λ n. IsPaddedOrFree (spot_at (taken_out list index) n)) (sym same) (subst IsPaddedOrFree (sym (get_or-set_same list.spots index (free list.first) (free 0) (held-inside list.spots index is))) tt))
+            (λ apart. subst IsPaddedOrFree (sym (get_or-set_other list.spots index other (free list.first) (free 0) (λ e. ⊎_elim (λ less. omega (arith, less, e)) (λ more. omega (arith, more, e)) apart))) (are.whole other))
             (cases_order other index);
         long = (let same = length-set list.spots index (free list.first) in let long = are.long in omega (arith, same, long));
       }))
@@ -255,8 +255,8 @@ module _ (lists : List RecordList) {seen : TailLists} (view_is : lists_of lists 
     pub list-held : IsHeld (spot_at list (place / 256))
     list-held = subst (λ (list : RecordList). IsHeld (spot_at list (place / 256))) (sym list-is) (is-held lists place seen-some)
 
-    pub list-whole : AreTails lists → IsWhole (spot_at list (place / 256))
-    list-whole are = subst (λ (list : RecordList). IsWhole (spot_at list (place / 256))) (sym list-is) (is-whole lists place seen-some are)
+    pub list-whole : AreTails lists → IsPadded (spot_at list (place / 256))
+    list-whole are = subst (λ (list : RecordList). IsPadded (spot_at list (place / 256))) (sym list-is) (is-whole lists place seen-some are)
 
     pub list-tail : tail_at seen place ≡ Some (text_in (text_of (spot_at list (place / 256))), value_of (spot_at list (place / 256)))
     list-tail =
@@ -412,8 +412,8 @@ module _ (lists : List RecordList) (number capacity : ℕ) where
     put-are short = set-are lists number inside (put_in roomy (held value (words_of text))) are next.size (record {
       short = subst (λ n. n ≤ 128) (sym next.size) (are.each number).short;
       whole = λ other. ⊎_elim
-          (λ same. subst IsWholeOrFree (sym (ap (spot_at (put_in roomy (held value (words_of text)))) same ∙ next.here)) (ap words_of (sym (text-back text is))))
-          (λ apart. subst IsWholeOrFree (sym (next.elsewhere other (λ e. ⊎_elim (λ less. omega (arith, less, e)) (λ more. omega (arith, more, e)) apart))) ((are.each number).whole other))
+          (λ same. subst IsPaddedOrFree (sym (ap (spot_at (put_in roomy (held value (words_of text)))) same ∙ next.here)) (ap words_of (sym (text-back text is))))
+          (λ apart. subst IsPaddedOrFree (sym (next.elsewhere other (λ e. ⊎_elim (λ less. omega (arith, less, e)) (λ more. omega (arith, more, e)) apart))) ((are.each number).whole other))
           (cases_order other (next_place roomy));
       long = (let long = (are.each number).long in let within = next.within in let grown = next.long in ⊎_elim
           (λ before. let same = next.most before in omega (arith, same, long))

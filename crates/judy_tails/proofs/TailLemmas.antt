@@ -1,23 +1,24 @@
 -- One record as a tail.
-use Rattle.std.proofs.Common.{◌≡◌, ◌≢◌, ◌+◌, ◌<◌, ◌%◌, ◌/◌, ◌^◌, ◌≤◌, ℕ, zero, suc, List, [], ◌∷◌, ◌++◌, length, take, drop, get_or, true, false, nat_lt, cond, sym, refl, ap, ◌∙◌, subst, arith}
+use Rattle.std.proofs.Common.{◌≡◌, ◌≢◌, ◌+◌, ◌*◌, ◌<◌, ◌%◌, ◌/◌, ◌^◌, ◌≤◌, ℕ, zero, suc, List, [], ◌∷◌, ◌++◌, length, take, drop, get_or, true, false, nat_lt, cond, sym, refl, ap, ◌∙◌, subst, arith}
 use Rattle.std.specs.List.{flat_map, filter}
 use Rattle.std.specs.Int.{to_be_bytes, w64}
 use Rattle.std.proofs.lemmas.Bool.{ltb-true, lt-ltb}
 use Rattle.std.proofs.lemmas.Grind.{flat_map-append}
-use Rattle.std.proofs.lemmas.Nat.{mod_below}
-use Rattle.std.proofs.lemmas.List.{take_more, length-append, take-append-drop, append-nil, get_or_default}
+use Rattle.std.proofs.lemmas.Nat.{mod_below, div-mul-add}
+use Rattle.std.proofs.Math.Nat.{mod-eq_of_lt}
+use Rattle.std.proofs.lemmas.List.{take_more, take_all, length-append, take-append-drop, append-nil, get_or_default}
 use Rattle.std.proofs.lemmas.List.Elements.{All-nil, All-cons, All-head, All-tail, All-append, filter-append}
 use Rattle.judy_model.proofs.Places.{length-filter-le}
 use Rattle.judy_model.specs.Keys.{IsByteString, byte_order}
 use Rattle.judy_model.specs.WordBytes.{low_bytes}
-use Rattle.judy_records.specs.Texts.{words_for, words_of, text_in, EndsWell, IsText}
+use Rattle.judy_records.specs.Texts.{spelled, first_word, words_for, words_of, text_in, EndsWell, IsText}
 use Rattle.judy_records.specs.Spots.{Spot, free, held, text_of}
 use Rattle.judy_records.proofs.BackLemmas.{be-low_bytes}
-use Rattle.judy_records.proofs.OrderLemmas.{order-words, text-bytes}
+use Rattle.judy_records.proofs.OrderLemmas.{order-words, text-bytes, spelled-lt, all-drop}
 use Rattle.judy_records.proofs.PadLemmas.{same-ends, text-ends, full-word}
-use Rattle.judy_records.proofs.TextLemmas.{length-words}
-use Rattle.judy_model.proofs.ByteLemmas.{length-low_bytes}
-use Rattle.judy_tails.specs.Inside.{IsWhole}
+use Rattle.judy_records.proofs.TextLemmas.{length-words, words-at}
+use Rattle.judy_model.proofs.ByteLemmas.{length-low_bytes, low_bytes-above}
+use Rattle.judy_tails.specs.Inside.{IsPadded, BeginsText}
 
 -- ---- the text that words spell is one
 
@@ -48,11 +49,11 @@ are-bytes bytes below at default inside = subst (λ byte. byte < 256) (get_or_de
 
 -- ---- a whole record
 
-pub whole-is : (spot : Spot) → IsWhole spot → text_of spot ≡ words_of (text_in (text_of spot))
+pub whole-is : (spot : Spot) → IsPadded spot → text_of spot ≡ words_of (text_in (text_of spot))
 whole-is (free next) whole = absurd whole
 whole-is (held value words) whole = whole
 
-module _ (spot : Spot) (whole : IsWhole spot) where
+module _ (spot : Spot) (whole : IsPadded spot) where
   pub whole-words : text_of spot ≡ words_of (text_in (text_of spot))
   whole-words = whole-is spot whole
 
@@ -77,6 +78,16 @@ module _ (spot : Spot) (whole : IsWhole spot) where
       let same = ap (λ words. get_or words at 0) whole-words in
       let full = full-word text (is-text (text_of spot)) at (omega (arith, inside, long, ap length whole-words)) (subst (λ n. n % 256 ≢ 0) same some) in
       ap (λ n. length (text_in (n ∷ []))) same ∙ ap length full ∙ length-low_bytes 8 (get_or (words_of text) at 0)
+
+  -- Some text begins with each of its words.
+  pub whole-begins : (at : ℕ) → at < length (text_of spot) → BeginsText (get_or (text_of spot) at 0)
+  whole-begins at inside =
+      let text = text_in (text_of spot) in
+      let long = length-words (words_for (length text)) text in (
+        drop (8 * at) text,
+        all-drop (λ byte. (byte < 256) × (byte ≢ 0)) (8 * at) text (is-text (text_of spot)),
+        ap (λ words. get_or words at 0) whole-words ∙ words-at (words_for (length text)) at text (omega (arith, inside, long, ap length whole-words)),
+      )
 
 -- ---- the bytes of its words, one after the other
 
@@ -126,6 +137,42 @@ module _ (bytes : List ℕ) (at : ℕ) (inside : at < length bytes) where
         let front = ap length kept-some in
         let one = length-append (kept at bytes) (get_or bytes at 0 ∷ []) in
         omega (arith, whole, parts, front, one)
+
+-- Of zero none is kept.
+zero-kept : (width at : ℕ) → kept at (low_bytes width 0) ≡ []
+zero-kept zero zero = refl
+zero-kept zero (suc at) = refl
+zero-kept (suc width) zero = refl
+zero-kept (suc width) (suc at) =
+    let first : 0 / 256 ^ width % 256 ≡ 0 = grind arith in
+    ap (λ byte. cond (nat_lt 0 byte) (byte ∷ kept at (low_bytes width 0)) (kept at (low_bytes width 0))) first ∙ zero-kept width at
+
+zero-all : (width : ℕ) → filter (λ byte. nat_lt 0 byte) (low_bytes width 0) ≡ []
+zero-all width = ap (filter (λ byte. nat_lt 0 byte)) (sym (take_all width (low_bytes width 0) (let long = length-low_bytes width 0 in omega (arith, long)))) ∙ zero-kept width width
+
+-- Behind the first zero byte of the word with which a text begins none is kept.
+kept-before : (width at : ℕ) (text : List ℕ) → IsText text → at < width → get_or (low_bytes width (spelled width text)) at 0 ≡ 0
+    → kept at (low_bytes width (spelled width text)) ≡ filter (λ byte. nat_lt 0 byte) (low_bytes width (spelled width text))
+kept-before zero at text is inside none = absurd (omega (arith, inside))
+kept-before (suc width) at [] is inside none = zero-kept (suc width) at ∙ sym (zero-all (suc width))
+kept-before (suc width) zero (byte ∷ text) is inside none =
+    let here = All-head (λ b. (b < 256) × (b ≢ 0)) byte text is in
+    let later = All-tail (λ b. (b < 256) × (b ≢ 0)) byte text is in
+    let first : (byte * 256 ^ width + spelled width text) / 256 ^ width % 256 ≡ byte = ap (λ n. n % 256) (div-mul-add byte (256 ^ width) (spelled width text) (spelled-lt width text (text-bytes text later))) ∙ mod-eq_of_lt here.0 in
+    absurd (here.1 (sym first ∙ none))
+kept-before (suc width) (suc at) (byte ∷ text) is inside none =
+    let later = All-tail (λ b. (b < 256) × (b ≢ 0)) byte text is in
+    let above = low_bytes-above width byte (spelled width text) in
+    let rest = kept-before width at text later (omega (arith, inside)) (sym (ap (λ low. get_or low at 0) above) ∙ none) in
+    let first = (byte * 256 ^ width + spelled width text) / 256 ^ width % 256 in
+    ap (λ left. cond (nat_lt 0 first) (first ∷ left) left) (ap (kept at) above ∙ rest ∙ sym (ap (filter (λ b. nat_lt 0 b)) above))
+
+-- So all of its text stands before that.
+pub text-before : (word at : ℕ) (bytes : List ℕ) → bytes ≡ to_be_bytes w64 word → BeginsText word → at < 8 → get_or bytes at 0 ≡ 0 → kept at bytes ≡ filter (λ byte. nat_lt 0 byte) bytes
+unfolding first_word
+text-before word at bytes is (text, are, begins) inside none =
+    let low : bytes ≡ low_bytes 8 (spelled 8 text) = is ∙ be-low_bytes word ∙ ap (low_bytes 8) begins in
+    ap (kept at) low ∙ kept-before 8 at text are inside (sym (ap (λ bytes. get_or bytes at 0) low) ∙ none) ∙ sym (ap (filter (λ byte. nat_lt 0 byte)) low)
 
 pub word-text : (word : ℕ) (bytes : List ℕ) → bytes ≡ to_be_bytes w64 word → text_in (word ∷ []) ≡ filter (λ byte. nat_lt 0 byte) bytes
 unfolding text_in

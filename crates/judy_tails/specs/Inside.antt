@@ -1,7 +1,7 @@
 -- How tails stand in lists of records, each of which has the texts that take as many words as it says.
 use Rattle.std.specs.Prelude.{◌≡◌, ◌≤◌, ◌^◌, eqb, ℕ, List, [], length, get_or, map, Option, None, Some}
 use Rattle.std.specs.List.{IsDistinct}
-use Rattle.judy_records.specs.Texts.{words_of, text_in}
+use Rattle.judy_records.specs.Texts.{first_word, words_of, text_in, IsText}
 use Rattle.judy_records.specs.Spots.{Spot, free, held, RecordList, empty_list, spot_at, next_place}
 use Rattle.judy_tails.specs.Tails.{TailLists}
 
@@ -27,19 +27,23 @@ lists_of lists = record {
 }
 
 -- The words of a record are those of the text that they spell: behind its last byte there are zeros alone.
-abbrev pub IsWhole : Spot → Type 0
-IsWhole (free next) = ⊥
-IsWhole (held value words) = words ≡ words_of (text_in words)
+abbrev pub IsPadded : Spot → Type 0
+IsPadded (free next) = ⊥
+IsPadded (held value words) = words ≡ words_of (text_in words)
 
 -- The same where there is a record.
-abbrev pub IsWholeOrFree : Spot → Type 0
-IsWholeOrFree (free next) = Unit {0}
-IsWholeOrFree (held value words) = words ≡ words_of (text_in words)
+abbrev pub IsPaddedOrFree : Spot → Type 0
+IsPaddedOrFree (free next) = Unit {0}
+IsPaddedOrFree (held value words) = words ≡ words_of (text_in words)
+
+-- A word with which some text begins: behind its first zero byte there are zeros alone.
+abbrev pub BeginsText : ℕ → Type 0
+BeginsText word = (text : List ℕ) × IsText text × (word ≡ first_word text)
 
 -- A list has whole texts of no more words than the longest one takes, and no more than places are words for.
 pub record IsTailList (list : RecordList) : Type 0 where
   pub short : list.size ≤ 128
-  pub whole : (place : ℕ) → IsWholeOrFree (spot_at list place)
+  pub whole : (place : ℕ) → IsPaddedOrFree (spot_at list place)
   pub long : length list.spots ≤ 2 ^ 55
 
 -- What always holds of the lists: no two are for texts of one length.

@@ -4,9 +4,10 @@ ghost use Rattle.std.specs.Prelude.{◌≡◌, ◌≢◌, ◌↔◌, ◌+◌, �
 ghost use Rattle.judy_model.specs.Keys.{byte_order};
 ghost use Rattle.judy_records.specs.Spots.{value_of, text_of};
 ghost use Rattle.judy_records.specs.Texts.{IsText, text_in};
-ghost use Rattle.judy_tails.specs.Inside.{IsWhole};
+ghost use Rattle.judy_tails.specs.Inside.{IsPadded, BeginsText};
 
 use arrayvec::ArrayVec;
+use judy_model::keys::LONGEST_KEY;
 use judy_records::Record;
 use std::cmp::Ordering;
 use std::marker::Model;
@@ -24,17 +25,17 @@ impl<'a> Model for Tail<'a> {
 
     ghost use Rattle.judy_records.specs.Spots.{value_of, text_of};
     ghost use Rattle.judy_records.specs.Texts.{text_in};
-    ghost use Rattle.judy_tails.specs.Inside.{IsWhole};
+    ghost use Rattle.judy_tails.specs.Inside.{IsPadded};
 
     ghost view = { λ t. (text_in (text_of t.stored), value_of t.stored) };
 
-    ghost invariant = { λ t. IsWhole t.stored };
+    ghost invariant = { λ t. IsPadded t.stored };
 }
 
 impl<'a> Tail<'a> {
     // The tail of a record.
     pub(crate) fn new(stored: Record<'a>) -> Tail<'a>
-        requires { IsWhole stored }
+        requires { IsPadded stored }
         ensures { result ≡ (text_in (text_of stored.entry), value_of stored.entry) }
     {
         Tail { stored }
@@ -65,8 +66,8 @@ impl<'a> Tail<'a> {
     }
 
     /// Puts the text behind the bytes of a buffer that has room for it. A loop over words.
-    pub fn push_to(&self, buffer: &mut ArrayVec<u8, 1024>)
-        requires { length buffer.old.items + length self.now.0 ≤ 1024 }
+    pub fn push_to(&self, buffer: &mut ArrayVec<u8, LONGEST_KEY>)
+        requires { length buffer.old.items + length self.now.0 ≤ LONGEST_KEY }
         ensures { buffer.new.items ≡ buffer.old.items ++ self.now.0 }
     {
         for word in self.stored.text() {
@@ -75,10 +76,12 @@ impl<'a> Tail<'a> {
     }
 }
 
-// Puts the bytes of a word that aren't zero behind those of the buffer: all eight at once where the last one isn't, since a text's zeros stand at its end.
-fn push_bytes(buffer: &mut ArrayVec<u8, 1024>, word: u64)
-    requires room { length buffer.old.items + length (text_in (word ∷ [])) ≤ 1024 }
+// Puts the bytes of a text's word behind those of the buffer, up to its first zero: all eight at once where the last one isn't, since a text's zeros stand at
+// its end.
+fn push_bytes(buffer: &mut ArrayVec<u8, LONGEST_KEY>, word: u64)
+    requires room { length buffer.old.items + length (text_in (word ∷ [])) ≤ LONGEST_KEY }
     requires full { word % 256 ≢ 0 → length (text_in (word ∷ [])) ≡ 8 }
+    requires begins { BeginsText word }
     ensures { buffer.new.items ≡ buffer.old.items ++ text_in (word ∷ []) }
 {
     let bytes = word.to_be_bytes();
@@ -89,8 +92,9 @@ fn push_bytes(buffer: &mut ArrayVec<u8, 1024>, word: u64)
         }
     }
     for byte in bytes {
-        if byte != 0 {
-            buffer.push(byte);
+        if byte == 0 {
+            return;
         }
+        buffer.push(byte);
     }
 }

@@ -3,6 +3,7 @@
 ghost use Rattle.std.specs.Prelude.{◌≡◌, ◌<◌, ◌≤◌, ◌%◌, ℕ, List, Some, None, IsSome, IsOk, IfOk, OnOk, OnErr, length, slice_get};
 ghost use Rattle.std.specs.Borrow.{sem};
 ghost use Rattle.judy_model.specs.Keys.{IsWord};
+ghost use Rattle.judy_model.specs.declared.keys.TheConstants.{LONGEST_KEY};
 ghost use Rattle.judy_records.specs.Texts.{IsText, words_for};
 ghost use Rattle.judy_tails.specs.Tails.{tail_at, list_for, next_place, HasFree, no_tails, text_of, Updates, SameTails};
 
@@ -62,7 +63,7 @@ impl Tails {
 
     /// The place that the next text of so many bytes takes.
     pub fn next_place(&self, bytes: usize) -> u64
-        requires { bytes ≤ 1024 }
+        requires { bytes ≤ LONGEST_KEY }
         ensures { result ≡ next_place self.now bytes }
     {
         let number = self.list_for(bytes);
@@ -77,7 +78,7 @@ impl Tails {
     /// had.
     pub fn put(&mut self, text: &[u8], value: u64) -> Result<u64, AllocError>
         requires text { IsText text.now }
-        requires short { length text.now ≤ 1024 }
+        requires short { length text.now ≤ LONGEST_KEY }
         ensures place { IfOk result (λ place. place ≡ next_place self.old (length text.now)) }
         ensures kind { IfOk result (λ place. place % 256 ≤ 128) }
         ensures free { IfOk result (λ place. tail_at self.old place ≡ None) }
@@ -94,7 +95,7 @@ impl Tails {
     #[inline(always)]
     pub fn put_next(&mut self, place: u64, text: &[u8], value: u64) -> Result<u64, AllocError>
         requires text { IsText text.now }
-        requires short { length text.now ≤ 1024 }
+        requires short { length text.now ≤ LONGEST_KEY }
         requires next { place ≡ next_place self.old (length text.now) }
         ensures place { IfOk result (λ at. at ≡ place) }
         ensures kind { OnOk result (place % 256 ≤ 128) }
@@ -111,7 +112,7 @@ impl Tails {
     #[inline(always)]
     fn put_in(&mut self, number: usize, text: &[u8], value: u64) -> Result<u64, AllocError>
         requires text { IsText text.now }
-        requires short { length text.now ≤ 1024 }
+        requires short { length text.now ≤ LONGEST_KEY }
         requires number { number ≡ list_for self.old (length text.now) }
         ensures place { IfOk result (λ place. place ≡ next_place self.old (length text.now)) }
         ensures kind { IfOk result (λ place. place % 256 ≤ 128) }
@@ -123,7 +124,7 @@ impl Tails {
     {
         self.reach(number, text.len())?;
         let list = &mut self.lists[number];
-        list.told();
+        list.law();
         list.reserve()?;
         let place = list.next_place();
         if place as u64 >= MOST {
@@ -142,12 +143,12 @@ impl Tails {
     }
 
     /// Does nothing: it tells a caller's proof that values are words.
-    pub fn told(&self)
+    pub fn law(&self)
         ensures { (place : ℕ) (tail : List ℕ × ℕ) → tail_at self.now place ≡ Some tail
             → IsWord tail.1 }
     {
         for list in &self.lists {
-            list.values_told();
+            list.values_law();
         }
     }
 
@@ -174,7 +175,7 @@ impl Tails {
 
     // Sees to it that there is the list for texts of so many bytes, by its number. The error is want of memory.
     fn reach(&mut self, number: usize, bytes: usize) -> Result<(), AllocError>
-        requires short { bytes ≤ 1024 }
+        requires short { bytes ≤ LONGEST_KEY }
         requires number { number ≡ list_for self.old bytes }
         ensures same { AreSame self.old self.new }
         ensures found { number < length self.old.lists → IsOk result }
@@ -190,7 +191,7 @@ impl Tails {
     // Makes the list for texts of so many bytes, of which there is none. The error is want of memory.
     #[inline(never)]
     fn make(&mut self, bytes: usize) -> Result<(), AllocError>
-        requires short { bytes ≤ 1024 }
+        requires short { bytes ≤ LONGEST_KEY }
         requires none { list_for self.old bytes ≡ length self.old.lists }
         ensures same { AreSame self.old self.new }
         ensures made { OnOk result

@@ -5,7 +5,7 @@ ghost use Rattle.judy_leaf.specs.Immediates.{imm_room};
 
 use crate::leaves::{top_of, value_of};
 use crate::plain::{Answers, answers_of, beside, same_answer, same_len, same_pair};
-use judy_leaf::{BitLeafOf, ImmOf, LeafOf, Room, Words, put_in_bit_leaf, put_in_leaf};
+use judy_leaf::{BitLeafOf, ImmOf, LeafOf, Spare, Words, put_in_bit_leaf, put_in_leaf};
 use std::alloc::{AllocError, Global};
 use std::process::Abort;
 
@@ -121,7 +121,7 @@ impl<V: Words + Drop> AnyLeaf<V> {
         requires most { width ≤ 8 }
     {
         Ok(match kind {
-            Kind::Plain => AnyLeaf::Leaf(LeafOf::from_sorted(alloc, width, &[], Room::Ample)?),
+            Kind::Plain => AnyLeaf::Leaf(LeafOf::from_sorted(alloc, width, &[], Spare::Ample)?),
             Kind::Bitmap => AnyLeaf::Bits(BitLeafOf::from_sorted(alloc, width, &[])?),
             Kind::Immediate => AnyLeaf::Imm(ImmOf::new(width)),
         })

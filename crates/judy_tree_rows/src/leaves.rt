@@ -6,7 +6,7 @@ ghost use Rattle.std.specs.Prelude.{◌≡◌, ◌<◌, ◌≤◌, ◌^◌};
 use crate::any_leaf::{AnyLeaf, Kind};
 use crate::nodes::ascends;
 use crate::plain::{note, same_answer};
-use judy_leaf::{LeafOf, Room, Width, Words};
+use judy_leaf::{LeafOf, Spare, Width, Words};
 use std::alloc::{AllocError, Global};
 use std::process::Abort;
 
@@ -201,7 +201,7 @@ fn check_sorted<V: Words + Drop>(
     assert!(rt; V::WORDS <= 1 && pairs.len() <= 32);
     let ascending = ascends::<V>(pairs, width);
     assert!(rt; ascending);
-    let leaf = LeafOf::<V>::from_sorted(alloc, width, pairs, Room::Ample)?;
+    let leaf = LeafOf::<V>::from_sorted(alloc, width, pairs, Spare::Ample)?;
     assert_eq!(rt; leaf.reading().width(), width);
     AnyLeaf::Leaf(leaf).check(rt, pairs);
     Ok(())

@@ -120,7 +120,7 @@ impl JudyL {
         let Ok(tree) = TreeArray::from_sorted(alloc, limit, pairs) else {
             return Err(SortedError::NoMemory);
         };
-        tree.told();
+        tree.law();
         Ok(JudyL::of(tree))
     }
 }
@@ -145,7 +145,7 @@ impl Judy1 {
         let Ok(tree) = TreeArray::from_sorted(alloc, limit, &pairs) else {
             return Err(SortedError::NoMemory);
         };
-        tree.told();
+        tree.law();
         Ok(Judy1::of(tree))
     }
 }

@@ -73,10 +73,10 @@ impl<V: Words + Drop> TreeArray<V> {
 
     /// A law without a body, what every array keeps: its tree is one of words, it holds no more keys than its limit, and where it
     /// isn't loose, no node of its tree is.
-    pub fn told(&self)
+    pub fn law(&self)
         ensures { IsHeld V.WORDS self.now }
     {
-        self.root.told();
+        self.root.law();
     }
 
     /// How many keys it may hold: at least 1.
@@ -92,7 +92,7 @@ impl<V: Words + Drop> TreeArray<V> {
         ensures count { result ≡ map.len (map_in self.now) }
         ensures within { result ≤ self.now.limit }
     {
-        self.root.told();
+        self.root.law();
         self.root.pop()
     }
 
@@ -123,7 +123,7 @@ impl<V: Words + Drop> TreeArray<V> {
         ensures rule { self.now.loose ≡ false
             → shape_as result ≡ shape_of V.WORDS (map.keys (map_in self.now)) }
     {
-        self.told();
+        self.law();
         self.root.shape(UNMETERED)
     }
 

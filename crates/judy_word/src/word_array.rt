@@ -161,7 +161,7 @@ impl<V: Words + Drop> WordArray<V> {
         ensures within { result ≤ self.now.limit }
         ensures zeros { V.WORDS ≡ 0 → IsSet (array_of self.now) }
     {
-        self.tree.told();
+        self.tree.law();
         self.tree.len()
     }
 
@@ -218,7 +218,7 @@ impl<V: Words + Drop> WordArray<V> {
         ensures tight { result ≡ false → loose_in self.now.form ≡ 0 }
         ensures rule { result ≡ false → self.now.form ≡ form_of V.WORDS 8 (map.keys self.now.map) }
     {
-        self.tree.told();
+        self.tree.law();
         self.tree.is_loose()
     }
 

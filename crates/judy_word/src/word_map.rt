@@ -140,10 +140,10 @@ impl WordMap {
     }
 
     /// A law of every map: its limit, keys and values are words. It reads each key and value.
-    pub fn is_array(&self)
+    pub fn array_law(&self)
         ensures { array.IsArray (array.judyl self.now) }
     {
-        self.array.is_array();
+        self.array.array_law();
     }
 
     /// The least key from one on, with its value.

@@ -7,7 +7,7 @@ ghost use Rattle.judy_c.specs.HeldLends.{lends_if_held, lends_made};
 
 use super::Held;
 use crate::arrays::Array;
-use crate::loose::Loose;
+use crate::box_parts::BoxParts;
 use std::alloc::{AllocError, Global};
 
 impl<T: Array> Held<T> {
@@ -45,7 +45,7 @@ impl<T: Array> Held<T> {
     {
         if self.is_null() {
             let array = Box::new(alloc, T::empty(alloc))?;
-            self.fill(Loose::of(array));
+            self.fill(BoxParts::of(array));
         }
         Ok(self.lend())
     }

@@ -4,7 +4,7 @@ ghost use Rattle.std.specs.Borrow.{sem};
 ghost use Rattle.judy_c.specs.HeldLends.{lends_array};
 
 use super::Held;
-use crate::loose::Loose;
+use crate::box_parts::BoxParts;
 use std::alloc::Global;
 use std::ptr::null_mut;
 
@@ -27,21 +27,21 @@ impl<T> Held<T> {
     }
 
     // Puts an array where there is none.
-    pub(crate) fn fill(&mut self, array: Loose<T, Global>)
+    pub(crate) fn fill(&mut self, array: BoxParts<T, Global>)
         requires { self.old.array ≡ None }
         ensures { self.new.array ≡ Some array.value }
     {
-        let Loose { at, alloc: _ } = array;
+        let BoxParts { at, alloc: _ } = array;
         self.at = at;
     }
 
     // Takes the array out, and leaves none.
-    pub(crate) fn take(&mut self, alloc: Global) -> Loose<T, Global>
+    pub(crate) fn take(&mut self, alloc: Global) -> BoxParts<T, Global>
         requires { IsSome self.old.array }
         ensures { (Some result.value ≡ self.old.array) × (self.new.array ≡ None) }
     {
         let at = self.at;
         self.at = null_mut();
-        Loose { at, alloc }
+        BoxParts { at, alloc }
     }
 }

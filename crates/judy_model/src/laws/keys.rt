@@ -3,6 +3,7 @@
 ghost use Rattle.std.specs.Prelude.{◌≡◌, ◌↔◌, ℕ, ◌<◌, ◌≤◌, List, [], ◌∷◌, length, Some, IfSome};
 ghost use Rattle.judy_model.specs.Keys.{IsByteString, IsBytesKey, IsStringKey};
 ghost use Rattle.judy_model.specs.KeyLengths.{IsBytesKeyTo};
+ghost use Rattle.judy_model.specs.declared.keys.TheConstants.{LONGEST_KEY};
 ghost use Rattle.judy_model.specs.Tokens.{tokens_of};
 ghost use Rattle.judy_model.specs.KeyTokens.{key_of, bytes_key_of, string_key_of, printed_key};
 
@@ -12,7 +13,7 @@ pub fn a_byte_string_is_a_key_where_keys_may_be_as_long()
     ensures as_long { (key : List ℕ) → IsByteString key → IsBytesKeyTo (length key) key }
     ensures longer { (longest more : ℕ) (key : List ℕ) → longest ≤ more → IsBytesKeyTo longest key
         → IsBytesKeyTo more key }
-    ensures judyhs { (key : List ℕ) → IsBytesKey key ↔ IsBytesKeyTo 1024 key }
+    ensures judyhs { (key : List ℕ) → IsBytesKey key ↔ IsBytesKeyTo LONGEST_KEY key }
     ensures shorter { (longest : ℕ) (key : List ℕ) → longest < length key → IsBytesKeyTo longest key
         → ⊥ }
 {}

@@ -66,7 +66,8 @@ pub fn store_of_three(rt: &impl Abort, alloc: Global) -> Shelf {
     shelf
 }
 
-// With `smallest_dumps` this is also what row refused-dump-load-make gives while there is memory.
+// With `smallest_dumps` this is also what row refused-dump-load-make gives while there is memory. The wrong body load-always-no-memory, a `load` that answers
+// want of memory wherever a dump has an array, meets each contract; this test and `dump_faults` refuse it.
 #[test]
 fn dump_and_sorted(rt: HostRuntime) {
     let shelf = store_of_three(&rt, rt.alloc());

@@ -18,7 +18,7 @@ use std::alloc::AllocError;
 // Gives a key a value by a change of the tree, which answers what is answered, and refuses a key that is absent from a full array.
 macro_rules! put_by {
     ($array:ident, $answer:ident, $change:ident, $key:ident, $value:expr) => {{
-        $array.root.told();
+        $array.root.law();
         if $array.is_full($key) {
             return Err(InsertError::Full);
         }
@@ -133,7 +133,7 @@ impl<V: Words + Drop> TreeArray<V> {
         if !self.loose {
             return Ok(());
         }
-        self.root.told();
+        self.root.law();
         let pairs = self.root.gather(UNMETERED, self.alloc)?;
         self.root = NodeOf::from_sorted(self.alloc, &pairs)?;
         self.loose = false;
@@ -146,7 +146,7 @@ impl<V: Words + Drop> TreeArray<V> {
         ensures same { IfOk result (λ copy. array_in copy ≡ array_in self.now) }
         ensures tight { IfOk result (λ copy. copy.loose ≡ false) }
     {
-        self.root.told();
+        self.root.law();
         let pairs = self.root.gather(UNMETERED, self.alloc)?;
         let root = NodeOf::from_sorted(self.alloc, &pairs)?;
         Ok(TreeArray {

@@ -111,7 +111,7 @@ impl<V: Words + Drop> TreeArray<V> {
     fn count_up_to(&self, key: u64) -> u64
         ensures { result ≡ counts.count_up_to (map_in self.now) key }
     {
-        self.told();
+        self.law();
         if key == u64::MAX {
             self.len()
         } else {

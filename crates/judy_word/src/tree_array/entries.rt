@@ -69,7 +69,7 @@ impl<V: Words + Drop> TreeArray<V> {
             ≡ neighbours.first (map_in self.now) from }
         ensures value { IfSome result (λ entry. map.get (map_in self.now) entry.0 ≡ Some entry.1) }
     {
-        self.root.told();
+        self.root.law();
         entry_at_or_after(&self.root, from, &mut Meter::new(UNMETERED))
     }
 
@@ -81,7 +81,7 @@ impl<V: Words + Drop> TreeArray<V> {
             ≡ neighbours.next (map_in self.now) from }
         ensures value { IfSome result (λ entry. map.get (map_in self.now) entry.0 ≡ Some entry.1) }
     {
-        self.told();
+        self.law();
         if from == u64::MAX {
             None
         } else {
@@ -97,7 +97,7 @@ impl<V: Words + Drop> TreeArray<V> {
             ≡ neighbours.last (map_in self.now) from }
         ensures value { IfSome result (λ entry. map.get (map_in self.now) entry.0 ≡ Some entry.1) }
     {
-        self.root.told();
+        self.root.law();
         entry_at_or_before(&self.root, from, &mut Meter::new(UNMETERED))
     }
 
@@ -127,7 +127,7 @@ impl<V: Words + Drop> TreeArray<V> {
         ensures value { IfSome result.1
             (λ entry. map.get (map_in self.now) entry.0 ≡ Some entry.1) }
     {
-        self.root.told();
+        self.root.law();
         around(&self.root, key, &mut Meter::new(UNMETERED))
     }
 
@@ -138,7 +138,7 @@ impl<V: Words + Drop> TreeArray<V> {
         ensures key { option_map (λ entry. entry.0) result ≡ counts.by_count (map_in self.now) n }
         ensures value { IfSome result (λ entry. map.get (map_in self.now) entry.0 ≡ Some entry.1) }
     {
-        self.root.told();
+        self.root.law();
         if n == 0 {
             None
         } else {
@@ -150,7 +150,7 @@ impl<V: Words + Drop> TreeArray<V> {
     pub fn iter(&self) -> TreeEntries<'_, V>
         ensures { result ≡ map.entries (map_in self.now) }
     {
-        self.root.told();
+        self.root.law();
         TreeEntries {
             walk: Walk::from_key(&self.root, 0, &mut Meter::new(UNMETERED)),
         }
@@ -161,7 +161,7 @@ impl<V: Words + Drop> TreeArray<V> {
         ensures { result
             ≡ drop (counts.rank (map_in self.now) from) (map.entries (map_in self.now)) }
     {
-        self.root.told();
+        self.root.law();
         TreeEntries {
             walk: Walk::from_key(&self.root, from, &mut Meter::new(UNMETERED)),
         }

@@ -67,12 +67,12 @@ impl<V: Words + Drop> TreeArray<V> {
             (with_all (map_in self.old) (take result pairs.now)) }
         ensures loose { self.new.loose ≡ self.old.loose }
     {
-        self.root.told();
+        self.root.law();
         if pairs.len() as u64 > self.limit - self.root.pop() {
             return 0;
         }
         let count = append(self.alloc, &mut self.root, pairs);
-        self.root.told();
+        self.root.law();
         count
     }
 }

@@ -25,7 +25,7 @@ impl<V: Words + Drop> TreeArray<V> {
         ensures value { option_copied_mut result ≡ map.get (map_in self.old) key }
         ensures held { IsHeld V.WORDS self.old }
     {
-        self.root.told();
+        self.root.law();
         self.root.slot(key)
     }
 
@@ -39,7 +39,7 @@ impl<V: Words + Drop> TreeArray<V> {
         ensures value { Some result.now ≡ map.get (map_in self.old) key }
         ensures held { IsHeld V.WORDS self.old }
     {
-        self.root.told();
+        self.root.law();
         self.root.slot_of(key)
     }
 }

@@ -48,7 +48,7 @@ impl<V: Words + Drop> TreeArray<V> {
         ensures loosened { self.old.loose ≡ false → self.new.loose ≡ true
             → Has33 8 self.old.tree.pairs key }
     {
-        self.root.told();
+        self.root.law();
         let removed = remove(self.alloc, &mut self.root, key);
         self.loose |= !removed.shrunk;
         if removed.was {

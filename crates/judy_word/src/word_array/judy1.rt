@@ -50,7 +50,7 @@ impl Judy1 {
         ensures loosened { self.old.loose ≡ false → self.new.loose ≡ true
             → Has33 8 (map.entries self.old.map) i }
     {
-        self.tree.told();
+        self.tree.law();
         self.tree.remove(i)
     }
 
@@ -60,7 +60,7 @@ impl Judy1 {
         ensures answer { result ≡ map.contains_key self.now.map i }
         ensures zeros { IsSet (array_of self.now) }
     {
-        self.tree.told();
+        self.tree.law();
         self.tree.get(i).is_some()
     }
 
@@ -75,11 +75,11 @@ impl Judy1 {
 
     /// A law of every set that a program holds: its limit and keys are words, and it holds at most as many
     /// keys as its limit. It answers nothing and reads each key, for a caller whose proof is to know it.
-    pub fn is_array(&self)
+    pub fn array_law(&self)
         ensures { array.IsArray (array.judy1 (array_of self.now)) }
     {
-        self.tree.told();
-        self.tree.is_array();
+        self.tree.law();
+        self.tree.array_law();
     }
 
     /// Makes each node as small as its keys allow, so that the set isn't loose from there on; keys and limit stay. The error is want of

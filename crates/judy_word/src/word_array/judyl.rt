@@ -40,7 +40,7 @@ impl JudyL {
         ensures empty { self.old.map ≡ map.empty → IsOk result }
     {
         self.tree.set(i)?;
-        self.tree.told();
+        self.tree.law();
         Ok(self.tree.slot_of(i))
     }
 
@@ -61,7 +61,7 @@ impl JudyL {
         ensures loose { self.new.loose ≡ self.old.loose }
         ensures empty { self.old.map ≡ map.empty → IsOk result }
     {
-        self.tree.told();
+        self.tree.law();
         self.tree.insert(i, value)
     }
 
@@ -69,6 +69,8 @@ impl JudyL {
     /// the tree, where `ins` takes a second one for the slot. At a key that is there the value alone changes, and the nodes stay.
     ///
     /// `Full` and `NoMemory` as `ins`. Either leaves the array as it was.
+    // Compiled into its callers, as what it calls is: two of them would share one function else, which a small array pays a call for.
+    #[inline(always)]
     pub fn put(&mut self, i: u64, value: u64) -> Result<bool, InsertError>
         ensures answer { IfOk result (λ added. added ≡ not (map.contains_key self.old.map i)) }
         ensures put { OnOk result
@@ -82,7 +84,7 @@ impl JudyL {
         ensures loose { self.new.loose ≡ self.old.loose }
         ensures empty { self.old.map ≡ map.empty → IsOk result }
     {
-        self.tree.told();
+        self.tree.law();
         self.tree.put(i, value)
     }
 
@@ -154,7 +156,7 @@ impl JudyL {
         ensures loosened { self.old.loose ≡ false → self.new.loose ≡ true
             → Has33 8 (map.entries self.old.map) i }
     {
-        self.tree.told();
+        self.tree.law();
         self.tree.take(i)
     }
 
@@ -175,10 +177,10 @@ impl JudyL {
     /// A law of every array that a program holds, whatever was left in its slots: its limit, keys and values
     /// are words, and it holds at most as many keys as its limit. It answers nothing and reads each key and
     /// value, for a caller whose proof is to know it.
-    pub fn is_array(&self)
+    pub fn array_law(&self)
         ensures { array.IsArray (array.judyl (array_of self.now)) }
     {
-        self.tree.is_array();
+        self.tree.array_law();
     }
 
     /// The least key from `i` on with its value, in one way down the tree. `None` where no key is left. (Manual: JLF, JudyLFirst, which

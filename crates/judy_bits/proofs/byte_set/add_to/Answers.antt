@@ -26,5 +26,5 @@ pub returns-in-Full-clause-in_form : goal.returns-in-Full-clause-in_form
 returns-in-Full-clause-in_form c =
     let form : 128 ≤ length c.in-Full.bits = (subst IsInForm c.in-Full.is c.requires).0 in
     let added = ap length c.add-in-Full.ensures in
-    let least = length-with_byte-ge c.in-Full.bits c.args.byte c.told.ensures.ascending in
+    let least = length-with_byte-ge c.in-Full.bits c.args.byte c.law.ensures.ascending in
     (omega arith, c.of-in-Full.ensures)

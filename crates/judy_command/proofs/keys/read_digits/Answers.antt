@@ -3,8 +3,8 @@ use Rattle.judy_command.specs.KeyReads.{key_or_refusal}
 use Rattle.judy_command.proofs.KeyReadLemmas.{digits-too_long, digits-decoded, digits-refused}
 use Rattle.judy_command.proofs.keys.read_digits.Goals as goal
 
-pub returns-then-count-gt-MAX_KEY_LEN : goal.returns-then-count-gt-MAX_KEY_LEN
-returns-then-count-gt-MAX_KEY_LEN c = digits-too_long c.args.digits.now (search rules)
+pub returns-then-count-gt-LONGEST_KEY : goal.returns-then-count-gt-LONGEST_KEY
+returns-then-count-gt-LONGEST_KEY c = digits-too_long c.args.digits.now (search rules)
 
 pub returns-then-is_err : goal.returns-then-is_err
 returns-then-is_err c =

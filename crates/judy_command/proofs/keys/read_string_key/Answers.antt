@@ -16,21 +16,21 @@ returns-in_err-read_bytes_key-clause-said c =
     ap (λ r. read_into r c.read_bytes_key.new.key.items) (error_is c.from_residual.result refusal c.from_residual.ensures.1)
     ∙ sym (string_key-refused (key_of c.args.token.now) (refusal_of refusal) (sym c.read_bytes_key.ensures ∙ ap (λ r. read_into r c.read_bytes_key.new.key.items) c.in_err-read_bytes_key.was))
 
-pub returns-then-not-are_non_zero-clause-said : goal.returns-then-not-are_non_zero-clause-said
-returns-then-not-are_non_zero-clause-said c =
+pub returns-then-not-are_nonzero-clause-said : goal.returns-then-not-are_nonzero-clause-said
+returns-then-not-are_nonzero-clause-said c =
     let key = c.read_bytes_key.new.key.items in
-    let holds : list_all (λ byte. not (byte == 0)) key ≡ false = ap (list_all (λ byte. not (byte == 0))) (sym c.deref.ensures.0) ∙ sym c.are_non_zero.ensures ∙ c.if-not-are_non_zero.true in
+    let holds : list_all (λ byte. not (byte == 0)) key ≡ false = ap (list_all (λ byte. not (byte == 0))) (sym c.deref.ensures.0) ∙ sym c.are_nonzero.ensures ∙ c.if-not-are_nonzero.true in
     sym (string_key-from (key_of c.args.token.now) key false holds (sym c.read_bytes_key.ensures ∙ ap (λ r. read_into r key) c.in_ok-read_bytes_key.was))
 
 pub returns-clause-said : goal.returns-clause-said
 returns-clause-said c =
     let key = c.read_bytes_key.new.key.items in
-    let holds : list_all (λ byte. not (byte == 0)) key ≡ true = ap (list_all (λ byte. not (byte == 0))) (sym c.deref.ensures.0) ∙ sym c.are_non_zero.ensures ∙ c.if-not-are_non_zero.false in
+    let holds : list_all (λ byte. not (byte == 0)) key ≡ true = ap (list_all (λ byte. not (byte == 0))) (sym c.deref.ensures.0) ∙ sym c.are_nonzero.ensures ∙ c.if-not-are_nonzero.false in
     sym (string_key-from (key_of c.args.token.now) key true holds (sym c.read_bytes_key.ensures ∙ ap (λ r. read_into r key) c.in_ok-read_bytes_key.was))
 
 pub returns-clause-key : goal.returns-clause-key
 returns-clause-key c =
     let key = c.read_bytes_key.new.key.items in
-    let holds : list_all (λ byte. not (byte == 0)) key ≡ true = ap (list_all (λ byte. not (byte == 0))) (sym c.deref.ensures.0) ∙ sym c.are_non_zero.ensures ∙ c.if-not-are_non_zero.false in
+    let holds : list_all (λ byte. not (byte == 0)) key ≡ true = ap (list_all (λ byte. not (byte == 0))) (sym c.deref.ensures.0) ∙ sym c.are_nonzero.ensures ∙ c.if-not-are_nonzero.false in
     let said = string_key-from (key_of c.args.token.now) key true holds (sym c.read_bytes_key.ensures ∙ ap (λ r. read_into r key) c.in_ok-read_bytes_key.was) in
     IfOk-at_ok IsStringKey said (string_key_at-IsStringKey c.args.token.now)

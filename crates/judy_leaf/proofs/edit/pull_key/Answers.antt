@@ -1,6 +1,6 @@
 use Rattle.std.proofs.Common.{◌≡◌, ◌+◌, ◌/◌, ◌%◌, slice_index, ap, sym, subst, ◌∙◌, arith}
 use Rattle.std.proofs.lemmas.Nat.{mod_below}
-use Rattle.judy_leaf.specs.Packing.{places, pulled, IsTight}
+use Rattle.judy_leaf.specs.Packing.{places, pulled, HasZeroPadding}
 use Rattle.judy_leaf.specs.Edits.{IsEdit}
 use Rattle.judy_leaf.proofs.Placed.{per_pos}
 use Rattle.judy_leaf.proofs.EditSteps.{pull_one, pull_from, tight_at, tight_from, not_yet}
@@ -16,7 +16,7 @@ pull_words-first-requires-clause-tight g c =
 pub without_key-here-requires-clause-tight : goal.without_key-here-requires-clause-tight
 without_key-here-requires-clause-tight g c =
     let word = c.args.start + c.args.at / (8 / g.row.W) in
-    subst (IsTight g.row.W) (sym (c.get.ensures ∙ not_yet g.row.W c.requires.width (word + 1) word _ c.args.block.now c.pull_words-first.new.block c.pull_words-first.ensures.edit (omega arith)))
+    subst (HasZeroPadding g.row.W) (sym (c.get.ensures ∙ not_yet g.row.W c.requires.width (word + 1) word _ c.args.block.now c.pull_words-first.new.block c.pull_words-first.ensures.edit (omega arith)))
     (tight_at g.row.W c.requires.width c.args.block.now.words c.args.start word (omega arith) c.requires.inside c.requires.tight)
 
 pub returns : goal.returns

@@ -1,5 +1,5 @@
 use Rattle.std.proofs.Common.{◌≡◌, zero, ◌+◌, ◌-◌, drop, slice_index, ap, sym, subst, ◌∙◌, arith, refl}
-use Rattle.judy_leaf.specs.Packing.{places, pulled, IsTight}
+use Rattle.judy_leaf.specs.Packing.{places, pulled, HasZeroPadding}
 use Rattle.judy_leaf.specs.Edits.{IsEdit, IsFirstPlace}
 use Rattle.judy_leaf.proofs.Placed.{per_pos}
 use Rattle.judy_leaf.proofs.WordSteps.{base_pos}
@@ -18,7 +18,7 @@ loop-at-init g c =
 
 pub without_key-requires-clause-tight : goal.without_key-requires-clause-tight
 without_key-requires-clause-tight g c =
-    subst (IsTight g.row.W) (sym c.get-here.ensures) (tight_still g.row.W c.requires.width c.loop-at.at (c.loop-at.at - 1) c.args.word (pulled zero 0) c.args.block.now c.loop-at.block c.loop-at.invariant.0
+    subst (HasZeroPadding g.row.W) (sym c.get-here.ensures) (tight_still g.row.W c.requires.width c.loop-at.at (c.loop-at.at - 1) c.args.word (pulled zero 0) c.args.block.now c.loop-at.block c.loop-at.invariant.0
     (omega (arith, c.loop-at.invariant.3)) (omega (arith, c.loop-at.invariant.3)) (omega (arith, c.loop-at.invariant.3, c.loop-at.invariant.4)) c.requires.tight)
 
 pub loop-at-preserved : goal.loop-at-preserved

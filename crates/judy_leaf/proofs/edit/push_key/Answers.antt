@@ -1,6 +1,6 @@
 use Rattle.std.proofs.Common.{◌≡◌, ◌+◌, ◌/◌, ◌%◌, slice_index, ap, sym, subst, ◌∙◌, arith}
 use Rattle.std.proofs.lemmas.Nat.{mod_below}
-use Rattle.judy_leaf.specs.Packing.{places, pushed, IsTight}
+use Rattle.judy_leaf.specs.Packing.{places, pushed, HasZeroPadding}
 use Rattle.judy_leaf.specs.Edits.{IsEdit}
 use Rattle.judy_leaf.proofs.Placed.{per_pos}
 use Rattle.judy_leaf.proofs.EditSteps.{push_one, push_from, tight_at, tight_from, not_yet}
@@ -16,7 +16,7 @@ push_words-requires-clause-tight g c =
 pub with_key-here-requires-clause-tight : goal.with_key-here-requires-clause-tight
 with_key-here-requires-clause-tight g c =
     let word = c.args.start + c.args.at / (8 / g.row.W) in
-    subst (IsTight g.row.W) (sym (c.get.ensures ∙ not_yet g.row.W c.requires.width (word + 1) word _ c.args.block.now c.push_words.new.block c.push_words.ensures (omega arith)))
+    subst (HasZeroPadding g.row.W) (sym (c.get.ensures ∙ not_yet g.row.W c.requires.width (word + 1) word _ c.args.block.now c.push_words.new.block c.push_words.ensures (omega arith)))
     (tight_at g.row.W c.requires.width c.args.block.now.words c.args.start word (omega arith) c.requires.inside c.requires.tight)
 
 pub returns : goal.returns

@@ -1,5 +1,5 @@
 use Rattle.std.proofs.Common.{◌≡◌, ℕ, zero, ◌+◌, ◌-◌, ◌/◌, slice_index, ap, sym, subst, ◌∙◌, arith}
-use Rattle.judy_leaf.specs.Packing.{places, pushed, IsTight}
+use Rattle.judy_leaf.specs.Packing.{places, pushed, HasZeroPadding}
 use Rattle.judy_leaf.specs.Edits.{IsEdit}
 use Rattle.judy_leaf.proofs.Placed.{per_pos}
 use Rattle.judy_leaf.proofs.EditSteps.{push_one, tight_still, not_yet}
@@ -7,7 +7,7 @@ use Rattle.judy_leaf.proofs.edit.push_words.Goals as goal
 
 pub with_key-here-requires-clause-tight : goal.with_key-here-requires-clause-tight
 with_key-here-requires-clause-tight g c =
-    subst (IsTight g.row.W) (sym c.get-in-loop-at.ensures) (tight_still g.row.W c.requires.width c.loop-at.at (c.loop-at.at - 1) c.args.word _ c.args.block.now c.loop-at.block c.loop-at.invariant.0
+    subst (HasZeroPadding g.row.W) (sym c.get-in-loop-at.ensures) (tight_still g.row.W c.requires.width c.loop-at.at (c.loop-at.at - 1) c.args.word _ c.args.block.now c.loop-at.block c.loop-at.invariant.0
     (omega (arith, c.loop-at.invariant.1)) (omega (arith, c.loop-at.invariant.1)) (omega (arith, c.loop-at.invariant.1, c.loop-at.invariant.2)) c.requires.tight)
 
 pub loop-at-preserved : goal.loop-at-preserved

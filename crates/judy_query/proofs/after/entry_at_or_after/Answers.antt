@@ -15,7 +15,7 @@ use Rattle.judy_query.proofs.after.entry_at_or_after.Goals as goal
 
 pub down-init : goal.down-init
 down-init g c =
-    let down = down_root g.V.Words.WORDS c.args.tree.now (Branch c.in-Branch.top) c.args.key c.told.ensures c.in-Branch.ensures.view (omega (arith, c.ranges.key)) in
+    let down = down_root g.V.Words.WORDS c.args.tree.now (Branch c.in-Branch.top) c.args.key c.law.ensures c.in-Branch.ensures.view (omega (arith, c.ranges.key)) in
     let narrow = down.shown.narrow in
     (down, refl, tt, omega (arith, c.enter.ensures.visits), omega (arith, c.enter.ensures.visits))
 

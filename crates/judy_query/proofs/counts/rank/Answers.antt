@@ -8,7 +8,7 @@ use Rattle.judy_query.proofs.counts.rank.Goals as goal
 
 pub down-init : goal.down-init
 down-init g c =
-    let down = down_root g.V.Words.WORDS c.args.tree.now c.enter-view.result c.args.key c.told.ensures c.enter-view.ensures.view (omega (arith, c.ranges.key)) in
+    let down = down_root g.V.Words.WORDS c.args.tree.now c.enter-view.result c.args.key c.law.ensures c.enter-view.ensures.view (omega (arith, c.ranges.key)) in
     let narrow = down.shown.narrow in
     (down, refl, omega arith, omega arith)
 
@@ -45,7 +45,7 @@ returns-in_default-step g c =
     let ranked = part-rank words (256 ^ 8) pairs c.args.key 1 0 c.args.key [] _ _ part (omega arith) (omega arith) in
     let some = c.down.invariant.0.shown.some in
     record {
-      value = (let e : c.down.below + c.keys_before-below.result ≡ _ = omega arith in e) ∙ sym (rank_is words (256 ^ 8) pairs c.told.ensures.map c.args.key ∙ ranked);
+      value = (let e : c.down.below + c.keys_before-below.result ≡ _ = omega arith in e) ∙ sym (rank_is words (256 ^ 8) pairs c.law.ensures.map c.args.key ∙ ranked);
       no_fewer = omega (arith, c.down.invariant.3, c.enter-view.ensures.visits);
       visits = omega (arith, c.down.invariant.2, c.enter-view.ensures.visits);
     }
@@ -93,7 +93,7 @@ overflow_add-result g c =
     let below = c.down.invariant.1 in
     let last = c.rank_in.ensures in
     let ranked = part-rank words (256 ^ 8) pairs (c.args.key - c.down.left) (256 ^ width_of c.down.view) c.down.left c.args.key _ down.front down.back down.part (omega arith) (let inside = down.inside in omega arith) in
-    let few = rank-le words 0 (256 ^ 8) pairs c.args.key (omega arith) c.told.ensures.map in
+    let few = rank-le words 0 (256 ^ 8) pairs c.args.key (omega arith) c.law.ensures.map in
     omega (arith, c.ranges.key)
 
 pub returns : goal.returns
@@ -106,7 +106,7 @@ returns g c =
     let ranked = part-rank words (256 ^ 8) pairs (c.args.key - c.down.left) (256 ^ width_of c.down.view) c.down.left c.args.key _ down.front down.back down.part (omega arith) (let inside = down.inside in omega arith) in
     let some = down.shown.some in
     record {
-      value = (λ t. below t + c.rank_in.ensures t) ∙ sym (rank_is words (256 ^ 8) pairs c.told.ensures.map c.args.key ∙ ranked);
+      value = (λ t. below t + c.rank_in.ensures t) ∙ sym (rank_is words (256 ^ 8) pairs c.law.ensures.map c.args.key ∙ ranked);
       no_fewer = omega (arith, c.down.invariant.3, c.enter-view.ensures.visits);
       visits = omega (arith, c.down.invariant.2, c.enter-view.ensures.visits);
     }
@@ -116,7 +116,7 @@ returns-then-key-eq0 g c =
     let words = g.V.Words.WORDS in
     let pairs = c.args.tree.now.pairs in
     record {
-      value = sym (rank_is words (256 ^ 8) pairs c.told.ensures.map c.args.key ∙ rank-above words 0 (256 ^ 8) pairs c.args.key (omega (arith, c.if-key-eq0.true)) c.told.ensures.map);
+      value = sym (rank_is words (256 ^ 8) pairs c.law.ensures.map c.args.key ∙ rank-above words 0 (256 ^ 8) pairs c.args.key (omega (arith, c.if-key-eq0.true)) c.law.ensures.map);
       no_fewer = omega arith;
       visits = omega arith;
     }

@@ -10,7 +10,7 @@ returns-in-Nowhere-clause-word g c =
     let side = c.args.side in
     let low = low_of side c.args.key in
     let high = high_of side c.args.key (2 ^ 64) in
-    nearest-empty side words pairs c.args.key None c.told.ensures.map (omega (arith, c.ranges.key)) (absent_nowhere words pairs low high c.seek.result side c.in-Nowhere.is c.seek.ensures.room)
+    nearest-empty side words pairs c.args.key None c.law.ensures.map (omega (arith, c.ranges.key)) (absent_nowhere words pairs low high c.seek.result side c.in-Nowhere.is c.seek.ensures.room)
 
 pub returns-in-At-clause-word : goal.returns-in-At-clause-word
 returns-in-At-clause-word g c =
@@ -19,7 +19,7 @@ returns-in-At-clause-word g c =
     let side = c.args.side in
     let low = low_of side c.args.key in
     let high = high_of side c.args.key (2 ^ 64) in
-    nearest-empty side words pairs c.args.key (Some c.in-At.word) c.told.ensures.map (omega (arith, c.ranges.key)) (absent_at words pairs low high c.seek.result side c.in-At.word c.in-At.is c.seek.ensures.room)
+    nearest-empty side words pairs c.args.key (Some c.in-At.word) c.law.ensures.map (omega (arith, c.ranges.key)) (absent_at words pairs low high c.seek.result side c.in-At.word c.in-At.is c.seek.ensures.room)
 
 pub nearest_in-requires : goal.nearest_in-requires
 nearest_in-requires g c =
@@ -50,7 +50,7 @@ returns-in-In g c =
     let high = high_of side c.args.key (2 ^ 64) in
     let narrow = (in_room words pairs low high c.seek.result side c.in-In.child c.in-In.width c.in-In.start c.in-In.is c.seek.ensures.room).narrow in
     record {
-      word = nearest-empty side words pairs c.args.key (Some (c.in-In.start + c.nearest_in.result)) c.told.ensures.map (omega (arith, c.ranges.key))
+      word = nearest-empty side words pairs c.args.key (Some (c.in-In.start + c.nearest_in.result)) c.law.ensures.map (omega (arith, c.ranges.key))
           (absent_in words pairs low high c.seek.result side c.in-In.child c.in-In.width c.in-In.start c.nearest_in.result c.in-In.is c.seek.ensures.room c.nearest_in.ensures.word);
       no_fewer = omega (arith, c.seek.ensures.no_fewer, c.nearest_in.ensures.no_fewer);
       visits = omega (arith, c.seek.ensures.visits, c.nearest_in.ensures.visits);

@@ -14,7 +14,7 @@ down-init g c =
     let words = g.V.Words.WORDS in
     let all = c.args.tree.now.pairs in
     let key = c.args.key in
-    let down = down_root words c.args.tree.now (Branch c.in-Branch.top) key c.told.ensures c.in-Branch.ensures.view (omega (arith, c.ranges.key)) in
+    let down = down_root words c.args.tree.now (Branch c.in-Branch.top) key c.law.ensures c.in-Branch.ensures.view (omega (arith, c.ranges.key)) in
     let wide = view_width words 8 c.args.tree.now (Branch c.in-Branch.top) (λ none. refl) c.in-Branch.ensures.view in
     (down, (λ room is. subst (IsRoomPast c.args.side words all 0 (2 ^ 64) (key - key) (256 ^ width_of (Branch c.in-Branch.top))) (sym is) (past_all _ c.args.side words all (2 ^ 64) (key - key) (256 ^ width_of (Branch c.in-Branch.top)) (omega arith) (ap (λ w. 256 ^ w) wide))), tt, omega (arith, c.enter_root.ensures.visits), omega (arith, c.enter_root.ensures.visits))
 

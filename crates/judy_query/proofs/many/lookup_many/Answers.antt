@@ -9,4 +9,4 @@ returns-clause-values g c =
     c.look_into.ensures
     ∙ ap (map value_at) c.deref.ensures.0
     ∙ c.go_down.ensures.values
-    ∙ (λ j. map (λ key. sym (get_is g.V.Words.WORDS (256 ^ 8) pairs c.told.ensures.map key) j) c.args.keys.now)
+    ∙ (λ j. map (λ key. sym (get_is g.V.Words.WORDS (256 ^ 8) pairs c.law.ensures.map key) j) c.args.keys.now)

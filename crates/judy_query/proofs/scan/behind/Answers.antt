@@ -8,5 +8,5 @@ use Rattle.judy_query.proofs.scan.behind.Goals as goal
 pub returns : goal.returns
 returns g c =
     let keys = keys_of c.args.list.now.pairs in
-    rank_behind keys c.args.at c.key_at.result c.told.ensures.ascending
+    rank_behind keys c.args.at c.key_at.result c.law.ensures.ascending
     (slice_get-get_or keys c.args.at 0 (subst (λ n. c.args.at < n) (sym (length-keys_of c.args.list.now.pairs)) c.requires) ∙ ap Some (sym c.key_at.ensures.key))

@@ -19,7 +19,7 @@ use Rattle.judy_query.proofs.surroundings.around.Goals as goal
 
 pub down-init : goal.down-init
 down-init g c =
-    let down = down_root g.V.Words.WORDS c.args.tree.now (Branch c.in-Branch.top) c.args.key c.told.ensures c.in-Branch.ensures.view (omega (arith, c.ranges.key)) in
+    let down = down_root g.V.Words.WORDS c.args.tree.now (Branch c.in-Branch.top) c.args.key c.law.ensures c.in-Branch.ensures.view (omega (arith, c.ranges.key)) in
     let narrow = down.shown.narrow in
     (down, refl, tt, omega (arith, c.enter.ensures.visits), omega (arith, c.enter.ensures.visits))
 
@@ -29,7 +29,7 @@ returns-in_default g c =
     let pairs = c.args.tree.now.pairs in
     let same = c.enter.ensures.view.pairs in
     record {
-      value = c.around_other.ensures.value ∙ ap (λ ps. value_of ps c.args.key) (sym same) ∙ sym (get_is words (256 ^ 8) pairs c.told.ensures.map c.args.key);
+      value = c.around_other.ensures.value ∙ ap (λ ps. value_of ps c.args.key) (sym same) ∙ sym (get_is words (256 ^ 8) pairs c.law.ensures.map c.args.key);
       above = c.around_other.ensures.above ∙ ap (λ ps. pair_from ps (c.args.key + 1)) (sym same);
       no_fewer = omega (arith, c.enter.ensures.visits);
       visits = omega (arith, c.enter.ensures.visits);
@@ -64,7 +64,7 @@ returns-in_default-step g c =
     let place = beside_reached (length b.children.items) c.step-step.result beside in
     let some = way.0.shown.some in
     record {
-      value = sym (get_is words (256 ^ 8) pairs c.told.ensures.map c.args.key ∙ part-value words (256 ^ 8) pairs c.args.key 1 0 c.args.key [] _ _ part (omega arith) (omega arith));
+      value = sym (get_is words (256 ^ 8) pairs c.law.ensures.map c.args.key ∙ part-value words (256 ^ 8) pairs c.args.key 1 0 c.args.key [] _ _ part (omega arith) (omega arith));
       above = c.pair_behind.ensures.entry
           ∙ (λ t. option_or (slice_get (shift base (rest_of (256 ^ b.width) (number_of b.skip * 256) b.bytes b.children.items (place t))) 0) (sym way.1 t))
           ∙ sym (head-append (shift base (rest_of (256 ^ b.width) (number_of b.skip * 256) b.bytes b.children.items (passed (length b.children.items) c.step-step.result))) way.0.back)
@@ -146,7 +146,7 @@ returns-in_default-above g c =
     let some = next.down.shown.some in
     let visits = c.enter-in-down.ensures.visits in
     record {
-      value = c.around_in-value.ensures.value ∙ sym (get_is words (256 ^ 8) pairs c.told.ensures.map c.args.key ∙ down_value words pairs view c.args.key c.in-Child.rest next.down);
+      value = c.around_in-value.ensures.value ∙ sym (get_is words (256 ^ 8) pairs c.law.ensures.map c.args.key ∙ down_value words pairs view c.args.key c.in-Child.rest next.down);
       above = c.pair_behind-in_default-above.ensures.entry ∙ (λ t. option_or (slice_get behind 0) (sym way.1 t)) ∙ sym (head-append behind way.0.back) ∙ sym (ap (λ ps. slice_get ps 0) next.back_is)
           ∙ down_above words pairs view c.args.key c.in-Child.rest next.down None (sym c.in_default-above.is ∙ c.around_in-value.ensures.above);
       no_fewer = omega (arith, way.4, c.pair_behind-in_default-above.ensures.no_fewer, visits);
@@ -170,7 +170,7 @@ returns-in_default-enter g c =
     let next = down_child c.down.invariant.0 c.in-Child.field-0 c.in-Child.place c.in-Child.rest c.in-Child.ensures c.index.ensures c.enter-in-down.ensures.view in
     let some = next.down.shown.some in
     record {
-      value = c.around_in-value.ensures.value ∙ sym (get_is words (256 ^ 8) pairs c.told.ensures.map c.args.key ∙ down_value words pairs view c.args.key c.in-Child.rest next.down);
+      value = c.around_in-value.ensures.value ∙ sym (get_is words (256 ^ 8) pairs c.law.ensures.map c.args.key ∙ down_value words pairs view c.args.key c.in-Child.rest next.down);
       above = down_above words pairs view c.args.key c.in-Child.rest next.down (Some c.in-Some.found) (sym c.in-Some.is ∙ c.around_in-value.ensures.above);
       no_fewer = omega (arith, c.down.invariant.4, c.enter-in-down.ensures.visits);
       visits = omega (arith, c.down.invariant.3, c.enter-in-down.ensures.visits, next.width_is);

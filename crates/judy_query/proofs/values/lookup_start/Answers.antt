@@ -8,7 +8,7 @@ pub returns-in-Leaf-clause-start : goal.returns-in-Leaf-clause-start
 returns-in-Leaf-clause-start g c =
     c.value_in_words.ensures
     ∙ sym (ap (λ pairs. value_of pairs c.args.key) c.in-Leaf.ensures.view.pairs)
-    ∙ sym (get_is g.V.Words.WORDS (256 ^ 8) c.args.tree.now.pairs c.told.ensures.map c.args.key)
+    ∙ sym (get_is g.V.Words.WORDS (256 ^ 8) c.args.tree.now.pairs c.law.ensures.map c.args.key)
 
 pub returns-in-Branch-clause-start : goal.returns-in-Branch-clause-start
 returns-in-Branch-clause-start g c =

@@ -16,7 +16,7 @@ use Rattle.judy_query.proofs.walk.seek.Goals as goal
 
 pub down-init : goal.down-init
 down-init g c =
-    let down = down_root g.V.Words.WORDS c.args.tree.now c.enter-view.result c.args.key c.told.ensures c.enter-view.ensures.view (omega (arith, c.ranges.key)) in
+    let down = down_root g.V.Words.WORDS c.args.tree.now c.enter-view.result c.args.key c.law.ensures c.enter-view.ensures.view (omega (arith, c.ranges.key)) in
     let narrow = down.shown.narrow in
     let none = ap length c.requires.none in
     (down, sym (ap waiting c.requires.none), subst (AreTurns g.V.Words.WORDS 0) (sym c.requires.none) tt, omega arith, omega arith, omega arith)

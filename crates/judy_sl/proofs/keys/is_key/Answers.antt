@@ -2,6 +2,7 @@ use Rattle.std.proofs.Common.{◌≡◌, ◌≢◌, ℕ, true, false, ◌==◌, 
 use Rattle.std.proofs.lemmas.List.Sums.{AllPass-from_list_all, list_all-from_AllPass}
 use Rattle.judy_sl.proofs.PieceLemmas.{text_from_bytes, key_of_text}
 use Rattle.judy_sl.proofs.keys.is_key.Goals as goal
+use Rattle.judy_model.specs.declared.keys.TheConstants.{LONGEST_KEY}
 
 -- A byte that passes the test isn't zero,
 some_byte : (byte : ℕ) → not (byte == 0) ≡ true → byte ≢ 0
@@ -14,10 +15,10 @@ some_byte byte passes none =
 passes : (byte : ℕ) → byte ≢ 0 → not (byte == 0) ≡ true
 passes byte some = ap not (ne_eqb byte 0 some)
 
-pub returns-then-bytes-le1024 : goal.returns-then-bytes-le1024
-returns-then-bytes-le1024 c = (
+pub returns-then-bytes-le-LONGEST_KEY : goal.returns-then-bytes-le-LONGEST_KEY
+returns-then-bytes-le-LONGEST_KEY c = (
   λ is.
       let nonzero = AllPass-from_list_all (λ byte. not (byte == 0)) c.args.bytes.now (sym c.are_nonzero.ensures ∙ is) in
-      key_of_text c.args.bytes.now (text_from_bytes c.args.bytes.now c.type_inv.bytes (λ k d within. some_byte _ (nonzero k d within))) c.if-bytes-le1024.true,
+      key_of_text c.args.bytes.now (text_from_bytes c.args.bytes.now c.type_inv.bytes (λ k d within. some_byte _ (nonzero k d within))) c.if-bytes-le-LONGEST_KEY.true,
   λ key. c.are_nonzero.ensures ∙ list_all-from_AllPass (λ byte. not (byte == 0)) c.args.bytes.now (λ k d within. passes _ (key.without_zero k d within)),
 )

@@ -4,6 +4,7 @@ use Rattle.std.proofs.lemmas.List.Elements.{filter_more, filter-append}
 use Rattle.judy_sl.proofs.PieceBytes.{piece_bytes-be}
 use Rattle.judy_sl.proofs.pieces.push_each.Goals as goal
 use Rattle.judy_sl.proofs.pieces.push_each.Goals.{then-byte-ne0, else-byte-ne0}
+use Rattle.judy_model.specs.declared.keys.TheConstants.{LONGEST_KEY}
 
 -- One more byte of a list that passes a test, and one that doesn't.
 kept : (test : ℕ → Bool) (bytes before now : List ℕ) (i : ℕ) → i < length bytes → test (get_or bytes i 0) ≡ true → now ≡ before ++ filter test (take i bytes) → now ++ get_or bytes i 0 ∷ [] ≡ before ++ filter test (take (i + 1) bytes)
@@ -16,7 +17,7 @@ passed test bytes before now i within fails e =
     e ∙ ap (λ more. before ++ more) (sym (append-nil (filter test (take i bytes))) ∙ ap (λ b. filter test (take i bytes) ++ cond b (get_or bytes i 0 ∷ []) []) (sym fails) ∙ sym (filter_more test bytes i 0 within))
 
 -- A byte that passes leaves room for itself.
-room : (test : ℕ → Bool) (bytes before now : List ℕ) (i : ℕ) → i < length bytes → test (get_or bytes i 0) ≡ true → now ≡ before ++ filter test (take i bytes) → length before + length (filter test bytes) ≤ 1024 → length now < 1024
+room : (test : ℕ → Bool) (bytes before now : List ℕ) (i : ℕ) → i < length bytes → test (get_or bytes i 0) ≡ true → now ≡ before ++ filter test (take i bytes) → length before + length (filter test bytes) ≤ LONGEST_KEY → length now < LONGEST_KEY
 room test bytes before now i within passes e fits =
     let one = ap length (kept test bytes before now i within passes e) ∙ length-append before (filter test (take (i + 1) bytes)) in
     let more = length-append now (get_or bytes i 0 ∷ []) in
@@ -39,7 +40,7 @@ push-requires c =
     let long : length bytes ≡ 8 = ap length c.to_be_bytes-byte-items.ensures in
     let within : c.loop-byte.byte-index < length bytes = omega arith in
     let all = ap length c.loop-byte.invariant.bytes in
-    let fits : length c.args.key.now.items + length (filter (λ byte. nat_lt 0 byte) bytes) ≤ 1024 = omega (arith, c.requires) in
+    let fits : length c.args.key.now.items + length (filter (λ byte. nat_lt 0 byte) bytes) ≤ LONGEST_KEY = omega (arith, c.requires) in
     (omega arith, room (λ byte. nat_lt 0 byte) bytes c.args.key.now.items c.loop-byte.key.items c.loop-byte.byte-index within (passes (get_or bytes c.loop-byte.byte-index 0) c.if-byte-ne0.true) c.loop-byte.invariant.so_far fits)
 
 pub loop-byte-preserved : goal.loop-byte-preserved

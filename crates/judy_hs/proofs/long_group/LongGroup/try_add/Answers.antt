@@ -15,7 +15,7 @@ invariant_of-self-in-Ok c =
     let added = sym c.in-Ok-true.field-0-test ∙ c.in-Ok-true.ensures.answer in
     let put = c.in-Ok-true.ensures.put ∙ ap (with_map c.self.inside.hashes) (put-new c.self.inside.hashes.map c.args.hash c.next_place-place.result added) in
     tried-kept c.self.inside.hashes c.put_if_absent.new.self c.self.inside.key_length c.self.inside.chains c.self.inside.records c.reserve.new.self c.self.invariant c.reserve.new.self.capacity c.reserve.ensures.same
-    c.told.ensures.none_lost c.args.hash c.args.key.now good (put-absent c.self.inside.hashes.map c.args.hash added) c.next_place-place.result c.next_place-place.ensures put c.put.new.self c.put.ensures.put
+    c.law.ensures.none_lost c.args.hash c.args.key.now good (put-absent c.self.inside.hashes.map c.args.hash added) c.next_place-place.result c.next_place-place.ensures put c.put.new.self c.put.ensures.put
 
 pub returns-in-Ok-clause-added : goal.returns-in-Ok-clause-added
 returns-in-Ok-clause-added c =
@@ -24,7 +24,7 @@ returns-in-Ok-clause-added c =
     let put = c.in-Ok-true.ensures.put ∙ ap (with_map c.self.inside.hashes) (put-new c.self.inside.hashes.map c.args.hash c.next_place-place.result added) in
     rw (← c.self.view_is) (
     tried-added c.self.inside.hashes c.put_if_absent.new.self c.self.inside.key_length c.self.inside.chains c.self.inside.records c.reserve.new.self c.self.invariant c.reserve.new.self.capacity c.reserve.ensures.same
-    c.told.ensures.none_lost c.args.hash c.args.key.now good (put-absent c.self.inside.hashes.map c.args.hash added) c.next_place-place.result c.next_place-place.ensures put c.put.new.self c.put.ensures.put
+    c.law.ensures.none_lost c.args.hash c.args.key.now good (put-absent c.self.inside.hashes.map c.args.hash added) c.next_place-place.result c.next_place-place.ensures put c.put.new.self c.put.ensures.put
     )
 
 pub invariant_of-self-in-Err : goal.invariant_of-self-in-Err

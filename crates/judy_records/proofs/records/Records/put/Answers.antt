@@ -5,7 +5,8 @@ use Rattle.judy_records.specs.Spots.{held, HasRoom, next_place, put_in}
 use Rattle.judy_records.specs.Texts.{words_of}
 use Rattle.judy_records.specs.Inside.{spots_in, freed, items_of, AreChained}
 use Rattle.judy_records.proofs.FreeLemmas.{next_of}
-use Rattle.judy_records.proofs.RecordLemmas.{all, words, words-long, next-free, next-end, room-left, room-there, room-more, room-fewer, last-left, pushed-all, pushed-are, pushed-capacity, pushed-list, none-chained, free-within, free-next, page-there, long-read, first-read, record-long, record-items, left-after, after, written-are, written-chained, written-list}
+use Rattle.judy_records.proofs.RecordLemmas.{all, next-free, next-end, page-there, long-read, first-read, record-long, record-items, left-after, after}
+use Rattle.judy_records.proofs.RecordGrowth.{words, words-long, room-left, room-there, room-more, room-fewer, last-left, pushed-all, pushed-are, pushed-capacity, pushed-list, none-chained, free-within, free-next, written-are, written-chained, written-list}
 use Rattle.judy_records.proofs.records.Records.put.Goals as goal
 
 -- ---- at the end

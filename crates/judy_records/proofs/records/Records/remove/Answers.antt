@@ -1,6 +1,7 @@
 use Rattle.std.proofs.Common.{ap, refl, sym, ◌∙◌, arith, []}
 use Rattle.judy_records.specs.Spots.{removed, taken_out}
-use Rattle.judy_records.proofs.RecordLemmas.{removed-last, removed-other, spare-fits, seen-held, empty-are, empty-capacity}
+use Rattle.judy_records.proofs.RecordLemmas.{removed-last, removed-other, spare-fits, seen-held}
+use Rattle.judy_records.proofs.RecordGrowth.{empty-are, empty-capacity}
 use Rattle.judy_records.proofs.records.Records.remove.Goals as goal
 
 pub returns-then-self : goal.returns-then-self

@@ -6,7 +6,7 @@ use Rattle.std.proofs.lemmas.List.{length-map, set-get_or}
 use Rattle.judy_records.specs.Pages.{page_words, IsReached}
 use Rattle.judy_records.specs.Spots.{HasRoom, with_capacity}
 use Rattle.judy_records.specs.Inside.{spots_in, freed, list_of}
-use Rattle.judy_records.proofs.RecordLemmas.{has-room, room-left, room-there, same-list, extended, extends, last-part, last-left, widened-are, widened-left, widened-list}
+use Rattle.judy_records.proofs.RecordGrowth.{has-room, room-left, room-there, same-list, extended, extends, last-part, last-left, widened-are, widened-left, widened-list}
 use Rattle.judy_records.proofs.records.Records.reserve.Goals as goal
 
 -- What follows from what holds on success holds on success.

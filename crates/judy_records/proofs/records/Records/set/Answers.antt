@@ -2,7 +2,8 @@ use Rattle.std.proofs.Common.{ap, sym, ◌∙◌, arith, subst}
 use Rattle.judy_records.specs.Texts.{words_of}
 use Rattle.judy_records.specs.Spots.{held, with_spot}
 use Rattle.judy_records.specs.Inside.{spots_in, AreChained}
-use Rattle.judy_records.proofs.RecordLemmas.{held-within, set-list, set-chained, seen-held, seen-there, seen-long, words, words-long, record-long, record-items, after-are, after-list}
+use Rattle.judy_records.proofs.RecordLemmas.{held-within, seen-held, seen-there, seen-long, record-long, record-items, after-are, after-list}
+use Rattle.judy_records.proofs.RecordGrowth.{set-list, set-chained, words, words-long}
 use Rattle.judy_records.proofs.records.Records.set.Goals as goal
 
 pub index_mut-page-requires : goal.index_mut-page-requires

@@ -10,7 +10,7 @@ use Rattle.judy_sl.specs.Shrunk.{IsCutWhere, IsShrunk}
 use Rattle.judy_sl.specs.Counted.{AreOnce, CanStepAt, AreStepped, AreCountedBut}
 use Rattle.judy_sl.proofs.PieceLemmas.{text_of_key, pieces_are}
 use Rattle.judy_sl.proofs.PassedLevels.{list-fits}
-use Rattle.judy_sl.proofs.Shrinks.{cut-found, shrunk-last, shrunk-on, on-arena, on-is_loose}
+use Rattle.judy_sl.proofs.Shrinks.{cut-found, shrunk-last, shrunk-on, on-arena, on-is_orphan}
 use Rattle.judy_sl.proofs.Stepping.{go-once, can-go, go-counted}
 use Rattle.judy_sl.proofs.CountedKeys.{shrunk-counted}
 use Rattle.judy_sl.proofs.CountedLost.{counted-lost, left-same}
@@ -79,7 +79,7 @@ clear-requires-clause-is_arena g c =
 pub clear-requires-clause-loose : goal.clear-requires-clause-loose
 clear-requires-clause-loose g c =
     let to = (goal.at.clear-requires-clause-loose g c).After-count_places in
-    rw take_rest (on-is_loose c.count_places.new.self c.count_places.ensures.is_arena (led g to) c.args.key.now c.in-Some.cut (cut g to) c.take_out.new.self c.take_out.ensures c.in-Some-below.at c.in-Some-below.is)
+    rw take_rest (on-is_orphan c.count_places.new.self c.count_places.ensures.is_arena (led g to) c.args.key.now c.in-Some.cut (cut g to) c.take_out.new.self c.take_out.ensures c.in-Some-below.at c.in-Some-below.is)
 
 pub returns-in-Some-below-clause-answer : goal.returns-in-Some-below-clause-answer
 returns-in-Some-below-clause-answer g c = sym (cut-found c.args.self.now c.requires.is_arena c.requires.led c.args.key.now c.in-Some.cut c.in-Some.ensures.cut)

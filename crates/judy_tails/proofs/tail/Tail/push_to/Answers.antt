@@ -1,7 +1,8 @@
 use Rattle.std.proofs.Common.{◌++◌, ◌%◌, ◌≢◌, subst, [], ◌∷◌, get_or, take, length, ap, sym, ◌∙◌, arith}
 use Rattle.std.proofs.lemmas.List.{length-append, append_assoc, append-nil, take_all}
 use Rattle.judy_records.specs.Texts.{text_in}
-use Rattle.judy_tails.proofs.TailLemmas.{text-none, text-more, text-within, whole-full}
+use Rattle.judy_tails.proofs.TailLemmas.{text-none, text-more, text-within, whole-full, whole-begins}
+use Rattle.judy_tails.specs.Inside.{BeginsText}
 use Rattle.judy_tails.proofs.tail.Tail.push_to.Goals as goal
 
 pub loop-word-init : goal.loop-word-init
@@ -14,6 +15,12 @@ push_bytes-requires-clause-full c = λ some.
     let same = c.text-word-items.ensures in
     ap (λ words. length (text_in (get_or words at 0 ∷ []))) same
     ∙ whole-full c.self.inside.stored c.self.invariant at (omega (arith, c.loop-word-test.true, ap length same)) (subst (λ words. get_or words at 0 % 256 ≢ 0) same some)
+
+pub push_bytes-requires-clause-begins : goal.push_bytes-requires-clause-begins
+push_bytes-requires-clause-begins c =
+    let at = c.loop-word.word-index in
+    let same = c.text-word-items.ensures in
+    subst (λ words. BeginsText (get_or words at 0)) (sym same) (whole-begins c.self.inside.stored c.self.invariant at (omega (arith, c.loop-word-test.true, ap length same)))
 
 pub push_bytes-requires-clause-room : goal.push_bytes-requires-clause-room
 push_bytes-requires-clause-room c =

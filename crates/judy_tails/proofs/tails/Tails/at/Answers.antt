@@ -1,7 +1,7 @@
 use Rattle.std.proofs.Common.{Some, ap, sym, ◌∙◌, subst, arith}
 use Rattle.judy_records.specs.Spots.{value_of, text_of}
 use Rattle.judy_records.specs.Texts.{text_in}
-use Rattle.judy_tails.specs.Inside.{IsWhole}
+use Rattle.judy_tails.specs.Inside.{IsPadded}
 use Rattle.judy_tails.proofs.ListLemmas.{seen-inside, list-held, list-whole, list-tail}
 use Rattle.judy_tails.proofs.tails.Tails.at.Goals as goal
 
@@ -12,7 +12,7 @@ pub at-requires : goal.at-requires
 at-requires c = list-held c.self.inside.lists.items c.self.view_is c.args.place c.requires c.index.result.now c.index.ensures
 
 pub new-requires : goal.new-requires
-new-requires c = subst IsWhole (sym c.at.ensures) (list-whole c.self.inside.lists.items c.self.view_is c.args.place c.requires c.index.result.now c.index.ensures c.self.invariant)
+new-requires c = subst IsPadded (sym c.at.ensures) (list-whole c.self.inside.lists.items c.self.view_is c.args.place c.requires c.index.result.now c.index.ensures c.self.invariant)
 
 pub returns : goal.returns
 returns c =

@@ -152,7 +152,7 @@ returns-in_err-reserve-clause-unasked c = λ some.
     let list = c.index_mut-list.result.now in
     let same = subst (AreSame c.args.self.now) (sym c.self.view_is) c.reach.ensures.same in
     let free = free-there c.args.self.now lists number (length c.args.text.now) list same c.requires.number one.0 c.index_mut-list.ensures.value some in
-    absurd (false≢true (sym (ap is_ok c.in_err-reserve.was) ∙ (c.reserve.ensures.unasked (free-room list free c.told.ensures.within)).1))
+    absurd (false≢true (sym (ap is_ok c.in_err-reserve.was) ∙ (c.reserve.ensures.unasked (free-room list free c.law.ensures.within)).1))
 
 pub returns-then-place-ge-MOST-clause-unasked : goal.returns-then-place-ge-MOST-clause-unasked
 returns-then-place-ge-MOST-clause-unasked c = λ some.
@@ -163,7 +163,7 @@ returns-then-place-ge-MOST-clause-unasked c = λ some.
     let made = room-is lists number list c.reserve.new.self one.0 c.index_mut-list.ensures.value c.reserve.ensures.same in
     let same = subst (AreSame c.args.self.now) (sym c.self.view_is) c.reach.ensures.same in
     let free = free-there c.args.self.now lists number (length c.args.text.now) list same c.requires.number one.0 c.index_mut-list.ensures.value some in
-    let inside = free-next list free c.told.ensures.none_lost in
+    let inside = free-next list free c.law.ensures.none_lost in
     let next = c.next_place-place.ensures ∙ ap (λ (list : RecordList). next_place list) c.reserve.ensures.same in
     let long = (c.self.invariant.each number).long in
     let read = ap (λ (list : RecordList). length list.spots) (get_or_read lists number list one.0 c.index_mut-list.ensures.value (empty_list 0)) in

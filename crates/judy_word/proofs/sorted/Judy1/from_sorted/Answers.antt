@@ -28,6 +28,6 @@ from_sorted-requires c =
 pub returns-clause-keys : goal.returns-clause-keys
 returns-clause-keys c =
     ap (λ (a : WordArray). finmap.keys a.map) c.of.ensures
-    ∙ sym (keys_in_order 0 (256 ^ 8) c.in-Ok-from_sorted.tree.tree.pairs c.told.ensures.node.map)
+    ∙ sym (keys_in_order 0 (256 ^ 8) c.in-Ok-from_sorted.tree.tree.pairs c.law.ensures.node.map)
     ∙ ap keys_of (c.in-Ok-from_sorted.ensures.pairs ∙ c.deref.ensures.value ∙ c.in-Ok.ensures)
     ∙ keys_kept c.args.keys.now

@@ -5,4 +5,4 @@ use Rattle.judy_word.proofs.IterFacts.{entries_are}
 use Rattle.judy_word.proofs.sorted.JudyL.from_sorted.Goals as goal
 
 pub returns-clause-pairs : goal.returns-clause-pairs
-returns-clause-pairs c = ap (λ (a : WordArray). finmap.entries a.map) c.of.ensures ∙ entries_are 1 (256 ^ 8) c.in-Ok.tree.tree.pairs c.told.ensures.node.map ∙ c.in-Ok.ensures.pairs
+returns-clause-pairs c = ap (λ (a : WordArray). finmap.entries a.map) c.of.ensures ∙ entries_are 1 (256 ^ 8) c.in-Ok.tree.tree.pairs c.law.ensures.node.map ∙ c.in-Ok.ensures.pairs

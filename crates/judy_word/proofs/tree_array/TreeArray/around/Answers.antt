@@ -11,7 +11,7 @@ returns-clause-found g c = rw (← c.self.view_is) c.around.ensures.value
 
 pub returns-clause-key : goal.returns-clause-key
 returns-clause-key g c =
-    rw (← c.self.view_is) (ap (option_map (λ entry. entry.0)) c.around.ensures.above ∙ sym (first_is g.V.Words.WORDS (256 ^ 8) _ c.told.ensures.map (c.args.key + 1)) ∙ sym (next-first _ _))
+    rw (← c.self.view_is) (ap (option_map (λ entry. entry.0)) c.around.ensures.above ∙ sym (first_is g.V.Words.WORDS (256 ^ 8) _ c.law.ensures.map (c.args.key + 1)) ∙ sym (next-first _ _))
 
 pub returns-clause-value : goal.returns-clause-value
-returns-clause-value g c = rw (← c.self.view_is) (value-found g.V.Words.WORDS _ c.told.ensures.map _ (λ pair. is_ge (word_order pair.0 (c.args.key + 1))) c.around.ensures.above)
+returns-clause-value g c = rw (← c.self.view_is) (value-found g.V.Words.WORDS _ c.law.ensures.map _ (λ pair. is_ge (word_order pair.0 (c.args.key + 1))) c.around.ensures.above)

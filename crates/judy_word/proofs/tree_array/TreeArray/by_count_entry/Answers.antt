@@ -17,9 +17,9 @@ returns-else-n-eq0-clause-key g c =
     let n : suc (c.args.n - 1) ≡ c.args.n = omega (arith, c.if-n-eq0.false) in
     rw (← c.self.view_is) (
     ap (option_map (λ entry. entry.0)) c.entry_nth.ensures.entry
-    ∙ sym (nth_is g.V.Words.WORDS (256 ^ 8) _ c.told.ensures.map (c.args.n - 1) ∙ key_at _ (c.args.n - 1))
+    ∙ sym (nth_is g.V.Words.WORDS (256 ^ 8) _ c.law.ensures.map (c.args.n - 1) ∙ key_at _ (c.args.n - 1))
     ∙ sym (by_count-nth nat_cmp_total _ (c.args.n - 1))
     ∙ ap (by_count _) n)
 
 pub returns-else-n-eq0-clause-value : goal.returns-else-n-eq0-clause-value
-returns-else-n-eq0-clause-value g c = rw (← c.self.view_is) (value-found_at g.V.Words.WORDS _ c.told.ensures.map _ (c.args.n - 1) c.entry_nth.ensures.entry)
+returns-else-n-eq0-clause-value g c = rw (← c.self.view_is) (value-found_at g.V.Words.WORDS _ c.law.ensures.map _ (c.args.n - 1) c.entry_nth.ensures.entry)

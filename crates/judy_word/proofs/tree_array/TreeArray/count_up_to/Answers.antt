@@ -6,7 +6,7 @@ use Rattle.judy_word.proofs.tree_array.TreeArray.count_up_to.Goals as goal
 
 pub returns-then-key-eq18446744073709551615 : goal.returns-then-key-eq18446744073709551615
 returns-then-key-eq18446744073709551615 g c =
-    let map = c.told.ensures.node.map in
+    let map = c.law.ensures.node.map in
     rw c.if-key-eq18446744073709551615.true (c.len.ensures.count ∙ len_is g.V.Words.WORDS (256 ^ 8) _ map ∙ sym (count_up_to_most g.V.Words.WORDS _ map))
 
 pub returns-else-key-eq18446744073709551615 : goal.returns-else-key-eq18446744073709551615

@@ -6,7 +6,7 @@ use Rattle.judy_word.proofs.EntryFacts.{value-found}
 use Rattle.judy_word.proofs.tree_array.TreeArray.first_entry.Goals as goal
 
 pub returns-clause-key : goal.returns-clause-key
-returns-clause-key g c = rw (← c.self.view_is) (ap (option_map (λ entry. entry.0)) c.entry_at_or_after.ensures.entry ∙ sym (first_is g.V.Words.WORDS (256 ^ 8) _ c.told.ensures.map c.args.from))
+returns-clause-key g c = rw (← c.self.view_is) (ap (option_map (λ entry. entry.0)) c.entry_at_or_after.ensures.entry ∙ sym (first_is g.V.Words.WORDS (256 ^ 8) _ c.law.ensures.map c.args.from))
 
 pub returns-clause-value : goal.returns-clause-value
-returns-clause-value g c = rw (← c.self.view_is) (value-found g.V.Words.WORDS _ c.told.ensures.map _ (λ pair. is_ge (word_order pair.0 c.args.from)) c.entry_at_or_after.ensures.entry)
+returns-clause-value g c = rw (← c.self.view_is) (value-found g.V.Words.WORDS _ c.law.ensures.map _ (λ pair. is_ge (word_order pair.0 c.args.from)) c.entry_at_or_after.ensures.entry)

@@ -10,12 +10,12 @@ returns-then-is_full-clause-first g c =
     rw (← c.self.view_is) (λ none.
     let full = sym c.is_full.ensures ∙ c.if-is_full.true in
     let taken = rw (← c.self.view_is) at full in
-    sym (empty-free g.V.Words.WORDS _ c.args.key _ _ c.told.ensures c.self.invariant (no_pairs g.V.Words.WORDS _ c.args.key _ _ c.told.ensures c.self.invariant none)) ∙ taken)
+    sym (empty-free g.V.Words.WORDS _ c.args.key _ _ c.law.ensures c.self.invariant (no_pairs g.V.Words.WORDS _ c.args.key _ _ c.law.ensures c.self.invariant none)) ∙ taken)
 
 pub returns-in_default-clause-first : goal.returns-in_default-clause-first
 returns-in_default-clause-first g c =
     rw (← c.self.view_is) (λ none.
-    let told = c.in_default.ensures.first (no_pairs g.V.Words.WORDS _ c.args.key _ _ c.told.ensures c.self.invariant none) in
+    let told = c.in_default.ensures.first (no_pairs g.V.Words.WORDS _ c.args.key _ _ c.law.ensures c.self.invariant none) in
     cc)
 
 pub exchange-requires : goal.exchange-requires
@@ -26,7 +26,7 @@ exchange-requires g c = (
     λ absent.
         let vacant = sym c.is_full.ensures ∙ c.if-is_full.false in
         let free = rw (← c.self.view_is) at vacant in
-        let room = room-left g.V.Words.WORDS _ c.args.key _ _ c.told.ensures c.self.invariant free absent in
+        let room = room-left g.V.Words.WORDS _ c.args.key _ _ c.law.ensures c.self.invariant free absent in
         omega arith,
   ),
 )
@@ -34,23 +34,23 @@ exchange-requires g c = (
 pub returns-in_default-clause-refused : goal.returns-in_default-clause-refused
 returns-in_default-clause-refused g c =
     let vacant = sym c.is_full.ensures ∙ c.if-is_full.false in
-    (rw (← c.self.view_is) (get-absent g.V.Words.WORDS c.self.inside.limit c.args.key _ c.self.inside.loose c.told.ensures c.self.invariant c.in_default.ensures.exchanged.0), vacant)
+    (rw (← c.self.view_is) (get-absent g.V.Words.WORDS c.self.inside.limit c.args.key _ c.self.inside.loose c.law.ensures c.self.invariant c.in_default.ensures.exchanged.0), vacant)
 
 pub invariant_of-self-2 : goal.invariant_of-self-2
 invariant_of-self-2 g c =
     let vacant = sym c.is_full.ensures ∙ c.if-is_full.false in
     let free = rw (← c.self.view_is) at vacant in
     let small : c.args.key < 256 ^ 8 = omega arith in
-    bounded-exchanged g.V.Words.WORDS _ c.args.key _ _ c.told.ensures c.self.invariant _ small c.args.value c.requires.words c.in-Ok.was free c.in-Ok.ensures.exchanged
+    bounded-exchanged g.V.Words.WORDS _ c.args.key _ _ c.law.ensures c.self.invariant _ small c.args.value c.requires.words c.in-Ok.was free c.in-Ok.ensures.exchanged
 
 pub returns-clause-answer : goal.returns-clause-answer
 returns-clause-answer g c =
     let small : c.args.key < 256 ^ 8 = omega arith in
-    rw (← c.self.view_is) (was-is g.V.Words.WORDS c.self.inside.limit c.args.key _ c.self.inside.loose c.told.ensures c.self.invariant _ small c.args.value c.requires.words c.in-Ok.was c.in-Ok.ensures.exchanged)
+    rw (← c.self.view_is) (was-is g.V.Words.WORDS c.self.inside.limit c.args.key _ c.self.inside.loose c.law.ensures c.self.invariant _ small c.args.value c.requires.words c.in-Ok.was c.in-Ok.ensures.exchanged)
 
 pub returns-clause-put : goal.returns-clause-put
 returns-clause-put g c =
     let small : c.args.key < 256 ^ 8 = omega arith in
     rw (← c.self.view_is)
     (ap (λ (map : FinMap word_order ℕ). record { limit = c.self.inside.limit; map = map })
-    (map-exchanged g.V.Words.WORDS c.self.inside.limit c.args.key _ c.self.inside.loose c.told.ensures c.self.invariant _ small c.args.value c.requires.words c.in-Ok.was c.in-Ok.ensures.exchanged))
+    (map-exchanged g.V.Words.WORDS c.self.inside.limit c.args.key _ c.self.inside.loose c.law.ensures c.self.invariant _ small c.args.value c.requires.words c.in-Ok.was c.in-Ok.ensures.exchanged))

@@ -6,4 +6,4 @@ use Rattle.judy_word.proofs.tree_array.TreeArray.iter.Goals as goal
 
 pub returns : goal.returns
 returns g c =
-    c.from_key.ensures.pairs ∙ all_pairs g.V.Words.WORDS (256 ^ 8) c.self.inside.root.pairs c.told.ensures.map ∙ ap (λ held. map.entries (map_in held)) c.self.view_is
+    c.from_key.ensures.pairs ∙ all_pairs g.V.Words.WORDS (256 ^ 8) c.self.inside.root.pairs c.law.ensures.map ∙ ap (λ held. map.entries (map_in held)) c.self.view_is

@@ -7,5 +7,5 @@ use Rattle.judy_word.proofs.tree_array.TreeArray.iter_from.Goals as goal
 
 pub returns : goal.returns
 returns g c =
-    c.from_key.ensures.pairs ∙ pairs_from g.V.Words.WORDS (256 ^ 8) c.self.inside.root.pairs c.told.ensures.map c.args.from
+    c.from_key.ensures.pairs ∙ pairs_from g.V.Words.WORDS (256 ^ 8) c.self.inside.root.pairs c.law.ensures.map c.args.from
     ∙ ap (λ held. drop (counts.rank (map_in held) c.args.from) (map.entries (map_in held))) c.self.view_is

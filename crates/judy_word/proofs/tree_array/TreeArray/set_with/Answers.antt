@@ -9,12 +9,12 @@ returns-then-is_full-clause-first g c =
     rw (← c.self.view_is) (λ none.
     let full = sym c.is_full.ensures ∙ c.if-is_full.true in
     let taken = rw (← c.self.view_is) at full in
-    sym (empty-free g.V.Words.WORDS _ c.args.key _ _ c.told.ensures c.self.invariant (no_pairs g.V.Words.WORDS _ c.args.key _ _ c.told.ensures c.self.invariant none)) ∙ taken)
+    sym (empty-free g.V.Words.WORDS _ c.args.key _ _ c.law.ensures c.self.invariant (no_pairs g.V.Words.WORDS _ c.args.key _ _ c.law.ensures c.self.invariant none)) ∙ taken)
 
 pub returns-in_default-clause-first : goal.returns-in_default-clause-first
 returns-in_default-clause-first g c =
     rw (← c.self.view_is) (λ none.
-    let told = c.in_default.ensures.first (no_pairs g.V.Words.WORDS _ c.args.key _ _ c.told.ensures c.self.invariant none) in
+    let told = c.in_default.ensures.first (no_pairs g.V.Words.WORDS _ c.args.key _ _ c.law.ensures c.self.invariant none) in
     cc)
 
 pub insert_with-requires : goal.insert_with-requires
@@ -27,7 +27,7 @@ insert_with-requires g c = (
       λ absent.
           let vacant = sym c.is_full.ensures ∙ c.if-is_full.false in
           let free = rw (← c.self.view_is) at vacant in
-          let room = room-left g.V.Words.WORDS _ c.args.key _ _ c.told.ensures c.self.invariant free absent in
+          let room = room-left g.V.Words.WORDS _ c.args.key _ _ c.law.ensures c.self.invariant free absent in
           omega arith,
     ),
   ),
@@ -36,23 +36,23 @@ insert_with-requires g c = (
 pub returns-in_default-clause-refused : goal.returns-in_default-clause-refused
 returns-in_default-clause-refused g c =
     let vacant = sym c.is_full.ensures ∙ c.if-is_full.false in
-    (rw (← c.self.view_is) (get-absent g.V.Words.WORDS c.self.inside.limit c.args.key _ c.self.inside.loose c.told.ensures c.self.invariant c.in_default.ensures.inserted.0), vacant)
+    (rw (← c.self.view_is) (get-absent g.V.Words.WORDS c.self.inside.limit c.args.key _ c.self.inside.loose c.law.ensures c.self.invariant c.in_default.ensures.inserted.0), vacant)
 
 pub invariant_of-self-2 : goal.invariant_of-self-2
 invariant_of-self-2 g c =
     let vacant = sym c.is_full.ensures ∙ c.if-is_full.false in
     let free = rw (← c.self.view_is) at vacant in
     let small : c.args.key < 256 ^ 8 = omega arith in
-    bounded-inserted g.V.Words.WORDS _ c.args.key _ _ c.told.ensures c.self.invariant _ small c.args.value c.requires.no_value c.in-Ok.added free c.in-Ok.ensures.inserted
+    bounded-inserted g.V.Words.WORDS _ c.args.key _ _ c.law.ensures c.self.invariant _ small c.args.value c.requires.no_value c.in-Ok.added free c.in-Ok.ensures.inserted
 
 pub returns-clause-answer : goal.returns-clause-answer
 returns-clause-answer g c =
     let small : c.args.key < 256 ^ 8 = omega arith in
-    rw (← c.self.view_is) (added-is g.V.Words.WORDS c.self.inside.limit c.args.key _ c.self.inside.loose c.told.ensures c.self.invariant _ small c.args.value c.requires.no_value c.in-Ok.added c.in-Ok.ensures.inserted)
+    rw (← c.self.view_is) (added-is g.V.Words.WORDS c.self.inside.limit c.args.key _ c.self.inside.loose c.law.ensures c.self.invariant _ small c.args.value c.requires.no_value c.in-Ok.added c.in-Ok.ensures.inserted)
 
 pub returns-clause-set : goal.returns-clause-set
 returns-clause-set g c =
     let small : c.args.key < 256 ^ 8 = omega arith in
     rw (← c.self.view_is)
     (ap (λ (map : FinMap word_order ℕ). record { limit = c.self.inside.limit; map = map })
-    (map-inserted g.V.Words.WORDS c.self.inside.limit c.args.key _ c.self.inside.loose c.told.ensures c.self.invariant _ small c.args.value c.requires.no_value c.in-Ok.added c.in-Ok.ensures.inserted))
+    (map-inserted g.V.Words.WORDS c.self.inside.limit c.args.key _ c.self.inside.loose c.law.ensures c.self.invariant _ small c.args.value c.requires.no_value c.in-Ok.added c.in-Ok.ensures.inserted))

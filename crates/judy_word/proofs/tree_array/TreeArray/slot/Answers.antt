@@ -12,7 +12,7 @@ returns g c =
       refl,
       record {
         changes = tt;
-        value = c.slot.ensures.value ∙ sym (get-value g.V.Words.WORDS (256 ^ 8) _ c.told.ensures.map c.args.key ∙ value_in-is c.args.key _);
-        held = record { node = c.told.ensures; bounded = c.self.invariant };
+        value = c.slot.ensures.value ∙ sym (get-value g.V.Words.WORDS (256 ^ 8) _ c.law.ensures.map c.args.key ∙ value_in-is c.args.key _);
+        held = record { node = c.law.ensures; bounded = c.self.invariant };
       },
     )

@@ -10,7 +10,7 @@ slot_of-requires g c = (
   omega arith,
   (
     c.requires.words,
-    ap is_some (sym (get-value g.V.Words.WORDS (256 ^ 8) _ c.told.ensures.map c.args.key ∙ value_in-is c.args.key _))
+    ap is_some (sym (get-value g.V.Words.WORDS (256 ^ 8) _ c.law.ensures.map c.args.key ∙ value_in-is c.args.key _))
         ∙ subst (λ held. is_some (get (map_in held) c.args.key) ≡ true) (sym c.self.view_is) c.requires.present,
   ),
 )
@@ -24,7 +24,7 @@ returns g c =
       (refl, λ w. refl),
       record {
         changes = tt;
-        value = c.slot_of.ensures.value ∙ sym (get-value g.V.Words.WORDS (256 ^ 8) _ c.told.ensures.map c.args.key ∙ value_in-is c.args.key _);
-        held = record { node = c.told.ensures; bounded = c.self.invariant };
+        value = c.slot_of.ensures.value ∙ sym (get-value g.V.Words.WORDS (256 ^ 8) _ c.law.ensures.map c.args.key ∙ value_in-is c.args.key _);
+        held = record { node = c.law.ensures; bounded = c.self.invariant };
       },
     )

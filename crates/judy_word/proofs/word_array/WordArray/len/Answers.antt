@@ -5,4 +5,4 @@ use Rattle.judy_word.proofs.word_array.WordArray.len.Goals as goal
 
 pub returns-clause-zeros : goal.returns-clause-zeros
 returns-clause-zeros g c =
-    let tree = c.self.inside.tree in rw (← c.self.view_is) (λ none. IsSet-held tree (subst (λ words. IsHeld words tree) none c.told.ensures))
+    let tree = c.self.inside.tree in rw (← c.self.view_is) (λ none. IsSet-held tree (subst (λ words. IsHeld words tree) none c.law.ensures))

@@ -8,4 +8,4 @@ returns-clause-answer c = search rules
 
 pub returns-clause-loosened : goal.returns-clause-loosened
 returns-clause-loosened c =
-    rw (← c.self.view_is) (λ was is. subst (λ pairs. Has33 8 pairs c.args.i) (sym (entries_are 0 (256 ^ 8) c.self.inside.tree.tree.pairs c.told.ensures.node.map)) (c.remove.ensures.loosened was is))
+    rw (← c.self.view_is) (λ was is. subst (λ pairs. Has33 8 pairs c.args.i) (sym (entries_are 0 (256 ^ 8) c.self.inside.tree.tree.pairs c.law.ensures.node.map)) (c.remove.ensures.loosened was is))

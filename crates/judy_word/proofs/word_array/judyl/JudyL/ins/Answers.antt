@@ -4,7 +4,7 @@ use Rattle.judy_word.proofs.ArrayFacts.{array-written, inserted-value, inserted-
 use Rattle.judy_word.proofs.word_array.judyl.JudyL.ins.Goals as goal
 
 pub slot_of-requires : goal.slot_of-requires
-slot_of-requires c = (omega arith, (refl, inserted-there c.self.inside.tree c.set.new.self c.told.ensures c.args.i c.in_ok-set.ensures.set))
+slot_of-requires c = (omega arith, (refl, inserted-there c.self.inside.tree c.set.new.self c.law.ensures c.args.i c.in_ok-set.ensures.set))
 
 pub returns : goal.returns
 returns c =
@@ -12,18 +12,18 @@ returns c =
       (
         refl,
         (λ left ok. record {
-          array = inserted-written c.self.inside.tree c.set.new.self c.told.ensures c.args.i c.in_ok-set.ensures.set left;
+          array = inserted-written c.self.inside.tree c.set.new.self c.law.ensures c.args.i c.in_ok-set.ensures.set left;
           loose = c.set.ensures.loose;
           present = λ there.
               let kept = c.in_ok-set.ensures.present (c.in_ok-set.ensures.answer ∙ ap not there) in
-              array-written c.set.new.self c.told.ensures c.args.i (inserted-there c.self.inside.tree c.set.new.self c.told.ensures c.args.i c.in_ok-set.ensures.set) left
+              array-written c.set.new.self c.law.ensures c.args.i (inserted-there c.self.inside.tree c.set.new.self c.law.ensures c.args.i c.in_ok-set.ensures.set) left
               ∙ ap (λ held. with_value (seen_as held) c.args.i left) kept;
         }),
         tt,
       ),
       record {
         writes_back = tt;
-        value = c.slot_of.ensures.value ∙ inserted-value c.self.inside.tree c.set.new.self c.told.ensures c.args.i c.in_ok-set.ensures.set;
+        value = c.slot_of.ensures.value ∙ inserted-value c.self.inside.tree c.set.new.self c.law.ensures c.args.i c.in_ok-set.ensures.set;
         accepted = c.in_ok-set.ensures.accepted;
         refused = tt;
         empty = λ _. refl;

@@ -5,4 +5,4 @@ use Rattle.judy_word.proofs.word_array.judyl.JudyL.remove.Goals as goal
 
 pub returns-clause-loosened : goal.returns-clause-loosened
 returns-clause-loosened c =
-    rw (← c.self.view_is) (λ was is. subst (λ pairs. Has33 8 pairs c.args.i) (sym (entries_are 1 (256 ^ 8) c.self.inside.tree.tree.pairs c.told.ensures.node.map)) (c.take.ensures.loosened was is))
+    rw (← c.self.view_is) (λ was is. subst (λ pairs. Has33 8 pairs c.args.i) (sym (entries_are 1 (256 ^ 8) c.self.inside.tree.tree.pairs c.law.ensures.node.map)) (c.take.ensures.loosened was is))

@@ -1,5 +1,0 @@
-use Rattle.judy_leaf.proofs.Bounds.{imm_keys}
-use Rattle.judy_leaf.proofs.imm.ImmOf.told.Goals as goal
-
-pub returns : goal.returns
-returns g c = imm_keys g.V.Words.WORDS c.self.inside.width c.self.inside.count c.self.inside.keys c.self.inside.value c.args.self.now c.self.invariant c.self.view_is

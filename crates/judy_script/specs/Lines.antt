@@ -1,0 +1,14 @@
+-- The text of an answer, which is lent in one of two forms.
+use Rattle.std.specs.Prelude.{ℕ, ◌≤◌, List, take}
+use Rattle.judy_script.specs.declared.text.Line.{Line}
+use Rattle.judy_script.specs.declared.text.Line.TheVariants.{Short, Long}
+
+-- Its bytes.
+abbrev pub bytes_of : Line → List ℕ
+bytes_of (Short room count) = take count room.now
+bytes_of (Long bytes) = bytes.now
+
+-- A short one has no more bytes than its room.
+abbrev pub IsWithin : Line → Type 0
+IsWithin (Short room count) = count ≤ 32
+IsWithin (Long bytes) = Unit {0}

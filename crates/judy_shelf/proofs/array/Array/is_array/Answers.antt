@@ -1,5 +1,0 @@
-use Rattle.judy_model.proofs.KeyLengthLemmas.{is_judyhs}
-use Rattle.judy_shelf.proofs.array.Array.is_array.Goals as goal
-
-pub returns-in-JudyHs : goal.returns-in-JudyHs
-returns-in-JudyHs c = rw c.in-JudyHs.is (is_judyhs _ c.is_array-in-JudyHs.ensures)

@@ -1,5 +1,0 @@
-use Rattle.judy_word.proofs.Sets.{IsSet-held}
-use Rattle.judy_word.proofs.word_array.judy1.Judy1.is_array.Goals as goal
-
-pub returns : goal.returns
-returns c = rw (← c.self.view_is) (c.is_array.ensures, IsSet-held c.self.inside.tree c.told.ensures)

@@ -1,5 +1,0 @@
-use Rattle.std.proofs.Common.{rules}
-use Rattle.judy_word.proofs.word_array.judyl.JudyL.is_array.Goals as goal
-
-pub returns : goal.returns
-returns c = search rules
