@@ -9,7 +9,7 @@ ghost use Rattle.judy_hs.specs.Listed.{entries_in, short_list};
 use crate::entry::{HsEntry, short_key};
 use crate::long_group::LongGroup;
 use crate::trial::Trial;
-use judy_word::{InsertError, WordMap};
+use judy_word::WordMap;
 use std::alloc::{AllocError, Global};
 
 // Where a key stands in its group: a short key's word, or the place of a long key's chain.
@@ -117,8 +117,7 @@ impl GroupPlace {
         match self {
             GroupPlace::Short(words) => match words.put(part, 0) {
                 Ok(_) => Ok(Inside::Word(part)),
-                Err(InsertError::Full) => unreachable!(),
-                Err(InsertError::NoMemory) => Err(AllocError),
+                Err(_) => Err(AllocError),
             },
             GroupPlace::Long(group) => match group.add(alloc, chain, part, key) {
                 Ok(place) => Ok(Inside::Chained(place)),
@@ -144,8 +143,7 @@ impl GroupPlace {
             GroupPlace::Short(words) => match words.put_if_absent(part, 0) {
                 Ok(true) => Trial::Added(Inside::Word(part)),
                 Ok(false) => Trial::Open,
-                Err(InsertError::Full) => unreachable!(),
-                Err(InsertError::NoMemory) => Trial::Refused,
+                Err(_) => Trial::Refused,
             },
             GroupPlace::Long(group) => match group.try_add(alloc, part, key) {
                 Trial::Added(place) => Trial::Added(Inside::Chained(place)),

@@ -16,7 +16,7 @@ use crate::error::HsError;
 use crate::group::{GroupPlace, Inside};
 use crate::long_group::LongGroup;
 use crate::trial::Trial;
-use judy_word::{InsertError, WordMap};
+use judy_word::WordMap;
 use std::alloc::{AllocError, Global};
 use std::marker::Model;
 
@@ -65,11 +65,7 @@ fn group_of_one(alloc: Global, part: u64, key: &[u8]) -> Result<(GroupPlace, Ins
 {
     if key.len() <= 8 {
         let mut words = WordMap::unbounded(alloc);
-        match words.put(part, 0) {
-            Ok(_) => {}
-            Err(InsertError::Full) => unreachable!(),
-            Err(InsertError::NoMemory) => return Err(AllocError),
-        }
+        words.put(part, 0)?;
         Ok((GroupPlace::Short(words), Inside::Word(part)))
     } else {
         let group = LongGroup::of(alloc, part, key)?;
@@ -264,11 +260,7 @@ impl Groups {
     {
         let (made, inside) = group_of_one(alloc, part, key)?;
         let (group, next) = free_place(&mut self.groups, self.free)?;
-        match self.lengths.put(key.len() as u64, group as u64) {
-            Ok(_) => {}
-            Err(InsertError::Full) => unreachable!(),
-            Err(InsertError::NoMemory) => return Err(AllocError),
-        }
+        self.lengths.put(key.len() as u64, group as u64)?;
         self.free = next;
         put(&mut self.groups, group, made);
         Ok(Spot { group, inside })

@@ -18,7 +18,7 @@ use crate::entry::{HsEntry, HsKey, sort_from};
 use crate::shared::{join, leave, take_first};
 use crate::trial::Trial;
 use judy_records::{Records, words_for};
-use judy_word::{InsertError, WordMap};
+use judy_word::WordMap;
 use std::alloc::{AllocError, Global};
 use std::collections::BTreeMap;
 use std::marker::Model;
@@ -101,11 +101,7 @@ impl LongGroup {
         records.reserve()?;
         records.put(0, key);
         let mut hashes = WordMap::unbounded(alloc);
-        match hashes.put(hash, 0) {
-            Ok(_) => {}
-            Err(InsertError::Full) => unreachable!(),
-            Err(InsertError::NoMemory) => return Err(AllocError),
-        }
+        hashes.put(hash, 0)?;
         Ok(LongGroup {
             hashes,
             records,
@@ -220,8 +216,7 @@ impl LongGroup {
         match self.hashes.put_if_absent(hash, place as u64) {
             Ok(true) => {}
             Ok(false) => return Trial::Open,
-            Err(InsertError::Full) => unreachable!(),
-            Err(InsertError::NoMemory) => return Trial::Refused,
+            Err(_) => return Trial::Refused,
         }
         match self.records.reserve() {
             Ok(_) => {

@@ -5,7 +5,7 @@ ghost use Rattle.judy_pipe.specs.declared.stop.Stop.TheVariants.{Failed};
 ghost use Rattle.judy_pipe.specs.Pipe.{grown, moved};
 
 use crate::sink::{SHORT_LEN, Sink, write_on};
-use crate::stop::{BrokenPipe, Stop};
+use crate::stop::{PipeFailed, Stop};
 
 /// Keeps up to `N` bytes, and hands them on to another sink where a write finds it full and at each `flush`.
 ///
@@ -49,7 +49,7 @@ impl<W: Sink + Drop, const N: usize> BufferedSink<W, N> {
     }
 
     // Hands on what is kept.
-    fn send(&mut self) -> Result<(), BrokenPipe>
+    fn send(&mut self) -> Result<(), PipeFailed>
         requires { (W.tally self.old.inner).failures < 2 ^ 64 - 1 }
         ensures taken { grown (W.taken self.new.inner)
             (take (self.new.end - self.new.sent) (drop self.new.sent self.new.buffer))
@@ -116,7 +116,7 @@ impl<W: Sink + Drop, const N: usize> Sink for BufferedSink<W, N> {
         true
     }
 
-    fn flush(&mut self) -> Result<(), BrokenPipe> {
+    fn flush(&mut self) -> Result<(), PipeFailed> {
         self.send()
     }
 

@@ -4,7 +4,7 @@ ghost use Rattle.std.specs.Prelude.{◌≡◌, ◌-◌, ◌<◌, ◌≤◌, ◌^
 ghost use Rattle.judy_pipe.specs.Pipe.{grown, without, told, IsAhead};
 
 use crate::source::{Source, read_some};
-use crate::stop::{BrokenPipe, Stop};
+use crate::stop::{PipeFailed, Stop};
 
 /// Reads up to `N` bytes ahead from another source, and gives them in pieces of any size.
 ///
@@ -57,7 +57,7 @@ impl<R: Source + Drop, const N: usize> BufferedSource<R, N> {
     // Asks for the next piece, of up to `most` bytes, where none is kept. It stands apart from the way of most reads, which are given what
     // is kept and are compiled into their caller, who knows how many bytes it wants.
     #[inline(never)]
-    fn refill(&mut self, most: usize) -> Result<(), BrokenPipe>
+    fn refill(&mut self, most: usize) -> Result<(), PipeFailed>
         requires within { most ≤ N }
         requires none_kept { self.old.next ≡ self.old.end }
         requires failures { (R.tally self.old.inner).failures < 2 ^ 64 - 1 }

@@ -33,5 +33,5 @@ pub use mem_sink::{MemSink, SinkTrouble};
 pub use mem_source::{MemSource, SourceTrouble};
 pub use sink::{SHORT_LEN, Sink, write_all, write_short};
 pub use source::{Source, read_some};
-pub use stop::{BrokenPipe, Stop};
+pub use stop::{PipeFailed, Stop};
 pub use tally::Tally;

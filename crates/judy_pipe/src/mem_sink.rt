@@ -7,7 +7,7 @@ ghost use Rattle.judy_pipe.specs.Tally.{new_tally, after_write};
 ghost use Rattle.judy_pipe.specs.Trouble.{sink_refusal, sink_trouble_after, sink_reach};
 
 use crate::sink::Sink;
-use crate::stop::{BrokenPipe, Stop};
+use crate::stop::{PipeFailed, Stop};
 use crate::tally::Tally;
 use arrayvec::ArrayVec;
 
@@ -151,7 +151,7 @@ impl<const N: usize> Sink for MemSink<N> {
     }
 
     // It keeps nothing for anybody else.
-    fn flush(&mut self) -> Result<(), BrokenPipe> {
+    fn flush(&mut self) -> Result<(), PipeFailed> {
         Ok(())
     }
 

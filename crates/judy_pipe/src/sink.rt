@@ -2,9 +2,10 @@
 
 ghost use Rattle.std.specs.Prelude.{◌≡◌, ℕ, ◌+◌, ◌-◌, ◌<◌, ◌≤◌, ◌^◌, List, [], Option, length, take, drop, is_ok, if◌then◌else◌, IfOk, OnOk, OnErr};
 ghost use Rattle.judy_pipe.specs.Pipe.{grown, moved, GrewByFront};
+ghost use Rattle.judy_pipe.specs.declared.sink.TheConstants.{SHORT_LEN};
 ghost use Rattle.judy_pipe.specs.Tally.{after_write};
 
-use crate::stop::{BrokenPipe, Stop};
+use crate::stop::{PipeFailed, Stop};
 
 /// How many bytes stand in the room of a short piece.
 pub const SHORT_LEN: usize = 32;
@@ -36,7 +37,7 @@ pub trait Sink {
     /// few bytes that count. It never fails.
     #[inline(always)]
     fn take_short(&mut self, room: &[u8; SHORT_LEN], count: usize) -> bool
-        requires { count ≤ 32 }
+        requires { count ≤ SHORT_LEN }
         ensures taken { taken self.new
             ≡ (if result then grown (taken self.old) (take count room.now) else taken self.old) }
         ensures tally { tally self.new ≡ tally self.old }
@@ -45,9 +46,9 @@ pub trait Sink {
     }
 
     /// Hands on what it keeps in a buffer of its own, where it has one: its bytes are then with whom it
-    /// writes to. It takes no byte by that. At the one error, `BrokenPipe`, it couldn't hand on all of
+    /// writes to. It takes no byte by that. At the one error, `PipeFailed`, it couldn't hand on all of
     /// them and has exactly one failure more.
-    fn flush(&mut self) -> Result<(), BrokenPipe>
+    fn flush(&mut self) -> Result<(), PipeFailed>
         requires { (tally self.old).failures < 2 ^ 64 - 1 }
         ensures taken { taken self.new ≡ taken self.old }
         ensures handed_on { OnOk result (kept self.new ≡ []) }
@@ -61,9 +62,9 @@ pub trait Sink {
 
 /// Writes all of `bytes`, trying an interrupted write again until the sink's failures rise.
 ///
-/// At Ok the sink took exactly these bytes. At the one error, `BrokenPipe`, it took a front of them
+/// At Ok the sink took exactly these bytes. At the one error, `PipeFailed`, it took a front of them
 /// and has exactly one failure more.
-pub fn write_all<W: Sink>(sink: &mut W, bytes: &[u8]) -> Result<(), BrokenPipe>
+pub fn write_all<W: Sink>(sink: &mut W, bytes: &[u8]) -> Result<(), PipeFailed>
     requires { (W.tally sink.old).failures < 2 ^ 64 - 1 }
     ensures ok { OnOk result (W.taken sink.new ≡ grown (W.taken sink.old) bytes.now) }
     ensures err { OnErr result (GrewByFront (W.taken sink.old) bytes.now (W.taken sink.new)) }
@@ -80,7 +81,7 @@ pub fn write_all<W: Sink>(sink: &mut W, bytes: &[u8]) -> Result<(), BrokenPipe>
         return Ok(());
     }
     if sink.failures() > before {
-        return Err(BrokenPipe);
+        return Err(PipeFailed);
     }
     write_on(sink, bytes, &mut count)
 }
@@ -91,8 +92,8 @@ pub fn write_short<W: Sink>(
     sink: &mut W,
     room: &[u8; SHORT_LEN],
     count: usize,
-) -> Result<(), BrokenPipe>
-    requires within { count ≤ 32 }
+) -> Result<(), PipeFailed>
+    requires within { count ≤ SHORT_LEN }
     requires failures { (W.tally sink.old).failures < 2 ^ 64 - 1 }
     ensures ok { OnOk result (W.taken sink.new ≡ grown (W.taken sink.old) (take count room.now)) }
     ensures err { OnErr result
@@ -109,12 +110,12 @@ pub fn write_short<W: Sink>(
 /// Writes what stands in `bytes` from place `count` on, trying an interrupted write again until the sink's
 /// failures rise; `count` then says how far it came.
 ///
-/// At Ok it came to the end. At the one error, `BrokenPipe`, the sink has exactly one failure more.
+/// At Ok it came to the end. At the one error, `PipeFailed`, the sink has exactly one failure more.
 pub(crate) fn write_on<W: Sink>(
     sink: &mut W,
     bytes: &[u8],
     count: &mut usize,
-) -> Result<(), BrokenPipe>
+) -> Result<(), PipeFailed>
     requires within { count.old ≤ length bytes.now }
     requires failures { (W.tally sink.old).failures < 2 ^ 64 - 1 }
     ensures within { (count.old ≤ count.new) × (count.new ≤ length bytes.now) }
@@ -128,7 +129,7 @@ pub(crate) fn write_on<W: Sink>(
     while *count < bytes.len() {
         *count += sink.write(&bytes[*count..]).unwrap_or(0);
         if sink.failures() > before {
-            return Err(BrokenPipe);
+            return Err(PipeFailed);
         }
     }
     Ok(())

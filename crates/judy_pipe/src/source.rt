@@ -4,7 +4,7 @@ ghost use Rattle.std.specs.Prelude.{◌≡◌, ℕ, ◌+◌, ◌-◌, ◌<◌, �
 ghost use Rattle.judy_pipe.specs.Pipe.{grown, moved, told, gave_end, GivesContent, NeverFails};
 ghost use Rattle.judy_pipe.specs.Tally.{after_read};
 
-use crate::stop::{BrokenPipe, Stop};
+use crate::stop::{PipeFailed, Stop};
 
 /// What gives bytes, a piece at a time, and then the end.
 ///
@@ -56,10 +56,10 @@ pub trait Source {
 /// failures rise.
 ///
 /// Ok is how many bytes it gave, where 0 for a `room` that is not empty is the end; the failures are as
-/// before. At the one error, `BrokenPipe`, it gave none and has exactly one failure more.
+/// before. At the one error, `PipeFailed`, it gave none and has exactly one failure more.
 // As `BufferedSource::refill` says.
 #[inline(always)]
-pub fn read_some<R: Source>(source: &mut R, room: &mut [u8]) -> Result<usize, BrokenPipe>
+pub fn read_some<R: Source>(source: &mut R, room: &mut [u8]) -> Result<usize, PipeFailed>
     requires { (R.tally source.old).failures < 2 ^ 64 - 1 }
     ensures count { IfOk result (λ n. n ≤ length room.old) }
     ensures given { R.given source.new ≡ grown (R.given source.old) (moved result room.new) }
@@ -75,7 +75,7 @@ pub fn read_some<R: Source>(source: &mut R, room: &mut [u8]) -> Result<usize, Br
     loop {
         match source.read(room) {
             Ok(count) => return Ok(count),
-            Err(_) if source.failures() > before => return Err(BrokenPipe),
+            Err(_) if source.failures() > before => return Err(PipeFailed),
             Err(_) => {}
         }
     }

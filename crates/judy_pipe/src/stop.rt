@@ -16,4 +16,4 @@ pub enum Stop {
 /// The number of a pipe's failures rose, so a helper of this crate tried no further.
 #[derive(Clone, Copy, Debug, PartialEq, Eq, Error)]
 #[error("the pipe failed")]
-pub struct BrokenPipe;
+pub struct PipeFailed;

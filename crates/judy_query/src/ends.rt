@@ -1,11 +1,11 @@
 //! What is asked of a node that isn't a branch, where a way down ends.
 
-ghost use Rattle.std.specs.Prelude.{◌≡◌, ◌+◌, ◌<◌, ◌≤◌, length, slice_get, Some, IfSome};
+ghost use Rattle.std.specs.Prelude.{◌≡◌, ◌+◌, ◌<◌, ◌≤◌, ◌^◌, [], ◌∷◌, length, slice_get, Some, IfSome};
 ghost use Rattle.judy_bits.specs.ByteSets as set;
-ghost use Rattle.judy_leaf.specs.KeyLists.{keys_of};
+ghost use Rattle.judy_leaf.specs.KeyLists.{keys_of, shift};
 ghost use Rattle.judy_leaf.specs.Nearby.{pair_from, pair_up_to};
 ghost use Rattle.judy_node.specs.Views.{view_pairs};
-ghost use Rattle.judy_query.specs.Parts.{value_of, IsEnd, IsShown};
+ghost use Rattle.judy_query.specs.Parts.{value_of, width_of, IsEnd, IsShown};
 
 use crate::Entry;
 use judy_leaf::{BitRef, ImmOf, LeafRef, Words};
@@ -137,6 +137,24 @@ pub(crate) fn entry_in<V: Words + Drop>(view: &ViewOf<'_, V>, at: u64) -> Entry
         ViewOf::Leaf(list) => (list.key_at(at), list.value_at(at)),
         ViewOf::BitLeaf(skipped, list) => (*skipped * 256 + list.key_at(at), list.value_at(at)),
         ViewOf::Branch(_) => unreachable!(),
+    }
+}
+
+/// The pair of an immediate of one key, its key counted from a base; none for other nodes.
+// Where a node was just entered its kind is known, and the pair needs no memory.
+#[inline(always)]
+pub(crate) fn only_pair<V: Words + Drop>(view: &ViewOf<'_, V>, base: u64) -> Option<Entry>
+    requires shown { IsShown V.WORDS view.now }
+    requires fits { base + 256 ^ width_of view.now ≤ 256 ^ 8 }
+    ensures { IfSome result (λ pair. shift base (view_pairs view.now) ≡ pair ∷ []) }
+{
+    let ViewOf::Imm(list) = view else {
+        return None;
+    };
+    if list.len() == 1 {
+        Some((base + list.key_at(0), list.value_at(0)))
+    } else {
+        None
     }
 }
 

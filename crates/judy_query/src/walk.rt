@@ -12,7 +12,7 @@ ghost use Rattle.judy_query.specs.Walks.{rest_of_turn, waiting, AreTurns};
 ghost use Rattle.judy_query.specs.Visits.{most_visits_below, most_visits_down};
 
 use crate::branches::{byte_behind, byte_from, reached, start_at};
-use crate::ends::rank_in;
+use crate::ends::{only_pair, rank_in};
 use crate::givings::give_whole;
 use crate::stretch::Stretch;
 use crate::turns::Turn;
@@ -69,7 +69,12 @@ impl<'a, V: Words + Drop> Walk<'a, V> {
             return pair;
         }
         let turn = take(&mut self.turns)?;
-        self.stretch = first_from(turn, &mut self.turns, meter);
+        let (view, start) = enter_child(turn, &mut self.turns, meter);
+        let only = only_pair(&view, start);
+        if only.is_some() {
+            return only;
+        }
+        self.stretch = first_of(view, start, &mut self.turns, meter);
         self.stretch.next()
     }
 
@@ -133,23 +138,27 @@ fn seek<'a, V: Words + Drop>(
     Walk { stretch, turns }
 }
 
-// The pairs of the first node without children among those that a turn leads to; the others are kept.
-fn first_from<'a, V: Words + Drop>(
+// The child that a turn leads to, entered, and where its keys begin; those behind it in its branch are kept.
+#[inline(always)]
+fn enter_child<'a, V: Words + Drop>(
     turn: Turn<'a, V>,
     turns: &mut Turns<'a, V>,
     meter: &mut Meter,
-) -> Stretch<'a, V>
+) -> (ViewOf<'a, V>, u64)
     requires turn { IsTurn V.WORDS turn }
     requires first { IsFirst turn }
     requires turns { AreTurns V.WORDS 0 turns.old.items }
     requires room { length turns.old.items + 1 + turn.branch.now.width ≤ 8 }
     requires below { meter.old ≤ 2 ^ 64 - 17 }
+    ensures shown { IsShown V.WORDS result.0 }
+    ensures fits { result.1 + 256 ^ width_of result.0 ≤ 256 ^ 8 }
+    ensures some { 0 < length (view_pairs result.0) }
     ensures turns { AreTurns V.WORDS 0 turns.new.items }
-    ensures pairs { result ++ waiting turns.new.items
+    ensures room { length turns.new.items + width_of result.0 ≤ 8 }
+    ensures low { width_of result.0 ≤ most_visits_below }
+    ensures pairs { shift result.1 (view_pairs result.0) ++ waiting turns.new.items
         ≡ rest_of_turn turn.entry ++ waiting turns.old.items }
-    ensures some { 0 < length result }
-    ensures no_fewer { meter.old ≤ meter.new }
-    ensures visits { meter.new ≤ meter.old + most_visits_below }
+    ensures visits { meter.new ≡ meter.old + 1 }
 {
     let Turn {
         branch,
@@ -160,7 +169,7 @@ fn first_from<'a, V: Words + Drop>(
     let byte = byte_from(branch, place, edge);
     keep(branch, place + 1, u64::from(byte) + 1, base, turns);
     let view = branch.children[place].enter(branch.width, meter);
-    first_of(view, base + start_at(branch, byte), turns, meter)
+    (view, base + start_at(branch, byte))
 }
 
 // Writes what stands for the pairs that a turn leads to, and those behind it in its branch, to the front of a slice that has a place,

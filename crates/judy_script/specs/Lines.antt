@@ -1,5 +1,6 @@
 -- The text of an answer, which is lent in one of two forms.
 use Rattle.std.specs.Prelude.{ℕ, ◌≤◌, List, take}
+use Rattle.judy_pipe.specs.declared.sink.TheConstants.{SHORT_LEN}
 use Rattle.judy_script.specs.declared.text.Line.{Line}
 use Rattle.judy_script.specs.declared.text.Line.TheVariants.{Short, Long}
 
@@ -10,5 +11,5 @@ bytes_of (Long bytes) = bytes.now
 
 -- A short one has no more bytes than its room.
 abbrev pub IsWithin : Line → Type 0
-IsWithin (Short room count) = count ≤ 32
+IsWithin (Short room count) = count ≤ SHORT_LEN
 IsWithin (Long bytes) = Unit {0}

@@ -18,7 +18,7 @@ use crate::line::{LineBuffer, line_reply};
 use crate::print::print;
 use crate::text::{Line, Text};
 use judy_command::LineReply;
-use judy_pipe::{BrokenPipe, Sink, write_all, write_short};
+use judy_pipe::{PipeFailed, Sink, write_all, write_short};
 use judy_shelf::Shelf;
 use judy_sl::KeyBuf;
 
@@ -217,7 +217,7 @@ fn put_out<W: Sink>(
 
 // Writes the text of an answer.
 #[inline(always)]
-fn write_line<W: Sink>(line: Line<'_>, sink: &mut W) -> Result<(), BrokenPipe>
+fn write_line<W: Sink>(line: Line<'_>, sink: &mut W) -> Result<(), PipeFailed>
     requires within { IsWithin line }
     requires below { (W.tally sink.old).failures < 2 ^ 64 - 1 }
     ensures ok { OnOk result (W.taken sink.new ≡ grown (W.taken sink.old) (bytes_of line.entry)) }

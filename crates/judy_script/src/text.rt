@@ -1,6 +1,7 @@
 //! The text of an answer line.
 
 ghost use Rattle.std.specs.Prelude.{◌≡◌, ◌+◌, ◌≤◌, ◌++◌, [], ◌∷◌, length, decimal};
+ghost use Rattle.judy_script.specs.declared.text.TheConstants.{MAX_TEXT_LEN, NUMBER_LEN};
 ghost use Rattle.judy_script.specs.Lines.{bytes_of, IsWithin};
 
 use itoa::write_digits;
@@ -40,7 +41,9 @@ impl Model for Text {
 
     ghost view = { λ text. take text.len text.bytes };
 
-    ghost invariant = { λ text. text.len ≤ 8192 };
+    ghost use Rattle.judy_script.specs.declared.text.TheConstants.{MAX_TEXT_LEN};
+
+    ghost invariant = { λ text. text.len ≤ MAX_TEXT_LEN };
 }
 
 impl Text {
@@ -64,7 +67,7 @@ impl Text {
 
     /// Puts bytes that fit behind those that it has.
     pub(crate) fn append(&mut self, bytes: &[u8])
-        requires { length self.old + length bytes.now ≤ 8192 }
+        requires { length self.old + length bytes.now ≤ MAX_TEXT_LEN }
         ensures items { self.new ≡ self.old ++ bytes.now }
         ensures len { length self.new ≡ length self.old + length bytes.now }
     {
@@ -95,7 +98,7 @@ impl Text {
 #[inline(always)]
 fn write_line<'a>(room: &'a mut [u8; NUMBER_LEN], head: &[u8], number: u64) -> Line<'a>
     requires head { length head.now ≤ 8 }
-    requires room { length room.old ≡ 64 }
+    requires room { length room.old ≡ NUMBER_LEN }
     ensures text { bytes_of result ≡ head.now ++ decimal number ++ 10 ∷ [] }
     ensures within { IsWithin result }
 {

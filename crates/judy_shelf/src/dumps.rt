@@ -19,7 +19,7 @@ use crate::shelf::Shelf;
 use crate::sorted::{SortedKeys, list_count, sorted_lists};
 use crate::version::Version;
 use crate::write::{array_head, heading, put, put_string_after, put_word};
-use judy_pipe::{BrokenPipe, Sink};
+use judy_pipe::{PipeFailed, Sink};
 use judy_sl::JudySl;
 use judy_word::{Judy1, JudyL};
 
@@ -68,7 +68,7 @@ fn write_shelf<W: Sink>(
     shelf: &Shelf,
     lists: &[SortedKeys<'_>],
     sink: &mut W,
-) -> Result<(), BrokenPipe>
+) -> Result<(), PipeFailed>
     requires below { (W.tally sink.old).failures < 2 ^ 64 - 1 }
     requires sorted { lists_in lists.now ≡ sorted_lists shelf.now }
     ensures { Wrote (dump_of (format_of version) (store_of shelf.now))
@@ -93,7 +93,7 @@ fn write_array<W: Sink>(
     array: &Array,
     keys: Option<&SortedKeys<'_>>,
     sink: &mut W,
-) -> Result<(), BrokenPipe>
+) -> Result<(), PipeFailed>
     requires below { (W.tally sink.old).failures < 2 ^ 64 - 1 }
     requires sorted { (list : List (List ℕ × ℕ)) → sorted_in array.now ≡ list ∷ []
         → option_map pairs_in (option_copied keys) ≡ Some list }
@@ -114,7 +114,7 @@ fn write_array<W: Sink>(
 }
 
 // Writes the keys of a set.
-fn write_set<W: Sink>(set: &Judy1, sink: &mut W) -> Result<(), BrokenPipe>
+fn write_set<W: Sink>(set: &Judy1, sink: &mut W) -> Result<(), PipeFailed>
     requires { (W.tally sink.old).failures < 2 ^ 64 - 1 }
     ensures { Wrote (text.contents jdy1 (judy1 (array_of set.now)))
         (sunk (W.taken sink.old) (W.tally sink.old).failures) result
@@ -127,7 +127,7 @@ fn write_set<W: Sink>(set: &Judy1, sink: &mut W) -> Result<(), BrokenPipe>
 }
 
 // Writes the keys of a map, and the value of each behind it.
-fn write_words<W: Sink>(words: &JudyL, sink: &mut W) -> Result<(), BrokenPipe>
+fn write_words<W: Sink>(words: &JudyL, sink: &mut W) -> Result<(), PipeFailed>
     requires { (W.tally sink.old).failures < 2 ^ 64 - 1 }
     ensures { Wrote (text.contents jdy1 (judyl (array_of words.now)))
         (sunk (W.taken sink.old) (W.tally sink.old).failures) result
@@ -144,7 +144,7 @@ fn write_strings<W: Sink>(
     version: Version,
     strings: &JudySl,
     sink: &mut W,
-) -> Result<(), BrokenPipe>
+) -> Result<(), PipeFailed>
     requires { (W.tally sink.old).failures < 2 ^ 64 - 1 }
     ensures { Wrote (text.contents (format_of version) (judysl strings.now))
         (sunk (W.taken sink.old) (W.tally sink.old).failures) result
@@ -163,7 +163,7 @@ fn write_strings<W: Sink>(
 }
 
 // Writes a key and its value.
-fn put_entry<W: Sink>(sink: &mut W, key: u64, value: u64) -> Result<(), BrokenPipe>
+fn put_entry<W: Sink>(sink: &mut W, key: u64, value: u64) -> Result<(), PipeFailed>
     requires { (W.tally sink.old).failures < 2 ^ 64 - 1 }
     ensures { Wrote (text.word key ++ text.word value)
         (sunk (W.taken sink.old) (W.tally sink.old).failures) result

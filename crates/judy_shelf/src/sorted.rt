@@ -13,7 +13,7 @@ use crate::array::Array;
 use crate::shelf::Shelf;
 use crate::write::put_string_entry;
 use judy_hs::HsEntry;
-use judy_pipe::{BrokenPipe, Sink};
+use judy_pipe::{PipeFailed, Sink};
 use std::alloc::AllocError;
 
 // The keys of a judyhs array with their values, by the lengths of the keys and then by their bytes.
@@ -24,7 +24,7 @@ pub(crate) struct SortedKeys<'a> {
 
 impl<'a> SortedKeys<'a> {
     // Writes the keys, each behind its length, and the value of each behind it.
-    pub(crate) fn write<W: Sink>(&self, sink: &mut W) -> Result<(), BrokenPipe>
+    pub(crate) fn write<W: Sink>(&self, sink: &mut W) -> Result<(), PipeFailed>
         requires { (W.tally sink.old).failures < 2 ^ 64 - 1 }
         ensures { Wrote
             (flat_map (λ entry. text.string entry.0 ++ text.word entry.1) (pairs_in self.now))

@@ -18,13 +18,13 @@ use crate::shelf::Shelf;
 use crate::version::Version;
 use arrayvec::ArrayVec;
 use byteorder::{BigEndian, ByteOrder};
-use judy_pipe::{BrokenPipe, Sink, write_all};
+use judy_pipe::{PipeFailed, Sink, write_all};
 
 // The most bytes of what stands before an array's keys: a name behind its length, the kind, the limit, the number of keys.
 const MAX_HEAD_LEN: usize = 50;
 
 // Writes bytes.
-pub(crate) fn put<W: Sink>(sink: &mut W, bytes: &[u8]) -> Result<(), BrokenPipe>
+pub(crate) fn put<W: Sink>(sink: &mut W, bytes: &[u8]) -> Result<(), PipeFailed>
     requires { (W.tally sink.old).failures < 2 ^ 64 - 1 }
     ensures { Wrote bytes.now (sunk (W.taken sink.old) (W.tally sink.old).failures) result
         (sunk (W.taken sink.new) (W.tally sink.new).failures) }
@@ -33,7 +33,7 @@ pub(crate) fn put<W: Sink>(sink: &mut W, bytes: &[u8]) -> Result<(), BrokenPipe>
 }
 
 // Writes a word, the highest byte first.
-pub(crate) fn put_word<W: Sink>(sink: &mut W, word: u64) -> Result<(), BrokenPipe>
+pub(crate) fn put_word<W: Sink>(sink: &mut W, word: u64) -> Result<(), PipeFailed>
     requires { (W.tally sink.old).failures < 2 ^ 64 - 1 }
     ensures { Wrote (text.word word) (sunk (W.taken sink.old) (W.tally sink.old).failures) result
         (sunk (W.taken sink.new) (W.tally sink.new).failures) }
@@ -46,7 +46,7 @@ pub(crate) fn put_string_entry<W: Sink>(
     sink: &mut W,
     key: &[u8],
     value: u64,
-) -> Result<(), BrokenPipe>
+) -> Result<(), PipeFailed>
     requires { (W.tally sink.old).failures < 2 ^ 64 - 1 }
     ensures { Wrote (text.string key.now ++ text.word value)
         (sunk (W.taken sink.old) (W.tally sink.old).failures) result
@@ -57,7 +57,7 @@ pub(crate) fn put_string_entry<W: Sink>(
 }
 
 // Writes a byte string behind its length.
-fn put_string<W: Sink>(sink: &mut W, key: &[u8]) -> Result<(), BrokenPipe>
+fn put_string<W: Sink>(sink: &mut W, key: &[u8]) -> Result<(), PipeFailed>
     requires { (W.tally sink.old).failures < 2 ^ 64 - 1 }
     ensures { Wrote (text.string key.now)
         (sunk (W.taken sink.old) (W.tally sink.old).failures) result
@@ -73,7 +73,7 @@ pub(crate) fn put_string_after<W: Sink>(
     version: Version,
     before: &[u8],
     key: &[u8],
-) -> Result<(), BrokenPipe>
+) -> Result<(), PipeFailed>
     requires { (W.tally sink.old).failures < 2 ^ 64 - 1 }
     ensures { Wrote (text.string_key (format_of version) before.now key.now)
         (sunk (W.taken sink.old) (W.tally sink.old).failures) result
@@ -90,7 +90,7 @@ fn put_string_behind_front<W: Sink>(
     sink: &mut W,
     before: &[u8],
     key: &[u8],
-) -> Result<(), BrokenPipe>
+) -> Result<(), PipeFailed>
     requires { (W.tally sink.old).failures < 2 ^ 64 - 1 }
     ensures { Wrote (text.string_key jdy2 before.now key.now)
         (sunk (W.taken sink.old) (W.tally sink.old).failures) result

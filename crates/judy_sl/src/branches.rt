@@ -8,7 +8,7 @@ ghost use Rattle.judy_sl.specs.Branches.{IsSprout, IsBuilt, single};
 
 use crate::error::SlError;
 use crate::pieces::first_piece;
-use judy_word::{InsertError, WordMap};
+use judy_word::WordMap;
 use std::alloc::Global;
 
 // A tail to be, and the piece that is to lead to it.
@@ -37,8 +37,7 @@ fn one_entry(alloc: Global, piece: u64) -> Result<WordMap, SlError>
     let mut level = WordMap::unbounded(alloc);
     match level.put(piece, 0) {
         Ok(_) => {}
-        Err(InsertError::Full) => unreachable!(),
-        Err(InsertError::NoMemory) => return Err(SlError::NoMemory),
+        Err(_) => return Err(SlError::NoMemory),
     }
     Ok(level)
 }
@@ -54,8 +53,7 @@ fn sprout<'a>(level: &mut WordMap, rest: &'a [u8], value: u64) -> Result<Option<
     if rest.len() < 8 {
         return match level.put(piece, value) {
             Ok(_) => Ok(None),
-            Err(InsertError::Full) => unreachable!(),
-            Err(InsertError::NoMemory) => Err(SlError::NoMemory),
+            Err(_) => Err(SlError::NoMemory),
         };
     }
     match level.put(piece, 0) {
@@ -64,8 +62,7 @@ fn sprout<'a>(level: &mut WordMap, rest: &'a [u8], value: u64) -> Result<Option<
             rest: &rest[8..],
             value,
         })),
-        Err(InsertError::Full) => unreachable!(),
-        Err(InsertError::NoMemory) => Err(SlError::NoMemory),
+        Err(_) => Err(SlError::NoMemory),
     }
 }
 

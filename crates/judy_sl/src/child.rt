@@ -8,7 +8,7 @@ ghost use Rattle.judy_sl.specs.Children.{is_level};
 
 use crate::error::SlError;
 use judy_tails::Tail;
-use judy_word::{InsertError, WordMap};
+use judy_word::WordMap;
 
 // What stands at a place, as it is read: a tail, which is the rest of one key with the key's value; or the entries of a level.
 #[derive(Drop)]
@@ -36,7 +36,6 @@ pub fn put_in(level: &mut WordMap, piece: u64, value: u64) -> Result<(), SlError
 {
     match level.put(piece, value) {
         Ok(_) => Ok(()),
-        Err(InsertError::Full) => unreachable!(),
-        Err(InsertError::NoMemory) => Err(SlError::NoMemory),
+        Err(_) => Err(SlError::NoMemory),
     }
 }

@@ -26,7 +26,7 @@ use crate::child::{ChildRef, LEVEL};
 use crate::error::SlError;
 use crate::keys::{KeyBuf, is_key};
 use crate::pieces::first_piece;
-use judy_word::{InsertError, WordMap};
+use judy_word::WordMap;
 use std::alloc::AllocError;
 
 // The most levels, so that each place is a word.
@@ -125,8 +125,7 @@ impl Arena {
         match self.root.put_if_absent(piece, 0) {
             Ok(true) => Ok(Some(Place::Root(piece))),
             Ok(false) => Ok(None),
-            Err(InsertError::Full) => unreachable!(),
-            Err(InsertError::NoMemory) => Err(SlError::NoMemory),
+            Err(_) => Err(SlError::NoMemory),
         }
     }
 
@@ -165,8 +164,7 @@ impl Arena {
         match self.root.put_if_absent(piece, next) {
             Ok(true) => {}
             Ok(false) => return Ok(None),
-            Err(InsertError::Full) => unreachable!(),
-            Err(InsertError::NoMemory) => return Err(SlError::NoMemory),
+            Err(_) => return Err(SlError::NoMemory),
         }
         match self.put_tail_next(next, &key[8..], 0) {
             Ok(_) => Ok(Some(Place::Below(next, 0))),

@@ -69,8 +69,8 @@ impl Side {
         ensures value { IsEntryOf level.now.map result }
     {
         match self {
-            Side::Above => level.next_entry(piece),
-            Side::Below => level.prev_entry(piece),
+            Side::Above => level.array().next_entry(piece),
+            Side::Below => level.array().prev_entry(piece),
         }
     }
 
@@ -81,8 +81,8 @@ impl Side {
         ensures value { IsEntryOf level.now.map result.1 }
     {
         match self {
-            Side::Above => level.around(piece),
-            Side::Below => (level.get(piece), level.prev_entry(piece)),
+            Side::Above => level.array().around(piece),
+            Side::Below => (level.get(piece), level.array().prev_entry(piece)),
         }
     }
 
@@ -92,8 +92,8 @@ impl Side {
         ensures value { IsEntryOf level.now.map result }
     {
         match self {
-            Side::Above => level.first_entry(piece),
-            Side::Below => level.last_entry(piece),
+            Side::Above => level.array().first_entry(piece),
+            Side::Below => level.array().last_entry(piece),
         }
     }
 
@@ -104,8 +104,8 @@ impl Side {
         ensures value { IsEntryOf level.now.map result }
     {
         match self {
-            Side::Above => level.first_entry(0),
-            Side::Below => level.last_entry(u64::MAX),
+            Side::Above => level.array().first_entry(0),
+            Side::Below => level.array().last_entry(u64::MAX),
         }
     }
 }

@@ -1,6 +1,6 @@
 //! The file that a dump is written to.
 
-use judy_pipe::BrokenPipe;
+use judy_pipe::PipeFailed;
 use std::fs::{File, OpenFile};
 use std::io;
 use std::io::{ErrorKind, Write};
@@ -39,9 +39,9 @@ impl DumpFile {
     /// Has the system keep what was written, so that it outlasts a loss of power, and closes the file. Some file systems
     /// tell only here that they couldn't keep it, which is the one error. A terminal or a pipe keeps nothing, which
     /// `InvalidInput` tells.
-    pub fn keep(self) -> Result<(), BrokenPipe> {
+    pub fn keep(self) -> Result<(), PipeFailed> {
         match self.file.sync_data() {
-            Err(error) if error.kind() != ErrorKind::InvalidInput => Err(BrokenPipe),
+            Err(error) if error.kind() != ErrorKind::InvalidInput => Err(PipeFailed),
             _ => Ok(()),
         }
     }

@@ -6,7 +6,7 @@ ghost use Rattle.judy_script.specs.declared.fault.RunFault.TheVariants.{Write};
 ghost use Rattle.judy_store.specs.Ends.{status_of, line_of};
 
 use judy_options::Refusal;
-use judy_pipe::{BrokenPipe, Sink, write_all};
+use judy_pipe::{PipeFailed, Sink, write_all};
 use judy_script::RunFault;
 use judy_shelf::{DumpFault, LoadFault};
 
@@ -97,7 +97,7 @@ fn write_three<W: Sink>(
     head: &[u8],
     subject: &[u8],
     tail: &[u8],
-) -> Result<(), BrokenPipe>
+) -> Result<(), PipeFailed>
     requires { (W.tally sink.old).failures < 2 ^ 64 - 1 }
     ensures ok { OnOk result
         (W.taken sink.new ≡ grown (W.taken sink.old) (head.now ++ subject.now ++ tail.now)) }

@@ -5,7 +5,7 @@ ghost use Rattle.std.specs.IoError.{error_kind};
 ghost use Rattle.judy_pipe.specs.Tally.{new_tally};
 ghost use Rattle.judy_store.specs.Stops.{stop_of_kind};
 
-use judy_pipe::{BrokenPipe, Sink, Source, Stop, Tally};
+use judy_pipe::{PipeFailed, Sink, Source, Stop, Tally};
 use std::io;
 use std::io::{ErrorKind, Read, Write};
 
@@ -80,7 +80,7 @@ impl<W: Write> Sink for WriteSink<W> {
         answer
     }
 
-    fn flush(&mut self) -> Result<(), BrokenPipe> {
+    fn flush(&mut self) -> Result<(), PipeFailed> {
         let before = self.tally.failures;
         loop {
             match self.inner.flush() {
@@ -88,7 +88,7 @@ impl<W: Write> Sink for WriteSink<W> {
                 Err(error) => self.tally.stopped(stop_of(error)),
             }
             if self.tally.failures > before {
-                return Err(BrokenPipe);
+                return Err(PipeFailed);
             }
         }
     }

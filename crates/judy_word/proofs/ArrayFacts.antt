@@ -11,7 +11,7 @@ use Rattle.judy_model.proofs.ChangesLemmas.{write-ins, get-ins_same}
 use Rattle.judy_word.specs.Held.{Held, map_in, array_in, nothing_held, IsHeld}
 use Rattle.judy_word.specs.Held as held
 use Rattle.judy_word.specs.Writes as writes
-use Rattle.judy_word.specs.WordArrays.{WordArray, array_of, seen_as, no_keys, with_value}
+use Rattle.judy_word.specs.WordArrays.{array_of, seen_as, no_keys, with_value}
 use Rattle.judy_word.proofs.MapFacts.{get-value, map_of-written}
 
 -- No tree is the array without keys.
@@ -51,19 +51,6 @@ module _ (old new : Held) (is : IsHeld 1 new) (key : ℕ) (inserted : array_in n
       ap array_of (array-written new is key inserted-there value)
       ∙ ap (λ (array : ArrayOf word_order). writes.with_value array key value) inserted
       ∙ ap (λ (map : FinMap word_order ℕ). record { limit = old.limit; map = map }) (write-ins nat_cmp_total (map_in old) key nat_cmp-IsAntisymmetric value)
-
--- The same of arrays as callers see them.
-module _ (old new : WordArray) (key : ℕ) (put : array_of new ≡ with_map (array_of old) (ins old.map key)) where
-  pub put-value : get new.map key ≡ get (ins old.map key) key
-  put-value = ap (λ (array : ArrayOf word_order). get array.map key) put
-
-  pub put-there : contains_key new.map key ≡ true
-  put-there = ap is_some (put-value ∙ get-ins_same nat_cmp_total old.map key)
-
-  pub put-written : (value : ℕ) → array_of (with_value new key value) ≡ writes.with_value (array_of old) key value
-  put-written value =
-      ap (λ (array : ArrayOf word_order). writes.with_value array key value) put
-      ∙ ap (λ (map : FinMap word_order ℕ). record { limit = old.limit; map = map }) (write-ins nat_cmp_total old.map key nat_cmp-IsAntisymmetric value)
 
 -- What has a value is there.
 pub value-there : {value : ℕ} {found : Option ℕ} → Some value ≡ found → is_some found ≡ true

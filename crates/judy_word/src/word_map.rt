@@ -1,23 +1,20 @@
 //! A map from words to words of which no caller knows the nodes.
 
-ghost use Rattle.std.specs.Prelude.{◌≡◌, ◌≤◌, ◌↔◌, Some, not, IfOk, IsOk, IfSome, OnOk, OnErr, IfErr, IsTrue, IsFalse};
+ghost use Rattle.std.specs.Prelude.{◌≡◌, ◌≤◌, ◌↔◌, Some, None, not, IfOk, IsOk, OnOk, OnErr, IfErr, IsTrue, IsFalse};
 ghost use Rattle.std.specs.Borrow.{sem};
 ghost use Rattle.std.specs.FinMap as map;
-ghost use Rattle.std.specs.Option.{option_copied_mut, option_map};
+ghost use Rattle.std.specs.Option.{option_copied_mut};
 ghost use Rattle.judy_model.specs.Arrays as array;
-ghost use Rattle.judy_model.specs.Neighbours as neighbours;
 ghost use Rattle.judy_word.specs.Held.{with_new};
 ghost use Rattle.judy_word.specs.WordArrays.{array_of};
-ghost use Rattle.judy_word.specs.Refusals.{IsRefusal};
-ghost use Rattle.judy_word.specs.MapSlots.{LendsSlot, LendsIns};
+ghost use Rattle.judy_word.specs.MapSlots.{LendsSlot};
 ghost use Rattle.judy_word.specs.Sorted.{IsSorted, IsFault};
 ghost use Rattle.judy_leaf.specs.KeyLists.{keys_of};
 
-use crate::error::InsertError;
 use crate::iter::Entries;
 use crate::sorted::SortedError;
 use crate::word_array::JudyL;
-use std::alloc::Global;
+use std::alloc::{AllocError, Global};
 use std::iter::IntoIterator;
 use std::marker::Model;
 
@@ -63,42 +60,30 @@ impl WordMap {
         Ok(WordMap { array })
     }
 
-    /// The slot of a key, which is put in with the value 0 where it is absent.
-    pub fn ins(&mut self, i: u64) -> Result<&mut u64, InsertError>
-        ensures* writes_back { sem 𝓛 (LendsIns self.entry i result) }
-        ensures value { IfOk result (λ slot. Some slot.now ≡ map.get (array.ins self.old.map i) i) }
-        ensures accepted { OnOk result (IsFalse (array.is_full self.old i)) }
-        ensures refused { IfErr result (IsRefusal self.old i) }
-        ensures empty { self.old.map ≡ map.empty → IsOk result }
-    {
-        self.array.put_if_absent(i, 0)?;
-        Ok(self.array.slot_of(i))
-    }
-
-    /// Gives a key a value, and answers whether it was absent.
-    pub fn put(&mut self, i: u64, value: u64) -> Result<bool, InsertError>
+    /// Gives a key a value, and answers whether it was absent. The error is want of memory for an absent key; the map is as it was then.
+    pub fn put(&mut self, i: u64, value: u64) -> Result<bool, AllocError>
+        requires room { IsFalse (array.is_full self.old i) }
         ensures answer { IfOk result (λ added. added ≡ not (map.contains_key self.old.map i)) }
         ensures put { OnOk result
             (self.new ≡ array.with_map self.old (array.write self.old.map i value)) }
-        ensures accepted { OnOk result (IsFalse (array.is_full self.old i)) }
-        ensures refused { IfErr result (IsRefusal self.old i) }
+        ensures absent { OnErr result (map.get self.old.map i ≡ None) }
         ensures unchanged { OnErr result (self.new ≡ self.old) }
         ensures empty { self.old.map ≡ map.empty → IsOk result }
     {
-        self.array.put(i, value)
+        self.array.put(i, value).map_err(|_| AllocError)
     }
 
-    /// Puts a key in with a value where it is absent, and answers whether it was.
-    pub fn put_if_absent(&mut self, i: u64, value: u64) -> Result<bool, InsertError>
+    /// Puts a key in with a value where it is absent, and answers whether it was. Errors as `put`.
+    pub fn put_if_absent(&mut self, i: u64, value: u64) -> Result<bool, AllocError>
+        requires room { IsFalse (array.is_full self.old i) }
         ensures answer { IfOk result (λ added. added ≡ not (map.contains_key self.old.map i)) }
         ensures put { OnOk result
             (self.new ≡ array.with_map self.old (with_new self.old.map i value)) }
-        ensures accepted { OnOk result (IsFalse (array.is_full self.old i)) }
-        ensures refused { IfErr result (IsRefusal self.old i) }
+        ensures absent { OnErr result (map.get self.old.map i ≡ None) }
         ensures unchanged { OnErr result (self.new ≡ self.old) }
         ensures empty { self.old.map ≡ map.empty → IsOk result }
     {
-        self.array.put_if_absent(i, value)
+        self.array.put_if_absent(i, value).map_err(|_| AllocError)
     }
 
     /// The value of a key.
@@ -144,53 +129,6 @@ impl WordMap {
         ensures { array.IsArray (array.judyl self.now) }
     {
         self.array.array_law();
-    }
-
-    /// The least key from one on, with its value.
-    // Compiled into the caller, as the search is.
-    #[inline(always)]
-    pub fn first_entry(&self, i: u64) -> Option<(u64, u64)>
-        ensures key { option_map (λ entry. entry.0) result ≡ neighbours.first self.now.map i }
-        ensures value { IfSome result (λ entry. map.get self.now.map entry.0 ≡ Some entry.1) }
-    {
-        self.array.first_entry(i)
-    }
-
-    /// The least key above one, with its value.
-    // Compiled into the caller, as the search is.
-    #[inline(always)]
-    pub fn next_entry(&self, i: u64) -> Option<(u64, u64)>
-        ensures key { option_map (λ entry. entry.0) result ≡ neighbours.next self.now.map i }
-        ensures value { IfSome result (λ entry. map.get self.now.map entry.0 ≡ Some entry.1) }
-    {
-        self.array.next_entry(i)
-    }
-
-    /// The greatest key up to one, with its value.
-    pub fn last_entry(&self, i: u64) -> Option<(u64, u64)>
-        ensures key { option_map (λ entry. entry.0) result ≡ neighbours.last self.now.map i }
-        ensures value { IfSome result (λ entry. map.get self.now.map entry.0 ≡ Some entry.1) }
-    {
-        self.array.last_entry(i)
-    }
-
-    /// The greatest key below one, with its value.
-    pub fn prev_entry(&self, i: u64) -> Option<(u64, u64)>
-        ensures key { option_map (λ entry. entry.0) result ≡ neighbours.prev self.now.map i }
-        ensures value { IfSome result (λ entry. map.get self.now.map entry.0 ≡ Some entry.1) }
-    {
-        self.array.prev_entry(i)
-    }
-
-    /// The value of a key, and the least key above it with its value.
-    // Compiled into the caller, as the search is.
-    #[inline(always)]
-    pub fn around(&self, i: u64) -> (Option<u64>, Option<(u64, u64)>)
-        ensures found { result.0 ≡ map.get self.now.map i }
-        ensures key { option_map (λ entry. entry.0) result.1 ≡ neighbours.next self.now.map i }
-        ensures value { IfSome result.1 (λ entry. map.get self.now.map entry.0 ≡ Some entry.1) }
-    {
-        self.array.around(i)
     }
 
     /// All keys with their values, by ascending key, one after another.

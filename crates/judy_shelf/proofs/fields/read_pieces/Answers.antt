@@ -2,7 +2,7 @@ use Rattle.std.proofs.Common.{◌≡◌, ◌-◌, ◌+◌, ◌≤◌, ◌<◌, l
 use Rattle.std.proofs.lemmas.List.{take_rest, take_all}
 use Rattle.std.proofs.lemmas.List.Elements.{All-take, All-nil}
 use Rattle.std.proofs.lemmas.Bool.{lt-ltb}
-use Rattle.judy_pipe.specs.declared.stop.BrokenPipe.{BrokenPipe}
+use Rattle.judy_pipe.specs.declared.stop.PipeFailed.{PipeFailed}
 use Rattle.judy_pipe.specs.Pipe.{grown, told, gave_end}
 use Rattle.judy_pipe.proofs.Moves.{grown-grown}
 use Rattle.judy_shelf.specs.Reads.{drawn}
@@ -35,7 +35,7 @@ returns-in-Ok-eq0-clause-read g c =
     let whole = left room filled in
     let inside : filled < length room = c.loop-filled-test.true in
     let some : 0 < length (take (length room - filled) (drop filled room)) = omega arith in
-    let end : gave_end {E = BrokenPipe} (Ok c.in-Ok-eq0.field-0) (length (take (length room - filled) (drop filled room))) ≡ true =
+    let end : gave_end {E = PipeFailed} (Ok c.in-Ok-eq0.field-0) (length (take (length room - filled) (drop filled room))) ≡ true =
     (λ t. (count t == 0) && nat_lt 0 (length (take (length room - filled) (drop filled room)))) ∙ lt-ltb 0 (length (take (length room - filled) (drop filled room))) some in
     room_cut room filled before after given c.loop-filled.invariant.bytes (g.R.Source.ended c.loop-filled.source) (length c.args.room.now)
     (subst (λ n. filled < n) c.loop-filled.invariant.long inside) c.loop-filled.invariant.within (c.in-Ok-eq0.ensures.ended ∙ ap (told (g.R.Source.ended c.loop-filled.source)) end) (c.in-Ok-eq0.ensures.failures ∙ c.loop-filled.invariant.failures)

@@ -4,7 +4,7 @@ use Rattle.std.specs.BTreeMap.{is_at}
 use Rattle.std.specs.Ordering.{nat_cmp}
 use Rattle.judy_model.specs.Keys.{word_order}
 use Rattle.judy_model.specs.Arrays.{ArrayOf, with_map, write}
-use Rattle.judy_model.proofs.Counting.{never_fresh}
+use Rattle.judy_model.proofs.Counting.{fresh_not_full}
 use Rattle.judy_records.specs.Texts.{words_of}
 use Rattle.judy_records.specs.Spots.{RecordList, held, empty_list, with_capacity, put_in}
 use Rattle.judy_hs.specs.Chains.{Pairs}
@@ -14,14 +14,14 @@ use Rattle.judy_hs.proofs.LongLemmas.{bytes_are}
 use Rattle.judy_hs.proofs.LongPuts.{one_record, one-pairs, one-are}
 use Rattle.judy_hs.proofs.long_group.LongGroup.of.Goals as goal
 
-pub unreachable-requires : goal.unreachable-requires
-unreachable-requires c = never_fresh c.unbounded-hashes.result c.args.hash c.unbounded-hashes.ensures (rw c.in-Err-Full.field-0-is at c.in-Err-Full.ensures.refused)
+pub put-requires-2 : goal.put-requires-2
+put-requires-2 c = record { room = fresh_not_full c.unbounded-hashes.result c.args.hash c.unbounded-hashes.ensures }
 
 pub invariant_of-result : goal.invariant_of-result
 invariant_of-result c =
     let none : (place : ℕ) → others_at c.new.result place ≡ [] = λ place. ap (λ (entries : List (ℕ × Pairs)). unwrap_or (lookup (is_at (nat_cmp place)) entries) []) c.new.ensures.empty in
     let bytes = bytes_are c.args.key.now (λ i. omega (arith, c.type_inv.key i)) in
-    let made : c.put-2.new.self ≡ one_word c.args.hash 0 = c.in-Ok.ensures.put ∙ ap (λ (array : ArrayOf word_order). with_map array (write array.map c.args.hash 0)) c.unbounded-hashes.ensures in
+    let made : c.put-2.new.self ≡ one_word c.args.hash 0 = c.in_ok-put.ensures.put ∙ ap (λ (array : ArrayOf word_order). with_map array (write array.map c.args.hash 0)) c.unbounded-hashes.ensures in
     let list : c.put.new.self ≡ one_record c.new.result none c.args.hash c.args.key.now bytes c.reserve.new.self.capacity =
     c.put.ensures.put
     ∙ ap (λ list. put_in list (held 0 (words_of c.args.key.now))) (c.reserve.ensures.same ∙ ap (λ list. with_capacity list c.reserve.new.self.capacity) (c.new-records.ensures ∙ ap empty_list c.words_for.ensures)) in
@@ -33,7 +33,7 @@ pub returns : goal.returns
 returns c =
     let none : (place : ℕ) → others_at c.new.result place ≡ [] = λ place. ap (λ (entries : List (ℕ × Pairs)). unwrap_or (lookup (is_at (nat_cmp place)) entries) []) c.new.ensures.empty in
     let bytes = bytes_are c.args.key.now (λ i. omega (arith, c.type_inv.key i)) in
-    let made : c.put-2.new.self ≡ one_word c.args.hash 0 = c.in-Ok.ensures.put ∙ ap (λ (array : ArrayOf word_order). with_map array (write array.map c.args.hash 0)) c.unbounded-hashes.ensures in
+    let made : c.put-2.new.self ≡ one_word c.args.hash 0 = c.in_ok-put.ensures.put ∙ ap (λ (array : ArrayOf word_order). with_map array (write array.map c.args.hash 0)) c.unbounded-hashes.ensures in
     let list : c.put.new.self ≡ one_record c.new.result none c.args.hash c.args.key.now bytes c.reserve.new.self.capacity =
     c.put.ensures.put
     ∙ ap (λ list. put_in list (held 0 (words_of c.args.key.now))) (c.reserve.ensures.same ∙ ap (λ list. with_capacity list c.reserve.new.self.capacity) (c.new-records.ensures ∙ ap empty_list c.words_for.ensures)) in

@@ -27,8 +27,8 @@ returns-in-Ok-clause-added c =
     c.law.ensures.none_lost c.args.hash c.args.key.now good (put-absent c.self.inside.hashes.map c.args.hash added) c.next_place-place.result c.next_place-place.ensures put c.put.new.self c.put.ensures.put
     )
 
-pub invariant_of-self-in-Err : goal.invariant_of-self-in-Err
-invariant_of-self-in-Err c =
+pub invariant_of-self-in-Err-reserve : goal.invariant_of-self-in-Err-reserve
+invariant_of-self-in-Err-reserve c =
     let added = sym c.in-Ok-true.field-0-test ∙ c.in-Ok-true.ensures.answer in
     let undone : c.del.new.self ≡ c.self.inside.hashes =
     c.del.ensures.deleted
@@ -36,8 +36,8 @@ invariant_of-self-in-Err c =
     ∙ ap (with_map c.self.inside.hashes) (put-undone c.self.inside.hashes.map c.args.hash c.next_place-place.result added) in
     refused-kept c.self.inside.hashes c.del.new.self c.self.inside.key_length c.self.inside.chains c.self.inside.records c.reserve.new.self c.self.invariant c.reserve.new.self.capacity c.reserve.ensures.same undone
 
-pub returns-in-Err-clause-unchanged : goal.returns-in-Err-clause-unchanged
-returns-in-Err-clause-unchanged c =
+pub returns-in-Err-reserve-clause-unchanged : goal.returns-in-Err-reserve-clause-unchanged
+returns-in-Err-reserve-clause-unchanged c =
     let added = sym c.in-Ok-true.field-0-test ∙ c.in-Ok-true.ensures.answer in
     let undone : c.del.new.self ≡ c.self.inside.hashes =
     c.del.ensures.deleted

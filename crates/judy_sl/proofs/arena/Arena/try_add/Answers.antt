@@ -1,5 +1,4 @@
 use Rattle.std.proofs.Common.{◌≡◌, length, refl, sym, ap, subst, ◌∙◌, arith}
-use Rattle.std.proofs.lemmas.Bool.{false≢true}
 use Rattle.std.proofs.lemmas.List.{length-drop, take_rest}
 use Rattle.std.specs.FinMap.{get, insert, remove}
 use Rattle.judy_model.specs.Keys.{word_order}
@@ -15,16 +14,13 @@ use Rattle.judy_sl.proofs.TriedCounts.{put-present, tried-counted}
 use Rattle.judy_word.proofs.TrialLemmas.{put-absent, put-new, put-undone}
 use Rattle.judy_sl.proofs.arena.Arena.try_add.Goals as goal
 
-pub unreachable-requires : goal.unreachable-requires
-unreachable-requires c =
-    let full = rw c.in-Err-Full.field-0-is at c.in-Err-Full.ensures.refused in
-    false≢true (sym (room-in_first c.args.self.now c.requires.is_arena c.requires.few c.first_piece-piece.result) ∙ full)
+pub put_if_absent-requires : goal.put_if_absent-requires
+put_if_absent-requires c = record { room = room-in_first c.args.self.now c.requires.is_arena c.requires.few c.first_piece-piece.result }
 
-pub returns-in-Err-NoMemory-clause-absent : goal.returns-in-Err-NoMemory-clause-absent
-returns-in-Err-NoMemory-clause-absent c =
+pub returns-in-Err-clause-absent : goal.returns-in-Err-clause-absent
+returns-in-Err-clause-absent c =
     let key = c.is_key.ensures.0 c.if-not-is_key.false in
-    let refused = rw c.in-Err-NoMemory.field-0-is at c.in-Err-NoMemory.ensures.refused in
-    first-absent c.args.self.now c.requires.is_arena c.args.key.now key c.first_piece-piece.result c.first_piece-piece.ensures refused.0
+    first-absent c.args.self.now c.requires.is_arena c.args.key.now key c.first_piece-piece.result c.first_piece-piece.ensures c.in-Err.ensures.absent
 
 pub returns-in-Ok-clause-absent : goal.returns-in-Ok-clause-absent
 returns-in-Ok-clause-absent c =
@@ -62,19 +58,19 @@ returns-in-Ok-clause-first c =
     let none = put-absent c.args.self.now.root.map c.first_piece-piece.result added in
     unrooted c.args.self.now (piece_of c.args.key.now) (ap (get c.args.self.now.root.map) (sym c.first_piece-piece.ensures) ∙ none)
 
-pub returns-in-Err-clause-absent : goal.returns-in-Err-clause-absent
-returns-in-Err-clause-absent c =
+pub returns-in-Err-put_tail_next-clause-absent : goal.returns-in-Err-put_tail_next-clause-absent
+returns-in-Err-put_tail_next-clause-absent c =
     let key = c.is_key.ensures.0 c.if-not-is_key.false in
     let added = sym c.in-Ok-true.field-0-test ∙ c.in-Ok-true.ensures.answer in
     first-absent c.args.self.now c.requires.is_arena c.args.key.now key c.first_piece-piece.result c.first_piece-piece.ensures (put-absent c.args.self.now.root.map c.first_piece-piece.result added)
 
-pub returns-in-Err-clause-refused : goal.returns-in-Err-clause-refused
-returns-in-Err-clause-refused c =
+pub returns-in-Err-put_tail_next-clause-refused : goal.returns-in-Err-put_tail_next-clause-refused
+returns-in-Err-put_tail_next-clause-refused c =
     let added = sym c.in-Ok-true.field-0-test ∙ c.in-Ok-true.ensures.answer in
     let undone = c.del.ensures.deleted
-    ∙ ap (λ (made : ArrayOf word_order). with_map made (remove made.map c.first_piece-piece.result)) (c.in-Err.ensures.refused.0.root ∙ c.in-Ok-true.ensures.put)
+    ∙ ap (λ (made : ArrayOf word_order). with_map made (remove made.map c.first_piece-piece.result)) (c.in-Err-put_tail_next.ensures.refused.0.root ∙ c.in-Ok-true.ensures.put)
     ∙ ap (with_map c.args.self.now.root) (put-undone c.args.self.now.root.map c.first_piece-piece.result c.next_place-next.result added) in
-    (record { root = undone; children = c.in-Err.ensures.refused.0.children }, c.in-Err.ensures.refused.1)
+    (record { root = undone; children = c.in-Err-put_tail_next.ensures.refused.0.children }, c.in-Err-put_tail_next.ensures.refused.1)
 
 pub returns-in-Ok-false-clause-counted : goal.returns-in-Ok-false-clause-counted
 returns-in-Ok-false-clause-counted c =
@@ -89,5 +85,5 @@ returns-in-Ok-clause-counted c =
     tried-counted c.args.self.now c.requires.is_arena c.requires.led c.requires.counted c.args.key.now key c.first_piece-piece.result c.first_piece-piece.ensures (put-absent c.args.self.now.root.map c.first_piece-piece.result added)
     c.put_if_absent.new.self c.put_tail_next.new.self c.next_place-next.result _ _ (words_is c) c.in-Ok.ensures.put (returns-in-Ok-clause-added c)
 
-pub returns-in-Err-clause-counted : goal.returns-in-Err-clause-counted
-returns-in-Err-clause-counted c = counted-same c.args.self.now _ (returns-in-Err-clause-refused c).0 c.requires.counted
+pub returns-in-Err-put_tail_next-clause-counted : goal.returns-in-Err-put_tail_next-clause-counted
+returns-in-Err-put_tail_next-clause-counted c = counted-same c.args.self.now _ (returns-in-Err-put_tail_next-clause-refused c).0 c.requires.counted

@@ -1,5 +1,4 @@
 use Rattle.std.proofs.Common.{refl, sym, ap, ◌∙◌}
-use Rattle.std.proofs.lemmas.Bool.{false≢true}
 use Rattle.std.specs.FinMap.{get}
 use Rattle.judy_model.specs.Arrays.{with_map}
 use Rattle.judy_sl.specs.Pieces.{piece_of}
@@ -11,16 +10,13 @@ use Rattle.judy_sl.proofs.TriedCounts.{put-present, short-counted}
 use Rattle.judy_word.proofs.TrialLemmas.{put-absent, put-new}
 use Rattle.judy_sl.proofs.arena.Arena.try_short.Goals as goal
 
-pub unreachable-requires : goal.unreachable-requires
-unreachable-requires c =
-    let full = rw c.in-Err-Full.field-0-is at c.in-Err-Full.ensures.refused in
-    false≢true (sym (room-in_first c.args.self.now c.requires.is_arena c.requires.few c.first_piece-piece.result) ∙ full)
+pub put_if_absent-requires : goal.put_if_absent-requires
+put_if_absent-requires c = record { room = room-in_first c.args.self.now c.requires.is_arena c.requires.few c.first_piece-piece.result }
 
-pub returns-in-Err-NoMemory-clause-absent : goal.returns-in-Err-NoMemory-clause-absent
-returns-in-Err-NoMemory-clause-absent c =
+pub returns-in-Err-clause-absent : goal.returns-in-Err-clause-absent
+returns-in-Err-clause-absent c =
     let key = c.is_key.ensures.0 c.if-not-is_key.false in
-    let refused = rw c.in-Err-NoMemory.field-0-is at c.in-Err-NoMemory.ensures.refused in
-    first-absent c.args.self.now c.requires.is_arena c.args.key.now key c.first_piece-piece.result c.first_piece-piece.ensures refused.0
+    first-absent c.args.self.now c.requires.is_arena c.args.key.now key c.first_piece-piece.result c.first_piece-piece.ensures c.in-Err.ensures.absent
 
 pub returns-in-Ok-true-clause-absent : goal.returns-in-Ok-true-clause-absent
 returns-in-Ok-true-clause-absent c =

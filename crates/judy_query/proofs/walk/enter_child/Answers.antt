@@ -11,7 +11,7 @@ use Rattle.judy_leaf.proofs.NextKeys.{rank_behind}
 use Rattle.judy_query.proofs.Downs.{kid_is, start_room}
 use Rattle.judy_query.proofs.Splits.{rest_of}
 use Rattle.judy_query.proofs.WalkFacts.{entered_of, entered_width, entered_shown, entered_some, entered_fits, entered_pairs}
-use Rattle.judy_query.proofs.walk.first_from.Goals as goal
+use Rattle.judy_query.proofs.walk.enter_child.Goals as goal
 
 pub enter-view-requires : goal.enter-view-requires
 enter-view-requires g c =
@@ -30,8 +30,8 @@ keep-requires g c =
 pub start_at-requires-clause-byte : goal.start_at-requires-clause-byte
 start_at-requires-clause-byte g c = (c.args.turn.place, c.requires.turn.inside, c.byte_from-byte.ensures)
 
-pub overflow_add-base : goal.overflow_add-base
-overflow_add-base g c =
+pub overflow_add-result : goal.overflow_add-result
+overflow_add-result g c =
     let turn = c.args.turn in
     let b = turn.branch.now in
     let start : IsStart (256 ^ b.width) (number_of b.skip * 256) b.bytes turn.place c.start_at.result = (c.byte_from-byte.result, c.byte_from-byte.ensures, c.start_at.ensures) in
@@ -40,33 +40,25 @@ overflow_add-base g c =
     let some = unit_pos b.width in
     omega arith
 
-pub first_of-requires : goal.first_of-requires
-first_of-requires g c =
+pub returns : goal.returns
+returns g c =
     let turn = c.args.turn in
+    let b = turn.branch.now in
     let entered = entered_of c.requires.turn.branch c.requires.turn.inside c.byte_from-byte.ensures c.start_at.ensures c.index.ensures c.enter-view.ensures.view in
     let wide = entered_width entered in
     let one = c.keep.ensures.one in
     let room = c.requires.room in
-    let shown = entered_shown entered in
-    let fits = entered_fits entered turn.base c.requires.turn.fits in
-    let some = entered_some entered in
-    (omega arith, (shown, (fits, (some, (c.keep.ensures.turns, (omega arith, omega (arith, c.requires.below, c.enter-view.ensures.visits)))))))
-
-pub returns-clause-pairs : goal.returns-clause-pairs
-returns-clause-pairs g c =
-    let turn = c.args.turn in
-    let b = turn.branch.now in
-    let entered = entered_of c.requires.turn.branch c.requires.turn.inside c.byte_from-byte.ensures c.start_at.ensures c.index.ensures c.enter-view.ensures.view in
     let others = waiting c.args.turns.now.items in
     let behind : c.args.turn.place + 1 ≡ suc c.args.turn.place = omega arith in
-    c.first_of.ensures.pairs
-    ∙ ap (λ ps. shift (turn.base + c.start_at.result) (view_pairs c.enter-view.result) ++ ps)
-    (c.keep.ensures.pairs ∙ ap (λ n. shift turn.base (rest_of (256 ^ b.width) (number_of b.skip * 256) b.bytes b.children.items n) ++ others) behind)
-    ∙ sym (entered_pairs entered turn.base others)
-
-pub returns-clause-visits : goal.returns-clause-visits
-returns-clause-visits g c =
-    let entered = entered_of c.requires.turn.branch c.requires.turn.inside c.byte_from-byte.ensures c.start_at.ensures c.index.ensures c.enter-view.ensures.view in
-    let wide = entered_width entered in
-    let room = c.requires.room in
-    omega (arith, c.enter-view.ensures.visits, c.first_of.ensures.visits)
+    record {
+      shown = entered_shown entered;
+      fits = entered_fits entered turn.base c.requires.turn.fits;
+      some = entered_some entered;
+      turns = c.keep.ensures.turns;
+      room = omega arith;
+      low = omega arith;
+      pairs = ap (λ ps. shift (turn.base + c.start_at.result) (view_pairs c.enter-view.result) ++ ps)
+          (c.keep.ensures.pairs ∙ ap (λ n. shift turn.base (rest_of (256 ^ b.width) (number_of b.skip * 256) b.bytes b.children.items n) ++ others) behind)
+          ∙ sym (entered_pairs entered turn.base others);
+      visits = c.enter-view.ensures.visits;
+    }
