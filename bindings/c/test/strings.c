@@ -51,6 +51,29 @@ static bool told(scan *call, sellumaq_judysl *map, int from, int place) {
     return call(map, buffer, found - 1, &length, &value) == SELLUMAQ_TOO_SMALL && length == length_of(from) && !memcmp(buffer, strings[from], length);
 }
 
+/* What stands in a buffer that any key fits: a string of the table, and behind it other bytes. A scan leaves the key that it finds, and behind that what
+ * was there. */
+static void begin_with(uint8_t *buffer, int place) {
+    memset(buffer, '~', SELLUMAQ_KEY_BYTES);
+    memcpy(buffer, strings[place], length_of(place));
+}
+
+static bool holds(const uint8_t *buffer, size_t length, int from, int place) {
+    uint8_t wanted[SELLUMAQ_KEY_BYTES];
+    begin_with(wanted, from);
+    if (place >= 0) memcpy(wanted, strings[place], length_of(place));
+    return length == length_of(place < 0 ? from : place) && !memcmp(buffer, wanted, sizeof wanted);
+}
+
+static bool told_in_place(scan *call, sellumaq_judysl *map, int from, int place) {
+    uint8_t buffer[SELLUMAQ_KEY_BYTES];
+    size_t length = length_of(from);
+    uint64_t value = 77;
+    begin_with(buffer, from);
+    uint32_t answer = call(map, buffer, sizeof buffer, &length, &value);
+    return answer == (place < 0 ? SELLUMAQ_NONE : SELLUMAQ_FOUND) && value == (place < 0 ? 77 : values[place]) && holds(buffer, length, from, place);
+}
+
 typedef uint32_t slot_scan(const sellumaq_judysl *map, uint8_t *buffer, size_t capacity, size_t *length, uint64_t **slot);
 
 /* The same of a scan that hands out a slot; where it does, another value is left there, which is the key's then. */
@@ -70,6 +93,16 @@ static bool lent(slot_scan *call, sellumaq_judysl *map, int from, int place) {
     memcpy(buffer, strings[from], length = length_of(from));
     slot = &own;
     return call(map, buffer, found - 1, &length, &slot) == SELLUMAQ_TOO_SMALL && slot == &own && length == length_of(from) && !memcmp(buffer, strings[from], length);
+}
+
+static bool lent_in_place(slot_scan *call, sellumaq_judysl *map, int from, int place) {
+    uint8_t buffer[SELLUMAQ_KEY_BYTES];
+    size_t length = length_of(from);
+    uint64_t own = 77, *slot = &own;
+    begin_with(buffer, from);
+    uint32_t answer = call(map, buffer, sizeof buffer, &length, &slot);
+    if (answer != (place < 0 ? SELLUMAQ_NONE : SELLUMAQ_FOUND) || !holds(buffer, length, from, place)) return false;
+    return place < 0 ? slot == &own : slot != &own && *slot == values[place];
 }
 
 /* Whether the n-th key is the one at a place, or there is none for -1; and nothing is written but that. */
@@ -101,14 +134,14 @@ static void compare(sellumaq_judysl *map, int place) {
     uint64_t value = 0, *slot = NULL;
     CHECK(sellumaq_judysl_get(map, strings[place], length_of(place), &value) == held[place] && (!held[place] || value == values[place]));
     CHECK(sellumaq_judysl_slot(map, strings[place], length_of(place), &slot) == held[place] && (!held[place] || *slot == values[place]));
-    CHECK(told(sellumaq_judysl_first, map, place, next_held(place)));
-    CHECK(told(sellumaq_judysl_next, map, place, next_held(place + 1)));
-    CHECK(told(sellumaq_judysl_last, map, place, prev_held(place)));
-    CHECK(told(sellumaq_judysl_prev, map, place, prev_held(place - 1)));
-    CHECK(lent(sellumaq_judysl_first_slot, map, place, next_held(place)));
-    CHECK(lent(sellumaq_judysl_next_slot, map, place, next_held(place + 1)));
-    CHECK(lent(sellumaq_judysl_last_slot, map, place, prev_held(place)));
-    CHECK(lent(sellumaq_judysl_prev_slot, map, place, prev_held(place - 1)));
+    CHECK(told(sellumaq_judysl_first, map, place, next_held(place)) && told_in_place(sellumaq_judysl_first, map, place, next_held(place)));
+    CHECK(told(sellumaq_judysl_next, map, place, next_held(place + 1)) && told_in_place(sellumaq_judysl_next, map, place, next_held(place + 1)));
+    CHECK(told(sellumaq_judysl_last, map, place, prev_held(place)) && told_in_place(sellumaq_judysl_last, map, place, prev_held(place)));
+    CHECK(told(sellumaq_judysl_prev, map, place, prev_held(place - 1)) && told_in_place(sellumaq_judysl_prev, map, place, prev_held(place - 1)));
+    CHECK(lent(sellumaq_judysl_first_slot, map, place, next_held(place)) && lent_in_place(sellumaq_judysl_first_slot, map, place, next_held(place)));
+    CHECK(lent(sellumaq_judysl_next_slot, map, place, next_held(place + 1)) && lent_in_place(sellumaq_judysl_next_slot, map, place, next_held(place + 1)));
+    CHECK(lent(sellumaq_judysl_last_slot, map, place, prev_held(place)) && lent_in_place(sellumaq_judysl_last_slot, map, place, prev_held(place)));
+    CHECK(lent(sellumaq_judysl_prev_slot, map, place, prev_held(place - 1)) && lent_in_place(sellumaq_judysl_prev_slot, map, place, prev_held(place - 1)));
     CHECK(sellumaq_judysl_len(map) == count_held());
 }
 

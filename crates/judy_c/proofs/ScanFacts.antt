@@ -1,6 +1,8 @@
 -- What a scan of C tells is what its contract says.
-use Rattle.std.proofs.Common.{◌≡◌, ℕ, zero, suc, ◌≤◌, ◌<◌, ◌++◌, length, drop, List, [], Option, Some, None, IsTrue, is_some, unwrap_or, refl, sym, ap, subst, ◌∙◌, true≢false}
+use Rattle.std.proofs.Common.{◌≡◌, ℕ, zero, suc, ◌≤◌, ◌<◌, ◌++◌, length, take, drop, List, [], Option, Some, None, IsTrue, is_some, unwrap_or, refl, sym, ap, subst, ◌∙◌, true≢false}
 use Rattle.std.proofs.lemmas.Bool.{and_parts}
+use Rattle.std.proofs.lemmas.List.{length-take-le, take-append-drop}
+use Rattle.judy_sl.proofs.Fronts.{front-key}
 use Rattle.std.specs.FinMap.{FinMap, get, contains_key, empty, get-empty}
 use Rattle.judy_model.specs.Keys.{byte_order}
 use Rattle.judy_model.specs.Nearest.{IsFirst, IsNext, IsLast, IsPrev}
@@ -8,7 +10,8 @@ use Rattle.judy_model.proofs.NearestLemmas.{first-IsFirst, next-IsNext, last-IsL
 use Rattle.judy_model.proofs.TableLemmas.{byte_order_total, byte_order_same}
 use Rattle.judy_model.specs.Counts.{by_count}
 use Rattle.judy_model.proofs.CountsLemmas.{by_count_found}
-use Rattle.judy_sl.specs.Scans.{value_found}
+use Rattle.judy_sl.specs.declared.scans.Look.{Look}
+use Rattle.judy_sl.specs.Scans.{neighbour_along, nearest_key, value_found, IsFront}
 use Rattle.judy_c.specs.declared.scans.Scan.{Scan}
 use Rattle.judy_c.specs.declared.scans.Scan.TheVariants.{First, Next, Last, Prev}
 use Rattle.judy_c.specs.Answers.{IsSaid}
@@ -34,6 +37,15 @@ no_neighbour scan map from is = by (neighbour scan map from) refl
 pub found_held : (map : FinMap byte_order ℕ) (looked : Option (List ℕ)) (from key : List ℕ) (value : ℕ) → key ≡ unwrap_or looked from → Some value ≡ value_found map looked → get map key ≡ Some value
 found_held map None from key value at is = absurd (true≢false (ap is_some is))
 found_held map (Some found) from key value at is = ap (get map) at ∙ sym is
+
+-- where no value was found there is no neighbour
+none_found : (scan : Scan) (map : FinMap byte_order ℕ) (from : List ℕ) → None ≡ value_found map (neighbour scan map from) → neighbour scan map from ≡ None
+none_found scan map from none = by (neighbour scan map from) refl
+  where
+    by : (looked : Option (List ℕ)) → neighbour scan map from ≡ looked → looked ≡ None
+    by None is = refl
+    by (Some key) is =
+        absurd (true≢false (sym (neighbour_held scan map from key is) ∙ ap is_some (sym (none ∙ ap (value_found map) is))))
 
 module _ (map : FinMap byte_order ℕ) (before after : Room) where
   -- what is told of a key of the map that was put into a buffer, with the value that was answered, is what is said of that key
@@ -73,3 +85,37 @@ module _ (map : FinMap byte_order ℕ) (before after : Room) where
     pub told : (found : Option ℕ) (key : List ℕ) (answer : ℕ) → key ≡ unwrap_or (neighbour scan map (start before)) (start before) → found ≡ value_found map (neighbour scan map (start before)) → IsSaid (entry_says found key before after) answer → IsSaid (scan_says map (neighbour scan map) before after) answer
     told found key answer at value said =
         begun answer (told_key (neighbour scan map (start before)) (neighbour scan map (start before)) refl (neighbour_held scan map (start before)) (start before) found key answer at value said)
+
+-- What the array is asked for is what the scan looks for.
+module _ (scan : Scan) (look : Look) (map : FinMap byte_order ℕ) (asks : neighbour_along look.side look.itself map ≡ neighbour scan map) (buffer : List ℕ) (count : ℕ) (inside : count ≤ length buffer) where
+  abbrev from : List ℕ
+  from = take count buffer
+
+  abbrev pub key_found : List ℕ
+  key_found = nearest_key look map from
+
+  pub key_is : key_found ≡ unwrap_or (neighbour scan map from) from
+  key_is = ap (λ (looked : List ℕ → Option (List ℕ)). unwrap_or (looked from) from) asks
+
+  pub value_is : value_found map (neighbour_along look.side look.itself map from) ≡ value_found map (neighbour scan map from)
+  value_is = ap (λ (looked : List ℕ → Option (List ℕ)). value_found map (looked from)) asks
+
+  module _ (after : List ℕ) (len : ℕ) (is : IsFront key_found buffer len after) where
+    -- Where no value was found there is no such key, and the buffer stays.
+    pub none_stays : None ≡ value_found map (neighbour scan map from) → (after ≡ buffer) × (len ≡ count)
+    none_stays none =
+        let same : key_found ≡ from = key_is ∙ ap (λ looked. unwrap_or looked from) (none_found scan map from none) in
+        let long = ap length same ∙ length-take-le count buffer inside in
+        (is.1 ∙ ap (λ key. key ++ drop (length key) buffer) same ∙ ap (λ n. from ++ drop n buffer) (length-take-le count buffer inside) ∙ take-append-drop count buffer, is.0 ∙ long)
+
+  -- In a buffer of its own that begins with the same string it is the same key, with the same value.
+  module _ (room : List ℕ) (begins : take count room ≡ from) where
+    pub key_beside : (after : List ℕ) (len : ℕ) → IsFront (nearest_key look map (take count room)) room len after → take len after ≡ unwrap_or (neighbour scan map from) from
+    key_beside after len is = front-key _ room after len is ∙ ap (nearest_key look map) begins ∙ key_is
+
+    pub value_beside : (found : Option ℕ) → found ≡ value_found map (neighbour_along look.side look.itself map (take count room)) → found ≡ value_found map (neighbour scan map from)
+    value_beside found is = is ∙ ap (λ key. value_found map (neighbour_along look.side look.itself map key)) begins ∙ value_is
+
+-- A buffer that begins with a string that was read begins with it by its length.
+pub room_begins : (room buffer : List ℕ) (count : ℕ) → count ≤ length buffer → take (length (take count buffer)) room ≡ take count buffer → take count room ≡ take count buffer
+room_begins room buffer count inside is = ap (λ n. take n room) (sym (length-take-le count buffer inside)) ∙ is

@@ -1,11 +1,10 @@
 //! The scans of C over an array of strings.
 
-ghost use Rattle.std.specs.Prelude.{◌≡◌, ◌≢◌, ◌≤◌, ◌<◌, ◌++◌, ◌↔◌, IsTrue, IsFalse, All, [], length, take, drop, unwrap_or};
-ghost use Rattle.std.specs.Borrow.{sem};
-ghost use Rattle.std.specs.Option.{option_copied_mut};
-ghost use Rattle.judy_model.specs.Keys.{IsStringKey};
-ghost use Rattle.judy_sl.specs.Lends.{LendsSlot};
-ghost use Rattle.judy_sl.specs.Scans.{value_found};
+ghost use Rattle.std.specs.Prelude.{◌≡◌, ◌≤◌, ◌<◌, ◌++◌, ◌↔◌, ℕ, IsTrue, IsFalse, length, take, drop};
+ghost use Rattle.std.specs.FinMap.{FinMap};
+ghost use Rattle.judy_model.specs.Keys.{byte_order, IsStringKey};
+ghost use Rattle.judy_model.specs.declared.keys.TheConstants.{LONGEST_KEY};
+ghost use Rattle.judy_sl.specs.Scans.{neighbour_along};
 ghost use Rattle.judy_c.specs.Answers.{IsSaid};
 ghost use Rattle.judy_c.specs.KeyScans.{neighbour, scan_says, entry_says};
 ghost use Rattle.judy_c.specs.StringMaps.{array_in};
@@ -13,7 +12,8 @@ ghost use Rattle.judy_c.specs.StringMaps.{array_in};
 use crate::answers::{BAD_KEY, FOUND, NONE, TOO_SMALL};
 use crate::handles::Handle;
 use crate::strings::Strings;
-use judy_sl::{JudySl, KeyBuf, is_key};
+use judy_model::keys::LONGEST_KEY;
+use judy_sl::{JudySl, Look, Side, is_key};
 
 // What a scan looks for: the least key from a string on, the least above it, the greatest up to it, the greatest below it.
 #[derive(Clone, Copy)]
@@ -39,68 +39,94 @@ impl Scan {
             (record { buffer = buffer.new; count = count.new; value = value.new })) result }
         ensures same { handle.new ≡ handle.old }
     {
-        let mut key = KeyBuf::new();
-        if !read_start(buffer, *count, &mut key) {
+        if !is_start(buffer, *count) {
             return BAD_KEY;
         }
         match handle.array() {
             Some(array) => {
-                let found = self.find(array, &mut key);
-                tell_entry(found, key.as_slice(), buffer, count, value)
+                if buffer.len() < LONGEST_KEY {
+                    self.tell_beside(array, buffer, count, value)
+                } else {
+                    self.tell_in(array, buffer, count, value)
+                }
             }
             None => NONE,
         }
     }
 
-    // The value of the key that is looked for, which is then in the buffer.
-    fn find(self, array: &JudySl, key: &mut KeyBuf) -> Option<u64>
-        requires { All (λ byte. byte ≢ 0) key.old.items }
-        ensures key { key.new.items
-            ≡ unwrap_or (neighbour self array.now.map key.old.items) key.old.items }
-        ensures value { result
-            ≡ value_found array.now.map (neighbour self array.now.map key.old.items) }
+    // The same where the buffer begins with such a string, and any key fits it: the key is written where it is to stand.
+    #[inline(always)]
+    fn tell_in(self, array: &JudySl, buffer: &mut [u8], count: &mut usize, value: &mut u64) -> u32
+        requires room { LONGEST_KEY ≤ length buffer.old }
+        requires start { (count.old ≤ length buffer.old)
+            × IsStringKey (take count.old buffer.old) }
+        ensures { IsSaid (scan_says array.now.map (neighbour self array.now.map)
+            (record { buffer = buffer.old; count = count.old; value = value.old })
+            (record { buffer = buffer.new; count = count.new; value = value.new })) result }
+    {
+        match array.neighbour_in(self.look(), buffer, count) {
+            Some(word) => {
+                *value = word;
+                FOUND
+            }
+            None => NONE,
+        }
+    }
+
+    // The same where not every key fits: the key is found in a buffer of its own.
+    #[inline(never)]
+    fn tell_beside(
+        self,
+        array: &JudySl,
+        buffer: &mut [u8],
+        count: &mut usize,
+        value: &mut u64,
+    ) -> u32
+        requires start { (count.old ≤ length buffer.old)
+            × IsStringKey (take count.old buffer.old) }
+        ensures { IsSaid (scan_says array.now.map (neighbour self array.now.map)
+            (record { buffer = buffer.old; count = count.old; value = value.old })
+            (record { buffer = buffer.new; count = count.new; value = value.new })) result }
+    {
+        let mut room = room_for(&buffer[..*count]);
+        let mut len = *count;
+        let found = array.neighbour_in(self.look(), &mut room, &mut len);
+        tell_entry(found, &room[..len], buffer, count, value)
+    }
+
+    // What it looks for, as the array is asked.
+    pub(crate) fn look(self) -> Look
+        ensures { (map : FinMap byte_order ℕ)
+            → neighbour_along result.side result.itself map ≡ neighbour self map }
     {
         match self {
-            Scan::First => array.first(key),
-            Scan::Next => array.next(key),
-            Scan::Last => array.last(key),
-            Scan::Prev => array.prev(key),
+            Scan::First => Look::inclusive(Side::Above),
+            Scan::Next => Look::exclusive(Side::Above),
+            Scan::Last => Look::inclusive(Side::Below),
+            Scan::Prev => Look::exclusive(Side::Below),
         }
     }
 }
 
-// The slot of the value of the key that a scan looks for, in one way down; the key is then in the buffer.
-pub(crate) fn find_slot<'a>(
-    array: &'a mut JudySl,
-    scan: Scan,
-    key: &mut KeyBuf,
-) -> Option<&'a mut u64>
-    requires { All (λ byte. byte ≢ 0) key.old.items }
-    ensures* writes_back { sem 𝓛 (LendsSlot array.entry key.new.items result) }
-    ensures key { key.new.items
-        ≡ unwrap_or (neighbour scan array.old.map key.old.items) key.old.items }
-    ensures value { option_copied_mut result
-        ≡ value_found array.old.map (neighbour scan array.old.map key.old.items) }
+// Whether a buffer begins with a string of so many bytes that a scan may begin at.
+pub(crate) fn is_start(buffer: &[u8], count: usize) -> bool
+    ensures { IsTrue result
+        ↔ ((count ≤ length buffer.now) × IsStringKey (take count buffer.now)) }
 {
-    match scan {
-        Scan::First => array.first_slot(key),
-        Scan::Next => array.next_slot(key),
-        Scan::Last => array.last_slot(key),
-        Scan::Prev => array.prev_slot(key),
+    match buffer.get(..count) {
+        Some(string) => is_key(string),
+        None => false,
     }
 }
 
-// Copies the string of so many bytes at the beginning of a buffer, where there is one that a scan may begin at.
-pub(crate) fn read_start(buffer: &[u8], count: usize, key: &mut KeyBuf) -> bool
-    requires { key.old.items ≡ [] }
-    ensures is { IsTrue result
-        ↔ ((count ≤ length buffer.now) × IsStringKey (take count buffer.now)) }
-    ensures read { IsTrue result → key.new.items ≡ take count buffer.now }
+// A buffer that any key fits and that begins with a string.
+pub(crate) fn room_for(string: &[u8]) -> [u8; LONGEST_KEY]
+    requires { length string.now ≤ LONGEST_KEY }
+    ensures { take (length string.now) result ≡ string.now }
 {
-    let Some(string) = buffer.get(..count) else {
-        return false;
-    };
-    is_key(string) && key.try_extend_from_slice(string).is_ok()
+    let mut room = [0; LONGEST_KEY];
+    room[..string.len()].copy_from_slice(string);
+    room
 }
 
 // Tells a key and its value, where it was found and fits the caller's buffer.

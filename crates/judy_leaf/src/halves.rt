@@ -1,5 +1,6 @@
 //! Where a key stands among ascending words, by halves. A step is a comparison and a choice between two places, which is no branch:
-//! which way it goes can't be foreseen. So among 32 words there are six comparisons, and no loop.
+//! which way it goes can't be foreseen. So among 32 words there are six comparisons, and no loop. The steps of a look-up are told to be inlined: by one
+//! call among them a look-up saves four registers, whichever way it goes.
 
 ghost use Rattle.std.specs.Prelude.{◌≡◌, ◌+◌, ◌*◌, ◌<◌, ◌≤◌, length};
 ghost use Rattle.std.specs.List.Sorted.{IsStrictlySortedBy};
@@ -65,6 +66,7 @@ pub(crate) fn rank_of(words: &[u64], key: u64) -> usize
 }
 
 // Where the last `next` of `size` places begin, or the first `next`, whichever a key has its place in if it is there.
+#[inline(always)]
 fn half_with(words: &[u64], key: u64, from: usize, size: usize, next: usize) -> usize
     requires ascending { IsStrictlySortedBy word_order words.now }
     requires few { length words.now ≤ 32 }
@@ -81,6 +83,7 @@ fn half_with(words: &[u64], key: u64, from: usize, size: usize, next: usize) -> 
 }
 
 // The one of two places from one on at which a key stands if it is there.
+#[inline(always)]
 fn place_in_two(words: &[u64], key: u64, from: usize) -> usize
     requires ascending { IsStrictlySortedBy word_order words.now }
     requires few { length words.now ≤ 32 }
@@ -91,6 +94,7 @@ fn place_in_two(words: &[u64], key: u64, from: usize) -> usize
 }
 
 // The same of four places.
+#[inline(always)]
 fn place_in_four(words: &[u64], key: u64, from: usize) -> usize
     requires ascending { IsStrictlySortedBy word_order words.now }
     requires few { length words.now ≤ 32 }
@@ -101,6 +105,7 @@ fn place_in_four(words: &[u64], key: u64, from: usize) -> usize
 }
 
 // The same of eight places.
+#[inline(always)]
 fn place_in_eight(words: &[u64], key: u64, from: usize) -> usize
     requires ascending { IsStrictlySortedBy word_order words.now }
     requires few { length words.now ≤ 32 }
@@ -111,6 +116,7 @@ fn place_in_eight(words: &[u64], key: u64, from: usize) -> usize
 }
 
 // The same of sixteen places.
+#[inline(always)]
 fn place_in_sixteen(words: &[u64], key: u64, from: usize) -> usize
     requires ascending { IsStrictlySortedBy word_order words.now }
     requires few { length words.now ≤ 32 }
@@ -130,16 +136,18 @@ fn place_in_all(words: &[u64], key: u64) -> usize
     ensures { IsWindow words.now key result 1 }
 {
     let size = words.len();
-    if size >= 16 {
+    if size < 4 {
+        if size < 2 {
+            0
+        } else {
+            place_in_two(words, key, half_with(words, key, 0, size, 2))
+        }
+    } else if size >= 16 {
         place_in_sixteen(words, key, half_with(words, key, 0, size, 16))
     } else if size >= 8 {
         place_in_eight(words, key, half_with(words, key, 0, size, 8))
-    } else if size >= 4 {
-        place_in_four(words, key, half_with(words, key, 0, size, 4))
-    } else if size >= 2 {
-        place_in_two(words, key, half_with(words, key, 0, size, 2))
     } else {
-        0
+        place_in_four(words, key, half_with(words, key, 0, size, 4))
     }
 }
 

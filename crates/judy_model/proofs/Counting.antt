@@ -1,13 +1,11 @@
 -- No array inside holds more keys than the array of strings that it is a part of, so it never becomes full.
-use Rattle.std.proofs.Common.{◌≡◌, ℕ, ◌<◌, ◌≤◌, ◌==◌, Bool, true, false, not, ◌&&◌, List, [], ◌∷◌, map, IsTrue, IsFalse, refl, sym, ap, ◌∙◌, subst, inl, inr, ⊎_elim, arith}
-use Rattle.std.specs.FinMap.{FinMap, contains_key, contains_key-keys, keys, len, len-empty, nat_cmp-IsAntisymmetric}
+use Rattle.std.proofs.Common.{◌≡◌, ℕ, ◌≤◌, List, [], ◌∷◌, map, IsTrue, ap, ◌∙◌, subst, inl, inr, ⊎_elim, arith}
+use Rattle.std.specs.FinMap.{FinMap, contains_key, contains_key-keys, keys, len, nat_cmp-IsAntisymmetric}
 use Rattle.std.specs.Cmp.{nat_cmp_total, eq_by_cmp_equiv}
-use Rattle.std.proofs.lemmas.Bool.{false≢true, ne_eqb}
 use Rattle.std.proofs.lemmas.List.{length-map}
 use Rattle.std.proofs.lemmas.Map.Keys.{IsDistinct-from_sorted}
 use Rattle.std.proofs.lemmas.Map.Made.{length-le_from_is_member}
 use Rattle.judy_model.specs.Keys.{word_order, byte_order}
-use Rattle.judy_model.specs.Arrays.{ArrayOf, is_full, empty_array}
 use Rattle.judy_model.proofs.Ascending.{Among, list_any-from_among}
 use Rattle.judy_model.proofs.KeysLemmas.{keys_ascending, length-keys, among_keys}
 use Rattle.judy_model.proofs.TableLemmas.{byte_order_total, byte_order_same}
@@ -25,18 +23,3 @@ fewer words all tell told =
     let found = told word (contains_key-keys words word ∙ held) in
     list_any-from_among nat_cmp_total nat_cmp-IsAntisymmetric (map tell (keys all)) word (subst (Among (map tell (keys all))) found.1 (among_map tell (keys all) found.0 (among_keys byte_order_total byte_order_same all found.0 found.2)))) in
     omega (arith, most, length-keys words, length-keys all, length-map (keys all) tell)
-
--- An array with fewer keys than its limit isn't full.
-pub not_full : (array : ArrayOf word_order) (word : ℕ) → len array.map < array.limit → IsFalse (is_full array word)
-not_full array word room = by (contains_key array.map word) (ne_eqb (len array.map) array.limit (λ e. omega arith))
-  where
-    by : (held : Bool) → IsFalse (len array.map == array.limit) → IsFalse (not held && (len array.map == array.limit))
-    by true below = refl
-    by false below = below
-
--- A new array isn't full.
-pub fresh_not_full : (array : ArrayOf word_order) (word : ℕ) → array ≡ empty_array 18446744073709551615 → IsFalse (is_full array word)
-fresh_not_full array word fresh = subst (λ (a : ArrayOf word_order). IsFalse (is_full a word)) (sym fresh) (not_full (empty_array 18446744073709551615) word (let none = len-empty word_order ℕ in omega arith))
-
-pub never_fresh : (array : ArrayOf word_order) (word : ℕ) → array ≡ empty_array 18446744073709551615 → IsTrue (is_full array word) → ⊥
-never_fresh array word fresh full = false≢true (sym (fresh_not_full array word fresh) ∙ full)

@@ -11,7 +11,7 @@ use Rattle.judy_sl.specs.declared.arena.Place.TheVariants.{Root, Below}
 use Rattle.judy_sl.specs.Pieces.{pieces, IsFinal, SpellKey}
 use Rattle.judy_sl.specs.World.{World, Node, gone, level}
 use Rattle.judy_sl.specs.Worlds.{IsWorld, AllLed}
-use Rattle.judy_sl.specs.Arenas.{world_of, node_of, child_at, IsArena, HasText, HasLimit}
+use Rattle.judy_sl.specs.Arenas.{world_of, node_of, child_at, IsArena, HasText}
 use Rattle.judy_sl.specs.Children.{IsTaken, IsLevelChild}
 use Rattle.judy_sl.specs.Places.{IsPlace, IsLevelPlace, place_with}
 use Rattle.judy_sl.specs.Ways.{seat_of, piece_at, IsGap, HasValue, left_of}
@@ -43,8 +43,6 @@ module _ (before after : Arena) (same : IsSame before after) where
     behind = is.behind;
     is_world = subst (λ w. IsWorld w is.behind) (sym world-same) is.is_world;
     texts = λ at. subst HasText (sym (child-same at)) (is.texts at);
-    root_limit = ap (λ (words : ArrayOf word_order). words.limit) same.root ∙ is.root_limit;
-    limits = λ at. subst HasLimit (sym (child-same at)) (is.limits at);
   }
 
 -- ---- a place of a level

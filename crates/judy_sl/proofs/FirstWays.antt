@@ -1,5 +1,5 @@
 -- The first pieces of an array's keys, and the list of how many begin with each, through what its arena becomes.
-use Rattle.std.proofs.Common.{◌≡◌, ℕ, suc, ◌≤◌, true, false, IsTrue, IfOk, IfErr, IsSome, List, [], ◌∷◌, ◌++◌, Option, None, Some, is_some, Result, Ok, Err, refl, sym, ap, ◌∙◌, subst, true≢false}
+use Rattle.std.proofs.Common.{◌≡◌, ℕ, suc, ◌≤◌, true, false, IsTrue, IfOk, OnErr, IsSome, List, [], ◌∷◌, ◌++◌, Option, None, Some, is_some, Result, Ok, Err, refl, sym, ap, ◌∙◌, subst, true≢false}
 use Rattle.std.proofs.lemmas.Option.{none-some}
 use Rattle.std.specs.FinMap.{FinMap, empty, get, contains_key, insert, remove}
 use Rattle.judy_model.specs.Keys.{word_order, byte_order, IsStringKey}
@@ -13,8 +13,6 @@ use Rattle.judy_sl.specs.declared.arena.Place.{Place}
 use Rattle.judy_sl.specs.declared.arena.Place.TheVariants.{Root, Below}
 use Rattle.judy_sl.specs.declared.arena.Way.{Way}
 use Rattle.judy_sl.specs.declared.arena.Way.TheVariants.{At, Gap, Clash}
-use Rattle.judy_sl.specs.declared.error.SlError.{SlError}
-use Rattle.judy_sl.specs.declared.error.SlError.TheVariants.{NoMemory}
 use Rattle.judy_sl.specs.Pieces.{pieces, piece_of, SpellKey}
 use Rattle.judy_sl.specs.World.{World, lookup, at_entry, walk}
 use Rattle.judy_sl.specs.Arenas.{world_of, map_of, IsArena, IsStrings}
@@ -142,9 +140,9 @@ module _ (arena after : Arena) (key : List ℕ) (is_key : IsStringKey key) (none
       subst (λ (all : FinMap byte_order ℕ). AreFirsts all (raised firsts (piece_of key))) (sym (added_map place added)) (firsts_more (map_of arena) key 0 none firsts held are)
 
   -- One is refused whose way ends in the first level, or comes in.
-  pub tried_first : beginning (map_of arena) (piece_of key) ≡ 0 → (result : Result Place SlError) → IfOk result (λ made. IsAdded arena after key made) → IfErr result (λ error. IsSame arena after × (error ≡ NoMemory)) → AreFirsts (map_of after) firsts
+  pub tried_first : beginning (map_of arena) (piece_of key) ≡ 0 → {E : Type 0} (result : Result Place E) → IfOk result (λ made. IsAdded arena after key made) → OnErr result (IsSame arena after) → AreFirsts (map_of after) firsts
   tried_first nothing (Ok place) added refused = added_first nothing place added
-  tried_first nothing (Err error) added refused = firsts_same arena after refused.0 firsts are
+  tried_first nothing (Err error) added refused = firsts_same arena after refused firsts are
 
 -- One goes.
 module _ (arena after : Arena) (key : List ℕ) (is_key : IsStringKey key) (shrunk : IsShrunk arena after key) (firsts : FinMap word_order ℕ) (are : AreFirsts (map_of arena) firsts) where

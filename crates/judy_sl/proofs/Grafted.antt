@@ -42,7 +42,6 @@ pub record Hung (before now after : Arena) (was : IsArena now) (words linked : A
   pub get_here : get linked.map (piece_of rest) ≡ Some entry
   pub get_off : (p : ℕ) → p ≢ piece_of rest → get linked.map p ≡ get words.map p
   pub stays : (seat : ℕ) → world_of now seat ≢ gone → (world_of after seat ≡ world_of now seat) × (grafts.is.behind seat ≡ was.behind seat)
-  pub limit : linked.limit ≡ words.limit
   pub led : (at : ℕ) → world_of after (suc at) ≢ gone → (world_of now (suc at) ≢ gone) ⊎ (IsInner (piece_of rest) × (get linked.map (piece_of rest) ≡ Some at))
 
 hung-none : (before now : Arena) (grafts : Grafts before now) (words linked : ArrayOf word_order) (place rest : List ℕ) (value : ℕ) → linked ≡ words → length rest < 8 → IsText rest → SpellKey (place ++ pieces rest) → get words.map (piece_of rest) ≡ Some value → Hung before now now grafts.is words linked place rest value
@@ -53,7 +52,6 @@ hung-none before now grafts words linked place rest value same short text spells
   get_here = ap (λ (l : ArrayOf word_order). get l.map (piece_of rest)) same ∙ entry;
   get_off = λ p apart. ap (λ (l : ArrayOf word_order). get l.map p) same;
   stays = λ seat some. (refl, refl);
-  limit = ap (λ (l : ArrayOf word_order). l.limit) same;
   led = λ at there. inl there;
 }
 
@@ -68,15 +66,14 @@ hung-some before now after grafts words linked place rest value twig at put_is l
     let twig_text : IsText twig.rest.now = subst IsText (sym is.2) (text-drop 8 rest text) in
     let node : node_of (Tail ((twig.rest.now, twig.value))) ≡ tail held value = (λ i. tail (pieces (is.2 i)) (is.3 i)) in
     let fits : SpellKey (front ++ pieces twig.rest.now) = subst SpellKey (ap (λ ps. place ++ ps) (pieces_long rest is.0) ∙ sym (append_assoc place (piece_of rest ∷ []) held) ∙ ap (λ b. front ++ pieces b) (sym is.2)) spells in
-    let here = put-here now after grafts.is (Tail ((twig.rest.now, twig.value))) at put_is front twig_text tt fits tt in
+    let here = put-here now after grafts.is (Tail ((twig.rest.now, twig.value))) at put_is front twig_text fits tt in
     record {
-      grafts = put-grafts now after grafts.is (Tail ((twig.rest.now, twig.value))) at put_is front twig_text tt fits tt before grafts.was grafts.same;
+      grafts = put-grafts now after grafts.is (Tail ((twig.rest.now, twig.value))) at put_is front twig_text fits tt before grafts.was grafts.same;
       entry = at;
-      side = subst (λ ps. IsSide (world_of after) (behind_put now after grafts.is (Tail ((twig.rest.now, twig.value))) at put_is front twig_text tt) place ps value at) (sym (pieces_long rest is.0)) (long-side (world_of after) (behind_put now after grafts.is (Tail ((twig.rest.now, twig.value))) at put_is front twig_text tt) place (piece_of rest) held value at (pieces-some (drop 8 rest)) (piece-IsInner rest text is.0) (here.0 ∙ node) here.1);
+      side = subst (λ ps. IsSide (world_of after) (behind_put now after grafts.is (Tail ((twig.rest.now, twig.value))) at put_is front twig_text) place ps value at) (sym (pieces_long rest is.0)) (long-side (world_of after) (behind_put now after grafts.is (Tail ((twig.rest.now, twig.value))) at put_is front twig_text) place (piece_of rest) held value at (pieces-some (drop 8 rest)) (piece-IsInner rest text is.0) (here.0 ∙ node) here.1);
       get_here = ap (λ (l : ArrayOf word_order). get l.map (piece_of rest)) linked_is ∙ ap (λ p. get (insert words.map p at) (piece_of rest)) is.1 ∙ get-insert_here words.map (piece_of rest) at;
       get_off = λ p apart. ap (λ (l : ArrayOf word_order). get l.map p) linked_is ∙ get-insert_off words.map twig.piece at p (λ e. apart (e ∙ is.1));
-      stays = put-same now after grafts.is (Tail ((twig.rest.now, twig.value))) at put_is front twig_text tt fits tt;
-      limit = ap (λ (l : ArrayOf word_order). l.limit) linked_is;
+      stays = put-same now after grafts.is (Tail ((twig.rest.now, twig.value))) at put_is front twig_text fits tt;
       led = λ k there. elim (cases_eq k at) [
         | inl e ↦ inr (piece-IsInner rest text is.0, ap (λ (l : ArrayOf word_order). get l.map (piece_of rest)) linked_is ∙ ap (λ p. get (insert words.map p at) (piece_of rest)) is.1 ∙ get-insert_here words.map (piece_of rest) at ∙ ap (λ n. Some n) (sym e))
         | inr apart ↦ inl (λ none. there (ap node_of (put_is.elsewhere k apart) ∙ none))
@@ -117,7 +114,6 @@ pub record IsGrafting (before now : Arena) (front held new : List ℕ) (value : 
   pub held_are : ArePieces held_now
   pub new_are : ArePieces new_now
   pub branch : IsBranch (world_of now) grafts.is.behind (front ++ keys_of upper) words.map held_now new_now value
-  pub limit : words.limit ≡ 18446744073709551615
   pub led : (at : ℕ) → world_of now (suc at) ≢ gone → IsLedUp before now words.map at
   pub made : (at : ℕ) → LevelMade before front held new (grafts.is.behind (suc at)) at (child_at now at)
 
@@ -157,7 +153,7 @@ grafting-up before now after front held new value upper rest words above linked 
     let here : get linked.map piece ≡ Some to = ap (λ (l : ArrayOf word_order). get l.map piece) linked_is ∙ get-insert_here above.map piece to in
     let off : ((p : ℕ) → p ≢ piece → get linked.map p ≡ None) = (λ p apart. ap (λ (l : ArrayOf word_order). get l.map p) linked_is ∙ get-insert_off above.map piece to p apart ∙ ap (λ (l : ArrayOf word_order). get l.map p) above_is ∙ get-insert_off empty piece 0 p apart ∙ get-empty word_order p) in
     record {
-      grafts = up-grafts now after is.grafts.is words to put_is is.limit place piece parts.1 is.held_now is.new_now value branch is.held_are is.new_are before is.grafts refl;
+      grafts = up-grafts now after is.grafts.is words to put_is place piece parts.1 is.held_now is.new_now value branch is.held_are is.new_are before is.grafts refl;
       inner = parts.0;
       held_now = piece ∷ is.held_now;
       new_now = piece ∷ is.new_now;
@@ -165,8 +161,7 @@ grafting-up before now after front held new value upper rest words above linked 
       new_parts = is.new_parts ∙ ap (λ ks. ks ++ is.new_now) keys ∙ append_assoc (keys_of rest) (piece ∷ []) is.new_now;
       held_are = are-more piece is.held_now parts.1 is.held_are;
       new_are = are-more piece is.new_now parts.1 is.new_are;
-      branch = up-branch now after is.grafts.is words to put_is is.limit place piece parts.1 is.held_now is.new_now value branch is.held_are is.new_are linked.map here off;
-      limit = ap (λ (l : ArrayOf word_order). l.limit) (linked_is ∙ ap (λ (l : ArrayOf word_order). with_value l piece to) above_is);
+      branch = up-branch now after is.grafts.is words to put_is place piece parts.1 is.held_now is.new_now value branch is.held_are is.new_are linked.map here off;
       led = λ at there. elim (cases_eq at to) [
         | inl e ↦ inr (inr (piece, parts.1, here ∙ ap (λ n. Some n) (sym e)))
         | inr apart ↦ led-up before now after words linked.map to put_is at (is.led at (λ none. there (ap node_of (put_is.elsewhere at apart) ∙ none)))
@@ -237,7 +232,6 @@ module _ (before now : Arena) (key : List ℕ) (from : Place) (at left : ℕ) (b
                 (λ p not_a not_b. new.get_off p not_b ∙ old.get_off p not_a ∙ fork_off p not_b ∙ middle_off p not_a)
                 (short-place place a hs.0 (subst (λ ps. SpellKey (place ++ ps)) hs.1 held_spells))
                 ));
-            limit = new.limit ∙ old.limit ∙ ap (λ (l : ArrayOf word_order). l.limit) built.new.level ∙ ap (λ (l : ArrayOf word_order). l.limit) built.old.level;
             led = λ to there. elim (new.led to there) [
               | inr by ↦ inr (inr (b, by.0, by.1))
               | inl stood ↦ elim (old.led to stood) [

@@ -12,7 +12,7 @@ use Rattle.judy_sl.specs.declared.branches.Branch.{Branch}
 use Rattle.judy_sl.specs.Pieces.{pieces, ArePieces}
 use Rattle.judy_sl.specs.World.{World, Node, gone, tail, level}
 use Rattle.judy_sl.specs.Worlds.{IsWorld, FitsBehind, IsLed, AllLed}
-use Rattle.judy_sl.specs.Arenas.{world_of, node_of, child_at, IsArena, HasText, HasLimit}
+use Rattle.judy_sl.specs.Arenas.{world_of, node_of, child_at, IsArena, HasText}
 use Rattle.judy_sl.specs.Places.{place_with}
 use Rattle.judy_sl.specs.Ways.{IsOnWay, seat_of, piece_at, left_of}
 use Rattle.judy_sl.specs.Grown.{IsChange, IsPut, IsGraft, IsGrafted}
@@ -24,7 +24,7 @@ use Rattle.judy_sl.proofs.OnWay.{pieces-some}
 use Rattle.judy_sl.proofs.Written.{behind-leads}
 use Rattle.judy_sl.proofs.Led.{led-moves}
 use Rattle.judy_sl.proofs.KeptLevels.{IsReached, reached-behind, all-reached}
-use Rattle.judy_sl.proofs.Linked.{node_with, world-with_place, texts-place, limits-place, root-place}
+use Rattle.judy_sl.proofs.Linked.{node_with, world-with_place, texts-place}
 use Rattle.judy_sl.proofs.Filled.{level-child, level-place}
 use Rattle.judy_sl.proofs.Orphans.{freed}
 use Rattle.judy_sl.proofs.Shrinks.{vacated-world}
@@ -82,21 +82,21 @@ module _ (before now top after : Arena) (key : List ℕ) (from : Place) (at left
       subst (λ ps. IsBranch (world_of now) is.grafts.is.behind (front ++ []) words.map held ps graft.clash.value) (sym is.new_parts) (
       subst (λ ps. IsBranch (world_of now) is.grafts.is.behind (front ++ []) words.map ps is.new_now graft.clash.value) (sym is.held_parts) is.branch))
 
-  fits-top : FitsBehind (world_of now) (behind_put now top is.grafts.is (Level 2 words) to put_is (place ++ piece ∷ []) tt is.limit) (place ++ piece ∷ []) words.map
-  fits-top = up-fits now top is.grafts.is words to put_is is.limit place piece graft.clash.inner held new graft.clash.value branch-is held_are new_are
+  fits-top : FitsBehind (world_of now) (behind_put now top is.grafts.is (Level 2 words) to put_is (place ++ piece ∷ []) tt) (place ++ piece ∷ []) words.map
+  fits-top = up-fits now top is.grafts.is words to put_is place piece graft.clash.inner held new graft.clash.value branch-is held_are new_are
 
   abbrev pub top_grafts : Grafts before top
-  top_grafts = up-grafts now top is.grafts.is words to put_is is.limit place piece graft.clash.inner held new graft.clash.value branch-is held_are new_are before is.grafts refl
+  top_grafts = up-grafts now top is.grafts.is words to put_is place piece graft.clash.inner held new graft.clash.value branch-is held_are new_are before is.grafts refl
 
   abbrev pub behind : ℕ → List ℕ
   behind = top_grafts.is.behind
 
   pub top-there : (world_of top (suc to) ≡ level words.map) × (behind (suc to) ≡ place ++ piece ∷ [])
-  top-there = put-here now top is.grafts.is (Level 2 words) to put_is (place ++ piece ∷ []) tt is.limit fits-top branch-is.used
+  top-there = put-here now top is.grafts.is (Level 2 words) to put_is (place ++ piece ∷ []) tt fits-top branch-is.used
 
   looks : (ps : List ℕ) → ArePieces ps → look_in (world_of top) (level words.map) ps ≡ look_in (world_of now) (level words.map) ps
   looks [] are = refl
-  looks (p ∷ rest) are = put-look now top is.grafts.is (Level 2 words) to put_is (place ++ piece ∷ []) tt is.limit fits-top branch-is.used (place ++ piece ∷ []) words.map branch-is.fits p rest are
+  looks (p ∷ rest) are = put-look now top is.grafts.is (Level 2 words) to put_is (place ++ piece ∷ []) tt fits-top branch-is.used (place ++ piece ∷ []) words.map branch-is.fits p rest are
 
   -- Each level was there, or stands between.
   pub top-made : (k : ℕ) → LevelMade before front held new (behind (suc k)) k (child_at top k)
@@ -179,8 +179,6 @@ module _ (before now top after : Arena) (key : List ℕ) (from : Place) (at left
         behind = behind;
         is_world = after-world;
         texts = after-all HasText tt (texts-place top to from there top_grafts.is.texts);
-        root_limit = ap (λ (l : ArrayOf word_order). l.limit) vacated.root ∙ root-place top to from ∙ top_grafts.is.root_limit;
-        limits = after-all HasLimit tt (limits-place top to from there top_grafts.is.limits);
       }
 
   was-led : (k : ℕ) → IsLed (world_of before) k → IsLed (world_of top) k

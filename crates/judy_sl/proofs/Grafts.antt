@@ -12,7 +12,7 @@ use Rattle.judy_sl.specs.declared.arena.Arena.{Arena}
 use Rattle.judy_sl.specs.Pieces.{IsInner, IsFinal, SpellKey, ArePieces}
 use Rattle.judy_sl.specs.World.{World, gone, tail, level, lookup, at_entry}
 use Rattle.judy_sl.specs.Worlds.{IsWorld, FitsBehind}
-use Rattle.judy_sl.specs.Arenas.{world_of, node_of, child_at, IsArena, HasText, HasLimit}
+use Rattle.judy_sl.specs.Arenas.{world_of, node_of, child_at, IsArena, HasText}
 use Rattle.judy_sl.specs.Grown.{IsPut}
 use Rattle.judy_sl.proofs.Ways.{look_in, tail-same, tail-other}
 use Rattle.judy_sl.proofs.Frames.{frame-below}
@@ -29,7 +29,7 @@ pub grafts-start : (before : Arena) → IsArena before → Grafts before before
 grafts-start before is = record { was = is; is = is; same = λ seat some. (refl, refl) }
 
 -- A child that was put where nothing was.
-module _ (now after : Arena) (is : IsArena now) (child : Child) (to : ℕ) (put_is : IsPut now after child to) (place : List ℕ) (text : HasText child) (limit : HasLimit child) where
+module _ (now after : Arena) (is : IsArena now) (child : Child) (to : ℕ) (put_is : IsPut now after child to) (place : List ℕ) (text : HasText child) where
   abbrev pub behind_put : ℕ → List ℕ
   behind_put = set_behind is.behind (suc to) place
 
@@ -44,11 +44,6 @@ module _ (now after : Arena) (is : IsArena now) (child : Child) (to : ℕ) (put_
       texts = λ k. elim (cases_eq k to) [
         | inl e ↦ subst HasText (sym (ap (child_at after) e ∙ put_is.here)) text
         | inr apart ↦ subst HasText (sym (put_is.elsewhere k apart)) (is.texts k)
-      ];
-      root_limit = ap (λ (words : ArrayOf word_order). words.limit) put_is.root ∙ is.root_limit;
-      limits = λ k. elim (cases_eq k to) [
-        | inl e ↦ subst HasLimit (sym (ap (child_at after) e ∙ put_is.here)) limit
-        | inr apart ↦ subst HasLimit (sym (put_is.elsewhere k apart)) (is.limits k)
       ];
     }
 
@@ -171,11 +166,11 @@ module _ (world : World) (behind : ℕ → List ℕ) (place : List ℕ) (map : F
 
 -- ---- one level more above it
 
-module _ (now after : Arena) (is : IsArena now) (words : ArrayOf word_order) (to : ℕ) (put_is : IsPut now after (Level 2 words) to) (limit : words.limit ≡ 18446744073709551615) (place : List ℕ) (piece : ℕ) (inner : IsInner piece) (held new : List ℕ) (value : ℕ) (branch : IsBranch (world_of now) is.behind (place ++ piece ∷ []) words.map held new value) (held_are : ArePieces held) (new_are : ArePieces new) where
+module _ (now after : Arena) (is : IsArena now) (words : ArrayOf word_order) (to : ℕ) (put_is : IsPut now after (Level 2 words) to) (place : List ℕ) (piece : ℕ) (inner : IsInner piece) (held new : List ℕ) (value : ℕ) (branch : IsBranch (world_of now) is.behind (place ++ piece ∷ []) words.map held new value) (held_are : ArePieces held) (new_are : ArePieces new) where
   abbrev front : List ℕ
   front = place ++ piece ∷ []
 
-  pub up-fits : FitsBehind (world_of now) (behind_put now after is (Level 2 words) to put_is front tt limit) front words.map
+  pub up-fits : FitsBehind (world_of now) (behind_put now after is (Level 2 words) to put_is front tt) front words.map
   up-fits = record {
     leads = λ p found entry p_inner.
         let leads = branch.fits.leads p found entry p_inner in
@@ -185,20 +180,20 @@ module _ (now after : Arena) (is : IsArena now) (words : ArrayOf word_order) (to
   }
 
   abbrev pub up-grafts : (before : Arena) (grafts : Grafts before now) → grafts.is ≡ is → Grafts before after
-  up-grafts before grafts e = put-grafts now after is (Level 2 words) to put_is front tt limit up-fits branch.used before grafts.was (subst (λ (a : IsArena now). (seat : ℕ) → world_of before seat ≢ gone → (world_of now seat ≡ world_of before seat) × (a.behind seat ≡ grafts.was.behind seat)) e grafts.same)
+  up-grafts before grafts e = put-grafts now after is (Level 2 words) to put_is front tt up-fits branch.used before grafts.was (subst (λ (a : IsArena now). (seat : ℕ) → world_of before seat ≢ gone → (world_of now seat ≡ world_of before seat) × (a.behind seat ≡ grafts.was.behind seat)) e grafts.same)
 
   module _ (map : FinMap word_order ℕ) (here : get map piece ≡ Some to) (off : (p : ℕ) → p ≢ piece → get map p ≡ None) where
     seat-here : world_of after (suc to) ≡ level words.map
-    seat-here = (put-here now after is (Level 2 words) to put_is front tt limit up-fits branch.used).0
+    seat-here = (put-here now after is (Level 2 words) to put_is front tt up-fits branch.used).0
 
-    behind-here : behind_put now after is (Level 2 words) to put_is front tt limit (suc to) ≡ front
-    behind-here = (put-here now after is (Level 2 words) to put_is front tt limit up-fits branch.used).1
+    behind-here : behind_put now after is (Level 2 words) to put_is front tt (suc to) ≡ front
+    behind-here = (put-here now after is (Level 2 words) to put_is front tt up-fits branch.used).1
 
     through : (next : ℕ) (rest : List ℕ) → ArePieces (next ∷ rest) → look_in (world_of after) (level map) (piece ∷ next ∷ rest) ≡ look_in (world_of now) (level words.map) (next ∷ rest)
     through next rest are =
         ap (λ o. at_entry o (next ∷ rest) (λ at. lookup (world_of after) (suc at) (next ∷ rest))) here
         ∙ ap (λ n. look_in (world_of after) n (next ∷ rest)) seat-here
-        ∙ put-look now after is (Level 2 words) to put_is front tt limit up-fits branch.used front words.map branch.fits next rest are
+        ∙ put-look now after is (Level 2 words) to put_is front tt up-fits branch.used front words.map branch.fits next rest are
 
     through-pieces : (ps : List ℕ) → ArePieces ps → look_in (world_of after) (level map) (piece ∷ ps) ≡ look_in (world_of now) (level words.map) ps
     through-pieces [] are = absurd are
@@ -211,13 +206,13 @@ module _ (now after : Arena) (is : IsArena now) (words : ArrayOf word_order) (to
         ∙ through next rest are.1
         ∙ branch.others next rest are.1 (λ same. ne_held (λ i. e i ∷ same i)) (λ same. ne_new (λ i. e i ∷ same i))
 
-    pub up-branch : IsBranch (world_of after) (behind_put now after is (Level 2 words) to put_is front tt limit) place map (piece ∷ held) (piece ∷ new) value
+    pub up-branch : IsBranch (world_of after) (behind_put now after is (Level 2 words) to put_is front tt) place map (piece ∷ held) (piece ∷ new) value
     up-branch = record {
       fits = record {
         leads = λ p found entry p_inner. elim (cases_eq p piece) [
           | inl e ↦
               let at : to ≡ found = same_Some to found (sym (ap (get map) e ∙ here) ∙ entry) in
-              subst (λ f. (behind_put now after is (Level 2 words) to put_is front tt limit (suc f) ≡ place ++ p ∷ []) × (world_of after (suc f) ≢ gone)) at (behind-here ∙ ap (λ q. place ++ q ∷ []) (sym e), (λ none. let g : level words.map ≡ gone = sym seat-here ∙ none in cc))
+              subst (λ f. (behind_put now after is (Level 2 words) to put_is front tt (suc f) ≡ place ++ p ∷ []) × (world_of after (suc f) ≢ gone)) at (behind-here ∙ ap (λ q. place ++ q ∷ []) (sym e), (λ none. let g : level words.map ≡ gone = sym seat-here ∙ none in cc))
           | inr apart ↦ absurd (none-some found (sym (off p apart) ∙ entry))
         ];
         ends = λ p v entry final. elim (cases_eq p piece) [

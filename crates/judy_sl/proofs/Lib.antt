@@ -36,7 +36,6 @@ pub mod GraftedEntry
 pub mod Splits
 pub mod LevelLemmas
 pub mod Words
-pub mod Rooms
 pub mod Exact
 pub mod Looked
 pub mod Behind
@@ -69,6 +68,7 @@ pub mod CountedLost
 pub mod CountedKeys
 pub mod Beginnings
 pub mod FirstWays
+pub mod Fronts
 pub mod Beside
 pub mod CountedWrites
 pub mod SortedRuns

@@ -21,7 +21,7 @@ use Rattle.judy_sl.specs.declared.arena.Place.TheVariants.{Root, Below}
 use Rattle.judy_sl.specs.Pieces.{IsFinal, SpellKey}
 use Rattle.judy_sl.specs.World.{World, Node, gone, tail, level}
 use Rattle.judy_sl.specs.Worlds.{IsWorld, FitsBehind}
-use Rattle.judy_sl.specs.Arenas.{world_of, node_of, child_at, IsArena, HasText, HasLimit}
+use Rattle.judy_sl.specs.Arenas.{world_of, node_of, child_at, IsArena, HasText}
 use Rattle.judy_sl.specs.Places.{IsPlace, with_child, place_with}
 use Rattle.judy_sl.specs.Ways.{seat_of, piece_at}
 use Rattle.judy_sl.proofs.Ways.{equal_lists}
@@ -159,18 +159,13 @@ module _ (arena : Arena) (at : ℕ) (child : Child) (can : CanHold arena at chil
   world-with_child = λ i seat. world-with_child-at seat i
 
   -- A child that fits is taken.
-  pub arena-with_child : (is : IsArena arena) → HasText child → HasLimit child → NodeFits (world_of arena) is.behind (is.behind (suc at)) (node_of child) → IsUsed (suc at) (node_of child) → IsArena (with_child arena at child)
-  arena-with_child is text limit fits used = record {
+  pub arena-with_child : (is : IsArena arena) → HasText child → NodeFits (world_of arena) is.behind (is.behind (suc at)) (node_of child) → IsUsed (suc at) (node_of child) → IsArena (with_child arena at child)
+  arena-with_child is text fits used = record {
     behind = is.behind;
     is_world = subst (λ w. IsWorld w is.behind) (sym world-with_child) (keeps (world_of arena) is.behind is.is_world (suc at) (node_of child) fits used);
     texts = λ k. elim (cases_eq k at) [
       | inl e ↦ subst HasText (sym (child_at-same k e)) text
       | inr apart ↦ subst HasText (sym (child_at-other k apart)) (is.texts k)
-    ];
-    root_limit = ap (λ (words : ArrayOf word_order). words.limit) (root-with_child arena at child) ∙ is.root_limit;
-    limits = λ k. elim (cases_eq k at) [
-      | inl e ↦ subst HasLimit (sym (child_at-same k e)) limit
-      | inr apart ↦ subst HasLimit (sym (child_at-other k apart)) (is.limits k)
     ];
   }
 
@@ -182,13 +177,11 @@ module _ (arena : Arena) (words : ArrayOf word_order) where
   pub world-with_root : world_of (record arena { root = words }) ≡ set_node (world_of arena) 0 (level words.map)
   world-with_root = λ i seat. world-with_root-at seat i
 
-  pub arena-with_root : (is : IsArena arena) → words.limit ≡ 18446744073709551615 → FitsBehind (world_of arena) is.behind (is.behind 0) words.map → IsArena (record arena { root = words })
-  arena-with_root is limit fits = record {
+  pub arena-with_root : (is : IsArena arena) → FitsBehind (world_of arena) is.behind (is.behind 0) words.map → IsArena (record arena { root = words })
+  arena-with_root is fits = record {
     behind = is.behind;
     is_world = subst (λ w. IsWorld w is.behind) (sym world-with_root) (keeps (world_of arena) is.behind is.is_world 0 (level words.map) fits tt);
     texts = is.texts;
-    root_limit = limit;
-    limits = is.limits;
   }
 
 -- ---- a value is written
@@ -208,11 +201,6 @@ pub text-with : (child : Child) (piece value : ℕ) → HasText child → HasTex
 text-with Free piece value has = has
 text-with (Tail rest) piece value has = has
 text-with (Level keys words) piece value has = has
-
-pub limit-with : (child : Child) (piece value : ℕ) → HasLimit child → HasLimit (child_with child piece value)
-limit-with Free piece value has = has
-limit-with (Tail rest) piece value has = has
-limit-with (Level keys words) piece value has = has
 
 -- What may be put in the place of a child.
 pub can-with : (arena : Arena) (at piece value : ℕ) → IsTaken (child_at arena at) → CanHold arena at (child_with (child_at arena at) piece value)
@@ -259,11 +247,11 @@ module _ (world : World) (behind : ℕ → List ℕ) (place : List ℕ) (map : F
   }
 
 pub place-with_arena : (arena : Arena) (is : IsArena arena) (place : Place) (value : ℕ) → IsPlace arena place → NodeFits (world_of arena) is.behind (is.behind (seat_of place)) (node_with (world_of arena (seat_of place)) (piece_at place) value) → IsUsed (seat_of place) (node_with (world_of arena (seat_of place)) (piece_at place) value) → IsArena (place_with arena place value)
-place-with_arena arena is (Root piece) value inside fits used = arena-with_root arena (with_value arena.root piece value) is is.root_limit fits
+place-with_arena arena is (Root piece) value inside fits used = arena-with_root arena (with_value arena.root piece value) is fits
 place-with_arena arena is (Below at piece) value taken fits used =
-    arena-with_child arena at (child_with (child_at arena at) piece value) (can-with arena at piece value taken) is (text-with (child_at arena at) piece value (is.texts at)) (limit-with (child_at arena at) piece value (is.limits at)) (subst (NodeFits (world_of arena) is.behind (is.behind (suc at))) (sym (node_of-with (child_at arena at) piece value)) fits) (subst (IsUsed (suc at)) (sym (node_of-with (child_at arena at) piece value)) used)
+    arena-with_child arena at (child_with (child_at arena at) piece value) (can-with arena at piece value taken) is (text-with (child_at arena at) piece value (is.texts at)) (subst (NodeFits (world_of arena) is.behind (is.behind (suc at))) (sym (node_of-with (child_at arena at) piece value)) fits) (subst (IsUsed (suc at)) (sym (node_of-with (child_at arena at) piece value)) used)
 
--- The bytes of tails and the limits stay.
+-- The bytes of tails stay.
 module _ (arena : Arena) (value : ℕ) where
   pub texts-place : (place : Place) → IsPlace arena place → ((k : ℕ) → HasText (child_at arena k)) → (k : ℕ) → HasText (child_at (place_with arena place value) k)
   texts-place (Root piece) inside texts k = texts k
@@ -271,14 +259,3 @@ module _ (arena : Arena) (value : ℕ) where
     | inl e ↦ subst HasText (sym (child_at-same arena at (child_with (child_at arena at) piece value) (can-with arena at piece value taken) k e)) (text-with (child_at arena at) piece value (texts at))
     | inr apart ↦ subst HasText (sym (child_at-other arena at (child_with (child_at arena at) piece value) (can-with arena at piece value taken) k apart)) (texts k)
   ]
-
-  pub limits-place : (place : Place) → IsPlace arena place → ((k : ℕ) → HasLimit (child_at arena k)) → (k : ℕ) → HasLimit (child_at (place_with arena place value) k)
-  limits-place (Root piece) inside limits k = limits k
-  limits-place (Below at piece) taken limits k = elim (cases_eq k at) [
-    | inl e ↦ subst HasLimit (sym (child_at-same arena at (child_with (child_at arena at) piece value) (can-with arena at piece value taken) k e)) (limit-with (child_at arena at) piece value (limits at))
-    | inr apart ↦ subst HasLimit (sym (child_at-other arena at (child_with (child_at arena at) piece value) (can-with arena at piece value taken) k apart)) (limits k)
-  ]
-
-  pub root-place : (place : Place) → (place_with arena place value).root.limit ≡ arena.root.limit
-  root-place (Root piece) = refl
-  root-place (Below at piece) = ap (λ (words : ArrayOf word_order). words.limit) (root-with_child arena at (child_with (child_at arena at) piece value))

@@ -12,7 +12,7 @@ use Rattle.judy_sl.specs.declared.arena.Arena.{Arena}
 use Rattle.judy_sl.specs.Pieces.{pieces, piece_of, SpellKey}
 use Rattle.judy_sl.specs.World.{gone, tail, level, lookup, at_entry}
 use Rattle.judy_sl.specs.Worlds.{FitsBehind, AllLed}
-use Rattle.judy_sl.specs.Arenas.{world_of, node_of, child_at, map_of, HasText, HasLimit, IsArena}
+use Rattle.judy_sl.specs.Arenas.{world_of, node_of, child_at, map_of, HasText, IsArena}
 use Rattle.judy_sl.proofs.PieceLemmas.{text_of_key, pieces_are, pieces_same}
 use Rattle.judy_sl.proofs.OnWay.{pieces-head}
 use Rattle.judy_sl.specs.Grown.{IsChange}
@@ -85,8 +85,6 @@ module _ (arena : Arena) (no_levels : arena.levels.slots ≡ []) (nothing : aren
       tails = tails-none;
     };
     texts = λ at. subst HasText (sym (child-none arena no_levels nothing at)) tt;
-    root_limit = ap (λ (words : ArrayOf word_order). words.limit) no_root;
-    limits = λ at. subst HasLimit (sym (child-none arena no_levels nothing at)) tt;
   }
 
   pub empty-led : AllLed (world_of arena)

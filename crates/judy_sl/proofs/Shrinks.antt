@@ -13,7 +13,7 @@ use Rattle.judy_sl.specs.declared.shrink.Cut.{Cut}
 use Rattle.judy_sl.specs.Pieces.{pieces, piece_of, IsText, ArePieces}
 use Rattle.judy_sl.specs.World.{World, Node, gone, tail, level, lookup, at_entry}
 use Rattle.judy_sl.specs.Worlds.{IsWorld, FitsBehind, AllLed}
-use Rattle.judy_sl.specs.Arenas.{world_of, node_of, child_at, IsArena, HasText, HasLimit}
+use Rattle.judy_sl.specs.Arenas.{world_of, node_of, child_at, IsArena, HasText}
 use Rattle.judy_sl.specs.Ways.{seat_of, piece_at, left_of}
 use Rattle.judy_sl.specs.Grown.{IsChange}
 use Rattle.judy_sl.specs.Shrunk.{without, child_without, place_without, IsVacated, EntryLone, NodeLone, IsLone, IsCutChild, IsCutWhere, IsOrphan, IsLeft, IsCleared, IsShrunk}
@@ -65,8 +65,6 @@ module _ (arena after : Arena) (at : ℕ) (vacated : IsVacated arena after at) w
     behind = is.behind;
     is_world = subst (λ w. IsWorld w is.behind) (sym vacated-world) (freed-world (world_of arena) at loose.unled is.behind is.is_world);
     texts = vacated-all HasText tt is.texts;
-    root_limit = ap (λ (words : ArrayOf word_order). words.limit) vacated.root ∙ is.root_limit;
-    limits = vacated-all HasLimit tt is.limits;
   }
 
   pub vacated-look : (ps : List ℕ) → IsOrphan (world_of arena) at ps → (other : List ℕ) → ArePieces other → lookup (world_of after) 0 other ≡ lookup (world_of arena) 0 other
@@ -157,11 +155,6 @@ module _ (before now after : Arena) (at : ℕ) (rest : List ℕ) (is : IsClearin
 
 -- ---- an entry is taken out
 
-limit-without : (child : Child) (piece : ℕ) → HasLimit child → HasLimit (child_without child piece)
-limit-without Free piece has = has
-limit-without (Tail rest) piece has = has
-limit-without (Level keys words) piece has = has
-
 text-without : (child : Child) (piece : ℕ) → HasText child → HasText (child_without child piece)
 text-without Free piece has = has
 text-without (Tail rest) piece has = has
@@ -196,10 +189,10 @@ module _ (arena : Arena) (map : FinMap word_order ℕ) where
   pub arena-without : (is : IsArena arena) (place : Place) → world_of arena (seat_of place) ≡ level map → FitsBehind (world_of arena) is.behind (is.behind (seat_of place)) (remove map (piece_at place)) → IsUsed (seat_of place) (level (remove map (piece_at place))) → IsArena (place_without arena place)
   arena-without is (Root piece) e fits used =
       let same : arena.root.map ≡ map = cc in
-      arena-with_root arena (without arena.root piece) is is.root_limit (subst (λ (m : FinMap word_order ℕ). FitsBehind (world_of arena) is.behind (is.behind 0) (remove m piece)) (sym same) fits)
+      arena-with_root arena (without arena.root piece) is (subst (λ (m : FinMap word_order ℕ). FitsBehind (world_of arena) is.behind (is.behind 0) (remove m piece)) (sym same) fits)
   arena-without is (Below at piece) e fits used =
       let node = node-without (child_at arena at) piece map e in
-      arena-with_child arena at (child_without (child_at arena at) piece) (can-at at piece e) is (text-without (child_at arena at) piece (is.texts at)) (limit-without (child_at arena at) piece (is.limits at)) (subst (NodeFits (world_of arena) is.behind (is.behind (suc at))) (sym node) fits) (subst (IsUsed (suc at)) (sym node) used)
+      arena-with_child arena at (child_without (child_at arena at) piece) (can-at at piece e) is (text-without (child_at arena at) piece (is.texts at)) (subst (NodeFits (world_of arena) is.behind (is.behind (suc at))) (sym node) fits) (subst (IsUsed (suc at)) (sym node) used)
 
 -- ---- the whole
 

@@ -10,7 +10,7 @@ use Rattle.judy_sl.specs.declared.arena.Arena.{Arena}
 use Rattle.judy_sl.specs.Pieces.{pieces, AreInner}
 use Rattle.judy_sl.specs.World.{World, Node, lookup, walk}
 use Rattle.judy_sl.specs.Worlds.{IsWorld, AllLed}
-use Rattle.judy_sl.specs.Arenas.{world_of, node_of, child_at, map_of, HasText, HasLimit, IsArena}
+use Rattle.judy_sl.specs.Arenas.{world_of, node_of, child_at, map_of, HasText, IsArena}
 use Rattle.judy_sl.specs.Places.{with_child}
 use Rattle.judy_sl.specs.Ways.{levels_passed}
 use Rattle.judy_sl.specs.Counted.{keys_behind, LevelTells, Same, OneLess, AreCounted, IsAmong, AreOnce, AreCountedBut, CanStepAt, AreStepped}
@@ -59,11 +59,6 @@ step-text comes Free has = has
 step-text comes (Tail rest) has = has
 step-text comes (Level keys words) has = has
 
-step-limit : (comes : Bool) (child : Child) → HasLimit child → HasLimit (child_stepped comes child)
-step-limit comes Free has = has
-step-limit comes (Tail rest) has = has
-step-limit comes (Level keys words) has = has
-
 set-itself : (world : World) (at : ℕ) (node : Node) → node ≡ world at → set_node world at node ≡ world
 set-itself world at node same = λ i seat. by_seat seat i
   where
@@ -104,11 +99,6 @@ module _ (now : Arena) (is : IsArena now) (comes : Bool) (at : ℕ) (is_level : 
     texts = λ k. elim (cases_eq k at) [
       | inl e ↦ subst HasText (sym (child_at-same now at child can k e)) (step-text comes (child_at now at) (is.texts at))
       | inr apart ↦ subst HasText (sym (child_at-other now at child can k apart)) (is.texts k)
-    ];
-    root_limit = ap (λ (words : ArrayOf word_order). words.limit) (root-with_child now at child) ∙ is.root_limit;
-    limits = λ k. elim (cases_eq k at) [
-      | inl e ↦ subst HasLimit (sym (child_at-same now at child can k e)) (step-limit comes (child_at now at) (is.limits at))
-      | inr apart ↦ subst HasLimit (sym (child_at-other now at child can k apart)) (is.limits k)
     ];
   }
 

@@ -6,15 +6,15 @@ use Rattle.std.proofs.lemmas.List.{append_assoc, length-drop}
 use Rattle.std.specs.FinMap.{FinMap, get, insert}
 use Rattle.judy_model.specs.Keys.{word_order, IsStringKey}
 use Rattle.judy_model.specs.Arrays.{ArrayOf}
-use Rattle.judy_sl.specs.Children.{Child, Tail, Level, HasRoom}
+use Rattle.judy_sl.specs.Children.{Child, Tail, Level}
 use Rattle.judy_sl.specs.declared.arena.Arena.{Arena}
 use Rattle.judy_sl.specs.declared.arena.Place.{Place}
 use Rattle.judy_sl.specs.declared.arena.Place.TheVariants.{Root, Below}
 use Rattle.judy_sl.specs.Pieces.{pieces, IsText, IsInner, IsFinal, SpellKey, ArePieces}
 use Rattle.judy_sl.specs.World.{World, Node, gone, tail, level, lookup, at_entry}
 use Rattle.judy_sl.specs.Worlds.{IsWorld, FitsBehind, AllLed}
-use Rattle.judy_sl.specs.Arenas.{world_of, node_of, child_at, IsArena, HasText, HasLimit}
-use Rattle.judy_sl.specs.Places.{place_with, PlaceHasRoom}
+use Rattle.judy_sl.specs.Arenas.{world_of, node_of, child_at, IsArena, HasText}
+use Rattle.judy_sl.specs.Places.{place_with}
 use Rattle.judy_sl.specs.Ways.{seat_of, piece_at, LeadsTo, IsFound, IsGap, HasValue, left_of}
 use Rattle.judy_sl.specs.Grown.{IsChange, IsPut, IsAdded}
 use Rattle.judy_sl.proofs.PieceLemmas.{piece-IsInner, text-drop}
@@ -25,7 +25,7 @@ use Rattle.judy_sl.proofs.Entries.{changes_behind}
 use Rattle.judy_sl.proofs.OnWay.{pieces-some, inner-more}
 use Rattle.judy_sl.proofs.Written.{behind-leads}
 use Rattle.judy_sl.proofs.Led.{led-put}
-use Rattle.judy_sl.proofs.Linked.{node_with, texts-place, limits-place, root-place, world-with_place, insert-some, get-insert_here, get-insert_off}
+use Rattle.judy_sl.proofs.Linked.{node_with, texts-place, world-with_place, insert-some, get-insert_here, get-insert_off}
 use Rattle.judy_sl.proofs.Filled.{level-place}
 
 -- A child that was put is at its seat.
@@ -49,11 +49,6 @@ module _ (before after : Arena) (child : Child) (at : ℕ) (put_is : IsPut befor
       ap (λ (w : World). w seat) (world-put before after child at put_is)
       ∙ cond-other (world_of before) (suc at) (node_of child) seat (put-off seat map is_level)
       ∙ is_level
-
-  -- And it has as much room.
-  pub room-put : (place : Place) (map : FinMap word_order ℕ) → world_of before (seat_of place) ≡ level map → PlaceHasRoom before place → PlaceHasRoom after place
-  room-put (Root piece) map is_level room = subst (λ (words : ArrayOf word_order). HasRoom (Level 0 words) piece) (sym put_is.root) room
-  room-put (Below to piece) map is_level room = subst (λ held. HasRoom held piece) (sym (put_is.elsewhere to (λ e. put-off (suc to) map is_level (ap (λ n. suc n) e)))) room
 
 -- An entry that leads to a new tail, over the seats alone.
 module _ (world : World) (behind : ℕ → List ℕ) (is : IsWorld world behind) (root : FinMap word_order ℕ) (root_is : world 0 ≡ level root) (key : List ℕ) (is_key : IsStringKey key) (seat : ℕ) (piece : ℕ) (held : List ℕ) (some : held ≢ []) (inner : IsInner piece) (leads : LeadsTo world key seat (piece ∷ held)) (map : FinMap word_order ℕ) (is_level : world seat ≡ level map) (absent : get map piece ≡ None) (at : ℕ) (free : world (suc at) ≡ gone) where
@@ -200,12 +195,6 @@ module _ (arena : Arena) (is : IsArena arena) (key : List ℕ) (is_key : IsStrin
     | inr apart ↦ subst HasText (sym (put_is.elsewhere k apart)) (is.texts k)
   ]
 
-  limits-placed : (k : ℕ) → HasLimit (child_at placed k)
-  limits-placed k = elim (cases_eq k at) [
-    | inl e ↦ subst HasLimit (sym (ap (child_at placed) e ∙ put_is.here)) tt
-    | inr apart ↦ subst HasLimit (sym (put_is.elsewhere k apart)) (is.limits k)
-  ]
-
   pub fills-tail : IsText rest.0 → IsAdded arena (place_with placed place at) key (Below at 0)
   fills-tail text =
       let there = level-place placed place gap.map level-there in
@@ -215,8 +204,6 @@ module _ (arena : Arena) (is : IsArena arena) (key : List ℕ) (is_key : IsStrin
           behind = behind_after world is.behind is.is_world arena.root.map refl key is_key (seat_of place) (piece_at place) held_of (pieces-some (drop 8 rest_of)) inner-is leads-is gap.map gap.is_level gap.absent at put_is.was_free;
           is_world = subst (λ w. IsWorld w (behind_after world is.behind is.is_world arena.root.map refl key is_key (seat_of place) (piece_at place) held_of (pieces-some (drop 8 rest_of)) inner-is leads-is gap.map gap.is_level gap.absent at put_is.was_free)) (sym after-is) (after-world world is.behind is.is_world arena.root.map refl key is_key (seat_of place) (piece_at place) held_of (pieces-some (drop 8 rest_of)) inner-is leads-is gap.map gap.is_level gap.absent at put_is.was_free);
           texts = texts-place placed at place there (texts-placed text);
-          root_limit = root-place placed at place ∙ ap (λ (words : ArrayOf word_order). words.limit) put_is.root ∙ is.root_limit;
-          limits = limits-place placed at place there limits-placed;
         };
         led = λ all. subst AllLed (sym after-is) (led-put world at (tail held_of 0) (seat_of place) gap.map (piece_at place) put_is.was_free gap.is_level inner-is (λ to entry. none-some to (sym gap.absent ∙ entry)) (get-insert_here gap.map (piece_at place) at) all);
         change = subst (λ w. IsChange world w (pieces key) (Some 0)) (sym after-is) (subst (λ ps. IsChange world (tailed_after world is.behind is.is_world arena.root.map refl key is_key (seat_of place) (piece_at place) held_of (pieces-some (drop 8 rest_of)) inner-is leads-is gap.map gap.is_level gap.absent at put_is.was_free) ps (Some 0)) (sym leads-is.parts) (tail-change world is.behind is.is_world arena.root.map refl key is_key (seat_of place) (piece_at place) held_of (pieces-some (drop 8 rest_of)) inner-is leads-is gap.map gap.is_level gap.absent at put_is.was_free));

@@ -1,22 +1,29 @@
 -- A key that is tried as one whose first piece leads nowhere.
-use Rattle.std.proofs.Common.{◌≡◌, ℕ, ◌-◌, ◌<◌, ◌≤◌, List, length, drop, None, refl, sym, ap, subst, ◌∙◌, arith}
+use Rattle.std.proofs.Common.{◌≡◌, ℕ, ◌-◌, ◌<◌, ◌≤◌, List, length, drop, Option, None, Result, Ok, Err, refl, sym, ap, subst, ◌∙◌, arith}
 use Rattle.std.specs.FinMap.{get, insert}
+use Rattle.std.specs.Result.{IsErrAnd}
 use Rattle.judy_model.specs.Keys.{word_order, IsStringKey}
 use Rattle.judy_model.specs.Arrays.{ArrayOf, with_map}
 use Rattle.judy_sl.specs.declared.arena.Arena.{Arena}
 use Rattle.judy_sl.specs.declared.arena.Place.TheVariants.{Root, Below}
+use Rattle.judy_sl.specs.declared.arena.Place.{Place}
 use Rattle.judy_sl.specs.Pieces.{piece_of}
 use Rattle.judy_sl.specs.Arenas.{world_of, map_of, IsArena}
 use Rattle.judy_sl.specs.Children.{Tail}
 use Rattle.judy_sl.specs.Places.{place_with}
 use Rattle.judy_sl.specs.Ways.{IsGap}
-use Rattle.judy_sl.specs.Grown.{IsPut, IsAdded}
+use Rattle.judy_sl.specs.Grown.{IsPut, IsAdded, IfShown}
 use Rattle.judy_sl.proofs.PieceLemmas.{text_of_key}
 use Rattle.judy_sl.proofs.OnWay.{on-start, on-gap}
 use Rattle.judy_sl.proofs.Keeping.{gap-none}
 use Rattle.judy_sl.proofs.Maps.{get-map}
 use Rattle.judy_sl.proofs.Filled.{fills-last}
 use Rattle.judy_sl.proofs.Tailed.{filled-tail}
+
+-- Where memory is refused it shows what it would have shown.
+pub shown-refused : {E : Type 0} (Fails : E → Type 0) {Holds : Type 0} (result : Result (Option Place) E) → IsErrAnd result Fails → Holds → IfShown result Holds
+shown-refused Fails (Ok found) fails holds = absurd fails
+shown-refused Fails (Err error) fails holds = holds
 
 module _ (arena : Arena) (is : IsArena arena) (key : List ℕ) (is_key : IsStringKey key) (piece : ℕ) (piece_is : piece ≡ piece_of key) (none : get arena.root.map piece ≡ None) where
   -- Its way ends in the first level,

@@ -33,19 +33,11 @@ HasText Free = Unit {0}
 HasText (Tail rest) = IsText rest.0
 HasText (Level keys words) = Unit {0}
 
--- A level has the limit of a word, which it never comes to.
-abbrev pub HasLimit : Child → Type 0
-HasLimit Free = Unit {0}
-HasLimit (Tail rest) = Unit {0}
-HasLimit (Level keys words) = words.limit ≡ 18446744073709551615
-
 -- What always holds of them.
 pub record IsArena (arena : Arena) : Type 0 where
   pub behind : ℕ → List ℕ
   pub is_world : IsWorld (world_of arena) behind
   pub texts : (at : ℕ) → HasText (child_at arena at)
-  pub root_limit : arena.root.limit ≡ 18446744073709551615
-  pub limits : (at : ℕ) → HasLimit (child_at arena at)
 
 -- There is room for so many more levels, and the place of each is a word.
 pub record HasRoom (arena : Arena) (more : ℕ) : Type 0 where

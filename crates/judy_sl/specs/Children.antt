@@ -1,8 +1,8 @@
 -- What stands at a place, and what it becomes.
-use Rattle.std.specs.Prelude.{◌≡◌, ℕ, ◌%◌, ◌==◌, Bool, IsFalse, List, Option, Some, None}
+use Rattle.std.specs.Prelude.{◌≡◌, ℕ, ◌%◌, ◌==◌, Bool, List, Option, Some, None}
 use Rattle.std.specs.FinMap.{get}
 use Rattle.judy_model.specs.Keys.{word_order}
-use Rattle.judy_model.specs.Arrays.{ArrayOf, is_full}
+use Rattle.judy_model.specs.Arrays.{ArrayOf}
 use Rattle.judy_word.specs.Writes.{with_value}
 use Rattle.judy_sl.specs.LevelLists.{LevelParts}
 use Rattle.judy_sl.specs.declared.child.ChildRef.{ChildRef}
@@ -62,12 +62,6 @@ abbrev pub IsLevelChild : Child → Type 0
 IsLevelChild Free = ⊥
 IsLevelChild (Tail rest) = ⊥
 IsLevelChild (Level keys words) = Unit {0}
-
--- A level isn't full for the piece.
-abbrev pub HasRoom : Child → ℕ → Type 0
-HasRoom Free piece = Unit {0}
-HasRoom (Tail rest) piece = Unit {0}
-HasRoom (Level keys words) piece = IsFalse (is_full words piece)
 
 -- The entries of the level that stood there, where one did.
 abbrev pub level_of : Child → Option (ArrayOf word_order)

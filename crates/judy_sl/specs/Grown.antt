@@ -3,7 +3,6 @@ use Rattle.std.specs.Prelude.{◌≡◌, ◌≢◌, ◌≤◌, ℕ, suc, List, O
 use Rattle.judy_sl.specs.Children.{Child, Tail}
 use Rattle.judy_sl.specs.declared.arena.Arena.{Arena}
 use Rattle.judy_sl.specs.declared.arena.Place.{Place}
-use Rattle.judy_sl.specs.declared.error.SlError.{SlError}
 use Rattle.judy_sl.specs.Pieces.{pieces, IsText, ArePieces}
 use Rattle.judy_sl.specs.World.{World, gone, lookup}
 use Rattle.judy_sl.specs.Worlds.{AllLed}
@@ -32,7 +31,7 @@ pub record IsPut (before after : Arena) (child : Child) (at : ℕ) : Type 0 wher
   pub root : after.root ≡ before.root
 
 -- What holds where a trial of a key as a new one showed that it was absent: where it put it in, and where memory was refused.
-abbrev pub IfShown : Result (Option Place) SlError → Type 0 → Type 0
+abbrev pub IfShown : {E : Type 0} → Result (Option Place) E → Type 0 → Type 0
 IfShown (Ok (Some place)) Holds = Holds
 IfShown (Ok None) Holds = Unit {0}
 IfShown (Err error) Holds = Holds

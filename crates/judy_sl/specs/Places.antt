@@ -1,8 +1,7 @@
 -- What an arena becomes, for whatever is left in a slot of it.
-use Rattle.std.specs.Prelude.{ℕ, ◌/◌, IsFalse, Option}
+use Rattle.std.specs.Prelude.{ℕ, ◌/◌, Option}
 use Rattle.std.specs.Borrow.{Lends, LendsIf, MutBor, Fml, u64}
 use Rattle.std.specs.FinMap.{get}
-use Rattle.judy_model.specs.Arrays.{is_full}
 use Rattle.judy_word.specs.Writes.{with_value}
 use Rattle.slab.specs.Slab as slab
 use Rattle.judy_tails.specs.Tails.{with_tail}
@@ -10,7 +9,7 @@ use Rattle.judy_sl.specs.declared.arena.Arena.{Arena}
 use Rattle.judy_sl.specs.declared.arena.Place.{Place}
 use Rattle.judy_sl.specs.declared.arena.Place.TheVariants.{Root, Below}
 use Rattle.judy_sl.specs.contracts.arena.Arena.{the_row}
-use Rattle.judy_sl.specs.Children.{Child, Free, Tail, Level, child_with, value_at, IsTaken, IsLevelChild, HasRoom}
+use Rattle.judy_sl.specs.Children.{Child, Free, Tail, Level, child_with, value_at, IsTaken, IsLevelChild}
 use Rattle.judy_sl.specs.Arenas.{child_at}
 
 -- The arena with another child of the same kind at a place where one stands.
@@ -46,8 +45,3 @@ IsPlace arena (Below at piece) = IsTaken (child_at arena at)
 abbrev pub IsLevelPlace : Arena → Place → Type 0
 IsLevelPlace arena (Root piece) = Unit {0}
 IsLevelPlace arena (Below at piece) = IsLevelChild (child_at arena at)
-
--- The level of the place isn't full for the piece.
-abbrev pub PlaceHasRoom : Arena → Place → Type 0
-PlaceHasRoom arena (Root piece) = IsFalse (is_full arena.root piece)
-PlaceHasRoom arena (Below at piece) = HasRoom (child_at arena at) piece

@@ -1,5 +1,5 @@
 -- The neighbours of a key, found level by level.
-use Rattle.std.specs.Prelude.{◌≡◌, ℕ, ◌*◌, ◌≤◌, Bool, true, false, ◌&&◌, if◌then◌else◌, IsTrue, IsFalse, List, ◌∷◌, ◌++◌, length, take, Option, None, Some, IfSome}
+use Rattle.std.specs.Prelude.{◌≡◌, ℕ, ◌*◌, ◌≤◌, Bool, true, false, ◌&&◌, if◌then◌else◌, IsTrue, IsFalse, List, ◌∷◌, ◌++◌, length, take, drop, unwrap_or, Option, None, Some, IfSome}
 use Rattle.std.specs.declared.cmp.Ordering.{Ordering}
 use Rattle.std.specs.Ordering.{is_lt, is_le}
 use Rattle.std.specs.Cmp.Lexicographic.{slice_cmp}
@@ -58,6 +58,14 @@ neighbour_along Below false = prev
 abbrev pub value_found : FinMap byte_order ℕ → Option (List ℕ) → Option ℕ
 value_found map None = None
 value_found map (Some key) = get map key
+
+-- The neighbour, or where there is none, the key.
+abbrev pub nearest_key : Look → FinMap byte_order ℕ → List ℕ → List ℕ
+nearest_key look map key = unwrap_or (neighbour_along look.side look.itself map key) key
+
+-- A buffer comes to begin with a key of that length, and has behind it what it had.
+abbrev pub IsFront : List ℕ → List ℕ → ℕ → List ℕ → Type 0
+IsFront key before len after = (len ≡ length key) × (after ≡ key ++ drop (length key) before)
 
 -- The piece of an entry.
 abbrev pub piece_in : Option (ℕ × ℕ) → Option ℕ

@@ -1,6 +1,6 @@
 //! All levels and tails of an array: the first level, the others in a list, and the tails in records by their length.
 
-ghost use Rattle.std.specs.Prelude.{◌≡◌, ◌≤◌, [], length, Some, None, OnOk, IfErr, OnErr, IsSome};
+ghost use Rattle.std.specs.Prelude.{◌≡◌, ◌≤◌, [], length, Some, None, OnOk, OnErr, IsSome};
 ghost use Rattle.std.specs.Borrow.{sem};
 ghost use Rattle.std.specs.Option.{option_copied_mut};
 ghost use Rattle.std.specs.FinMap as map;
@@ -9,20 +9,18 @@ ghost use Rattle.judy_model.specs.Keys.{IsStringKey};
 ghost use Rattle.judy_sl.specs.Pieces.{pieces, IsText, EndsWell};
 ghost use Rattle.judy_sl.specs.Children.{IsRefTo, IsTaken};
 ghost use Rattle.judy_sl.specs.Arenas.{world_of, child_at, map_of, IsArena};
-ghost use Rattle.judy_sl.specs.Places.{place_value, place_with, IsPlace, IsLevelPlace, PlaceHasRoom, LendsPlace, LendsHere};
+ghost use Rattle.judy_sl.specs.Places.{place_value, place_with, IsPlace, IsLevelPlace, LendsPlace, LendsHere};
 ghost use Rattle.judy_tails.specs.Tails.{no_tails};
-ghost use Rattle.judy_sl.specs.declared.error.SlError.TheVariants.{NoMemory};
 ghost use Rattle.judy_sl.specs.declared.arena.Way.TheVariants.{At};
 ghost use Rattle.judy_sl.specs.Ways.{is_below, place_in, seat_in, left_of, ends_first, passed_from, levels_passed, IsOnWay, IsWay};
 
 use crate::child::{ChildRef, is_level, put_in};
-use crate::error::SlError;
 use crate::level_list::LevelList;
 use crate::passed::Notes;
 use crate::pieces::first_piece;
 use judy_tails::Tails;
 use judy_word::WordMap;
-use std::alloc::Global;
+use std::alloc::{AllocError, Global};
 
 // The value of a piece that isn't final is the place of its child. The lowest byte of a place tells whether a level stands
 // there or a tail, and the others where in its list.
@@ -234,12 +232,10 @@ impl Arena {
     }
 
     // Puts a value into a level at a place, or writes it there.
-    pub fn enter(&mut self, place: Place, value: u64) -> Result<(), SlError>
+    pub fn enter(&mut self, place: Place, value: u64) -> Result<(), AllocError>
         requires place { IsLevelPlace self.old place }
-        requires room { PlaceHasRoom self.old place }
         ensures entered { OnOk result (self.new ≡ place_with self.old place value) }
         ensures unchanged { OnErr result (self.new ≡ self.old) }
-        ensures refused { IfErr result (λ error. error ≡ NoMemory) }
     {
         match place {
             Place::Root(piece) => put_in(&mut self.root, piece, value),

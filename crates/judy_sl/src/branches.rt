@@ -1,15 +1,12 @@
 //! What takes the place of a tail that a second key meets, built beside the array.
 
-ghost use Rattle.std.specs.Prelude.{◌≡◌, ◌≢◌, ◌<◌, IfOk, IfErr};
-ghost use Rattle.std.specs.FinMap as map;
-ghost use Rattle.judy_sl.specs.declared.error.SlError.TheVariants.{NoMemory};
+ghost use Rattle.std.specs.Prelude.{◌≡◌, ◌≢◌, IfOk};
 ghost use Rattle.judy_sl.specs.Pieces.{IsText};
 ghost use Rattle.judy_sl.specs.Branches.{IsSprout, IsBuilt, single};
 
-use crate::error::SlError;
 use crate::pieces::first_piece;
 use judy_word::WordMap;
-use std::alloc::Global;
+use std::alloc::{AllocError, Global};
 
 // A tail to be, and the piece that is to lead to it.
 #[derive(Clone, Copy)]
@@ -30,40 +27,34 @@ pub struct Branch<'a> {
 }
 
 // A level with one entry.
-fn one_entry(alloc: Global, piece: u64) -> Result<WordMap, SlError>
-    ensures made { IfOk result (λ level. level ≡ single piece) }
-    ensures refused { IfErr result (λ error. error ≡ NoMemory) }
+fn one_entry(alloc: Global, piece: u64) -> Result<WordMap, AllocError>
+    ensures { IfOk result (λ level. level ≡ single piece) }
 {
     let mut level = WordMap::unbounded(alloc);
-    match level.put(piece, 0) {
-        Ok(_) => {}
-        Err(_) => return Err(SlError::NoMemory),
-    }
+    level.put(piece, 0)?;
     Ok(level)
 }
 
 // Puts the first piece of the rest of a key into a level: with the key's value where it is the last one, and else to
 // lead to a tail.
-fn sprout<'a>(level: &mut WordMap, rest: &'a [u8], value: u64) -> Result<Option<Twig<'a>>, SlError>
-    requires { map.len level.old.map < level.old.limit }
-    ensures sprouted { IfOk result (λ twig. IsSprout level.old level.new rest.now value twig) }
-    ensures refused { IfErr result (λ error. error ≡ NoMemory) }
+fn sprout<'a>(
+    level: &mut WordMap,
+    rest: &'a [u8],
+    value: u64,
+) -> Result<Option<Twig<'a>>, AllocError>
+    ensures { IfOk result (λ twig. IsSprout level.old level.new rest.now value twig) }
 {
     let piece = first_piece(rest);
     if rest.len() < 8 {
-        return match level.put(piece, value) {
-            Ok(_) => Ok(None),
-            Err(_) => Err(SlError::NoMemory),
-        };
+        level.put(piece, value)?;
+        return Ok(None);
     }
-    match level.put(piece, 0) {
-        Ok(_) => Ok(Some(Twig {
-            piece,
-            rest: &rest[8..],
-            value,
-        })),
-        Err(_) => Err(SlError::NoMemory),
-    }
+    level.put(piece, 0)?;
+    Ok(Some(Twig {
+        piece,
+        rest: &rest[8..],
+        value,
+    }))
 }
 
 // The branch of a tail, by its bytes and its value, and the rest of another key. When memory is there no contract says; rows try that it
@@ -73,40 +64,31 @@ pub fn branch_of<'a>(
     tail: &'a [u8],
     value: u64,
     key: &'a [u8],
-) -> Result<Branch<'a>, SlError>
+) -> Result<Branch<'a>, AllocError>
     requires tail_text { IsText tail.now }
     requires key_text { IsText key.now }
     requires differ { tail.now ≢ key.now }
-    ensures built { IfOk result (λ made. IsBuilt tail.now value key.now made) }
-    ensures refused { IfErr result (λ error. error ≡ NoMemory) }
+    ensures { IfOk result (λ made. IsBuilt tail.now value key.now made) }
 {
     let mut upper = Vec::new(alloc);
     let mut held = tail;
     let mut rest = key;
     while first_piece(held) == first_piece(rest) {
         let piece = first_piece(rest);
-        let level = match one_entry(alloc, piece) {
-            Ok(level) => level,
-            Err(error) => return Err(error),
-        };
+        let level = one_entry(alloc, piece)?;
         if upper.push((piece, level)).is_err() {
-            return Err(SlError::NoMemory);
+            return Err(AllocError);
         }
         held = &held[8..];
         rest = &rest[8..];
     }
     let mut fork = WordMap::unbounded(alloc);
-    let old = match sprout(&mut fork, held, value) {
-        Ok(old) => old,
-        Err(error) => return Err(error),
-    };
-    match sprout(&mut fork, rest, 0) {
-        Ok(new) => Ok(Branch {
-            upper,
-            fork,
-            old,
-            new,
-        }),
-        Err(error) => Err(error),
-    }
+    let old = sprout(&mut fork, held, value)?;
+    let new = sprout(&mut fork, rest, 0)?;
+    Ok(Branch {
+        upper,
+        fork,
+        old,
+        new,
+    })
 }

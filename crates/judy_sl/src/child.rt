@@ -1,14 +1,12 @@
 //! What stands behind a piece that isn't final: a tail or a level.
 
-ghost use Rattle.std.specs.Prelude.{◌≡◌, OnOk, OnErr, IfErr, IsFalse};
-ghost use Rattle.judy_model.specs.Arrays.{is_full};
+ghost use Rattle.std.specs.Prelude.{◌≡◌, OnOk, OnErr};
 ghost use Rattle.judy_word.specs.Writes.{with_value};
-ghost use Rattle.judy_sl.specs.declared.error.SlError.TheVariants.{NoMemory};
 ghost use Rattle.judy_sl.specs.Children.{is_level};
 
-use crate::error::SlError;
 use judy_tails::Tail;
 use judy_word::WordMap;
+use std::alloc::AllocError;
 
 // What stands at a place, as it is read: a tail, which is the rest of one key with the key's value; or the entries of a level.
 #[derive(Drop)]
@@ -28,14 +26,10 @@ pub fn is_level(place: u64) -> bool
 }
 
 // Gives a piece of a level a value, whether it is there or not.
-pub fn put_in(level: &mut WordMap, piece: u64, value: u64) -> Result<(), SlError>
-    requires { IsFalse (is_full level.old piece) }
+pub fn put_in(level: &mut WordMap, piece: u64, value: u64) -> Result<(), AllocError>
     ensures entered { OnOk result (level.new ≡ with_value level.old piece value) }
     ensures unchanged { OnErr result (level.new ≡ level.old) }
-    ensures refused { IfErr result (λ error. error ≡ NoMemory) }
 {
-    match level.put(piece, value) {
-        Ok(_) => Ok(()),
-        Err(_) => Err(SlError::NoMemory),
-    }
+    level.put(piece, value)?;
+    Ok(())
 }

@@ -1,10 +1,9 @@
 //! How levels come to tell how many keys stand behind them: the way of an insert or a delete notes the places of those that it passes. Once
 //! a key is in, it is counted there, and before one goes, it is counted no more.
 
-ghost use Rattle.std.specs.Prelude.{◌≡◌, ◌<◌, IfOk, IfErr};
+ghost use Rattle.std.specs.Prelude.{◌≡◌, ◌<◌, IfOk, OnErr};
 ghost use Rattle.std.specs.FinMap as map;
 ghost use Rattle.judy_model.specs.Keys.{IsStringKey};
-ghost use Rattle.judy_sl.specs.declared.error.SlError.TheVariants.{NoMemory};
 ghost use Rattle.judy_sl.specs.Worlds.{AllLed};
 ghost use Rattle.judy_sl.specs.Arenas.{world_of, child_at, map_of, IsArena};
 ghost use Rattle.judy_sl.specs.Children.{IsLevelChild};
@@ -15,7 +14,7 @@ ghost use Rattle.judy_sl.specs.Grown.{IsAdded, IsSame};
 ghost use Rattle.judy_sl.specs.Counted.{AreCounted, AreOnce, CanStepAt, AreStepped};
 
 use crate::arena::{Arena, Place, Way};
-use crate::error::SlError;
+use std::alloc::AllocError;
 
 impl Arena {
     // Counts a key in behind the level at a place, or out.
@@ -44,7 +43,7 @@ impl Arena {
 
     // Adds a key that isn't there, with the value 0, and counts it at the levels that its way passes, by their places.
     #[inline(always)]
-    pub fn add_counted(&mut self, key: &[u8], way: Way, passed: &[u64]) -> Result<Place, SlError>
+    pub fn add_counted(&mut self, key: &[u8], way: Way, passed: &[u64]) -> Result<Place, AllocError>
         requires is_arena { IsArena self.old }
         requires counted { AreCounted self.old }
         requires led { AllLed (world_of self.old) }
@@ -55,12 +54,9 @@ impl Arena {
         requires few { map.len (map_of self.old) < 4294967295 }
         ensures added { IfOk result (λ made. IsAdded self.old self.new key.now made) }
         ensures counted { AreCounted self.new }
-        ensures refused { IfErr result (λ error. IsSame self.old self.new × (error ≡ NoMemory)) }
+        ensures refused { OnErr result (IsSame self.old self.new) }
     {
-        let made = match self.add(key, way) {
-            Ok(made) => made,
-            Err(error) => return Err(error),
-        };
+        let made = self.add(key, way)?;
         self.count_places(passed, true);
         Ok(made)
     }

@@ -7,9 +7,9 @@ ghost use Rattle.judy_model.specs.Neighbours as neighbours;
 ghost use Rattle.judy_sl.specs.Scans.{value_found};
 
 use crate::arena::Arena;
-use crate::keys::KeyBuf;
 use crate::runs::{Levels, Run};
 use crate::strings::JudySl;
+use judy_tails::KeyRoom;
 use std::marker::Model;
 
 /// A walk up through the keys of an array: to its callers it is the array's map, and the bytes at which it stands. A step to
@@ -18,7 +18,7 @@ use std::marker::Model;
 #[derive(Drop)]
 pub struct KeyCursor<'a> {
     arena: &'a Arena,
-    key: KeyBuf,
+    key: KeyRoom,
     above: Levels<'a>,
     run: Option<Run<'a>>,
 }
@@ -33,9 +33,9 @@ impl<'a> Model for KeyCursor<'a> {
     ghost use Rattle.judy_sl.specs.Arenas.{map_of};
     ghost use Rattle.judy_sl.specs.Cursors.{IsCursor};
 
-    ghost view = { λ a. record { map = map_of a.arena.now; key = a.key.items } };
+    ghost view = { λ a. record { map = map_of a.arena.now; key = a.key } };
 
-    ghost invariant = { λ a. IsCursor a.arena.now a.key.items a.above.items a.run };
+    ghost invariant = { λ a. IsCursor a.arena.now a.key a.above.items a.run };
 }
 
 impl<'a> KeyCursor<'a> {
@@ -82,11 +82,9 @@ impl JudySl {
         ensures map { result.map ≡ self.now.map }
         ensures key { result.key ≡ from.now }
     {
-        let mut key = KeyBuf::new();
-        let _ = key.try_extend_from_slice(from);
         KeyCursor {
             arena: &self.arena,
-            key,
+            key: KeyRoom::of(from),
             above: Levels::new(),
             run: None,
         }

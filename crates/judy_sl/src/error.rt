@@ -1,3 +1,4 @@
+use std::alloc::AllocError;
 use thiserror::Error;
 
 /// Why an insert added no key. The array is then as it was before the call, its levels included.
@@ -12,4 +13,15 @@ pub enum SlError {
     /// The key is absent and there is room below the limit, but no memory for one more key.
     #[error("out of memory")]
     NoMemory,
+}
+
+impl From<AllocError> for SlError {
+    ghost use Rattle.std.specs.Prelude.{◌≡◌};
+    ghost use Rattle.judy_sl.specs.declared.error.SlError.TheVariants.{NoMemory};
+
+    ghost from_gives = { λ _ error. error ≡ NoMemory };
+
+    fn from(_: AllocError) -> SlError {
+        SlError::NoMemory
+    }
 }

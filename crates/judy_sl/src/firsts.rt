@@ -1,10 +1,9 @@
 //! How many keys begin with each first piece, kept in a list of sums: of each piece that number less one. So a word of the first
 //! level that one key alone begins with has no place in the list.
 
-ghost use Rattle.std.specs.Prelude.{◌≡◌, ◌<◌, is_some, IfOk, IfErr};
+ghost use Rattle.std.specs.Prelude.{◌≡◌, ◌<◌, is_some, IfOk, OnErr};
 ghost use Rattle.std.specs.FinMap as map;
 ghost use Rattle.judy_model.specs.Keys.{IsStringKey};
-ghost use Rattle.judy_sl.specs.declared.error.SlError.TheVariants.{NoMemory};
 ghost use Rattle.judy_sl.specs.Pieces.{pieces};
 ghost use Rattle.judy_sl.specs.World.{lookup};
 ghost use Rattle.judy_sl.specs.Worlds.{AllLed};
@@ -16,9 +15,9 @@ ghost use Rattle.judy_sl.specs.Counted.{AreCounted};
 ghost use Rattle.judy_sl.specs.Firsts.{AreFirsts};
 
 use crate::arena::{Arena, Place, Way};
-use crate::error::SlError;
 use crate::pieces::first_piece;
 use judy_sums::Sums;
+use std::alloc::AllocError;
 
 // Adds a key that isn't there, with the value 0, and counts it. What may be refused in the list comes first; where the key itself is
 // refused, the list is as it was. The places are those of the levels that the way passes. Both lengths of lists that an insert may want call it, so
@@ -30,7 +29,7 @@ pub fn add(
     key: &[u8],
     way: Way,
     passed: &[u64],
-) -> Result<Place, SlError>
+) -> Result<Place, AllocError>
     requires is_arena { IsArena arena.old }
     requires counted { AreCounted arena.old }
     requires led { AllLed (world_of arena.old) }
@@ -42,16 +41,14 @@ pub fn add(
     requires firsts { AreFirsts (map_of arena.old) firsts.old }
     ensures added { IfOk result (λ made. IsAdded arena.old arena.new key.now made) }
     ensures counted { AreCounted arena.new }
-    ensures refused { IfErr result (λ error. IsSame arena.old arena.new × (error ≡ NoMemory)) }
+    ensures refused { OnErr result (IsSame arena.old arena.new) }
     ensures firsts { AreFirsts (map_of arena.new) firsts.new }
 {
     if way.ends_first() {
         return arena.add_counted(key, way, passed);
     }
     let piece = first_piece(key);
-    if firsts.raise(piece).is_err() {
-        return Err(SlError::NoMemory);
-    }
+    firsts.raise(piece)?;
     match arena.add_counted(key, way, passed) {
         Ok(place) => Ok(place),
         Err(error) => {

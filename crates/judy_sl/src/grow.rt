@@ -8,7 +8,6 @@ ghost use Rattle.judy_word.specs.Writes.{with_value};
 ghost use Rattle.judy_tails.specs.Tails.{next_place, HasFree};
 ghost use Rattle.judy_model.specs.Keys.{IsStringKey};
 ghost use Rattle.judy_model.specs.declared.keys.TheConstants.{LONGEST_KEY};
-ghost use Rattle.judy_sl.specs.declared.error.SlError.TheVariants.{NoMemory};
 ghost use Rattle.judy_sl.specs.Pieces.{piece_of, IsText};
 ghost use Rattle.judy_sl.specs.Children.{Tail, Level as LevelChild, IsTaken};
 ghost use Rattle.judy_sl.specs.Arenas.{world_of, child_at, map_of, IsArena, HasRoom};
@@ -23,7 +22,6 @@ ghost use Rattle.judy_sl.specs.Grown.{IsPut, IfShown, IsHung, AreHung, HasTwig, 
 use crate::arena::{Arena, Place, Way};
 use crate::branches::{Branch, Twig, branch_of};
 use crate::child::{ChildRef, LEVEL};
-use crate::error::SlError;
 use crate::keys::{KeyBuf, is_key};
 use crate::pieces::first_piece;
 use judy_word::WordMap;
@@ -70,43 +68,36 @@ impl Arena {
     }
 
     // Puts a tail in at the next place for its length, and answers that place. Where one of that length is free, no memory is asked for.
-    pub fn put_tail(&mut self, rest: &[u8], value: u64) -> Result<u64, SlError>
+    pub fn put_tail(&mut self, rest: &[u8], value: u64) -> Result<u64, AllocError>
         requires text { IsText rest.now }
         requires short { length rest.now ≤ LONGEST_KEY }
         ensures place { IfOk result (λ at. at ≡ next_place self.old.tails (length rest.now)) }
         ensures put { IfOk result (λ at. IsPut self.old self.new (Tail ((rest.now, value))) at) }
         ensures unasked { HasFree self.old.tails (length rest.now) → IsOk result }
         ensures levels { self.new.levels ≡ self.old.levels }
-        ensures refused { IfErr result (λ error. IsSame self.old self.new × (error ≡ NoMemory)) }
+        ensures refused { OnErr result (IsSame self.old self.new) }
     {
-        match self.tails.put(rest, value) {
-            Ok(at) => Ok(at),
-            Err(_) => Err(SlError::NoMemory),
-        }
+        self.tails.put(rest, value)
     }
 
     // The same at the place that the caller has asked for: so an insert of a key that is tried looks for the list of its length once.
     #[inline(always)]
-    fn put_tail_next(&mut self, at: u64, rest: &[u8], value: u64) -> Result<u64, SlError>
+    fn put_tail_next(&mut self, at: u64, rest: &[u8], value: u64) -> Result<u64, AllocError>
         requires text { IsText rest.now }
         requires short { length rest.now ≤ LONGEST_KEY }
         requires next { at ≡ next_place self.old.tails (length rest.now) }
         ensures place { IfOk result (λ place. place ≡ at) }
         ensures put { OnOk result (IsPut self.old self.new (Tail ((rest.now, value))) at) }
-        ensures refused { IfErr result (λ error. IsSame self.old self.new × (error ≡ NoMemory)) }
+        ensures refused { OnErr result (IsSame self.old self.new) }
     {
-        match self.tails.put_next(at, rest, value) {
-            Ok(place) => Ok(place),
-            Err(_) => Err(SlError::NoMemory),
-        }
+        self.tails.put_next(at, rest, value)
     }
 
     // Tries a key of fewer than eight bytes as an absent one, and puts it in with the value 0 if so, by one way down the first level. Answers as `try_add`.
-    fn try_short(&mut self, key: &[u8]) -> Result<Option<Place>, SlError>
+    fn try_short(&mut self, key: &[u8]) -> Result<Option<Place>, AllocError>
         requires is_arena { IsArena self.old }
         requires counted { AreCounted self.old }
         requires led { AllLed (world_of self.old) }
-        requires few { map.len (map_of self.old) ≤ 4294967295 }
         requires short { length key.now < 8 }
         ensures counted { AreCounted self.new }
         ensures key { IfShown result (IsStringKey key.now) }
@@ -116,16 +107,17 @@ impl Arena {
         ensures first { IfOk result
             (λ found. IfSome found (λ place. beginning (map_of self.old) (piece_of key.now) ≡ 0)) }
         ensures open { IfOk result (λ found. found ≡ None → self.new ≡ self.old) }
-        ensures refused { IfErr result (λ error. IsSame self.old self.new × (error ≡ NoMemory)) }
+        ensures refused { OnErr result (IsSame self.old self.new) }
     {
         if !is_key(key) {
             return Ok(None);
         }
         let piece = first_piece(key);
-        match self.root.put_if_absent(piece, 0) {
-            Ok(true) => Ok(Some(Place::Root(piece))),
-            Ok(false) => Ok(None),
-            Err(_) => Err(SlError::NoMemory),
+        let added = self.root.put_if_absent(piece, 0)?;
+        if added {
+            Ok(Some(Place::Root(piece)))
+        } else {
+            Ok(None)
         }
     }
 
@@ -134,11 +126,10 @@ impl Arena {
     // again. Answers where the key stands, and `None` where it isn't to be tried or its piece leads somewhere: then it is to be looked up.
     // Both lengths of lists that an insert may want call it, so it is told to be inlined: it is the whole of most inserts of new keys.
     #[inline(always)]
-    pub fn try_add(&mut self, key: &[u8], tries: bool) -> Result<Option<Place>, SlError>
+    pub fn try_add(&mut self, key: &[u8], tries: bool) -> Result<Option<Place>, AllocError>
         requires is_arena { IsArena self.old }
         requires counted { AreCounted self.old }
         requires led { AllLed (world_of self.old) }
-        requires few { map.len (map_of self.old) ≤ 4294967295 }
         ensures tried { IfShown result (IsTrue tries) }
         ensures counted { AreCounted self.new }
         ensures key { IfShown result (IsStringKey key.now) }
@@ -148,7 +139,7 @@ impl Arena {
         ensures first { IfOk result
             (λ found. IfSome found (λ place. beginning (map_of self.old) (piece_of key.now) ≡ 0)) }
         ensures open { IfOk result (λ found. found ≡ None → self.new ≡ self.old) }
-        ensures refused { IfErr result (λ error. IsSame self.old self.new × (error ≡ NoMemory)) }
+        ensures refused { OnErr result (IsSame self.old self.new) }
     {
         if !tries {
             return Ok(None);
@@ -161,10 +152,9 @@ impl Arena {
         }
         let next = self.tails.next_place(key.len() - 8);
         let piece = first_piece(key);
-        match self.root.put_if_absent(piece, next) {
-            Ok(true) => {}
-            Ok(false) => return Ok(None),
-            Err(_) => return Err(SlError::NoMemory),
+        let added = self.root.put_if_absent(piece, next)?;
+        if !added {
+            return Ok(None);
         }
         match self.put_tail_next(next, &key[8..], 0) {
             Ok(_) => Ok(Some(Place::Below(next, 0))),
@@ -176,28 +166,22 @@ impl Arena {
     }
 
     // Adds a key whose way ends at a place without an entry.
-    fn fill(&mut self, key: &[u8], place: Place, left: usize) -> Result<Place, SlError>
+    fn fill(&mut self, key: &[u8], place: Place, left: usize) -> Result<Place, AllocError>
         requires is_arena { IsArena self.old }
         requires is_key { IsStringKey key.now }
         requires gap { IsGap (world_of self.old) key.now place left }
         requires counted { AreCounted self.old }
         requires led { AllLed (world_of self.old) }
-        requires few { map.len (map_of self.old) ≤ 4294967295 }
         ensures added { IfOk result (λ made. IsAdded self.old self.new key.now made) }
         ensures counted { IfOk result
             (λ made. AreCountedBut self.new (levels_passed (world_of self.old) key.now)) }
-        ensures refused { IfErr result (λ error. IsSame self.old self.new × (error ≡ NoMemory)) }
+        ensures refused { OnErr result (IsSame self.old self.new) }
     {
         if left < 8 {
-            return match self.enter(place, 0) {
-                Ok(()) => Ok(place),
-                Err(error) => Err(error),
-            };
+            self.enter(place, 0)?;
+            return Ok(place);
         }
-        let at = match self.put_tail(&key[key.len() - left + 8..], 0) {
-            Ok(at) => at,
-            Err(error) => return Err(error),
-        };
+        let at = self.put_tail(&key[key.len() - left + 8..], 0)?;
         match self.enter(place, at) {
             Ok(()) => Ok(Place::Below(at, 0)),
             Err(error) => {
@@ -208,36 +192,30 @@ impl Arena {
     }
 
     // Puts the tail in to which an entry of a level that stands beside the array is to lead, where one is to be, and answers its place.
-    fn hang(&mut self, level: &mut WordMap, twig: Option<Twig>) -> Result<Option<u64>, SlError>
+    fn hang(&mut self, level: &mut WordMap, twig: Option<Twig>) -> Result<Option<u64>, AllocError>
         requires there { HasTwig level.old twig }
         requires text { IsTwigText twig }
         ensures hung { IfOk result
             (λ at. IsHung self.old self.new level.old level.new twig.entry at) }
         ensures levels { self.new.levels ≡ self.old.levels }
-        ensures refused { IfErr result (λ error. IsSame self.old self.new × (error ≡ NoMemory)) }
+        ensures refused { OnErr result (IsSame self.old self.new) }
     {
         let Some(Twig { piece, rest, value }) = twig else {
             return Ok(None);
         };
-        let place = match self.put_tail(rest, value) {
-            Ok(place) => place,
-            Err(error) => return Err(error),
-        };
+        let place = self.put_tail(rest, value)?;
         link(level, piece, place);
         Ok(Some(place))
     }
 
     // Hangs up both tails of a branch, or neither of them.
-    fn hang_both(&mut self, branch: &mut Branch) -> Result<(), SlError>
+    fn hang_both(&mut self, branch: &mut Branch) -> Result<(), AllocError>
         requires { IsSound branch.now }
         ensures hung { OnOk result (AreHung self.old self.new branch.entry.now branch.exit.now) }
         ensures levels { OnOk result (self.new.levels ≡ self.old.levels) }
-        ensures refused { IfErr result (λ error. IsSame self.old self.new × (error ≡ NoMemory)) }
+        ensures refused { OnErr result (IsSame self.old self.new) }
     {
-        let old = match self.hang(&mut branch.fork, branch.old) {
-            Ok(old) => old,
-            Err(error) => return Err(error),
-        };
+        let old = self.hang(&mut branch.fork, branch.old)?;
         match self.hang(&mut branch.fork, branch.new) {
             Ok(_) => Ok(()),
             Err(error) => {
@@ -299,7 +277,7 @@ impl Arena {
 
     // Adds a key whose way comes to another's tail. It has a buffer, which no other insert is to make room for.
     #[inline(never)]
-    fn split(&mut self, key: &[u8], from: Place, at: u64, left: usize) -> Result<Place, SlError>
+    fn split(&mut self, key: &[u8], from: Place, at: u64, left: usize) -> Result<Place, AllocError>
         requires is_arena { IsArena self.old }
         requires is_key { IsStringKey key.now }
         requires clash { IsClash (world_of self.old) key.now from at left }
@@ -308,21 +286,14 @@ impl Arena {
         ensures added { IfOk result (λ made. IsAdded self.old self.new key.now made) }
         ensures counted { IfOk result
             (λ made. AreCountedBut self.new (levels_passed (world_of self.old) key.now)) }
-        ensures refused { IfErr result (λ error. IsSame self.old self.new × (error ≡ NoMemory)) }
+        ensures refused { OnErr result (IsSame self.old self.new) }
     {
         let mut held = KeyBuf::new();
         let value = self.read_tail(at, &mut held);
         let rest = &key[key.len() - left..];
-        let mut made = match branch_of(self.alloc, held.as_slice(), value, rest) {
-            Ok(made) => made,
-            Err(error) => return Err(error),
-        };
-        if self.make_room(made.upper.len() + 1).is_err() {
-            return Err(SlError::NoMemory);
-        }
-        if let Err(error) = self.hang_both(&mut made) {
-            return Err(error);
-        }
+        let mut made = branch_of(self.alloc, held.as_slice(), value, rest)?;
+        self.make_room(made.upper.len() + 1)?;
+        self.hang_both(&mut made)?;
         let top = self.graft(from, at, made);
         let level = match self.child(top) {
             ChildRef::Level(level) => level,
@@ -336,18 +307,17 @@ impl Arena {
     }
 
     // Adds a key that isn't there, with the value 0.
-    pub fn add(&mut self, key: &[u8], way: Way) -> Result<Place, SlError>
+    pub fn add(&mut self, key: &[u8], way: Way) -> Result<Place, AllocError>
         requires is_arena { IsArena self.old }
         requires counted { AreCounted self.old }
         requires led { AllLed (world_of self.old) }
         requires is_key { IsStringKey key.now }
         requires way { IsWay self.old key.now way }
         requires new { IsNew way }
-        requires few { map.len (map_of self.old) ≤ 4294967295 }
         ensures added { IfOk result (λ made. IsAdded self.old self.new key.now made) }
         ensures counted { IfOk result
             (λ made. AreCountedBut self.new (levels_passed (world_of self.old) key.now)) }
-        ensures refused { IfErr result (λ error. IsSame self.old self.new × (error ≡ NoMemory)) }
+        ensures refused { OnErr result (IsSame self.old self.new) }
     {
         match way {
             Way::At(_) => unreachable!(),

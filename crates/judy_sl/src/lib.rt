@@ -41,6 +41,7 @@ mod zeros;
 pub use cursor::KeyCursor;
 pub use error::SlError;
 pub use keys::{KeyBuf, is_key};
+pub use scans::{Look, Side};
 pub use sorted::{SlSortedError, check_sorted};
 pub use strings::JudySl;
 pub use zeros::are_nonzero;

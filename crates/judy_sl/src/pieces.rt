@@ -2,11 +2,12 @@
 
 ghost use Rattle.std.specs.Prelude.{◌≡◌, ◌↔◌, ◌+◌, ◌≤◌, ◌++◌, IsFalse, length};
 ghost use Rattle.judy_model.specs.declared.keys.TheConstants.{LONGEST_KEY};
+ghost use Rattle.judy_tails.specs.Writers.{StaysBeyond};
 ghost use Rattle.judy_sl.specs.Pieces.{piece_of, piece_bytes, EndsWell};
 
-use crate::keys::KeyBuf;
 use crate::zeros::are_eight;
 use judy_records::first_word;
+use judy_tails::KeyWriter;
 
 // The piece with which the bytes begin: the first eight, the first of them the highest, zeros where bytes are missing.
 pub fn first_piece(bytes: &[u8]) -> u64
@@ -15,32 +16,32 @@ pub fn first_piece(bytes: &[u8]) -> u64
     first_word(bytes)
 }
 
-// Puts the bytes of a piece behind those of the buffer: the ones that aren't zero. Mostly none is, and then all eight are put there at once.
+// Puts the bytes of a piece behind those of the key: the ones that aren't zero. Mostly none is, and then all eight are put there at once.
 // Within its callers, and what goes byte by byte is not: else each byte is made ready before that is asked.
 #[inline(always)]
-pub fn push_piece(key: &mut KeyBuf, piece: u64)
-    requires { length key.old.items + length (piece_bytes piece) ≤ LONGEST_KEY }
-    ensures { key.new.items ≡ key.old.items ++ piece_bytes piece }
+pub fn push_piece<K: KeyWriter>(key: &mut K, piece: u64)
+    requires { length (K.written key.old) + length (piece_bytes piece) ≤ LONGEST_KEY }
+    ensures written { K.written key.new ≡ K.written key.old ++ piece_bytes piece }
+    ensures beyond { StaysBeyond K.written K.beyond key.old key.new }
 {
     let bytes = piece.to_be_bytes();
     if are_eight(&bytes) {
-        match key.try_extend_from_slice(&bytes) {
-            Ok(_) => return,
-            Err(_) => unreachable!(),
-        }
+        key.put_eight(&bytes);
+    } else {
+        push_each(key, piece);
     }
-    push_each(key, piece);
 }
 
 // The same byte by byte.
 #[inline(never)]
-fn push_each(key: &mut KeyBuf, piece: u64)
-    requires { length key.old.items + length (piece_bytes piece) ≤ LONGEST_KEY }
-    ensures { key.new.items ≡ key.old.items ++ piece_bytes piece }
+fn push_each<K: KeyWriter>(key: &mut K, piece: u64)
+    requires { length (K.written key.old) + length (piece_bytes piece) ≤ LONGEST_KEY }
+    ensures written { K.written key.new ≡ K.written key.old ++ piece_bytes piece }
+    ensures beyond { StaysBeyond K.written K.beyond key.old key.new }
 {
     for byte in piece.to_be_bytes() {
         if byte != 0 {
-            key.push(byte);
+            key.put(byte);
         }
     }
 }

@@ -11,11 +11,10 @@ ghost use Rattle.judy_sl.specs.Planted.{opens, openers, planted, AreBelow, IsPla
 ghost use Rattle.judy_sl.specs.Sorted.{pairs_in, with_pairs};
 
 use crate::arena::{Arena, Place};
-use crate::error::SlError;
 use crate::pieces::first_piece;
 use crate::strings::JudySl;
 use judy_word::WordMap;
-use std::alloc::Global;
+use std::alloc::{AllocError, Global};
 
 // Whether a string has eight bytes or more, and its first piece is above a word.
 pub fn opens(low: u64, key: &[u8]) -> bool
@@ -30,7 +29,7 @@ fn plant(
     entries: &mut Vec<(u64, u64)>,
     key: &[u8],
     value: u64,
-) -> Result<(), SlError>
+) -> Result<(), AllocError>
     requires is_key { IsStringKey key.now }
     requires long { 8 ≤ length key.now }
     requires planted { IsPlanted arena.old entries.old.items }
@@ -41,19 +40,16 @@ fn plant(
     ensures entry { OnOk result ((at : ℕ)
         × (entries.new.items ≡ entries.old.items ++ (piece_of key.now, at) ∷ [])) }
 {
-    let at = match arena.put_tail(&key[8..], 0) {
-        Ok(at) => at,
-        Err(error) => return Err(error),
-    };
+    let at = arena.put_tail(&key[8..], 0)?;
     *arena.lend(Place::Below(at, 0)) = value;
     match entries.push((first_piece(key), at)) {
         Ok(()) => Ok(()),
-        Err(_) => Err(SlError::NoMemory),
+        Err(_) => Err(AllocError),
     }
 }
 
 // Does so with the first of all keys that begin with the same whole piece, and answers the entries.
-fn plant_all(arena: &mut Arena, pairs: &[(&[u8], u64)]) -> Result<Vec<(u64, u64)>, SlError>
+fn plant_all(arena: &mut Arena, pairs: &[(&[u8], u64)]) -> Result<Vec<(u64, u64)>, AllocError>
     requires planted { IsPlanted arena.old [] }
     requires empty { map_of (planted arena.old []) ≡ map.empty }
     requires keys { All (λ pair. IsStringKey pair.0.now) pairs.now }
@@ -79,7 +75,7 @@ impl JudySl {
         alloc: Global,
         limit: u64,
         pairs: &[(&[u8], u64)],
-    ) -> Result<JudySl, SlError>
+    ) -> Result<JudySl, AllocError>
         requires some { 1 ≤ limit }
         requires most { limit ≤ 4294967295 }
         requires few { length pairs.now ≤ limit }
@@ -90,7 +86,7 @@ impl JudySl {
         let mut arena = Arena::new(alloc);
         let entries = plant_all(&mut arena, pairs)?;
         let Ok(root) = WordMap::from_sorted(alloc, &entries) else {
-            return Err(SlError::NoMemory);
+            return Err(AllocError);
         };
         arena.root = root;
         Ok(JudySl::of(limit, entries.len() as u64, arena))

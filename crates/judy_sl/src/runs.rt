@@ -9,11 +9,11 @@ ghost use Rattle.judy_sl.specs.Runs.{AreBeyond, EntryLeads, RunLeads, IsNextEntr
 
 use crate::arena::Arena;
 use crate::child::ChildRef;
-use crate::keys::KeyBuf;
 use crate::passed::MOST_PIECES;
 use crate::pieces::{first_piece, push_piece};
 use crate::scans::Look;
 use arrayvec::ArrayVec;
+use judy_tails::{KeyRoom, KeyWriter};
 use judy_word::{Entries, WordMap};
 use std::iter::Iterator;
 
@@ -64,7 +64,7 @@ impl Arena {
         level
     }
 
-    // Puts the first of the keys behind an entry into the buffer, and answers its value. Beyond the entry its level has those
+    // Writes the first of the keys behind an entry in the key's place, and answers its value. Beyond the entry its level has those
     // of the run, which is then that of the last level on the way.
     fn climb<'a>(
         &'a self,
@@ -72,16 +72,16 @@ impl Arena {
         entry: (u64, u64),
         above: &mut Levels<'a>,
         run: &mut Run<'a>,
-        key: &mut KeyBuf,
+        key: &mut KeyRoom,
     ) -> Option<u64>
         requires is_arena { IsArena self.now }
-        requires is_text { IsText key.old.items }
+        requires is_text { IsText key.old }
         requires leads { EntryLeads itself
-            (world_of self.now) key.old.items entry above.old.items run.old }
-        ensures neighbour { IsAbove itself (world_of self.now) key.old.items key.new.items result }
-        ensures stands { Stands (world_of self.now) key.new.items above.new.items run.new }
+            (world_of self.now) key.old entry above.old.items run.old }
+        ensures neighbour { IsAbove itself (world_of self.now) key.old key.new result }
+        ensures stands { Stands (world_of self.now) key.new above.new.items run.new }
     {
-        key.truncate(8 * above.len());
+        key.cut(8 * above.len());
         let (mut piece, mut value) = entry;
         while piece % 256 != 0 {
             push_piece(key, piece);
@@ -125,20 +125,20 @@ impl Arena {
         }
     }
 
-    // Puts the least key above the bytes in the buffer into it, by a way from the first level, and answers its value; where
+    // Writes the least key above the key in its place, by a way from the first level, and answers its value; where
     // there is none, all stays.
     pub fn seek<'a>(
         &'a self,
         itself: bool,
         above: &mut Levels<'a>,
         run: &mut Option<Run<'a>>,
-        key: &mut KeyBuf,
+        key: &mut KeyRoom,
     ) -> Option<u64>
         requires is_arena { IsArena self.now }
-        requires is_text { IsText key.old.items }
-        requires leads { RunLeads (world_of self.now) key.old.items above.old.items run.old }
-        ensures neighbour { IsAbove itself (world_of self.now) key.old.items key.new.items result }
-        ensures leads { RunLeads (world_of self.now) key.new.items above.new.items run.new }
+        requires is_text { IsText key.old }
+        requires leads { RunLeads (world_of self.now) key.old above.old.items run.old }
+        ensures neighbour { IsAbove itself (world_of self.now) key.old key.new result }
+        ensures leads { RunLeads (world_of self.now) key.new above.new.items run.new }
     {
         let turn = self.turn(Look::upward(itself), key.as_slice())?;
         let level = self.level_behind(key.as_slice(), turn.depth, above);
@@ -156,13 +156,13 @@ impl Arena {
         &'a self,
         above: &mut Levels<'a>,
         run: &mut Option<Run<'a>>,
-        key: &mut KeyBuf,
+        key: &mut KeyRoom,
     ) -> Option<u64>
         requires is_arena { IsArena self.now }
-        requires is_text { IsText key.old.items }
-        requires leads { RunLeads (world_of self.now) key.old.items above.old.items run.old }
-        ensures neighbour { IsAbove false (world_of self.now) key.old.items key.new.items result }
-        ensures leads { RunLeads (world_of self.now) key.new.items above.new.items run.new }
+        requires is_text { IsText key.old }
+        requires leads { RunLeads (world_of self.now) key.old above.old.items run.old }
+        ensures neighbour { IsAbove false (world_of self.now) key.old key.new result }
+        ensures leads { RunLeads (world_of self.now) key.new above.new.items run.new }
     {
         if let Some(on) = run {
             let entry = self.next_entry(above, on, key.as_slice())?;

@@ -1,32 +1,34 @@
 //! The neighbours of a key: one way down its pieces that keeps the nearest entry beside it, and one way down from
 //! that entry to the first key behind it.
 
-ghost use Rattle.std.specs.Prelude.{◌≡◌, ◌≢◌, ℕ, true, false, IsTrue, IfSome, All, unwrap_or};
+ghost use Rattle.std.specs.Prelude.{◌≡◌, ◌≢◌, ◌≤◌, ℕ, true, false, IsTrue, IfSome, All, unwrap_or, length, take};
 ghost use Rattle.std.specs.FinMap as map;
 ghost use Rattle.std.specs.FinMap.{contains_key};
 ghost use Rattle.judy_model.specs.Keys.{IsWord};
 ghost use Rattle.judy_model.specs.Neighbours as neighbours;
+ghost use Rattle.judy_model.specs.declared.keys.TheConstants.{LONGEST_KEY};
+ghost use Rattle.judy_tails.specs.Writers.{StaysBeyond};
 ghost use Rattle.judy_sl.specs.Pieces.{IsText};
 ghost use Rattle.judy_sl.specs.Arenas.{world_of, map_of, IsArena};
-ghost use Rattle.judy_sl.specs.Scans.{look_to, upward, is_beyond, along_bytes, IsNearestEntry, IsFirstEntry, piece_in, IsEntryOf, turn_or, neighbour_along, value_found, value_in, StandsAt, IsTurn, IsTurnOf, IsNeighbour};
+ghost use Rattle.judy_sl.specs.Scans.{look_to, upward, is_beyond, along_bytes, IsNearestEntry, IsFirstEntry, piece_in, IsEntryOf, turn_or, neighbour_along, value_found, value_in, StandsAt, IsTurn, IsTurnOf, IsNeighbour, nearest_key, IsFront};
 
 use crate::arena::{Arena, Place, place_in};
 use crate::child::ChildRef;
 use crate::keys::KeyBuf;
 use crate::pieces::{first_piece, push_piece};
 use crate::strings::JudySl;
-use judy_tails::Tail;
+use judy_tails::{KeyFront, KeyWriter, Tail};
 use judy_word::WordMap;
 use std::cmp::Ordering;
 
-// On which side of a key its neighbour is sought.
+/// On which side of a key its neighbour is sought.
 #[derive(Clone, Copy)]
 pub enum Side {
     Above,
     Below,
 }
 
-// Where a scan looks: on one side of the key, and whether the key itself counts.
+/// Where a scan looks: on one side of the key, and whether the key itself counts.
 #[derive(Clone, Copy)]
 pub struct Look {
     pub side: Side,
@@ -111,14 +113,14 @@ impl Side {
 }
 
 impl Look {
-    // To a side, where the key itself counts.
+    /// To a side, where the key itself counts.
     pub fn inclusive(side: Side) -> Look
         ensures { result ≡ look_to side true }
     {
         Look { side, itself: true }
     }
 
-    // To a side, where it doesn't.
+    /// To a side, where it doesn't.
     pub fn exclusive(side: Side) -> Look
         ensures { result ≡ look_to side false }
     {
@@ -165,38 +167,41 @@ impl Look {
 }
 
 impl Arena {
-    // Puts the neighbour of the key into the buffer that holds the key, and answers the neighbour's value and where it
-    // stands; where there is none the buffer stays.
-    pub fn nearest(&self, look: Look, key: &mut KeyBuf) -> Option<Found>
-        requires is_arena { IsArena self.now }
-        requires without_zero { All (λ byte. byte ≢ 0) key.old.items }
-        ensures key { key.new.items
-            ≡ unwrap_or (neighbour_along look.side look.itself (map_of self.now) key.old.items)
-            key.old.items }
-        ensures value { value_in result
-            ≡ value_found (map_of self.now)
-            (neighbour_along look.side look.itself (map_of self.now) key.old.items) }
-        ensures stands { StandsAt (world_of self.now) key.new.items result }
-    {
-        let turn = self.turn(look, key.as_slice())?;
-        self.follow(look, turn, key)
-    }
-
-    // Its value alone.
+    // Puts the neighbour of the key into the buffer that holds the key, and answers its value; where there is none the buffer
+    // stays.
     fn neighbour(&self, look: Look, key: &mut KeyBuf) -> Option<u64>
         requires is_arena { IsArena self.now }
         requires without_zero { All (λ byte. byte ≢ 0) key.old.items }
-        ensures key { key.new.items
-            ≡ unwrap_or (neighbour_along look.side look.itself (map_of self.now) key.old.items)
-            key.old.items }
+        ensures key { key.new.items ≡ nearest_key look (map_of self.now) key.old.items }
         ensures value { result
             ≡ value_found (map_of self.now)
             (neighbour_along look.side look.itself (map_of self.now) key.old.items) }
     {
-        match self.nearest(look, key) {
+        let turn = self.turn(look, key.as_slice())?;
+        match self.follow(look, turn, key) {
             Some(found) => Some(found.value),
             None => None,
         }
+    }
+
+    // The same at the front of a buffer that has room for any key, where the key has so many bytes, with the place at which the
+    // neighbour stands; behind it the buffer stays.
+    pub fn nearest_in(&self, look: Look, buffer: &mut [u8], len: &mut usize) -> Option<Found>
+        requires is_arena { IsArena self.now }
+        requires room { LONGEST_KEY ≤ length buffer.old }
+        requires inside { len.old ≤ length buffer.old }
+        requires without_zero { All (λ byte. byte ≢ 0) (take len.old buffer.old) }
+        ensures key { IsFront (nearest_key look (map_of self.now) (take len.old buffer.old))
+            buffer.old len.new buffer.new }
+        ensures value { value_in result ≡ value_found (map_of self.now)
+            (neighbour_along look.side look.itself (map_of self.now) (take len.old buffer.old)) }
+        ensures stands { StandsAt (world_of self.now) (take len.new buffer.new) result }
+    {
+        let turn = self.turn(look, &buffer[..*len])?;
+        let mut key = KeyFront::new(buffer, *len);
+        let found = self.follow(look, turn, &mut key);
+        *len = key.len();
+        found
     }
 
     // The entry behind which the neighbour of the key stands.
@@ -309,17 +314,18 @@ impl Arena {
         )
     }
 
-    // Puts the first of the keys behind the entry into the buffer that holds the key, and answers its value and where it
-    // stands. There is one: an entry leads to a tail, or to a level with entries.
-    fn follow(&self, look: Look, turn: Turn, key: &mut KeyBuf) -> Option<Found>
+    // Writes the first of the keys behind the entry in the key's place, and answers its value and where it stands. There is
+    // one: an entry leads to a tail, or to a level with entries.
+    fn follow<K: KeyWriter>(&self, look: Look, turn: Turn, key: &mut K) -> Option<Found>
         requires is_arena { IsArena self.now }
-        requires is_text { IsText key.old.items }
-        requires is_turn { IsTurnOf look (world_of self.now) key.old.items turn }
+        requires is_text { IsText (K.written key.old) }
+        requires is_turn { IsTurnOf look (world_of self.now) (K.written key.old) turn }
         ensures neighbour { IsNeighbour look
-            (world_of self.now) key.old.items key.new.items (value_in result) }
-        ensures stands { StandsAt (world_of self.now) key.new.items result }
+            (world_of self.now) (K.written key.old) (K.written key.new) (value_in result) }
+        ensures stands { StandsAt (world_of self.now) (K.written key.new) result }
+        ensures beyond { StaysBeyond K.written K.beyond key.old key.new }
     {
-        key.truncate(turn.depth);
+        key.cut(turn.depth);
         let mut child = turn.child;
         let mut piece = turn.piece;
         let mut value = turn.value;
@@ -400,6 +406,25 @@ impl JudySl {
             ≡ value_found self.now.map (neighbours.prev self.now.map key.old.items) }
     {
         self.arena.neighbour(Look::exclusive(Side::Below), key)
+    }
+
+    /// The value of the neighbour of the key at the front of a buffer, which has `len` bytes; the neighbour then stands there, and `len`
+    /// is its length. `None` where there is none, and both stay. The buffer has at least 1,024 bytes; what it has behind the
+    /// neighbour stays. The key holds no zero byte, and needn't be one of the array. It asks for no memory. (This project's own:
+    /// a scan that writes no byte twice.)
+    pub fn neighbour_in(&self, look: Look, buffer: &mut [u8], len: &mut usize) -> Option<u64>
+        requires room { LONGEST_KEY ≤ length buffer.old }
+        requires inside { len.old ≤ length buffer.old }
+        requires without_zero { All (λ byte. byte ≢ 0) (take len.old buffer.old) }
+        ensures key { IsFront (nearest_key look self.now.map (take len.old buffer.old))
+            buffer.old len.new buffer.new }
+        ensures value { result ≡ value_found self.now.map
+            (neighbour_along look.side look.itself self.now.map (take len.old buffer.old)) }
+    {
+        match self.arena.nearest_in(look, buffer, len) {
+            Some(found) => Some(found.value),
+            None => None,
+        }
     }
 }
 

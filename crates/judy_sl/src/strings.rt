@@ -137,7 +137,7 @@ impl JudySl {
                 self.added = true;
                 Ok(self.arena.lend(place))
             }
-            Err(error) => Err(error),
+            Err(error) => Err(error.into()),
             Ok(None) => {
                 let mut passed = Passed::<N>::new();
                 match self.arena.walk(key, &mut passed) {
@@ -162,7 +162,7 @@ impl JudySl {
                                 self.added = first;
                                 Ok(self.arena.lend(made))
                             }
-                            Err(error) => Err(error),
+                            Err(error) => Err(error.into()),
                         }
                     }
                 }

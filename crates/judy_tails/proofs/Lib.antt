@@ -1,3 +1,4 @@
 pub mod TailLemmas
 pub mod ListLemmas
 pub mod LengthLemmas
+pub mod Writing

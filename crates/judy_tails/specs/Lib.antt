@@ -1,3 +1,4 @@
 pub mod Tails
 pub mod Inside
 pub mod Lends
+pub mod Writers

@@ -7,6 +7,8 @@
 
 mod tail;
 mod tails;
+mod writer;
 
 pub use tail::Tail;
 pub use tails::Tails;
+pub use writer::{KeyFront, KeyRoom, KeyWriter};

@@ -4,10 +4,11 @@ ghost use Rattle.std.specs.Prelude.{◌≡◌, ◌≢◌, ◌↔◌, ◌+◌, �
 ghost use Rattle.judy_model.specs.Keys.{byte_order};
 ghost use Rattle.judy_records.specs.Spots.{value_of, text_of};
 ghost use Rattle.judy_records.specs.Texts.{IsText, text_in};
+ghost use Rattle.judy_model.specs.declared.keys.TheConstants.{LONGEST_KEY};
 ghost use Rattle.judy_tails.specs.Inside.{IsPadded, BeginsText};
+ghost use Rattle.judy_tails.specs.Writers.{StaysBeyond};
 
-use arrayvec::ArrayVec;
-use judy_model::keys::LONGEST_KEY;
+use crate::writer::KeyWriter;
 use judy_records::Record;
 use std::cmp::Ordering;
 use std::marker::Model;
@@ -65,36 +66,36 @@ impl<'a> Tail<'a> {
         self.stored.order(text)
     }
 
-    /// Puts the text behind the bytes of a buffer that has room for it. A loop over words.
-    pub fn push_to(&self, buffer: &mut ArrayVec<u8, LONGEST_KEY>)
-        requires { length buffer.old.items + length self.now.0 ≤ LONGEST_KEY }
-        ensures { buffer.new.items ≡ buffer.old.items ++ self.now.0 }
+    /// Puts the text behind what is written of a key. A loop over words.
+    pub fn push_to<K: KeyWriter>(&self, key: &mut K)
+        requires { length (K.written key.old) + length self.now.0 ≤ LONGEST_KEY }
+        ensures written { K.written key.new ≡ K.written key.old ++ self.now.0 }
+        ensures beyond { StaysBeyond K.written K.beyond key.old key.new }
     {
         for word in self.stored.text() {
-            push_bytes(buffer, *word);
+            push_bytes(key, *word);
         }
     }
 }
 
-// Puts the bytes of a text's word behind those of the buffer, up to its first zero: all eight at once where the last one isn't, since a text's zeros stand at
+// Puts the bytes of a text's word behind those of the key, up to its first zero: all eight at once where the last one isn't, since a text's zeros stand at
 // its end.
-fn push_bytes(buffer: &mut ArrayVec<u8, LONGEST_KEY>, word: u64)
-    requires room { length buffer.old.items + length (text_in (word ∷ [])) ≤ LONGEST_KEY }
+fn push_bytes<K: KeyWriter>(key: &mut K, word: u64)
+    requires room { length (K.written key.old) + length (text_in (word ∷ [])) ≤ LONGEST_KEY }
     requires full { word % 256 ≢ 0 → length (text_in (word ∷ [])) ≡ 8 }
     requires begins { BeginsText word }
-    ensures { buffer.new.items ≡ buffer.old.items ++ text_in (word ∷ []) }
+    ensures written { K.written key.new ≡ K.written key.old ++ text_in (word ∷ []) }
+    ensures beyond { StaysBeyond K.written K.beyond key.old key.new }
 {
     let bytes = word.to_be_bytes();
     if word % 256 != 0 {
-        match buffer.try_extend_from_slice(&bytes) {
-            Ok(_) => return,
-            Err(_) => unreachable!(),
-        }
+        key.put_eight(&bytes);
+        return;
     }
     for byte in bytes {
         if byte == 0 {
             return;
         }
-        buffer.push(byte);
+        key.put(byte);
     }
 }

@@ -60,9 +60,10 @@ impl WordMap {
         Ok(WordMap { array })
     }
 
-    /// Gives a key a value, and answers whether it was absent. The error is want of memory for an absent key; the map is as it was then.
+    /// Gives a key a value, and answers whether it was absent. The error comes for an absent key alone:
+    /// memory is wanting, or, which memory ends before, there are 2^64 - 1 keys. The map is as it was then.
     pub fn put(&mut self, i: u64, value: u64) -> Result<bool, AllocError>
-        requires room { IsFalse (array.is_full self.old i) }
+        ensures accepted { OnOk result (IsFalse (array.is_full self.old i)) }
         ensures answer { IfOk result (λ added. added ≡ not (map.contains_key self.old.map i)) }
         ensures put { OnOk result
             (self.new ≡ array.with_map self.old (array.write self.old.map i value)) }
@@ -75,7 +76,7 @@ impl WordMap {
 
     /// Puts a key in with a value where it is absent, and answers whether it was. Errors as `put`.
     pub fn put_if_absent(&mut self, i: u64, value: u64) -> Result<bool, AllocError>
-        requires room { IsFalse (array.is_full self.old i) }
+        ensures accepted { OnOk result (IsFalse (array.is_full self.old i)) }
         ensures answer { IfOk result (λ added. added ≡ not (map.contains_key self.old.map i)) }
         ensures put { OnOk result
             (self.new ≡ array.with_map self.old (with_new self.old.map i value)) }

@@ -1,8 +1,11 @@
 // The slots that the scans of a strings handle find.
-ghost use Rattle.std.specs.Prelude.{take};
+ghost use Rattle.std.specs.Prelude.{◌≤◌, length, take};
 ghost use Rattle.std.specs.Borrow.{sem};
 ghost use Rattle.std.specs.Result.{result_ok};
+ghost use Rattle.judy_model.specs.Keys.{IsStringKey};
 ghost use Rattle.judy_model.specs.Neighbours as neighbours;
+ghost use Rattle.judy_model.specs.declared.keys.TheConstants.{LONGEST_KEY};
+ghost use Rattle.judy_sl.specs.Lends.{LendsSlot};
 ghost use Rattle.judy_c.specs.KeyScans.{neighbour};
 ghost use Rattle.judy_c.specs.ScanSlots.{IsFoundSlot};
 ghost use Rattle.judy_c.specs.StringMaps.{array_in};
@@ -11,8 +14,9 @@ ghost use Rattle.judy_c.specs.StringSlots.{LendsSlotOf};
 use super::Strings;
 use crate::answers::{FoundSlot, Missed};
 use crate::handles::Handle;
-use crate::scans::{Scan, find_slot, read_start, write_key};
-use judy_sl::KeyBuf;
+use crate::scans::{Scan, is_start, room_for, write_key};
+use judy_model::keys::LONGEST_KEY;
+use judy_sl::JudySl;
 
 impl Strings {
     // The slot of the least key from the string in a buffer on, which that key replaces.
@@ -66,22 +70,67 @@ impl Strings {
         ensures found { IsFoundSlot (array_in self.old).map (neighbour scan (array_in self.old).map)
             (buffer.old, count.old) (buffer.new, count.new) result }
     {
-        let mut key = KeyBuf::new();
-        if !read_start(buffer, *count, &mut key) {
+        if !is_start(buffer, *count) {
             return Err(Missed::BadKey);
         }
         match self.array() {
-            Some(array) => match find_slot(array, scan, &mut key) {
-                Some(slot) => {
-                    if write_key(key.as_slice(), buffer, count) {
-                        Ok(slot)
-                    } else {
-                        Err(Missed::TooSmall)
-                    }
+            Some(array) => {
+                if buffer.len() < LONGEST_KEY {
+                    slot_beside(array, scan, buffer, count)
+                } else {
+                    slot_in(array, scan, buffer, count)
                 }
-                None => Err(Missed::NoKey),
-            },
+            }
             None => Err(Missed::NoKey),
         }
+    }
+}
+
+// The slot of the key that a scan finds from the string with which a buffer begins, where any key fits it: the key is written where it is to
+// stand.
+fn slot_in<'a>(
+    array: &'a mut JudySl,
+    scan: Scan,
+    buffer: &mut [u8],
+    count: &mut usize,
+) -> FoundSlot<'a>
+    requires room { LONGEST_KEY ≤ length buffer.old }
+    requires start { (count.old ≤ length buffer.old) × IsStringKey (take count.old buffer.old) }
+    ensures* writes_back { sem 𝓛
+        (LendsSlot array.entry (take count.new buffer.new) (result_ok result)) }
+    ensures found { IsFoundSlot array.old.map (neighbour scan array.old.map)
+        (buffer.old, count.old) (buffer.new, count.new) result }
+{
+    match array.neighbour_slot_in(scan.look(), buffer, count) {
+        Some(slot) => Ok(slot),
+        None => Err(Missed::NoKey),
+    }
+}
+
+// The same where not every key fits: the key is found in a buffer of its own.
+#[inline(never)]
+fn slot_beside<'a>(
+    array: &'a mut JudySl,
+    scan: Scan,
+    buffer: &mut [u8],
+    count: &mut usize,
+) -> FoundSlot<'a>
+    requires start { (count.old ≤ length buffer.old) × IsStringKey (take count.old buffer.old) }
+    ensures* writes_back { sem 𝓛
+        (LendsSlot array.entry (take count.new buffer.new) (result_ok result)) }
+    ensures found { IsFoundSlot array.old.map (neighbour scan array.old.map)
+        (buffer.old, count.old) (buffer.new, count.new) result }
+{
+    let mut room = room_for(&buffer[..*count]);
+    let mut len = *count;
+    match array.neighbour_slot_in(scan.look(), &mut room, &mut len) {
+        Some(slot) => {
+            if write_key(&room[..len], buffer, count) {
+                Ok(slot)
+            } else {
+                Err(Missed::TooSmall)
+            }
+        }
+        None => Err(Missed::NoKey),
     }
 }

@@ -5,7 +5,6 @@ use Rattle.judy_model.specs.Keys.{word_order}
 use Rattle.judy_model.specs.Arrays.{ArrayOf}
 use Rattle.judy_sl.specs.Branches.{IsSprout}
 use Rattle.judy_sl.proofs.Branching.{common-long, common-more}
-use Rattle.judy_sl.proofs.Rooms.{room-first, room-second}
 use Rattle.judy_sl.proofs.branches.branch_of.Goals as goal
 
 pushed : {A : Type 0} (b : Bool) (xs ys zs : A) → zs ≡ cond b xs ys → b ≡ true → zs ≡ xs
@@ -32,11 +31,11 @@ pub loop-piece-preserved : goal.loop-piece-preserved
 loop-piece-preserved c =
     let same = sym c.first_piece.ensures ∙ c.loop-piece-test.true ∙ c.first_piece-in-loop-piece.ensures in
     rw (take_rest c.loop-piece.held.now 8, take_rest c.loop-piece.rest.now 8) (
-    common-more _ _ _ _ _ c.loop-piece.invariant same c.push.new.self.items c.first_piece-piece.result c.in-Ok.level c.first_piece-piece.ensures c.in-Ok.ensures.made (pushed _ _ _ _ c.push.ensures.items c.if-is_err.ensures.negation)
+    common-more _ _ _ _ _ c.loop-piece.invariant same c.push.new.self.items c.first_piece-piece.result c.in_ok-level.level c.first_piece-piece.ensures c.in_ok-level.ensures (pushed _ _ _ _ c.push.ensures.items c.if-is_err.ensures.negation)
     )
 
-pub returns-in-Ok-sprout-2-clause-built : goal.returns-in-Ok-sprout-2-clause-built
-returns-in-Ok-sprout-2-clause-built c = record {
+pub returns : goal.returns
+returns c = record {
   held = c.loop-piece.held.now;
   rest = c.loop-piece.rest.now;
   singles = c.loop-piece.invariant.singles;
@@ -49,13 +48,6 @@ returns-in-Ok-sprout-2-clause-built c = record {
   rest_short = c.loop-piece.invariant.rest_short;
   differ = λ e. c.loop-piece-test.false (c.first_piece.ensures ∙ e ∙ sym c.first_piece-in-loop-piece.ensures);
   middle = c.sprout.new.level;
-  old = subst (λ (l : ArrayOf word_order). IsSprout l c.sprout.new.level c.loop-piece.held.now c.args.value c.in-Ok-sprout.old) c.unbounded-fork.ensures c.in-Ok-sprout.ensures.sprouted;
-  new = c.in-Ok-sprout-2.ensures.sprouted;
+  old = subst (λ (l : ArrayOf word_order). IsSprout l c.sprout.new.level c.loop-piece.held.now c.args.value c.in_ok-old.old) c.unbounded-fork.ensures c.in_ok-old.ensures;
+  new = c.in_ok-new.ensures;
 }
-
-pub sprout-requires : goal.sprout-requires
-sprout-requires c = room-first c.unbounded-fork.result c.unbounded-fork.ensures
-
-pub sprout-requires-2 : goal.sprout-requires-2
-sprout-requires-2 c =
-    subst (λ (words : ArrayOf word_order). len words.map < words.limit) (sym c.in-Ok-sprout.ensures.sprouted.level) (room-second c.unbounded-fork.result _ _ c.unbounded-fork.ensures)

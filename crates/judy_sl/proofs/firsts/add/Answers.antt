@@ -1,4 +1,4 @@
-use Rattle.std.proofs.Common.{◌≡◌, ℕ, ◌≤◌, false, IsSome, OnOk, Result, Ok, Err, is_err, true≢false, sym, ap, ◌∙◌, subst, arith}
+use Rattle.std.proofs.Common.{◌≡◌, ℕ, ◌≤◌, IsSome, sym, ap, ◌∙◌, subst, arith}
 use Rattle.std.specs.FinMap.{FinMap, get}
 use Rattle.judy_model.specs.Keys.{word_order}
 use Rattle.judy_sums.specs.Pairs.{number_at, raised, lowered}
@@ -24,14 +24,9 @@ returns-then-ends_first-clause-firsts c =
     let nothing = begun_none c.args.arena.now c.requires.is_arena c.args.key.now c.args.way c.requires.way (sym c.ends_first.ensures ∙ c.if-ends_first.true) in
     tried_first c.args.arena.now c.add_counted.new.self c.args.key.now c.requires.is_key none c.args.firsts.now c.requires.firsts nothing c.add_counted.result c.add_counted.ensures.added c.add_counted.ensures.refused
 
--- What holds where nothing was refused.
-from_ok : {T E P : Type 0} (result : Result T E) → is_err result ≡ false → OnOk result P → P
-from_ok (Ok value) is holds = holds
-from_ok (Err error) is holds = absurd (true≢false is)
-
 pub lower-requires-clause-there : goal.lower-requires-clause-there
 lower-requires-clause-there c =
-    let is = from_ok c.raise.result (sym c.is_err.ensures.value ∙ c.if-is_err.false) c.raise.ensures.raised ∙ ap (raised c.args.firsts.now) c.first_piece-piece.ensures in
+    let is = c.in_ok-raise.ensures.raised ∙ ap (raised c.args.firsts.now) c.first_piece-piece.ensures in
     let none = get-map c.args.arena.now c.args.key.now c.requires.is_key ∙ way-none c.args.arena.now c.args.key.now c.args.way c.requires.way c.requires.new in
     let some = begun_some c.args.arena.now c.requires.is_arena c.args.key.now c.args.way c.requires.way c.requires.new (sym c.ends_first.ensures ∙ c.if-ends_first.false) in
     subst (λ (firsts : FinMap word_order ℕ). IsSome (get firsts c.first_piece-piece.result)) (sym is) (subst (λ word. IsSome (get (raised c.args.firsts.now (piece_of c.args.key.now)) word)) (sym c.first_piece-piece.ensures)
@@ -39,7 +34,7 @@ lower-requires-clause-there c =
 
 pub lower-requires-clause-some : goal.lower-requires-clause-some
 lower-requires-clause-some c =
-    let is = from_ok c.raise.result (sym c.is_err.ensures.value ∙ c.if-is_err.false) c.raise.ensures.raised ∙ ap (raised c.args.firsts.now) c.first_piece-piece.ensures in
+    let is = c.in_ok-raise.ensures.raised ∙ ap (raised c.args.firsts.now) c.first_piece-piece.ensures in
     let none = get-map c.args.arena.now c.args.key.now c.requires.is_key ∙ way-none c.args.arena.now c.args.key.now c.args.way c.requires.way c.requires.new in
     let some = begun_some c.args.arena.now c.requires.is_arena c.args.key.now c.args.way c.requires.way c.requires.new (sym c.ends_first.ensures ∙ c.if-ends_first.false) in
     subst (λ (firsts : FinMap word_order ℕ). 1 ≤ number_at firsts c.first_piece-piece.result) (sym is) (subst (λ word. 1 ≤ number_at (raised c.args.firsts.now (piece_of c.args.key.now)) word) (sym c.first_piece-piece.ensures)
@@ -47,7 +42,7 @@ lower-requires-clause-some c =
 
 pub returns-in-Ok-clause-firsts : goal.returns-in-Ok-clause-firsts
 returns-in-Ok-clause-firsts c =
-    let is = from_ok c.raise.result (sym c.is_err.ensures.value ∙ c.if-is_err.false) c.raise.ensures.raised ∙ ap (raised c.args.firsts.now) c.first_piece-piece.ensures in
+    let is = c.in_ok-raise.ensures.raised ∙ ap (raised c.args.firsts.now) c.first_piece-piece.ensures in
     let none = get-map c.args.arena.now c.args.key.now c.requires.is_key ∙ way-none c.args.arena.now c.args.key.now c.args.way c.requires.way c.requires.new in
     let some = begun_some c.args.arena.now c.requires.is_arena c.args.key.now c.args.way c.requires.way c.requires.new (sym c.ends_first.ensures ∙ c.if-ends_first.false) in
     subst (AreFirsts (map_of c.add_counted-2.new.self)) (sym is)
@@ -56,7 +51,7 @@ returns-in-Ok-clause-firsts c =
 pub returns-in-Err-clause-firsts : goal.returns-in-Err-clause-firsts
 returns-in-Err-clause-firsts c =
     let word = c.first_piece-piece.result in
-    let is = from_ok c.raise.result (sym c.is_err.ensures.value ∙ c.if-is_err.false) c.raise.ensures.raised in
+    let is = c.in_ok-raise.ensures.raised in
     let back = c.lower.ensures ∙ ap (λ (firsts : FinMap word_order ℕ). lowered firsts word) is ∙ lowered_raised c.args.firsts.now word c.requires.firsts.some in
     subst (AreFirsts (map_of c.add_counted-2.new.self)) (sym back)
-    (firsts_same c.args.arena.now c.add_counted-2.new.self c.in-Err.ensures.refused.0 c.args.firsts.now c.requires.firsts)
+    (firsts_same c.args.arena.now c.add_counted-2.new.self c.in-Err.ensures.refused c.args.firsts.now c.requires.firsts)

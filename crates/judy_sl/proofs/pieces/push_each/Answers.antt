@@ -1,6 +1,8 @@
-use Rattle.std.proofs.Common.{◌≡◌, ◌≢◌, ℕ, ◌+◌, ◌<◌, ◌≤◌, List, ◌++◌, length, ◌∷◌, [], Bool, true, false, cond, take, drop, filter, nat_lt, get_or, ap, sym, ◌∙◌, arith, lt-ltb}
+use Rattle.std.proofs.Common.{◌≡◌, ◌≢◌, ℕ, ◌+◌, ◌<◌, ◌≤◌, List, ◌++◌, length, ◌∷◌, [], Bool, true, false, cond, take, drop, filter, nat_lt, get_or, refl, ap, sym, subst, ◌∙◌, arith, lt-ltb}
 use Rattle.std.proofs.lemmas.List.{append-nil, append_assoc, take_all, take-append-drop, length-append}
 use Rattle.std.proofs.lemmas.List.Elements.{filter_more, filter-append}
+use Rattle.judy_tails.specs.Writers.{StaysBeyond}
+use Rattle.judy_tails.proofs.Writing.{stays-beyond}
 use Rattle.judy_sl.proofs.PieceBytes.{piece_bytes-be}
 use Rattle.judy_sl.proofs.pieces.push_each.Goals as goal
 use Rattle.judy_sl.proofs.pieces.push_each.Goals.{then-byte-ne0, else-byte-ne0}
@@ -32,32 +34,51 @@ fails : (byte : ℕ) → byte ≡ 0 → nat_lt 0 byte ≡ false
 fails byte none = ap (nat_lt 0) none
 
 pub loop-byte-init : goal.loop-byte-init
-loop-byte-init c = record { bytes = piece_bytes-be c.args.piece ∙ ap (filter (λ byte. nat_lt 0 byte)) (sym c.to_be_bytes-byte-items.ensures); so_far = sym (append-nil c.args.key.now.items) }
+loop-byte-init g c = record {
+  bytes = piece_bytes-be c.args.piece ∙ ap (filter (λ byte. nat_lt 0 byte)) (sym c.to_be_bytes-byte-items.ensures);
+  so_far = sym (append-nil (g.K.KeyWriter.written c.args.key.now));
+  beyond = λ place behind. refl;
+}
 
-pub push-requires : goal.push-requires
-push-requires c =
+pub put-requires : goal.put-requires
+put-requires g c =
     let bytes = c.to_be_bytes-byte-items.result in
     let long : length bytes ≡ 8 = ap length c.to_be_bytes-byte-items.ensures in
     let within : c.loop-byte.byte-index < length bytes = omega arith in
     let all = ap length c.loop-byte.invariant.bytes in
-    let fits : length c.args.key.now.items + length (filter (λ byte. nat_lt 0 byte) bytes) ≤ LONGEST_KEY = omega (arith, c.requires) in
-    (omega arith, room (λ byte. nat_lt 0 byte) bytes c.args.key.now.items c.loop-byte.key.items c.loop-byte.byte-index within (passes (get_or bytes c.loop-byte.byte-index 0) c.if-byte-ne0.true) c.loop-byte.invariant.so_far fits)
+    let fits : length (g.K.KeyWriter.written c.args.key.now) + length (filter (λ byte. nat_lt 0 byte) bytes) ≤ LONGEST_KEY = omega (arith, c.requires) in
+    room (λ byte. nat_lt 0 byte) bytes (g.K.KeyWriter.written c.args.key.now) (g.K.KeyWriter.written c.loop-byte.key) c.loop-byte.byte-index within (passes (get_or bytes c.loop-byte.byte-index 0) c.if-byte-ne0.true) c.loop-byte.invariant.so_far fits
 
 pub loop-byte-preserved : goal.loop-byte-preserved
-loop-byte-preserved c =
+loop-byte-preserved g c =
+    let written = g.K.KeyWriter.written in
     let bytes = c.to_be_bytes-byte-items.result in
+    let at = c.loop-byte.byte-index in
     let long : length bytes ≡ 8 = ap length c.to_be_bytes-byte-items.ensures in
-    let within : c.loop-byte.byte-index < length bytes = omega arith in
-    record {
-      bytes = c.loop-byte.invariant.bytes;
-      so_far = elim c.if-byte-ne0.branch [
-        | then-byte-ne0 w ↦ let pushed = kept (λ byte. nat_lt 0 byte) bytes c.args.key.now.items c.loop-byte.key.items c.loop-byte.byte-index within (passes (get_or bytes c.loop-byte.byte-index 0) w.if-byte-ne0.true) c.loop-byte.invariant.so_far in ap (λ buffer. buffer.items) w.key-is ∙ w.push.ensures.items ∙ pushed
-        | else-byte-ne0 w ↦ let same = passed (λ byte. nat_lt 0 byte) bytes c.args.key.now.items c.loop-byte.key.items c.loop-byte.byte-index within (fails (get_or bytes c.loop-byte.byte-index 0) w.if-byte-ne0.false) c.loop-byte.invariant.so_far in ap (λ buffer. buffer.items) w.key-is ∙ same
-      ];
-    }
+    let within : at < length bytes = omega arith in
+    elim c.if-byte-ne0.branch [
+      | then-byte-ne0 w ↦
+          let pushed = kept (λ byte. nat_lt 0 byte) bytes (written c.args.key.now) (written c.loop-byte.key) at within (passes (get_or bytes at 0) w.if-byte-ne0.true) c.loop-byte.invariant.so_far in
+          record {
+            bytes = c.loop-byte.invariant.bytes;
+            so_far = ap written w.key-is ∙ w.put.ensures.written ∙ pushed;
+            beyond = subst (StaysBeyond written g.K.KeyWriter.beyond c.args.key.now) (sym w.key-is)
+                (stays-beyond written g.K.KeyWriter.beyond c.args.key.now c.loop-byte.key w.put.new.self (get_or bytes at 0 ∷ []) w.put.ensures.written c.loop-byte.invariant.beyond w.put.ensures.beyond);
+          }
+      | else-byte-ne0 w ↦
+          let same = passed (λ byte. nat_lt 0 byte) bytes (written c.args.key.now) (written c.loop-byte.key) at within (fails (get_or bytes at 0) w.if-byte-ne0.false) c.loop-byte.invariant.so_far in
+          record {
+            bytes = c.loop-byte.invariant.bytes;
+            so_far = ap written w.key-is ∙ same;
+            beyond = subst (StaysBeyond written g.K.KeyWriter.beyond c.args.key.now) (sym w.key-is) c.loop-byte.invariant.beyond;
+          }
+    ]
 
 pub returns : goal.returns
-returns c =
+returns g c =
     let bytes = c.to_be_bytes-byte-items.result in
     let long : length bytes ≡ 8 = ap length c.to_be_bytes-byte-items.ensures in
-    c.loop-byte.invariant.so_far ∙ ap (λ all. c.args.key.now.items ++ filter (λ byte. nat_lt 0 byte) all) (take_all c.loop-byte.byte-index bytes (omega arith)) ∙ ap (λ more. c.args.key.now.items ++ more) (sym c.loop-byte.invariant.bytes)
+    record {
+      written = c.loop-byte.invariant.so_far ∙ ap (λ all. g.K.KeyWriter.written c.args.key.now ++ filter (λ byte. nat_lt 0 byte) all) (take_all c.loop-byte.byte-index bytes (omega arith)) ∙ ap (λ more. g.K.KeyWriter.written c.args.key.now ++ more) (sym c.loop-byte.invariant.bytes);
+      beyond = c.loop-byte.invariant.beyond;
+    }

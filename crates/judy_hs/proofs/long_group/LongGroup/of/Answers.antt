@@ -4,7 +4,6 @@ use Rattle.std.specs.BTreeMap.{is_at}
 use Rattle.std.specs.Ordering.{nat_cmp}
 use Rattle.judy_model.specs.Keys.{word_order}
 use Rattle.judy_model.specs.Arrays.{ArrayOf, with_map, write}
-use Rattle.judy_model.proofs.Counting.{fresh_not_full}
 use Rattle.judy_records.specs.Texts.{words_of}
 use Rattle.judy_records.specs.Spots.{RecordList, held, empty_list, with_capacity, put_in}
 use Rattle.judy_hs.specs.Chains.{Pairs}
@@ -13,9 +12,6 @@ use Rattle.judy_hs.specs.LongRecords.{others_at, all_pairs, AreLongRecords}
 use Rattle.judy_hs.proofs.LongLemmas.{bytes_are}
 use Rattle.judy_hs.proofs.LongPuts.{one_record, one-pairs, one-are}
 use Rattle.judy_hs.proofs.long_group.LongGroup.of.Goals as goal
-
-pub put-requires-2 : goal.put-requires-2
-put-requires-2 c = record { room = fresh_not_full c.unbounded-hashes.result c.args.hash c.unbounded-hashes.ensures }
 
 pub invariant_of-result : goal.invariant_of-result
 invariant_of-result c =

@@ -10,20 +10,20 @@ use Rattle.judy_sl.proofs.RunWays.{climb_start, climb_room, climb_down, climb_la
 use Rattle.judy_sl.proofs.arena.Arena.climb.Goals as goal
 
 pub loop-piece-init : goal.loop-piece-init
-loop-piece-init c = rw (c.truncate.ensures.items, c.len.ensures.value) (climb_start c.args.itself (world_of c.args.self.now) c.args.key.now.items c.args.entry c.args.above.now.items c.args.run.now c.requires.leads)
+loop-piece-init c = rw (c.cut.ensures.written, c.len.ensures.value) (climb_start c.args.itself (world_of c.args.self.now) c.args.key.now c.args.entry c.args.above.now.items c.args.run.now c.requires.leads)
 
 pub push_piece-requires : goal.push_piece-requires
-push_piece-requires c = follow_room c.requires.is_arena.is_world c.args.key.now.items c.loop-piece.run.level.now.map c.loop-piece.piece c.loop-piece.key.items c.loop-piece.invariant.on
+push_piece-requires c = follow_room c.requires.is_arena.is_world c.args.key.now c.loop-piece.run.level.now.map c.loop-piece.piece c.loop-piece.key c.loop-piece.invariant.on
 
 pub loop-piece-smaller : goal.loop-piece-smaller
 loop-piece-smaller c =
-    let room = follow_room c.requires.is_arena.is_world c.args.key.now.items c.loop-piece.run.level.now.map c.loop-piece.piece c.loop-piece.key.items c.loop-piece.invariant.on in
+    let room = follow_room c.requires.is_arena.is_world c.args.key.now c.loop-piece.run.level.now.map c.loop-piece.piece c.loop-piece.key c.loop-piece.invariant.on in
     let some = inner_bytes c.loop-piece.piece c.loop-piece-test.true in
-    let long = ap length c.push_piece.ensures ∙ length-append c.loop-piece.key.items (piece_bytes c.loop-piece.piece) in
+    let long = ap length c.push_piece.ensures.written ∙ length-append c.loop-piece.key (piece_bytes c.loop-piece.piece) in
     omega arith
 
 pub child-requires : goal.child-requires
-child-requires c = taken_of c.args.self.now c.loop-piece.value (follow_on c.requires.is_arena.is_world c.args.key.now.items c.loop-piece.run.level.now.map c.loop-piece.piece c.loop-piece.key.items c.loop-piece.invariant.on c.loop-piece.value c.loop-piece.invariant.entry c.loop-piece-test.true)
+child-requires c = taken_of c.args.self.now c.loop-piece.value (follow_on c.requires.is_arena.is_world c.args.key.now c.loop-piece.run.level.now.map c.loop-piece.piece c.loop-piece.key c.loop-piece.invariant.on c.loop-piece.value c.loop-piece.invariant.entry c.loop-piece-test.true)
 
 pub push-requires : goal.push-requires
 push-requires c =
@@ -32,40 +32,40 @@ push-requires c =
     omega (arith, room)
 
 pub push_piece-requires-2 : goal.push_piece-requires-2
-push_piece-requires-2 c = follow_room c.requires.is_arena.is_world c.args.key.now.items c.loop-piece.run.level.now.map c.loop-piece.piece c.loop-piece.key.items c.loop-piece.invariant.on
+push_piece-requires-2 c = follow_room c.requires.is_arena.is_world c.args.key.now c.loop-piece.run.level.now.map c.loop-piece.piece c.loop-piece.key c.loop-piece.invariant.on
 
 pub returns-clause-neighbour : goal.returns-clause-neighbour
-returns-clause-neighbour c = rw c.push_piece-2.ensures (follow_last c.requires.is_arena.is_world c.args.key.now.items c.loop-piece.run.level.now.map c.loop-piece.piece c.loop-piece.key.items c.loop-piece.invariant.on c.loop-piece.value (omega arith) c.loop-piece.invariant.entry)
+returns-clause-neighbour c = rw c.push_piece-2.ensures.written (follow_last c.requires.is_arena.is_world c.args.key.now c.loop-piece.run.level.now.map c.loop-piece.piece c.loop-piece.key c.loop-piece.invariant.on c.loop-piece.value (omega arith) c.loop-piece.invariant.entry)
 
 pub returns-clause-stands : goal.returns-clause-stands
-returns-clause-stands c = rw c.push_piece-2.ensures (climb_last c.requires.is_arena.is_world c.loop-piece.invariant c.loop-piece.run.level refl (omega arith))
+returns-clause-stands c = rw c.push_piece-2.ensures.written (climb_last c.requires.is_arena.is_world c.loop-piece.invariant c.loop-piece.run.level refl (omega arith))
 
 pub returns-in_err-first-in-Level-clause-neighbour : goal.returns-in_err-first-in-Level-clause-neighbour
 returns-in_err-first-in-Level-clause-neighbour c =
     let child = c.in-Level.ensures in
-    absurd (follow_some c.requires.is_arena.is_world c.args.key.now.items c.loop-piece.run.level.now.map c.loop-piece.piece c.loop-piece.key.items c.loop-piece.invariant.on c.loop-piece.value c.loop-piece.invariant.entry c.loop-piece-test.true c.in-Level.next.now.map (ap node_of child) (none_of_all c.in-Level.next.now.map (sym c.iter-run.ensures ∙ c.in_err-first-in-Level.ensures.steps.0)))
+    absurd (follow_some c.requires.is_arena.is_world c.args.key.now c.loop-piece.run.level.now.map c.loop-piece.piece c.loop-piece.key c.loop-piece.invariant.on c.loop-piece.value c.loop-piece.invariant.entry c.loop-piece-test.true c.in-Level.next.now.map (ap node_of child) (none_of_all c.in-Level.next.now.map (sym c.iter-run.ensures ∙ c.in_err-first-in-Level.ensures.steps.0)))
 
 pub returns-in_err-first-in-Level-clause-stands : goal.returns-in_err-first-in-Level-clause-stands
 returns-in_err-first-in-Level-clause-stands c =
     let child = c.in-Level.ensures in
-    absurd (follow_some c.requires.is_arena.is_world c.args.key.now.items c.loop-piece.run.level.now.map c.loop-piece.piece c.loop-piece.key.items c.loop-piece.invariant.on c.loop-piece.value c.loop-piece.invariant.entry c.loop-piece-test.true c.in-Level.next.now.map (ap node_of child) (none_of_all c.in-Level.next.now.map (sym c.iter-run.ensures ∙ c.in_err-first-in-Level.ensures.steps.0)))
+    absurd (follow_some c.requires.is_arena.is_world c.args.key.now c.loop-piece.run.level.now.map c.loop-piece.piece c.loop-piece.key c.loop-piece.invariant.on c.loop-piece.value c.loop-piece.invariant.entry c.loop-piece-test.true c.in-Level.next.now.map (ap node_of child) (none_of_all c.in-Level.next.now.map (sym c.iter-run.ensures ∙ c.in_err-first-in-Level.ensures.steps.0)))
 
 pub loop-piece-preserved : goal.loop-piece-preserved
 loop-piece-preserved c =
     let child = c.in-Level.ensures in
-    rw (c.push.ensures.items, c.push_piece.ensures) (climb_down c.requires.is_arena.is_world c.loop-piece.invariant c.loop-piece.run.level refl c.in-Level.next.now.map c.loop-piece-test.true (ap node_of child) c.in_ok-first-in-Level.first c.next.new.self (sym c.iter-run.ensures ∙ c.in_ok-first-in-Level.ensures.steps))
+    rw (c.push.ensures.items, c.push_piece.ensures.written) (climb_down c.requires.is_arena.is_world c.loop-piece.invariant c.loop-piece.run.level refl c.in-Level.next.now.map c.loop-piece-test.true (ap node_of child) c.in_ok-first-in-Level.first c.next.new.self (sym c.iter-run.ensures ∙ c.in_ok-first-in-Level.ensures.steps))
 
 pub push_to-requires : goal.push_to-requires
 push_to-requires c =
     let child = c.in-Tail.ensures in
-    rw c.push_piece.ensures (follow_tail_room c.requires.is_arena.is_world c.args.key.now.items c.loop-piece.run.level.now.map c.loop-piece.piece c.loop-piece.key.items c.loop-piece.invariant.on c.loop-piece.value c.loop-piece.invariant.entry c.loop-piece-test.true c.in-Tail.tail.0 c.in-Tail.tail.1 (ap node_of child) (subst HasText child (c.requires.is_arena.texts c.loop-piece.value)))
+    rw c.push_piece.ensures.written (follow_tail_room c.requires.is_arena.is_world c.args.key.now c.loop-piece.run.level.now.map c.loop-piece.piece c.loop-piece.key c.loop-piece.invariant.on c.loop-piece.value c.loop-piece.invariant.entry c.loop-piece-test.true c.in-Tail.tail.0 c.in-Tail.tail.1 (ap node_of child) (subst HasText child (c.requires.is_arena.texts c.loop-piece.value)))
 
 pub returns-in-Tail-clause-neighbour : goal.returns-in-Tail-clause-neighbour
 returns-in-Tail-clause-neighbour c =
     let child = c.in-Tail.ensures in
-    rw (c.value.ensures, c.push_to.ensures, c.push_piece.ensures) (follow_tail c.requires.is_arena.is_world c.args.key.now.items c.loop-piece.run.level.now.map c.loop-piece.piece c.loop-piece.key.items c.loop-piece.invariant.on c.loop-piece.value c.loop-piece.invariant.entry c.loop-piece-test.true c.in-Tail.tail.0 c.in-Tail.tail.1 (ap node_of child) (subst HasText child (c.requires.is_arena.texts c.loop-piece.value)))
+    rw (c.value.ensures, c.push_to.ensures.written, c.push_piece.ensures.written) (follow_tail c.requires.is_arena.is_world c.args.key.now c.loop-piece.run.level.now.map c.loop-piece.piece c.loop-piece.key c.loop-piece.invariant.on c.loop-piece.value c.loop-piece.invariant.entry c.loop-piece-test.true c.in-Tail.tail.0 c.in-Tail.tail.1 (ap node_of child) (subst HasText child (c.requires.is_arena.texts c.loop-piece.value)))
 
 pub returns-in-Tail-clause-stands : goal.returns-in-Tail-clause-stands
 returns-in-Tail-clause-stands c =
     let child = c.in-Tail.ensures in
-    rw (c.push_to.ensures, c.push_piece.ensures) (climb_tail c.requires.is_arena.is_world c.loop-piece.invariant c.loop-piece.run.level refl c.in-Tail.tail.0 c.in-Tail.tail.1 c.loop-piece-test.true (ap node_of child) (subst HasText child (c.requires.is_arena.texts c.loop-piece.value)))
+    rw (c.push_to.ensures.written, c.push_piece.ensures.written) (climb_tail c.requires.is_arena.is_world c.loop-piece.invariant c.loop-piece.run.level refl c.in-Tail.tail.0 c.in-Tail.tail.1 c.loop-piece-test.true (ap node_of child) (subst HasText child (c.requires.is_arena.texts c.loop-piece.value)))

@@ -2,37 +2,28 @@ use Rattle.std.proofs.Common.{◌∙◌, refl, sym, subst, ◌-◌, ◌+◌, len
 use Rattle.std.proofs.lemmas.List.{drop-drop, take_rest}
 use Rattle.judy_sl.specs.Grown.{IsAdded}
 use Rattle.judy_sl.proofs.Filled.{fills-last}
-use Rattle.judy_sl.proofs.Tailed.{room-put, filled-tail}
+use Rattle.judy_sl.proofs.Tailed.{filled-tail}
 use Rattle.judy_sl.proofs.Growing.{grows-last, grows-tail, gap-counted}
-use Rattle.judy_sl.proofs.Rooms.{room-gap}
 use Rattle.judy_sl.proofs.arena.Arena.fill.Goals as goal
 
 -- ---- the last piece
 
-pub enter-requires-clause-room : goal.enter-requires-clause-room
-enter-requires-clause-room c = room-gap c.args.self.now c.requires.is_arena c.args.key.now c.args.place c.args.left c.requires.gap c.requires.few
+pub returns-then-left-lt8-clause-added : goal.returns-then-left-lt8-clause-added
+returns-then-left-lt8-clause-added c =
+    subst (λ a. IsAdded c.args.self.now a c.args.key.now c.args.place) (sym c.in_ok-enter.ensures.entered) (fills-last c.args.self.now c.requires.is_arena c.args.key.now c.requires.is_key c.args.place c.args.left c.requires.gap c.if-left-lt8.true)
 
-pub returns-in-Ok-clause-added : goal.returns-in-Ok-clause-added
-returns-in-Ok-clause-added c =
-    subst (λ a. IsAdded c.args.self.now a c.args.key.now c.args.place) (sym c.in-Ok.ensures.entered) (fills-last c.args.self.now c.requires.is_arena c.args.key.now c.requires.is_key c.args.place c.args.left c.requires.gap c.if-left-lt8.true)
-
-pub returns-in-Ok-clause-counted : goal.returns-in-Ok-clause-counted
-returns-in-Ok-clause-counted c =
-    gap-counted c.args.self.now c.requires.is_arena c.requires.led c.requires.counted c.args.key.now c.requires.is_key c.args.place c.args.left c.requires.gap _ c.args.place (returns-in-Ok-clause-added c) (grows-last c.args.self.now c.args.key.now c.args.place c.args.left c.requires.gap _ c.in-Ok.ensures.entered)
+pub returns-then-left-lt8-clause-counted : goal.returns-then-left-lt8-clause-counted
+returns-then-left-lt8-clause-counted c =
+    gap-counted c.args.self.now c.requires.is_arena c.requires.led c.requires.counted c.args.key.now c.requires.is_key c.args.place c.args.left c.requires.gap _ c.args.place (returns-then-left-lt8-clause-added c) (grows-last c.args.self.now c.args.key.now c.args.place c.args.left c.requires.gap _ c.in_ok-enter.ensures.entered)
 
 -- ---- a tail, and the entry that leads to it
 
-pub enter-requires-2-clause-room : goal.enter-requires-2-clause-room
-enter-requires-2-clause-room c =
-    room-put c.args.self.now c.put_tail.new.self _ c.in-Ok-put_tail.at c.in-Ok-put_tail.ensures.put c.args.place c.requires.gap.map c.requires.gap.is_level
-    (room-gap c.args.self.now c.requires.is_arena c.args.key.now c.args.place c.args.left c.requires.gap c.requires.few)
-
-pub returns-in-Ok-enter-clause-added : goal.returns-in-Ok-enter-clause-added
-returns-in-Ok-enter-clause-added c =
-    filled-tail c.args.self.now c.put_tail.new.self c.enter-2.new.self c.args.key.now c.args.place c.args.left c.in-Ok-put_tail.at _ c.requires.is_arena c.requires.is_key c.requires.gap c.if-left-lt8.false c.in-Ok-put_tail.ensures.put c.in-Ok-enter.ensures.entered
+pub returns-in-Ok-clause-added : goal.returns-in-Ok-clause-added
+returns-in-Ok-clause-added c =
+    filled-tail c.args.self.now c.put_tail.new.self c.enter-2.new.self c.args.key.now c.args.place c.args.left c.in_ok-at.at _ c.requires.is_arena c.requires.is_key c.requires.gap c.if-left-lt8.false c.in_ok-at.ensures.put c.in-Ok.ensures.entered
     (take_rest c.args.key.now (length c.args.key.now - c.args.left + 8) ∙ sym (drop-drop 8 (length c.args.key.now - c.args.left) c.args.key.now)) refl
 
-pub returns-in-Ok-enter-clause-counted : goal.returns-in-Ok-enter-clause-counted
-returns-in-Ok-enter-clause-counted c =
-    gap-counted c.args.self.now c.requires.is_arena c.requires.led c.requires.counted c.args.key.now c.requires.is_key c.args.place c.args.left c.requires.gap c.enter-2.new.self _ (returns-in-Ok-enter-clause-added c)
-    (grows-tail c.args.self.now c.args.key.now c.args.place c.args.left c.requires.gap c.put_tail.new.self c.enter-2.new.self c.in-Ok-put_tail.at _ c.in-Ok-put_tail.ensures.put c.in-Ok-enter.ensures.entered)
+pub returns-in-Ok-clause-counted : goal.returns-in-Ok-clause-counted
+returns-in-Ok-clause-counted c =
+    gap-counted c.args.self.now c.requires.is_arena c.requires.led c.requires.counted c.args.key.now c.requires.is_key c.args.place c.args.left c.requires.gap c.enter-2.new.self _ (returns-in-Ok-clause-added c)
+    (grows-tail c.args.self.now c.args.key.now c.args.place c.args.left c.requires.gap c.put_tail.new.self c.enter-2.new.self c.in_ok-at.at _ c.in_ok-at.ensures.put c.in-Ok.ensures.entered)

@@ -33,18 +33,18 @@ push_piece-requires c =
 
 pub returns-then-spot-eq0 : goal.returns-then-spot-eq0
 returns-then-spot-eq0 c =
-    rw c.push_piece.ensures (nth_final c.args.self.now c.requires.is_arena c.args.child c.args.place c.args.key.now.items c.down.at c.down.left c.down.key.items c.down.invariant c.in-Level.level.now.map (ap node_of c.in-Level.ensures) c.spot_at-spot.result c.spot_at-spot.ensures c.if-spot-eq0.true)
+    rw c.push_piece.ensures.written (nth_final c.args.self.now c.requires.is_arena c.args.child c.args.place c.args.key.now.items c.down.at c.down.left c.down.key.items c.down.invariant c.in-Level.level.now.map (ap node_of c.in-Level.ensures) c.spot_at-spot.result c.spot_at-spot.ensures c.if-spot-eq0.true)
 
 pub down-smaller : goal.down-smaller
 down-smaller c =
     let room = nth_room c.args.self.now c.requires.is_arena c.args.child c.args.place c.args.key.now.items c.down.at c.down.left c.down.key.items c.down.invariant c.in-Level.level.now.map (ap node_of c.in-Level.ensures) c.spot_at-spot.result c.spot_at-spot.ensures in
     let some = inner_bytes c.spot_at-spot.result.piece c.if-spot-eq0.false in
-    let long = ap length c.push_piece.ensures ∙ length-append c.down.key.items (piece_bytes c.spot_at-spot.result.piece) in
+    let long = ap length c.push_piece.ensures.written ∙ length-append c.down.key.items (piece_bytes c.spot_at-spot.result.piece) in
     omega arith
 
 pub down-preserved : goal.down-preserved
 down-preserved c =
-    rw c.push_piece.ensures (nth_down c.args.self.now c.requires.is_arena c.args.child c.args.place c.args.key.now.items c.down.at c.down.left c.down.key.items c.down.invariant c.in-Level.level.now.map (ap node_of c.in-Level.ensures) c.spot_at-spot.result c.spot_at-spot.ensures c.if-spot-eq0.false)
+    rw c.push_piece.ensures.written (nth_down c.args.self.now c.requires.is_arena c.args.child c.args.place c.args.key.now.items c.down.at c.down.left c.down.key.items c.down.invariant c.in-Level.level.now.map (ap node_of c.in-Level.ensures) c.spot_at-spot.result c.spot_at-spot.ensures c.if-spot-eq0.false)
 
 pub push_to-requires : goal.push_to-requires
 push_to-requires c =
@@ -54,4 +54,4 @@ push_to-requires c =
 pub returns-in-Tail : goal.returns-in-Tail
 returns-in-Tail c =
     let text = subst HasText c.in-Tail.ensures (c.requires.is_arena.texts c.down.at) in
-    rw (c.value.ensures, c.push_to.ensures) (nth_tail c.args.self.now c.requires.is_arena c.args.child c.args.place c.args.key.now.items c.down.at c.down.left c.down.key.items c.down.invariant c.in-Tail.tail.0 c.in-Tail.tail.1 (ap node_of c.in-Tail.ensures) text)
+    rw (c.value.ensures, c.push_to.ensures.written) (nth_tail c.args.self.now c.requires.is_arena c.args.child c.args.place c.args.key.now.items c.down.at c.down.left c.down.key.items c.down.invariant c.in-Tail.tail.0 c.in-Tail.tail.1 (ap node_of c.in-Tail.ensures) text)

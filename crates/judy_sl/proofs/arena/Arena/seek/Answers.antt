@@ -15,7 +15,7 @@ pub returns-in_err-turn-clause-neighbour : goal.returns-in_err-turn-clause-neigh
 returns-in_err-turn-clause-neighbour c =
     let none = subst (IsTurn c.upward.result (world_of c.args.self.now) c.as_slice.result.now) c.in_err-turn.was c.turn.ensures.is_turn in
     let looked = subst (λ (look : Look). IsNone look (world_of c.args.self.now) 0 (pieces c.as_slice.result.now)) c.upward.ensures none in
-    rw c.from_residual.ensures (subst (λ bytes. IsNone (upward c.args.itself) (world_of c.args.self.now) 0 (pieces bytes)) c.as_slice.ensures.value looked, refl)
+    rw c.from_residual.ensures (subst (λ bytes. IsNone (upward c.args.itself) (world_of c.args.self.now) 0 (pieces bytes)) c.as_slice.ensures.bytes looked, refl)
 
 -- The turn that was found, above a key.
 turn_at : (itself : Bool) (world : World) (seen key : List ℕ) (look : Look) (found : Option Turn) (turn : Turn) → IsTurn look world seen found → found ≡ Some turn → look ≡ upward itself → seen ≡ key → IsTurnOf (upward itself) world key turn
@@ -24,18 +24,18 @@ turn_at itself world seen key look found turn is was looks same =
 
 pub level_behind-level-requires-clause-leads : goal.level_behind-level-requires-clause-leads
 level_behind-level-requires-clause-leads c =
-    let at = turn_at c.args.itself (world_of c.args.self.now) c.as_slice.result.now c.as_slice-2.result.now c.upward.result c.turn.result c.in_ok-turn.turn c.turn.ensures.is_turn c.in_ok-turn.was c.upward.ensures (c.as_slice.ensures.value ∙ sym c.as_slice-2.ensures.value) in
+    let at = turn_at c.args.itself (world_of c.args.self.now) c.as_slice.result.now c.as_slice-2.result.now c.upward.result c.turn.result c.in_ok-turn.turn c.turn.ensures.is_turn c.in_ok-turn.was c.upward.ensures (c.as_slice.ensures.bytes ∙ sym c.as_slice-2.ensures.bytes) in
     (at.map, turn_level c.args.itself (world_of c.args.self.now) c.as_slice-2.result.now c.in_ok-turn.turn at)
 
 pub entries_beyond-requires : goal.entries_beyond-requires
 entries_beyond-requires c =
-    let at = turn_at c.args.itself (world_of c.args.self.now) c.as_slice.result.now c.as_slice-2.result.now c.upward.result c.turn.result c.in_ok-turn.turn c.turn.ensures.is_turn c.in_ok-turn.was c.upward.ensures (c.as_slice.ensures.value ∙ sym c.as_slice-2.ensures.value) in
+    let at = turn_at c.args.itself (world_of c.args.self.now) c.as_slice.result.now c.as_slice-2.result.now c.upward.result c.turn.result c.in_ok-turn.turn c.turn.ensures.is_turn c.in_ok-turn.was c.upward.ensures (c.as_slice.ensures.bytes ∙ sym c.as_slice-2.ensures.bytes) in
     let behind = c.level_behind-level.ensures at.map (turn_level c.args.itself (world_of c.args.self.now) c.as_slice-2.result.now c.in_ok-turn.turn at) in
     ap (λ (words : FinMap word_order ℕ). contains_key words c.in_ok-turn.turn.piece) behind.0 ∙ ap (λ (found : Option ℕ). is_some found) at.held
 
 pub climb-value-requires-clause-leads : goal.climb-value-requires-clause-leads
 climb-value-requires-clause-leads c =
-    let at = turn_at c.args.itself (world_of c.args.self.now) c.as_slice.result.now c.as_slice-2.result.now c.upward.result c.turn.result c.in_ok-turn.turn c.turn.ensures.is_turn c.in_ok-turn.was c.upward.ensures (c.as_slice.ensures.value ∙ sym c.as_slice-2.ensures.value) in
+    let at = turn_at c.args.itself (world_of c.args.self.now) c.as_slice.result.now c.as_slice-2.result.now c.upward.result c.turn.result c.in_ok-turn.turn c.turn.ensures.is_turn c.in_ok-turn.was c.upward.ensures (c.as_slice.ensures.bytes ∙ sym c.as_slice-2.ensures.bytes) in
     let behind = c.level_behind-level.ensures at.map (turn_level c.args.itself (world_of c.args.self.now) c.as_slice-2.result.now c.in_ok-turn.turn at) in
-    subst (λ bytes. EntryLeads c.args.itself (world_of c.args.self.now) bytes (c.in_ok-turn.turn.piece, c.in_ok-turn.turn.value) c.level_behind-level.new.above.items (record { level = c.level_behind-level.result; entries = c.entries_beyond.result })) c.as_slice-2.ensures.value
+    subst (λ bytes. EntryLeads c.args.itself (world_of c.args.self.now) bytes (c.in_ok-turn.turn.piece, c.in_ok-turn.turn.value) c.level_behind-level.new.above.items (record { level = c.level_behind-level.result; entries = c.entries_beyond.result })) c.as_slice-2.ensures.bytes
     (turn_leads c.args.itself (world_of c.args.self.now) c.as_slice-2.result.now c.in_ok-turn.turn at c.level_behind-level.new.above.items (record { level = c.level_behind-level.result; entries = c.entries_beyond.result }) behind.1 behind.0 c.entries_beyond.ensures)

@@ -13,22 +13,22 @@ use Rattle.judy_sl.proofs.arena.Arena.split.Goals as goal
 -- The key is added.
 done : (c : After-graft-top) → IsGrafted c.make_room.new.self c.graft-top.new.self c.args.key.now c.args.left c.graft-top.result
 done c =
-    c.graft-top.ensures c.make_room.new.self c.args.key.now c.args.left c.in-Ok.made
-    (split-graft c.args.self.now c.requires.is_arena c.requires.led c.requires.counted c.args.key.now c.requires.is_key c.args.from c.args.at c.args.left c.requires.clash c.read_tail-value.new.key.items c.as_slice.result.now c.read_tail-value.result c.read_tail-value.ensures c.as_slice.ensures.value c.in-Ok.made c.in-Ok.ensures.built c.make_room.new.self c.make_room.ensures.same)
-    c.in_default.ensures.hung
+    c.graft-top.ensures c.make_room.new.self c.args.key.now c.args.left c.in_ok-made.made
+    (split-graft c.args.self.now c.requires.is_arena c.requires.led c.requires.counted c.args.key.now c.requires.is_key c.args.from c.args.at c.args.left c.requires.clash c.read_tail-value.new.key.items c.as_slice.result.now c.read_tail-value.result c.read_tail-value.ensures c.as_slice.ensures.value c.in_ok-made.made c.in_ok-made.ensures c.make_room.new.self c.make_room.ensures.same)
+    c.in_ok-hang_both.ensures.hung
 
 pub read_tail-value-requires-clause-tail : goal.read_tail-value-requires-clause-tail
 read_tail-value-requires-clause-tail c = clash-tail c.args.self.now c.args.key.now c.args.from c.args.at c.args.left c.requires.clash c.requires.is_arena
 
 pub hang_both-requires : goal.hang_both-requires
 hang_both-requires c =
-    split-sound c.args.self.now c.requires.is_arena c.requires.led c.requires.counted c.args.key.now c.requires.is_key c.args.from c.args.at c.args.left c.requires.clash c.read_tail-value.new.key.items c.as_slice.result.now c.read_tail-value.result c.read_tail-value.ensures c.as_slice.ensures.value c.in-Ok.made c.in-Ok.ensures.built
+    split-sound c.args.self.now c.requires.is_arena c.requires.led c.requires.counted c.args.key.now c.requires.is_key c.args.from c.args.at c.args.left c.requires.clash c.read_tail-value.new.key.items c.as_slice.result.now c.read_tail-value.result c.read_tail-value.ensures c.as_slice.ensures.value c.in_ok-made.made c.in_ok-made.ensures
 
 pub graft-top-requires-clause-taken : goal.graft-top-requires-clause-taken
-graft-top-requires-clause-taken c = hung-taken c.args.self.now c.args.key.now c.args.from c.args.at c.args.left c.requires.clash c.make_room.new.self c.hang_both.new.self c.make_room.ensures.same c.in-Ok.made c.hang_both.new.branch c.in_default.ensures.hung
+graft-top-requires-clause-taken c = hung-taken c.args.self.now c.args.key.now c.args.from c.args.at c.args.left c.requires.clash c.make_room.new.self c.hang_both.new.self c.make_room.ensures.same c.in_ok-made.made c.hang_both.new.branch c.in_ok-hang_both.ensures.hung
 
 pub graft-top-requires-clause-entry : goal.graft-top-requires-clause-entry
-graft-top-requires-clause-entry c = hung-entry c.args.self.now c.args.key.now c.args.from c.args.at c.args.left c.requires.clash c.make_room.new.self c.hang_both.new.self c.make_room.ensures.same c.in-Ok.made c.hang_both.new.branch c.in_default.ensures.hung
+graft-top-requires-clause-entry c = hung-entry c.args.self.now c.args.key.now c.args.from c.args.at c.args.left c.requires.clash c.make_room.new.self c.hang_both.new.self c.make_room.ensures.same c.in_ok-made.made c.hang_both.new.branch c.in_ok-hang_both.ensures.hung
 
 -- The way goes on from the top level, which is there.
 pub child-requires : goal.child-requires

@@ -8,9 +8,9 @@ use Rattle.judy_sl.proofs.arena.Arena.step.Goals as goal
 pub returns-in_err-entry-clause-neighbour : goal.returns-in_err-entry-clause-neighbour
 returns-in_err-entry-clause-neighbour c =
     let none = subst (IsNextEntry (world_of c.args.self.now) c.as_slice.result.now c.next_entry.new.above.items c.next_entry.new.run) c.in_err-entry.was c.next_entry.ensures in
-    rw c.from_residual.ensures (subst (λ bytes. IsNone (upward false) (world_of c.args.self.now) 0 (pieces bytes)) c.as_slice.ensures.value none.0, refl)
+    rw c.from_residual.ensures (subst (λ bytes. IsNone (upward false) (world_of c.args.self.now) 0 (pieces bytes)) c.as_slice.ensures.bytes none.0, refl)
 
 pub climb-requires-clause-leads : goal.climb-requires-clause-leads
 climb-requires-clause-leads c =
-    subst (λ bytes. EntryLeads false (world_of c.args.self.now) bytes c.in_ok-entry.entry c.next_entry.new.above.items c.next_entry.new.run) c.as_slice.ensures.value
+    subst (λ bytes. EntryLeads false (world_of c.args.self.now) bytes c.in_ok-entry.entry c.next_entry.new.above.items c.next_entry.new.run) c.as_slice.ensures.bytes
     (subst (IsNextEntry (world_of c.args.self.now) c.as_slice.result.now c.next_entry.new.above.items c.next_entry.new.run) c.in_ok-entry.was c.next_entry.ensures)

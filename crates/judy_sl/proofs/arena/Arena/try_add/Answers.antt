@@ -7,25 +7,21 @@ use Rattle.judy_sl.specs.Pieces.{piece_of, IsText}
 use Rattle.judy_tails.specs.Tails.{next_place}
 use Rattle.judy_sl.proofs.PieceLemmas.{text_of_key, text-drop}
 use Rattle.judy_sl.proofs.FirstWays.{unrooted}
-use Rattle.judy_sl.proofs.Rooms.{room-in_first}
-use Rattle.judy_sl.proofs.Tried.{first-absent, first-added}
+use Rattle.judy_sl.proofs.Tried.{shown-refused, first-absent, first-added}
 use Rattle.judy_sl.proofs.Growing.{counted-same}
 use Rattle.judy_sl.proofs.TriedCounts.{put-present, tried-counted}
 use Rattle.judy_word.proofs.TrialLemmas.{put-absent, put-new, put-undone}
 use Rattle.judy_sl.proofs.arena.Arena.try_add.Goals as goal
 
-pub put_if_absent-requires : goal.put_if_absent-requires
-put_if_absent-requires c = record { room = room-in_first c.args.self.now c.requires.is_arena c.requires.few c.first_piece-piece.result }
-
-pub returns-in-Err-clause-absent : goal.returns-in-Err-clause-absent
-returns-in-Err-clause-absent c =
+pub returns-in_err-added-clause-absent : goal.returns-in_err-added-clause-absent
+returns-in_err-added-clause-absent c =
     let key = c.is_key.ensures.0 c.if-not-is_key.false in
-    first-absent c.args.self.now c.requires.is_arena c.args.key.now key c.first_piece-piece.result c.first_piece-piece.ensures c.in-Err.ensures.absent
+    shown-refused _ c.from_residual.result c.from_residual.ensures.1 (first-absent c.args.self.now c.requires.is_arena c.args.key.now key c.first_piece-piece.result c.first_piece-piece.ensures c.in_err-added.ensures.absent)
 
 pub returns-in-Ok-clause-absent : goal.returns-in-Ok-clause-absent
 returns-in-Ok-clause-absent c =
     let key = c.is_key.ensures.0 c.if-not-is_key.false in
-    let added = sym c.in-Ok-true.field-0-test ∙ c.in-Ok-true.ensures.answer in
+    let added = sym c.if-not-added.false ∙ c.in_ok-added.ensures.answer in
     first-absent c.args.self.now c.requires.is_arena c.args.key.now key c.first_piece-piece.result c.first_piece-piece.ensures (put-absent c.args.self.now.root.map c.first_piece-piece.result added)
 
 -- Its tail is a text.
@@ -40,50 +36,50 @@ put_tail_next-requires-clause-next c =
 
 words_is : (c : goal.In-Ok) → c.put_if_absent.new.self ≡ with_map c.args.self.now.root (insert c.args.self.now.root.map c.first_piece-piece.result c.next_place-next.result)
 words_is c =
-    let added = sym c.in-Ok-true.field-0-test ∙ c.in-Ok-true.ensures.answer in
-    c.in-Ok-true.ensures.put
+    let added = sym c.if-not-added.false ∙ c.in_ok-added.ensures.answer in
+    c.in_ok-added.ensures.put
     ∙ ap (with_map c.args.self.now.root) (put-new c.args.self.now.root.map c.first_piece-piece.result c.next_place-next.result added)
 
 pub returns-in-Ok-clause-added : goal.returns-in-Ok-clause-added
 returns-in-Ok-clause-added c =
     let key = c.is_key.ensures.0 c.if-not-is_key.false in
     let long = c.if-key-lt8.false in
-    let added = sym c.in-Ok-true.field-0-test ∙ c.in-Ok-true.ensures.answer in
+    let added = sym c.if-not-added.false ∙ c.in_ok-added.ensures.answer in
     first-added c.args.self.now c.requires.is_arena c.args.key.now key c.first_piece-piece.result c.first_piece-piece.ensures (put-absent c.args.self.now.root.map c.first_piece-piece.result added)
     c.put_if_absent.new.self c.put_tail_next.new.self c.next_place-next.result _ (words_is c) c.in-Ok.ensures.put (omega arith) (take_rest c.args.key.now 8) refl
 
 pub returns-in-Ok-clause-first : goal.returns-in-Ok-clause-first
 returns-in-Ok-clause-first c =
-    let added = sym c.in-Ok-true.field-0-test ∙ c.in-Ok-true.ensures.answer in
+    let added = sym c.if-not-added.false ∙ c.in_ok-added.ensures.answer in
     let none = put-absent c.args.self.now.root.map c.first_piece-piece.result added in
     unrooted c.args.self.now (piece_of c.args.key.now) (ap (get c.args.self.now.root.map) (sym c.first_piece-piece.ensures) ∙ none)
 
-pub returns-in-Err-put_tail_next-clause-absent : goal.returns-in-Err-put_tail_next-clause-absent
-returns-in-Err-put_tail_next-clause-absent c =
+pub returns-in-Err-clause-absent : goal.returns-in-Err-clause-absent
+returns-in-Err-clause-absent c =
     let key = c.is_key.ensures.0 c.if-not-is_key.false in
-    let added = sym c.in-Ok-true.field-0-test ∙ c.in-Ok-true.ensures.answer in
+    let added = sym c.if-not-added.false ∙ c.in_ok-added.ensures.answer in
     first-absent c.args.self.now c.requires.is_arena c.args.key.now key c.first_piece-piece.result c.first_piece-piece.ensures (put-absent c.args.self.now.root.map c.first_piece-piece.result added)
 
-pub returns-in-Err-put_tail_next-clause-refused : goal.returns-in-Err-put_tail_next-clause-refused
-returns-in-Err-put_tail_next-clause-refused c =
-    let added = sym c.in-Ok-true.field-0-test ∙ c.in-Ok-true.ensures.answer in
+pub returns-in-Err-clause-refused : goal.returns-in-Err-clause-refused
+returns-in-Err-clause-refused c =
+    let added = sym c.if-not-added.false ∙ c.in_ok-added.ensures.answer in
     let undone = c.del.ensures.deleted
-    ∙ ap (λ (made : ArrayOf word_order). with_map made (remove made.map c.first_piece-piece.result)) (c.in-Err-put_tail_next.ensures.refused.0.root ∙ c.in-Ok-true.ensures.put)
+    ∙ ap (λ (made : ArrayOf word_order). with_map made (remove made.map c.first_piece-piece.result)) (c.in-Err.ensures.refused.root ∙ c.in_ok-added.ensures.put)
     ∙ ap (with_map c.args.self.now.root) (put-undone c.args.self.now.root.map c.first_piece-piece.result c.next_place-next.result added) in
-    (record { root = undone; children = c.in-Err-put_tail_next.ensures.refused.0.children }, c.in-Err-put_tail_next.ensures.refused.1)
+    record { root = undone; children = c.in-Err.ensures.refused.children }
 
-pub returns-in-Ok-false-clause-counted : goal.returns-in-Ok-false-clause-counted
-returns-in-Ok-false-clause-counted c =
-    let stayed = sym c.in-Ok-false.field-0-test ∙ c.in-Ok-false.ensures.answer in
-    let words = c.in-Ok-false.ensures.put ∙ ap (with_map c.args.self.now.root) (put-present c.args.self.now.root.map c.first_piece-piece.result c.next_place-next.result stayed) in
+pub returns-then-not-added-clause-counted : goal.returns-then-not-added-clause-counted
+returns-then-not-added-clause-counted c =
+    let stayed = sym c.if-not-added.true ∙ c.in_ok-added.ensures.answer in
+    let words = c.in_ok-added.ensures.put ∙ ap (with_map c.args.self.now.root) (put-present c.args.self.now.root.map c.first_piece-piece.result c.next_place-next.result stayed) in
     counted-same c.args.self.now (record c.args.self.now { root = c.put_if_absent.new.self }) (record { root = words; children = λ at. refl }) c.requires.counted
 
 pub returns-in-Ok-clause-counted : goal.returns-in-Ok-clause-counted
 returns-in-Ok-clause-counted c =
     let key = c.is_key.ensures.0 c.if-not-is_key.false in
-    let added = sym c.in-Ok-true.field-0-test ∙ c.in-Ok-true.ensures.answer in
+    let added = sym c.if-not-added.false ∙ c.in_ok-added.ensures.answer in
     tried-counted c.args.self.now c.requires.is_arena c.requires.led c.requires.counted c.args.key.now key c.first_piece-piece.result c.first_piece-piece.ensures (put-absent c.args.self.now.root.map c.first_piece-piece.result added)
     c.put_if_absent.new.self c.put_tail_next.new.self c.next_place-next.result _ _ (words_is c) c.in-Ok.ensures.put (returns-in-Ok-clause-added c)
 
-pub returns-in-Err-put_tail_next-clause-counted : goal.returns-in-Err-put_tail_next-clause-counted
-returns-in-Err-put_tail_next-clause-counted c = counted-same c.args.self.now _ (returns-in-Err-put_tail_next-clause-refused c).0 c.requires.counted
+pub returns-in-Err-clause-counted : goal.returns-in-Err-clause-counted
+returns-in-Err-clause-counted c = counted-same c.args.self.now _ (returns-in-Err-clause-refused c) c.requires.counted

@@ -8,12 +8,12 @@ use Rattle.judy_sl.proofs.cursor.KeyCursor.first.Goals as goal
 pub invariant_of-self : goal.invariant_of-self
 invariant_of-self c = record {
   is_arena = c.self.invariant.is_arena;
-  is_text = text_after (upward true) (world_of c.self.inside.arena.now) c.self.inside.key.items c.seek.new.key.items c.seek.result c.self.invariant.is_text c.seek.ensures.neighbour;
+  is_text = text_after (upward true) (world_of c.self.inside.arena.now) c.self.inside.key c.seek.new.key c.seek.result c.self.invariant.is_text c.seek.ensures.neighbour;
   leads = c.seek.ensures.leads;
 }
 
 pub returns-clause-key : goal.returns-clause-key
-returns-clause-key c = rw (← c.self.view_is) (scanned (upward true) c.self.inside.arena.now c.self.inside.key.items c.self.invariant.is_text c.seek.new.key.items c.seek.result c.seek.ensures.neighbour).0
+returns-clause-key c = rw (← c.self.view_is) (scanned (upward true) c.self.inside.arena.now c.self.inside.key c.self.invariant.is_text c.seek.new.key c.seek.result c.seek.ensures.neighbour).0
 
 pub returns-clause-value : goal.returns-clause-value
-returns-clause-value c = rw (← c.self.view_is) (scanned (upward true) c.self.inside.arena.now c.self.inside.key.items c.self.invariant.is_text c.seek.new.key.items c.seek.result c.seek.ensures.neighbour).1
+returns-clause-value c = rw (← c.self.view_is) (scanned (upward true) c.self.inside.arena.now c.self.inside.key c.self.invariant.is_text c.seek.new.key c.seek.result c.seek.ensures.neighbour).1

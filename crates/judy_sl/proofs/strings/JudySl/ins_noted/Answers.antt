@@ -62,9 +62,9 @@ returns-in-Ok-Some g c =
 
 pub invariant_of-self-in-Err-try_add : goal.invariant_of-self-in-Err-try_add
 invariant_of-self-in-Err-try_add g c = (
-  strings-same _ _ _ c.self.invariant.0 c.args.key.now c.in-Err.ensures.key c.try_add.new.self c.in-Err.ensures.refused.0,
+  strings-same _ _ _ c.self.invariant.0 c.args.key.now c.in-Err.ensures.key c.try_add.new.self c.in-Err.ensures.refused,
   c.in-Err.ensures.counted,
-  firsts_same c.self.inside.arena c.try_add.new.self c.in-Err.ensures.refused.0 c.self.inside.firsts c.self.invariant.2,
+  firsts_same c.self.inside.arena c.try_add.new.self c.in-Err.ensures.refused c.self.inside.firsts c.self.invariant.2,
 )
 
 -- ---- there
@@ -113,7 +113,7 @@ pub invariant_of-self-in-Err-1 : goal.invariant_of-self-in-Err-1
 invariant_of-self-in-Err-1 g c =
     let same = c.in-Ok-None.ensures.open c.in-Ok-None.field-0-is in
     let is : IsStrings c.self.inside.limit c.self.inside.count c.try_add.new.self = subst (IsStrings c.self.inside.limit c.self.inside.count) (sym same) c.self.invariant.0 in
-    (strings-same _ _ _ is c.args.key.now (c.is_key.ensures.0 c.if-not-is_key.false) c.add.new.arena c.in-Err-add.ensures.refused.0, c.add.ensures.counted, c.add.ensures.firsts)
+    (strings-same _ _ _ is c.args.key.now (c.is_key.ensures.0 c.if-not-is_key.false) c.add.new.arena c.in-Err-add.ensures.refused, c.add.ensures.counted, c.add.ensures.firsts)
 
 pub returns-in-Err-add : goal.returns-in-Err-add
 returns-in-Err-add g c =
@@ -122,8 +122,8 @@ returns-in-Err-add g c =
     let view = ap (array_of c.self.inside.limit) same ∙ c.self.view_is in
     let key = c.is_key.ensures.0 c.if-not-is_key.false in
     let none = get-map c.try_add.new.self c.args.key.now key ∙ way-none c.try_add.new.self c.args.key.now c.walk.result (c.walk.ensures.way (text_of_key _ key)) (is-new c.walk.result c.in_default.not-At) in (
-      ap (λ a. inr a) (array-same _ _ _ is c.args.key.now key c.add.new.arena c.in-Err-add.ensures.refused.0 ∙ view),
-      record { writes_back = tt; value = tt; accepted = tt; refused = rw (← view) (subst (IsRefusal _ c.args.key.now) (sym c.in-Err-add.ensures.refused.1) (key, none, absent-room _ _ _ is c.args.key.now key none c.if-self.false)) },
+      ap (λ a. inr a) (array-same _ _ _ is c.args.key.now key c.add.new.arena c.in-Err-add.ensures.refused ∙ view),
+      record { writes_back = tt; value = tt; accepted = tt; refused = rw (← view) (subst (IsRefusal _ c.args.key.now) (sym c.into.ensures) (key, none, absent-room _ _ _ is c.args.key.now key none c.if-self.false)) },
     )
 
 pub invariant_of-self-lent-in-Ok : goal.invariant_of-self-lent-in-Ok

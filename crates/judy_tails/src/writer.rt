@@ -1,0 +1,183 @@
+//! Where a key is written byte behind byte: a buffer of its own, or the front of another's.
+
+ghost use Rattle.std.specs.Prelude.{◌≡◌, ◌+◌, ◌<◌, ◌≤◌, ◌++◌, ℕ, List, [], ◌∷◌, length, take, drop};
+ghost use Rattle.judy_model.specs.declared.keys.TheConstants.{LONGEST_KEY};
+ghost use Rattle.judy_tails.specs.Writers.{StaysBeyond};
+
+use arrayvec::ArrayVec;
+use judy_model::keys::LONGEST_KEY;
+use std::marker::Model;
+
+/// What a key is written into. It has room for the longest key.
+pub trait KeyWriter {
+    /// The bytes of the key so far.
+    ghost written: { Self → List ℕ };
+
+    /// What isn't the key's from a place on, and whose it is. No call changes that behind the key.
+    ghost beyond: { Self → ℕ → List ℕ × ℕ };
+
+    /// Cuts the key off behind so many bytes.
+    fn cut(&mut self, len: usize)
+        ensures written { written self.new ≡ take len (written self.old) }
+        ensures beyond { (place : ℕ) → beyond self.new place ≡ beyond self.old place };
+
+    /// Puts a byte behind the key.
+    fn put(&mut self, byte: u8)
+        requires { length (written self.old) < LONGEST_KEY }
+        ensures written { written self.new ≡ written self.old ++ byte ∷ [] }
+        ensures beyond { StaysBeyond written beyond self.old self.new };
+
+    /// Puts eight bytes behind the key.
+    fn put_eight(&mut self, bytes: &[u8; 8])
+        requires { length (written self.old) + 8 ≤ LONGEST_KEY }
+        ensures written { written self.new ≡ written self.old ++ bytes.now }
+        ensures beyond { StaysBeyond written beyond self.old self.new };
+}
+
+/// A buffer of its own, which ends with the key.
+impl KeyWriter for ArrayVec<u8, LONGEST_KEY> {
+    ghost written = { λ key. key.items };
+
+    ghost beyond = { λ key place. ([], 0) };
+
+    #[inline(always)]
+    fn cut(&mut self, len: usize) {
+        self.truncate(len);
+    }
+
+    #[inline(always)]
+    fn put(&mut self, byte: u8) {
+        self.push(byte);
+    }
+
+    #[inline(always)]
+    fn put_eight(&mut self, bytes: &[u8; 8]) {
+        match self.try_extend_from_slice(bytes) {
+            Ok(_) => {}
+            Err(_) => unreachable!(),
+        }
+    }
+}
+
+/// The front of a buffer that has room for the longest key: the bytes behind the key stay as they are.
+#[derive(Drop)]
+pub struct KeyFront<'a> {
+    buffer: &'a mut [u8],
+    len: usize,
+    ghost inside: { len ≤ length buffer.now },
+    ghost room: { LONGEST_KEY ≤ length buffer.now },
+}
+
+impl<'a> KeyFront<'a> {
+    /// The key of so many bytes at the front of a buffer.
+    #[inline(always)]
+    pub fn new(buffer: &'a mut [u8], len: usize) -> KeyFront<'a>
+        requires inside { len ≤ length buffer.old }
+        requires room { LONGEST_KEY ≤ length buffer.old }
+        ensures bytes { result.buffer.now ≡ buffer.old }
+        ensures len { result.len ≡ len }
+        ensures same { result.buffer.ghost_name ≡ buffer.entry.ghost_name }
+    {
+        KeyFront { buffer, len }
+    }
+
+    /// How many bytes the key has.
+    #[inline(always)]
+    pub fn len(&self) -> usize
+        ensures { result ≡ self.now.len }
+    {
+        self.len
+    }
+}
+
+impl<'a> KeyWriter for KeyFront<'a> {
+    ghost written = { λ key. take key.len key.buffer.now };
+
+    ghost beyond = { λ key place. (drop place key.buffer.now, key.buffer.ghost_name) };
+
+    #[inline(always)]
+    fn cut(&mut self, len: usize) {
+        if len < self.len {
+            self.len = len;
+        }
+    }
+
+    #[inline(always)]
+    fn put(&mut self, byte: u8) {
+        self.buffer[self.len] = byte;
+        self.len += 1;
+    }
+
+    #[inline(always)]
+    fn put_eight(&mut self, bytes: &[u8; 8]) {
+        self.buffer[self.len..self.len + 8].copy_from_slice(bytes);
+        self.len += 8;
+    }
+}
+
+/// A key in an array of its own, to contracts its bytes. A cut costs nothing, since nothing behind the key is ever read.
+#[derive(Drop)]
+pub struct KeyRoom {
+    bytes: [u8; LONGEST_KEY],
+    len: usize,
+}
+
+impl Model for KeyRoom {
+    ghost use Rattle.std.specs.Prelude.{ℕ, List, ◌≤◌, take};
+    ghost use Rattle.judy_model.specs.declared.keys.TheConstants.{LONGEST_KEY};
+
+    ghost Value = { List ℕ };
+
+    ghost view = { λ k. take k.len k.bytes };
+
+    ghost invariant = { λ k. k.len ≤ LONGEST_KEY };
+}
+
+impl KeyRoom {
+    /// The key of some bytes, at most 1,024.
+    pub fn of(key: &[u8]) -> KeyRoom
+        requires { length key.now ≤ LONGEST_KEY }
+        ensures { result ≡ key.now }
+    {
+        let mut bytes = [0; LONGEST_KEY];
+        bytes[..key.len()].copy_from_slice(key);
+        KeyRoom {
+            bytes,
+            len: key.len(),
+        }
+    }
+
+    /// The bytes of the key.
+    #[inline(always)]
+    pub fn as_slice(&self) -> &[u8]
+        ensures bytes { result.now ≡ self.now }
+        ensures short { length result.now ≤ LONGEST_KEY }
+    {
+        &self.bytes[..self.len]
+    }
+}
+
+impl KeyWriter for KeyRoom {
+    ghost written = { λ key. key };
+
+    ghost beyond = { λ key place. ([], 0) };
+
+    #[inline(always)]
+    fn cut(&mut self, len: usize) {
+        self.len = self.len.min(len);
+    }
+
+    #[inline(always)]
+    fn put(&mut self, byte: u8) {
+        let mut front = KeyFront::new(&mut self.bytes, self.len);
+        front.put(byte);
+        self.len = front.len();
+    }
+
+    #[inline(always)]
+    fn put_eight(&mut self, bytes: &[u8; 8]) {
+        let mut front = KeyFront::new(&mut self.bytes, self.len);
+        front.put_eight(bytes);
+        self.len = front.len();
+    }
+}
