@@ -1,13 +1,13 @@
 //! A set of at most seven bytes, in eight bytes with their count.
 
-ghost use Rattle.std.specs.Prelude.{◌≡◌, ◌≢◌, ℕ, ◌-◌, ◌<◌, ◌≤◌, [], ◌∷◌, ◌++◌, length, take, drop, slice_index};
+ghost use Rattle.std.specs.Prelude.{◌≡◌, ◌-◌, ◌<◌, ◌≤◌, [], ◌∷◌, ◌++◌, length, take, drop};
 ghost use Rattle.std.specs.List.{remove};
 ghost use Rattle.judy_bits.specs.ByteSets as set;
 ghost use Rattle.judy_bits.specs.ByteSets.{IsByteSet};
 
 use crate::bits256::Bits256;
+use crate::lanes::first_place;
 use std::marker::Model;
-use std::simd::prelude::*;
 
 /// A set of at most seven bytes: the members in ascending order, and 255 in each place after them. Since 255
 /// is below no byte, a rank is counted over all seven places, whatever the number of members.
@@ -55,16 +55,6 @@ fn close_place(bytes: &mut [u8; 7], at: usize)
     let before = *bytes;
     bytes[at..6].copy_from_slice(&before[at + 1..]);
     bytes[6] = 255;
-}
-
-/// The first of eight places that holds a byte; 8 or more where none does.
-fn first_place(bytes: [u8; 8], byte: u8) -> usize
-    requires { length bytes ≡ 8 }
-    ensures holds { result < 8 → slice_index bytes result ≡ byte }
-    ensures first { (at : ℕ) → at < 8 → at < result → slice_index bytes at ≢ byte }
-{
-    let equal = u8x8::from_array(bytes).simd_eq(u8x8::splat(byte));
-    equal.to_bitmask().trailing_zeros() as usize
 }
 
 impl FewBytes {

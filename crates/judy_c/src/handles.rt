@@ -143,15 +143,11 @@ macro_rules! ins_in {
 macro_rules! insert_in {
     ($handle:ident, $alloc:ident, $key:ident, $value:ident, $len:ident) => {{
         let count = $len($alloc, $handle);
-        match $handle.ins($alloc, $key) {
-            Ok(slot) => {
-                let was = *slot;
-                *slot = $value;
-                let there = $len($alloc, $handle) == count;
-                Ok(if there { Some(was) } else { None })
-            }
-            Err(refusal) => Err(refusal),
-        }
+        let slot = $handle.ins($alloc, $key)?;
+        let was = *slot;
+        *slot = $value;
+        let there = $len($alloc, $handle) == count;
+        Ok(if there { Some(was) } else { None })
     }};
 }
 

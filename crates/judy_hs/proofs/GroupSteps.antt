@@ -55,7 +55,6 @@ module _ (hash_of : List ℕ → ℕ) (key : List ℕ) (bytes : IsByteString key
     pub IsShort-write : (value : ℕ) → IsShort (length key) words → IsShort (length key) (with_map words (insert words.map (part_of hash_of key) value))
     IsShort-write value is = record {
       few = few;
-      limit = is.limit;
       used = (part_of hash_of key, value, get-write_same nat_cmp_total words.map (part_of hash_of key) value);
       fits = λ word held e. ⊎_elim
           (λ (same : part_of hash_of key ≡ word). subst (λ w. w < 256 ^ length key) same part_fits)
@@ -71,7 +70,6 @@ module _ (hash_of : List ℕ → ℕ) (key : List ℕ) (bytes : IsByteString key
     pub IsShort-remove : IsShort (length key) words → IsUsed (remove words.map (part_of hash_of key)) → IsShort (length key) (with_map words (remove words.map (part_of hash_of key)))
     IsShort-remove is used = record {
       few = few;
-      limit = is.limit;
       used = used;
       fits = λ word held e. ⊎_elim
           (λ (same : part_of hash_of key ≡ word). some_none held (sym e ∙ ap (get (remove words.map (part_of hash_of key))) (sym same) ∙ get-del_same nat_cmp_total words.map (part_of hash_of key)))
@@ -138,7 +136,7 @@ module _ (hash_of : List ℕ → ℕ) (key : List ℕ) (bytes : IsByteString key
         → IsLong hash_of (length key) (record group { chains = set group.chains place new })
     IsLong-changed place new leads within used apart others =
         let two = two-set [] value_in (IsChain hash_of (length key)) (never (length key)) group.hashes.map group.chains (two_of group is) (part_of hash_of key) place leads within new (chain_changed (chain_at group place) new (part_of hash_of key) has used apart others (is.chains (part_of hash_of key) place leads)) in
-        record { many = is.many; length_is = is.length_is; limit = is.limit; used = is.used; apart = two.apart; chains = two.good }
+        record { many = is.many; length_is = is.length_is; used = is.used; apart = two.apart; chains = two.good }
 
     pub in_long-changed : (place : ℕ) (new : Pairs) → get group.hashes.map (part_of hash_of key) ≡ Some place → place < length group.chains → in_long (record group { chains = set group.chains place new }) (part_of hash_of key) key ≡ value_in new key
     in_long-changed place new leads within =
@@ -157,7 +155,7 @@ module _ (hash_of : List ℕ → ℕ) (key : List ℕ) (bytes : IsByteString key
     pub IsLong-chain : (place : ℕ) → get group.hashes.map (part_of hash_of key) ≡ None → IsFreePlace group.chains place → IsLong hash_of (length key) (with_chain group (part_of hash_of key) key place)
     IsLong-chain place absent free =
         let two = two-put [] value_in (IsChain hash_of (length key)) (never (length key)) group.hashes.map group.chains (two_of group is) (part_of hash_of key) place absent free.within free.no_key ((key, 0) ∷ []) (chain_of_one (part_of hash_of key) has) in
-        record { many = is.many; length_is = is.length_is; limit = is.limit; used = (part_of hash_of key, place, get-write_same nat_cmp_total group.hashes.map (part_of hash_of key) place); apart = two.apart; chains = two.good }
+        record { many = is.many; length_is = is.length_is; used = (part_of hash_of key, place, get-write_same nat_cmp_total group.hashes.map (part_of hash_of key) place); apart = two.apart; chains = two.good }
 
     pub in_long-chain : (place : ℕ) → get group.hashes.map (part_of hash_of key) ≡ None → IsFreePlace group.chains place → in_long (with_chain group (part_of hash_of key) key place) (part_of hash_of key) key ≡ Some 0
     in_long-chain place absent free =
@@ -179,4 +177,4 @@ module _ (hash_of : List ℕ → ℕ) (key : List ℕ) (bytes : IsByteString key
       pub IsLong-gone : IsUsed (remove group.hashes.map (part_of hash_of key)) → IsLong hash_of (length key) (record group { hashes = with_map group.hashes (remove group.hashes.map (part_of hash_of key)); chains = set group.chains place [] })
       IsLong-gone used =
           let two = two-gone [] value_in (IsChain hash_of (length key)) (never (length key)) group.hashes.map group.chains (two_of group is) (part_of hash_of key) place leads in
-          record { many = is.many; length_is = is.length_is; limit = is.limit; used = used; apart = two.apart; chains = two.good }
+          record { many = is.many; length_is = is.length_is; used = used; apart = two.apart; chains = two.good }

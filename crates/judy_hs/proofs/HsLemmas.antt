@@ -46,7 +46,6 @@ module _ (hash_of : List ℕ → ℕ) (longest : ℕ) where
   pub IsHs-none : (limit : ℕ) → 1 ≤ limit → limit ≤ 4294967295 → IsHs hash_of longest limit 0 no_keys
   IsHs-none limit some most = record {
     is_keyed = record {
-      limit = refl;
       within = λ key_length place e. no_lead key_length place e;
       apart = λ one other place p q. no_lead one place p;
       groups = λ key_length place e. no_lead key_length place e;

@@ -1,7 +1,7 @@
 -- The inner form of an array: each length that leads somewhere is that of a key, and the other way round.
-use Rattle.std.proofs.Common.{◌≡◌, ◌↔◌, ℕ, zero, suc, ◌/◌, ◌%◌, ◌^◌, ◌<◌, ◌≤◌, List, length, Option, Some, None, is_some, IsSome, IfSome, option_copied, Bor, IsTrue, refl, sym, ap, ◌∙◌, subst, ⊎_elim, inl, inr, arith}
-use Rattle.std.specs.FinMap.{FinMap, get, contains_key, len}
-use Rattle.std.proofs.lemmas.Bool.{false≢true, cases_order}
+use Rattle.std.proofs.Common.{◌≡◌, ◌↔◌, ℕ, zero, suc, ◌/◌, ◌%◌, ◌^◌, ◌<◌, ◌≤◌, List, length, Option, Some, None, is_some, IsSome, IfSome, option_copied, Bor, IsTrue, refl, sym, ap, ◌∙◌, subst, arith}
+use Rattle.std.specs.FinMap.{FinMap, get, contains_key}
+use Rattle.std.proofs.lemmas.Bool.{false≢true}
 use Rattle.std.proofs.lemmas.List.Elements.{All-nil, All-cons}
 use Rattle.std.proofs.lemmas.Nat.{mod_below}
 use Rattle.std.proofs.Math.Nat.{mod-eq_of_lt}
@@ -20,7 +20,6 @@ use Rattle.judy_hs.specs.InnerForm.{HasLength, IsLengths, IsShortGroup, IsLongGr
 use Rattle.judy_hs.proofs.ChainLemmas.{some_pair}
 use Rattle.judy_hs.proofs.PartLemmas.{part_short, part_long}
 use Rattle.judy_hs.proofs.GroupSteps.{some_none}
-use Rattle.judy_model.proofs.Counting.{fewer}
 
 IsByteString-low_bytes : (width word : ℕ) → IsByteString (low_bytes width word)
 IsByteString-low_bytes zero word = All-nil (λ byte. byte < 256)
@@ -170,58 +169,12 @@ module _ (hash_of : List ℕ → ℕ) (longest : ℕ) (keyed : Keyed) (is : IsKe
   ] refl
 
 module _ (hash_of : List ℕ → ℕ) (longest : ℕ) (keyed : Keyed) (is : IsKeyed hash_of longest keyed) where
-  told_by : (tell : List ℕ → ℕ) (n : ℕ) → ((key : List ℕ) × (value : ℕ) × (tell key ≡ n) × (get (map_of hash_of longest keyed) key ≡ Some value)) → (key : List ℕ) × (tell key ≡ n) × IsTrue (contains_key (map_of hash_of longest keyed) key)
-  told_by tell n found = (found.0, found.2, ap (λ (o : Option ℕ). is_some o) found.3)
-
-  pub fewer-lengths : len keyed.lengths.map ≤ len (map_of hash_of longest keyed)
-  fewer-lengths = fewer keyed.lengths.map (map_of hash_of longest keyed) length (λ n held. told_by length n ((lengths-are hash_of longest keyed is n).0 held))
-
-  short_fewer : (n : ℕ) (words : ArrayOf word_order) → IsShortGroup (map_of hash_of longest keyed) n words.map → len words.map ≤ len (map_of hash_of longest keyed)
-  short_fewer n words form = fewer words.map (map_of hash_of longest keyed) number_of (λ word held.
-      let value = held_is words.map word held in
-      let found = (form word value.0).0 value.1 in
-      (found.0, found.2, ap (λ (o : Option ℕ). is_some o) found.3))
-
-  long_fewer : (n : ℕ) (words : ArrayOf word_order) → IsLongGroup hash_of (map_of hash_of longest keyed) n words.map → len words.map ≤ len (map_of hash_of longest keyed)
-  long_fewer n words form = fewer words.map (map_of hash_of longest keyed) hash_of (λ word held.
-      let found = (form word).0 held in
-      (found.0, found.3, ap (λ (o : Option ℕ). is_some o) found.4))
-
-  some_fewer : (found : Option (ArrayOf word_order)) → ((words : ArrayOf word_order) → found ≡ Some words → len words.map ≤ len (map_of hash_of longest keyed)) → IfSome found (λ words. len words.map ≤ len (map_of hash_of longest keyed))
-  some_fewer None few = tt
-  some_fewer (Some words) few = few words refl
-
-  pub fewer-words : (n : ℕ) → IfSome (words_at keyed (get keyed.lengths.map n)) (λ words. len words.map ≤ len (map_of hash_of longest keyed))
-  fewer-words n = some_fewer (words_at keyed (get keyed.lengths.map n)) (λ words e. ⊎_elim
-      (λ (few : n ≤ 8). short_fewer n words (subst (λ (o : Option (ArrayOf word_order)). IfSome o (λ words. IsShortGroup (map_of hash_of longest keyed) n words.map)) e (group-short hash_of longest keyed is n few)))
-      (λ (many : 8 < n). long_fewer n words (subst (λ (o : Option (ArrayOf word_order)). IfSome o (λ words. IsLongGroup hash_of (map_of hash_of longest keyed) n words.map)) e (group-long hash_of longest keyed is n many)))
-      (⊎_elim (λ same. inl (omega arith)) (λ apart. ⊎_elim (λ less. inl (omega arith)) (λ more. inr more) apart) (cases_order n 8)))
-
-  group_limit : (n : ℕ) (group : Group) → IsGroup hash_of n group → IfSome (words_of group) (λ words. words.limit ≡ 18446744073709551615)
-  group_limit n none kept = tt
-  group_limit n (short words) kept = kept.limit
-  group_limit n (long group) kept = kept.limit
-
-  limit_words : (n : ℕ) → IfSome (words_at keyed (get keyed.lengths.map n)) (λ words. words.limit ≡ 18446744073709551615)
-  limit_words n = elim (get keyed.lengths.map n) as (λ lead. get keyed.lengths.map n ≡ lead → IfSome (words_at keyed lead) (λ words. words.limit ≡ 18446744073709551615)) [
-    | None ↦ λ e. tt
-    | Some place ↦ λ e. group_limit n (group_at keyed place) (is.groups n place e)
-  ] refl
-
-  both : (found : Option (ArrayOf word_order)) → IfSome found (λ words. len words.map ≤ len (map_of hash_of longest keyed)) → IfSome found (λ words. words.limit ≡ 18446744073709551615) → len (map_of hash_of longest keyed) < 18446744073709551615 → IfSome found (λ words. len words.map < words.limit)
-  both None few limit below = tt
-  both (Some words) few limit below = omega arith
-
-  -- So each has room for one more while the array holds fewer than 2^64 - 1 keys.
-  pub room-words : (n : ℕ) → len (map_of hash_of longest keyed) < 18446744073709551615 → IfSome (words_at keyed (get keyed.lengths.map n)) (λ words. len words.map < words.limit)
-  room-words n below = both (words_at keyed (get keyed.lengths.map n)) (fewer-words n) (limit_words n) below
-
   of_length : (group : Group) (n : ℕ) (key : List ℕ) → IsGroup hash_of n group → length key ≡ n → IsOfLength group key
   of_length none n key is same = tt
   of_length (short words) n key is same = tt
   of_length (long group) n key is same = same ∙ sym is.length_is
 
-  -- And its keys are as long as those of which it is the group.
+  -- The keys of a group are as long as the length that leads to it.
   pub length-led : (key : List ℕ) → IfSome (get keyed.lengths.map (length key)) (λ place. IsOfLength (group_at keyed place) key)
   length-led key = elim (get keyed.lengths.map (length key)) as (λ lead. get keyed.lengths.map (length key) ≡ lead → IfSome lead (λ place. IsOfLength (group_at keyed place) key)) [
     | None ↦ λ e. tt

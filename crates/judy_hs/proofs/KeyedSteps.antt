@@ -67,7 +67,7 @@ module _ (hash_of : List ℕ → ℕ) (longest : ℕ) where
       IsKeyed-set : IsGroup hash_of (length key) new → IsKeyed hash_of longest (record keyed { groups = set keyed.groups place new })
       IsKeyed-set good =
           let both = two-set none held Good never keyed.lengths.map keyed.groups (two_of keyed is) (length key) place leads within new (good, is_key.within_limit) in
-          record { limit = is.limit; within = λ key_length at e. (both.good key_length at e).1; apart = both.apart; groups = λ key_length at e. (both.good key_length at e).0 }
+          record { within = λ key_length at e. (both.good key_length at e).1; apart = both.apart; groups = λ key_length at e. (both.good key_length at e).0 }
 
       value-set : value_of hash_of (record keyed { groups = set keyed.groups place new }) key ≡ held new key
       value-set =
@@ -112,7 +112,6 @@ module _ (hash_of : List ℕ → ℕ) (longest : ℕ) where
           (sym (part_short hash_of key few) ∙ sym e ∙ part_short hash_of other (omega (arith, o.same_length)))));
       good = record {
         few = few;
-        limit = refl;
         used = (part_of hash_of key, 0, word_one);
         fits = λ word value e. ⊎_elim
             (λ (same : word ≡ part_of hash_of key). subst (λ w. w < 256 ^ length key) (sym (same ∙ part_short hash_of key few)) (number_of-lt key is_key.is_byte_string))
@@ -140,7 +139,6 @@ module _ (hash_of : List ℕ → ℕ) (longest : ℕ) where
       good = record {
         many = many;
         length_is = refl;
-        limit = refl;
         used = (part_of hash_of key, 0, word_one);
         apart = λ one other place p q. (one_place place one p).0 ∙ sym (one_place place other q).0;
         chains = λ hash place e.
@@ -168,7 +166,7 @@ module _ (hash_of : List ℕ → ℕ) (longest : ℕ) where
         let both = two-put none held Good never keyed.lengths.map keyed.groups (two_of keyed is) (length key) place absent free.within free.no_group new (one.good, is_key.within_limit) in
         record {
           made = record {
-            is = record { limit = is.limit; within = λ key_length at e. (both.good key_length at e).1; apart = both.apart; groups = λ key_length at e. (both.good key_length at e).0 };
+            is = record { within = λ key_length at e. (both.good key_length at e).1; apart = both.apart; groups = λ key_length at e. (both.good key_length at e).0 };
             map_is = written after 0
                 (place_is after (get (insert keyed.lengths.map (length key) place) (length key)) key
                 ∙ through-put none held Good never keyed.lengths.map keyed.groups (two_of keyed is) (length key) place absent free.within free.no_group new key
@@ -191,7 +189,7 @@ module _ (hash_of : List ℕ → ℕ) (longest : ℕ) where
         let after = without_group keyed (length key) place in
         let both = two-gone none held Good never keyed.lengths.map keyed.groups (two_of keyed is) (length key) place leads in
         record {
-          is = record { limit = is.limit; within = λ key_length at e. (both.good key_length at e).1; apart = both.apart; groups = λ key_length at e. (both.good key_length at e).0 };
+          is = record { within = λ key_length at e. (both.good key_length at e).1; apart = both.apart; groups = λ key_length at e. (both.good key_length at e).0 };
           map_is = removed after
               (place_is after (get (remove keyed.lengths.map (length key)) (length key)) key
               ∙ through-gone none held Good never keyed.lengths.map keyed.groups (two_of keyed is) (length key) place leads key)

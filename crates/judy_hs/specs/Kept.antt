@@ -17,7 +17,6 @@ IsUsed map = (word : ℕ) × (value : ℕ) × (get map word ≡ Some value)
 -- A group of short keys: each of its words has that many bytes.
 pub record IsShort (key_length : ℕ) (words : ArrayOf word_order) : Type 0 where
   pub few : key_length ≤ 8
-  pub limit : words.limit ≡ 18446744073709551615
   pub used : IsUsed words.map
   pub fits : (word value : ℕ) → get words.map word ≡ Some value → word < 256 ^ key_length
 
@@ -32,7 +31,6 @@ module _ (hash_of : List ℕ → ℕ) where
   pub record IsLong (key_length : ℕ) (group : Long) : Type 0 where
     pub many : 8 < key_length
     pub length_is : group.key_length ≡ key_length
-    pub limit : group.hashes.limit ≡ 18446744073709551615
     pub used : IsUsed group.hashes.map
     pub apart : (one other place : ℕ) → get group.hashes.map one ≡ Some place → get group.hashes.map other ≡ Some place → one ≡ other
     pub chains : (hash place : ℕ) → get group.hashes.map hash ≡ Some place → IsChain key_length hash (chain_at group place)
@@ -50,7 +48,6 @@ module _ (hash_of : List ℕ → ℕ) where
 module _ (hash_of : List ℕ → ℕ) (longest : ℕ) where
   -- Each length leads to a group of its own, and none is above that of the longest key.
   pub record IsKeyed (keyed : Keyed) : Type 0 where
-    pub limit : keyed.lengths.limit ≡ 18446744073709551615
     pub within : (key_length place : ℕ) → get keyed.lengths.map key_length ≡ Some place → key_length ≤ longest
     pub apart : (one other place : ℕ) → get keyed.lengths.map one ≡ Some place → get keyed.lengths.map other ≡ Some place → one ≡ other
     pub groups : (key_length place : ℕ) → get keyed.lengths.map key_length ≡ Some place → IsGroup hash_of key_length (group_at keyed place)

@@ -1,8 +1,8 @@
 //! The keys of one length.
 
-ghost use Rattle.std.specs.Prelude.{ℕ, ◌≤◌, ◌++◌, ◌≡◌, ◌≢◌, ◌<◌, ◌↔◌, IsTrue, option_copied, IfOk, OnOk, OnErr, IfSome, None, Some, MatchOption};
+ghost use Rattle.std.specs.Prelude.{ℕ, ◌≤◌, ◌++◌, ◌≡◌, ◌≢◌, ◌↔◌, IsTrue, option_copied, IfOk, OnOk, OnErr, IsSome, IfSome, None, Some, MatchOption};
+ghost use Rattle.std.specs.FinMap.{get};
 ghost use Rattle.std.specs.Borrow.{sem};
-ghost use Rattle.std.specs.FinMap.{get, len as map_len};
 ghost use Rattle.std.specs.Option.{option_copied_mut};
 ghost use Rattle.judy_hs.specs.Listed.{entries_in, short_list};
 
@@ -31,7 +31,7 @@ pub enum GroupPlace {
 impl GroupPlace {
     ghost use Rattle.judy_hs.specs.Groups.{none, in_group, chain_in, words_of, IsInside, IsNewInside, IsOfLength, IsUsable, value_inside, group_with_key, group_without, CanTakeKey, IsEmptyGroup};
     ghost use Rattle.judy_hs.specs.GroupPlaces.{group_of};
-    ghost use Rattle.judy_hs.specs.Trials.{IfAdded, UnlessAdded, UnlessOpen};
+    ghost use Rattle.judy_hs.specs.Trials.{IfAdded, UnlessAdded, UnlessOpen, IfOpen};
     ghost use Rattle.judy_hs.specs.GroupLends.{LendsInside};
     ghost use Rattle.judy_hs.specs.Listed.{CanList, group_list};
     ghost use Rattle.judy_hs.specs.Values.{AreWords};
@@ -105,8 +105,6 @@ impl GroupPlace {
         key: &[u8],
     ) -> Result<Inside, AllocError>
         requires chain { chain ≡ chain_in (group_of self.old) part }
-        requires room { IfSome (words_of (group_of self.old))
-            (λ words. map_len words.map < words.limit) }
         requires of_length { IsOfLength (group_of self.old) key.now }
         requires takes { CanTakeKey (group_of self.old) part }
         ensures place { IfOk result (IsNewInside (group_of self.old) part) }
@@ -115,24 +113,24 @@ impl GroupPlace {
         ensures unchanged { OnErr result (group_of self.new ≡ group_of self.old) }
     {
         match self {
-            GroupPlace::Short(words) => match words.put(part, 0) {
-                Ok(_) => Ok(Inside::Word(part)),
-                Err(_) => Err(AllocError),
-            },
-            GroupPlace::Long(group) => match group.add(alloc, chain, part, key) {
-                Ok(place) => Ok(Inside::Chained(place)),
-                Err(error) => Err(error),
-            },
+            GroupPlace::Short(words) => {
+                words.put(part, 0)?;
+                Ok(Inside::Word(part))
+            }
+            GroupPlace::Long(group) => {
+                let place = group.add(alloc, chain, part, key)?;
+                Ok(Inside::Chained(place))
+            }
             GroupPlace::Free(_) => unreachable!(),
         }
     }
 
     // Puts a key in with the value 0 where it and each key with its hash are absent, by one way down, and answers where it stands.
     pub fn try_add(&mut self, alloc: Global, part: u64, key: &[u8]) -> Trial<Inside>
-        requires room { IfSome (words_of (group_of self.old))
-            (λ words. map_len words.map < words.limit) }
         requires of_length { IsOfLength (group_of self.old) key.now }
         ensures absent { UnlessOpen result (in_group (group_of self.old) part key.now ≡ None) }
+        ensures held { IfOpen result
+            (IfSome (words_of (group_of self.old)) (λ words. IsSome (get words.map part))) }
         ensures place { IfAdded result (IsNewInside (group_of self.old) part) }
         ensures added { IfAdded result
             (λ inside. group_of self.new ≡ group_with_key (group_of self.old) part key.now inside) }

@@ -3,7 +3,7 @@
 
 ghost use Rattle.std.specs.Prelude.{ℕ, ◌++◌, OnOk, ◌≡◌, ◌≢◌, ◌<◌, ◌≤◌, [], option_copied, IfOk, IsOk, OnErr, IsSome, IfSome, IsTrue, None, Some, MatchOption, length, get_or, vec_len, vec_capacity};
 ghost use Rattle.std.specs.Borrow.{sem};
-ghost use Rattle.std.specs.FinMap.{get, len as map_len};
+ghost use Rattle.std.specs.FinMap.{get};
 ghost use Rattle.std.specs.Option.{option_copied_mut};
 ghost use Rattle.judy_hs.specs.LongGroups.{put_at};
 ghost use Rattle.judy_hs.specs.Groups.{one_group, one_inside};
@@ -76,7 +76,7 @@ fn group_of_one(alloc: Global, part: u64, key: &[u8]) -> Result<(GroupPlace, Ins
 impl Groups {
     ghost use Rattle.judy_hs.specs.Groups.{IsUsable, CanTakeKey, IsInside, IsOfLength, IsEmptyGroup, value_inside, group_without};
     ghost use Rattle.judy_hs.specs.Keyed.{no_keys, in_keyed, chain_led, words_at, group_at, IsSpot, IsNewSpot, added_keyed, with_group, keyed_without, without_group};
-    ghost use Rattle.judy_hs.specs.Trials.{IfAdded, UnlessAdded, UnlessOpen};
+    ghost use Rattle.judy_hs.specs.Trials.{IfAdded, UnlessAdded, UnlessOpen, IfOpen};
     ghost use Rattle.judy_hs.specs.KeyedLends.{LendsSpot, LendsSpotOk};
     ghost use Rattle.judy_hs.specs.Listed.{CanList, entries_in, group_list, keyed_list};
     ghost use Rattle.judy_hs.specs.Values.{AreWords};
@@ -181,12 +181,13 @@ impl Groups {
     // Puts a key in with the value 0, by one way down its group, where `tries` says so and its length has a group, and
     // answers where it stands.
     pub fn try_add(&mut self, alloc: Global, tries: bool, part: u64, key: &[u8]) -> Trial<Spot>
-        requires group { IfSome (words_at self.old (get self.old.lengths.map (length key.now)))
-            (λ words. map_len words.map < words.limit) }
         requires of_length { IfSome (get self.old.lengths.map (length key.now))
             (λ place. IsOfLength (group_at self.old place) key.now) }
         ensures tried { UnlessOpen result (IsTrue tries) }
         ensures absent { UnlessOpen result (in_keyed self.old part key.now ≡ None) }
+        ensures held { IfOpen result (IsTrue tries
+            → IfSome (words_at self.old (get self.old.lengths.map (length key.now)))
+            (λ words. IsSome (get words.map part))) }
         ensures place { IfAdded result
             (λ spot. IsNewSpot self.old part key.now
             (get self.old.lengths.map (length key.now)) spot.group spot.inside) }
@@ -222,9 +223,6 @@ impl Groups {
     ) -> Result<Spot, AllocError>
         requires way { way.group ≡ get self.old.lengths.map (length key.now) }
         requires chain { way.chain ≡ chain_led self.old way.group part }
-        requires lengths { map_len self.old.lengths.map < self.old.lengths.limit }
-        requires group { IfSome (words_at self.old (get self.old.lengths.map (length key.now)))
-            (λ words. map_len words.map < words.limit) }
         requires of_length { IfSome (get self.old.lengths.map (length key.now))
             (λ place. IsOfLength (group_at self.old place) key.now) }
         requires takes { IfSome (get self.old.lengths.map (length key.now))
@@ -250,7 +248,6 @@ impl Groups {
     // Puts a group of one key in, of a length that has none. The insert into `lengths` is the last step that can be
     // refused.
     fn add_group(&mut self, alloc: Global, part: u64, key: &[u8]) -> Result<Spot, AllocError>
-        requires room { map_len self.old.lengths.map < self.old.lengths.limit }
         requires absent { get self.old.lengths.map (length key.now) ≡ None }
         ensures place { IfOk result (λ spot. IsFreeGroup self.old.groups spot.group) }
         ensures inside { IfOk result (λ spot. spot.inside ≡ one_inside part key.now) }

@@ -4,7 +4,7 @@
 ghost use Rattle.std.specs.Prelude.{ℕ, ◌≡◌, ◌≢◌, [], ◌<◌, IfOk, OnOk, OnErr, None, Some, MatchOption, ◌++◌, ◌↔◌, IsTrue, IsSome, IfSome, All, length};
 ghost use Rattle.std.specs.List.{flat_map};
 ghost use Rattle.std.specs.List.Sorted.{IsPermutation};
-ghost use Rattle.std.specs.FinMap.{get, empty, len as map_len};
+ghost use Rattle.std.specs.FinMap.{get, empty};
 ghost use Rattle.std.specs.Borrow.{sem};
 ghost use Rattle.std.specs.Option.{option_copied_mut};
 ghost use Rattle.judy_records.specs.Spots.{IsHeld, spot_at, text_of};
@@ -180,7 +180,6 @@ impl LongGroup {
         key: &[u8],
     ) -> Result<usize, AllocError>
         requires chain { chain ≡ get self.old.hashes.map hash }
-        requires room { map_len self.old.hashes.map < self.old.hashes.limit }
         requires of_length { length key.now ≡ self.old.key_length }
         requires used { IfSome (get self.old.hashes.map hash)
             (λ place. chain_at self.old place ≢ []) }
@@ -204,7 +203,6 @@ impl LongGroup {
     // Puts a key in with the value 0 where its hash leads nowhere, and answers its place: one way down the hashes shows that and
     // puts the hash in. Only then is more memory asked for, so that none is for a key that is there; where it is refused, the hash goes again.
     pub fn try_add(&mut self, alloc: Global, hash: u64, key: &[u8]) -> Trial<usize>
-        requires room { map_len self.old.hashes.map < self.old.hashes.limit }
         requires of_length { length key.now ≡ self.old.key_length }
         ensures absent { UnlessOpen result (get self.old.hashes.map hash ≡ None) }
         ensures held { IfOpen result (IsSome (get self.old.hashes.map hash)) }

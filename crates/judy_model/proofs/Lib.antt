@@ -49,7 +49,6 @@ pub mod GroupLemmas
 pub mod AlikeLemmas
 pub mod GroupChains
 pub mod WayLemmas
-pub mod Counting
 pub mod CommandLemmas
 pub mod ValueCommands
 pub mod SearchCommands

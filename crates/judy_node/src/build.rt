@@ -190,9 +190,7 @@ fn add_group<'a, V: Words + Drop>(
 {
     let byte = byte_above(rest[0].0, below);
     let end = group_end(rest, below, byte);
-    let Ok(()) = add_child(alloc, children, below, &rest[..end]) else {
-        return Err(AllocError);
-    };
+    add_child(alloc, children, below, &rest[..end])?;
     bytes.add(byte);
     let (_, left) = rest.split_at(end);
     Ok(left)
@@ -206,10 +204,8 @@ fn pushed<V: Words + Drop>(
 ) -> Result<(), AllocError>
     ensures { OnOk result (children.new.items ≡ children.old.items ++ child ∷ []) }
 {
-    match children.push(child) {
-        Ok(()) => Ok(()),
-        Err(_) => Err(AllocError),
-    }
+    children.push(child)?;
+    Ok(())
 }
 
 // Makes the tight node of sorted pairs and puts it behind the others. Of scattered keys most are immediates: these are written where they are
@@ -236,9 +232,7 @@ fn add_child<V: Words + Drop>(
         let child = ChildOf::close(immediate_of_sorted(width, pairs));
         return pushed(children, child);
     }
-    let Ok(kind) = kind_of_sorted(alloc, width, pairs, Spare::Snug) else {
-        return Err(AllocError);
-    };
+    let kind = kind_of_sorted(alloc, width, pairs, Spare::Snug)?;
     pushed(children, ChildOf::close(kind))
 }
 
@@ -333,16 +327,11 @@ fn split<V: Words + Drop>(
     ensures built { IfOk result
         (λ branch. IsBuilt V.WORDS (below + 1) pairs.now (tree_below branch.value)) }
 {
-    let Ok(mut children) = Vec::with_capacity(alloc, bytes_above(pairs, below)) else {
-        return Err(AllocError);
-    };
+    let mut children = Vec::with_capacity(alloc, bytes_above(pairs, below))?;
     let mut bytes = Bits256::new();
     let mut rest = pairs;
     while !rest.is_empty() {
-        let Ok(left) = add_group(alloc, &mut children, &mut bytes, below, pairs, rest) else {
-            return Err(AllocError);
-        };
-        rest = left;
+        rest = add_group(alloc, &mut children, &mut bytes, below, pairs, rest)?;
     }
     let mut branch = BranchOf {
         children,
@@ -354,10 +343,7 @@ fn split<V: Words + Drop>(
         words: PhantomData,
     };
     branch.sums = branch.sums_of_children(alloc);
-    match Box::new(alloc, branch) {
-        Ok(branch) => Ok(branch),
-        Err(_) => Err(AllocError),
-    }
+    Ok(Box::new(alloc, branch)?)
 }
 
 impl<V: Words + Drop> KindOf<V> {

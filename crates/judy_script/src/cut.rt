@@ -1,9 +1,9 @@
 //! Cuts of a text at a byte.
 
-ghost use Rattle.std.specs.Prelude.{◌≡◌, ◌≢◌, ℕ, ◌<◌, ◌≤◌, length, get_or, take, option_copied, IsTrue};
+ghost use Rattle.std.specs.Prelude.{◌≡◌, ◌<◌, ◌≤◌, length, get_or, take, option_copied, IsTrue};
 ghost use Rattle.judy_script.specs.Cuts.{IsCutAt, is_without};
 
-use std::simd::prelude::*;
+use judy_bits::first_place;
 
 /// What stands before the first `byte` of the text, all of it where the byte isn't there, and what stands
 /// after that byte where it is.
@@ -57,18 +57,6 @@ fn len_before_by<const N: usize>(text: &[u8], byte: u8) -> usize
         Some((front, last)) => front.len() + first_place::<N>(*last, byte).min(N),
         None => short_len_before(text, byte),
     }
-}
-
-// The first of so many places that holds a byte; as many or more where none does.
-#[inline(always)]
-fn first_place<const N: usize>(bytes: [u8; N], byte: u8) -> usize
-    requires many { length bytes ≡ N }
-    requires few { N ≤ 16 }
-    ensures holds { result < N → get_or bytes.entry result 0 ≡ byte }
-    ensures first { (at : ℕ) → at < N → at < result → get_or bytes.entry at 0 ≢ byte }
-{
-    let equal = Simd::<u8, N>::from_array(bytes).simd_eq(Simd::<u8, N>::splat(byte));
-    equal.to_bitmask().trailing_zeros() as usize
 }
 
 // How many bytes of a few stand before the first `byte`.

@@ -2,6 +2,7 @@
 
 ghost use Rattle.std.specs.Prelude.{◌≡◌};
 
+use judy_pipe::PipeFailed;
 use thiserror::Error;
 
 /// Why `dump` ended early.
@@ -100,5 +101,16 @@ impl LoadFault {
             LoadFault::NoMemory => b"no-memory",
             LoadFault::BadPrefix => b"bad-prefix",
         }
+    }
+}
+
+// A load only reads, so it is the reader that failed.
+impl From<PipeFailed> for LoadFault {
+    ghost use Rattle.judy_shelf.specs.declared.fault.LoadFault.TheVariants.{Read};
+
+    ghost from_gives = { λ _ fault. fault ≡ Read };
+
+    fn from(_: PipeFailed) -> LoadFault {
+        LoadFault::Read
     }
 }

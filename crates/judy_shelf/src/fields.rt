@@ -20,11 +20,10 @@ pub(crate) fn read_bytes<R: Source>(source: &mut R, room: &mut [u8]) -> Result<(
     if room.is_empty() {
         return Ok(());
     }
-    match read_some(source, room) {
-        Ok(0) => Err(LoadFault::Truncated),
-        Ok(count) if count == room.len() => Ok(()),
-        Ok(count) => read_pieces(source, &mut room[count..]),
-        Err(_) => Err(LoadFault::Read),
+    match read_some(source, room)? {
+        0 => Err(LoadFault::Truncated),
+        count if count == room.len() => Ok(()),
+        count => read_pieces(source, &mut room[count..]),
     }
 }
 
@@ -39,10 +38,9 @@ fn read_pieces<R: Source>(source: &mut R, room: &mut [u8]) -> Result<(), LoadFau
 {
     let mut filled = 0;
     while filled < room.len() {
-        match read_some(source, &mut room[filled..]) {
-            Ok(0) => return Err(LoadFault::Truncated),
-            Ok(count) => filled += count,
-            Err(_) => return Err(LoadFault::Read),
+        match read_some(source, &mut room[filled..])? {
+            0 => return Err(LoadFault::Truncated),
+            count => filled += count,
         }
     }
     Ok(())
@@ -119,9 +117,9 @@ fn read_one<R: Source>(source: &mut R, room: &mut [u8]) -> Result<bool, LoadFaul
         (drawn (R.given source.old) (R.ended source.old) (R.tally source.old).failures) result
         (drawn (R.given source.new) (R.ended source.new) (R.tally source.new).failures) }
 {
-    match read_some(source, room) {
-        Ok(0) => Ok(false),
-        Ok(_) => Ok(true),
-        Err(_) => Err(LoadFault::Read),
+    let count = read_some(source, room)?;
+    if count == 0 {
+        return Ok(false);
     }
+    Ok(true)
 }

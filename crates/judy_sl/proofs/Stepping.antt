@@ -3,8 +3,6 @@ use Rattle.std.proofs.Common.{◌≡◌, ◌≢◌, ℕ, suc, ◌≤◌, Bool, t
 use Rattle.std.proofs.lemmas.Bool.{cases_eq}
 use Rattle.std.specs.FinMap.{len}
 use Rattle.judy_model.specs.Keys.{IsStringKey}
-use Rattle.judy_model.specs.Arrays.{ArrayOf}
-use Rattle.judy_model.specs.Keys.{word_order}
 use Rattle.judy_sl.specs.Children.{Child, Free, Tail, Level, IsLevelChild}
 use Rattle.judy_sl.specs.declared.arena.Arena.{Arena}
 use Rattle.judy_sl.specs.Pieces.{pieces, AreInner}
@@ -17,7 +15,7 @@ use Rattle.judy_sl.specs.Counted.{keys_behind, LevelTells, Same, OneLess, AreCou
 use Rattle.judy_sl.specs.Stepped.{child_stepped, ChildCanStep}
 use Rattle.judy_sl.proofs.Ways.{step-parts}
 use Rattle.judy_sl.proofs.Seats.{set_node, cond-same, cond-other}
-use Rattle.judy_sl.proofs.Linked.{CanHold, child_at-same, child_at-other, root-with_child, world-with_child}
+use Rattle.judy_sl.proofs.Linked.{CanHold, child_at-same, child_at-other, world-with_child}
 use Rattle.judy_sl.proofs.PlaceKinds.{holds-level}
 use Rattle.judy_sl.proofs.Filled.{level-there, level-child}
 use Rattle.judy_sl.proofs.KeysFewer.{fewer-behind}

@@ -6,10 +6,10 @@ use Rattle.std.proofs.lemmas.List.{append_assoc, length-drop}
 use Rattle.std.specs.FinMap.{FinMap, get, insert}
 use Rattle.judy_model.specs.Keys.{word_order, IsStringKey}
 use Rattle.judy_model.specs.Arrays.{ArrayOf}
-use Rattle.judy_sl.specs.Children.{Child, Tail, Level}
+use Rattle.judy_sl.specs.Children.{Child, Tail}
 use Rattle.judy_sl.specs.declared.arena.Arena.{Arena}
 use Rattle.judy_sl.specs.declared.arena.Place.{Place}
-use Rattle.judy_sl.specs.declared.arena.Place.TheVariants.{Root, Below}
+use Rattle.judy_sl.specs.declared.arena.Place.TheVariants.{Below}
 use Rattle.judy_sl.specs.Pieces.{pieces, IsText, IsInner, IsFinal, SpellKey, ArePieces}
 use Rattle.judy_sl.specs.World.{World, Node, gone, tail, level, lookup, at_entry}
 use Rattle.judy_sl.specs.Worlds.{IsWorld, FitsBehind, AllLed}

@@ -76,9 +76,7 @@ pub fn branch_of<'a>(
     while first_piece(held) == first_piece(rest) {
         let piece = first_piece(rest);
         let level = one_entry(alloc, piece)?;
-        if upper.push((piece, level)).is_err() {
-            return Err(AllocError);
-        }
+        upper.push((piece, level))?;
         held = &held[8..];
         rest = &rest[8..];
     }

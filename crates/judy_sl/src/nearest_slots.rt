@@ -15,6 +15,12 @@ impl JudySl {
     /// is its length. `None` where there is none, and both stay. What the caller leaves in the slot is then the neighbour's value. The
     /// buffer has at least 1,024 bytes; what it has behind the neighbour stays. The key holds no zero byte, and needn't be one of the
     /// array. It asks for no memory. (Manual: JSLF, JSLN, JSLL, JSLP, whose answer is this slot.)
+    ///
+    /// It costs what [`JudySl::neighbour_in`] does, and the step from the place that it finds to the slot.
+    ///
+    ///     if let Some(slot) = prices.neighbour_slot_in(Look::inclusive(Side::Below), &mut buffer, &mut len) {
+    ///         *slot += 1;
+    ///     }
     pub fn neighbour_slot_in(
         &mut self,
         look: Look,

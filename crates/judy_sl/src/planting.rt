@@ -42,10 +42,8 @@ fn plant(
 {
     let at = arena.put_tail(&key[8..], 0)?;
     *arena.lend(Place::Below(at, 0)) = value;
-    match entries.push((first_piece(key), at)) {
-        Ok(()) => Ok(()),
-        Err(_) => Err(AllocError),
-    }
+    entries.push((first_piece(key), at))?;
+    Ok(())
 }
 
 // Does so with the first of all keys that begin with the same whole piece, and answers the entries.

@@ -24,14 +24,18 @@ use std::cmp::Ordering;
 /// On which side of a key its neighbour is sought.
 #[derive(Clone, Copy)]
 pub enum Side {
+    /// Among the greater keys: the least of them.
     Above,
+    /// Among the smaller keys: the greatest of them.
     Below,
 }
 
-/// Where a scan looks: on one side of the key, and whether the key itself counts.
+/// Where a scan looks, as [`JudySl::neighbour_in`] is asked.
 #[derive(Clone, Copy)]
 pub struct Look {
+    /// On which side of the key.
     pub side: Side,
+    /// Whether the key itself counts, where the array holds it.
     pub itself: bool,
 }
 
@@ -113,14 +117,14 @@ impl Side {
 }
 
 impl Look {
-    /// To a side, where the key itself counts.
+    /// To a side, where the key itself counts: the scans First and Last of the manual.
     pub fn inclusive(side: Side) -> Look
         ensures { result ≡ look_to side true }
     {
         Look { side, itself: true }
     }
 
-    /// To a side, where it doesn't.
+    /// To a side, where it doesn't: the scans Next and Prev of the manual.
     pub fn exclusive(side: Side) -> Look
         ensures { result ≡ look_to side false }
     {
@@ -131,7 +135,7 @@ impl Look {
     }
 
     // Above a key, where the key itself counts or doesn't.
-    pub fn upward(itself: bool) -> Look
+    pub(crate) fn upward(itself: bool) -> Look
         ensures { result ≡ upward itself }
     {
         Look {
@@ -412,6 +416,15 @@ impl JudySl {
     /// is its length. `None` where there is none, and both stay. The buffer has at least 1,024 bytes; what it has behind the
     /// neighbour stays. The key holds no zero byte, and needn't be one of the array. It asks for no memory. (This project's own:
     /// a scan that writes no byte twice.)
+    ///
+    /// It searches a level for each eight bytes of the key, as far as there are levels, and then one for each eight bytes of the
+    /// neighbour behind those that both begin with.
+    ///
+    ///     let mut buffer = [0; 1024];
+    ///     buffer[..5].copy_from_slice(b"apple");
+    ///     let mut len = 5;
+    ///     let price = prices.neighbour_in(Look::exclusive(Side::Above), &mut buffer, &mut len);
+    ///     // price == Some(45), and &buffer[..len] == b"fig"
     pub fn neighbour_in(&self, look: Look, buffer: &mut [u8], len: &mut usize) -> Option<u64>
         requires room { LONGEST_KEY ≤ length buffer.old }
         requires inside { len.old ≤ length buffer.old }

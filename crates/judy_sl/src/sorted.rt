@@ -108,10 +108,8 @@ fn put_followers(array: &mut JudySl, pairs: &[(&[u8], u64)]) -> Result<(), SlErr
         if opens(low, pair.0) {
             low = first_piece(pair.0);
         } else {
-            match array.ins(pair.0) {
-                Ok(slot) => *slot = pair.1,
-                Err(error) => return Err(error),
-            }
+            let slot = array.ins(pair.0)?;
+            *slot = pair.1;
         }
     }
     Ok(())

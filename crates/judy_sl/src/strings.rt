@@ -131,41 +131,32 @@ impl JudySl {
         ensures refused { IfErr result (IsRefusal self.old key.now) }
     {
         let tries = self.adds & (self.count != self.limit);
-        match self.arena.try_add(key, tries) {
-            Ok(Some(place)) => {
-                self.count += 1;
-                self.added = true;
+        if let Some(place) = self.arena.try_add(key, tries)? {
+            self.count += 1;
+            self.added = true;
+            return Ok(self.arena.lend(place));
+        }
+        let mut passed = Passed::<N>::new();
+        match self.arena.walk(key, &mut passed) {
+            Way::At(place) => {
+                self.adds = self.added;
+                self.added = false;
                 Ok(self.arena.lend(place))
             }
-            Err(error) => Err(error.into()),
-            Ok(None) => {
-                let mut passed = Passed::<N>::new();
-                match self.arena.walk(key, &mut passed) {
-                    Way::At(place) => {
-                        self.adds = self.added;
-                        self.added = false;
-                        Ok(self.arena.lend(place))
-                    }
-                    way => {
-                        if !is_key(key) {
-                            return Err(SlError::BadKey);
-                        }
-                        if self.count == self.limit {
-                            return Err(SlError::Full);
-                        }
-                        let passed = passed.as_slice();
-                        match firsts::add(&mut self.arena, &mut self.firsts, key, way, passed) {
-                            Ok(made) => {
-                                self.count += 1;
-                                let first = way.ends_first();
-                                self.adds = first | self.added;
-                                self.added = first;
-                                Ok(self.arena.lend(made))
-                            }
-                            Err(error) => Err(error.into()),
-                        }
-                    }
+            way => {
+                if !is_key(key) {
+                    return Err(SlError::BadKey);
                 }
+                if self.count == self.limit {
+                    return Err(SlError::Full);
+                }
+                let passed = passed.as_slice();
+                let made = firsts::add(&mut self.arena, &mut self.firsts, key, way, passed)?;
+                self.count += 1;
+                let first = way.ends_first();
+                self.adds = first | self.added;
+                self.added = first;
+                Ok(self.arena.lend(made))
             }
         }
     }

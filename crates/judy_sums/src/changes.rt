@@ -50,10 +50,8 @@ pub fn insert(chunks: &mut Vec<Chunk>, spot: Spot, entry: Entry) -> Result<(), A
         (joined chunks.new.items ≡ put word_order entry.0 entry.1 (joined chunks.old.items)) }
     ensures unchanged { OnErr result (joined chunks.new.items ≡ joined chunks.old.items) }
 {
-    match chunks[spot.chunk].insert(spot.at, entry) {
-        Ok(()) => Ok(()),
-        Err(error) => Err(error),
-    }
+    chunks[spot.chunk].insert(spot.at, entry)?;
+    Ok(())
 }
 
 // Parts a chunk into its two halves. The list stays, whether there is memory or not; the error is want of it.

@@ -27,10 +27,7 @@ fn part_long(chunks: &mut Vec<Chunk>, at: usize)
     if len < LONG || len < chunks.len() / 8 {
         return;
     }
-    match part(chunks, at) {
-        Ok(()) => {}
-        Err(_) => {}
-    }
+    let _ = part(chunks, at);
 }
 
 // The first word of a list comes in with the number 1. The error is want of memory, and the list stays
@@ -60,10 +57,7 @@ pub fn bring_in(chunks: &mut Vec<Chunk>, word: u64, spot: Spot) -> Result<(), Al
         (joined chunks.new.items ≡ put word_order word 1 (joined chunks.old.items)) }
     ensures unchanged { OnErr result (joined chunks.new.items ≡ joined chunks.old.items) }
 {
-    match insert(chunks, spot, Entry::new(word)) {
-        Ok(()) => {}
-        Err(error) => return Err(error),
-    }
+    insert(chunks, spot, Entry::new(word))?;
     part_long(chunks, spot.chunk);
     Ok(())
 }

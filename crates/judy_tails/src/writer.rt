@@ -8,7 +8,13 @@ use arrayvec::ArrayVec;
 use judy_model::keys::LONGEST_KEY;
 use std::marker::Model;
 
-/// What a key is written into. It has room for the longest key.
+/// What a key is written into. It has room for the longest key. Each call takes a few instructions, however long the key is, and asks for no
+/// memory.
+///
+///     let mut key = KeyFront::new(&mut buffer, 5);
+///     key.cut(3);
+///     key.put_eight(b"le trees");
+///     // key.len() == 11
 pub trait KeyWriter {
     /// The bytes of the key so far.
     ghost written: { Self → List ℕ };

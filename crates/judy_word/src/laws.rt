@@ -54,10 +54,8 @@ pub fn a_loaded_map_is_tight(
 {
     let mut words = JudyL::new(alloc, limit);
     'entries: for (key, value) in entries {
-        match words.ins(*key) {
-            Ok(slot) => *slot = *value,
-            Err(error) => return Err(error),
-        }
+        let slot = words.ins(*key)?;
+        *slot = *value;
     }
     Ok(words)
 }

@@ -1,5 +1,5 @@
 // The array that a handle holds, or the one without keys for which it stands where it holds none.
-ghost use Rattle.std.specs.Prelude.{◌≡◌, None, IfOk, OnErr, IfNone, unwrap_or};
+ghost use Rattle.std.specs.Prelude.{◌≡◌, None, Some, IfOk, OnOk, OnErr, IfNone, unwrap_or};
 ghost use Rattle.std.specs.Borrow.{sem};
 ghost use Rattle.std.specs.Fn.{FnOnceReturnsAt};
 ghost use Rattle.std.specs.Option.{option_copied_mut};
@@ -44,10 +44,22 @@ impl<T: Array> Held<T> {
         ensures null { OnErr result (self.old.array ≡ None) }
     {
         if self.is_null() {
-            let array = Box::new(alloc, T::empty(alloc))?;
-            self.fill(BoxParts::of(array));
+            self.make(alloc)?;
         }
         Ok(self.lend())
+    }
+
+    // Makes the array without keys, where there is none. The error is want of memory, and there is still none then.
+    // A function of its own: else a call on an array that stands saves registers for it.
+    #[inline(never)]
+    fn make(&mut self, alloc: Global) -> Result<(), AllocError>
+        requires { self.old.array ≡ None }
+        ensures made { OnOk result (self.new.array ≡ Some T.without_keys) }
+        ensures unchanged { OnErr result (self.new ≡ self.old) }
+    {
+        let array = Box::new(alloc, T::empty(alloc))?;
+        self.fill(BoxParts::of(array));
+        Ok(())
     }
 
     // Gives the array back, and leaves none.

@@ -59,7 +59,7 @@ add_group-returns-clause-made g t c =
     let made = c.requires.made in
     let bytes = c.add.ensures ∙ with_byte-push c.byte_above-byte.result old
     (byte_before words c.args.below c.args.pairs.now c.args.rest.now old before made.0 c.byte_above-byte.result made.1 c.requires.some c.byte_above-byte.ensures) in
-    let put = c.in-Ok.ensures in (
+    let put = c.in_ok-add_child.ensures in (
       c.byte_above-byte.result + 1,
       subst (λ left. AreMade words c.args.below c.args.pairs.now left c.add.new.self c.add_child.new.children.items (c.byte_above-byte.result + 1)) (sym c.split_at.ensures.back)
           (subst (λ bs. AreMade words c.args.below c.args.pairs.now (drop c.group_end-end.result c.args.rest.now) bs c.add_child.new.children.items (c.byte_above-byte.result + 1)) (sym bytes)
@@ -167,8 +167,8 @@ split-loop-rest-init g t c =
     let words = g.V.Words.WORDS in
     let many = c.requires.more in (
       0,
-      subst (λ bs. AreMade words c.args.below c.args.pairs.now c.args.pairs.now bs c.in-Ok.children.items 0) (sym c.new-bytes.ensures)
-          (subst (λ ks. AreMade words c.args.below c.args.pairs.now c.args.pairs.now [] ks 0) (sym c.in-Ok.ensures.items)
+      subst (λ bs. AreMade words c.args.below c.args.pairs.now c.args.pairs.now bs c.in_ok-children.children.items 0) (sym c.new-bytes.ensures)
+          (subst (λ ks. AreMade words c.args.below c.args.pairs.now c.args.pairs.now [] ks 0) (sym c.in_ok-children.ensures.items)
           (made_none words c.args.below c.args.pairs.now c.requires.map (omega arith))),
     )
 
@@ -181,34 +181,34 @@ split-add_group-requires g t c κs within =
     (omega arith, (within, (omega arith, (c.requires.one, (c.requires.width, (omega arith, (c.requires.two, c.loop-rest.invariant)))))))
 
 pub split-loop-rest-smaller : goal.split-loop-rest-smaller
-split-loop-rest-smaller g t c = c.in-Ok-add_group.ensures.fewer
+split-loop-rest-smaller g t c = c.in_ok-rest.ensures.fewer
 
 pub split-loop-rest-preserved : goal.split-loop-rest-preserved
-split-loop-rest-preserved g t c = c.in-Ok-add_group.ensures.made
+split-loop-rest-preserved g t c = c.in_ok-rest.ensures.made
 
-pub split-returns-in-Ok-new-clause-level : goal.split-returns-in-Ok-new-clause-level
-split-returns-in-Ok-new-clause-level g t c =
+pub split-returns-clause-level : goal.split-returns-clause-level
+split-returns-clause-level g t c =
     let words = g.V.Words.WORDS in
     let made = c.loop-rest.invariant in
     let kids = c.loop-rest.children.items in
     let n = length c.args.pairs.now in
     let over = length_none c.loop-rest.rest.now (eqb-true (length c.loop-rest.rest.now) 0 (sym c.is_empty.ensures ∙ c.loop-rest-test.false)) in
-    subst (λ v. IsBranch words v.width v.skip v.bytes v.children.items v.population) (sym c.in-Ok-new.ensures.ok)
+    subst (λ v. IsBranch words v.width v.skip v.bytes v.children.items v.population) (sym c.in_ok-new.ensures.ok)
     (subst (λ s. IsBranch words c.args.below s c.of_bits.result kids n) (sym c.new.ensures)
     (subst (λ bs. IsBranch words c.args.below [] bs kids n) (sym c.of_bits.ensures)
     (made_branch words c.args.below c.args.pairs.now c.loop-rest.rest.now c.loop-rest.bytes kids made.0 made.1 over c.requires.width.0 c.requires.width.1 c.requires.more)))
 
-pub split-returns-in-Ok-new-clause-sums : goal.split-returns-in-Ok-new-clause-sums
-split-returns-in-Ok-new-clause-sums g t c = subst (λ v. AreSums v.sums v.children.items) (sym c.in-Ok-new.ensures.ok) c.sums_of_children.ensures
+pub split-returns-clause-sums : goal.split-returns-clause-sums
+split-returns-clause-sums g t c = subst (λ v. AreSums v.sums v.children.items) (sym c.in_ok-new.ensures.ok) c.sums_of_children.ensures
 
-pub split-returns-in-Ok-new-clause-built : goal.split-returns-in-Ok-new-clause-built
-split-returns-in-Ok-new-clause-built g t c =
+pub split-returns-clause-built : goal.split-returns-clause-built
+split-returns-clause-built g t c =
     let words = g.V.Words.WORDS in
     let made = c.loop-rest.invariant in
     let kids = c.loop-rest.children.items in
     let n = length c.args.pairs.now in
     let over = length_none c.loop-rest.rest.now (eqb-true (length c.loop-rest.rest.now) 0 (sym c.is_empty.ensures ∙ c.loop-rest-test.false)) in
-    subst (λ v. IsBuilt words (c.args.below + 1) c.args.pairs.now (branch_tree v.width v.skip v.bytes v.children.items v.population)) (sym c.in-Ok-new.ensures.ok)
+    subst (λ v. IsBuilt words (c.args.below + 1) c.args.pairs.now (branch_tree v.width v.skip v.bytes v.children.items v.population)) (sym c.in_ok-new.ensures.ok)
     (subst (λ s. IsBuilt words (c.args.below + 1) c.args.pairs.now (branch_tree c.args.below s c.of_bits.result kids n)) (sym c.new.ensures)
     (subst (λ bs. IsBuilt words (c.args.below + 1) c.args.pairs.now (branch_tree c.args.below [] bs kids n)) (sym c.of_bits.ensures)
     (made_built words c.args.below c.args.pairs.now c.loop-rest.rest.now c.loop-rest.bytes kids made.0 made.1 over c.requires.width.0 c.requires.width.1 c.requires.more)))

@@ -5,7 +5,10 @@ use Rattle.std.proofs.lemmas.Bool.{lt-ltb}
 use Rattle.judy_pipe.specs.declared.stop.PipeFailed.{PipeFailed}
 use Rattle.judy_pipe.specs.Pipe.{grown, told, gave_end}
 use Rattle.judy_pipe.proofs.Moves.{grown-grown}
+use Rattle.judy_model.specs.Fields.{bytes}
+use Rattle.judy_shelf.specs.declared.fault.LoadFault.TheVariants.{Read}
 use Rattle.judy_shelf.specs.Reads.{drawn}
+use Rattle.judy_shelf.proofs.ReadLemmas.{reads_err}
 use Rattle.judy_shelf.proofs.Rooms.{bytes_from_each, filled_long, filled_more, within_room, room_cut, room_broken, room_full}
 use Rattle.judy_shelf.proofs.WriteLemmas.{grown_nothing}
 use borrow.Rule.Slice.PartMut.{put_mid}
@@ -23,22 +26,22 @@ loop-filled-init g c = record {
   failures = refl;
 }
 
-pub returns-in-Ok-eq0-clause-read : goal.returns-in-Ok-eq0-clause-read
-returns-in-Ok-eq0-clause-read g c =
+pub returns-in-0-clause-read : goal.returns-in-0-clause-read
+returns-in-0-clause-read g c =
     let room = c.loop-filled.room in
     let filled = c.loop-filled.filled in
     let before = drawn (g.R.Source.given c.args.source.now) (g.R.Source.ended c.args.source.now) (g.R.Source.tally c.args.source.now).failures in
     let after = drawn (g.R.Source.given c.read_some.new.source) (g.R.Source.ended c.read_some.new.source) (g.R.Source.tally c.read_some.new.source).failures in
-    let count : c.in-Ok-eq0.field-0 ≡ 0 = c.in-Ok-eq0.field-0-test in
-    let none : take c.in-Ok-eq0.field-0 c.read_some.new.room ≡ [] = ap (λ n. take n c.read_some.new.room) count in
-    let given = c.in-Ok-eq0.ensures.given ∙ ap (grown (g.R.Source.given c.loop-filled.source)) none ∙ grown_nothing (g.R.Source.given c.loop-filled.source) ∙ c.loop-filled.invariant.given in
+    let count : c.in_ok-count.count ≡ 0 = c.in-0.is in
+    let none : take c.in_ok-count.count c.read_some.new.room ≡ [] = ap (λ n. take n c.read_some.new.room) count in
+    let given = c.in_ok-count.ensures.given ∙ ap (grown (g.R.Source.given c.loop-filled.source)) none ∙ grown_nothing (g.R.Source.given c.loop-filled.source) ∙ c.loop-filled.invariant.given in
     let whole = left room filled in
     let inside : filled < length room = c.loop-filled-test.true in
     let some : 0 < length (take (length room - filled) (drop filled room)) = omega arith in
-    let end : gave_end {E = PipeFailed} (Ok c.in-Ok-eq0.field-0) (length (take (length room - filled) (drop filled room))) ≡ true =
+    let end : gave_end {E = PipeFailed} (Ok c.in_ok-count.count) (length (take (length room - filled) (drop filled room))) ≡ true =
     (λ t. (count t == 0) && nat_lt 0 (length (take (length room - filled) (drop filled room)))) ∙ lt-ltb 0 (length (take (length room - filled) (drop filled room))) some in
     room_cut room filled before after given c.loop-filled.invariant.bytes (g.R.Source.ended c.loop-filled.source) (length c.args.room.now)
-    (subst (λ n. filled < n) c.loop-filled.invariant.long inside) c.loop-filled.invariant.within (c.in-Ok-eq0.ensures.ended ∙ ap (told (g.R.Source.ended c.loop-filled.source)) end) (c.in-Ok-eq0.ensures.failures ∙ c.loop-filled.invariant.failures)
+    (subst (λ n. filled < n) c.loop-filled.invariant.long inside) c.loop-filled.invariant.within (c.in_ok-count.ensures.ended ∙ ap (told (g.R.Source.ended c.loop-filled.source)) end) (c.in_ok-count.ensures.failures ∙ c.loop-filled.invariant.failures)
 
 pub loop-filled-preserved : goal.loop-filled-preserved
 loop-filled-preserved g c =
@@ -48,22 +51,24 @@ loop-filled-preserved g c =
     let whole = left room filled in
     let long : length piece ≡ length room - filled = c.read_some.auto.room ∙ whole in
     let inside = c.loop-filled.invariant.within in
-    let few : c.in-Ok.count ≤ length piece = subst (λ n. c.in-Ok.count ≤ n) (sym c.read_some.auto.room) c.in-Ok.ensures.count in
+    let few : c.in_ok-count.count ≤ length piece = subst (λ n. c.in_ok-count.count ≤ n) (sym c.read_some.auto.room) c.in_ok-count.ensures.count in
     let all = put_mid filled (length room - filled) room piece in
     record {
-      within = within_room filled c.in-Ok.count room piece inside long few;
-      long = filled_long filled c.in-Ok.count room piece inside long ∙ c.loop-filled.invariant.long;
-      given = c.in-Ok.ensures.given ∙ ap (λ known. grown known (take c.in-Ok.count piece)) c.loop-filled.invariant.given ∙ grown-grown (g.R.Source.given c.args.source.now) (take filled room) (take c.in-Ok.count piece) ∙ ap (grown (g.R.Source.given c.args.source.now)) (sym (filled_more filled c.in-Ok.count room piece inside long few));
-      bytes = All-take (λ byte. byte < 256) (filled + c.in-Ok.count) all (bytes_from_each all (λ i. let f = c.type_inv.room i in omega (arith, f)));
-      failures = c.in-Ok.ensures.failures ∙ c.loop-filled.invariant.failures;
+      within = within_room filled c.in_ok-count.count room piece inside long few;
+      long = filled_long filled c.in_ok-count.count room piece inside long ∙ c.loop-filled.invariant.long;
+      given = c.in_ok-count.ensures.given ∙ ap (λ known. grown known (take c.in_ok-count.count piece)) c.loop-filled.invariant.given ∙ grown-grown (g.R.Source.given c.args.source.now) (take filled room) (take c.in_ok-count.count piece) ∙ ap (grown (g.R.Source.given c.args.source.now)) (sym (filled_more filled c.in_ok-count.count room piece inside long few));
+      bytes = All-take (λ byte. byte < 256) (filled + c.in_ok-count.count) all (bytes_from_each all (λ i. let f = c.type_inv.room i in omega (arith, f)));
+      failures = c.in_ok-count.ensures.failures ∙ c.loop-filled.invariant.failures;
     }
 
-pub returns-in-Err-clause-read : goal.returns-in-Err-clause-read
-returns-in-Err-clause-read g c =
+pub returns-in_err-count-clause-read : goal.returns-in_err-count-clause-read
+returns-in_err-count-clause-read g c =
     let before = drawn (g.R.Source.given c.args.source.now) (g.R.Source.ended c.args.source.now) (g.R.Source.tally c.args.source.now).failures in
     let after = drawn (g.R.Source.given c.read_some.new.source) (g.R.Source.ended c.read_some.new.source) (g.R.Source.tally c.read_some.new.source).failures in
-    room_broken c.loop-filled.room c.loop-filled.filled before after (c.in-Err.ensures.given ∙ grown_nothing (g.R.Source.given c.loop-filled.source) ∙ c.loop-filled.invariant.given) c.loop-filled.invariant.bytes (length c.args.room.now)
-    (subst (λ n. c.loop-filled.filled < n) c.loop-filled.invariant.long c.loop-filled-test.true) c.loop-filled.invariant.within (c.in-Err.ensures.failures ∙ ap (λ n. n + 1) c.loop-filled.invariant.failures)
+    reads_err _ (bytes (length c.args.room.now)) before after Read c.from_residual.result c.from_residual.ensures.1 (
+    room_broken c.loop-filled.room c.loop-filled.filled before after (c.in_err-count.ensures.given ∙ grown_nothing (g.R.Source.given c.loop-filled.source) ∙ c.loop-filled.invariant.given) c.loop-filled.invariant.bytes (length c.args.room.now)
+    (subst (λ n. c.loop-filled.filled < n) c.loop-filled.invariant.long c.loop-filled-test.true) c.loop-filled.invariant.within (c.in_err-count.ensures.failures ∙ ap (λ n. n + 1) c.loop-filled.invariant.failures)
+    )
 
 pub returns-clause-read : goal.returns-clause-read
 returns-clause-read g c =

@@ -1,14 +1,10 @@
-use Rattle.std.proofs.Common.{◌≡◌, ◌<◌, ◌≤◌, ◌∙◌, sym, ap, arith, length, cond, Bool, true, subst}
+use Rattle.std.proofs.Common.{◌≤◌, ◌∙◌, sym, arith, length, subst}
 use Rattle.std.proofs.lemmas.List.{take_rest, length-drop}
-use Rattle.std.specs.FinMap.{len}
 use Rattle.judy_model.specs.Keys.{word_order}
 use Rattle.judy_model.specs.Arrays.{ArrayOf}
 use Rattle.judy_sl.specs.Branches.{IsSprout}
 use Rattle.judy_sl.proofs.Branching.{common-long, common-more}
 use Rattle.judy_sl.proofs.branches.branch_of.Goals as goal
-
-pushed : {A : Type 0} (b : Bool) (xs ys zs : A) → zs ≡ cond b xs ys → b ≡ true → zs ≡ xs
-pushed b xs ys zs e ok = e ∙ ap (λ t. cond t xs ys) ok
 
 pub slice_bounds-held-count : goal.slice_bounds-held-count
 slice_bounds-held-count c = (common-long _ _ _ _ _ c.loop-piece.invariant (sym c.first_piece.ensures ∙ c.loop-piece-test.true ∙ c.first_piece-in-loop-piece.ensures)).0
@@ -31,7 +27,7 @@ pub loop-piece-preserved : goal.loop-piece-preserved
 loop-piece-preserved c =
     let same = sym c.first_piece.ensures ∙ c.loop-piece-test.true ∙ c.first_piece-in-loop-piece.ensures in
     rw (take_rest c.loop-piece.held.now 8, take_rest c.loop-piece.rest.now 8) (
-    common-more _ _ _ _ _ c.loop-piece.invariant same c.push.new.self.items c.first_piece-piece.result c.in_ok-level.level c.first_piece-piece.ensures c.in_ok-level.ensures (pushed _ _ _ _ c.push.ensures.items c.if-is_err.ensures.negation)
+    common-more _ _ _ _ _ c.loop-piece.invariant same c.push.new.self.items c.first_piece-piece.result c.in_ok-level.level c.first_piece-piece.ensures c.in_ok-level.ensures c.in_ok-push.ensures.items
     )
 
 pub returns : goal.returns

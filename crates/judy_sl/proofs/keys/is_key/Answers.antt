@@ -2,7 +2,6 @@ use Rattle.std.proofs.Common.{◌≡◌, ◌≢◌, ℕ, true, false, ◌==◌, 
 use Rattle.std.proofs.lemmas.List.Sums.{AllPass-from_list_all, list_all-from_AllPass}
 use Rattle.judy_sl.proofs.PieceLemmas.{text_from_bytes, key_of_text}
 use Rattle.judy_sl.proofs.keys.is_key.Goals as goal
-use Rattle.judy_model.specs.declared.keys.TheConstants.{LONGEST_KEY}
 
 -- A byte that passes the test isn't zero,
 some_byte : (byte : ℕ) → not (byte == 0) ≡ true → byte ≢ 0

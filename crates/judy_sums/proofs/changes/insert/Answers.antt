@@ -8,10 +8,10 @@ insert-requires-clause-fits c =
     let fits = c.requires.fits in
     omega arith
 
-pub returns-in-Ok-clause-are : goal.returns-in-Ok-clause-are
-returns-in-Ok-clause-are c =
-    put_are_new c.args.chunks.now.items c.args.entry.0 c.args.spot.chunk c.args.spot.at c.requires.are c.requires.place c.index_mut.result.now c.insert.new.self c.args.entry.1 c.index_mut.ensures.value c.requires.new c.in-Ok.ensures.inserted c.requires.few c.requires.fits
+pub returns-clause-are : goal.returns-clause-are
+returns-clause-are c =
+    put_are_new c.args.chunks.now.items c.args.entry.0 c.args.spot.chunk c.args.spot.at c.requires.are c.requires.place c.index_mut.result.now c.insert.new.self c.args.entry.1 c.index_mut.ensures.value c.requires.new c.in_ok-insert.ensures.inserted c.requires.few c.requires.fits
 
-pub returns-in-Ok-clause-inserted : goal.returns-in-Ok-clause-inserted
-returns-in-Ok-clause-inserted c =
-    put_is_new c.args.chunks.now.items c.args.entry.0 c.args.spot.chunk c.args.spot.at c.requires.are c.requires.place c.index_mut.result.now c.insert.new.self c.args.entry.1 c.index_mut.ensures.value c.requires.new c.in-Ok.ensures.inserted
+pub returns-clause-inserted : goal.returns-clause-inserted
+returns-clause-inserted c =
+    put_is_new c.args.chunks.now.items c.args.entry.0 c.args.spot.chunk c.args.spot.at c.requires.are c.requires.place c.index_mut.result.now c.insert.new.self c.args.entry.1 c.index_mut.ensures.value c.requires.new c.in_ok-insert.ensures.inserted

@@ -1,21 +1,17 @@
-use Rattle.std.proofs.Common.{length, ◌+◌, ◌≢◌, refl, sym, subst, ◌∙◌, MutBor, arith}
+use Rattle.std.proofs.Common.{◌+◌, ◌≢◌, refl, sym, subst, ◌∙◌, MutBor, arith}
 use Rattle.std.specs.Borrow.{name_if_ok}
 use borrow.Follows.Closed.{read_of}
 use Rattle.judy_hs.specs.Kept.{array_of, IsHs}
 use Rattle.judy_hs.proofs.HsLemmas.{is_key_of, get_is, spot-usable, array-written, IsHs-written, ok_only, on_ok, if_ok, if_err, full-absent, room-absent, present-some, present-room, present-value, room-tried, after-spot, after-hs, after-some, after-value, after-written}
 use Rattle.std.proofs.lemmas.Bool.{false≢true}
-use Rattle.judy_hs.proofs.InnerLemmas.{fewer-lengths, room-words, length-led}
+use Rattle.judy_hs.proofs.InnerLemmas.{length-led}
 use Rattle.judy_hs.proofs.bytes.JudyHs.ins.Goals.{then-self, else-self}
 use Rattle.judy_hs.proofs.bytes.JudyHs.ins.Goals as goal
 
 -- ---- put in by one way down, or refused there
 
 pub try_add-requires : goal.try_add-requires
-try_add-requires g c =
-    record {
-      group = room-words g.H.ByteHash.hash_of g.H.ByteHash.LONGEST c.self.inside.groups c.self.invariant.is_keyed (length c.args.key.now) (omega (arith, c.self.invariant.counted, c.self.invariant.within_limit, c.self.invariant.limit_fits));
-      of_length = length-led g.H.ByteHash.hash_of g.H.ByteHash.LONGEST c.self.inside.groups c.self.invariant.is_keyed c.args.key.now;
-    }
+try_add-requires g c = record { of_length = length-led g.H.ByteHash.hash_of g.H.ByteHash.LONGEST c.self.inside.groups c.self.invariant.is_keyed c.args.key.now }
 
 pub slot_of-requires-clause-usable : goal.slot_of-requires-clause-usable
 slot_of-requires-clause-usable g c =
@@ -117,16 +113,6 @@ returns-then-is_full g c =
     let is : IsHs g.H.ByteHash.hash_of g.H.ByteHash.LONGEST c.self.inside.limit c.self.inside.count c.try_add.new.self = subst (IsHs g.H.ByteHash.hash_of g.H.ByteHash.LONGEST c.self.inside.limit c.self.inside.count) (sym c.in-Open.ensures.unchanged) c.self.invariant in
     let absent = rw c.part_of-part.ensures at c.in-None.ensures in
     rw (← c.self.view_is, ← c.in-Open.ensures.unchanged) (refl, record { writes_back = tt; value = tt; fits = tt; accepted = tt; refused = ((rw c.LONGEST.ensures at c.if-key-LONGEST.false), full-absent g.H.ByteHash.hash_of g.H.ByteHash.LONGEST c.self.inside.limit c.self.inside.count c.try_add.new.self is c.args.key.now is_key absent c.if-is_full.true) })
-
-pub add-requires-clause-lengths : goal.add-requires-clause-lengths
-add-requires-clause-lengths g c =
-    let is : IsHs g.H.ByteHash.hash_of g.H.ByteHash.LONGEST c.self.inside.limit c.self.inside.count c.try_add.new.self = subst (IsHs g.H.ByteHash.hash_of g.H.ByteHash.LONGEST c.self.inside.limit c.self.inside.count) (sym c.in-Open.ensures.unchanged) c.self.invariant in
-    omega (arith, fewer-lengths g.H.ByteHash.hash_of g.H.ByteHash.LONGEST c.try_add.new.self is.is_keyed, is.counted, is.within_limit, is.limit_fits, is.is_keyed.limit)
-
-pub add-requires-clause-group : goal.add-requires-clause-group
-add-requires-clause-group g c =
-    let is : IsHs g.H.ByteHash.hash_of g.H.ByteHash.LONGEST c.self.inside.limit c.self.inside.count c.try_add.new.self = subst (IsHs g.H.ByteHash.hash_of g.H.ByteHash.LONGEST c.self.inside.limit c.self.inside.count) (sym c.in-Open.ensures.unchanged) c.self.invariant in
-    room-words g.H.ByteHash.hash_of g.H.ByteHash.LONGEST c.try_add.new.self is.is_keyed (length c.args.key.now) (omega (arith, is.counted, is.within_limit, is.limit_fits))
 
 pub add-requires-clause-of_length : goal.add-requires-clause-of_length
 add-requires-clause-of_length g c =

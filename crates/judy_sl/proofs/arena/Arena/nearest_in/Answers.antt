@@ -1,7 +1,6 @@
-use Rattle.std.proofs.Common.{◌≡◌, ◌∙◌, refl, sym, subst, ap, take, drop, unwrap_or, None, Option, arith}
-use Rattle.judy_sl.specs.Pieces.{IsText}
+use Rattle.std.proofs.Common.{◌∙◌, refl, sym, subst, ap, take, None}
 use Rattle.judy_sl.specs.Arenas.{world_of, map_of}
-use Rattle.judy_sl.specs.Scans.{value_in, IsTurn, IsTurnOf, IsFront, nearest_key}
+use Rattle.judy_sl.specs.Scans.{value_in, IsTurn, IsFront, nearest_key}
 use Rattle.judy_sl.proofs.Fronts.{same_front, same_owner, front-written}
 use Rattle.judy_sl.proofs.ScanMaps.{scanned}
 use Rattle.judy_sl.proofs.arena.Arena.nearest_in.Goals as goal

@@ -3,7 +3,7 @@ use Rattle.std.proofs.lemmas.Simd.{bitmask_splat}
 use lib.Count.{count_trailing_zeros}
 use mir.Syntax.{w8}
 use Rattle.judy_bits.proofs.LaneLemmas.{lowest_holds, none_before}
-use Rattle.judy_script.proofs.cut.first_place.Goals as goal
+use Rattle.judy_bits.proofs.lanes.first_place.Goals as goal
 
 pub returns-clause-holds : goal.returns-clause-holds
 returns-clause-holds g c = λ inside.
