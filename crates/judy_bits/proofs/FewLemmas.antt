@@ -6,8 +6,8 @@ use Rattle.std.proofs.lemmas.List.{take_all}
 use Rattle.std.proofs.lemmas.List.Elements.{All-head, All-tail}
 use Rattle.std.proofs.lemmas.Option.{slice_get_within, same_Some}
 use Rattle.judy_model.specs.Keys.{word_order}
-use Rattle.judy_model.proofs.WordOrder.{is_le_word}
-use Rattle.judy_model.proofs.Places.{length-filter-le, find_before_count, before_place-suc, le-IsDownward}
+use Rattle.judy_model.proofs.lemmas.orders.WordOrder.{is_le_word}
+use Rattle.judy_model.proofs.lemmas.queries.Places.{length-filter-le, find_before_count, before_place-suc, le-IsDownward}
 use Rattle.std.specs.Cmp.{nat_cmp_total}
 use Rattle.judy_bits.specs.ByteSets.{IsByteSet, has, rank, count_up_to, place, prev_from, with_byte, without_byte}
 use Rattle.judy_bits.specs.Paddings.{IsPadded, length-meant}

@@ -8,7 +8,7 @@ use Rattle.std.proofs.lemmas.List.{get_or-set_same, get_or-set_other}
 use Rattle.std.proofs.lemmas.Nat.Bits.{bit_at_set_same, bit_at_set_other, bit_at_clear_same, bit_at_clear_other, bit_at-zero}
 use Rattle.std.specs.List.{range_with_len}
 use Rattle.std.proofs.lemmas.List.FromFn.{length-range_with_len}
-use Rattle.judy_model.proofs.Places.{length-filter-le}
+use Rattle.judy_model.proofs.lemmas.queries.Places.{length-filter-le}
 use Rattle.judy_bits.specs.ByteSets.{IsByteSet, has, rank, nth, next_from, prev_from, with_byte, without_byte}
 use Rattle.std.proofs.lemmas.Option.{slice_get_past}
 use Rattle.judy_bits.specs.BitWords.{is_set, members_of, IsSelected, IsLowestFrom, IsHighestBelow, NoneBelow}

@@ -5,7 +5,7 @@ use Rattle.std.proofs.Math.ListN.{set, drop_of_length-le}
 use Rattle.std.proofs.lemmas.List.{append-nil, take_more, take_all, drop-drop, set_at}
 use Rattle.std.proofs.lemmas.List.Sums.{length-filter, sum_by-cons, sum_by-take-drop}
 use Rattle.std.proofs.lemmas.Option.{slice_get-get_or}
-use Rattle.judy_model.proofs.WordOrder.{is_lt_word}
+use Rattle.judy_model.proofs.lemmas.orders.WordOrder.{is_lt_word}
 use Rattle.judy_bits.specs.ByteSets.{rank}
 use Rattle.judy_bits.proofs.SetLemmas.{not_less}
 use Rattle.std.specs.List.{insert, remove}

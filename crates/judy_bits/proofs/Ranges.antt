@@ -9,8 +9,8 @@ use Rattle.std.proofs.lemmas.List.{append-nil}
 use Rattle.std.proofs.lemmas.List.Elements.{filter-append, All-filter}
 use Rattle.std.proofs.lemmas.List.FromFn.{length-range_with_len, get_or-range_with_len}
 use Rattle.judy_model.specs.Keys.{word_order}
-use Rattle.judy_model.proofs.WordOrder.{less_word, lt_word, is_lt_word, is_gt_word, is_ge_word, is_le_word}
-use Rattle.judy_model.proofs.Ascending.{find_last, find-reverse, ascending-filter}
+use Rattle.judy_model.proofs.lemmas.orders.WordOrder.{less_word, lt_word, is_lt_word, is_gt_word, is_ge_word, is_le_word}
+use Rattle.judy_model.proofs.lemmas.maps.Ascending.{find_last, find-reverse, ascending-filter}
 use Rattle.judy_bits.specs.ByteSets.{IsByteSet, has, rank, nth, next_from, prev_from, with_byte, without_byte}
 
 -- ---- a range in two parts

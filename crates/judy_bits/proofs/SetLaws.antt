@@ -9,8 +9,8 @@ use Rattle.std.proofs.lemmas.Map.Views.{any-filter_same}
 use Rattle.std.proofs.lemmas.Option.{same_Some}
 use Rattle.judy_model.specs.Keys.{word_order}
 use Rattle.judy_model.specs.Nearest.{IsFirst, IsLast}
-use Rattle.judy_model.proofs.Ascending.{all_among, find_least, find_greatest}
-use Rattle.judy_model.proofs.NearestLemmas.{IsLeast-from_among}
+use Rattle.judy_model.proofs.lemmas.maps.Ascending.{all_among, find_least, find_greatest}
+use Rattle.judy_model.proofs.lemmas.queries.NearestLemmas.{IsLeast-from_among}
 use Rattle.judy_bits.specs.ByteSets.{IsByteSet, has, rank, place, nth, next_from, prev_from, with_byte, without_byte}
 use Rattle.judy_bits.proofs.SetLemmas.{Among-has, has-among, is_below, not_below, is_above, not_above, later_above, slice_get-rank, rank_at, has_at, with_byte-IsByteSet, without_byte-IsByteSet}
 

@@ -8,10 +8,10 @@ use Rattle.std.proofs.lemmas.List.Elements.{All-filter, All-cons, All-append}
 use Rattle.std.proofs.lemmas.List.Edits.{length-insert, length-remove}
 use Rattle.std.proofs.lemmas.Option.{same_Some, slice_get_within}
 use Rattle.judy_model.specs.Keys.{word_order}
-use Rattle.judy_model.proofs.Orders.{ge_is_not_lt}
-use Rattle.judy_model.proofs.WordOrder.{less_word, lt_word, lt_from_word, is_lt_word, is_gt_word}
-use Rattle.judy_model.proofs.Ascending.{Among, all_among, all_from_among, place_among, Among-slice_get, among_from_filter, ascending-filter}
-use Rattle.judy_model.proofs.Places.{length-filter-le, filter_none, below_at_place, find_at_count, lt-IsDownward}
+use Rattle.judy_model.proofs.lemmas.orders.Orders.{ge_is_not_lt}
+use Rattle.judy_model.proofs.lemmas.orders.WordOrder.{less_word, lt_word, lt_from_word, is_lt_word, is_gt_word}
+use Rattle.judy_model.proofs.lemmas.maps.Ascending.{Among, all_among, all_from_among, place_among, Among-slice_get, among_from_filter, ascending-filter}
+use Rattle.judy_model.proofs.lemmas.queries.Places.{length-filter-le, filter_none, below_at_place, find_at_count, lt-IsDownward}
 use Rattle.judy_bits.specs.ByteSets.{IsByteSet, has, rank, next_from, with_byte, without_byte}
 
 -- ---- the tests

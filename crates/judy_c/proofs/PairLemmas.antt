@@ -10,8 +10,8 @@ use Rattle.std.specs.FinMap.{FinMap, empty, keys, entries, entries_sorted, get, 
 use Rattle.std.proofs.lemmas.Option.{slice_get-map, slice_get-get_or, slice_get_within, get_or_from_slice_get, same_Some}
 use Rattle.judy_model.specs.Keys.{byte_order}
 use Rattle.judy_model.specs.Counts.{rank, count_up_to}
-use Rattle.judy_model.proofs.Pairs.{find-at}
-use Rattle.judy_model.proofs.RankLemmas.{first-slice_get, next-slice_get, count_up_to_at}
+use Rattle.judy_model.proofs.lemmas.maps.Pairs.{find-at}
+use Rattle.judy_model.proofs.lemmas.queries.RankLemmas.{first-slice_get, next-slice_get, count_up_to_at}
 use Rattle.judy_hs.specs.declared.entry.HsEntry.{HsEntry}
 use Rattle.judy_hs.specs.Listed.{entries_in, key_bytes}
 use Rattle.judy_sl.specs.Scans.{value_found}

@@ -2,20 +2,20 @@
 use Rattle.std.proofs.Common.{◌≡◌, ℕ, zero, suc, ◌≤◌, ◌<◌, ◌++◌, length, take, drop, List, [], Option, Some, None, IsTrue, is_some, unwrap_or, refl, sym, ap, subst, ◌∙◌, true≢false}
 use Rattle.std.proofs.lemmas.Bool.{and_parts}
 use Rattle.std.proofs.lemmas.List.{length-take-le, take-append-drop}
-use Rattle.judy_sl.proofs.Fronts.{front-key}
+use Rattle.judy_sl.proofs.lemmas.scans.Fronts.{front-key}
 use Rattle.std.specs.FinMap.{FinMap, get, contains_key, empty, get-empty}
 use Rattle.judy_model.specs.Keys.{byte_order}
 use Rattle.judy_model.specs.Nearest.{IsFirst, IsNext, IsLast, IsPrev}
-use Rattle.judy_model.proofs.NearestLemmas.{first-IsFirst, next-IsNext, last-IsLast, prev-IsPrev}
-use Rattle.judy_model.proofs.TableLemmas.{byte_order_total, byte_order_same}
+use Rattle.judy_model.proofs.lemmas.queries.NearestLemmas.{first-IsFirst, next-IsNext, last-IsLast, prev-IsPrev}
+use Rattle.judy_model.proofs.lemmas.maps.TableLemmas.{byte_order_total, byte_order_same}
 use Rattle.judy_model.specs.Counts.{by_count}
-use Rattle.judy_model.proofs.CountsLemmas.{by_count_found}
+use Rattle.judy_model.proofs.lemmas.queries.CountsLemmas.{by_count_found}
 use Rattle.judy_sl.specs.declared.scans.Look.{Look}
 use Rattle.judy_sl.specs.Scans.{neighbour_along, nearest_key, value_found, IsFront}
 use Rattle.judy_c.specs.declared.scans.Scan.{Scan}
 use Rattle.judy_c.specs.declared.scans.Scan.TheVariants.{First, Next, Last, Prev}
 use Rattle.judy_c.specs.Answers.{IsSaid}
-use Rattle.judy_c.specs.KeyScans.{Room, start, IsStart, neighbour, told_says, scan_says, entry_says}
+use Rattle.judy_c.specs.KeyScans.{CallerBuffer, start, IsStart, neighbour, told_says, scan_says, entry_says}
 
 -- a neighbour is a key of the map
 pub neighbour_held : (scan : Scan) (map : FinMap byte_order ℕ) (from key : List ℕ) → neighbour scan map from ≡ Some key → IsTrue (contains_key map key)
@@ -47,7 +47,7 @@ none_found scan map from none = by (neighbour scan map from) refl
     by (Some key) is =
         absurd (true≢false (sym (neighbour_held scan map from key is) ∙ ap is_some (sym (none ∙ ap (value_found map) is))))
 
-module _ (map : FinMap byte_order ℕ) (before after : Room) where
+module _ (map : FinMap byte_order ℕ) (before after : CallerBuffer) where
   -- what is told of a key of the map that was put into a buffer, with the value that was answered, is what is said of that key
   pub told_key : (asked looked : Option (List ℕ)) → asked ≡ looked → ((key : List ℕ) → asked ≡ Some key → IsTrue (contains_key map key)) → (from : List ℕ) (found : Option ℕ) (key : List ℕ) (answer : ℕ)
       → key ≡ unwrap_or looked from → found ≡ value_found map looked → IsSaid (entry_says found key before after) answer → IsSaid (told_says map asked before after) answer

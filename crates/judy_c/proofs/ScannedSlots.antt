@@ -35,7 +35,7 @@ use Rattle.std.specs.FinMap.{FinMap}
 use Rattle.std.specs.Result.{result_ok}
 use Rattle.judy_model.specs.Keys.{byte_order}
 use Rattle.judy_c.specs.Answers.{IsSaid}
-use Rattle.judy_c.specs.KeyScans.{Room, scan_says}
+use Rattle.judy_c.specs.KeyScans.{CallerBuffer, scan_says}
 use Rattle.judy_c.specs.ScanSlots.{IsFoundSlot, behind, number_found}
 use Rattle.judy_c.specs.StringMaps.{array_in}
 use Rattle.judy_c.specs.StringSlots.{LendsSlotOf}
@@ -65,7 +65,7 @@ is_behind (Some slot) told before after is = sym (ap (λ (s : MutBor ℕ). s.now
 said : (map : FinMap byte_order ℕ) (look : List ℕ → Option (List ℕ)) (before after : List ℕ × ℕ) (found : Result (MutBor ℕ) Missed) (told : ℕ) (slot last : MutBor ℕ) → IsFoundSlot map look before after found → IsAnswered found told slot last
     → IsSaid (scan_says map look (record { buffer = before.0; count = before.1; value = slot.now }) (record { buffer = after.0; count = after.1; value = last.now })) told
 said map look before after found told slot last answer is =
-    let room : List ℕ × ℕ → ℕ → Room = λ at value. record { buffer = at.0; count = at.1; value = value } in
+    let room : List ℕ × ℕ → ℕ → CallerBuffer = λ at value. record { buffer = at.0; count = at.1; value = value } in
     subst (IsSaid (scan_says map look (room before slot.now) (room after last.now))) (sym is.0)
     (subst (λ value. IsSaid (scan_says map look (room before slot.now) (room after value)) (number_found found)) (is_behind (result_ok found) (told == 1) slot last is.1) (answer slot.now))
 

@@ -3,7 +3,7 @@ use Rattle.std.proofs.Common.{◌≡◌, ℕ, ◌+◌, cond, List, Option, Some,
 use Rattle.std.specs.FinMap.{get, insert, len, len-insert}
 use Rattle.judy_model.specs.Keys.{byte_order}
 use Rattle.judy_model.specs.Arrays.{ArrayOf, ins}
-use Rattle.judy_model.proofs.TableLemmas.{byte_order_total}
+use Rattle.judy_model.proofs.lemmas.maps.TableLemmas.{byte_order_total}
 use Rattle.judy_sl.specs.Lends.{with_value}
 
 more_are_others : (before after : ℕ) → after ≡ before + 1 → after ≡ before → ⊥

@@ -6,8 +6,8 @@ use Rattle.std.specs.Cmp.{Equal-is}
 use Rattle.std.specs.Ordering.{eq_by_cmp}
 use Rattle.judy_model.specs.Keys.{byte_order}
 use Rattle.judy_model.specs.Arrays.{ArrayOf, empty_array, with_map, del, is_full}
-use Rattle.judy_model.proofs.SortedMaps.{remove_absent}
-use Rattle.judy_model.proofs.TableLemmas.{byte_order_total, byte_order_same}
+use Rattle.judy_model.proofs.lemmas.maps.SortedMaps.{remove_absent}
+use Rattle.judy_model.proofs.lemmas.maps.TableLemmas.{byte_order_total, byte_order_same}
 use Rattle.judy_sl.specs.Lends.{with_value}
 use Rattle.judy_c.specs.Told.{IsTold}
 

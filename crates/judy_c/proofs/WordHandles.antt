@@ -9,8 +9,8 @@ use Rattle.judy_model.specs.Keys.{word_order}
 use Rattle.judy_model.specs.Arrays as array
 use Rattle.judy_model.specs.Counts.{by_count}
 use Rattle.judy_model.specs.Neighbours.{first, next, last, prev, first_of, next_of, last_of, prev_of}
-use Rattle.judy_model.proofs.KeysLemmas.{length-keys}
-use Rattle.judy_model.proofs.SortedMaps.{remove_absent}
+use Rattle.judy_model.proofs.lemmas.maps.KeysLemmas.{length-keys}
+use Rattle.judy_model.proofs.lemmas.maps.SortedMaps.{remove_absent}
 use Rattle.judy_word.specs.WordArrays.{WordArray}
 use Rattle.judy_c.specs.Maps.{array_of}
 use Rattle.judy_c.specs.NullArrays.{unbounded}

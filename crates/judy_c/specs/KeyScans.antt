@@ -15,26 +15,26 @@ neighbour Last = neighbours.last
 neighbour Prev = neighbours.prev
 
 -- A buffer of the caller's, the length of the string at its beginning, and the word for a value.
-pub record Room : Type 0 where
+pub record CallerBuffer : Type 0 where
   pub buffer : List ℕ
   pub count : ℕ
   pub value : ℕ
 
 -- That string.
-abbrev pub start : Room → List ℕ
+abbrev pub start : CallerBuffer → List ℕ
 start room = take room.count room.buffer
 
 -- The buffer begins with a string that a scan may begin at.
-abbrev pub IsStart : Room → Type 0
+abbrev pub IsStart : CallerBuffer → Type 0
 IsStart room = (room.count ≤ length room.buffer) × IsStringKey (start room)
 
 -- The buffer with a key at its beginning, and the key's length and value.
-abbrev pub IsEntry : FinMap byte_order ℕ → List ℕ → Room → Room → Type 0
+abbrev pub IsEntry : FinMap byte_order ℕ → List ℕ → CallerBuffer → CallerBuffer → Type 0
 IsEntry map key before after =
     (after.buffer ≡ key ++ drop (length key) before.buffer) × (after.count ≡ length key) × (get map key ≡ Some after.value)
 
 -- A key that is there is told with its value; or there is none, or it doesn't fit the buffer, and then everything stays.
-abbrev pub told_says : FinMap byte_order ℕ → Option (List ℕ) → Room → Room → Says
+abbrev pub told_says : FinMap byte_order ℕ → Option (List ℕ) → CallerBuffer → CallerBuffer → Says
 told_says map looked before after = record {
   none = (looked ≡ None) × (after ≡ before);
   found = (key : List ℕ) × (looked ≡ Some key) × (length key ≤ length before.buffer) × IsEntry map key before after;
@@ -43,7 +43,7 @@ told_says map looked before after = record {
 }
 
 -- The same of the key that is looked for from the string in the buffer; or the buffer holds no such string, and everything stays.
-abbrev pub scan_says : FinMap byte_order ℕ → (List ℕ → Option (List ℕ)) → Room → Room → Says
+abbrev pub scan_says : FinMap byte_order ℕ → (List ℕ → Option (List ℕ)) → CallerBuffer → CallerBuffer → Says
 scan_says map look before after =
     let says = told_says map (look (start before)) before after in record {
       none = IsStart before × says.none;
@@ -53,7 +53,7 @@ scan_says map look before after =
     }
 
 -- What is told of a key that was found with its value, or wasn't.
-abbrev pub entry_says : Option ℕ → List ℕ → Room → Room → Says
+abbrev pub entry_says : Option ℕ → List ℕ → CallerBuffer → CallerBuffer → Says
 entry_says found key before after = record {
   none = (found ≡ None) × (after ≡ before);
   found = (length key ≤ length before.buffer) × (after.buffer ≡ key ++ drop (length key) before.buffer) × (after.count ≡ length key) × (found ≡ Some after.value);

@@ -7,7 +7,7 @@ use Rattle.std.proofs.lemmas.Bool.{leb-false, lt-leb}
 use Rattle.judy_model.specs.WordBytes.{low_bytes}
 use Rattle.judy_model.specs.Forms.{bitmap_leaf}
 use Rattle.judy_model.specs.Shapes.{AllBelow}
-use Rattle.judy_model.proofs.FormLemmas.{tight-head}
+use Rattle.judy_model.proofs.lemmas.forms.FormLemmas.{tight-head}
 use Rattle.judy_bits.specs.ByteSets.{has, rank, place}
 use Rattle.judy_leaf.specs.KeyLists.{KeyList, keys_of, with_pair, low_pairs, shift}
 use Rattle.judy_leaf.specs.Immediates.{imm_room}

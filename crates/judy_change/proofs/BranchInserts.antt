@@ -6,7 +6,7 @@ use Rattle.std.proofs.lemmas.List.Edits.{length-insert}
 use Rattle.std.proofs.lemmas.Option.{slice_get_within}
 use Rattle.judy_model.specs.WordBytes.{number_of}
 use Rattle.judy_model.specs.Forms.{branch, loose_in}
-use Rattle.judy_model.proofs.FormLemmas.{branch_tight, tight-head}
+use Rattle.judy_model.proofs.lemmas.forms.FormLemmas.{branch_tight, tight-head}
 use Rattle.judy_bits.specs.ByteSets.{has, rank}
 use Rattle.judy_leaf.specs.KeyLists.{keys_of, with_pair, shift}
 use Rattle.judy_leaf.proofs.LeafLists.{rank_within}

@@ -8,7 +8,7 @@ use Rattle.std.proofs.lemmas.List.{append_assoc}
 use Rattle.judy_model.specs.Keys.{word_order}
 use Rattle.judy_model.specs.Forms.{loose_in}
 use Rattle.judy_model.specs.Shapes.{AllBelow}
-use Rattle.judy_model.proofs.FormLemmas.{loose_in-append}
+use Rattle.judy_model.proofs.lemmas.forms.FormLemmas.{loose_in-append}
 use Rattle.judy_bits.specs.ByteSets.{has, rank}
 use Rattle.judy_bits.proofs.SetLemmas.{is_below, not_below}
 use Rattle.judy_leaf.specs.KeyLists.{keys_of, with_pair, shift}

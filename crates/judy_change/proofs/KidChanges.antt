@@ -5,7 +5,7 @@ use Rattle.std.proofs.Math.Nat.{add-mul}
 use Rattle.std.proofs.lemmas.Nat.{mul-le}
 use Rattle.std.proofs.lemmas.Option.{same_Some}
 use Rattle.judy_model.specs.Forms.{loose_in}
-use Rattle.judy_model.proofs.FormLemmas.{loose_in-append}
+use Rattle.judy_model.proofs.lemmas.forms.FormLemmas.{loose_in-append}
 use Rattle.judy_leaf.specs.KeyLists.{shift}
 use Rattle.judy_node.specs.Trees.{Tree, IsMap, IsTight, join, forms_in, IsChild, AreChildren}
 use Rattle.judy_node.proofs.Maps.{map-wider, map-shift, join-map, children-lower}

@@ -8,7 +8,7 @@ use Rattle.std.proofs.lemmas.Bool.Decides.{eqb_tells}
 use Rattle.judy_model.specs.Forms.{bitmap_leaf, loose_in}
 use Rattle.judy_model.specs.WordBytes.{low_bytes}
 use Rattle.judy_model.specs.Shapes.{AllBelow, immediate_limit}
-use Rattle.judy_model.proofs.FormLemmas.{tight-head}
+use Rattle.judy_model.proofs.lemmas.forms.FormLemmas.{tight-head}
 use Rattle.judy_bits.specs.ByteSets as set
 use Rattle.judy_block.specs.Contents.{Contents}
 use Rattle.judy_leaf.specs.KeyLists.{KeyList, keys_of, values_of, shift}

@@ -6,7 +6,7 @@ use Rattle.std.proofs.lemmas.List.Edits.{length-insert, insert-append_left, inse
 use Rattle.std.proofs.lemmas.List.Elements.{filter-append}
 use Rattle.std.proofs.lemmas.List.Folds.{list_any-append}
 use Rattle.judy_model.specs.Keys.{word_order}
-use Rattle.judy_model.proofs.Places.{filter_none}
+use Rattle.judy_model.proofs.lemmas.queries.Places.{filter_none}
 use Rattle.judy_bits.specs.ByteSets.{has, rank}
 use Rattle.judy_bits.proofs.SetLemmas.{is_below, not_below, filter_all}
 use Rattle.judy_leaf.specs.KeyLists.{keys_of, with_pair, shift}

@@ -7,7 +7,7 @@ use Rattle.std.proofs.lemmas.Option.{same_Some}
 use Rattle.judy_model.specs.WordBytes.{number_of}
 use Rattle.judy_model.specs.Forms.{Form, immediate, leaf, bitmap_leaf, branch, loose_in}
 use Rattle.judy_model.specs.Shapes.{AllBelow}
-use Rattle.judy_model.proofs.FormLemmas.{loose_in-append, branch_tight, tight-head, immediate_limit_small}
+use Rattle.judy_model.proofs.lemmas.forms.FormLemmas.{loose_in-append, branch_tight, tight-head, immediate_limit_small}
 use Rattle.judy_leaf.specs.KeyLists.{keys_of, low_pairs, shift}
 use Rattle.judy_node.specs.Trees.{Pairs, Tree, IsTight, IsMap, forms_in, IsChild, branch_pairs, IsBranch, branch_tree}
 use Rattle.judy_node.specs.Branches.{tree_below}

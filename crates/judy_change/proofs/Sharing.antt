@@ -8,7 +8,7 @@ use Rattle.std.proofs.lemmas.Option.{same_Some}
 use Rattle.judy_leaf.specs.KeyLists.{shift}
 use Rattle.judy_node.specs.Trees.{Pairs, Tree, IsMap, join, AreChildren}
 use Rattle.judy_change.specs.Removals.{sharing, Has33}
-use Rattle.judy_model.proofs.ByteLemmas.{unit_pos}
+use Rattle.judy_model.proofs.lemmas.orders.ByteLemmas.{unit_pos}
 use Rattle.judy_node.proofs.Maps.{join-map}
 use Rattle.judy_change.proofs.KidChanges.{part-map, part_end, part_before, byte_above}
 

@@ -7,7 +7,7 @@ use Rattle.std.proofs.lemmas.Bool.{leb-false}
 use Rattle.judy_model.specs.Keys.{IsByteString}
 use Rattle.judy_model.specs.WordBytes.{low_bytes, number_of}
 use Rattle.judy_model.specs.Forms.{bitmap_leaf, branch, loose_in}
-use Rattle.judy_model.proofs.ByteLemmas.{unit_pos, number_of-low_bytes, number_of-lt, length-low_bytes}
+use Rattle.judy_model.proofs.lemmas.orders.ByteLemmas.{unit_pos, number_of-low_bytes, number_of-lt, length-low_bytes}
 use Rattle.judy_block.specs.Contents.{Contents}
 use Rattle.judy_leaf.specs.KeyLists.{keys_of, shift}
 use Rattle.judy_leaf.specs.BitLeaves.{bit_list}

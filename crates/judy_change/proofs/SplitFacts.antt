@@ -4,8 +4,8 @@ use Rattle.std.proofs.Math.Nat.{mul_comm, div-div-eq-div-mul, mod-eq_of_lt}
 use Rattle.std.proofs.lemmas.Nat.{div-add-mod', div_below, pow-add}
 use Rattle.judy_model.specs.WordBytes.{low_bytes, number_of}
 use Rattle.judy_model.specs.Forms.{branch, loose_in}
-use Rattle.judy_model.proofs.ByteLemmas.{unit_pos, number_of-low_bytes}
-use Rattle.judy_model.proofs.FormLemmas.{branch_tight, tight-head}
+use Rattle.judy_model.proofs.lemmas.orders.ByteLemmas.{unit_pos, number_of-low_bytes}
+use Rattle.judy_model.proofs.lemmas.forms.FormLemmas.{branch_tight, tight-head}
 use Rattle.judy_bits.specs.ByteSets.{has}
 use Rattle.judy_leaf.specs.KeyLists.{keys_of, with_pair}
 use Rattle.judy_node.specs.Trees.{Tree, forms_in, branch_tree}

@@ -6,7 +6,7 @@ use Rattle.judy_model.specs.Ways.{HoldsOnWay, Ascends}
 use Rattle.judy_leaf.specs.KeyLists.{keys_of}
 use Rattle.judy_node.specs.Trees.{Pairs, IsMap}
 use Rattle.judy_change.specs.Removals.{Has33}
-use Rattle.judy_model.proofs.WayLemmas.{way_of_33}
+use Rattle.judy_model.proofs.lemmas.forms.WayLemmas.{way_of_33}
 
 map_below : (words low top : ℕ) (pairs : Pairs) → IsMap words low top pairs → AllBelow top (keys_of pairs)
 map_below words low top [] map = tt

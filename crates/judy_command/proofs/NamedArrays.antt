@@ -11,7 +11,7 @@ use Rattle.judy_model.specs.Tokens.{is_name}
 use Rattle.judy_model.specs.Stores.{Store, array_named, with_array, without_array}
 use Rattle.judy_model.specs.Replies.{Reply, Refusal, was, freed, bad_name, no_such_array}
 use Rattle.judy_model.specs.Commands.{Outcome, ◌>>=◌, name_at, array_at, within, at_name, dropped, inserted}
-use Rattle.judy_model.proofs.ChangesLemmas.{write-ins, get-ins_same}
+use Rattle.judy_model.proofs.lemmas.maps.ChangesLemmas.{write-ins, get-ins_same}
 use Rattle.judy_shelf.specs.declared.array.Array.{Array}
 use Rattle.judy_shelf.specs.Arrays.{value_of}
 use Rattle.judy_shelf.specs.Shelves.{Entries, store_of}

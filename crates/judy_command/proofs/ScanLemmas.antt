@@ -14,8 +14,8 @@ use Rattle.judy_model.specs.CommandWords as command
 use Rattle.judy_model.specs.CommandWords.{Neighbour}
 use Rattle.judy_model.specs.Replies.{Answer, string_entry}
 use Rattle.judy_model.specs.Commands.{entry_or_nothing, neighbour_of, string_key_at, word_at, strings_on_key}
-use Rattle.judy_model.proofs.NearestLemmas.{first-IsFirst, next-IsNext, last-IsLast, prev-IsPrev}
-use Rattle.judy_model.proofs.CountsLemmas.{by_count_found}
+use Rattle.judy_model.proofs.lemmas.queries.NearestLemmas.{first-IsFirst, next-IsNext, last-IsLast, prev-IsPrev}
+use Rattle.judy_model.proofs.lemmas.queries.CountsLemmas.{by_count_found}
 use Rattle.judy_sl.specs.Scans.{value_found}
 use Rattle.judy_command.specs.Replies.{found_entry}
 use Rattle.judy_command.specs.Follows.{Follows}

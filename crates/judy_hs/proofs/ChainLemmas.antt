@@ -5,7 +5,7 @@ use Rattle.std.specs.Ordering.{match_ordering}
 use Rattle.std.proofs.lemmas.Slice.Eq.{bytes_eq-Decides}
 use Rattle.std.proofs.lemmas.Bool.{false_from_ne_true, false≢true}
 use Rattle.judy_model.specs.Keys.{byte_order}
-use Rattle.judy_model.proofs.TableLemmas.{byte_order_total, byte_order_same}
+use Rattle.judy_model.proofs.lemmas.maps.TableLemmas.{byte_order_total, byte_order_same}
 use Rattle.judy_hs.specs.Chains.{Pairs, has_key, value_in, AreApart, with_value, with_pair, joined, without}
 
 -- ---- equality of bytes

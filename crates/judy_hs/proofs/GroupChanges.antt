@@ -7,7 +7,7 @@ use Rattle.std.proofs.lemmas.Bool.{lt-ltb, le-ltb, cases_order}
 use Rattle.std.proofs.lemmas.List.{length_push, length-set}
 use Rattle.judy_model.specs.Keys.{word_order, IsByteString}
 use Rattle.judy_model.specs.Arrays.{with_map}
-use Rattle.judy_model.proofs.ChangesLemmas.{get-write_same, get-del_same}
+use Rattle.judy_model.proofs.lemmas.maps.ChangesLemmas.{get-write_same, get-del_same}
 use Rattle.judy_hs.specs.declared.group.Inside.{Inside}
 use Rattle.judy_hs.specs.declared.group.Inside.TheVariants.{Word, Chained}
 use Rattle.judy_hs.specs.Chains.{Pairs, value_in, with_value, joined, without, AreApart}

@@ -11,8 +11,8 @@ use Rattle.std.proofs.lemmas.Option.{none-some}
 use Rattle.judy_model.specs.Keys.{word_order, byte_order, IsByteString}
 use Rattle.judy_model.specs.WordBytes.{low_bytes, number_of}
 use Rattle.judy_model.specs.Arrays.{ArrayOf}
-use Rattle.judy_model.proofs.ByteLemmas.{length-low_bytes, number_of-low_bytes, low_bytes-number_of, order-low_bytes}
-use Rattle.judy_model.proofs.Tests.{left_of, right_of, both}
+use Rattle.judy_model.proofs.lemmas.orders.ByteLemmas.{length-low_bytes, number_of-low_bytes, low_bytes-number_of, order-low_bytes}
+use Rattle.judy_model.proofs.lemmas.maps.Tests.{left_of, right_of, both}
 use Rattle.judy_hs.specs.Chains.{Pairs, value_in, AreApart}
 use Rattle.judy_hs.specs.LongGroups.{Long, chain_at, in_long, in_chain}
 use Rattle.judy_hs.specs.Groups.{Group, none, short, long, in_group}

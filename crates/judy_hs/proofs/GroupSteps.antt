@@ -5,8 +5,8 @@ use Rattle.std.specs.Cmp.{nat_cmp_total}
 use Rattle.judy_model.specs.Keys.{word_order, IsByteString}
 use Rattle.judy_model.specs.Arrays.{ArrayOf, with_map}
 use Rattle.judy_model.specs.WordBytes.{number_of}
-use Rattle.judy_model.proofs.ByteLemmas.{number_of-lt}
-use Rattle.judy_model.proofs.ChangesLemmas.{get-write_same, get-write_other, get-del_same, get-del_other}
+use Rattle.judy_model.proofs.lemmas.orders.ByteLemmas.{number_of-lt}
+use Rattle.judy_model.proofs.lemmas.maps.ChangesLemmas.{get-write_same, get-write_other, get-del_same, get-del_other}
 use Rattle.judy_hs.specs.Chains.{Pairs, value_in, AreApart}
 use Rattle.judy_hs.specs.LongGroups.{Long, chain_at, in_chain, in_long, IsFreePlace, with_chain}
 use Rattle.judy_hs.specs.Groups.{Group, short, long, in_group}

@@ -9,9 +9,9 @@ use Rattle.std.proofs.lemmas.List.{get_or_default}
 use Rattle.judy_model.specs.Keys.{word_order, byte_order}
 use Rattle.judy_model.specs.KeyLengths.{IsBytesKeyTo}
 use Rattle.judy_model.specs.Arrays.{ArrayOf, with_map, empty_array, ins, del, is_full}
-use Rattle.judy_model.proofs.TableLemmas.{bytes_keys-all, byte_order_total, byte_order_same, get-table, get-table_bad, table_none}
-use Rattle.judy_model.proofs.ChangesLemmas.{write-write, del_absent}
-use Rattle.judy_model.proofs.Inserts.{ins_present, ins_absent, is_full_present, is_full_absent}
+use Rattle.judy_model.proofs.lemmas.maps.TableLemmas.{bytes_keys-all, byte_order_total, byte_order_same, get-table, get-table_bad, table_none}
+use Rattle.judy_model.proofs.lemmas.maps.ChangesLemmas.{write-write, del_absent}
+use Rattle.judy_model.proofs.lemmas.maps.Inserts.{ins_present, ins_absent, is_full_present, is_full_absent}
 use Rattle.judy_hs.specs.declared.error.HsError.{HsError}
 use Rattle.judy_hs.specs.declared.group.Inside.{Inside}
 use Rattle.judy_hs.specs.Groups.{Group, none, short, long, IsInside, IsUsable, IsEmptyGroup, value_inside, group_with, group_with_key, group_without}

@@ -9,8 +9,8 @@ use Rattle.judy_model.specs.Keys.{word_order, IsByteString}
 use Rattle.judy_model.specs.KeyLengths.{IsBytesKeyTo}
 use Rattle.judy_model.specs.Arrays.{ArrayOf}
 use Rattle.judy_model.specs.WordBytes.{number_of, low_bytes}
-use Rattle.judy_model.proofs.ByteLemmas.{length-low_bytes, number_of-low_bytes}
-use Rattle.judy_model.proofs.TableLemmas.{bytes_keys-all, get-table, table_some}
+use Rattle.judy_model.proofs.lemmas.orders.ByteLemmas.{length-low_bytes, number_of-low_bytes}
+use Rattle.judy_model.proofs.lemmas.maps.TableLemmas.{bytes_keys-all, get-table, table_some}
 use Rattle.judy_hs.specs.LongGroups.{Long, chain_at, in_chain}
 use Rattle.judy_hs.specs.Groups.{Group, none, short, long, in_group, words_of, IsOfLength}
 use Rattle.judy_hs.specs.Keyed.{Keyed, group_at, in_place, words_at}

@@ -5,9 +5,9 @@ use Rattle.std.specs.Cmp.{nat_cmp_total}
 use Rattle.std.proofs.lemmas.Bool.{le-leb, lt-leb, cases_order}
 use Rattle.judy_model.specs.Keys.{word_order, byte_order, IsByteString}
 use Rattle.judy_model.specs.KeyLengths.{IsBytesKeyTo}
-use Rattle.judy_model.proofs.TableLemmas.{bytes_keys-all, table_insert, table_remove}
-use Rattle.judy_model.proofs.ByteLemmas.{number_of-lt}
-use Rattle.judy_model.proofs.ChangesLemmas.{get-write_same, get-write_other}
+use Rattle.judy_model.proofs.lemmas.maps.TableLemmas.{bytes_keys-all, table_insert, table_remove}
+use Rattle.judy_model.proofs.lemmas.orders.ByteLemmas.{number_of-lt}
+use Rattle.judy_model.proofs.lemmas.maps.ChangesLemmas.{get-write_same, get-write_other}
 use Rattle.judy_hs.specs.declared.group.Inside.{Inside}
 use Rattle.judy_hs.specs.declared.group.Inside.TheVariants.{Word, Chained}
 use Rattle.judy_hs.specs.Chains.{value_in}

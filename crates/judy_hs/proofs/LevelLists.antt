@@ -11,8 +11,8 @@ use Rattle.std.proofs.lemmas.Bool.{false_from_ne_true}
 use Rattle.std.proofs.lemmas.Option.{none-some}
 use Rattle.judy_model.specs.Keys.{word_order, byte_order}
 use Rattle.judy_model.specs.DumpText.{length_order}
-use Rattle.judy_model.proofs.Orders.{same_from_tie}
-use Rattle.judy_model.proofs.Tests.{left_of, right_of, both, is_Less}
+use Rattle.judy_model.proofs.lemmas.orders.Orders.{same_from_tie}
+use Rattle.judy_model.proofs.lemmas.maps.Tests.{left_of, right_of, both, is_Less}
 use Rattle.judy_hs.specs.Chains.{Pairs, value_in, AreApart}
 use Rattle.judy_hs.proofs.ChainLemmas.{bytes_cases, value_in-here, value_in-later}
 use Rattle.judy_hs.proofs.TwoLevels.{same_or_not}

@@ -4,9 +4,9 @@ use Rattle.std.specs.FinMap.{find, is_sorted, entries, entries_sorted, get, get-
 use Rattle.judy_model.specs.Keys.{byte_order, word_order, IsByteString}
 use Rattle.judy_model.specs.KeyLengths.{IsBytesKeyTo}
 use Rattle.judy_model.specs.DumpText.{length_order, entries_by}
-use Rattle.judy_model.proofs.KindLemmas.{length_order-total, length_order-IsAntisymmetric}
-use Rattle.judy_model.proofs.MadeMaps.{entries-made_twice}
-use Rattle.judy_model.proofs.TableLemmas.{bytes_keys-all, get-table, table_some, byte_order_total, byte_order_same}
+use Rattle.judy_model.proofs.lemmas.dumps.KindLemmas.{length_order-total, length_order-IsAntisymmetric}
+use Rattle.judy_model.proofs.lemmas.maps.MadeMaps.{entries-made_twice}
+use Rattle.judy_model.proofs.lemmas.maps.TableLemmas.{bytes_keys-all, get-table, table_some, byte_order_total, byte_order_same}
 use Rattle.judy_hs.specs.Chains.{Pairs, value_in}
 use Rattle.judy_hs.specs.Keyed.{Keyed, group_at, in_place}
 use Rattle.judy_hs.specs.Kept.{IsKeyed, value_of, map_of}

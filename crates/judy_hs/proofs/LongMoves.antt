@@ -10,7 +10,7 @@ use Rattle.std.proofs.lemmas.Bool.{cases_eq}
 use Rattle.std.proofs.lemmas.Option.{none-some}
 use Rattle.judy_model.specs.Keys.{word_order, byte_order}
 use Rattle.judy_model.specs.Arrays.{ArrayOf, with_map}
-use Rattle.judy_model.proofs.ChangesLemmas.{get-del_same, get-del_other}
+use Rattle.judy_model.proofs.lemmas.maps.ChangesLemmas.{get-del_same, get-del_other}
 use Rattle.judy_records.specs.Texts.{words_of, bytes_in}
 use Rattle.judy_records.specs.Spots.{free, held, RecordList, IsHeld, spot_at, value_of, text_of, with_spot, taken_out}
 use Rattle.judy_hs.specs.Chains.{Pairs, with_pair, joined, without}

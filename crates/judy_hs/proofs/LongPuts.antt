@@ -9,7 +9,7 @@ use Rattle.std.proofs.lemmas.Bool.{cases_eq, lt-ltb, le-ltb}
 use Rattle.std.proofs.lemmas.Option.{none-some, same_Some}
 use Rattle.judy_model.specs.Keys.{word_order, IsByteString}
 use Rattle.judy_model.specs.Arrays.{ArrayOf, with_map}
-use Rattle.judy_model.proofs.ChangesLemmas.{get-write_same, get-write_other}
+use Rattle.judy_model.proofs.lemmas.maps.ChangesLemmas.{get-write_same, get-write_other}
 use Rattle.judy_places.specs.Places.{NoneLost}
 use Rattle.judy_places.proofs.PlaceLemmas.{free-inside, none-free}
 use Rattle.judy_records.specs.Texts.{words_for, words_of}

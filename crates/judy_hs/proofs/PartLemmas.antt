@@ -5,7 +5,7 @@ use Rattle.std.proofs.lemmas.List.{length_push}
 use Rattle.std.proofs.lemmas.Bool.{le-leb, lt-leb}
 use Rattle.judy_model.specs.Keys.{IsByteString}
 use Rattle.judy_model.specs.WordBytes.{number_of, low_bytes}
-use Rattle.judy_model.proofs.ByteLemmas.{low_bytes-number_of}
+use Rattle.judy_model.proofs.lemmas.orders.ByteLemmas.{low_bytes-number_of}
 use Rattle.judy_hs.specs.Parts.{part_of}
 
 -- One byte more.

@@ -14,12 +14,12 @@ use Rattle.std.proofs.lemmas.List.Sorted.{IsPermutation-sym, IsPermutation-trans
 use Rattle.std.proofs.lemmas.Map.Keys.{IsDistinct-IsPermutation, apart_from_distinct, sorted_from_all_adjacent}
 use Rattle.std.proofs.lemmas.Option.{none-some}
 use Rattle.judy_model.specs.Keys.{byte_order}
-use Rattle.judy_model.proofs.Ascending.{Among, Contains-from_among, among_from_Contains}
-use Rattle.judy_model.proofs.MadeMaps.{entries-made}
-use Rattle.judy_model.proofs.Orders.{same_from_tie}
-use Rattle.judy_model.proofs.Pairs.{turned_Greater}
-use Rattle.judy_model.proofs.TableLemmas.{byte_order_total, byte_order_same}
-use Rattle.judy_model.proofs.Tests.{both}
+use Rattle.judy_model.proofs.lemmas.maps.Ascending.{Among, Contains-from_among, among_from_Contains}
+use Rattle.judy_model.proofs.lemmas.maps.MadeMaps.{entries-made}
+use Rattle.judy_model.proofs.lemmas.orders.Orders.{same_from_tie}
+use Rattle.judy_model.proofs.lemmas.maps.Pairs.{turned_Greater}
+use Rattle.judy_model.proofs.lemmas.maps.TableLemmas.{byte_order_total, byte_order_same}
+use Rattle.judy_model.proofs.lemmas.maps.Tests.{both}
 use Rattle.judy_hs.specs.Chains.{Pairs, value_in, AreApart}
 use Rattle.judy_hs.specs.Listed.{key_bytes, entries_in, is_before}
 use Rattle.judy_hs.specs.declared.entry.HsEntry.{HsEntry}

@@ -5,7 +5,7 @@ use Rattle.std.specs.FinMap.{FinMap, get, insert, remove, nat_cmp-IsAntisymmetri
 use Rattle.std.specs.Cmp.{nat_cmp_total}
 use Rattle.std.proofs.lemmas.Bool.{lt-ltb, le-ltb, cases_order}
 use Rattle.judy_model.specs.Keys.{word_order}
-use Rattle.judy_model.proofs.ChangesLemmas.{get-write_same, get-write_other, get-del_same, get-del_other}
+use Rattle.judy_model.proofs.lemmas.maps.ChangesLemmas.{get-write_same, get-write_other, get-del_same, get-del_other}
 use Rattle.judy_hs.specs.LongGroups.{put_at}
 
 -- Numbers are the same or differ.

@@ -12,9 +12,9 @@ use Rattle.std.proofs.lemmas.Option.{none-some, same_Some}
 use Rattle.judy_model.specs.Keys.{IsWord, word_order}
 use Rattle.judy_model.specs.KeyLengths.{IsBytesKeyTo}
 use Rattle.judy_model.specs.Arrays.{ArrayOf, IsArrayOf, IsArray, judyl}
-use Rattle.judy_model.proofs.KeptLemmas.{words_hold}
-use Rattle.judy_model.proofs.Pairs.{find-at}
-use Rattle.judy_model.proofs.TableLemmas.{bytes_keys-all, table_some, byte_order_total}
+use Rattle.judy_model.proofs.lemmas.runs.KeptLemmas.{words_hold}
+use Rattle.judy_model.proofs.lemmas.maps.Pairs.{find-at}
+use Rattle.judy_model.proofs.lemmas.maps.TableLemmas.{bytes_keys-all, table_some, byte_order_total}
 use Rattle.judy_hs.specs.Chains.{Pairs, value_in}
 use Rattle.judy_hs.specs.LongGroups.{Long, chain_at, in_long, in_chain}
 use Rattle.judy_hs.specs.Groups.{Group, none, in_group}

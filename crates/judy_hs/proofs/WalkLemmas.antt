@@ -9,7 +9,7 @@ use Rattle.std.specs.FinMap.{FinMap, entries, entries_sorted, get, get-entries}
 use Rattle.std.proofs.lemmas.List.{append-nil, append_assoc, flat_map_more, map-append, length-append}
 use Rattle.std.proofs.Math.Seq.{get_or-append_seam}
 use Rattle.judy_model.specs.Keys.{word_order}
-use Rattle.judy_model.proofs.Pairs.{find-at}
+use Rattle.judy_model.proofs.lemmas.maps.Pairs.{find-at}
 use Rattle.judy_model.specs.WordBytes.{low_bytes}
 use Rattle.judy_hs.specs.Chains.{Pairs}
 use Rattle.judy_hs.specs.Listed.{key_bytes, entries_in}

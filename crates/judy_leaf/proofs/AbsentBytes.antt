@@ -3,8 +3,8 @@ use Rattle.std.proofs.Common.{◌≡◌, ℕ, ◌<◌, ◌≤◌, ◌&&◌, ⊎_
 use Rattle.std.proofs.lemmas.Bool.{false_from_ne_true, cases_lt}
 use Rattle.judy_model.specs.Keys.{word_order}
 use Rattle.judy_model.specs.Nearest.{IsFirst, IsLast, IsGreatest}
-use Rattle.judy_model.proofs.Ascending.{all_among}
-use Rattle.judy_model.proofs.WordOrder.{is_le_word}
+use Rattle.judy_model.proofs.lemmas.maps.Ascending.{all_among}
+use Rattle.judy_model.proofs.lemmas.orders.WordOrder.{is_le_word}
 use Rattle.judy_bits.specs.ByteSets as set
 use Rattle.judy_bits.specs.ByteSets.{IsByteSet, absent}
 use Rattle.judy_bits.proofs.AbsentLemmas.{has-absent}

@@ -5,7 +5,7 @@ use Rattle.std.proofs.lemmas.Bool.{false_from_ne_true, cases_lt}
 use Rattle.std.proofs.lemmas.Option.{slice_get-get_or}
 use Rattle.judy_model.specs.Keys.{word_order}
 use Rattle.judy_model.specs.Nearest.{IsFirst, IsLast}
-use Rattle.judy_model.proofs.WordOrder.{is_le_word, is_ge_word, le_word}
+use Rattle.judy_model.proofs.lemmas.orders.WordOrder.{is_le_word, is_ge_word, le_word}
 use Rattle.judy_bits.specs.ByteSets as set
 use Rattle.judy_bits.proofs.SetLemmas.{has_at}
 use Rattle.judy_leaf.specs.Packing.{keys_in}

@@ -8,8 +8,8 @@ use Rattle.std.specs.List.{All, AllByRecursion}
 use Rattle.std.proofs.lemmas.Option.{same_Some, slice_get-get_or}
 use Rattle.judy_block.specs.Contents.{Contents}
 use Rattle.judy_model.specs.Keys.{word_order}
-use Rattle.judy_model.proofs.ByteLemmas.{unit_pos}
-use Rattle.judy_model.proofs.Ascending.{all_among}
+use Rattle.judy_model.proofs.lemmas.orders.ByteLemmas.{unit_pos}
+use Rattle.judy_model.proofs.lemmas.maps.Ascending.{all_among}
 use Rattle.judy_bits.specs.ByteSets as set
 use Rattle.judy_bits.specs.ByteSets.{IsByteSet}
 use Rattle.judy_bits.proofs.SetLemmas.{is_below, filter_all, Among-has}

@@ -8,7 +8,7 @@ use Rattle.std.proofs.lemmas.List.Sums.{length-filter, sum_by-cons, sum_by-appen
 use Rattle.std.proofs.lemmas.List.Folds.{sum_by-replicate}
 use Rattle.std.proofs.lemmas.Option.{slice_get-get_or, slice_get_within, same_Some}
 use Rattle.judy_model.specs.Keys.{word_order}
-use Rattle.judy_model.proofs.WordOrder.{is_lt_word}
+use Rattle.judy_model.proofs.lemmas.orders.WordOrder.{is_lt_word}
 use Rattle.judy_bits.specs.ByteSets.{has, rank, place}
 use Rattle.judy_bits.proofs.SetLemmas.{not_less, has_at, slice_get-rank}
 use Rattle.judy_leaf.specs.Packing.{places, places_of, IsWidth}

@@ -3,8 +3,8 @@ use Rattle.std.proofs.Common.{◌≡◌, ℕ, zero, suc, ◌+◌, ◌/◌, ◌%�
 use Rattle.std.specs.List.{AllByRecursion}
 use Rattle.std.proofs.lemmas.List.{length-take-le}
 use Rattle.judy_model.specs.Keys.{word_order}
-use Rattle.judy_model.proofs.ByteLemmas.{unit_pos}
-use Rattle.judy_model.proofs.WordOrder.{is_le_word}
+use Rattle.judy_model.proofs.lemmas.orders.ByteLemmas.{unit_pos}
+use Rattle.judy_model.proofs.lemmas.orders.WordOrder.{is_le_word}
 use Rattle.judy_bits.specs.ByteSets as set
 use Rattle.judy_bits.proofs.SetLemmas.{filter_all}
 use Rattle.judy_leaf.specs.Packing.{places, places_of, keys_in, IsPacked, IsWidth}

@@ -4,7 +4,7 @@ use Rattle.std.proofs.lemmas.List.{length-take-le}
 use Rattle.std.specs.List.{AllByRecursion}
 use Rattle.std.specs.List.Sorted.{IsStrictlySortedBy}
 use Rattle.judy_model.specs.Keys.{word_order}
-use Rattle.judy_model.proofs.Places.{length-filter-le}
+use Rattle.judy_model.proofs.lemmas.queries.Places.{length-filter-le}
 use Rattle.judy_block.specs.Contents.{Contents}
 use Rattle.judy_bits.specs.ByteSets as set
 use Rattle.judy_leaf.specs.Packing.{places_of}

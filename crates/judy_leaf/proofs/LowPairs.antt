@@ -6,7 +6,7 @@ use Rattle.std.specs.List.Sorted.{IsStrictlySortedBy}
 use Rattle.std.proofs.lemmas.Bool.{false_from_ne_true}
 use Rattle.std.proofs.lemmas.List.{length-take-le}
 use Rattle.judy_model.specs.Keys.{word_order}
-use Rattle.judy_model.proofs.Ascending.{all_among}
+use Rattle.judy_model.proofs.lemmas.maps.Ascending.{all_among}
 use Rattle.judy_bits.specs.ByteSets as set
 use Rattle.judy_bits.proofs.SetLemmas.{is_below, filter_all, later_above, Among-has}
 use Rattle.judy_leaf.specs.KeyLists.{keys_of, low_pairs, with_pair}

@@ -6,10 +6,10 @@ use Rattle.std.specs.Cmp.{nat_cmp_total}
 use Rattle.std.proofs.lemmas.Bool.{false_from_ne_true, cases_order}
 use Rattle.std.proofs.lemmas.Option.{none-some, slice_get-get_or, slice_get_cases, slice_get_within, slice_get_past, same_Some}
 use Rattle.judy_model.specs.Keys.{word_order}
-use Rattle.judy_model.proofs.Orders.{ge_is_not_lt}
-use Rattle.judy_model.proofs.WordOrder.{is_lt_word, is_le_word}
-use Rattle.judy_model.proofs.Ascending.{Among, find_agree}
-use Rattle.judy_model.proofs.Places.{length-filter-le, before_place, before_place-suc, find_at_count, find_before_count, lt-IsDownward, le-IsDownward, filter_agree_among, up_to_place}
+use Rattle.judy_model.proofs.lemmas.orders.Orders.{ge_is_not_lt}
+use Rattle.judy_model.proofs.lemmas.orders.WordOrder.{is_lt_word, is_le_word}
+use Rattle.judy_model.proofs.lemmas.maps.Ascending.{Among, find_agree}
+use Rattle.judy_model.proofs.lemmas.queries.Places.{length-filter-le, before_place, before_place-suc, find_at_count, find_before_count, lt-IsDownward, le-IsDownward, filter_agree_among, up_to_place}
 use Rattle.judy_bits.specs.ByteSets as set
 use Rattle.judy_bits.proofs.SetLemmas.{has_at, has-among, slice_get-rank}
 use Rattle.judy_leaf.specs.KeyLists.{keys_of, values_of}

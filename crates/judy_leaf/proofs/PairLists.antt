@@ -4,7 +4,7 @@ use Rattle.std.specs.List.{insert, remove}
 use Rattle.std.specs.List.Sorted.{IsStrictlySortedBy}
 use Rattle.std.proofs.lemmas.Option.{slice_get-get_or}
 use Rattle.judy_model.specs.Keys.{word_order}
-use Rattle.judy_model.proofs.Ascending.{ascending-filter}
+use Rattle.judy_model.proofs.lemmas.maps.Ascending.{ascending-filter}
 use Rattle.judy_bits.specs.ByteSets.{has, rank}
 use Rattle.judy_bits.proofs.SetLemmas.{with_other, with_byte-ascending, without_at}
 use Rattle.judy_leaf.specs.KeyLists.{pairs_of}

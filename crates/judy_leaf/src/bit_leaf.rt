@@ -11,7 +11,7 @@ use crate::bit_edit;
 use crate::bit_ref::BitRef;
 use crate::in_place::put_in_bit_leaf;
 use crate::layout::{BIT_WORDS, set_bit_width};
-use crate::words::{Width, Words};
+use crate::words::{ValueWords, Words};
 use judy_block::Block;
 use std::alloc::{AllocError, Global};
 use std::marker::{Model, PhantomData};
@@ -25,7 +25,7 @@ pub struct BitLeafOf<V: Words + Drop> {
 }
 
 /// A bitmap leaf whose keys have `W` words of value each, 0 or 1.
-pub type BitLeaf<const W: usize> = BitLeafOf<Width<W>>;
+pub type BitLeaf<const W: usize> = BitLeafOf<ValueWords<W>>;
 
 const _: () = prove!(size_of::<BitLeaf<1>>() == 8);
 

@@ -12,7 +12,7 @@ ghost use Rattle.judy_leaf.specs.Nearby.{pair_from, pair_up_to, is_absent};
 ghost use Rattle.judy_leaf.specs.Searches.{IsSearched};
 
 use crate::layout::{BIT_WORDS, bit_count, bit_width};
-use crate::words::{Width, Words};
+use crate::words::{ValueWords, Words};
 use judy_bits::BitsRef;
 use judy_block::Block;
 use std::marker::{Model, PhantomData};
@@ -24,7 +24,7 @@ pub struct BitRef<'a, V: Words + Drop> {
     words: PhantomData<V>,
 }
 
-const _: () = prove!(size_of::<BitRef<'static, Width<1>>>() == 8);
+const _: () = prove!(size_of::<BitRef<'static, ValueWords<1>>>() == 8);
 
 impl<'a, V: Words + Drop> Model for BitRef<'a, V> {
     ghost use Rattle.judy_leaf.specs.KeyLists.{KeyList};

@@ -12,7 +12,7 @@ ghost use Rattle.judy_leaf.specs.Nearby.{pair_from, pair_up_to, is_absent};
 ghost use Rattle.judy_leaf.specs.Searches.{IsSearched};
 
 use crate::one_word;
-use crate::words::{Width, Words};
+use crate::words::{ValueWords, Words};
 use judy_bits::low_part;
 use std::marker::{Model, PhantomData};
 
@@ -27,7 +27,7 @@ pub struct ImmOf<V: Words + Drop> {
 }
 
 /// An immediate whose keys have `W` words of value each, 0 or 1.
-pub type Imm<const W: usize> = ImmOf<Width<W>>;
+pub type Imm<const W: usize> = ImmOf<ValueWords<W>>;
 
 const _: () = prove!(size_of::<Imm<1>>() == 24);
 

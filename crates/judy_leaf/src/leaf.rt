@@ -9,7 +9,7 @@ ghost use Rattle.judy_leaf.specs.Packing.{IsWidth};
 
 use crate::in_place::put_in_leaf;
 use crate::leaf_ref::LeafRef;
-use crate::words::{Width, Words};
+use crate::words::{ValueWords, Words};
 use crate::{keys, pairs};
 use judy_block::Block;
 use std::alloc::{AllocError, Global};
@@ -24,7 +24,7 @@ pub struct LeafOf<V: Words + Drop> {
 }
 
 /// A leaf whose keys have `W` words of value each, 0 or 1.
-pub type Leaf<const W: usize> = LeafOf<Width<W>>;
+pub type Leaf<const W: usize> = LeafOf<ValueWords<W>>;
 
 const _: () = prove!(size_of::<Leaf<1>>() == 16);
 

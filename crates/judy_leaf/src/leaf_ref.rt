@@ -13,7 +13,7 @@ ghost use Rattle.judy_leaf.specs.Searches.{IsSearched};
 
 use crate::keys;
 use crate::layout::LEAF_ROOM;
-use crate::words::{Width, Words};
+use crate::words::{ValueWords, Words};
 use judy_block::Block;
 use std::marker::{Model, PhantomData};
 
@@ -27,7 +27,7 @@ pub struct LeafRef<'a, V: Words + Drop> {
     words: PhantomData<V>,
 }
 
-const _: () = prove!(size_of::<LeafRef<'static, Width<1>>>() == 16);
+const _: () = prove!(size_of::<LeafRef<'static, ValueWords<1>>>() == 16);
 
 impl<'a, V: Words + Drop> Model for LeafRef<'a, V> {
     ghost use Rattle.std.specs.Prelude.{◌≡◌};

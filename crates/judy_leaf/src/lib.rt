@@ -53,4 +53,4 @@ pub use in_place::{put_in_bit_leaf, put_in_leaf, take_from_bit_leaf, take_from_l
 pub use layout::{BIT_WORDS, LEAF_ROOM, bit_count, bit_width, set_bit_width, widen_bits};
 pub use leaf::{Leaf, LeafOf, Spare};
 pub use leaf_ref::LeafRef;
-pub use words::{Width, Words};
+pub use words::{ValueWords, Words};

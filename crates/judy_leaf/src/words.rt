@@ -12,15 +12,15 @@ pub trait Words {
 }
 
 /// The type that stands for the number `W`.
-pub struct Width<const W: usize>;
+pub struct ValueWords<const W: usize>;
 
-impl<const W: usize> Drop for Width<W> {
+impl<const W: usize> Drop for ValueWords<W> {
     fn drop(self) {
-        let Width = self;
+        let ValueWords = self;
     }
 }
 
-impl<const W: usize> Words for Width<W> {
+impl<const W: usize> Words for ValueWords<W> {
     ghost WORDS = { W };
 
     const WORDS: usize = W;

@@ -5,7 +5,7 @@ use Rattle.std.proofs.lemmas.Nat.{div-mul-add, mul-add-lt, pow-add}
 use Rattle.std.proofs.lemmas.List.Elements.{All-cons}
 use Rattle.judy_model.specs.WordBytes.{number_of, low_bytes}
 use Rattle.judy_model.specs.Forms.{bitmap_leaf, branch}
-use Rattle.judy_model.proofs.ByteLemmas.{low_bytes-above}
+use Rattle.judy_model.proofs.lemmas.orders.ByteLemmas.{low_bytes-above}
 use Rattle.judy_block.specs.Contents.{Contents}
 use Rattle.judy_leaf.specs.KeyLists.{keys_of, shift}
 use Rattle.judy_leaf.specs.BitLeaves.{bit_list}

@@ -1,7 +1,7 @@
 -- Nodes made of sorted pairs.
 use Rattle.std.proofs.Common.{◌≡◌, ◌≢◌, ℕ, zero, suc, ◌+◌, ◌-◌, ◌*◌, ◌/◌, ◌%◌, ◌^◌, ◌<◌, ◌≤◌, [], ◌∷◌, length, get_or, sym, refl, ap, ◌∙◌, subst, arith}
 use Rattle.judy_model.specs.Shapes.{AllBelow, immediate_limit}
-use Rattle.judy_model.proofs.FormLemmas.{immediate_limit_small}
+use Rattle.judy_model.proofs.lemmas.forms.FormLemmas.{immediate_limit_small}
 use Rattle.judy_block.specs.Contents.{Contents}
 use Rattle.judy_leaf.specs.KeyLists.{keys_of, low_pairs, shift}
 use Rattle.judy_leaf.specs.Leaves.{leaf_list, IsLeafParts}
@@ -13,7 +13,7 @@ use Rattle.judy_node.specs.Built.{IsBuilt}
 use Rattle.judy_node.proofs.Maps.{map-AllBelow, length-keys_of, shift-zero}
 use Rattle.judy_model.specs.WordBytes.{low_bytes}
 use Rattle.judy_model.specs.Forms.{bitmap_leaf}
-use Rattle.judy_model.proofs.FormLemmas.{tight-head}
+use Rattle.judy_model.proofs.lemmas.forms.FormLemmas.{tight-head}
 use Rattle.std.proofs.lemmas.Bool.{lt-leb}
 use Rattle.judy_node.proofs.Leaves.{leaf_long, imm_some}
 use Rattle.judy_node.proofs.KindFacts.{imm-child, leaf-child, bit-child}

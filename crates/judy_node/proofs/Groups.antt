@@ -9,7 +9,7 @@ use Rattle.std.specs.Ordering.{is_lt, is_gt}
 use Rattle.judy_model.specs.Keys.{word_order}
 use Rattle.judy_model.specs.Forms.{loose_in}
 use Rattle.judy_model.specs.Shapes.{AllBelow}
-use Rattle.judy_model.proofs.FormLemmas.{loose_in-append}
+use Rattle.judy_model.proofs.lemmas.forms.FormLemmas.{loose_in-append}
 use Rattle.judy_bits.specs.ByteSets.{with_byte}
 use Rattle.judy_bits.proofs.SetLemmas.{is_below, not_above}
 use Rattle.judy_leaf.specs.KeyLists.{low_pairs, shift}

@@ -8,9 +8,9 @@ use Rattle.judy_model.specs.Keys.{IsByteString}
 use Rattle.judy_model.specs.WordBytes.{number_of, low_bytes}
 use Rattle.judy_model.specs.Forms.{Form, immediate, leaf, bitmap_leaf, raise}
 use Rattle.judy_model.specs.Shapes.{form_of, by_number, immediate_limit, AllBelow}
-use Rattle.judy_model.proofs.ByteLemmas.{number_of-low_bytes, length-low_bytes}
-use Rattle.judy_model.proofs.FormLemmas.{by_number-cases, immediate_limit_small}
-use Rattle.judy_model.proofs.GroupLemmas.{form_of-last_byte}
+use Rattle.judy_model.proofs.lemmas.orders.ByteLemmas.{number_of-low_bytes, length-low_bytes}
+use Rattle.judy_model.proofs.lemmas.forms.FormLemmas.{by_number-cases, immediate_limit_small}
+use Rattle.judy_model.proofs.lemmas.forms.BucketLemmas.{form_of-last_byte}
 use Rattle.judy_block.specs.Contents.{Contents}
 use Rattle.judy_leaf.specs.KeyLists.{keys_of, shift}
 use Rattle.judy_leaf.specs.Leaves.{leaf_list}

@@ -6,7 +6,7 @@ use Rattle.std.specs.Cmp.{nat_cmp_is}
 use Rattle.std.proofs.lemmas.Bool.{cases_order}
 use Rattle.std.proofs.Math.Nat.{mod-eq_of_lt, div-eq_of_lt, pow-suc}
 use Rattle.judy_model.specs.Keys.{word_order}
-use Rattle.judy_model.proofs.WordOrder.{less_word}
+use Rattle.judy_model.proofs.lemmas.orders.WordOrder.{less_word}
 use Rattle.judy_bits.proofs.MemberLemmas.{members_of-IsByteSet}
 use Rattle.judy_block.specs.Contents.{Contents}
 use Rattle.judy_leaf.specs.KeyLists.{keys_of, pairs_of, low_pairs, IsKeyList}

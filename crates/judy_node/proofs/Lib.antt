@@ -1,4 +1,4 @@
-mod WholeMemory
+mod BundleMemory
 pub mod Maps
 pub mod Shaped
 pub mod Leaves

@@ -12,8 +12,8 @@ use Rattle.judy_node.specs.declared.child.KindOf.{KindOf}
 use Rattle.judy_node.specs.declared.child.KindOf.TheVariants.{Imm, Leaf, Bit, Branch}
 use Rattle.judy_node.proofs.KindFacts.{level-child}
 use Rattle.judy_model.specs.Shapes.{AllBelow}
-use Rattle.judy_model.proofs.ByteLemmas.{unit_pos}
-use Rattle.judy_model.proofs.FormLemmas.{branch_tight, tight-head}
+use Rattle.judy_model.proofs.lemmas.orders.ByteLemmas.{unit_pos}
+use Rattle.judy_model.proofs.lemmas.forms.FormLemmas.{branch_tight, tight-head}
 use Rattle.std.proofs.lemmas.List.Elements.{All-nil}
 use Rattle.judy_leaf.specs.KeyLists.{keys_of, low_pairs, shift}
 use Rattle.judy_node.specs.Trees.{Pairs, Tree, IsMap, join, forms_in, IsChild, IsBranch, branch_tree}

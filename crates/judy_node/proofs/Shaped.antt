@@ -6,28 +6,28 @@ use Rattle.std.proofs.lemmas.Bool.{leb-false}
 use Rattle.judy_model.specs.Keys.{IsByteString}
 use Rattle.judy_model.specs.WordBytes.{number_of}
 use Rattle.judy_model.specs.Forms.{Node, Form, branch, is_loose, loose_in}
-use Rattle.judy_model.specs.Shapes.{Group, bytes_of, forms_of, form_of, AreGroups, keys_of_groups}
-use Rattle.judy_model.proofs.ByteLemmas.{number_of-lt}
-use Rattle.judy_model.proofs.FormLemmas.{loose_in-append}
-use Rattle.judy_model.proofs.GroupLemmas.{form_of-groups}
+use Rattle.judy_model.specs.Shapes.{Bucket, bytes_of, forms_of, form_of, AreBuckets, keys_of_buckets}
+use Rattle.judy_model.proofs.lemmas.orders.ByteLemmas.{number_of-lt}
+use Rattle.judy_model.proofs.lemmas.forms.FormLemmas.{loose_in-append}
+use Rattle.judy_model.proofs.lemmas.forms.BucketLemmas.{form_of-buckets}
 use Rattle.judy_leaf.specs.KeyLists.{keys_of, shift}
 use Rattle.judy_node.specs.Trees.{Tree, IsTight, IsMap, join, forms_in, IsChild, AreChildren, branch_pairs, AreParts, IsBranch, branch_tree}
 use Rattle.judy_node.proofs.Maps.{map-wider, keys_of-shift, keys_of-append, length-keys_of, map-AllBelow, join-map, length-shift}
 
 -- Children as the groups of their keys.
-abbrev pub groups_in : List ℕ → List Tree → List Group
+abbrev pub groups_in : List ℕ → List Tree → List Bucket
 groups_in [] kids = []
 groups_in (byte ∷ bytes) [] = []
 groups_in (byte ∷ bytes) (kid ∷ kids) = (byte, keys_of kid.pairs) ∷ groups_in bytes kids
 
-pub keys_of-join : (unit block : ℕ) (bytes : List ℕ) (kids : List Tree) → keys_of (join unit block bytes kids) ≡ keys_of_groups unit block (groups_in bytes kids)
+pub keys_of-join : (unit block : ℕ) (bytes : List ℕ) (kids : List Tree) → keys_of (join unit block bytes kids) ≡ keys_of_buckets unit block (groups_in bytes kids)
 keys_of-join unit block [] kids = refl
 keys_of-join unit block (byte ∷ bytes) [] = refl
 keys_of-join unit block (byte ∷ bytes) (kid ∷ kids) =
     keys_of-append (shift ((block + byte) * unit) kid.pairs) (join unit block bytes kids)
     ∙ (λ t. keys_of-shift ((block + byte) * unit) kid.pairs t ++ keys_of-join unit block bytes kids t)
 
-children-groups : (words width low : ℕ) (bytes : List ℕ) (kids : List Tree) → AreChildren words width low bytes kids → AreGroups (256 ^ width) low (groups_in bytes kids)
+children-groups : (words width low : ℕ) (bytes : List ℕ) (kids : List Tree) → AreChildren words width low bytes kids → AreBuckets (256 ^ width) low (groups_in bytes kids)
 children-groups words width low [] [] are = tt
 children-groups words width low [] (kid ∷ kids) are = absurd are
 children-groups words width low (byte ∷ bytes) [] are = absurd are
@@ -90,7 +90,7 @@ branch-shaped words width skipped bytes kids count is tight =
     let counted = is.counted in
     let as_many = length-groups_in words width 0 bytes kids is.children in
     let all : count ≡ length keys = counted ∙ sym long in
-    let rule = form_of-groups words width (length skipped + 1 + width) skipped groups keys refl is.some_width is.skipped_bytes
+    let rule = form_of-buckets words width (length skipped + 1 + width) skipped groups keys refl is.some_width is.skipped_bytes
     (children-groups words width 0 bytes kids is.children) (omega arith) (keys_of-join (256 ^ width) (number_of skipped * 256) bytes kids) (omega arith) in
     (λ t. branch skipped (sym (children-bytes words width 0 bytes kids is.children) t) (all t) ∷ children-forms words width 0 bytes kids is.children parts.1 t)
     ∙ sym rule

@@ -8,8 +8,8 @@ use Rattle.std.specs.List.{AllByRecursion}
 use Rattle.std.specs.List.Sorted.{IsStrictlySortedBy}
 use Rattle.judy_model.specs.Keys.{IsByteString, word_order}
 use Rattle.judy_model.specs.WordBytes.{number_of}
-use Rattle.judy_model.proofs.ByteLemmas.{unit_pos, number_of-lt}
-use Rattle.judy_model.proofs.WordOrder.{less_word}
+use Rattle.judy_model.proofs.lemmas.orders.ByteLemmas.{unit_pos, number_of-lt}
+use Rattle.judy_model.proofs.lemmas.orders.WordOrder.{less_word}
 use Rattle.judy_bits.specs.ByteSets.{IsByteSet, place, has, rank}
 use Rattle.judy_bits.proofs.SetLaws.{place-nth}
 use Rattle.judy_node.specs.Trees.{Tree, AreChildren, IsBranch}

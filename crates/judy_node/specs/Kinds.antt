@@ -10,7 +10,7 @@ use Rattle.judy_leaf.specs.BitLeaves.{bit_list, IsBitParts}
 use Rattle.judy_leaf.specs.Immediates.{parts_list, IsImmParts}
 use Rattle.judy_node.specs.Trees.{Pairs, Tree, IsBranch, branch_tree}
 use Rattle.judy_node.specs.Populations.{AreSums}
-use Rattle.judy_node.specs.Wholes.{held, IsWhole}
+use Rattle.judy_node.specs.Bundles.{held, IsBundle}
 use Rattle.judy_node.specs.declared.child.KindOf.{KindOf}
 use Rattle.judy_node.specs.declared.child.PlaceOf.{PlaceOf}
 use Rattle.judy_node.specs.declared.child.KindOf.TheVariants.{Imm, Leaf, Bit, Branch}
@@ -90,7 +90,7 @@ kind_in place = held (Imm 0 0) place.kind
 
 -- What each place keeps: one node, and what the node keeps.
 abbrev pub IsPlaced : {V : _} → ℕ → PlaceOf V → Type 0
-IsPlaced words place = IsWhole place.kind × IsLevel words (kind_in place)
+IsPlaced words place = IsBundle place.kind × IsLevel words (kind_in place)
 
 -- ---- more bytes to skip
 

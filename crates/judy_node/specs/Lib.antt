@@ -1,4 +1,4 @@
-pub mod Wholes
+pub mod Bundles
 pub mod Trees
 pub mod Kinds
 pub mod Falls

@@ -9,7 +9,7 @@ use Rattle.judy_node.specs.Trees.{Tree, IsChild}
 use Rattle.judy_node.specs.Roots.{empty_tree}
 use Rattle.judy_node.specs.Steps.{IsKeyOf}
 use Rattle.judy_node.specs.Slots.{value_of, with_value}
-use Rattle.judy_node.specs.Wholes.{whole}
+use Rattle.judy_node.specs.Bundles.{bundled}
 use Rattle.judy_node.specs.declared.child.BranchOf.{BranchOf}
 use Rattle.judy_node.specs.declared.child.KindOf.{KindOf}
 use Rattle.judy_node.specs.declared.child.PlaceOf.{PlaceOf}
@@ -32,7 +32,7 @@ IsSeat words (Branch b) key at rest = IsSeatBelow b.value key at rest
 
 -- The place of a node of a kind.
 abbrev pub placed : {V : _} → KindOf V → PlaceOf V
-placed kind = record { kind = whole kind }
+placed kind = record { kind = bundled kind }
 
 -- The place of a root of a kind.
 abbrev pub root_placed : {V : _} → RootOf V → RootPlaceOf V

@@ -10,13 +10,13 @@ ghost use Rattle.judy_node.specs.Trees.{IsChild};
 ghost use Rattle.judy_node.specs.Kinds.{tree_of, IsLevel, IsImm, imm_tree, imm_pairs};
 ghost use Rattle.judy_node.specs.Views.{IsView};
 
+use crate::bundle::Bundle;
 use crate::head::{Head, keys_told};
 use crate::sums::Sums;
 use crate::view::ViewOf;
-use crate::whole::Whole;
 use judy_bits::{ByteSet, Meter, Skip};
 use judy_block::Block;
-use judy_leaf::{BitRef, ImmOf, LeafRef, Width, Words, bit_count};
+use judy_leaf::{BitRef, ImmOf, LeafRef, ValueWords, Words, bit_count};
 use std::marker::{Model, PhantomData};
 
 /// A node below the root, which has keys, in 16 bytes.
@@ -31,11 +31,11 @@ pub struct ChildOf<V: Words + Drop> {
 #[cycle(node)]
 #[derive(Drop)]
 pub struct PlaceOf<V: Words + Drop> {
-    pub(crate) kind: Whole<KindOf<V>>,
+    pub(crate) kind: Bundle<KindOf<V>>,
 }
 
 /// A node below the root of a tree whose keys have `W` words of value each, 0 or 1.
-pub type Child<const W: usize> = ChildOf<Width<W>>;
+pub type Child<const W: usize> = ChildOf<ValueWords<W>>;
 
 /// The kinds of nodes below the root, by their parts: for writing.
 #[cycle(node)]
@@ -149,7 +149,7 @@ impl<V: Words + Drop> ChildOf<V> {
     {
         ChildOf {
             place: PlaceOf {
-                kind: Whole::new(kind),
+                kind: Bundle::new(kind),
             },
         }
     }

@@ -9,7 +9,7 @@
 //! each child tells the width of its keys, so those who come down the tree bring it. Root and children are entered, which is one visit
 //! on a [`judy_bits::Meter`], and give the same [`View`]; a branch answers by [`BranchOf::step`] where a key goes.
 //!
-//! child.rt has the nodes (whole.rt the array that one is moved in, head.rt the seven bytes beside its word), node.rt the root, and
+//! child.rt has the nodes (bundle.rt the array that one is moved in, head.rt the seven bytes beside its word), node.rt the root, and
 //! view.rt what a node shows to those who enter it. branch.rt has what is asked of a branch, step.rt where a key goes there, populations.rt
 //! how many keys its children have, and sums.rt the same by sixteens, where all 256 stand. shape.rt and fill.rt go over a whole tree,
 //! build.rt makes the tight tree of sorted pairs, room.rt makes room for a child, seat.rt finds where a value stands, and slot.rt lends
@@ -21,6 +21,7 @@
 
 mod branch;
 mod build;
+mod bundle;
 mod child;
 mod fill;
 mod head;
@@ -34,7 +35,6 @@ mod slot;
 mod step;
 mod sums;
 mod view;
-mod whole;
 
 pub use build::{
     child_of_sorted, immediate_of_one, immediate_of_sorted, kind_of_sorted, leaf_of_two,

@@ -12,7 +12,7 @@ use crate::child::ChildOf;
 use crate::shape::Shape;
 use crate::view::ViewOf;
 use judy_bits::Meter;
-use judy_leaf::{Spare, Width, Words};
+use judy_leaf::{Spare, ValueWords, Words};
 use judy_unmetered::Unmetered;
 use std::alloc::{AllocError, Global};
 use std::marker::Model;
@@ -31,7 +31,7 @@ pub struct RootPlaceOf<V: Words + Drop> {
 }
 
 /// A tree whose keys have `W` words of value each, 0 or 1.
-pub type Node<const W: usize> = NodeOf<Width<W>>;
+pub type Node<const W: usize> = NodeOf<ValueWords<W>>;
 
 /// The kinds of roots, by their parts: for writing. A pair with a key of eight bytes has no room in a child, so it stands here,
 /// and what stands below has two keys or more.

@@ -23,7 +23,7 @@ impl<V: Words + Drop> KindOf<V> {
 
     // The slot at a seat; below a branch, that of what is left of the key.
     #[inline(always)]
-    fn slot_at<L: Level, K: Sought>(&mut self, seat: Seat) -> Option<&mut u64>
+    fn slot_at<L: Depth, K: Sought>(&mut self, seat: Seat) -> Option<&mut u64>
         requires words { V.WORDS ≡ 1 }
         requires seat { HasSeat V.WORDS L.DEPTH self.old seat.at }
         requires known { K.known (value_at self.old seat.at seat.rest) }
@@ -79,7 +79,7 @@ impl<V: Words + Drop> BranchOf<V> {
 
     // The slot of a key of the child at a place.
     #[inline(always)]
-    fn slot_at<L: Level, K: Sought>(&mut self, seat: Seat) -> Option<&mut u64>
+    fn slot_at<L: Depth, K: Sought>(&mut self, seat: Seat) -> Option<&mut u64>
         requires words { V.WORDS ≡ 1 }
         requires inside { seat.at < length self.old.children.items }
         requires child { IsChild V.WORDS self.old.width (child_at self.old seat.at) }
@@ -96,7 +96,7 @@ impl<V: Words + Drop> BranchOf<V> {
 
     // The same where the children may be branches of a lower level.
     #[inline(always)]
-    fn slot_below<L: Level, K: Sought>(&mut self, seat: Seat) -> Option<&mut u64>
+    fn slot_below<L: Depth, K: Sought>(&mut self, seat: Seat) -> Option<&mut u64>
         requires words { V.WORDS ≡ 1 }
         requires inside { seat.at < length self.old.children.items }
         requires child { IsChild V.WORDS self.old.width (child_at self.old seat.at) }
@@ -137,7 +137,7 @@ impl<V: Words + Drop> ChildOf<V> {
 
     // The slot of a key of the node, whose keys have `width` bytes.
     #[inline(always)]
-    fn slot_at<L: Level, K: Sought>(&mut self, width: u8, key: u64) -> Option<&mut u64>
+    fn slot_at<L: Depth, K: Sought>(&mut self, width: u8, key: u64) -> Option<&mut u64>
         requires words { V.WORDS ≡ 1 }
         requires child { IsChild V.WORDS width self.old }
         requires depth { width ≤ L.DEPTH + 1 }
@@ -171,7 +171,7 @@ impl<V: Words + Drop> ChildOf<V> {
 }
 
 // A level of branches: it lends the slots below branches whose children are no deeper than it.
-pub trait Level {
+pub trait Depth {
     ghost DEPTH: { ℕ };
 
     ghost use Rattle.std.specs.Borrow.{sem, LendsIf, u64 as word};
@@ -195,7 +195,7 @@ pub trait Level {
 // The lowest level, that of branches whose children have keys of one byte.
 pub struct Bottom;
 
-impl Level for Bottom {
+impl Depth for Bottom {
     ghost DEPTH = { 1 };
 
     #[inline(always)]
@@ -207,7 +207,7 @@ impl Level for Bottom {
 // The level above another.
 pub struct Above<L>(PhantomData<L>);
 
-impl<L: Level> Level for Above<L> {
+impl<L: Depth> Depth for Above<L> {
     ghost DEPTH = { L.DEPTH + 1 };
 
     #[inline(always)]

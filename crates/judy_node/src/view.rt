@@ -1,7 +1,7 @@
 //! What a node shows of itself.
 
 use crate::child::BranchOf;
-use judy_leaf::{BitRef, ImmOf, LeafRef, Width, Words};
+use judy_leaf::{BitRef, ImmOf, LeafRef, ValueWords, Words};
 
 /// A node to read, by its kind.
 #[derive(Drop)]
@@ -21,4 +21,4 @@ pub enum ViewOf<'a, V: Words + Drop> {
 }
 
 /// A node to read, of a tree whose keys have `W` words of value each, 0 or 1.
-pub type View<'a, const W: usize> = ViewOf<'a, Width<W>>;
+pub type View<'a, const W: usize> = ViewOf<'a, ValueWords<W>>;

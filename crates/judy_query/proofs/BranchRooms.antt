@@ -7,10 +7,10 @@ use Rattle.std.proofs.lemmas.Option.{slice_get-get_or, slice_get_within, same_So
 use Rattle.std.specs.List.Sorted.{IsStrictlySortedBy}
 use Rattle.judy_model.specs.Keys.{word_order}
 use Rattle.judy_model.specs.WordBytes.{number_of}
-use Rattle.judy_model.proofs.ByteLemmas.{number_of-lt, unit_pos}
-use Rattle.judy_model.proofs.Ascending.{all_from_among, place_among}
-use Rattle.judy_model.proofs.Places.{length-filter-mono, filter_none}
-use Rattle.judy_model.proofs.WordOrder.{lt_word, lt_from_word}
+use Rattle.judy_model.proofs.lemmas.orders.ByteLemmas.{number_of-lt, unit_pos}
+use Rattle.judy_model.proofs.lemmas.maps.Ascending.{all_from_among, place_among}
+use Rattle.judy_model.proofs.lemmas.queries.Places.{length-filter-mono, filter_none}
+use Rattle.judy_model.proofs.lemmas.orders.WordOrder.{lt_word, lt_from_word}
 use Rattle.judy_bits.specs.ByteSets.{has, rank}
 use Rattle.judy_bits.proofs.SetLemmas.{has_at, rank_at, slice_get-rank, filter_all, not_below}
 use Rattle.judy_leaf.specs.KeyLists.{keys_of, shift}

@@ -6,7 +6,7 @@ use Rattle.std.specs.List.Sorted.{IsStrictlySortedBy}
 use Rattle.std.proofs.lemmas.Bool.{cases_order}
 use Rattle.std.proofs.lemmas.Option.{same_Some, slice_get_within}
 use Rattle.judy_model.specs.Keys.{word_order}
-use Rattle.judy_model.proofs.Ascending.{all_among, Among-slice_get}
+use Rattle.judy_model.proofs.lemmas.maps.Ascending.{all_among, Among-slice_get}
 use Rattle.judy_bits.specs.ByteSets.{has, rank, place}
 use Rattle.judy_bits.proofs.SetLemmas.{slice_get-rank, later_above}
 use Rattle.judy_leaf.specs.KeyLists.{keys_of, values_of, shift}

@@ -4,7 +4,7 @@ use Rattle.std.specs.Cmp.{nat_cmp_total}
 use Rattle.std.proofs.lemmas.Option.{slice_get-get_or}
 use Rattle.judy_model.specs.Keys.{word_order}
 use Rattle.judy_model.specs.WordBytes.{number_of}
-use Rattle.judy_model.proofs.Places.{before_place, before_place-suc, find_before_count, le-IsDownward}
+use Rattle.judy_model.proofs.lemmas.queries.Places.{before_place, before_place-suc, find_before_count, le-IsDownward}
 use Rattle.judy_bits.specs.ByteSets.{rank, next_from, prev_from}
 use Rattle.judy_bits.proofs.SetLemmas.{rank_at, next_from-rank}
 use Rattle.judy_leaf.proofs.Nearest.{up_to-rank, up_to-other}

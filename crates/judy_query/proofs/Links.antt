@@ -11,11 +11,11 @@ use Rattle.judy_model.specs.Keys.{word_order}
 use Rattle.judy_model.specs.Counts.{nth}
 use Rattle.judy_model.specs.Counts as counts
 use Rattle.judy_model.specs.Neighbours.{first, last}
-use Rattle.judy_model.proofs.Ascending.{Among, find_last, find-reverse}
-use Rattle.judy_model.proofs.WordOrder.{lt_word}
-use Rattle.judy_model.proofs.KeysLemmas.{keys-from_sorted, keys_ascending, among_keys, contains_key-from_among}
-use Rattle.judy_model.proofs.SortedMaps.{len-from_sorted}
-use Rattle.judy_model.proofs.RankLemmas.{nth-slice_get}
+use Rattle.judy_model.proofs.lemmas.maps.Ascending.{Among, find_last, find-reverse}
+use Rattle.judy_model.proofs.lemmas.orders.WordOrder.{lt_word}
+use Rattle.judy_model.proofs.lemmas.maps.KeysLemmas.{keys-from_sorted, keys_ascending, among_keys, contains_key-from_among}
+use Rattle.judy_model.proofs.lemmas.maps.SortedMaps.{len-from_sorted}
+use Rattle.judy_model.proofs.lemmas.queries.RankLemmas.{nth-slice_get}
 use Rattle.judy_bits.specs.ByteSets as set
 use Rattle.judy_bits.proofs.SetLemmas.{Among-has, has-among}
 use Rattle.judy_leaf.specs.KeyLists.{keys_of}

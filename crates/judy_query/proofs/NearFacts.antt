@@ -5,8 +5,8 @@ use Rattle.std.proofs.lemmas.Bool.{false_from_ne_true, cases_lt, cases_order}
 use Rattle.std.proofs.lemmas.List.{append-nil}
 use Rattle.std.proofs.lemmas.Option.{same_Some, slice_get-get_or}
 use Rattle.judy_model.specs.Keys.{word_order}
-use Rattle.judy_model.proofs.Ascending.{find_last, find-reverse}
-use Rattle.judy_model.proofs.WordOrder.{is_le_word, is_ge_word}
+use Rattle.judy_model.proofs.lemmas.maps.Ascending.{find_last, find-reverse}
+use Rattle.judy_model.proofs.lemmas.orders.WordOrder.{is_le_word, is_ge_word}
 use Rattle.judy_leaf.specs.KeyLists.{shift}
 use Rattle.judy_leaf.specs.Nearby.{pair_from, pair_up_to}
 use Rattle.judy_node.specs.Trees.{Pairs, IsMap}

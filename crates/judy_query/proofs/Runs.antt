@@ -7,8 +7,8 @@ use Rattle.std.proofs.lemmas.Bool.{and_parts, and_from, not-true, not_from_false
 use Rattle.judy_model.specs.Keys.{word_order}
 use Rattle.judy_model.specs.Nearest.{IsFirst, IsLast}
 use Rattle.judy_model.specs.Empties.{first_empty, last_empty}
-use Rattle.judy_model.proofs.WordOrder.{is_ge_word, is_le_word}
-use Rattle.judy_model.proofs.EmptiesLemmas.{first_empty_run, first_empty_run_none, last_empty_run, last_empty_run_none}
+use Rattle.judy_model.proofs.lemmas.orders.WordOrder.{is_ge_word, is_le_word}
+use Rattle.judy_model.proofs.lemmas.queries.EmptiesLemmas.{first_empty_run, first_empty_run_none, last_empty_run, last_empty_run_none}
 use Rattle.judy_bits.specs.ByteSets.{has}
 use Rattle.judy_leaf.specs.KeyLists.{keys_of, shift}
 use Rattle.judy_leaf.specs.Nearby.{is_absent}

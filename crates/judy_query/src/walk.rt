@@ -52,7 +52,21 @@ impl<'a, V: Words + Drop> Walk<'a, V> {
         ensures no_fewer { meter.old ≤ meter.new }
         ensures visits { meter.new ≤ meter.old + most_visits_down }
     {
-        seek(tree, key, ArrayVec::new(), meter)
+        let mut turns = ArrayVec::new();
+        let stretch = seek(tree, key, &mut turns, meter);
+        Walk { stretch, turns }
+    }
+
+    /// Lets the walk be [`Walk::from_key`] of a tree, whatever it was: it has the room of eight branches, which is made and moved once
+    /// so for many trees. Visits and meter as there.
+    pub fn restart(&mut self, tree: &'a NodeOf<V>, key: u64, meter: &mut Meter)
+        requires { meter.old ≤ 2 ^ 64 - 17 }
+        ensures pairs { self.new ≡ drop (set.rank (keys_of tree.now.pairs) key) tree.now.pairs }
+        ensures no_fewer { meter.old ≤ meter.new }
+        ensures visits { meter.new ≤ meter.old + most_visits_down }
+    {
+        self.turns.clear();
+        self.stretch = seek(tree, key, &mut self.turns, meter);
     }
 
     /// The next pair; `None` where none is left. At most 7 visits; the meter stands at most at `u64::MAX - 16`.
@@ -101,16 +115,18 @@ impl<'a, V: Words + Drop> Walk<'a, V> {
     }
 }
 
-// The pairs of a tree whose keys aren't below a word; no turns are kept so far.
+// The pairs of a tree whose keys aren't below a word: those of one node, the others are kept; no turns are so far.
 fn seek<'a, V: Words + Drop>(
     tree: &'a NodeOf<V>,
     key: u64,
-    mut turns: Turns<'a, V>,
+    turns: &mut Turns<'a, V>,
     meter: &mut Meter,
-) -> Walk<'a, V>
-    requires none { turns.items ≡ [] }
+) -> Stretch<'a, V>
+    requires none { turns.old.items ≡ [] }
     requires below { meter.old ≤ 2 ^ 64 - 17 }
-    ensures pairs { result ≡ drop (set.rank (keys_of tree.now.pairs) key) tree.now.pairs }
+    ensures turns { AreTurns V.WORDS 0 turns.new.items }
+    ensures pairs { result ++ waiting turns.new.items
+        ≡ drop (set.rank (keys_of tree.now.pairs) key) tree.now.pairs }
     ensures no_fewer { meter.old ≤ meter.new }
     ensures visits { meter.new ≤ meter.old + most_visits_down }
 {
@@ -124,18 +140,16 @@ fn seek<'a, V: Words + Drop>(
             reached(branch, step),
             byte_behind(step),
             key - left,
-            &mut turns,
+            turns,
         );
         let Step::Child(_, place, rest) = step else {
-            let stretch = Stretch::new(ViewOf::Null, 0, 0);
-            return Walk { stretch, turns };
+            return Stretch::new(ViewOf::Null, 0, 0);
         };
         left = rest;
         view = branch.children[place].enter(branch.width, meter);
     }
     let at = rank_in(&view, left);
-    let stretch = Stretch::new(view, key - left, at);
-    Walk { stretch, turns }
+    Stretch::new(view, key - left, at)
 }
 
 // The child that a turn leads to, entered, and where its keys begin; those behind it in its branch are kept.

@@ -8,7 +8,7 @@ use Rattle.std.proofs.lemmas.List.Elements.{All-head, All-tail}
 use Rattle.std.proofs.Math.Nat.{mod-eq_of_lt}
 use Rattle.judy_model.specs.Keys.{IsByteString}
 use Rattle.judy_model.specs.WordBytes.{low_bytes}
-use Rattle.judy_model.proofs.ByteLemmas.{low_bytes-above, length-low_bytes}
+use Rattle.judy_model.proofs.lemmas.orders.ByteLemmas.{low_bytes-above, length-low_bytes}
 use Rattle.judy_records.specs.Texts.{spelled, first_word, words_of, bytes_in}
 use Rattle.judy_records.proofs.TextLemmas.{words-cons}
 use Rattle.judy_records.proofs.OrderLemmas.{spelled-lt, all-drop}

@@ -10,7 +10,7 @@ use Rattle.std.proofs.lemmas.Bool.{cases_order, cases_lt}
 use Rattle.std.proofs.lemmas.List.{length-drop, get_or_past}
 use Rattle.std.proofs.lemmas.List.Elements.{All-head, All-tail, All-nil}
 use Rattle.judy_model.specs.Keys.{byte_order, IsByteString}
-use Rattle.judy_model.proofs.ByteLemmas.{unit_pos}
+use Rattle.judy_model.proofs.lemmas.orders.ByteLemmas.{unit_pos}
 use Rattle.judy_records.proofs.Spelling.{spelled-below}
 use Rattle.judy_records.proofs.TextLemmas.{words-cons}
 use Rattle.judy_records.specs.Texts.{spelled, first_word, words_of, IsText}

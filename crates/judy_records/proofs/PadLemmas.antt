@@ -10,7 +10,7 @@ use Rattle.std.proofs.lemmas.Bool.{cases_lt, lt-ltb}
 use Rattle.std.proofs.Math.Nat.{mod-eq_of_lt}
 use Rattle.judy_model.specs.Keys.{IsByteString}
 use Rattle.judy_model.specs.WordBytes.{low_bytes}
-use Rattle.judy_model.proofs.ByteLemmas.{low_bytes-above, length-low_bytes}
+use Rattle.judy_model.proofs.lemmas.orders.ByteLemmas.{low_bytes-above, length-low_bytes}
 use Rattle.judy_records.specs.Texts.{spelled, first_word, words_for, words_of, text_in, EndsWell, IsText}
 use Rattle.judy_records.proofs.TextLemmas.{words-cons, words-at}
 use Rattle.judy_records.proofs.OrderLemmas.{spelled-lt, all-drop, text-bytes}

@@ -8,8 +8,8 @@ use Rattle.judy_model.specs.Lines.{Line, lines_of}
 use Rattle.judy_model.specs.LineLists.{are_whole_lines, whole_lines}
 use Rattle.judy_model.specs.Stores.{Store}
 use Rattle.judy_model.specs.Replies.{output_of}
-use Rattle.judy_model.proofs.LineLemmas.{lines_of-ended, lines_of-unended, lines_of-whole_lines, whole_lines-append}
-use Rattle.judy_model.proofs.RunLemmas.{Steps-push, output-push}
+use Rattle.judy_model.proofs.lemmas.runs.LineLemmas.{lines_of-ended, lines_of-unended, lines_of-whole_lines, whole_lines-append}
+use Rattle.judy_model.proofs.lemmas.runs.RunLemmas.{Steps-push, output-push}
 use Rattle.judy_pipe.specs.Pipe.{grown}
 use Rattle.judy_pipe.proofs.Moves.{grown-grown}
 use Rattle.judy_script.specs.declared.line.LineBuffer.{LineBuffer}

@@ -1,6 +1,6 @@
 //! The engine of a run: it is fed the script in whatever pieces it comes.
 
-ghost use Rattle.std.specs.Prelude.{◌≡◌, ℕ, ◌+◌, ◌-◌, ◌<◌, ◌^◌, true, false, List, [], ◌++◌, Option, Ok, is_ok, if◌then◌else◌, IsTrue, IfOk, IfErr, OnOk, OnErr};
+ghost use Rattle.std.specs.Prelude.{◌≡◌, ℕ, ◌+◌, ◌-◌, ◌<◌, ◌^◌, true, false, List, [], ◌++◌, Option, Ok, is_ok, if◌then◌else◌, IsTrue, IfOk, OnOk, OnErr};
 ghost use Rattle.judy_model.specs.Stores.{Store};
 ghost use Rattle.judy_model.specs.Replies.{output_of};
 ghost use Rattle.judy_model.specs.Steps.{Step};
@@ -10,10 +10,8 @@ ghost use Rattle.judy_command.specs.Replies.{line_reply_of};
 ghost use Rattle.judy_script.specs.LineBuffers.{Holds};
 ghost use Rattle.judy_script.specs.Lines.{bytes_of, IsWithin};
 ghost use Rattle.judy_script.specs.Feeds.{Fed, Served, ServedInPart, Ran, RanInPart, RanInWholeLines};
-ghost use Rattle.judy_script.specs.declared.fault.RunFault.TheVariants.{Write};
 
 use crate::cut::cut_at;
-use crate::fault::RunFault;
 use crate::line::{LineBuffer, line_reply};
 use crate::print::print;
 use crate::text::{Line, Text};
@@ -47,13 +45,13 @@ impl Buffers {
 /// Feeds a piece of the script: the lines that end in it are executed and answered one by one, and what
 /// comes after the last of them is kept. Answers whether a line ended in it.
 ///
-/// The one fault is `Write`: the shelf is then as after the line whose answer was being written.
+/// The error is that the sink failed: the shelf is then as after the line whose answer was being written.
 pub(crate) fn feed<W: Sink>(
     piece: &[u8],
     buffers: &mut Buffers,
     shelf: &mut Shelf,
     sink: &mut W,
-) -> Result<bool, RunFault>
+) -> Result<bool, PipeFailed>
     requires { (W.tally sink.old).failures < 2 ^ 64 - 1 }
     ensures ok { OnOk result ((first : Store) (fed : List ℕ) (before : Option (List ℕ)) →
         Fed first fed before buffers.old.line (W.taken sink.old) (store_of shelf.old) →
@@ -69,7 +67,6 @@ pub(crate) fn feed<W: Sink>(
         RanInWholeLines first (fed ++ piece.now) before (W.taken sink.new) (store_of shelf.new)) }
     // Where no line ended nothing was answered, so the sink keeps back what it kept back before.
     ensures kept { result ≡ Ok false → W.kept sink.new ≡ W.kept sink.old }
-    ensures fault { IfErr result (λ fault. fault ≡ Write) }
     ensures failures { let before = (W.tally sink.old).failures in
         (W.tally sink.new).failures ≡ (if is_ok result then before else before + 1) }
 {
@@ -88,14 +85,14 @@ pub(crate) fn feed<W: Sink>(
 /// Feeds a piece of the script and hands the answers of its lines on: the next read may wait for whoever
 /// waits for them.
 ///
-/// The one fault is `Write`: the shelf is then as after the line whose answer was being written, which is
-/// the last one where the answers couldn't be handed on.
+/// The error is that the sink failed: the shelf is then as after the line whose answer was being written, which
+/// is the last one where the answers couldn't be handed on.
 pub(crate) fn serve<W: Sink>(
     piece: &[u8],
     buffers: &mut Buffers,
     shelf: &mut Shelf,
     sink: &mut W,
-) -> Result<(), RunFault>
+) -> Result<(), PipeFailed>
     requires { (W.tally sink.old).failures < 2 ^ 64 - 1 }
     ensures ok { OnOk result ((first : Store) (fed : List ℕ) (before : Option (List ℕ)) →
         Fed first fed before buffers.old.line (W.taken sink.old) (store_of shelf.old) →
@@ -105,7 +102,6 @@ pub(crate) fn serve<W: Sink>(
         Fed first fed before buffers.old.line (W.taken sink.old) (store_of shelf.old) →
         RanInWholeLines first (fed ++ piece.now) before (W.taken sink.new) (store_of shelf.new)) }
     ensures handed_on { OnOk result (W.kept sink.old ≡ [] → W.kept sink.new ≡ []) }
-    ensures fault { IfErr result (λ fault. fault ≡ Write) }
     ensures failures { let before = (W.tally sink.old).failures in
         (W.tally sink.new).failures ≡ (if is_ok result then before else before + 1) }
 {
@@ -113,18 +109,16 @@ pub(crate) fn serve<W: Sink>(
     if !ended {
         return Ok(());
     }
-    match sink.flush() {
-        Ok(()) => Ok(()),
-        Err(_) => Err(RunFault::Write),
-    }
+    sink.flush()
 }
 
-/// Ends the script: what is kept of a last line without an LF is executed and answered, if there is any.
+/// Ends the script: what is kept of a last line without an LF is executed and answered, if there is any. The error
+/// is that the sink failed; the line was executed then.
 pub(crate) fn finish<W: Sink>(
     buffers: &mut Buffers,
     shelf: &mut Shelf,
     sink: &mut W,
-) -> Result<(), RunFault>
+) -> Result<(), PipeFailed>
     requires { (W.tally sink.old).failures < 2 ^ 64 - 1 }
     ensures ok { OnOk result ((first : Store) (fed : List ℕ) (before : Option (List ℕ)) →
         Fed first fed before buffers.old.line (W.taken sink.old) (store_of shelf.old) →
@@ -132,7 +126,6 @@ pub(crate) fn finish<W: Sink>(
     ensures err { OnErr result ((first : Store) (fed : List ℕ) (before : Option (List ℕ)) →
         Fed first fed before buffers.old.line (W.taken sink.old) (store_of shelf.old) →
         RanInPart first fed before (W.taken sink.new) (store_of shelf.new)) }
-    ensures fault { IfErr result (λ fault. fault ≡ Write) }
     ensures failures { let before = (W.tally sink.old).failures in
         (W.tally sink.new).failures ≡ (if is_ok result then before else before + 1) }
 {
@@ -151,7 +144,7 @@ fn end_line<W: Sink>(
     buffers: &mut Buffers,
     shelf: &mut Shelf,
     sink: &mut W,
-) -> Result<(), RunFault>
+) -> Result<(), PipeFailed>
     requires { (W.tally sink.old).failures < 2 ^ 64 - 1 }
     ensures ok { OnOk result ((kept : List ℕ) → Holds buffers.old.line kept →
         Served (store_of shelf.old) (record { bytes = kept ++ head.now; ended = true })
@@ -160,7 +153,6 @@ fn end_line<W: Sink>(
         ServedInPart (store_of shelf.old) (record { bytes = kept ++ head.now; ended = true })
         (W.taken sink.old) (W.taken sink.new) (store_of shelf.new)) }
     ensures cleared { Holds buffers.new.line [] }
-    ensures fault { IfErr result (λ fault. fault ≡ Write) }
     ensures failures { let before = (W.tally sink.old).failures in
         (W.tally sink.new).failures ≡ (if is_ok result then before else before + 1) }
 {
@@ -197,7 +189,7 @@ fn put_out<W: Sink>(
     shelf: &Shelf,
     text: &mut Text,
     sink: &mut W,
-) -> Result<(), RunFault>
+) -> Result<(), PipeFailed>
     requires { (W.tally sink.old).failures < 2 ^ 64 - 1 }
     ensures ok { OnOk result
         (W.taken sink.new ≡ grown (W.taken sink.old)
@@ -205,14 +197,10 @@ fn put_out<W: Sink>(
     ensures err { OnErr result
         (GrewByFront (W.taken sink.old) (output_of (line_reply_of (store_of shelf.now) reply.entry))
         (W.taken sink.new)) }
-    ensures fault { IfErr result (λ fault. fault ≡ Write) }
     ensures failures { let before = (W.tally sink.old).failures in
         (W.tally sink.new).failures ≡ (if is_ok result then before else before + 1) }
 {
-    match write_line(print(reply, shelf, text), sink) {
-        Ok(()) => Ok(()),
-        Err(_) => Err(RunFault::Write),
-    }
+    write_line(print(reply, shelf, text), sink)
 }
 
 // Writes the text of an answer.

@@ -4,13 +4,13 @@ use Rattle.std.proofs.lemmas.List.Elements.{All-nil, All-append}
 use Rattle.judy_model.specs.Arrays.{ArrayValue}
 use Rattle.judy_model.specs.Stores.{Store, with_new_array}
 use Rattle.judy_model.specs.Keys.{IsByteString}
-use Rattle.judy_model.specs.Fields.{Fault, truncated, Part, followed_by, ◌>>=◌, done, end, value_of, Behind, Begins}
+use Rattle.judy_model.specs.Fields.{Flaw, truncated, Parser, followed_by, ◌>>=◌, done, end, value_of, Behind, Begins}
 use Rattle.judy_model.specs.DumpText.{Version}
 use Rattle.judy_model.specs.DumpGrammar as grammar
 use Rattle.judy_model.specs.DumpGrammar.{IsDump}
 use Rattle.judy_model.specs.DumpPlaces.{up_to_entry, EndsAtEntry}
-use Rattle.judy_model.proofs.DumpLemmas.{dump_back}
-use Rattle.judy_model.proofs.FieldLemmas.{followed_ok, done_ok}
+use Rattle.judy_model.proofs.lemmas.dumps.DumpLemmas.{dump_back}
+use Rattle.judy_model.proofs.lemmas.dumps.FieldLemmas.{followed_ok, done_ok}
 use Rattle.judy_pipe.specs.Pipe.{grown}
 use Rattle.judy_pipe.proofs.Moves.{grown-grown}
 use Rattle.judy_shelf.specs.Reads.{Drawn, Cause, reader, memory, cut, told, OfFronts, IsWholeOrCut, Stops, ReadsValue, ReadsFault, EndFault, LoadsFault, AtSome, InBody, InArray, InArrays, InCounted, InStore, counted, up_to_end, LoadsWhole, Loaded, cause_of}
@@ -103,26 +103,26 @@ module _ (version : Version) (earlier : ℕ) (made : Store) (before mid : Drawn)
 
 -- ---- the whole
 
-abbrev at_last : Version × Store → Part (Version × Store)
+abbrev at_last : Version × Store → Parser (Version × Store)
 at_last read = end >>= λ _. done read
 
 -- A store with its format, and the end asked for before it.
-abbrev paired : Version → Store → Part (Version × Store)
+abbrev paired : Version → Store → Parser (Version × Store)
 paired version made = done (version, made)
 
-abbrev ended_with : Version → Store → Part (Version × Store)
+abbrev ended_with : Version → Store → Parser (Version × Store)
 ended_with version made = end >>= λ _. done (version, made)
 
 -- The end is asked for behind the arrays, which stand behind their number.
-counted_parts : (version : Version) (read : Result (ℕ × List ℕ) Fault) → followed_by read (λ count. grammar.arrays version [] count >>= ended_with version) ≡ followed_by (followed_by read (grammar.arrays version [])) (ended_with version)
+counted_parts : (version : Version) (read : Result (ℕ × List ℕ) Flaw) → followed_by read (λ count. grammar.arrays version [] count >>= ended_with version) ≡ followed_by (followed_by read (grammar.arrays version [])) (ended_with version)
 counted_parts version (Ok given) = refl
 counted_parts version (Err fault) = refl
 
-told_parts : (version : Version) (read : Result (Store × List ℕ) Fault) → followed_by read (ended_with version) ≡ followed_by (followed_by read (paired version)) at_last
+told_parts : (version : Version) (read : Result (Store × List ℕ) Flaw) → followed_by read (ended_with version) ≡ followed_by (followed_by read (paired version)) at_last
 told_parts version (Ok given) = refl
 told_parts version (Err fault) = refl
 
-begun_parts : (read : Result (Version × List ℕ) Fault) → followed_by read (λ version. grammar.array_count >>= λ count. grammar.arrays version [] count >>= ended_with version) ≡ followed_by (followed_by read (λ version. counted version >>= paired version)) at_last
+begun_parts : (read : Result (Version × List ℕ) Flaw) → followed_by read (λ version. grammar.array_count >>= λ count. grammar.arrays version [] count >>= ended_with version) ≡ followed_by (followed_by read (λ version. counted version >>= paired version)) at_last
 begun_parts (Ok given) = counted_parts given.0 (grammar.array_count given.1) ∙ told_parts given.0 (counted given.0 given.1)
 begun_parts (Err fault) = refl
 
@@ -131,16 +131,16 @@ store_parts : (dump : List ℕ) → grammar.store dump ≡ (up_to_end >>= at_las
 store_parts dump = begun_parts (grammar.begins dump)
 
 -- A part that begins bytes, and what holds behind it.
-begun : {A : Type 0} (read : Result (A × List ℕ) Fault) (Holds : A → List ℕ → Type 0) → Behind read Holds → (first : A × List ℕ) × (read ≡ Ok first) × Holds first.0 first.1
+begun : {A : Type 0} (read : Result (A × List ℕ) Flaw) (Holds : A → List ℕ → Type 0) → Behind read Holds → (first : A × List ℕ) × (read ≡ Ok first) × Holds first.0 first.1
 begun (Ok first) Holds holds = (first, refl, holds)
 begun (Err fault) Holds holds = absurd holds
 
 -- What stands behind the number of arrays, and behind a name, up to an entry.
-abbrev rest_of : Version → ℕ → ℕ → Part (ℕ × ℕ)
+abbrev rest_of : Version → ℕ → ℕ → Parser (ℕ × ℕ)
 rest_of version listed arrays =
     grammar.kind >>= λ kind. grammar.limit >>= λ limit. grammar.key_count limit >>= λ keys. grammar.contents version kind limit listed >>= λ _. done (arrays, keys)
 
-abbrev up_to_entry_of : Version → ℕ → ℕ → ℕ → Part (ℕ × ℕ)
+abbrev up_to_entry_of : Version → ℕ → ℕ → ℕ → Parser (ℕ × ℕ)
 up_to_entry_of version earlier listed arrays = grammar.arrays version [] earlier >>= λ made. grammar.name made >>= λ _. rest_of version listed arrays
 
 -- The places told part by part are those of the definition.
@@ -212,7 +212,7 @@ module _ (version : Version) (store : Store) (before mid after : Drawn) (first :
   end_behind : (input : List ℕ) → grammar.store (first.input ++ input) ≡ at_last (version, store) input
   end_behind input = store_parts (first.input ++ input) ∙ ap (λ r. followed_by r at_last) (first.gives input)
 
-  whole_at_end : (read : Result (Unit {0} × List ℕ) Fault) → IsWholeOrCut read → IsWholeOrCut (followed_by read (λ _. paired version store))
+  whole_at_end : (read : Result (Unit {0} × List ℕ) Flaw) → IsWholeOrCut read → IsWholeOrCut (followed_by read (λ _. paired version store))
   whole_at_end (Ok given) is = tt
   whole_at_end (Err fault) is = is
 

@@ -10,8 +10,8 @@ use Rattle.std.proofs.lemmas.List.Elements.{All-nil, All-append}
 use Rattle.judy_model.specs.Arrays.{ArrayOf, ArrayValue}
 use Rattle.judy_model.specs.Keys.{IsByteString, word_order, byte_order}
 use Rattle.judy_model.specs.DumpText.{length_order}
-use Rattle.judy_model.proofs.KindLemmas.{length_order-total}
-use Rattle.judy_model.specs.Fields.{Fault, truncated, bad_order, Part, field, followed_by, ◌>>=◌, done, Behind}
+use Rattle.judy_model.proofs.lemmas.dumps.KindLemmas.{length_order-total}
+use Rattle.judy_model.specs.Fields.{Flaw, truncated, bad_order, Parser, field, followed_by, ◌>>=◌, done, Behind}
 use Rattle.judy_model.specs.DumpGrammar.{is_above, entry, entries, filled}
 use Rattle.judy_pipe.specs.Pipe.{grown}
 use Rattle.judy_pipe.proofs.Moves.{grown-grown}
@@ -22,15 +22,15 @@ use Rattle.judy_shelf.proofs.FrontLemmas.{no_fronts, fronts_of_both}
 use Rattle.judy_shelf.proofs.WriteLemmas.{grown_nothing}
 use Rattle.judy_shelf.proofs.ReadLemmas.{reads_err, fault_first, fault_then, value_then, value_done, Reading, reading_fault}
 
-nothing_more : {A : Type 0} (read : Result (A × List ℕ) Fault) → read ≡ followed_by read (λ value. done value)
+nothing_more : {A : Type 0} (read : Result (A × List ℕ) Flaw) → read ≡ followed_by read (λ value. done value)
 nothing_more (Ok given) = refl
 nothing_more (Err fault) = refl
 
-in_a_row : {A B C : Type 0} (read : Result (A × List ℕ) Fault) (one : A → Part B) (two : B → Part C) → followed_by (followed_by read one) two ≡ followed_by read (λ value. one value >>= two)
+in_a_row : {A B C : Type 0} (read : Result (A × List ℕ) Flaw) (one : A → Parser B) (two : B → Parser C) → followed_by (followed_by read one) two ≡ followed_by read (λ value. one value >>= two)
 in_a_row (Ok given) one two = refl
 in_a_row (Err fault) one two = refl
 
-one_more : {A : Type 0} (read : Result (List A × List ℕ) Fault) (held : List A) (item : A) → followed_by (followed_by read (λ others. done (item ∷ others))) (λ others. done (held ++ others)) ≡ followed_by read (λ others. done ((held ++ item ∷ []) ++ others))
+one_more : {A : Type 0} (read : Result (List A × List ℕ) Flaw) (held : List A) (item : A) → followed_by (followed_by read (λ others. done (item ∷ others))) (λ others. done (held ++ others)) ≡ followed_by read (λ others. done ((held ++ item ∷ []) ++ others))
 one_more (Ok given) held item = ap (λ all. Ok (all, given.1)) (sym (append_assoc held (item ∷ []) given.0))
 one_more (Err fault) held item = refl
 
@@ -39,20 +39,20 @@ is_Less Less e = refl
 is_Less Equal e = absurd cc
 is_Less Greater e = absurd cc
 
-module _ {K : Type 0} (order : K → K → Ordering) (key : Option K → Part K) (value : Part ℕ) (count : ℕ) where
-  abbrev pub whole : Part (List (K × ℕ))
+module _ {K : Type 0} (order : K → K → Ordering) (key : Option K → Parser K) (value : Parser ℕ) (count : ℕ) where
+  abbrev pub whole : Parser (List (K × ℕ))
   whole = entries order key value None count
 
   -- What is to come where so many entries are left, and these are held.
-  abbrev pub to_come : Option K → ℕ → List (K × ℕ) → Part (List (K × ℕ))
+  abbrev pub to_come : Option K → ℕ → List (K × ℕ) → Parser (List (K × ℕ))
   to_come last left held = entries order key value last left >>= λ others. done (held ++ others)
 
   -- One entry more.
   pub one_entry : (last : Option K) (left : ℕ) (held : List (K × ℕ)) (pair : K × ℕ) (input more : List ℕ) → entry order key value last (input ++ more) ≡ Ok (pair, more) →
       to_come last (suc left) held (input ++ more) ≡ to_come (Some pair.0) left (held ++ pair ∷ []) more
   one_entry last left held pair input more is =
-      let rest : K × ℕ → Part (List (K × ℕ)) = λ first. entries order key value (Some first.0) left >>= λ others. done (first ∷ others) in
-      let keep : List (K × ℕ) → Part (List (K × ℕ)) = λ others. done (held ++ others) in
+      let rest : K × ℕ → Parser (List (K × ℕ)) = λ first. entries order key value (Some first.0) left >>= λ others. done (first ∷ others) in
+      let keep : List (K × ℕ) → Parser (List (K × ℕ)) = λ others. done (held ++ others) in
       in_a_row (entry order key value last (input ++ more)) rest keep ∙ ap (λ r. followed_by r (λ first. rest first >>= keep)) is ∙ one_more (entries order key value (Some pair.0) left more) held pair
 
   module _ (last : Option K) (left n : ℕ) (is : left ≡ suc n) (held : List (K × ℕ)) (before mid after : Drawn) (far : Reading whole (to_come last left held) before mid) where
@@ -89,7 +89,7 @@ module _ {K : Type 0} (order : K → K → Ordering) (key : Option K → Part K)
     filled_fault : {Also : List ℕ → Type 0} → (cause : Cause) → ReadsFault Nowhere whole cause before after → ReadsFault Also (filled kind limit whole) cause before after
     filled_fault cause read = fault_first whole (λ held. done (kind (record { limit = limit; map = from_entries held }))) cause before after read
 
-module _ {K : Type 0} (order : K → K → Ordering) (key : Option K → Part K) (value : Part ℕ) where
+module _ {K : Type 0} (order : K → K → Ordering) (key : Option K → Parser K) (value : Parser ℕ) where
   -- So many entries were read, which are these, however many are said.
   pub record Listing (listed : ℕ) (last : Option K) (held : List (K × ℕ)) (before now : Drawn) : Type 0 where
     pub input : List ℕ
@@ -225,14 +225,14 @@ module _ {K : Type 0} {order map_order : K → K → Ordering} (orders : KeyOrde
     absent_key = get-from_entries orders.map_total held key ∙ new key above
 
 -- So many entries were read, the last one with this key, and the array holds them.
-pub record Filling {K : Type 0} {order map_order : K → K → Ordering} (orders : KeyOrders order map_order) (key : Option K → Part K) (value : Part ℕ) (limit listed : ℕ) (last : Option K) (array : ArrayOf map_order) (before now : Drawn) : Type 0 where
+pub record Filling {K : Type 0} {order map_order : K → K → Ordering} (orders : KeyOrders order map_order) (key : Option K → Parser K) (value : Parser ℕ) (limit listed : ℕ) (last : Option K) (array : ArrayOf map_order) (before now : Drawn) : Type 0 where
   pub held : List (K × ℕ)
   pub limit_is : array.limit ≡ limit
   pub map_is : array.map ≡ from_entries held
   pub new : AreNew orders last held
   pub listing : Listing order key value listed last held before now
 
-module _ {K : Type 0} {order map_order : K → K → Ordering} {orders : KeyOrders order map_order} {key : Option K → Part K} {value : Part ℕ} where
+module _ {K : Type 0} {order map_order : K → K → Ordering} {orders : KeyOrders order map_order} {key : Option K → Parser K} {value : Parser ℕ} where
   pub none_filled : (array : ArrayOf map_order) → array.map ≡ empty → (now : Drawn) → Filling orders key value array.limit 0 None array now now
   none_filled array none now = record { held = []; limit_is = refl; map_is = none; new = new_none orders; listing = listing_none order key value now }
 

@@ -2,7 +2,7 @@
 use Rattle.std.proofs.Common.{◌≡◌, ℕ, ◌+◌, ◌-◌, ◌≤◌, List, [], ◌∷◌, ◌++◌, length, take, drop, nat_le, sym, ap, ◌∙◌, append_assoc, arith}
 use Rattle.std.proofs.lemmas.List.{take_at, drop_at, length-append, length-drop, length-take-le}
 use borrow.Rule.Slice.PartMut.{put_mid}
-use Rattle.judy_model.specs.Fields.{bad_key, bad_prefix, Part, bytes, number, field, ◌>>=◌, done}
+use Rattle.judy_model.specs.Fields.{bad_key, bad_prefix, Parser, bytes, number, field, ◌>>=◌, done}
 use Rattle.judy_model.specs.DumpGrammar as grammar
 use Rattle.judy_model.specs.DumpGrammar.{is_without_zero, is_longest_shared}
 use Rattle.judy_model.specs.declared.keys.TheConstants.{LONGEST_KEY}
@@ -10,22 +10,22 @@ use Rattle.judy_shelf.specs.Reads.{Drawn, Cause, Nowhere, ReadsValue, ReadsFault
 use Rattle.judy_shelf.proofs.ReadLemmas.{fault_first, fault_then, value_then, value_done}
 
 module _ (before : List ℕ) where
-  abbrev shared_field : Part ℕ
+  abbrev shared_field : Parser ℕ
   shared_field = field (number 2) (((λ shared. nat_le shared (length before)), bad_prefix) ∷ [])
 
-  abbrev rest_field : ℕ → Part ℕ
+  abbrev rest_field : ℕ → Parser ℕ
   rest_field shared = field (number 2) (((λ rest. nat_le (shared + rest) LONGEST_KEY), bad_key) ∷ [])
 
-  abbrev pub suffix_field : ℕ → ℕ → Part (List ℕ)
+  abbrev pub suffix_field : ℕ → ℕ → Parser (List ℕ)
   suffix_field shared rest = field (bytes rest) ((is_without_zero, bad_key) ∷ (is_longest_shared before shared, bad_prefix) ∷ [])
 
-  abbrev made_of : ℕ → List ℕ → Part (List ℕ)
+  abbrev made_of : ℕ → List ℕ → Parser (List ℕ)
   made_of shared suffix = done (take shared before ++ suffix)
 
-  abbrev behind_rest : ℕ → ℕ → Part (List ℕ)
+  abbrev behind_rest : ℕ → ℕ → Parser (List ℕ)
   behind_rest shared rest = suffix_field shared rest >>= made_of shared
 
-  abbrev behind_shared : ℕ → Part (List ℕ)
+  abbrev behind_shared : ℕ → Parser (List ℕ)
   behind_shared shared = rest_field shared >>= behind_rest shared
 
   module _ (shared : ℕ) (was one : Drawn) (first : ReadsValue shared_field shared was one) where

@@ -5,7 +5,7 @@ use Rattle.std.proofs.lemmas.Bool.{lt-ltb, le-ltb, ltb-true, ltb-false}
 use Rattle.std.proofs.lemmas.List.{take_all, take_at, drop_at, drop-drop, length-append}
 use borrow.Rule.Slice.PartMut.{put_mid}
 use Rattle.judy_model.specs.Keys.{IsByteString}
-use Rattle.judy_model.specs.Fields.{truncated, bytes, followed_by, ◌>>=◌, done, Fault}
+use Rattle.judy_model.specs.Fields.{truncated, bytes, followed_by, ◌>>=◌, done, Flaw}
 use Rattle.judy_pipe.specs.Pipe.{grown}
 use Rattle.judy_shelf.specs.declared.fault.LoadFault.{LoadFault}
 use Rattle.judy_shelf.specs.Reads.{Drawn, cause_of, Nowhere, Reads}
@@ -22,7 +22,7 @@ end_filled filled room piece within long =
 
 module _ (piece : List ℕ) (count left : ℕ) (long : length piece ≡ count) where
   -- The bytes that are left, behind the piece.
-  abbrev pub more_bytes : List ℕ → Result (List ℕ × List ℕ) Fault
+  abbrev pub more_bytes : List ℕ → Result (List ℕ × List ℕ) Flaw
   more_bytes = bytes left >>= (λ rest. done (piece ++ rest))
 
   all_taken : (more : List ℕ) → take (count + left) (piece ++ more) ≡ piece ++ take left more

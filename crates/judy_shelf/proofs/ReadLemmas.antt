@@ -3,7 +3,7 @@ use Rattle.std.proofs.Common.{◌≡◌, ℕ, ◌+◌, ◌<◌, Bool, true, fals
 use Rattle.std.specs.Result.{IsErrAnd}
 use Rattle.std.proofs.lemmas.List.Elements.{All-nil, All-append}
 use Rattle.judy_model.specs.Keys.{IsByteString}
-use Rattle.judy_model.specs.Fields.{Fault, truncated, Part, followed_by, ◌>>=◌, done, checked, field, Behind, Begins}
+use Rattle.judy_model.specs.Fields.{Flaw, truncated, Parser, followed_by, ◌>>=◌, done, checked, field, Behind, Begins}
 use Rattle.judy_pipe.specs.Pipe.{grown}
 use Rattle.judy_pipe.proofs.Moves.{grown-grown}
 use Rattle.judy_shelf.specs.declared.fault.LoadFault.{LoadFault}
@@ -13,7 +13,7 @@ use Rattle.judy_shelf.proofs.WriteLemmas.{grown_nothing}
 
 -- ---- one part behind another
 
-module _ {A B : Type 0} (Wants Also Early Before : List ℕ → Type 0) (part : Part A) (other : Part B) (input : List ℕ) (before after : Drawn) (same : (read : List ℕ) (fault : Fault) → part read ≡ Err fault → other read ≡ Err fault) (also : Wants input → Also input) (early : (read : List ℕ) → Early read → Before read) where
+module _ {A B : Type 0} (Wants Also Early Before : List ℕ → Type 0) (part : Parser A) (other : Parser B) (input : List ℕ) (before after : Drawn) (same : (read : List ℕ) (fault : Flaw) → part read ≡ Err fault → other read ≡ Err fault) (also : Wants input → Also input) (early : (read : List ℕ) → Early read → Before read) where
   -- What stops a part stops all that begins with it.
   pub stops_too : (cause : Cause) → Stops Wants Early part input before after cause → Stops Also Before other input before after cause
   stops_too reader stops = (stops.0, early input stops.1)
@@ -26,10 +26,10 @@ pub nowhere : (Also : List ℕ → Type 0) (input : List ℕ) → Nowhere input 
 nowhere Also input never = absurd never
 
 -- What holds of the bytes behind a part.
-pub begins_then : {A : Type 0} (part : Part A) (value : A) (before mid : Drawn) (first : ReadsValue part value before mid) (Holds : A → List ℕ → Type 0) (input : List ℕ) → Holds value input → Begins part Holds (first.input ++ input)
+pub begins_then : {A : Type 0} (part : Parser A) (value : A) (before mid : Drawn) (first : ReadsValue part value before mid) (Holds : A → List ℕ → Type 0) (input : List ℕ) → Holds value input → Begins part Holds (first.input ++ input)
 begins_then part value before mid first Holds input holds = subst (λ r. Behind r Holds) (sym (first.gives input)) holds
 
-module _ {A B : Type 0} (part : Part A) (rest : A → Part B) where
+module _ {A B : Type 0} (part : Parser A) (rest : A → Parser B) where
   pub fault_within : (Wants Also : List ℕ → Type 0) → ((input : List ℕ) → Wants input → Also input) → (cause : Cause) (before after : Drawn) → ReadsFault Wants part cause before after → ReadsFault Also (part >>= rest) cause before after
   fault_within Wants Also also cause before after read = record {
     input = read.input;
@@ -99,15 +99,15 @@ pub value_done : {A : Type 0} (value : A) (now : Drawn) → ReadsValue (done val
 value_done value now = record { input = []; given = sym (grown_nothing now.given); bytes = All-nil (λ byte. byte < 256); failures = refl; gives = λ more. refl; cut_before = no_fronts (λ front. done value front ≡ Err truncated) }
 
 -- What is answered where the reading was stopped.
-pub reads_err : {X A : Type 0} {Wants : List ℕ → Type 0} (view : X → A) (part : Part A) (before after : Drawn) (fault : LoadFault) (result : Result X LoadFault) → IsErrAnd result (λ told. told ≡ fault) → ReadsFault Wants part (cause_of fault) before after → ReadsWanting Wants view part before result after
+pub reads_err : {X A : Type 0} {Wants : List ℕ → Type 0} (view : X → A) (part : Parser A) (before after : Drawn) (fault : LoadFault) (result : Result X LoadFault) → IsErrAnd result (λ told. told ≡ fault) → ReadsFault Wants part (cause_of fault) before after → ReadsWanting Wants view part before result after
 reads_err view part before after fault (Ok value) is read = absurd is
 reads_err {Wants = Wants} view part before after fault (Err other) is read = subst (λ f. ReadsFault Wants part (cause_of f) before after) (sym is) read
 
 -- ---- checks
 
-module _ {A : Type 0} (part : Part A) (value : A) (before after : Drawn) (read : ReadsValue part value before after) where
+module _ {A : Type 0} (part : Parser A) (value : A) (before after : Drawn) (read : ReadsValue part value before after) where
   -- A value that passes the check.
-  pub value_passes : (test : A → Bool) (fault : Fault) → test value ≡ true → ReadsValue (field part ((test, fault) ∷ [])) value before after
+  pub value_passes : (test : A → Bool) (fault : Flaw) → test value ≡ true → ReadsValue (field part ((test, fault) ∷ [])) value before after
   value_passes test fault passes = record {
     input = read.input;
     given = read.given;
@@ -118,7 +118,7 @@ module _ {A : Type 0} (part : Part A) (value : A) (before after : Drawn) (read :
   }
 
   -- A value that doesn't pass the first of some checks.
-  pub value_fails : (test : A → Bool) (fault : Fault) (checks : List ((A → Bool) × Fault)) → test value ≡ false → ReadsFault Nowhere (field part ((test, fault) ∷ checks)) (told fault) before after
+  pub value_fails : (test : A → Bool) (fault : Flaw) (checks : List ((A → Bool) × Flaw)) → test value ≡ false → ReadsFault Nowhere (field part ((test, fault) ∷ checks)) (told fault) before after
   value_fails test fault checks fails = record {
     input = read.input;
     given = read.given;
@@ -133,7 +133,7 @@ module _ {A : Type 0} (part : Part A) (value : A) (before after : Drawn) (read :
 -- ---- a whole of which a part is read
 
 -- So far these bytes were read of a whole, and the rest is to come.
-pub record Reading {A : Type 0} (whole rest : Part A) (before now : Drawn) : Type 0 where
+pub record Reading {A : Type 0} (whole rest : Parser A) (before now : Drawn) : Type 0 where
   pub input : List ℕ
   pub given : now.given ≡ grown before.given input
   pub bytes : IsByteString input
@@ -141,12 +141,12 @@ pub record Reading {A : Type 0} (whole rest : Part A) (before now : Drawn) : Typ
   pub goes : (more : List ℕ) → whole (input ++ more) ≡ rest more
   pub cut_before : OfFronts (λ front. whole front ≡ Err truncated) input
 
-module _ {B : Type 0} (whole : Part B) where
+module _ {B : Type 0} (whole : Parser B) where
   -- Nothing is to come.
   pub reading_end : (value : B) (before now : Drawn) → Reading whole (done value) before now → ReadsValue whole value before now
   reading_end value before now far = record { input = far.input; given = far.given; bytes = far.bytes; failures = far.failures; gives = far.goes; cut_before = far.cut_before }
 
-  module _ (rest : Part B) (before mid after : Drawn) (far : Reading whole rest before mid) where
+  module _ (rest : Parser B) (before mid after : Drawn) (far : Reading whole rest before mid) where
     far_more : (input more : List ℕ) → whole ((far.input ++ input) ++ more) ≡ rest (input ++ more)
     far_more input more = ap whole (append_assoc far.input input more) ∙ far.goes (input ++ more)
 
@@ -182,7 +182,7 @@ module _ {B : Type 0} (whole : Part B) where
 
 -- ---- two checks
 
-module _ {A : Type 0} (part : Part A) (value : A) (before after : Drawn) (read : ReadsValue part value before after) (one two : A → Bool) (fault other : Fault) (first : one value ≡ true) where
+module _ {A : Type 0} (part : Parser A) (value : A) (before after : Drawn) (read : ReadsValue part value before after) (one two : A → Bool) (fault other : Flaw) (first : one value ≡ true) where
   twice : (more : List ℕ) → field part ((one, fault) ∷ (two, other) ∷ []) (read.input ++ more) ≡ cond (two value) (Ok (value, more)) (Err other)
   twice more = ap (λ r. followed_by r (checked ((one, fault) ∷ (two, other) ∷ []))) (read.gives more) ∙ ap (λ b. cond b (cond (two value) (Ok (value, more)) (Err other)) (Err fault)) first
 

@@ -12,10 +12,10 @@ use Rattle.std.proofs.lemmas.Option.{slice_get-map, slice_get_within, get_or_fro
 use Rattle.judy_model.specs.Keys.{byte_order}
 use Rattle.judy_model.specs.Neighbours.{first, next}
 use Rattle.judy_model.specs.Counts.{rank}
-use Rattle.judy_model.proofs.RankLemmas.{first-slice_get, next-slice_get, count_up_to_at, rank_at}
+use Rattle.judy_model.proofs.lemmas.queries.RankLemmas.{first-slice_get, next-slice_get, count_up_to_at, rank_at}
 use Rattle.std.proofs.lemmas.Option.{same_Some}
 use Rattle.judy_sl.specs.Scans.{value_found}
-use Rattle.judy_model.proofs.Pairs.{find-at}
+use Rattle.judy_model.proofs.lemmas.maps.Pairs.{find-at}
 use Rattle.judy_pipe.specs.Pipe.{grown}
 use Rattle.judy_shelf.specs.Writes.{Sunk, WroteAll, WroteFront}
 use Rattle.judy_shelf.proofs.WriteLemmas.{wrote_both, wrote_second, wrote_first, grown_nothing}

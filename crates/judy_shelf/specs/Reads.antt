@@ -5,7 +5,7 @@ use Rattle.judy_model.specs.Keys.{IsByteString}
 use Rattle.judy_model.specs.Arrays.{ArrayOf, ArrayValue}
 use Rattle.judy_model.specs.Stores.{Store, IsStore, IsRegular}
 use Rattle.judy_model.specs.Fields as fields
-use Rattle.judy_model.specs.Fields.{Fault, Part, ◌>>=◌, done, Begins}
+use Rattle.judy_model.specs.Fields.{Flaw, Parser, ◌>>=◌, done, Begins}
 use Rattle.judy_model.specs.DumpText.{Version}
 use Rattle.judy_model.specs.DumpGrammar as grammar
 use Rattle.judy_model.specs.DumpGrammar.{IsDump}
@@ -34,7 +34,7 @@ pub data Cause : Type 0 where
   -- the bytes ended
   cut : Cause
   -- a fault of the grammar
-  told : Fault → Cause
+  told : Flaw → Cause
 
 -- The cause of a fault of the code.
 abbrev pub cause_of : LoadFault → Cause
@@ -54,7 +54,7 @@ cause_of load.NoMemory = memory
 cause_of load.BadPrefix = told fields.bad_prefix
 
 -- A part has a fault, whatever comes after the bytes.
-abbrev pub IsFaulty : {A : Type 0} → Part A → List ℕ → Fault → Type 0
+abbrev pub IsFaulty : {A : Type 0} → Parser A → List ℕ → Flaw → Type 0
 IsFaulty part input fault = (more : List ℕ) → part (input ++ more) ≡ Err fault
 
 -- This holds of each proper front of bytes.
@@ -62,20 +62,20 @@ abbrev pub OfFronts : (List ℕ → Type 0) → List ℕ → Type 0
 OfFronts Holds input = (front later : List ℕ) (byte : ℕ) → input ≡ front ++ byte ∷ later → Holds front
 
 -- A part has no fault, or finds the bytes cut off.
-abbrev pub IsWholeOrCut : {A : Type 0} → Result (A × List ℕ) Fault → Type 0
+abbrev pub IsWholeOrCut : {A : Type 0} → Result (A × List ℕ) Flaw → Type 0
 IsWholeOrCut (Ok read) = Unit {0}
 IsWholeOrCut (Err fault) = fault ≡ fields.truncated
 
 -- What stopped the reading of a part behind these bytes. Told are the bytes behind which memory may be wanted, and
 -- what holds of those that were read before a fault or a failure of the reader.
-abbrev pub Stops : {A : Type 0} → (List ℕ → Type 0) → (List ℕ → Type 0) → Part A → List ℕ → Drawn → Drawn → Cause → Type 0
+abbrev pub Stops : {A : Type 0} → (List ℕ → Type 0) → (List ℕ → Type 0) → Parser A → List ℕ → Drawn → Drawn → Cause → Type 0
 Stops Wants Early part input before after reader = (after.failures ≡ before.failures + 1) × Early input
 Stops Wants Early part input before after memory = (after.failures ≡ before.failures) × Wants input
 Stops Wants Early part input before after cut = (after.failures ≡ before.failures) × IfSome after.ended (λ ended. ended ≡ true) × (part input ≡ Err fields.truncated)
 Stops Wants Early part input before after (told fault) = (after.failures ≡ before.failures) × IsFaulty part input fault × OfFronts Early input
 
 -- A part was read whole, and no byte behind it, and gives a value, whatever comes after it.
-pub record ReadsValue {A : Type 0} (part : Part A) (value : A) (before after : Drawn) : Type 0 where
+pub record ReadsValue {A : Type 0} (part : Parser A) (value : A) (before after : Drawn) : Type 0 where
   pub input : List ℕ
   pub given : after.given ≡ grown before.given input
   pub bytes : IsByteString input
@@ -84,14 +84,14 @@ pub record ReadsValue {A : Type 0} (part : Part A) (value : A) (before after : D
   pub cut_before : OfFronts (λ front. part front ≡ Err fields.truncated) input
 
 -- The reading of a part was stopped.
-pub record StopsSo {A : Type 0} (Wants Early : List ℕ → Type 0) (part : Part A) (cause : Cause) (before after : Drawn) : Type 0 where
+pub record StopsSo {A : Type 0} (Wants Early : List ℕ → Type 0) (part : Parser A) (cause : Cause) (before after : Drawn) : Type 0 where
   pub input : List ℕ
   pub given : after.given ≡ grown before.given input
   pub bytes : IsByteString input
   pub stops : Stops Wants Early part input before after cause
 
 -- The same of a part that is cut off where fewer bytes are there.
-abbrev pub ReadsFault : {A : Type 0} → (List ℕ → Type 0) → Part A → Cause → Drawn → Drawn → Type 0
+abbrev pub ReadsFault : {A : Type 0} → (List ℕ → Type 0) → Parser A → Cause → Drawn → Drawn → Type 0
 ReadsFault Wants part cause before after = StopsSo Wants (λ front. part front ≡ Err fields.truncated) part cause before after
 
 -- The same of the end of the bytes, which is there where fewer are.
@@ -99,7 +99,7 @@ abbrev pub EndFault : Cause → Drawn → Drawn → Type 0
 EndFault cause before after = StopsSo (λ input. ⊥) (λ front. IsWholeOrCut (fields.end front)) fields.end cause before after
 
 -- One or the other, by what was answered.
-abbrev pub ReadsWanting : {X A : Type 0} → (List ℕ → Type 0) → (X → A) → Part A → Drawn → Result X LoadFault → Drawn → Type 0
+abbrev pub ReadsWanting : {X A : Type 0} → (List ℕ → Type 0) → (X → A) → Parser A → Drawn → Result X LoadFault → Drawn → Type 0
 ReadsWanting Wants view part before (Ok value) after = ReadsValue part (view value) before after
 ReadsWanting Wants view part before (Err fault) after = ReadsFault Wants part (cause_of fault) before after
 
@@ -108,7 +108,7 @@ abbrev pub Nowhere : List ℕ → Type 0
 Nowhere input = ⊥
 
 -- A part for which no memory is wanted.
-abbrev pub Reads : {X A : Type 0} → (X → A) → Part A → Drawn → Result X LoadFault → Drawn → Type 0
+abbrev pub Reads : {X A : Type 0} → (X → A) → Parser A → Drawn → Result X LoadFault → Drawn → Type 0
 Reads view part before result after = ReadsWanting Nowhere view part before result after
 
 -- One more byte came, or the end; or the source failed.
@@ -125,11 +125,11 @@ Ends before (Err fault) after = EndFault (cause_of fault) before after
 -- ---- where memory is wanted
 
 -- Behind the first of so many, the second, and so on, or before all of them, and nothing after it.
-abbrev pub AtSome : {A : Type 0} → (ℕ → Part A) → ℕ → List ℕ → Type 0
+abbrev pub AtSome : {A : Type 0} → (ℕ → Parser A) → ℕ → List ℕ → Type 0
 AtSome part count input = (listed : ℕ) × (listed ≤ count) × Begins (part listed) (λ _ rest. rest ≡ []) input
 
 -- So many entries of an array were read, behind each of which memory may be wanted, and gave the array that holds them.
-abbrev pub Fills : {K X : Type 0} {map_order : K → K → Ordering} → (ArrayOf map_order → ArrayValue) → ℕ → (ℕ → Part (List (K × ℕ))) → ℕ → (X → ArrayValue) → Drawn → Result X LoadFault → Drawn → Type 0
+abbrev pub Fills : {K X : Type 0} {map_order : K → K → Ordering} → (ArrayOf map_order → ArrayValue) → ℕ → (ℕ → Parser (List (K × ℕ))) → ℕ → (X → ArrayValue) → Drawn → Result X LoadFault → Drawn → Type 0
 Fills kind limit entries count view before result after = ReadsWanting (AtSome (λ listed. grammar.filled kind limit (entries listed)) count) view (grammar.filled kind limit (entries count)) before result after
 
 -- Behind a key count, and behind each entry.
@@ -155,13 +155,13 @@ InStore = Begins grammar.begins InCounted
 -- ---- a whole dump
 
 -- The number of arrays, and these.
-abbrev pub counted : Version → Part Store
+abbrev pub counted : Version → Parser Store
 counted version = do
   count ← grammar.array_count
   grammar.arrays version [] count
 
 -- All of a dump but its end.
-abbrev pub up_to_end : Part (Version × Store)
+abbrev pub up_to_end : Parser (Version × Store)
 up_to_end = do
   version ← grammar.begins
   made ← counted version

@@ -27,14 +27,13 @@ pub struct Run<'a> {
     pub entries: Entries<'a>,
 }
 
-// The entries of a level beyond the one of a piece.
-fn entries_beyond(level: &WordMap, piece: u64) -> Entries<'_>
+// Lets entries be those of a level beyond the one of a piece. They are made in their place, since a move of them takes longer than most steps.
+fn go_beyond<'a>(level: &'a WordMap, piece: u64, entries: &mut Entries<'a>)
     requires { IsTrue (contains_key level.now.map piece) }
-    ensures { AreBeyond level.now.map piece result }
+    ensures { AreBeyond level.now.map piece entries.new }
 {
-    let mut entries = level.array().iter_from(piece);
+    level.array().restart_from(piece, entries);
     entries.next();
-    entries
 }
 
 impl Arena {
@@ -89,7 +88,7 @@ impl Arena {
                 ChildRef::Level(next) => {
                     above.push(Some(run.level));
                     run.level = next;
-                    run.entries = next.iter();
+                    next.array().restart(&mut run.entries);
                     let first = run.entries.next()?;
                     piece = first.0;
                     value = first.1;
@@ -121,7 +120,8 @@ impl Arena {
                 return Some(entry);
             }
             run.level = above.pop()??;
-            run.entries = entries_beyond(run.level, first_piece(&key[8 * above.len()..]));
+            let piece = first_piece(&key[8 * above.len()..]);
+            go_beyond(run.level, piece, &mut run.entries);
         }
     }
 
@@ -142,10 +142,9 @@ impl Arena {
     {
         let turn = self.turn(Look::upward(itself), key.as_slice())?;
         let level = self.level_behind(key.as_slice(), turn.depth, above);
-        let mut made = Run {
-            level,
-            entries: entries_beyond(level, turn.piece),
-        };
+        let mut entries = level.iter();
+        go_beyond(level, turn.piece, &mut entries);
+        let mut made = Run { level, entries };
         let value = self.climb(itself, (turn.piece, turn.value), above, &mut made, key);
         *run = Some(made);
         value

@@ -225,7 +225,7 @@ impl Arena {
 
     // The same, where the last level on its way has it: each level is asked once, and the last one once more where it
     // leads to a tail that isn't met. To a look above a level tells both at once, so that it needs none of this.
-    #[tactic(auto, using(crate::proofs::PieceLemmas::text_from_bytes))]
+    #[tactic(auto, using(crate::proofs::lemmas::pieces::PieceLemmas::text_from_bytes))]
     fn last_turn(&self, look: Look, key: &[u8]) -> Option<Turn>
         requires is_arena { IsArena self.now }
         requires without_zero { All (λ byte. byte ≢ 0) key.now }
@@ -270,7 +270,7 @@ impl Arena {
     }
 
     // The same, on whichever level of its way it is: each is asked for the piece and for what is beyond it.
-    #[tactic(auto, using(crate::proofs::PieceLemmas::text_from_bytes))]
+    #[tactic(auto, using(crate::proofs::lemmas::pieces::PieceLemmas::text_from_bytes))]
     fn any_turn(&self, look: Look, key: &[u8]) -> Option<Turn>
         requires is_arena { IsArena self.now }
         requires without_zero { All (λ byte. byte ≢ 0) key.now }

@@ -9,8 +9,8 @@ use Rattle.std.proofs.lemmas.List.{take-append-drop, set_split, drop_all, length
 use Rattle.std.proofs.lemmas.List.Concat.{flat_map-append}
 use Rattle.std.proofs.lemmas.List.Sums.{sum_by-cons, sum_by-append}
 use Rattle.judy_model.specs.Keys.{word_order}
-use Rattle.judy_model.proofs.Pairs.{first_below, rest_sorted}
-use Rattle.judy_model.proofs.Tests.{left_of, right_of, both}
+use Rattle.judy_model.proofs.lemmas.maps.Pairs.{first_below, rest_sorted}
+use Rattle.judy_model.proofs.lemmas.maps.Tests.{left_of, right_of, both}
 use Rattle.judy_sums.specs.Pairs.{Pairs, sum_of, sum_below, part_below, number_in, without}
 use Rattle.judy_sums.specs.Chunks.{AllBelow, AllFrom, Ascends, AllFilled, AreChunks, BelongsTo, BeginsBy, BeginsAbove, joined}
 use Rattle.judy_sums.proofs.PairLemmas.{tail_ascends, below_more, from_less, before_pair, from_first, find_none, find_front, find_behind, put_front, put_behind, without_front, without_behind, sum_front, sum_behind}

@@ -5,7 +5,7 @@ use Rattle.std.specs.FinMap.{FinMap, entries}
 use Rattle.std.proofs.lemmas.List.Sums.{sum_by-cons}
 use Rattle.judy_model.specs.Keys.{word_order}
 use Rattle.judy_model.specs.Counts.{rank}
-use Rattle.judy_model.proofs.WordOrder.{is_lt_word}
+use Rattle.judy_model.proofs.lemmas.orders.WordOrder.{is_lt_word}
 use Rattle.judy_sums.specs.Pairs.{Pairs, sum_of, sum_below, part_below}
 use Rattle.judy_sums.specs.Levels.{entries_below, extras, AreWeighed, keys_below}
 

@@ -9,8 +9,8 @@ use Rattle.std.proofs.lemmas.Bool.{lt-ltb, le-ltb, cases_lt}
 use Rattle.std.proofs.lemmas.List.Sums.{sum_by-take-drop, sum_by-cons}
 use Rattle.std.proofs.lemmas.Option.{none-some, same_Some}
 use Rattle.judy_model.specs.Keys.{word_order}
-use Rattle.judy_model.proofs.Pairs.{first_below, rest_sorted}
-use Rattle.judy_model.proofs.WordOrder.{lt_from_word, less_word}
+use Rattle.judy_model.proofs.lemmas.maps.Pairs.{first_below, rest_sorted}
+use Rattle.judy_model.proofs.lemmas.orders.WordOrder.{lt_from_word, less_word}
 use Rattle.judy_sums.specs.Pairs.{Pairs, sum_of, part_below, sum_below, number_in, without}
 use Rattle.judy_sums.specs.Chunks.{AllBelow, AllFrom, Ascends, IsPlace}
 

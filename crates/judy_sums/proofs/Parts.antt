@@ -13,9 +13,9 @@ use Rattle.std.proofs.lemmas.List.Elements.{filter-append}
 use Rattle.std.proofs.lemmas.List.Sums.{sum_by-cons}
 use Rattle.std.proofs.lemmas.Option.{none-some}
 use Rattle.judy_model.specs.Keys.{word_order}
-use Rattle.judy_model.proofs.Orders.{same_from_tie}
-use Rattle.judy_model.proofs.Pairs.{first_below, rest_sorted}
-use Rattle.judy_model.proofs.Tests.{both, left_of, right_of, is_Less}
+use Rattle.judy_model.proofs.lemmas.orders.Orders.{same_from_tie}
+use Rattle.judy_model.proofs.lemmas.maps.Pairs.{first_below, rest_sorted}
+use Rattle.judy_model.proofs.lemmas.maps.Tests.{both, left_of, right_of, is_Less}
 use Rattle.judy_sums.specs.Pairs.{Pairs}
 use Rattle.judy_sums.specs.Chunks.{AllFrom, Ascends}
 use Rattle.judy_sums.specs.Levels.{keys_below, part_of, part_len, ArePartedBy}

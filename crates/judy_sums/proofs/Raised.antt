@@ -7,7 +7,7 @@ use Rattle.std.proofs.lemmas.Bool.{eqb-true, eqb-false, ne_eqb}
 use Rattle.std.proofs.lemmas.List.Sums.{sum_by-cons}
 use Rattle.std.proofs.lemmas.Option.{none-some, same_Some}
 use Rattle.judy_model.specs.Keys.{word_order}
-use Rattle.judy_model.proofs.Orders.{same_from_tie}
+use Rattle.judy_model.proofs.lemmas.orders.Orders.{same_from_tie}
 use Rattle.judy_sums.specs.Pairs.{Pairs, sum_of, number_at, raised, lowered}
 use Rattle.judy_sums.proofs.Parts.{each_found}
 use Rattle.std.specs.List.{AllByRecursion}

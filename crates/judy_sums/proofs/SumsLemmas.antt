@@ -3,7 +3,7 @@ use Rattle.std.proofs.Common.{◌≡◌, ◌==◌, ◌+◌, ◌-◌, ℕ, List, 
 use Rattle.std.specs.Cmp.{nat_cmp_total}
 use Rattle.std.specs.FinMap.{FinMap, entries, get, len, insert, remove, from_sorted, find, put, entries-from_sorted, get-from_sorted, nat_cmp-IsAntisymmetric}
 use Rattle.judy_model.specs.Keys.{word_order}
-use Rattle.judy_model.proofs.SortedMaps.{len-from_sorted, insert-from_sorted, remove-from_sorted}
+use Rattle.judy_model.proofs.lemmas.maps.SortedMaps.{len-from_sorted, insert-from_sorted, remove-from_sorted}
 use Rattle.judy_sums.specs.Pairs.{Pairs, number_in, number_at, without, put_less, raised, lowered}
 use Rattle.judy_sums.specs.Chunks.{AreChunks, joined}
 

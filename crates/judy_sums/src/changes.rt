@@ -60,6 +60,7 @@ pub fn part(chunks: &mut Vec<Chunk>, at: usize) -> Result<(), AllocError>
     requires within { at < length chunks.old.items }
     requires long { 2 ≤ length (get_or chunks.old.items at []) }
     ensures are { AreChunks chunks.new.items }
+    ensures parted { OnOk result (length chunks.new.items ≡ length chunks.old.items + 1) }
     ensures same { joined chunks.new.items ≡ joined chunks.old.items }
 {
     chunks.reserve(1)?;

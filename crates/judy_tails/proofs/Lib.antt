@@ -2,3 +2,4 @@ pub mod TailLemmas
 pub mod ListLemmas
 pub mod LengthLemmas
 pub mod Writing
+pub mod LastBytes

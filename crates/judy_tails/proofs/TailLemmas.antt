@@ -1,14 +1,14 @@
 -- One record as a tail.
-use Rattle.std.proofs.Common.{◌≡◌, ◌≢◌, ◌+◌, ◌*◌, ◌<◌, ◌%◌, ◌/◌, ◌^◌, ◌≤◌, ℕ, zero, suc, List, [], ◌∷◌, ◌++◌, length, take, drop, get_or, true, false, nat_lt, cond, sym, refl, ap, ◌∙◌, subst, arith}
+use Rattle.std.proofs.Common.{◌≡◌, ◌≢◌, ◌+◌, ◌*◌, ◌<◌, ◌%◌, ◌/◌, ◌^◌, ◌≤◌, ◌-◌, ℕ, zero, suc, List, [], ◌∷◌, ◌++◌, length, take, drop, get_or, true, false, nat_lt, cond, sym, refl, ap, ◌∙◌, subst, arith}
 use Rattle.std.specs.List.{flat_map, filter}
 use Rattle.std.specs.Int.{to_be_bytes, w64}
 use Rattle.std.proofs.lemmas.Bool.{ltb-true, lt-ltb}
 use Rattle.std.proofs.lemmas.Grind.{flat_map-append}
-use Rattle.std.proofs.lemmas.Nat.{mod_below, div-mul-add}
-use Rattle.std.proofs.Math.Nat.{mod-eq_of_lt}
+use Rattle.std.proofs.lemmas.Nat.{mod_below, div-mul-add, pow-add}
+use Rattle.std.proofs.Math.Nat.{mod-eq_of_lt, mul_assoc, mul-add-mod_self_right}
 use Rattle.std.proofs.lemmas.List.{take_more, take_all, length-append, take-append-drop, append-nil, get_or_default}
 use Rattle.std.proofs.lemmas.List.Elements.{All-nil, All-cons, All-head, All-tail, All-append, filter-append}
-use Rattle.judy_model.proofs.Places.{length-filter-le}
+use Rattle.judy_model.proofs.lemmas.queries.Places.{length-filter-le}
 use Rattle.judy_model.specs.Keys.{IsByteString, byte_order}
 use Rattle.judy_model.specs.WordBytes.{low_bytes}
 use Rattle.judy_records.specs.Texts.{spelled, first_word, words_for, words_of, text_in, EndsWell, IsText}
@@ -17,7 +17,7 @@ use Rattle.judy_records.proofs.BackLemmas.{be-low_bytes}
 use Rattle.judy_records.proofs.OrderLemmas.{order-words, text-bytes, spelled-lt, all-drop}
 use Rattle.judy_records.proofs.PadLemmas.{same-ends, text-ends, full-word}
 use Rattle.judy_records.proofs.TextLemmas.{length-words, words-at}
-use Rattle.judy_model.proofs.ByteLemmas.{length-low_bytes, low_bytes-above}
+use Rattle.judy_model.proofs.lemmas.orders.ByteLemmas.{length-low_bytes, low_bytes-above, unit_pos}
 use Rattle.judy_tails.specs.Inside.{IsPadded, BeginsText}
 
 -- ---- the text that words spell is one
@@ -126,17 +126,8 @@ module _ (bytes : List ℕ) (at : ℕ) (inside : at < length bytes) where
       ap (filter (λ byte. nat_lt 0 byte)) (take_more bytes at 0 inside)
       ∙ filter-append (λ byte. nat_lt 0 byte) (take at bytes) (get_or bytes at 0 ∷ [])
 
-  module _ (some : get_or bytes at 0 ≢ 0) where
-    pub kept-some : kept (at + 1) bytes ≡ kept at bytes ++ get_or bytes at 0 ∷ []
-    kept-some = one-more ∙ ap (λ b. kept at bytes ++ cond b (get_or bytes at 0 ∷ []) []) (lt-ltb 0 (get_or bytes at 0) (omega (arith, some)))
-
-    pub kept-within : length (kept at bytes) < length (filter (λ byte. nat_lt 0 byte) bytes)
-    kept-within =
-        let whole = ap (λ all. length (filter (λ byte. nat_lt 0 byte) all)) (sym (take-append-drop (at + 1) bytes)) ∙ ap length (filter-append (λ byte. nat_lt 0 byte) (take (at + 1) bytes) (drop (at + 1) bytes)) in
-        let parts = length-append (kept (at + 1) bytes) (filter (λ byte. nat_lt 0 byte) (drop (at + 1) bytes)) in
-        let front = ap length kept-some in
-        let one = length-append (kept at bytes) (get_or bytes at 0 ∷ []) in
-        omega (arith, whole, parts, front, one)
+  pub kept-some : get_or bytes at 0 ≢ 0 → kept (at + 1) bytes ≡ kept at bytes ++ get_or bytes at 0 ∷ []
+  kept-some some = one-more ∙ ap (λ b. kept at bytes ++ cond b (get_or bytes at 0 ∷ []) []) (lt-ltb 0 (get_or bytes at 0) (omega (arith, some)))
 
 -- Of zero none is kept.
 zero-kept : (width at : ℕ) → kept at (low_bytes width 0) ≡ []
@@ -173,6 +164,30 @@ unfolding first_word
 text-before word at bytes is (text, are, begins) inside none =
     let low : bytes ≡ low_bytes 8 (spelled 8 text) = is ∙ be-low_bytes word ∙ ap (low_bytes 8) begins in
     ap (kept at) low ∙ kept-before 8 at text are inside (sym (ap (λ bytes. get_or bytes at 0) low) ∙ none) ∙ sym (ap (filter (λ byte. nat_lt 0 byte)) low)
+
+-- From the first zero byte of the word with which a text begins on, all are zero.
+none-behind : (width at : ℕ) (text : List ℕ) → IsText text → at < width → get_or (low_bytes width (spelled width text)) at 0 ≡ 0 → spelled width text % 256 ^ (width - at) ≡ 0
+none-behind zero at text is inside none = absurd (omega (arith, inside))
+none-behind (suc width) at [] is inside none = mod-eq_of_lt (unit_pos (suc width - at))
+none-behind (suc width) zero (byte ∷ text) is inside none =
+    let here = All-head (λ b. (b < 256) × (b ≢ 0)) byte text is in
+    let later = All-tail (λ b. (b < 256) × (b ≢ 0)) byte text is in
+    let first : (byte * 256 ^ width + spelled width text) / 256 ^ width % 256 ≡ byte = ap (λ n. n % 256) (div-mul-add byte (256 ^ width) (spelled width text) (spelled-lt width text (text-bytes text later))) ∙ mod-eq_of_lt here.0 in
+    absurd (here.1 (sym first ∙ none))
+none-behind (suc width) (suc at) (byte ∷ text) is inside none =
+    let later = All-tail (λ b. (b < 256) × (b ≢ 0)) byte text is in
+    let above = low_bytes-above width byte (spelled width text) in
+    let rest = none-behind width at text later (omega (arith, inside)) (sym (ap (λ low. get_or low at 0) above) ∙ none) in
+    let unit = 256 ^ (width - at) in
+    let parts : 256 ^ width ≡ 256 ^ at * unit = ap (λ n. 256 ^ n) (let same : width ≡ at + (width - at) = omega (arith, inside) in same) ∙ pow-add 256 at (width - at) in
+    ap (λ n. (byte * 256 ^ width + spelled width text) % 256 ^ n) (let one_less : suc width - suc at ≡ width - at = omega arith in one_less)
+    ∙ ap (λ n. (n + spelled width text) % unit) (ap (λ n. byte * n) parts ∙ sym (mul_assoc byte (256 ^ at) unit)) ∙ mul-add-mod_self_right (byte * 256 ^ at) unit (spelled width text) ∙ rest
+
+pub zeros-behind : (word at : ℕ) (bytes : List ℕ) → bytes ≡ to_be_bytes w64 word → BeginsText word → at < 8 → get_or bytes at 0 ≡ 0 → word % 256 ^ (8 - at) ≡ 0
+unfolding first_word
+zeros-behind word at bytes is (text, are, begins) inside none =
+    let low : bytes ≡ low_bytes 8 (spelled 8 text) = is ∙ be-low_bytes word ∙ ap (low_bytes 8) begins in
+    ap (λ n. n % 256 ^ (8 - at)) begins ∙ none-behind 8 at text are inside (sym (ap (λ bytes. get_or bytes at 0) low) ∙ none)
 
 pub word-text : (word : ℕ) (bytes : List ℕ) → bytes ≡ to_be_bytes w64 word → text_in (word ∷ []) ≡ filter (λ byte. nat_lt 0 byte) bytes
 unfolding text_in

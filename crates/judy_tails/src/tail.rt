@@ -78,8 +78,8 @@ impl<'a> Tail<'a> {
     }
 }
 
-// Puts the bytes of a text's word behind those of the key, up to its first zero: all eight at once where the last one isn't, since a text's zeros stand at
-// its end.
+// Puts the bytes of a text's word behind those of the key, up to its first zero: all eight where the last one isn't, since a text's zeros stand at its
+// end, and else as many as stand before the lowest bit that is set.
 fn push_bytes<K: KeyWriter>(key: &mut K, word: u64)
     requires room { length (K.written key.old) + length (text_in (word ∷ [])) ≤ LONGEST_KEY }
     requires full { word % 256 ≢ 0 → length (text_in (word ∷ [])) ≡ 8 }
@@ -90,12 +90,7 @@ fn push_bytes<K: KeyWriter>(key: &mut K, word: u64)
     let bytes = word.to_be_bytes();
     if word % 256 != 0 {
         key.put_eight(&bytes);
-        return;
-    }
-    for byte in bytes {
-        if byte == 0 {
-            return;
-        }
-        key.put(byte);
+    } else {
+        key.put_first(&bytes, 8 - word.trailing_zeros() as usize / 8);
     }
 }

@@ -38,6 +38,13 @@ pub trait KeyWriter {
         requires { length (written self.old) + 8 ≤ LONGEST_KEY }
         ensures written { written self.new ≡ written self.old ++ bytes.now }
         ensures beyond { StaysBeyond written beyond self.old self.new };
+
+    /// Puts the first so many of eight bytes behind the key.
+    fn put_first(&mut self, bytes: &[u8; 8], count: usize)
+        requires count { count ≤ 8 }
+        requires room { length (written self.old) + count ≤ LONGEST_KEY }
+        ensures written { written self.new ≡ written self.old ++ take count bytes.now }
+        ensures beyond { StaysBeyond written beyond self.old self.new };
 }
 
 /// A buffer of its own, which ends with the key.
@@ -59,6 +66,14 @@ impl KeyWriter for ArrayVec<u8, LONGEST_KEY> {
     #[inline(always)]
     fn put_eight(&mut self, bytes: &[u8; 8]) {
         match self.try_extend_from_slice(bytes) {
+            Ok(_) => {}
+            Err(_) => unreachable!(),
+        }
+    }
+
+    #[inline(always)]
+    fn put_first(&mut self, bytes: &[u8; 8], count: usize) {
+        match self.try_extend_from_slice(&bytes[..count]) {
             Ok(_) => {}
             Err(_) => unreachable!(),
         }
@@ -118,6 +133,12 @@ impl<'a> KeyWriter for KeyFront<'a> {
     fn put_eight(&mut self, bytes: &[u8; 8]) {
         self.buffer[self.len..self.len + 8].copy_from_slice(bytes);
         self.len += 8;
+    }
+
+    #[inline(always)]
+    fn put_first(&mut self, bytes: &[u8; 8], count: usize) {
+        self.buffer[self.len..self.len + count].copy_from_slice(&bytes[..count]);
+        self.len += count;
     }
 }
 
@@ -185,5 +206,18 @@ impl KeyWriter for KeyRoom {
         let mut front = KeyFront::new(&mut self.bytes, self.len);
         front.put_eight(bytes);
         self.len = front.len();
+    }
+
+    // All eight are written where there is room for them: what stands behind the key is nobody's, and how many belong to it isn't asked.
+    #[inline(always)]
+    fn put_first(&mut self, bytes: &[u8; 8], count: usize) {
+        let mut front = KeyFront::new(&mut self.bytes, self.len);
+        if front.len() + 8 <= LONGEST_KEY {
+            front.put_eight(bytes);
+            self.len += count;
+        } else {
+            front.put_first(bytes, count);
+            self.len = front.len();
+        }
     }
 }

@@ -4,7 +4,7 @@
 use crate::changes::Change;
 use crate::nodes::{Counts, same_shape};
 use crate::plain::same_answer;
-use judy_leaf::Width;
+use judy_leaf::ValueWords;
 use judy_node::Shape;
 use judy_word::{Judy1, JudyL};
 use std::alloc::{AllocError, Global};
@@ -86,7 +86,12 @@ pub(crate) fn check_array<A: Array>(
             Change::In(keys) => (keys, true),
             Change::Out(keys) => (keys, false),
         };
-        change_keys(rt, &mut array, &keys.pairs::<Width<0>>(rt, alloc)?, put);
+        change_keys(
+            rt,
+            &mut array,
+            &keys.pairs::<ValueWords<0>>(rt, alloc)?,
+            put,
+        );
         same_shape(rt, array.nodes().0, *counts);
     }
     Ok(())

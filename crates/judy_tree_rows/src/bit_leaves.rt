@@ -3,19 +3,19 @@
 use crate::any_leaf::{AnyLeaf, Kind};
 use crate::leaves::check_kind;
 use crate::plain::same;
-use judy_leaf::{BitLeafOf, BitRef, Width};
+use judy_leaf::{BitLeafOf, BitRef, ValueWords};
 use std::alloc::AllocError;
 use std::process::Abort;
 use std::test::Fail;
 
 #[test]
 fn bitmap_leaves_of_sets(rt: HostRuntime) -> Result<(), AllocError> {
-    check_kind::<Width<0>>(&rt, rt.alloc(), Kind::Bitmap, 3)
+    check_kind::<ValueWords<0>>(&rt, rt.alloc(), Kind::Bitmap, 3)
 }
 
 #[test]
 fn bitmap_leaves_of_maps(rt: HostRuntime) -> Result<(), AllocError> {
-    check_kind::<Width<1>>(&rt, rt.alloc(), Kind::Bitmap, 3)
+    check_kind::<ValueWords<1>>(&rt, rt.alloc(), Kind::Bitmap, 3)
 }
 
 // Keys on both sides of each border between two words of bits, told by their lowest bytes.
@@ -29,7 +29,7 @@ fn gaps_at_word_borders(rt: HostRuntime) -> Result<(), Fail> {
         (0x12bf, 14),
         (0x12c0, 15),
     ];
-    let leaf = BitLeafOf::<Width<1>>::from_sorted(rt.alloc(), 2, &pairs)?;
+    let leaf = BitLeafOf::<ValueWords<1>>::from_sorted(rt.alloc(), 2, &pairs)?;
     let told = [
         (63, 10),
         (64, 11),
@@ -63,7 +63,7 @@ const NEIGHBOURS: [[u64; 5]; 13] = [
 ];
 
 // Compares what a bitmap leaf of keys without values answers of a word.
-fn check_neighbours(rt: &impl Abort, leaf: BitRef<'_, Width<0>>, wanted: [u64; 5]) {
+fn check_neighbours(rt: &impl Abort, leaf: BitRef<'_, ValueWords<0>>, wanted: [u64; 5]) {
     let [word, next, previous, next_absent, previous_absent] = wanted;
     same_key(rt, leaf.at_or_after(word), next, word);
     same_key(rt, leaf.at_or_before(word), previous, word);
@@ -86,7 +86,7 @@ fn same_byte(rt: &impl Abort, found: Option<u64>, wanted: u64, word: u64) {
 #[test]
 fn neighbours_at_word_borders(rt: HostRuntime) -> Result<(), Fail> {
     let pairs = [(63, 0), (64, 0), (127, 0), (128, 0), (191, 0), (192, 0)];
-    let leaf = BitLeafOf::<Width<0>>::from_sorted(rt.alloc(), 1, &pairs)?;
+    let leaf = BitLeafOf::<ValueWords<0>>::from_sorted(rt.alloc(), 1, &pairs)?;
     for wanted in NEIGHBOURS {
         check_neighbours(&rt, leaf.reading(), wanted);
     }

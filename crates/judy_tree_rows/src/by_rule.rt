@@ -1,4 +1,4 @@
-//! How many nodes of each kind the rule gives a sorted list of keys, counted plainly: the list is cut into groups until each is one node.
+//! How many nodes of each kind the rule gives a sorted list of keys, counted plainly: the list is cut into buckets until each is one node.
 
 ghost use Rattle.std.specs.Prelude.{◌<◌, ◌≤◌};
 
@@ -9,7 +9,7 @@ use std::alloc::{AllocError, Global};
 use std::process::Abort;
 
 // Keys of one node, and how many of their lowest bytes are its own.
-type Group<'a> = (&'a [(u64, u64)], u8);
+type Bucket<'a> = (&'a [(u64, u64)], u8);
 
 // The byte of a key at a place, counted from the highest.
 fn byte(key: u64, place: u8) -> Option<u8> {
@@ -35,7 +35,7 @@ fn count(counts: &mut Counts, kind: usize)
 
 // Counts the branch whose children have different bytes at a place, and keeps their keys for later.
 fn split<'a>(
-    groups: &mut Vec<Group<'a>>,
+    buckets: &mut Vec<Bucket<'a>>,
     counts: &mut Counts,
     pairs: &'a [(u64, u64)],
     place: u8,
@@ -43,8 +43,8 @@ fn split<'a>(
     requires { place < 7 }
 {
     let mut children = 0u64;
-    for group in pairs.chunk_by(|one, other| byte(one.0, place) == byte(other.0, place)) {
-        groups.push((group, 7 - place))?;
+    for bucket in pairs.chunk_by(|one, other| byte(one.0, place) == byte(other.0, place)) {
+        buckets.push((bucket, 7 - place))?;
         children = children.wrapping_add(1);
     }
     match children {
@@ -57,7 +57,7 @@ fn split<'a>(
 
 // Counts the node of keys.
 fn count_node<'a, V: Words + Drop>(
-    groups: &mut Vec<Group<'a>>,
+    buckets: &mut Vec<Bucket<'a>>,
     counts: &mut Counts,
     pairs: &'a [(u64, u64)],
     width: u8,
@@ -73,7 +73,7 @@ fn count_node<'a, V: Words + Drop>(
         count(counts, 1);
     } else {
         match first_difference(pairs) {
-            Some(place) if place < 7 => return split(groups, counts, pairs, place),
+            Some(place) if place < 7 => return split(buckets, counts, pairs, place),
             _ => count(counts, 2),
         }
     }
@@ -87,14 +87,14 @@ pub(crate) fn counts_by_rule<V: Words + Drop>(
     pairs: &[(u64, u64)],
 ) -> Result<Counts, AllocError> {
     let mut counts = [0; 6];
-    let mut groups = vec![in alloc; (pairs, 8)]?;
+    let mut buckets = vec![in alloc; (pairs, 8)]?;
     for _ in 0..=pairs.len().saturating_mul(2) {
-        let Some((group, width)) = groups.pop() else {
+        let Some((bucket, width)) = buckets.pop() else {
             break;
         };
         assert!(rt; width >= 1);
-        count_node::<V>(&mut groups, &mut counts, group, width)?;
+        count_node::<V>(&mut buckets, &mut counts, bucket, width)?;
     }
-    assert!(rt; groups.is_empty());
+    assert!(rt; buckets.is_empty());
     Ok(counts)
 }

@@ -8,7 +8,7 @@ use crate::nodes::{Counts, Grid, check_pairs, same_shape, tree_of};
 use crate::plain::{note, same};
 use crate::random_trees::check_queries;
 use judy_change::{Removed, insert, insert_with, remove, slot};
-use judy_leaf::{Width, Words};
+use judy_leaf::{ValueWords, Words};
 use judy_node::{NodeOf, Shape};
 use judy_unmetered::UNMETERED;
 use judy_word::{Judy1, JudyL};
@@ -183,7 +183,7 @@ fn leaf_and_bitmap_leaf(rt: HostRuntime) -> Result<(), Fail> {
         (Change::In(Grid::run(0, Some(32))), [0, 0, 1, 0, 0, 0]),
         (Change::Out(Grid::run(0, Some(32))), [0, 1, 0, 0, 0, 0]),
     ];
-    check_changes::<Width<0>>(&rt, rt.alloc(), &set)?;
+    check_changes::<ValueWords<0>>(&rt, rt.alloc(), &set)?;
     check_array::<Judy1>(&rt, rt.alloc(), &set)?;
     Ok(())
 }
@@ -196,9 +196,9 @@ fn skip_and_merge(rt: HostRuntime) -> Result<(), Fail> {
         (Change::In(far), [1, 0, 1, 1, 0, 0]),
         (Change::Out(far), [0, 0, 1, 0, 0, 0]),
     ];
-    check_changes::<Width<0>>(&rt, rt.alloc(), &set)?;
+    check_changes::<ValueWords<0>>(&rt, rt.alloc(), &set)?;
     check_array::<Judy1>(&rt, rt.alloc(), &set)?;
-    let pairs = Grid::run(33, Some(1 << 56)).pairs::<Width<0>>(&rt, rt.alloc())?;
+    let pairs = Grid::run(33, Some(1 << 56)).pairs::<ValueWords<0>>(&rt, rt.alloc())?;
     let set = set_of(&rt, rt.alloc(), &pairs);
     check_pairs(&rt, rt.alloc(), set.root(), &pairs)?;
     Ok(())
@@ -214,7 +214,7 @@ fn branch_forms(rt: HostRuntime) -> Result<(), Fail> {
             [0, 7, 0, 1, 0, 0],
         ),
     ];
-    check_changes::<Width<0>>(&rt, rt.alloc(), &eight)?;
+    check_changes::<ValueWords<0>>(&rt, rt.alloc(), &eight)?;
     check_array::<Judy1>(&rt, rt.alloc(), &eight)?;
     let full = [
         (
@@ -226,16 +226,16 @@ fn branch_forms(rt: HostRuntime) -> Result<(), Fail> {
             [127, 0, 0, 0, 1, 0],
         ),
     ];
-    check_changes::<Width<0>>(&rt, rt.alloc(), &full)?;
+    check_changes::<ValueWords<0>>(&rt, rt.alloc(), &full)?;
     check_array::<Judy1>(&rt, rt.alloc(), &full)?;
     let near = [
         (Change::In(Grid::rows(5, 256, 8, None)), [5, 0, 0, 1, 0, 0]),
         (Change::In(Grid::run(0, Some(8))), [4, 1, 0, 1, 0, 0]),
     ];
-    check_changes::<Width<0>>(&rt, rt.alloc(), &near)?;
+    check_changes::<ValueWords<0>>(&rt, rt.alloc(), &near)?;
     check_array::<Judy1>(&rt, rt.alloc(), &near)?;
     let map = [(Change::In(Grid::rows(5, 256, 8, None)), [0, 5, 0, 1, 0, 0])];
-    check_changes::<Width<1>>(&rt, rt.alloc(), &map)?;
+    check_changes::<ValueWords<1>>(&rt, rt.alloc(), &map)?;
     check_array::<JudyL>(&rt, rt.alloc(), &map)?;
     Ok(())
 }
@@ -246,7 +246,7 @@ fn full_ranges(rt: HostRuntime) -> Result<(), Fail> {
         (Change::In(Grid::run(256, None)), [0, 0, 1, 0, 0, 0]),
         (Change::In(Grid::run(512, None)), [0, 0, 2, 1, 0, 0]),
     ];
-    check_changes::<Width<0>>(&rt, rt.alloc(), &set)?;
+    check_changes::<ValueWords<0>>(&rt, rt.alloc(), &set)?;
     check_array::<Judy1>(&rt, rt.alloc(), &set)?;
     Ok(())
 }
@@ -266,7 +266,7 @@ fn a_branch_of_256_children(rt: HostRuntime) -> Result<(), Fail> {
         (Change::In(last), [255, 1, 0, 0, 0, 1]),
         (Change::Out(second), [256, 0, 0, 0, 0, 1]),
     ];
-    check_changes::<Width<1>>(&rt, rt.alloc(), &map)?;
+    check_changes::<ValueWords<1>>(&rt, rt.alloc(), &map)?;
     Ok(())
 }
 
@@ -298,8 +298,8 @@ fn histories(rt: HostRuntime) -> Result<(), Fail> {
         0x0303_0303_0303_0303,
         u64::MAX,
     ] {
-        check_history::<Width<0>>(&rt, rt.alloc(), &mut numbers, bits)?;
-        check_history::<Width<1>>(&rt, rt.alloc(), &mut numbers, bits)?;
+        check_history::<ValueWords<0>>(&rt, rt.alloc(), &mut numbers, bits)?;
+        check_history::<ValueWords<1>>(&rt, rt.alloc(), &mut numbers, bits)?;
     }
     Ok(())
 }

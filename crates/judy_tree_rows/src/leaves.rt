@@ -6,7 +6,7 @@ ghost use Rattle.std.specs.Prelude.{◌≡◌, ◌<◌, ◌≤◌, ◌^◌};
 use crate::any_leaf::{AnyLeaf, Kind};
 use crate::nodes::ascends;
 use crate::plain::{note, same_answer};
-use judy_leaf::{LeafOf, Spare, Width, Words};
+use judy_leaf::{LeafOf, Spare, ValueWords, Words};
 use std::alloc::{AllocError, Global};
 use std::process::Abort;
 
@@ -180,12 +180,12 @@ fn check_widths<V: Words + Drop>(
 
 #[test]
 fn leaves_and_immediates_of_sets(rt: HostRuntime) -> Result<(), AllocError> {
-    check_widths::<Width<0>>(&rt, rt.alloc(), [Kind::Plain, Kind::Immediate])
+    check_widths::<ValueWords<0>>(&rt, rt.alloc(), [Kind::Plain, Kind::Immediate])
 }
 
 #[test]
 fn leaves_and_immediates_of_maps(rt: HostRuntime) -> Result<(), AllocError> {
-    check_widths::<Width<1>>(&rt, rt.alloc(), [Kind::Plain, Kind::Immediate])
+    check_widths::<ValueWords<1>>(&rt, rt.alloc(), [Kind::Plain, Kind::Immediate])
 }
 
 // A leaf of sorted pairs answers for them.
@@ -209,10 +209,10 @@ fn check_sorted<V: Words + Drop>(
 
 #[test]
 fn leaves_of_no_pairs_and_one(rt: HostRuntime) -> Result<(), AllocError> {
-    check_sorted::<Width<1>>(&rt, rt.alloc(), 8, &[])?;
-    check_sorted::<Width<0>>(&rt, rt.alloc(), 1, &[(0xff, 0)])?;
-    check_sorted::<Width<1>>(&rt, rt.alloc(), 3, &[(0xff_ffff, 7)])?;
-    check_sorted::<Width<1>>(&rt, rt.alloc(), 8, &[(u64::MAX, 7)])
+    check_sorted::<ValueWords<1>>(&rt, rt.alloc(), 8, &[])?;
+    check_sorted::<ValueWords<0>>(&rt, rt.alloc(), 1, &[(0xff, 0)])?;
+    check_sorted::<ValueWords<1>>(&rt, rt.alloc(), 3, &[(0xff_ffff, 7)])?;
+    check_sorted::<ValueWords<1>>(&rt, rt.alloc(), 8, &[(u64::MAX, 7)])
 }
 
 // A key of one byte, a key of three bytes with its value, and a word with its value.
@@ -274,15 +274,15 @@ fn check_full<V: Words + Drop, F: Fn(Row) -> (u64, u64)>(
 
 #[test]
 fn a_full_set_of_sorted_bytes(rt: HostRuntime) -> Result<(), AllocError> {
-    check_full::<Width<0>, _>(&rt, rt.alloc(), 1, |row| (row.0, 0))
+    check_full::<ValueWords<0>, _>(&rt, rt.alloc(), 1, |row| (row.0, 0))
 }
 
 #[test]
 fn a_full_map_of_sorted_keys_of_three_bytes(rt: HostRuntime) -> Result<(), AllocError> {
-    check_full::<Width<1>, _>(&rt, rt.alloc(), 3, |row| (row.1, row.2))
+    check_full::<ValueWords<1>, _>(&rt, rt.alloc(), 3, |row| (row.1, row.2))
 }
 
 #[test]
 fn a_full_map_of_sorted_words(rt: HostRuntime) -> Result<(), AllocError> {
-    check_full::<Width<1>, _>(&rt, rt.alloc(), 8, |row| (row.3, row.4))
+    check_full::<ValueWords<1>, _>(&rt, rt.alloc(), 8, |row| (row.3, row.4))
 }

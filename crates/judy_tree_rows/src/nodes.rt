@@ -7,7 +7,7 @@ use crate::array_shapes::check_array;
 use crate::changes::Change;
 use crate::leaves::{top_of, value_of};
 use crate::plain::{note, same, same_len, same_pair, same_pairs};
-use judy_leaf::{Width, Words};
+use judy_leaf::{ValueWords, Words};
 use judy_node::{NodeOf, Shape};
 use judy_unmetered::UNMETERED;
 use judy_word::{Judy1, JudyL};
@@ -238,10 +238,10 @@ fn shape_table(rt: HostRuntime) -> Result<(), Fail> {
         (five_and_six, [0, 1, 0, 0, 0, 0]),
         (Grid::run(256, None), [0, 0, 1, 0, 0, 0]),
     ];
-    check_table::<Width<0>>(&rt, rt.alloc(), &both)?;
-    check_table::<Width<1>>(&rt, rt.alloc(), &both)?;
+    check_table::<ValueWords<0>>(&rt, rt.alloc(), &both)?;
+    check_table::<ValueWords<1>>(&rt, rt.alloc(), &both)?;
     let sets = [(Grid::run(257, None), [1, 0, 1, 1, 0, 0])];
-    check_table::<Width<0>>(&rt, rt.alloc(), &sets)?;
+    check_table::<ValueWords<0>>(&rt, rt.alloc(), &sets)?;
     for (grid, counts) in both {
         check_array::<Judy1>(&rt, rt.alloc(), &[(Change::In(grid), counts)])?;
         check_array::<JudyL>(&rt, rt.alloc(), &[(Change::In(grid), counts)])?;
@@ -258,7 +258,7 @@ fn leaf_and_bitmap_leaf(rt: HostRuntime) -> Result<(), Fail> {
         (Grid::run(32, None), [0, 1, 0, 0, 0, 0]),
         (Grid::run(33, None), [0, 0, 1, 0, 0, 0]),
     ];
-    check_table::<Width<0>>(&rt, rt.alloc(), &sets)?;
+    check_table::<ValueWords<0>>(&rt, rt.alloc(), &sets)?;
     Ok(())
 }
 
@@ -268,7 +268,7 @@ fn skip_and_merge(rt: HostRuntime) -> Result<(), Fail> {
         (Grid::run(33, Some(1 << 56)), [1, 0, 1, 1, 0, 0]),
         (Grid::run(33, None), [0, 0, 1, 0, 0, 0]),
     ];
-    check_table::<Width<0>>(&rt, rt.alloc(), &sets)?;
+    check_table::<ValueWords<0>>(&rt, rt.alloc(), &sets)?;
     Ok(())
 }
 
@@ -283,15 +283,15 @@ fn branch_forms(rt: HostRuntime) -> Result<(), Fail> {
         (Grid::rows(5, 256, 8, None), [5, 0, 0, 1, 0, 0]),
         (Grid::rows(5, 256, 8, Some(8)), [4, 1, 0, 1, 0, 0]),
     ];
-    check_table::<Width<0>>(&rt, rt.alloc(), &sets)?;
+    check_table::<ValueWords<0>>(&rt, rt.alloc(), &sets)?;
     let maps = [(Grid::rows(5, 256, 8, None), [0, 5, 0, 1, 0, 0])];
-    check_table::<Width<1>>(&rt, rt.alloc(), &maps)?;
+    check_table::<ValueWords<1>>(&rt, rt.alloc(), &maps)?;
     Ok(())
 }
 
 #[test]
 fn full_ranges(rt: HostRuntime) -> Result<(), Fail> {
     let sets = [(Grid::run(512, None), [0, 0, 2, 1, 0, 0])];
-    check_table::<Width<0>>(&rt, rt.alloc(), &sets)?;
+    check_table::<ValueWords<0>>(&rt, rt.alloc(), &sets)?;
     Ok(())
 }

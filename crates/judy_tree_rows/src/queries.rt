@@ -8,7 +8,7 @@ use crate::calls::{Call, check_call};
 use crate::nodes::{Grid, check_tree, same_shape, tree_of};
 use crate::plain::{note, same};
 use judy_bits::Meter;
-use judy_leaf::{Width, Words};
+use judy_leaf::{ValueWords, Words};
 use judy_node::NodeOf;
 use judy_query::laws::{Watch, no_full_child_is_entered};
 use judy_unmetered::UNMETERED;
@@ -63,12 +63,12 @@ const EIGHT_LEVELS: [Asked; 7] = [
 // of a set.
 #[test]
 fn visit_bounds(rt: HostRuntime) -> Result<(), Fail> {
-    let mut pairs = Grid::run(33, None).pairs::<Width<0>>(&rt, rt.alloc())?;
+    let mut pairs = Grid::run(33, None).pairs::<ValueWords<0>>(&rt, rt.alloc())?;
     for level in 1..8u64 {
         note(&rt, &mut pairs, 1 << (8 * level), 0)?;
     }
-    check_tree::<Width<0>>(&rt, rt.alloc(), &pairs, [7, 0, 1, 7, 0, 0])?;
-    check_asked::<Width<0>>(&rt, rt.alloc(), &pairs, &EIGHT_LEVELS, Bound::Most)?;
+    check_tree::<ValueWords<0>>(&rt, rt.alloc(), &pairs, [7, 0, 1, 7, 0, 0])?;
+    check_asked::<ValueWords<0>>(&rt, rt.alloc(), &pairs, &EIGHT_LEVELS, Bound::Most)?;
     let set = set_of(&rt, rt.alloc(), &pairs);
     same_shape(&rt, set.shape(), [7, 0, 1, 7, 0, 0]);
     ask_all(&rt, set.root(), &EIGHT_LEVELS, Bound::Most);
@@ -96,11 +96,11 @@ const FARTHER: [u64; 12] = [
 // Runs of 33 keys on both sides of 2^56 with the keys farther off: from the root on eight nodes stand below one another on the way to
 // either run.
 fn beside_far(rt: &impl Abort, alloc: Global, runs: Grid) -> Result<Vec<(u64, u64)>, AllocError> {
-    let mut pairs = runs.pairs::<Width<0>>(rt, alloc)?;
+    let mut pairs = runs.pairs::<ValueWords<0>>(rt, alloc)?;
     for word in FARTHER {
         note(rt, &mut pairs, word, 0)?;
     }
-    check_tree::<Width<0>>(rt, alloc, &pairs, [12, 0, 2, 13, 0, 0])?;
+    check_tree::<ValueWords<0>>(rt, alloc, &pairs, [12, 0, 2, 13, 0, 0])?;
     Ok(pairs)
 }
 
@@ -123,10 +123,10 @@ const RUNS_APART: [Asked; 2] = [
 fn bounds_on_visits_are_reached(rt: HostRuntime) -> Result<(), Fail> {
     let meeting = Grid::rows(2, 33, 33, None).starting(FAR - 33);
     let pairs = beside_far(&rt, rt.alloc(), meeting)?;
-    check_asked::<Width<0>>(&rt, rt.alloc(), &pairs, &RUNS_THAT_MEET, Bound::Exact)?;
+    check_asked::<ValueWords<0>>(&rt, rt.alloc(), &pairs, &RUNS_THAT_MEET, Bound::Exact)?;
     let apart = Grid::rows(2, 35, 33, None).starting(FAR - 34);
     let pairs = beside_far(&rt, rt.alloc(), apart)?;
-    check_asked::<Width<0>>(&rt, rt.alloc(), &pairs, &RUNS_APART, Bound::Exact)?;
+    check_asked::<ValueWords<0>>(&rt, rt.alloc(), &pairs, &RUNS_APART, Bound::Exact)?;
     Ok(())
 }
 
@@ -167,12 +167,12 @@ fn check_spared<V: Words + Drop>(
 // The root is entered and no full node below it.
 #[test]
 fn full_ranges(rt: HostRuntime) -> Result<(), Fail> {
-    let one = Grid::run(256, None).pairs::<Width<0>>(&rt, rt.alloc())?;
-    check_asked::<Width<0>>(&rt, rt.alloc(), &one, &ONE_FULL_NODE, Bound::Most)?;
-    let two = Grid::run(512, None).pairs::<Width<0>>(&rt, rt.alloc())?;
-    check_asked::<Width<0>>(&rt, rt.alloc(), &two, &TWO_FULL_NODES, Bound::Most)?;
-    check_spared::<Width<0>>(&rt, rt.alloc(), &two, 300, 512)?;
-    check_spared::<Width<0>>(&rt, rt.alloc(), &two, 511, 512)?;
+    let one = Grid::run(256, None).pairs::<ValueWords<0>>(&rt, rt.alloc())?;
+    check_asked::<ValueWords<0>>(&rt, rt.alloc(), &one, &ONE_FULL_NODE, Bound::Most)?;
+    let two = Grid::run(512, None).pairs::<ValueWords<0>>(&rt, rt.alloc())?;
+    check_asked::<ValueWords<0>>(&rt, rt.alloc(), &two, &TWO_FULL_NODES, Bound::Most)?;
+    check_spared::<ValueWords<0>>(&rt, rt.alloc(), &two, 300, 512)?;
+    check_spared::<ValueWords<0>>(&rt, rt.alloc(), &two, 511, 512)?;
     Ok(())
 }
 
@@ -226,7 +226,7 @@ const NO_KEYS: [Asked; 7] = [
 // The least and the greatest word, as keys, beside keys and without any.
 #[test]
 fn edge_word(rt: HostRuntime) -> Result<(), Fail> {
-    check_asked::<Width<0>>(
+    check_asked::<ValueWords<0>>(
         &rt,
         rt.alloc(),
         &[(TOP, 0)],
@@ -234,14 +234,14 @@ fn edge_word(rt: HostRuntime) -> Result<(), Fail> {
         Bound::Most,
     )?;
     let both = [(0, 7), (TOP, 9)];
-    check_asked::<Width<1>>(
+    check_asked::<ValueWords<1>>(
         &rt,
         rt.alloc(),
         &both,
         &THE_LEAST_AND_THE_GREATEST,
         Bound::Most,
     )?;
-    check_asked::<Width<0>>(&rt, rt.alloc(), &[], &NO_KEYS, Bound::Most)?;
+    check_asked::<ValueWords<0>>(&rt, rt.alloc(), &[], &NO_KEYS, Bound::Most)?;
     Ok(())
 }
 
@@ -259,8 +259,8 @@ const FULL_ENDS: [Asked; 8] = [
 // Two full nodes at either end of the words.
 #[test]
 fn full_ranges_at_the_ends(rt: HostRuntime) -> Result<(), Fail> {
-    let ends = Grid::rows(2, TOP - 511, 512, None).pairs::<Width<0>>(&rt, rt.alloc())?;
-    check_tree::<Width<0>>(&rt, rt.alloc(), &ends, [0, 0, 4, 3, 0, 0])?;
-    check_asked::<Width<0>>(&rt, rt.alloc(), &ends, &FULL_ENDS, Bound::Most)?;
+    let ends = Grid::rows(2, TOP - 511, 512, None).pairs::<ValueWords<0>>(&rt, rt.alloc())?;
+    check_tree::<ValueWords<0>>(&rt, rt.alloc(), &ends, [0, 0, 4, 3, 0, 0])?;
+    check_asked::<ValueWords<0>>(&rt, rt.alloc(), &ends, &FULL_ENDS, Bound::Most)?;
     Ok(())
 }

@@ -7,7 +7,7 @@ use crate::leaves::top_of;
 use crate::nodes::{Counts, check_tree, tree_of};
 use crate::plain::{beside, check_around, pair_from, pair_up_to, same_pair};
 use judy_bits::Meter;
-use judy_leaf::{Width, Words};
+use judy_leaf::{ValueWords, Words};
 use judy_node::NodeOf;
 use judy_query::{around, entry_at_or_after, entry_at_or_before, entry_nth};
 use judy_unmetered::UNMETERED;
@@ -145,12 +145,12 @@ fn check_trees<V: Words + Drop>(
 
 #[test]
 fn queries_of_random_sets(rt: HostRuntime) -> Result<(), AllocError> {
-    check_trees::<Width<0>>(&rt, rt.alloc(), &ASKED)
+    check_trees::<ValueWords<0>>(&rt, rt.alloc(), &ASKED)
 }
 
 #[test]
 fn queries_of_random_maps(rt: HostRuntime) -> Result<(), AllocError> {
-    check_trees::<Width<1>>(&rt, rt.alloc(), &ASKED)
+    check_trees::<ValueWords<1>>(&rt, rt.alloc(), &ASKED)
 }
 
 // Compares the shapes of trees whose keys differ in their lowest bytes, those of `top`, and of one key more, which differs from these in the
@@ -190,10 +190,10 @@ fn check_widths<V: Words + Drop>(rt: &impl Abort, alloc: Global) -> Result<(), A
 
 #[test]
 fn shapes_of_random_sets(rt: HostRuntime) -> Result<(), AllocError> {
-    check_widths::<Width<0>>(&rt, rt.alloc())
+    check_widths::<ValueWords<0>>(&rt, rt.alloc())
 }
 
 #[test]
 fn shapes_of_random_maps(rt: HostRuntime) -> Result<(), AllocError> {
-    check_widths::<Width<1>>(&rt, rt.alloc())
+    check_widths::<ValueWords<1>>(&rt, rt.alloc())
 }

@@ -6,8 +6,8 @@ use Rattle.std.specs.FinMap.{FinMap, get, contains_key, nat_cmp-IsAntisymmetric}
 use borrow.Follows.Closed.{read_of}
 use Rattle.judy_model.specs.Keys.{word_order}
 use Rattle.judy_model.specs.Arrays.{ArrayOf, with_map, ins}
-use Rattle.judy_model.proofs.SortedMaps.{from_sorted-nil}
-use Rattle.judy_model.proofs.ChangesLemmas.{write-ins, get-ins_same}
+use Rattle.judy_model.proofs.lemmas.maps.SortedMaps.{from_sorted-nil}
+use Rattle.judy_model.proofs.lemmas.maps.ChangesLemmas.{write-ins, get-ins_same}
 use Rattle.judy_word.specs.Held.{Held, map_in, array_in, nothing_held, IsHeld}
 use Rattle.judy_word.specs.Held as held
 use Rattle.judy_word.specs.Writes as writes

@@ -3,7 +3,7 @@ use Rattle.std.proofs.Common.{◌≡◌, ℕ, zero, suc, ◌+◌, ◌≤◌, ◌
 use Rattle.std.specs.FinMap.{get}
 use Rattle.std.specs.Option.{option_or, option_map}
 use Rattle.std.proofs.lemmas.Option.{same_Some}
-use Rattle.judy_model.proofs.Ascending.{find_last, find-reverse}
+use Rattle.judy_model.proofs.lemmas.maps.Ascending.{find_last, find-reverse}
 use Rattle.judy_node.specs.Trees.{Pairs, IsMap}
 use Rattle.judy_change.specs.Removals.{value_in}
 use Rattle.judy_change.proofs.Without.{value-same, value-apart}

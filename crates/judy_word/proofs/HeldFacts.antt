@@ -8,9 +8,9 @@ use Rattle.judy_model.specs.Keys.{word_order}
 use Rattle.judy_model.specs.Counts.{count_up_to}
 use Rattle.judy_model.specs.Neighbours.{next, prev, last}
 use Rattle.judy_model.specs.Empties.{next_empty, prev_empty, last_empty}
-use Rattle.judy_model.proofs.EmptiesLemmas.{next_empty_run_none}
-use Rattle.judy_model.proofs.FollowingLemmas.{prev-last, prev_empty-last_empty}
-use Rattle.judy_model.proofs.RankLemmas.{next-slice_get}
+use Rattle.judy_model.proofs.lemmas.queries.EmptiesLemmas.{next_empty_run_none}
+use Rattle.judy_model.proofs.lemmas.orders.FollowingLemmas.{prev-last, prev_empty-last_empty}
+use Rattle.judy_model.proofs.lemmas.queries.RankLemmas.{next-slice_get}
 use Rattle.judy_node.specs.Trees.{Pairs, IsMap}
 use Rattle.judy_node.proofs.Maps.{length-keys_of}
 use Rattle.judy_query.specs.Maps.{map_of}

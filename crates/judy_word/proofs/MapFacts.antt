@@ -6,7 +6,7 @@ use Rattle.std.specs.FinMap.{get, contains_key, insert, remove, find, same_map, 
 use Rattle.std.proofs.lemmas.Bool.{eq-eqb, ne_eqb}
 use Rattle.std.proofs.lemmas.Bool.Decides.{eqb_tells}
 use Rattle.judy_model.specs.Keys.{word_order}
-use Rattle.judy_model.proofs.ChangesLemmas.{get-write_same, get-write_other, get-del_same, get-del_other}
+use Rattle.judy_model.proofs.lemmas.maps.ChangesLemmas.{get-write_same, get-write_other, get-del_same, get-del_other}
 use Rattle.judy_bits.specs.ByteSets.{has, rank}
 use Rattle.judy_leaf.specs.KeyLists.{keys_of, with_pair}
 use Rattle.judy_node.specs.Trees.{Pairs, IsMap}

@@ -7,10 +7,10 @@ use Rattle.judy_model.specs.Keys.{IsWord, word_order}
 use Rattle.judy_model.specs.Arrays.{ArrayOf, IsArrayOf}
 use Rattle.judy_model.specs.Nearest.{IsFirst, IsNext}
 use Rattle.judy_model.specs.Neighbours.{first, next}
-use Rattle.judy_model.proofs.NearestLemmas.{first-IsFirst, next-IsNext}
-use Rattle.judy_model.proofs.KeptLemmas.{holds-IsArrayOf}
-use Rattle.judy_model.proofs.WordOrder.{is_ge_word, is_gt_word, le_from_word}
-use Rattle.judy_model.proofs.Tests.{both_true, second_true}
+use Rattle.judy_model.proofs.lemmas.queries.NearestLemmas.{first-IsFirst, next-IsNext}
+use Rattle.judy_model.proofs.lemmas.runs.KeptLemmas.{holds-IsArrayOf}
+use Rattle.judy_model.proofs.lemmas.orders.WordOrder.{is_ge_word, is_gt_word, le_from_word}
+use Rattle.judy_model.proofs.lemmas.maps.Tests.{both_true, second_true}
 
 -- the keys below the one that comes next, or all of them, were read as words, and their values
 abbrev pub Seen : FinMap word_order ℕ → Option ℕ → Type 0

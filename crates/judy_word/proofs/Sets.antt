@@ -1,7 +1,7 @@
 -- An array over a tree whose keys have no values is a set.
 use Rattle.std.proofs.Common.{◌≡◌, ◌≢◌, ℕ, ◌+◌, ◌^◌, [], ◌∷◌, Some, refl, sym, ◌∙◌, ⊎_elim}
 use Rattle.std.proofs.lemmas.Option.{same_Some}
-use Rattle.judy_model.proofs.ValuesLemmas.{All-values}
+use Rattle.judy_model.proofs.lemmas.maps.ValuesLemmas.{All-values}
 use Rattle.judy_node.specs.Trees.{Pairs, IsMap}
 use Rattle.judy_change.specs.Removals.{value_in}
 use Rattle.judy_change.proofs.Without.{value-same, value-apart}

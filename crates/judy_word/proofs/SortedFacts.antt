@@ -2,7 +2,7 @@
 use Rattle.std.proofs.Common.{◌≡◌, ℕ, suc, ◌+◌, ◌^◌, ◌≤◌, Bool, true, false, cond, List, [], ◌∷◌, map, length, Option, Some, None, refl, ap, ◌∙◌, arith, is_le}
 use Rattle.std.specs.List.{AllByRecursion}
 use Rattle.judy_model.specs.Keys.{IsWord, word_order}
-use Rattle.judy_model.proofs.WordOrder.{le_from_word}
+use Rattle.judy_model.proofs.lemmas.orders.WordOrder.{le_from_word}
 use Rattle.judy_leaf.specs.KeyLists.{keys_of, values_of}
 use Rattle.judy_node.specs.Trees.{Pairs, IsMap}
 use Rattle.judy_word.specs.Sorted.{ascending_from}

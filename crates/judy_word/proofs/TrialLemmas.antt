@@ -3,7 +3,7 @@ use Rattle.std.proofs.Common.{◌≡◌, ◌≢◌, ℕ, Bool, true, false, not,
 use Rattle.std.specs.FinMap.{FinMap, get, insert, remove, contains_key, same_map, nat_cmp-IsAntisymmetric}
 use Rattle.std.specs.Cmp.{nat_cmp_total}
 use Rattle.judy_model.specs.Keys.{word_order}
-use Rattle.judy_model.proofs.ChangesLemmas.{get-write_other, get-del_same, get-del_other}
+use Rattle.judy_model.proofs.lemmas.maps.ChangesLemmas.{get-write_other, get-del_same, get-del_other}
 use Rattle.judy_word.specs.Held.{with_new}
 use Rattle.std.proofs.lemmas.Bool.{cases_eq}
 

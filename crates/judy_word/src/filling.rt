@@ -12,7 +12,7 @@ ghost use Rattle.judy_word.specs.WordArrays.{array_of};
 use crate::error::InsertError;
 use crate::tree_array::{TreeArray, set_all};
 use crate::word_array::{Judy1, JudyL};
-use judy_leaf::{Width, Words};
+use judy_leaf::{ValueWords, Words};
 use std::alloc::Global;
 use std::marker::Model;
 
@@ -30,10 +30,10 @@ pub struct Filling<V: Words + Drop> {
 }
 
 /// A set that is filled.
-pub type FillingSet = Filling<Width<0>>;
+pub type FillingSet = Filling<ValueWords<0>>;
 
 /// A map that is filled.
-pub type FillingMap = Filling<Width<1>>;
+pub type FillingMap = Filling<ValueWords<1>>;
 
 impl<V: Words + Drop> Model for Filling<V> {
     ghost use Rattle.std.specs.Coded.{coded_ℕ};
@@ -147,7 +147,7 @@ impl<V: Words + Drop> Filling<V> {
     }
 }
 
-impl Filling<Width<1>> {
+impl Filling<ValueWords<1>> {
     /// The map that it comes to, each node as small as its keys allow. The error is that of an insert of a key that is kept; nothing is left
     /// then.
     pub fn into_map(self) -> Result<JudyL, InsertError>
@@ -158,7 +158,7 @@ impl Filling<Width<1>> {
     }
 }
 
-impl Filling<Width<0>> {
+impl Filling<ValueWords<0>> {
     /// The set that it comes to, each node as small as its keys allow. The error is that of an insert of a key that is kept; nothing is left
     /// then.
     pub fn into_set(self) -> Result<Judy1, InsertError>

@@ -5,18 +5,18 @@ ghost use Rattle.judy_model.specs.Counts as counts;
 
 use crate::tree_array::TreeEntries;
 use crate::word_array::{Judy1, JudyL};
-use judy_leaf::Width;
+use judy_leaf::ValueWords;
 use std::fmt::{Debug, Formatter, Result, Write};
 use std::iter::{IntoIterator, Iterator};
 use std::marker::Model;
 
 /// The keys of a map with their values that are still to come, by ascending key.
-pub type Entries<'a> = TreeEntries<'a, Width<1>>;
+pub type Entries<'a> = TreeEntries<'a, ValueWords<1>>;
 
 /// The keys of a set that are still to come, by ascending order: to its callers it is their list.
 #[derive(Drop)]
 pub struct Keys<'a> {
-    entries: TreeEntries<'a, Width<0>>,
+    entries: TreeEntries<'a, ValueWords<0>>,
 }
 
 impl<'a> Model for Keys<'a> {
@@ -91,6 +91,21 @@ impl JudyL {
         ensures { result ≡ drop (counts.rank self.now.map i) (map.entries self.now.map) }
     {
         self.tree().iter_from(i)
+    }
+
+    /// Lets entries be those of `iter`, whatever they were. A walk over many maps makes them once so, where each `iter` makes and moves
+    /// some 300 bytes.
+    pub fn restart<'a>(&'a self, entries: &mut Entries<'a>)
+        ensures { entries.new ≡ map.entries self.now.map }
+    {
+        entries.restart(self.tree());
+    }
+
+    /// The same of `iter_from`.
+    pub fn restart_from<'a>(&'a self, i: u64, entries: &mut Entries<'a>)
+        ensures { entries.new ≡ drop (counts.rank self.now.map i) (map.entries self.now.map) }
+    {
+        entries.restart_from(self.tree(), i);
     }
 }
 

@@ -6,7 +6,7 @@ ghost use Rattle.judy_model.specs.Counts.{rank, count_up_to, nth};
 ghost use Rattle.judy_model.specs.CommandExamples.{three_words, three_byte_strings, ab_and_zero};
 
 /// Below a word.
-#[tactic(auto, using(crate::proofs::MapsOfPairs::words_computed))]
+#[tactic(auto, using(crate::proofs::lemmas::maps::MapsOfPairs::words_computed))]
 pub fn ranks_of_words()
     ensures least { rank three_words 2 ≡ 0 }
     ensures between { rank three_words 3 ≡ 1 }
@@ -19,7 +19,7 @@ pub fn ranks_of_words()
 {}
 
 /// At a place among words.
-#[tactic(auto, using(crate::proofs::MapsOfPairs::words_computed))]
+#[tactic(auto, using(crate::proofs::lemmas::maps::MapsOfPairs::words_computed))]
 pub fn places_of_words()
     ensures first { nth three_words 0 ≡ Some 2 }
     ensures second { nth three_words 1 ≡ Some 4 }
@@ -28,7 +28,7 @@ pub fn places_of_words()
 {}
 
 /// Below a byte string.
-#[tactic(auto, using(crate::proofs::MapsOfPairs::bytes_computed))]
+#[tactic(auto, using(crate::proofs::lemmas::maps::MapsOfPairs::bytes_computed))]
 pub fn ranks_of_byte_strings()
     ensures least { rank three_byte_strings [] ≡ 0 }
     ensures key { rank three_byte_strings ab_and_zero ≡ 1 }
@@ -40,7 +40,7 @@ pub fn ranks_of_byte_strings()
 {}
 
 /// At a place among byte strings.
-#[tactic(auto, using(crate::proofs::MapsOfPairs::bytes_computed))]
+#[tactic(auto, using(crate::proofs::lemmas::maps::MapsOfPairs::bytes_computed))]
 pub fn places_of_byte_strings()
     ensures first { nth three_byte_strings 0 ≡ Some (codes "ab") }
     ensures second { nth three_byte_strings 1 ≡ Some ab_and_zero }

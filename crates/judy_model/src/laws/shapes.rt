@@ -4,7 +4,7 @@ ghost use Rattle.std.specs.Prelude.{◌≡◌, ◌+◌, ◌*◌, ◌^◌, ◌<�
 ghost use Rattle.judy_model.specs.Keys.{IsByteString};
 ghost use Rattle.judy_model.specs.WordBytes.{number_of};
 ghost use Rattle.judy_model.specs.Forms.{bitmap_leaf, branch, raise, keys_in, loose_in};
-ghost use Rattle.judy_model.specs.Shapes.{Group, form_of, bytes_of, forms_of, keys_of_groups, AllBelow, AreGroups};
+ghost use Rattle.judy_model.specs.Shapes.{Bucket, form_of, bytes_of, forms_of, keys_of_buckets, AllBelow, AreBuckets};
 
 /// The tree of a list of keys has exactly these keys.
 pub fn a_form_has_its_keys()
@@ -25,10 +25,11 @@ pub fn shared_bytes_are_skipped()
         → AllBelow 256 keys
         → form_of words (length shared + 1) (raise (number_of shared * 256) keys)
         ≡ bitmap_leaf shared keys ∷ [] }
-    ensures before { (words width total : ℕ) (shared : List ℕ) (groups : List Group) (keys : List ℕ)
+    ensures before { (words width total : ℕ) (shared : List ℕ) (buckets : List Bucket)
+        (keys : List ℕ)
         → total ≡ length shared + 1 + width → 1 ≤ width → IsByteString shared
-        → AreGroups (256 ^ width) 0 groups → 1 < length groups →
-        keys ≡ keys_of_groups (256 ^ width) (number_of shared * 256) groups → 32 < length keys
+        → AreBuckets (256 ^ width) 0 buckets → 1 < length buckets →
+        keys ≡ keys_of_buckets (256 ^ width) (number_of shared * 256) buckets → 32 < length keys
         → form_of words total keys
-        ≡ branch shared (bytes_of groups) (length keys) ∷ forms_of (form_of words width) groups }
+        ≡ branch shared (bytes_of buckets) (length keys) ∷ forms_of (form_of words width) buckets }
 {}

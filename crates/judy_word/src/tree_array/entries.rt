@@ -58,6 +58,26 @@ impl<'a, V: Words + Drop> TreeEntries<'a, V> {
     {
         self.walk.fill(out, &mut Meter::new(UNMETERED))
     }
+
+    /// Lets the entries be those of `iter` of an array, whatever they were: they are some 300 bytes, which are made and moved once so for
+    /// many arrays.
+    pub fn restart(&mut self, array: &'a TreeArray<V>)
+        ensures { self.new ≡ map.entries (map_in array.now) }
+    {
+        array.root.law();
+        self.walk
+            .restart(&array.root, 0, &mut Meter::new(UNMETERED));
+    }
+
+    /// The same of `iter_from`.
+    pub fn restart_from(&mut self, array: &'a TreeArray<V>, from: u64)
+        ensures { self.new
+            ≡ drop (counts.rank (map_in array.now) from) (map.entries (map_in array.now)) }
+    {
+        array.root.law();
+        self.walk
+            .restart(&array.root, from, &mut Meter::new(UNMETERED));
+    }
 }
 
 impl<V: Words + Drop> TreeArray<V> {

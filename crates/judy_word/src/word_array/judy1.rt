@@ -9,7 +9,7 @@ ghost use Rattle.judy_word.specs.Sets.{IsSet};
 
 use crate::error::InsertError;
 use crate::word_array::WordArray;
-use judy_leaf::Width;
+use judy_leaf::ValueWords;
 use std::alloc::AllocError;
 
 /// A set of words: each from 0 to 2^64 - 1 is a key or none. It holds at most as many keys as its limit
@@ -17,7 +17,7 @@ use std::alloc::AllocError;
 ///
 /// Contracts see it as the array whose every value is 0 (`test` and `len` say so), with its nodes and whether one may be larger than its
 /// keys need.
-pub type Judy1 = WordArray<Width<0>>;
+pub type Judy1 = WordArray<ValueWords<0>>;
 
 impl Judy1 {
     /// Puts the key `i` in, and answers whether it was absent; a key that is there stays, and is never

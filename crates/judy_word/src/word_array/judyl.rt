@@ -16,14 +16,14 @@ mod nearest_slots;
 
 use crate::error::InsertError;
 use crate::word_array::WordArray;
-use judy_leaf::Width;
+use judy_leaf::ValueWords;
 use std::alloc::AllocError;
 
 /// An array that maps words to words: each key from 0 to 2^64 - 1 has at most one value, a word too.
 /// It holds at most as many keys as its limit (limit: this project's own).
 ///
 /// Contracts see its map with its nodes, and whether one of these may be larger than its keys need.
-pub type JudyL = WordArray<Width<1>>;
+pub type JudyL = WordArray<ValueWords<1>>;
 
 impl JudyL {
     /// The slot of the key `i`, which is put in with the value 0 where it is absent; a key that is there

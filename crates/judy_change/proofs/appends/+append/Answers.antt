@@ -1,6 +1,6 @@
 use Rattle.std.proofs.Common.{◌≡◌, Some, slice_get, ◌+◌, ◌*◌, ◌/◌, ◌%◌, ◌^◌, ◌<◌, length, refl, sym, ap, ◌∙◌, subst, arith}
 use Rattle.judy_model.specs.WordBytes.{number_of}
-use Rattle.judy_model.proofs.ByteLemmas.{unit_pos}
+use Rattle.judy_model.proofs.lemmas.orders.ByteLemmas.{unit_pos}
 use Rattle.judy_node.specs.Trees.{IsChild, IsBranch}
 use Rattle.judy_node.specs.Populations.{AreSums}
 use Rattle.judy_node.specs.Kinds.{tree_of, IsLevel}

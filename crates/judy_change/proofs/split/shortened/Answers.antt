@@ -2,7 +2,7 @@ use Rattle.std.proofs.Common.{◌≡◌, ◌+◌, ◌*◌, ◌%◌, ◌^◌, ◌
 use Rattle.std.proofs.Math.Nat.{pow-le-pow_right}
 use Rattle.std.proofs.lemmas.Nat.{mod_below}
 use Rattle.judy_model.specs.WordBytes.{low_bytes}
-use Rattle.judy_model.proofs.ByteLemmas.{unit_pos}
+use Rattle.judy_model.proofs.lemmas.orders.ByteLemmas.{unit_pos}
 use Rattle.judy_block.specs.Contents.{Contents}
 use Rattle.judy_node.specs.Trees.{IsChild, IsBranch, branch_tree}
 use Rattle.judy_node.specs.Kinds.{tree_of, bit_tree, IsLevel, IsBit}

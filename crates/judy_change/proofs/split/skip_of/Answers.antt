@@ -2,7 +2,7 @@ use Rattle.std.proofs.Common.{◌≡◌, ℕ, zero, suc, ◌+◌, ◌-◌, ◌�
 use Rattle.std.proofs.lemmas.List.{take_all}
 use Rattle.std.specs.Int.{to_be_bytes, w64}
 use Rattle.judy_model.specs.WordBytes.{low_bytes}
-use Rattle.judy_model.proofs.ByteLemmas.{length-low_bytes}
+use Rattle.judy_model.proofs.lemmas.orders.ByteLemmas.{length-low_bytes}
 use Rattle.judy_change.proofs.split.skip_of.Goals as goal
 
 -- The lowest bytes of a word are the last of more of its bytes, and its eight bytes are all of it.

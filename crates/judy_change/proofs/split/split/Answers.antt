@@ -1,7 +1,7 @@
 use Rattle.std.proofs.Common.{◌≡◌, ℕ, ◌+◌, ◌-◌, ◌*◌, ◌/◌, ◌%◌, ◌^◌, ◌<◌, length, sym, ap, ◌∙◌, subst, arith}
 use Rattle.std.proofs.lemmas.Nat.{mod_below}
 use Rattle.judy_model.specs.WordBytes.{number_of}
-use Rattle.judy_model.proofs.ByteLemmas.{unit_pos, length-low_bytes}
+use Rattle.judy_model.proofs.lemmas.orders.ByteLemmas.{unit_pos, length-low_bytes}
 use Rattle.judy_bits.specs.ByteSets.{has}
 use Rattle.judy_node.specs.Trees.{IsChild, branch_tree}
 use Rattle.judy_node.specs.Populations.{AreSums}

@@ -3,7 +3,7 @@ use Rattle.std.proofs.lemmas.Grind.{common_steps}
 use Rattle.std.proofs.lemmas.Result.{IfOk-at_ok}
 use Rattle.std.specs.Prelude.{IfOk}
 use Rattle.judy_model.specs.Keys.{IsBytesKey}
-use Rattle.judy_model.proofs.Outcomes.{bytes_key_at-IsBytesKey}
+use Rattle.judy_model.proofs.lemmas.commands.Outcomes.{bytes_key_at-IsBytesKey}
 use Rattle.judy_model.specs.Commands.{bytes_key_at}
 use Rattle.judy_command.specs.Slots.{said}
 use Rattle.judy_command.specs.KeyReads.{read_into}

@@ -3,7 +3,7 @@ use Rattle.std.specs.List.{list_all}
 use Rattle.std.proofs.lemmas.Result.{IfOk-at_ok}
 use Rattle.judy_model.specs.Keys.{IsStringKey}
 use Rattle.judy_model.specs.KeyTokens.{key_of}
-use Rattle.judy_model.proofs.Outcomes.{string_key_at-IsStringKey}
+use Rattle.judy_model.proofs.lemmas.commands.Outcomes.{string_key_at-IsStringKey}
 use Rattle.judy_command.specs.Replies.{refusal_of}
 use Rattle.judy_command.specs.KeyReads.{read_into}
 use Rattle.judy_command.proofs.MakeLemmas.{error_is}

@@ -1,5 +1,5 @@
 use Rattle.std.proofs.Common.{Some, sym, ap, ◌∙◌}
-use Rattle.judy_model.proofs.ChangesLemmas.{get-ins_same}
+use Rattle.judy_model.proofs.lemmas.maps.ChangesLemmas.{get-ins_same}
 use Rattle.judy_command.proofs.NamedArrays.{Follows-inserted}
 use Rattle.judy_command.proofs.values.insert.Goals as goal
 

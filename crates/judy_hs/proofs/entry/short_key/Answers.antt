@@ -1,7 +1,7 @@
 use Rattle.std.proofs.Common.{◌≡◌, ◌-◌, ◌+◌, ◌≤◌, List, ℕ, length, take, drop, sym, ap, ◌∙◌, arith}
 use Rattle.std.proofs.lemmas.List.{take_all}
 use Rattle.judy_model.specs.WordBytes.{low_bytes}
-use Rattle.judy_model.proofs.ByteLemmas.{length-low_bytes}
+use Rattle.judy_model.proofs.lemmas.orders.ByteLemmas.{length-low_bytes}
 use Rattle.judy_hs.proofs.WalkLemmas.{drop-low_bytes, be-low_bytes}
 use Rattle.judy_hs.proofs.entry.short_key.Goals as goal
 

@@ -1,6 +1,6 @@
 use Rattle.std.proofs.Common.{◌≡◌, ◌+◌, is_le, ◌∙◌, arith}
 use Rattle.judy_model.specs.Keys.{word_order}
-use Rattle.judy_model.proofs.Places.{length-filter-le}
+use Rattle.judy_model.proofs.lemmas.queries.Places.{length-filter-le}
 use Rattle.judy_leaf.specs.Packing.{keys_in}
 use Rattle.judy_leaf.proofs.KeysIn.{length-keys, there_in}
 use Rattle.judy_leaf.proofs.packed.previous_in.Goals as goal

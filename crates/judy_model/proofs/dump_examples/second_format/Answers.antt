@@ -1,7 +1,7 @@
 use Rattle.std.proofs.Common.{refl, sym}
 use Rattle.judy_model.specs.DumpExamples.{three_prefixes, first_dump_of_prefixes, second_dump_of_prefixes}
 use Rattle.judy_model.specs.DumpText.{jdy1, jdy2}
-use Rattle.judy_model.proofs.DumpLemmas.{bytes_are, dump_back}
+use Rattle.judy_model.proofs.lemmas.dumps.DumpLemmas.{bytes_are, dump_back}
 use Rattle.judy_model.proofs.dump_examples.second_format.Goals as goal
 
 -- The bytes give the store, and so are its dump.

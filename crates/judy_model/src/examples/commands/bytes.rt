@@ -5,7 +5,7 @@ ghost use Rattle.judy_model.specs.Replies.{was, flag, number, nothing, bad_word,
 ghost use Rattle.judy_model.specs.CommandExamples.{Becomes, IsReplied, bytes, two_bytes};
 
 /// `get` answers the value of a key, and `none` at a key that isn't there.
-#[tactic(auto, using(crate::proofs::MapsOfPairs::bytes_computed))]
+#[tactic(auto, using(crate::proofs::lemmas::maps::MapsOfPairs::bytes_computed))]
 pub fn get_on_bytes()
     ensures present { IsReplied (two_bytes 2) (codes "get a =b") (Ok (number 40)) }
     ensures absent { IsReplied (two_bytes 2) (codes "get a =aba") (Ok nothing) }
@@ -13,7 +13,7 @@ pub fn get_on_bytes()
 {}
 
 /// `put` answers the value that a key had and writes the one given; at a key that isn't there it answers `none`.
-#[tactic(auto, using(crate::proofs::MapsOfPairs::bytes_computed))]
+#[tactic(auto, using(crate::proofs::lemmas::maps::MapsOfPairs::bytes_computed))]
 pub fn put_on_bytes()
     ensures present { Becomes (two_bytes 2) (codes "put a =b 41") (Ok (was 40))
         (bytes 2 ((0 ∷ [], 20) ∷ (codes "b", 41) ∷ [])) }
@@ -23,7 +23,7 @@ pub fn put_on_bytes()
 {}
 
 /// `ins` does so at a key that is there, full or not; a new key has shown 0 and has the value given, and is refused where the array is full.
-#[tactic(auto, using(crate::proofs::MapsOfPairs::bytes_computed))]
+#[tactic(auto, using(crate::proofs::lemmas::maps::MapsOfPairs::bytes_computed))]
 pub fn ins_on_bytes()
     ensures present { Becomes (two_bytes 2) (codes "ins a =b 41") (Ok (was 40))
         (bytes 2 ((0 ∷ [], 20) ∷ (codes "b", 41) ∷ [])) }
@@ -35,7 +35,7 @@ pub fn ins_on_bytes()
 {}
 
 /// `del` answers 1 and takes out a key that is there, and 0 at another.
-#[tactic(auto, using(crate::proofs::MapsOfPairs::bytes_computed))]
+#[tactic(auto, using(crate::proofs::lemmas::maps::MapsOfPairs::bytes_computed))]
 pub fn del_on_bytes()
     ensures present { Becomes (two_bytes 2) (codes "del a =b") (Ok (flag true))
         (bytes 2 ((0 ∷ [], 20) ∷ [])) }

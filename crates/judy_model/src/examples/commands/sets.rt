@@ -5,7 +5,7 @@ ghost use Rattle.judy_model.specs.Replies.{flag, number, nothing, bad_word, full
 ghost use Rattle.judy_model.specs.CommandExamples.{Becomes, IsReplied, set, two_keys};
 
 /// `set` answers 1 and adds a key that isn't there, 0 at one that is, full or not; and is refused for a new key where the array is full.
-#[tactic(auto, using(crate::proofs::MapsOfPairs::words_computed))]
+#[tactic(auto, using(crate::proofs::lemmas::maps::MapsOfPairs::words_computed))]
 pub fn set_on_keys()
     ensures absent { Becomes (two_keys 3) (codes "set a 3") (Ok (flag true))
         (set 3 (2 ∷ 3 ∷ 4 ∷ [])) }
@@ -20,7 +20,7 @@ pub fn set_on_keys()
 {}
 
 /// `unset` answers 1 and takes out a key that is there, and 0 at another.
-#[tactic(auto, using(crate::proofs::MapsOfPairs::words_computed))]
+#[tactic(auto, using(crate::proofs::lemmas::maps::MapsOfPairs::words_computed))]
 pub fn unset_on_keys()
     ensures present { Becomes (two_keys 2) (codes "unset a 4") (Ok (flag true)) (set 2 (2 ∷ [])) }
     ensures first { Becomes (two_keys 2) (codes "unset a 2") (Ok (flag true)) (set 2 (4 ∷ [])) }
@@ -29,7 +29,7 @@ pub fn unset_on_keys()
 {}
 
 /// `test` answers 1 at a key that is there, and 0 at another.
-#[tactic(auto, using(crate::proofs::MapsOfPairs::words_computed))]
+#[tactic(auto, using(crate::proofs::lemmas::maps::MapsOfPairs::words_computed))]
 pub fn test_on_keys()
     ensures present { IsReplied (two_keys 2) (codes "test a 4") (Ok (flag true)) }
     ensures absent { IsReplied (two_keys 2) (codes "test a 3") (Ok (flag false)) }
@@ -37,7 +37,7 @@ pub fn test_on_keys()
 {}
 
 /// The neighbours of a word among the keys.
-#[tactic(auto, using(crate::proofs::MapsOfPairs::words_computed))]
+#[tactic(auto, using(crate::proofs::lemmas::maps::MapsOfPairs::words_computed))]
 pub fn neighbours_on_keys()
     ensures first_at { IsReplied (two_keys 2) (codes "first a 2") (Ok (number 2)) }
     ensures first_above { IsReplied (two_keys 2) (codes "first a 3") (Ok (number 4)) }
@@ -53,7 +53,7 @@ pub fn neighbours_on_keys()
 {}
 
 /// And among the words that are no keys.
-#[tactic(auto, using(crate::proofs::MapsOfPairs::words_computed))]
+#[tactic(auto, using(crate::proofs::lemmas::maps::MapsOfPairs::words_computed))]
 pub fn empty_neighbours_on_keys()
     ensures first_at { IsReplied (two_keys 2) (codes "fe a 3") (Ok (number 3)) }
     ensures first_above { IsReplied (two_keys 2) (codes "fe a 4") (Ok (number 5)) }
@@ -69,7 +69,7 @@ pub fn empty_neighbours_on_keys()
 {}
 
 /// Which key stands at a place, counted from 1, and how many lie between two words.
-#[tactic(auto, using(crate::proofs::MapsOfPairs::words_computed))]
+#[tactic(auto, using(crate::proofs::lemmas::maps::MapsOfPairs::words_computed))]
 pub fn counts_on_keys()
     ensures first { IsReplied (two_keys 2) (codes "bycount a 1") (Ok (number 2)) }
     ensures second { IsReplied (two_keys 2) (codes "bycount a 2") (Ok (number 4)) }

@@ -5,7 +5,7 @@ ghost use Rattle.judy_model.specs.Replies.{was, flag, number, string_entry, noth
 ghost use Rattle.judy_model.specs.CommandExamples.{Becomes, IsReplied, strings, two_strings};
 
 /// `get` answers the value of a key, and `none` at a key that isn't there.
-#[tactic(auto, using(crate::proofs::MapsOfPairs::bytes_computed))]
+#[tactic(auto, using(crate::proofs::lemmas::maps::MapsOfPairs::bytes_computed))]
 pub fn get_on_strings()
     ensures present { IsReplied (two_strings 2) (codes "get a =b") (Ok (number 40)) }
     ensures absent { IsReplied (two_strings 2) (codes "get a =aba") (Ok nothing) }
@@ -13,7 +13,7 @@ pub fn get_on_strings()
 {}
 
 /// `put` answers the value that a key had and writes the one given; at a key that isn't there it answers `none`.
-#[tactic(auto, using(crate::proofs::MapsOfPairs::bytes_computed))]
+#[tactic(auto, using(crate::proofs::lemmas::maps::MapsOfPairs::bytes_computed))]
 pub fn put_on_strings()
     ensures present { Becomes (two_strings 2) (codes "put a =b 41") (Ok (was 40))
         (strings 2 ((codes "ab", 20) ∷ (codes "b", 41) ∷ [])) }
@@ -23,7 +23,7 @@ pub fn put_on_strings()
 {}
 
 /// `ins` does so at a key that is there, full or not; a new key has shown 0 and has the value given, and is refused where the array is full.
-#[tactic(auto, using(crate::proofs::MapsOfPairs::bytes_computed))]
+#[tactic(auto, using(crate::proofs::lemmas::maps::MapsOfPairs::bytes_computed))]
 pub fn ins_on_strings()
     ensures present { Becomes (two_strings 2) (codes "ins a =b 41") (Ok (was 40))
         (strings 2 ((codes "ab", 20) ∷ (codes "b", 41) ∷ [])) }
@@ -35,7 +35,7 @@ pub fn ins_on_strings()
 {}
 
 /// `del` answers 1 and takes out a key that is there, and 0 at another.
-#[tactic(auto, using(crate::proofs::MapsOfPairs::bytes_computed))]
+#[tactic(auto, using(crate::proofs::lemmas::maps::MapsOfPairs::bytes_computed))]
 pub fn del_on_strings()
     ensures present { Becomes (two_strings 2) (codes "del a =b") (Ok (flag true))
         (strings 2 ((codes "ab", 20) ∷ [])) }
@@ -46,7 +46,7 @@ pub fn del_on_strings()
 {}
 
 /// The neighbours of a string, with their values.
-#[tactic(auto, using(crate::proofs::MapsOfPairs::bytes_computed))]
+#[tactic(auto, using(crate::proofs::lemmas::maps::MapsOfPairs::bytes_computed))]
 pub fn neighbours_on_strings()
     ensures first_at { IsReplied (two_strings 2) (codes "first a =ab")
         (Ok (string_entry (codes "ab") 20)) }
@@ -68,7 +68,7 @@ pub fn neighbours_on_strings()
 {}
 
 /// Which key stands at a place, counted from 1, with its value, and how many keys lie from one string to another, both included.
-#[tactic(auto, using(crate::proofs::MapsOfPairs::bytes_computed))]
+#[tactic(auto, using(crate::proofs::lemmas::maps::MapsOfPairs::bytes_computed))]
 pub fn counts_on_strings()
     ensures first { IsReplied (two_strings 2) (codes "bycount a 1")
         (Ok (string_entry (codes "ab") 20)) }

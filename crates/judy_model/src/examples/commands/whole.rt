@@ -6,35 +6,35 @@ ghost use Rattle.judy_model.specs.Replies.{done, freed, listed, listing_text, ba
 ghost use Rattle.judy_model.specs.CommandExamples.{Becomes, IsReplied, three_words, set, words, strings, bytes, two_keys, two_words, two_strings, two_bytes, names_of_one_byte};
 
 /// `free` answers how many keys there were, and leaves the array empty.
-#[tactic(auto, using(crate::proofs::MapsOfPairs::words_computed))]
+#[tactic(auto, using(crate::proofs::lemmas::maps::MapsOfPairs::words_computed))]
 pub fn free_of_words()
     ensures set { Becomes (two_keys 2) (codes "free a") (Ok (freed 2)) (set 2 []) }
     ensures words { Becomes (two_words 3) (codes "free a") (Ok (freed 2)) (words 3 []) }
 {}
 
 /// `drop` answers the same, and leaves the store without the array.
-#[tactic(auto, using(crate::proofs::MapsOfPairs::words_computed))]
+#[tactic(auto, using(crate::proofs::lemmas::maps::MapsOfPairs::words_computed))]
 pub fn drop_of_words()
     ensures set { Becomes (two_keys 2) (codes "drop a") (Ok (freed 2)) [] }
     ensures words { Becomes (two_words 2) (codes "drop a") (Ok (freed 2)) [] }
 {}
 
 /// So it is with byte strings.
-#[tactic(auto, using(crate::proofs::MapsOfPairs::bytes_computed))]
+#[tactic(auto, using(crate::proofs::lemmas::maps::MapsOfPairs::bytes_computed))]
 pub fn free_of_byte_strings()
     ensures strings { Becomes (two_strings 2) (codes "free a") (Ok (freed 2)) (strings 2 []) }
     ensures bytes { Becomes (two_bytes 3) (codes "free a") (Ok (freed 2)) (bytes 3 []) }
 {}
 
 /// And with `drop`.
-#[tactic(auto, using(crate::proofs::MapsOfPairs::bytes_computed))]
+#[tactic(auto, using(crate::proofs::lemmas::maps::MapsOfPairs::bytes_computed))]
 pub fn drop_of_byte_strings()
     ensures strings { Becomes (two_strings 2) (codes "drop a") (Ok (freed 2)) [] }
     ensures bytes { Becomes (two_bytes 2) (codes "drop a") (Ok (freed 2)) [] }
 {}
 
 /// `make` puts an array behind the others, and is refused for a name that one has.
-#[tactic(auto, using(crate::proofs::MapsOfPairs::words_computed))]
+#[tactic(auto, using(crate::proofs::lemmas::maps::MapsOfPairs::words_computed))]
 pub fn make_beside_an_array()
     ensures new { Becomes (two_words 2) (codes "make b judy1 5") (Ok done)
         (two_words 2 ++ (codes "b", judy1 (empty_array 5)) ∷ []) }
@@ -42,7 +42,7 @@ pub fn make_beside_an_array()
 {}
 
 /// A store has at most 64 arrays; a bad limit and a name that is taken come before that.
-#[tactic(auto, using(crate::proofs::MapsOfPairs::words_computed))]
+#[tactic(auto, using(crate::proofs::lemmas::maps::MapsOfPairs::words_computed))]
 pub fn make_beside_64_arrays()
     ensures many { IsReplied names_of_one_byte (codes "make ab judyl") (Err too_many_arrays) }
     ensures many_with_limit { IsReplied names_of_one_byte (codes "make ab judyl 1")
@@ -52,7 +52,7 @@ pub fn make_beside_64_arrays()
 {}
 
 /// `list` answers the store itself; put out, each array stands with its kind and its number of keys.
-#[tactic(auto, using(crate::proofs::MapsOfPairs::words_computed))]
+#[tactic(auto, using(crate::proofs::lemmas::maps::MapsOfPairs::words_computed))]
 pub fn list_of_words()
     ensures set { IsReplied (two_keys 2) (codes "list") (Ok (listed (two_keys 2))) }
     ensures words { IsReplied (two_words 2) (codes "list") (Ok (listed (two_words 2))) }

@@ -5,7 +5,7 @@ ghost use Rattle.judy_model.specs.Replies.{was, flag, number, entry, nothing, ba
 ghost use Rattle.judy_model.specs.CommandExamples.{Becomes, IsReplied, words, two_words};
 
 /// `get` answers the value of a key, and `none` at a key that isn't there.
-#[tactic(auto, using(crate::proofs::MapsOfPairs::words_computed))]
+#[tactic(auto, using(crate::proofs::lemmas::maps::MapsOfPairs::words_computed))]
 pub fn get_on_words()
     ensures present { IsReplied (two_words 2) (codes "get a 4") (Ok (number 40)) }
     ensures absent { IsReplied (two_words 2) (codes "get a 3") (Ok nothing) }
@@ -13,7 +13,7 @@ pub fn get_on_words()
 {}
 
 /// `put` answers the value that a key had and writes the one given; at a key that isn't there it answers `none`.
-#[tactic(auto, using(crate::proofs::MapsOfPairs::words_computed))]
+#[tactic(auto, using(crate::proofs::lemmas::maps::MapsOfPairs::words_computed))]
 pub fn put_on_words()
     ensures present { Becomes (two_words 2) (codes "put a 4 41") (Ok (was 40))
         (words 2 ((2, 20) ∷ (4, 41) ∷ [])) }
@@ -23,7 +23,7 @@ pub fn put_on_words()
 {}
 
 /// `ins` does so at a key that is there, full or not; a new key has shown 0 and has the value given, and is refused where the array is full.
-#[tactic(auto, using(crate::proofs::MapsOfPairs::words_computed))]
+#[tactic(auto, using(crate::proofs::lemmas::maps::MapsOfPairs::words_computed))]
 pub fn ins_on_words()
     ensures present { Becomes (two_words 2) (codes "ins a 4 41") (Ok (was 40))
         (words 2 ((2, 20) ∷ (4, 41) ∷ [])) }
@@ -35,7 +35,7 @@ pub fn ins_on_words()
 {}
 
 /// `del` answers 1 and takes out a key that is there, and 0 at another.
-#[tactic(auto, using(crate::proofs::MapsOfPairs::words_computed))]
+#[tactic(auto, using(crate::proofs::lemmas::maps::MapsOfPairs::words_computed))]
 pub fn del_on_words()
     ensures present { Becomes (two_words 2) (codes "del a 4") (Ok (flag true))
         (words 2 ((2, 20) ∷ [])) }
@@ -46,7 +46,7 @@ pub fn del_on_words()
 {}
 
 /// The neighbours of a word, with their values.
-#[tactic(auto, using(crate::proofs::MapsOfPairs::words_computed))]
+#[tactic(auto, using(crate::proofs::lemmas::maps::MapsOfPairs::words_computed))]
 pub fn neighbours_on_words()
     ensures first_at { IsReplied (two_words 2) (codes "first a 2") (Ok (entry 2 20)) }
     ensures first_above { IsReplied (two_words 2) (codes "first a 3") (Ok (entry 4 40)) }
@@ -62,7 +62,7 @@ pub fn neighbours_on_words()
 {}
 
 /// The words beside it that are no keys.
-#[tactic(auto, using(crate::proofs::MapsOfPairs::words_computed))]
+#[tactic(auto, using(crate::proofs::lemmas::maps::MapsOfPairs::words_computed))]
 pub fn empty_neighbours_on_words()
     ensures first_at { IsReplied (two_words 2) (codes "fe a 3") (Ok (number 3)) }
     ensures first_above { IsReplied (two_words 2) (codes "fe a 4") (Ok (number 5)) }
@@ -78,7 +78,7 @@ pub fn empty_neighbours_on_words()
 {}
 
 /// Which key stands at a place, counted from 1, with its value, and how many keys lie between two words.
-#[tactic(auto, using(crate::proofs::MapsOfPairs::words_computed))]
+#[tactic(auto, using(crate::proofs::lemmas::maps::MapsOfPairs::words_computed))]
 pub fn counts_on_words()
     ensures first { IsReplied (two_words 2) (codes "bycount a 1") (Ok (entry 2 20)) }
     ensures second { IsReplied (two_words 2) (codes "bycount a 2") (Ok (entry 4 40)) }

@@ -1,7 +1,7 @@
 use Rattle.std.proofs.Common.{◌%◌, ◌^◌, length, get_or, sym, ap, refl, ◌∙◌, subst, arith}
 use Rattle.std.proofs.lemmas.Nat.{mod_below}
 use Rattle.std.proofs.Math.Nat.{pow-le-pow_right}
-use Rattle.judy_model.proofs.ByteLemmas.{unit_pos}
+use Rattle.judy_model.proofs.lemmas.orders.ByteLemmas.{unit_pos}
 use Rattle.judy_leaf.specs.KeyLists.{low_pairs}
 use Rattle.judy_leaf.specs.Immediates.{parts_list, IsImmParts}
 use Rattle.judy_node.proofs.Leaves.{map_list, map_free}

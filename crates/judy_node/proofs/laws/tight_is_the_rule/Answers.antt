@@ -1,6 +1,6 @@
 use Rattle.std.proofs.Common.{ap, ◌∙◌}
 use Rattle.judy_model.specs.Forms.{loose_in}
-use Rattle.judy_model.proofs.FormLemmas.{loose_in-form_of}
+use Rattle.judy_model.proofs.lemmas.forms.FormLemmas.{loose_in-form_of}
 use Rattle.judy_leaf.specs.KeyLists.{keys_of}
 use Rattle.judy_node.proofs.laws.tight_is_the_rule.Goals as goal
 

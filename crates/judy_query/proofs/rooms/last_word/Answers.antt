@@ -1,6 +1,6 @@
 use Rattle.std.proofs.Common.{◌^◌, ◌≤◌, ap, arith}
 use Rattle.std.proofs.Math.Nat.{pow-le-pow_right}
-use Rattle.judy_model.proofs.ByteLemmas.{unit_pos}
+use Rattle.judy_model.proofs.lemmas.orders.ByteLemmas.{unit_pos}
 use Rattle.judy_query.proofs.rooms.last_word.Goals as goal
 
 pub moved_up-requires-clause-within : goal.moved_up-requires-clause-within

@@ -1,7 +1,7 @@
 use Rattle.std.proofs.Common.{◌≡◌, ◌+◌, ◌*◌, ◌^◌, ◌<◌, ◌≤◌, length, Some, sym, ap, ◌∙◌, subst, arith, ltb-true, nat_lt}
 use Rattle.std.proofs.lemmas.Option.{slice_get-get_or}
 use Rattle.judy_model.specs.WordBytes.{number_of}
-use Rattle.judy_model.proofs.ByteLemmas.{number_of-lt}
+use Rattle.judy_model.proofs.lemmas.orders.ByteLemmas.{number_of-lt}
 use Rattle.judy_leaf.specs.KeyLists.{shift}
 use Rattle.judy_node.specs.Trees.{branch_pairs}
 use Rattle.judy_query.specs.Rooms.{IsRun}

@@ -1,6 +1,6 @@
 use Rattle.std.proofs.Common.{◌^◌, ◌+◌, ◌*◌, arith}
 use Rattle.judy_model.specs.WordBytes.{number_of}
-use Rattle.judy_model.proofs.ByteLemmas.{unit_pos}
+use Rattle.judy_model.proofs.lemmas.orders.ByteLemmas.{unit_pos}
 use Rattle.judy_node.proofs.StepFacts.{block_fits}
 use Rattle.judy_query.proofs.Blocks.{block_word}
 use Rattle.judy_query.proofs.rooms.start_of.Goals as goal

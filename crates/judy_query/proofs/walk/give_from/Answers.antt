@@ -1,7 +1,7 @@
 use Rattle.std.proofs.Common.{◌≡◌, ℕ, suc, ◌+◌, ◌-◌, ◌*◌, ◌^◌, ◌<◌, List, [], ◌++◌, length, sym, ap, ◌∙◌, subst, arith}
 use borrow.Rule.Slice.PartMut.{put_mid, put_same}
 use Rattle.judy_model.specs.WordBytes.{number_of}
-use Rattle.judy_model.proofs.ByteLemmas.{unit_pos}
+use Rattle.judy_model.proofs.lemmas.orders.ByteLemmas.{unit_pos}
 use Rattle.judy_bits.specs.ByteSets.{rank}
 use Rattle.judy_leaf.specs.KeyLists.{shift}
 use Rattle.judy_leaf.proofs.NextKeys.{rank_behind}

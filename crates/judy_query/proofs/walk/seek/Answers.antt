@@ -51,7 +51,8 @@ returns-in_default-step g c =
     let place : c.reached.result ≡ passed (length b.children.items) c.step-step.result = c.reached.ensures ∙ beside_reached (length b.children.items) c.step-step.result beside in
     let some = c.down.invariant.0.shown.some in
     record {
-      pairs = ap (λ ps. ps ++ waiting c.keep.new.turns.items) c.new-stretch.ensures
+      turns = c.keep.ensures.turns;
+      pairs = ap (λ ps. ps ++ waiting c.keep.new.turns.items) c.new.ensures
           ∙ c.keep.ensures.pairs
           ∙ (λ t. shift base (rest_of (256 ^ b.width) (number_of b.skip * 256) b.bytes b.children.items (place t)) ++ sym way.1 t)
           ∙ sym (part-rest words (256 ^ 8) pairs c.args.key 1 0 c.args.key [] _ _ part (omega arith) (omega arith));
@@ -100,8 +101,8 @@ down-preserved g c =
       omega (arith, visits, c.down.invariant.5),
     )
 
-pub new-stretch-requires-2 : goal.new-stretch-requires-2
-new-stretch-requires-2 g c =
+pub new-requires-2 : goal.new-requires-2
+new-requires-2 g c =
     let down = c.down.invariant.0 in
     let few = rank-le (keys_of (view_pairs c.down.view)) c.down.left in
     let long = length-keys_of (view_pairs c.down.view) in
@@ -123,7 +124,8 @@ returns g c =
     let here = view_pairs c.down.view in
     let some = down.shown.some in
     record {
-      pairs = (λ t. (c.new-stretch-2.ensures ∙ ap (λ n. shift base (drop n here)) c.rank_in-at.ensures) t ++ sym c.down.invariant.1 t)
+      turns = c.down.invariant.2;
+      pairs = (λ t. (c.new-2.ensures ∙ ap (λ n. shift base (drop n here)) c.rank_in-at.ensures) t ++ sym c.down.invariant.1 t)
           ∙ sym (part-rest words (256 ^ 8) pairs base (256 ^ width_of c.down.view) c.down.left c.args.key here down.front down.back down.part (omega arith) (let inside = down.inside in omega arith));
       no_fewer = omega (arith, c.down.invariant.5, c.enter-view.ensures.visits);
       visits = omega (arith, c.down.invariant.4);

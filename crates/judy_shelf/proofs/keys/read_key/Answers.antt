@@ -1,13 +1,13 @@
 use Rattle.std.proofs.Common.{◌≡◌, ℕ, Bool, List, [], ◌∷◌, ◌++◌, length, take, drop, nat_le, sym, subst, ◌∙◌, arith}
 use Rattle.std.proofs.lemmas.List.{length-take-le, take_at}
-use Rattle.judy_model.specs.Fields.{Fault, bad_key, bytes, number, field}
+use Rattle.judy_model.specs.Fields.{Flaw, bad_key, bytes, number, field}
 use Rattle.judy_model.specs.DumpGrammar as grammar
 use Rattle.judy_model.specs.declared.keys.TheConstants.{LONGEST_KEY}
 use Rattle.judy_shelf.specs.Reads.{drawn, cause_of, Nowhere, ReadsValue, ReadsFault}
 use Rattle.judy_shelf.proofs.ReadLemmas.{reads_err, fault_then, value_then}
 use Rattle.judy_shelf.proofs.keys.read_key.Goals as goal
 
-abbrev checks : List ((ℕ → Bool) × Fault)
+abbrev checks : List ((ℕ → Bool) × Flaw)
 checks = ((λ length. nat_le length LONGEST_KEY), bad_key) ∷ []
 
 pub returns-in_err-read_bytes-clause-read : goal.returns-in_err-read_bytes-clause-read

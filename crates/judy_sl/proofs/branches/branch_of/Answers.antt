@@ -3,7 +3,7 @@ use Rattle.std.proofs.lemmas.List.{take_rest, length-drop}
 use Rattle.judy_model.specs.Keys.{word_order}
 use Rattle.judy_model.specs.Arrays.{ArrayOf}
 use Rattle.judy_sl.specs.Branches.{IsSprout}
-use Rattle.judy_sl.proofs.Branching.{common-long, common-more}
+use Rattle.judy_sl.proofs.lemmas.pieces.Branching.{common-long, common-more}
 use Rattle.judy_sl.proofs.branches.branch_of.Goals as goal
 
 pub slice_bounds-held-count : goal.slice_bounds-held-count

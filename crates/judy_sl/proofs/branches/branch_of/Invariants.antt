@@ -1,5 +1,5 @@
 use Rattle.std.proofs.Common.{length}
-use Rattle.judy_sl.proofs.Branching.{IsCommon}
+use Rattle.judy_sl.proofs.lemmas.pieces.Branching.{IsCommon}
 use Rattle.judy_sl.proofs.branches.branch_of.Given as goal
 
 abbrev pub invariant-loop-piece : goal.invariant-loop-piece

@@ -2,7 +2,7 @@ use Rattle.std.proofs.Common.{ℕ, ◌-◌, ◌∙◌, ap, sym, arith}
 use Rattle.std.specs.FinMap.{FinMap}
 use Rattle.judy_model.specs.Keys.{word_order}
 use Rattle.judy_model.specs.Counts.{rank, count}
-use Rattle.judy_sl.proofs.RankCounts.{words_below, words_none}
+use Rattle.judy_sl.proofs.lemmas.counts.RankCounts.{words_below, words_none}
 use Rattle.judy_sl.proofs.counts.lesser_in.Goals as goal
 
 pub returns-then-piece-eq0 : goal.returns-then-piece-eq0

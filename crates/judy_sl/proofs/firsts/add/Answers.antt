@@ -6,10 +6,10 @@ use Rattle.judy_sums.proofs.Raised.{lowered_raised}
 use Rattle.judy_sl.specs.Arenas.{map_of}
 use Rattle.judy_sl.specs.Firsts.{AreFirsts}
 use Rattle.judy_sl.specs.Pieces.{piece_of}
-use Rattle.judy_sl.proofs.Beginnings.{firsts_sum, firsts_len, firsts_more, number_some, number_there}
-use Rattle.judy_sl.proofs.FirstWays.{begun_none, begun_some, firsts_same, added_more, tried_first}
-use Rattle.judy_sl.proofs.Inserted.{way-none}
-use Rattle.judy_sl.proofs.Maps.{get-map}
+use Rattle.judy_sl.proofs.lemmas.counts.Beginnings.{firsts_sum, firsts_len, firsts_more, number_some, number_there}
+use Rattle.judy_sl.proofs.lemmas.counts.FirstWays.{begun_none, begun_some, firsts_same, added_more, tried_first}
+use Rattle.judy_sl.proofs.lemmas.inserts.Inserted.{way-none}
+use Rattle.judy_sl.proofs.lemmas.seats.Maps.{get-map}
 use Rattle.judy_sl.proofs.firsts.add.Goals as goal
 
 pub raise-requires-clause-fits : goal.raise-requires-clause-fits

@@ -4,7 +4,7 @@ use Rattle.judy_sums.specs.Pairs.{number_at, lowered}
 use Rattle.judy_sl.specs.Arenas.{map_of}
 use Rattle.judy_sl.specs.Pieces.{piece_of}
 use Rattle.judy_sl.specs.Firsts.{AreFirsts}
-use Rattle.judy_sl.proofs.FirstWays.{gone_there, gone_some, gone_less, gone_last, gone_nothing}
+use Rattle.judy_sl.proofs.lemmas.counts.FirstWays.{gone_there, gone_some, gone_less, gone_last, gone_nothing}
 use Rattle.judy_sl.proofs.firsts.del.Goals as goal
 
 -- What isn't some is none.

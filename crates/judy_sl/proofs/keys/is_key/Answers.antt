@@ -1,6 +1,6 @@
 use Rattle.std.proofs.Common.{◌≡◌, ◌≢◌, ℕ, true, false, ◌==◌, not, sym, ap, ◌∙◌, ne_eqb}
 use Rattle.std.proofs.lemmas.List.Sums.{AllPass-from_list_all, list_all-from_AllPass}
-use Rattle.judy_sl.proofs.PieceLemmas.{text_from_bytes, key_of_text}
+use Rattle.judy_sl.proofs.lemmas.pieces.PieceLemmas.{text_from_bytes, key_of_text}
 use Rattle.judy_sl.proofs.keys.is_key.Goals as goal
 
 -- A byte that passes the test isn't zero,

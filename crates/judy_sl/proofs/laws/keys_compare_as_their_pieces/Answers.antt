@@ -1,5 +1,5 @@
 use Rattle.std.proofs.Common.{sym}
-use Rattle.judy_sl.proofs.PieceLemmas.{text_of_key, order-pieces}
+use Rattle.judy_sl.proofs.lemmas.pieces.PieceLemmas.{text_of_key, order-pieces}
 use Rattle.judy_sl.proofs.laws.keys_compare_as_their_pieces.Goals as goal
 
 pub returns : goal.returns

@@ -1,4 +1,4 @@
-use Rattle.judy_sl.proofs.Behind.{entries_behind}
+use Rattle.judy_sl.proofs.lemmas.seats.Behind.{entries_behind}
 use Rattle.judy_sl.proofs.laws.keys_stand_entry_by_entry.Goals as goal
 
 pub returns : goal.returns

@@ -1,5 +1,5 @@
-use Rattle.judy_sl.proofs.PieceLemmas.{text_of_key}
-use Rattle.judy_sl.proofs.PieceBytes.{spelling-pieces}
+use Rattle.judy_sl.proofs.lemmas.pieces.PieceLemmas.{text_of_key}
+use Rattle.judy_sl.proofs.lemmas.pieces.PieceBytes.{spelling-pieces}
 use Rattle.judy_sl.proofs.laws.pieces_spell_their_key.Goals as goal
 
 pub returns : goal.returns

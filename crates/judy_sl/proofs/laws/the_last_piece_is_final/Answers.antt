@@ -1,4 +1,4 @@
-use Rattle.judy_sl.proofs.PieceLemmas.{text_of_key, pieces_are}
+use Rattle.judy_sl.proofs.lemmas.pieces.PieceLemmas.{text_of_key, pieces_are}
 use Rattle.judy_sl.proofs.laws.the_last_piece_is_final.Goals as goal
 
 pub returns : goal.returns

@@ -4,7 +4,7 @@ use Rattle.judy_model.specs.Keys.{word_order}
 use Rattle.judy_model.specs.Counts.{by_count}
 use Rattle.judy_sums.specs.Pairs.{sum_below}
 use Rattle.judy_sl.specs.Nth.{before_entry}
-use Rattle.judy_sl.proofs.Nths.{place_some, place_at}
+use Rattle.judy_sl.proofs.lemmas.places.Nths.{place_some, place_at}
 use Rattle.judy_sl.proofs.nth.before_entry.Goals as goal
 
 pub unreachable-requires : goal.unreachable-requires

@@ -1,5 +1,5 @@
 use Rattle.std.proofs.Common.{◌-◌}
-use Rattle.judy_sl.proofs.Nths.{Choosing}
+use Rattle.judy_sl.proofs.lemmas.places.Nths.{Choosing}
 use Rattle.judy_sl.proofs.nth.chosen.Given as goal
 
 abbrev pub invariant-search : goal.invariant-search

@@ -3,8 +3,8 @@ use Rattle.std.specs.Cmp.{nat_cmp_total}
 use Rattle.std.specs.FinMap.{FinMap, entries}
 use Rattle.judy_model.specs.Keys.{word_order}
 use Rattle.judy_model.specs.Counts.{rank, by_count}
-use Rattle.judy_model.proofs.RankLemmas.{rank_at, nth-slice_get}
-use Rattle.judy_sl.proofs.Nths.{place_some, place_at}
+use Rattle.judy_model.proofs.lemmas.queries.RankLemmas.{rank_at, nth-slice_get}
+use Rattle.judy_sl.proofs.lemmas.places.Nths.{place_some, place_at}
 use Rattle.judy_sl.proofs.nth.entries_at.Goals as goal
 
 pub overflow_add-place : goal.overflow_add-place

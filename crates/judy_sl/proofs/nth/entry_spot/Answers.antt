@@ -2,7 +2,7 @@ use Rattle.std.proofs.Common.{ℕ, ◌+◌, ◌∙◌, sym, ap, arith}
 use Rattle.std.specs.FinMap.{FinMap, get}
 use Rattle.judy_model.specs.Keys.{word_order}
 use Rattle.judy_model.specs.Counts.{by_count}
-use Rattle.judy_sl.proofs.Nths.{place_some}
+use Rattle.judy_sl.proofs.lemmas.places.Nths.{place_some}
 use Rattle.judy_sl.proofs.nth.entry_spot.Goals as goal
 
 pub overflow_add-entry : goal.overflow_add-entry

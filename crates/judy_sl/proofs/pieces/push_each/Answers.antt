@@ -3,7 +3,7 @@ use Rattle.std.proofs.lemmas.List.{append-nil, append_assoc, take_all, take-appe
 use Rattle.std.proofs.lemmas.List.Elements.{filter_more, filter-append}
 use Rattle.judy_tails.specs.Writers.{StaysBeyond}
 use Rattle.judy_tails.proofs.Writing.{stays-beyond}
-use Rattle.judy_sl.proofs.PieceBytes.{piece_bytes-be}
+use Rattle.judy_sl.proofs.lemmas.pieces.PieceBytes.{piece_bytes-be}
 use Rattle.judy_sl.proofs.pieces.push_each.Goals as goal
 use Rattle.judy_sl.proofs.pieces.push_each.Goals.{then-byte-ne0, else-byte-ne0}
 use Rattle.judy_model.specs.declared.keys.TheConstants.{LONGEST_KEY}

@@ -1,5 +1,5 @@
 use Rattle.std.proofs.Common.{◌++◌, length, ap, sym, ◌∙◌, arith}
-use Rattle.judy_sl.proofs.PieceBytes.{whole_bytes}
+use Rattle.judy_sl.proofs.lemmas.pieces.PieceBytes.{whole_bytes}
 use Rattle.judy_sl.proofs.pieces.push_piece.Goals as goal
 
 pub put_eight-requires : goal.put_eight-requires

@@ -5,8 +5,8 @@ use Rattle.judy_sl.specs.Pieces.{IsText}
 use Rattle.judy_sl.specs.Places.{place_with}
 use Rattle.judy_sl.specs.declared.arena.Place.TheVariants.{Below}
 use Rattle.judy_sl.specs.Planted.{planted, IsPlanted}
-use Rattle.judy_sl.proofs.PieceLemmas.{text_of_key, text-drop}
-use Rattle.judy_sl.proofs.PlantedKeys.{planted-map, planted-more}
+use Rattle.judy_sl.proofs.lemmas.pieces.PieceLemmas.{text_of_key, text-drop}
+use Rattle.judy_sl.proofs.lemmas.made.PlantedKeys.{planted-map, planted-more}
 use Rattle.judy_sl.proofs.planting.plant.Goals as goal
 
 pub put_tail-requires-clause-text : goal.put_tail-requires-clause-text

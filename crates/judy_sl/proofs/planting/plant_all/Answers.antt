@@ -8,8 +8,8 @@ use Rattle.judy_sl.specs.Pieces.{piece_of}
 use Rattle.judy_sl.specs.Planted.{openers, planted, AreBelow, IsPlanted}
 use Rattle.judy_sl.specs.Sorted.{pairs_in, with_pairs}
 use Rattle.judy_sl.specs.declared.arena.Arena.{Arena}
-use Rattle.judy_sl.proofs.Openers.{opens-above, opened, passed}
-use Rattle.judy_sl.proofs.PlantedKeys.{below-more}
+use Rattle.judy_sl.proofs.lemmas.made.Openers.{opens-above, opened, passed}
+use Rattle.judy_sl.proofs.lemmas.made.PlantedKeys.{below-more}
 use Rattle.judy_sl.proofs.planting.plant_all.Goals as goal
 use Rattle.judy_sl.proofs.planting.plant_all.Goals.{then-opens+in_ok-plant, else-opens}
 

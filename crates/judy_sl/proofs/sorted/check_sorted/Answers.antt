@@ -1,8 +1,8 @@
 use Rattle.std.proofs.Common.{◌≡◌, length, None, sym, ◌∙◌, arith}
 use Rattle.std.proofs.lemmas.List.{length-map}
 use Rattle.judy_sl.specs.Sorted.{strings_in, GoesOn, StaysBelow, IsNoKey}
-use Rattle.judy_sl.proofs.PieceLemmas.{text_of_key}
-use Rattle.judy_sl.proofs.SortedRuns.{run-more, run-to, run-all, string-at}
+use Rattle.judy_sl.proofs.lemmas.pieces.PieceLemmas.{text_of_key}
+use Rattle.judy_sl.proofs.lemmas.made.SortedRuns.{run-more, run-to, run-all, string-at}
 use Rattle.judy_sl.proofs.sorted.check_sorted.Goals as goal
 
 pub returns-then-not-is_key-clause-refused : goal.returns-then-not-is_key-clause-refused

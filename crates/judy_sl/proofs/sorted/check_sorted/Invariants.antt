@@ -2,7 +2,7 @@ use Rattle.std.proofs.Common.{◌≤◌, None, IfSome}
 use Rattle.std.specs.Option.{option_copied}
 use Rattle.judy_sl.specs.Pieces.{IsText}
 use Rattle.judy_sl.specs.Sorted.{strings_in}
-use Rattle.judy_sl.proofs.SortedRuns.{Run}
+use Rattle.judy_sl.proofs.lemmas.made.SortedRuns.{Run}
 use Rattle.judy_sl.proofs.sorted.check_sorted.Given as goal
 
 -- as many as were read are keys that ascend up to the last one, and no more than the limit

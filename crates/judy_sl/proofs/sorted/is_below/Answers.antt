@@ -1,8 +1,8 @@
 use Rattle.std.proofs.Common.{ap, sym, ◌∙◌}
 use Rattle.std.specs.Ordering.{is_lt}
 use Rattle.std.proofs.lemmas.List.{take_rest}
-use Rattle.judy_sl.proofs.PieceLemmas.{text-drop}
-use Rattle.judy_sl.proofs.SortedRuns.{below-first, behind-first, left-ends, right-ends}
+use Rattle.judy_sl.proofs.lemmas.pieces.PieceLemmas.{text-drop}
+use Rattle.judy_sl.proofs.lemmas.made.SortedRuns.{below-first, behind-first, left-ends, right-ends}
 use Rattle.judy_sl.proofs.sorted.is_below.Goals as goal
 
 pub returns-then-piece-beside : goal.returns-then-piece-beside

@@ -1,5 +1,5 @@
 use Rattle.std.proofs.Common.{◌-◌, ◌*◌, ◌/◌, ◌&&◌, length, ap, ◌∙◌, arith}
-use Rattle.judy_sl.proofs.ZeroLemmas.{are, overlapping}
+use Rattle.judy_sl.proofs.lemmas.pieces.ZeroLemmas.{are, overlapping}
 use Rattle.judy_sl.proofs.zeros.are_nonzero.Goals as goal
 
 pub returns-in-Some : goal.returns-in-Some

@@ -1,7 +1,7 @@
 use Rattle.std.proofs.Common.{nat_eq, ap, ◌∙◌, arith}
 use Rattle.std.proofs.lemmas.Simd.{bitmask_splat}
 use mir.Syntax.{w8}
-use Rattle.judy_sl.proofs.ZeroLemmas.{no_bit}
+use Rattle.judy_sl.proofs.lemmas.pieces.ZeroLemmas.{no_bit}
 use Rattle.judy_sl.proofs.zeros.are_sixteen.Goals as goal
 
 pub returns : goal.returns

@@ -1,5 +1,5 @@
 use Rattle.std.proofs.Common.{◌≡◌, ◌+◌, ◌*◌, ◌/◌, ◌&&◌, [], length, take, get_or, ap, ◌∙◌, arith}
-use Rattle.judy_sl.proofs.ZeroLemmas.{are, more, chunk_is}
+use Rattle.judy_sl.proofs.lemmas.pieces.ZeroLemmas.{are, more, chunk_is}
 use Rattle.judy_sl.proofs.zeros.are_sixteens.Goals as goal
 
 pub loop-i-preserved : goal.loop-i-preserved

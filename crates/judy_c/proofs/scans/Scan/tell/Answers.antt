@@ -2,7 +2,7 @@
 use Rattle.std.proofs.Common.{◌≡◌, ◌∙◌, refl, sym, ap, subst, Some}
 use Rattle.std.specs.Option.{option_copied_mut}
 use Rattle.judy_c.specs.Answers.{IsSaid}
-use Rattle.judy_c.specs.KeyScans.{Room, neighbour, scan_says}
+use Rattle.judy_c.specs.KeyScans.{CallerBuffer, neighbour, scan_says}
 use Rattle.judy_c.specs.StringMaps.{array_in, array_of}
 use Rattle.judy_c.proofs.ScanFacts.{no_neighbour}
 use Rattle.judy_c.proofs.scans.Scan.tell.Goals as goal
@@ -10,16 +10,16 @@ use Rattle.judy_c.proofs.scans.Scan.tell.Goals as goal
 pub returns-then-buffer-lt-LONGEST_KEY-clause-told : goal.returns-then-buffer-lt-LONGEST_KEY-clause-told
 returns-then-buffer-lt-LONGEST_KEY-clause-told c =
     let scan = c.args.self in
-    let before : Room = record { buffer = c.args.buffer.now; count = c.args.count.now; value = c.args.value.now } in
-    let after : Room = record { buffer = c.tell_beside.new.buffer; count = c.tell_beside.new.count; value = c.tell_beside.new.value } in
+    let before : CallerBuffer = record { buffer = c.args.buffer.now; count = c.args.count.now; value = c.args.value.now } in
+    let after : CallerBuffer = record { buffer = c.tell_beside.new.buffer; count = c.tell_beside.new.count; value = c.tell_beside.new.value } in
     let held : Some c.in-Some.array.now ≡ c.args.handle.now.array = sym (ap option_copied_mut c.in-Some.is) ∙ c.array.ensures.value in
     subst (λ m. IsSaid (scan_says m (neighbour scan m) before after) c.tell_beside.result) (ap (λ o. (array_of o).map) held) c.tell_beside.ensures
 
 pub returns-else-buffer-lt-LONGEST_KEY-clause-told : goal.returns-else-buffer-lt-LONGEST_KEY-clause-told
 returns-else-buffer-lt-LONGEST_KEY-clause-told c =
     let scan = c.args.self in
-    let before : Room = record { buffer = c.args.buffer.now; count = c.args.count.now; value = c.args.value.now } in
-    let after : Room = record { buffer = c.tell_in.new.buffer; count = c.tell_in.new.count; value = c.tell_in.new.value } in
+    let before : CallerBuffer = record { buffer = c.args.buffer.now; count = c.args.count.now; value = c.args.value.now } in
+    let after : CallerBuffer = record { buffer = c.tell_in.new.buffer; count = c.tell_in.new.count; value = c.tell_in.new.value } in
     let held : Some c.in-Some.array.now ≡ c.args.handle.now.array = sym (ap option_copied_mut c.in-Some.is) ∙ c.array.ensures.value in
     subst (λ m. IsSaid (scan_says m (neighbour scan m) before after) c.tell_in.result) (ap (λ o. (array_of o).map) held) c.tell_in.ensures
 

@@ -1,13 +1,13 @@
 -- `Scan::tell_beside`: the key in the buffer of its own is the one that the scan looks for.
-use Rattle.judy_c.specs.KeyScans.{Room}
+use Rattle.judy_c.specs.KeyScans.{CallerBuffer}
 use Rattle.judy_c.proofs.ScanFacts.{told, key_beside, value_beside, room_begins}
 use Rattle.judy_c.proofs.scans.Scan.tell_beside.Goals as goal
 
 pub returns : goal.returns
 returns c =
     let scan = c.args.self in let map = c.args.array.now.map in let buffer = c.args.buffer.now in let count = c.args.count.now in
-    let before : Room = record { buffer = buffer; count = count; value = c.args.value.now } in
-    let after : Room = record { buffer = c.tell_entry.new.buffer; count = c.tell_entry.new.count; value = c.tell_entry.new.value } in
+    let before : CallerBuffer = record { buffer = buffer; count = count; value = c.args.value.now } in
+    let after : CallerBuffer = record { buffer = c.tell_entry.new.buffer; count = c.tell_entry.new.count; value = c.tell_entry.new.value } in
     let inside = c.requires.start.0 in
     let begins = room_begins c.room_for-room.result buffer count inside c.room_for-room.ensures in
     told map before after scan c.requires.start c.neighbour_in-found.result _ c.tell_entry.result

@@ -1,14 +1,14 @@
 -- `Scan::tell_in`: where no value was found, no key was, and the buffer stays.
 use Rattle.std.proofs.Common.{◌∙◌, refl}
-use Rattle.judy_c.specs.KeyScans.{Room}
+use Rattle.judy_c.specs.KeyScans.{CallerBuffer}
 use Rattle.judy_c.proofs.ScanFacts.{told, key_found, key_is, value_is, none_stays}
 use Rattle.judy_c.proofs.scans.Scan.tell_in.Goals as goal
 
 pub returns-in-None : goal.returns-in-None
 returns-in-None c =
     let scan = c.args.self in let map = c.args.array.now.map in let buffer = c.args.buffer.now in let count = c.args.count.now in
-    let before : Room = record { buffer = buffer; count = count; value = c.args.value.now } in
-    let after : Room = record { buffer = c.neighbour_in.new.buffer; count = c.neighbour_in.new.len; value = c.args.value.now } in
+    let before : CallerBuffer = record { buffer = buffer; count = count; value = c.args.value.now } in
+    let after : CallerBuffer = record { buffer = c.neighbour_in.new.buffer; count = c.neighbour_in.new.len; value = c.args.value.now } in
     let inside = c.requires.start.0 in
     let value = c.in-None.ensures.value ∙ value_is scan c.look.result map (c.look.ensures map) buffer count inside in
     let stays = none_stays scan c.look.result map (c.look.ensures map) buffer count inside after.buffer after.count c.in-None.ensures.key value in

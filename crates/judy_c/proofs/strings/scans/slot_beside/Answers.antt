@@ -1,6 +1,6 @@
 -- `slot_beside`: the key in the buffer of its own is the one that the scan looks for; where it isn't told, its value is as it was.
 use Rattle.std.proofs.Common.{refl, ap, inr, Some, None}
-use Rattle.judy_c.specs.KeyScans.{Room}
+use Rattle.judy_c.specs.KeyScans.{CallerBuffer}
 use Rattle.judy_c.proofs.ScanFacts.{told, found_held, key_beside, value_beside, room_begins}
 use Rattle.judy_c.proofs.StringHandles.{kept_value}
 use Rattle.judy_c.proofs.strings.scans.slot_beside.Goals as goal
@@ -17,8 +17,8 @@ returns-else-write_key c =
       record {
         writes_back = tt;
         found = λ other.
-            let before : Room = record { buffer = buffer; count = count; value = other } in
-            let after : Room = record { buffer = c.write_key.new.buffer; count = c.write_key.new.count; value = other } in
+            let before : CallerBuffer = record { buffer = buffer; count = count; value = other } in
+            let after : CallerBuffer = record { buffer = c.write_key.new.buffer; count = c.write_key.new.count; value = other } in
             told map before after scan c.requires.start (Some c.in-Some.slot.now) _ 5 key value (refl, stays.0, λ t. record { buffer = stays.1 t; count = stays.2 t; value = other });
       },
     )
@@ -34,7 +34,7 @@ returns-in-None c =
       record {
         writes_back = tt;
         found = λ other.
-            let before : Room = record { buffer = buffer; count = count; value = other } in
+            let before : CallerBuffer = record { buffer = buffer; count = count; value = other } in
             told map before before scan c.requires.start None _ 0 key value (refl, refl);
       },
     )

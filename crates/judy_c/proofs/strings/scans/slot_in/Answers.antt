@@ -1,6 +1,6 @@
 -- `slot_in`: where no slot was lent, no key was found, and the buffer stays.
 use Rattle.std.proofs.Common.{◌∙◌, refl, None}
-use Rattle.judy_c.specs.KeyScans.{Room}
+use Rattle.judy_c.specs.KeyScans.{CallerBuffer}
 use Rattle.judy_c.proofs.ScanFacts.{told, key_found, key_is, value_is, none_stays}
 use Rattle.judy_c.proofs.strings.scans.slot_in.Goals as goal
 
@@ -14,8 +14,8 @@ returns-in-None c =
       record {
         writes_back = tt;
         found = λ other.
-            let before : Room = record { buffer = buffer; count = count; value = other } in
-            let after : Room = record { buffer = c.neighbour_slot_in.new.buffer; count = c.neighbour_slot_in.new.len; value = other } in
+            let before : CallerBuffer = record { buffer = buffer; count = count; value = other } in
+            let after : CallerBuffer = record { buffer = c.neighbour_slot_in.new.buffer; count = c.neighbour_slot_in.new.len; value = other } in
             told map before after scan c.requires.start None (key_found scan c.look.result map (c.look.ensures map) buffer count inside) 0 (key_is scan c.look.result map (c.look.ensures map) buffer count inside)
             value (refl, λ t. record { buffer = stays.0 t; count = stays.1 t; value = other });
       },

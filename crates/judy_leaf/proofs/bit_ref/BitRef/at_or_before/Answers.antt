@@ -1,6 +1,6 @@
 use Rattle.std.proofs.Common.{◌≡◌, ℕ, ◌+◌, ◌-◌, ◌<◌, ◌≤◌, min, ⊎_elim, List, Some, ap, sym, ◌∙◌, arith}
 use Rattle.std.proofs.lemmas.Bool.{cases_lt}
-use Rattle.judy_model.proofs.Places.{before_place}
+use Rattle.judy_model.proofs.lemmas.queries.Places.{before_place}
 use Rattle.judy_bits.specs.ByteSets as set
 use Rattle.judy_bits.specs.ByteSets.{IsByteSet}
 use Rattle.judy_leaf.specs.KeyLists.{keys_of}

@@ -1,7 +1,7 @@
 use Rattle.std.proofs.Common.{◌%◌, ◌^◌, ◌<◌, ℕ, length, take, get_or, ap, sym, subst, ◌∙◌, arith}
 use Rattle.std.proofs.lemmas.List.{length-take-le, take_all}
 use Rattle.std.proofs.lemmas.Nat.{mod_below}
-use Rattle.judy_model.proofs.ByteLemmas.{unit_pos}
+use Rattle.judy_model.proofs.lemmas.orders.ByteLemmas.{unit_pos}
 use Rattle.judy_bits.specs.ByteSets as set
 use Rattle.judy_leaf.specs.KeyLists.{keys_of, low_pairs, with_pair}
 use Rattle.judy_leaf.specs.Immediates.{imm_room}

@@ -1,7 +1,7 @@
 use Rattle.std.proofs.Common.{[], ◌∷◌, Ok, Err, inl, inr, refl}
 use Rattle.judy_model.specs.Replies.{done, no_memory}
 use Rattle.judy_model.specs.Examples.{two_lines}
-use Rattle.judy_model.proofs.RunLaws.{Run-ample}
+use Rattle.judy_model.proofs.lemmas.runs.RunLaws.{Run-ample}
 use Rattle.judy_model.proofs.examples.runs.two_lines_are_run.Goals as goal
 
 pub returns : goal.returns

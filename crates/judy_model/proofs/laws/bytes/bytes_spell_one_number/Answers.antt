@@ -1,4 +1,4 @@
-use Rattle.judy_model.proofs.ByteLemmas.{number_of-lt, low_bytes-number_of}
+use Rattle.judy_model.proofs.lemmas.orders.ByteLemmas.{number_of-lt, low_bytes-number_of}
 use Rattle.judy_model.proofs.laws.bytes.bytes_spell_one_number.Goals as goal
 
 pub returns : goal.returns

@@ -1,4 +1,4 @@
-use Rattle.judy_model.proofs.ByteLemmas.{order-low_bytes}
+use Rattle.judy_model.proofs.lemmas.orders.ByteLemmas.{order-low_bytes}
 use Rattle.judy_model.proofs.laws.bytes.words_compare_as_their_bytes.Goals as goal
 
 pub returns : goal.returns

@@ -1,6 +1,6 @@
 use Rattle.std.specs.Cmp.{nat_cmp_total}
 use Rattle.std.specs.Cmp.Lexicographic.{nat_list_cmp_total}
-use Rattle.judy_model.proofs.ChangesLemmas.{get-del_same}
+use Rattle.judy_model.proofs.lemmas.maps.ChangesLemmas.{get-del_same}
 use Rattle.judy_model.proofs.laws.changes.del_takes_out.Goals as goal
 
 pub returns : goal.returns

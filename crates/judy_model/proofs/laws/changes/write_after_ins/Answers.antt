@@ -1,7 +1,7 @@
 use Rattle.std.specs.Cmp.{nat_cmp_total}
 use Rattle.std.specs.Cmp.Lexicographic.{nat_list_cmp_total}
 use Rattle.std.specs.FinMap.{nat_cmp-IsAntisymmetric, slice_cmp-IsAntisymmetric}
-use Rattle.judy_model.proofs.ChangesLemmas.{write-ins}
+use Rattle.judy_model.proofs.lemmas.maps.ChangesLemmas.{write-ins}
 use Rattle.judy_model.proofs.laws.changes.write_after_ins.Goals as goal
 
 pub returns : goal.returns

@@ -1,4 +1,4 @@
-use Rattle.judy_model.proofs.CountsLemmas.{count-keys_between}
+use Rattle.judy_model.proofs.lemmas.queries.CountsLemmas.{count-keys_between}
 use Rattle.judy_model.proofs.laws.counts.count_is_how_many.Goals as goal
 
 pub returns : goal.returns

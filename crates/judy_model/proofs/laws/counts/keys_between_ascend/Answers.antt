@@ -1,4 +1,4 @@
-use Rattle.judy_model.proofs.CountsLemmas.{keys_between_ascending}
+use Rattle.judy_model.proofs.lemmas.queries.CountsLemmas.{keys_between_ascending}
 use Rattle.judy_model.proofs.laws.counts.keys_between_ascend.Goals as goal
 
 pub returns : goal.returns

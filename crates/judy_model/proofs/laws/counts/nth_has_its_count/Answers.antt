@@ -2,7 +2,7 @@ use Rattle.std.proofs.Common.{[]}
 use Rattle.std.specs.Cmp.{nat_cmp_total}
 use Rattle.std.specs.Cmp.Lexicographic.{nat_list_cmp_total}
 use Rattle.std.specs.FinMap.{nat_cmp-IsAntisymmetric, slice_cmp-IsAntisymmetric}
-use Rattle.judy_model.proofs.CountsLemmas.{count-by_count, empty_string_is_least, zero_is_least}
+use Rattle.judy_model.proofs.lemmas.queries.CountsLemmas.{count-by_count, empty_string_is_least, zero_is_least}
 use Rattle.judy_model.proofs.laws.counts.nth_has_its_count.Goals as goal
 
 pub returns : goal.returns

@@ -1,4 +1,4 @@
-use Rattle.judy_model.proofs.DumpLemmas.{dump_back}
+use Rattle.judy_model.proofs.lemmas.dumps.DumpLemmas.{dump_back}
 use Rattle.judy_model.proofs.laws.dumps.grammar_gives_the_text.Goals as goal
 
 pub returns : goal.returns

@@ -1,7 +1,7 @@
 use Rattle.std.proofs.Common.{subst}
 use Rattle.judy_model.specs.DumpGrammar.{IsDump}
 use Rattle.judy_model.specs.DumpText.{dump_of}
-use Rattle.judy_model.proofs.DumpLemmas.{one_store, dump_again}
+use Rattle.judy_model.proofs.lemmas.dumps.DumpLemmas.{one_store, dump_again}
 use Rattle.judy_model.proofs.laws.dumps.one_dump_per_store.Goals as goal
 
 pub returns : goal.returns

@@ -1,4 +1,4 @@
-use Rattle.judy_model.proofs.DumpLemmas.{one_store, gives_exactly}
+use Rattle.judy_model.proofs.lemmas.dumps.DumpLemmas.{one_store, gives_exactly}
 use Rattle.judy_model.proofs.laws.dumps.one_store_per_dump.Goals as goal
 
 pub returns : goal.returns

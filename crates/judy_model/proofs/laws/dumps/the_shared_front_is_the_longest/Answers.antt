@@ -1,4 +1,4 @@
-use Rattle.judy_model.proofs.SharedKeys.{shares_front, front_is_shared}
+use Rattle.judy_model.proofs.lemmas.dumps.SharedKeys.{shares_front, front_is_shared}
 use Rattle.judy_model.proofs.laws.dumps.the_shared_front_is_the_longest.Goals as goal
 
 pub returns : goal.returns

@@ -1,5 +1,5 @@
 use Rattle.judy_model.specs.Steps.{grows}
-use Rattle.judy_model.proofs.SizeLemmas.{step-Adds, Adds-more, Adds-one}
+use Rattle.judy_model.proofs.lemmas.commands.SizeLemmas.{step-Adds, Adds-more, Adds-one}
 use Rattle.judy_model.proofs.laws.growth.a_line_that_grows_adds_one.Goals as goal
 
 pub returns : goal.returns

@@ -1,4 +1,4 @@
-use Rattle.judy_model.proofs.SizeLemmas.{outcome-Adds, Adds-more, Adds-one}
+use Rattle.judy_model.proofs.lemmas.commands.SizeLemmas.{outcome-Adds, Adds-more, Adds-one}
 use Rattle.judy_model.proofs.laws.growth.to_grow_is_to_hold_more.Goals as goal
 
 pub returns : goal.returns

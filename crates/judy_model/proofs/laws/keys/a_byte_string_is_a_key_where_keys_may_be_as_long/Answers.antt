@@ -1,5 +1,5 @@
 use Rattle.std.proofs.Common.{◌≤◌, arith}
-use Rattle.judy_model.proofs.KeyLengthLemmas.{judyhs_key, key_of_judyhs}
+use Rattle.judy_model.proofs.lemmas.orders.KeyLengthLemmas.{judyhs_key, key_of_judyhs}
 use Rattle.judy_model.proofs.laws.keys.a_byte_string_is_a_key_where_keys_may_be_as_long.Goals as goal
 
 pub returns : goal.returns

@@ -1,4 +1,4 @@
-use Rattle.judy_model.proofs.LineLemmas.{script_of-lines_of, are_lines-lines_of, lines_of-script_of}
+use Rattle.judy_model.proofs.lemmas.runs.LineLemmas.{script_of-lines_of, are_lines-lines_of, lines_of-script_of}
 use Rattle.judy_model.proofs.laws.lines.lines_give_the_script_back.Goals as goal
 
 pub returns : goal.returns

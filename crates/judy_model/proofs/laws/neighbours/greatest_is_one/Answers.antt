@@ -1,7 +1,7 @@
 use Rattle.std.specs.Cmp.{nat_cmp_total}
 use Rattle.std.specs.Cmp.Lexicographic.{nat_list_cmp_total}
 use Rattle.std.specs.FinMap.{nat_cmp-IsAntisymmetric, slice_cmp-IsAntisymmetric}
-use Rattle.judy_model.proofs.NearestLemmas.{greatest_is_one}
+use Rattle.judy_model.proofs.lemmas.queries.NearestLemmas.{greatest_is_one}
 use Rattle.judy_model.proofs.laws.neighbours.greatest_is_one.Goals as goal
 
 pub returns : goal.returns

@@ -1,8 +1,8 @@
 use Rattle.std.proofs.Common.{[], sym}
 use Rattle.std.specs.Cmp.{nat_cmp_total}
 use Rattle.std.specs.Cmp.Lexicographic.{nat_list_cmp_total}
-use Rattle.judy_model.proofs.RankLemmas.{count_from_least}
-use Rattle.judy_model.proofs.CountsLemmas.{zero_is_least, empty_string_is_least}
+use Rattle.judy_model.proofs.lemmas.queries.RankLemmas.{count_from_least}
+use Rattle.judy_model.proofs.lemmas.queries.CountsLemmas.{zero_is_least, empty_string_is_least}
 use Rattle.judy_model.proofs.laws.ranks.count_up_to_is_from_the_least.Goals as goal
 
 pub returns : goal.returns

@@ -1,6 +1,6 @@
 use Rattle.std.specs.Cmp.{nat_cmp_total}
 use Rattle.std.specs.Cmp.Lexicographic.{nat_list_cmp_total}
-use Rattle.judy_model.proofs.RankLaws.{nth_none}
+use Rattle.judy_model.proofs.lemmas.queries.RankLaws.{nth_none}
 use Rattle.judy_model.proofs.laws.ranks.no_place_is_outside.Goals as goal
 
 pub returns : goal.returns

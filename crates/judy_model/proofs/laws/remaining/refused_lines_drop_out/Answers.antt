@@ -1,5 +1,5 @@
 use Rattle.judy_model.specs.Lines.{lines_of}
-use Rattle.judy_model.proofs.RemainingLemmas.{Steps-remaining, Run-remaining}
+use Rattle.judy_model.proofs.lemmas.runs.RemainingLemmas.{Steps-remaining, Run-remaining}
 use Rattle.judy_model.proofs.laws.remaining.refused_lines_drop_out.Goals as goal
 
 pub returns : goal.returns

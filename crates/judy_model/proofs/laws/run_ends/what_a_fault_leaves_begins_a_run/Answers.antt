@@ -1,5 +1,5 @@
 use Rattle.std.proofs.Common.{IsTrue}
-use Rattle.judy_model.proofs.EndLemmas.{LeftBy-goes_on}
+use Rattle.judy_model.proofs.lemmas.runs.EndLemmas.{LeftBy-goes_on}
 use Rattle.judy_model.proofs.laws.run_ends.what_a_fault_leaves_begins_a_run.Goals as goal
 
 pub returns : goal.returns

@@ -1,4 +1,4 @@
-use Rattle.judy_model.proofs.RunLaws.{CutOff-RanInto, RanInto-CutOff, CutOff-goes_on}
+use Rattle.judy_model.proofs.lemmas.runs.RunLaws.{CutOff-RanInto, RanInto-CutOff, CutOff-goes_on}
 use Rattle.judy_model.proofs.laws.runs.a_cut_off_run_ends_in_an_answer.Goals as goal
 
 pub returns : goal.returns

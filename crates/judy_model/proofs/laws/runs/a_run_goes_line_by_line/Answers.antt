@@ -1,4 +1,4 @@
-use Rattle.judy_model.proofs.RunLaws.{Run-none, Run-one}
+use Rattle.judy_model.proofs.lemmas.runs.RunLaws.{Run-none, Run-one}
 use Rattle.judy_model.proofs.laws.runs.a_run_goes_line_by_line.Goals as goal
 
 pub returns : goal.returns

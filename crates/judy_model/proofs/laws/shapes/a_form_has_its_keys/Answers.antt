@@ -1,4 +1,4 @@
-use Rattle.judy_model.proofs.FormLemmas.{keys_in-form_of}
+use Rattle.judy_model.proofs.lemmas.forms.FormLemmas.{keys_in-form_of}
 use Rattle.judy_model.proofs.laws.shapes.a_form_has_its_keys.Goals as goal
 
 pub returns : goal.returns

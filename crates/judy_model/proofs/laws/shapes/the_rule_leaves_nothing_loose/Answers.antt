@@ -1,4 +1,4 @@
-use Rattle.judy_model.proofs.FormLemmas.{loose_in-form_of}
+use Rattle.judy_model.proofs.lemmas.forms.FormLemmas.{loose_in-form_of}
 use Rattle.judy_model.proofs.laws.shapes.the_rule_leaves_nothing_loose.Goals as goal
 
 pub returns : goal.returns

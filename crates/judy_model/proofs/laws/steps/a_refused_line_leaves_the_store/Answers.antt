@@ -1,4 +1,4 @@
-use Rattle.judy_model.proofs.StepLemmas.{step-refused, Step-refused}
+use Rattle.judy_model.proofs.lemmas.commands.StepLemmas.{step-refused, Step-refused}
 use Rattle.judy_model.proofs.laws.steps.a_refused_line_leaves_the_store.Goals as goal
 
 pub returns : goal.returns

@@ -1,4 +1,4 @@
-use Rattle.judy_model.proofs.ReadingLemmas.{reading_leaves}
+use Rattle.judy_model.proofs.lemmas.commands.ReadingLemmas.{reading_leaves}
 use Rattle.judy_model.proofs.laws.steps.reading_leaves_the_store.Goals as goal
 
 pub returns : goal.returns

@@ -1,5 +1,5 @@
 use Rattle.judy_model.specs.Stores.{IsStore, IsRegular}
-use Rattle.judy_model.proofs.StoresKept.{IsStore-lasts, IsRegular-lasts, Step-lasts}
+use Rattle.judy_model.proofs.lemmas.runs.StoresKept.{IsStore-lasts, IsRegular-lasts, Step-lasts}
 use Rattle.judy_model.proofs.laws.stores.a_line_keeps_a_store.Goals as goal
 
 pub returns : goal.returns

@@ -1,6 +1,6 @@
 use Rattle.std.proofs.Common.{[]}
 use Rattle.judy_model.specs.Stores.{IsStore, IsRegular}
-use Rattle.judy_model.proofs.StoresKept.{IsStore-lasts, IsRegular-lasts, IsStore-none, IsRegular-none, Run-lasts}
+use Rattle.judy_model.proofs.lemmas.runs.StoresKept.{IsStore-lasts, IsRegular-lasts, IsStore-none, IsRegular-none, Run-lasts}
 use Rattle.judy_model.proofs.laws.stores.a_script_makes_a_store.Goals as goal
 
 pub returns-clause-none : goal.returns-clause-none

@@ -1,6 +1,6 @@
 use Rattle.std.proofs.Common.{List, ℕ, Contains}
-use Rattle.judy_model.proofs.Ascending.{among_from_Contains, Contains-from_among}
-use Rattle.judy_model.proofs.TableLemmas.{ListsAll, get-table, get-table_bad}
+use Rattle.judy_model.proofs.lemmas.maps.Ascending.{among_from_Contains, Contains-from_among}
+use Rattle.judy_model.proofs.lemmas.maps.TableLemmas.{ListsAll, get-table, get-table_bad}
 use Rattle.judy_model.proofs.laws.tables.a_table_answers_as_its_function.Goals as goal
 
 -- A list holds all that it contains.

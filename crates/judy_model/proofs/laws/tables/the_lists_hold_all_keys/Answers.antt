@@ -1,6 +1,6 @@
 use Rattle.judy_model.specs.Tables.{bytes_keys, string_keys}
-use Rattle.judy_model.proofs.Ascending.{among_from_Contains, Contains-from_among}
-use Rattle.judy_model.proofs.TableLemmas.{bytes_keys-all, string_keys-all}
+use Rattle.judy_model.proofs.lemmas.maps.Ascending.{among_from_Contains, Contains-from_among}
+use Rattle.judy_model.proofs.lemmas.maps.TableLemmas.{bytes_keys-all, string_keys-all}
 use Rattle.judy_model.proofs.laws.tables.the_lists_hold_all_keys.Goals as goal
 
 pub returns : goal.returns

@@ -1,4 +1,4 @@
-use Rattle.judy_model.proofs.WholeLines.{ended-are_whole_lines, unended-are_whole_lines}
+use Rattle.judy_model.proofs.lemmas.runs.WholeLines.{ended-are_whole_lines, unended-are_whole_lines}
 use Rattle.judy_model.proofs.laws.whole_lines.an_lf_ends_whole_lines.Goals as goal
 
 pub returns-clause-ended : goal.returns-clause-ended

@@ -1,4 +1,4 @@
-use Rattle.judy_model.proofs.WordLemmas.{word_of-IsWord, word_of-decimal}
+use Rattle.judy_model.proofs.lemmas.commands.WordLemmas.{word_of-IsWord, word_of-decimal}
 use Rattle.judy_model.proofs.laws.words.a_printed_word_is_read_back.Goals as goal
 
 pub returns : goal.returns

@@ -1,6 +1,6 @@
 use Rattle.std.proofs.Common.{◌*◌, ◌-◌, ◌/◌, ◌^◌, ap, ◌∙◌, sym, arith}
 use Rattle.judy_model.specs.WordBytes.{number_of}
-use Rattle.judy_model.proofs.ByteLemmas.{unit_pos}
+use Rattle.judy_model.proofs.lemmas.orders.ByteLemmas.{unit_pos}
 use Rattle.judy_node.proofs.StepFacts.{block_fits, below_block, key_read, absent_place, present_place}
 use Rattle.judy_node.proofs.child.BranchOf.step.Goals as goal
 

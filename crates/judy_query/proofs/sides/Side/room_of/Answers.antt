@@ -1,6 +1,6 @@
 use Rattle.std.proofs.Common.{◌≡◌, ◌+◌, ◌-◌, ◌*◌, ◌^◌, ◌<◌, length, Some, refl, sym, ap, ◌∙◌, subst, arith, ltb-true, nat_lt}
 use Rattle.judy_model.specs.WordBytes.{number_of}
-use Rattle.judy_model.proofs.ByteLemmas.{unit_pos, number_of-lt}
+use Rattle.judy_model.proofs.lemmas.orders.ByteLemmas.{unit_pos, number_of-lt}
 use Rattle.judy_leaf.specs.KeyLists.{shift}
 use Rattle.judy_node.specs.Trees.{branch_pairs}
 use Rattle.judy_node.specs.declared.step.Step.TheVariants.{Below, Above}

@@ -1,5 +1,5 @@
 use Rattle.std.proofs.Common.{◌+◌, ◌^◌, ◌<◌, length, slice_get, ap, ◌∙◌, subst, arith}
-use Rattle.judy_model.proofs.ByteLemmas.{unit_pos}
+use Rattle.judy_model.proofs.lemmas.orders.ByteLemmas.{unit_pos}
 use Rattle.judy_node.specs.Views.{view_pairs}
 use Rattle.judy_query.specs.Parts.{raised}
 use Rattle.judy_query.proofs.Downs.{kid_is, start_room}

@@ -1,4 +1,4 @@
-use Rattle.judy_model.proofs.KeyLengthLemmas.{is_judyhs}
+use Rattle.judy_model.proofs.lemmas.orders.KeyLengthLemmas.{is_judyhs}
 use Rattle.judy_shelf.proofs.array.Array.array_law.Goals as goal
 
 pub returns-in-JudyHs : goal.returns-in-JudyHs

@@ -1,8 +1,8 @@
 use Rattle.std.proofs.Common.{sym, subst}
 use Rattle.judy_sl.specs.Counted.{AreCountedBut}
-use Rattle.judy_sl.proofs.CountedKeys.{few-more, added-counted}
-use Rattle.judy_sl.proofs.Growing.{counted-same}
-use Rattle.judy_sl.proofs.Stepping.{can-come, come-counted}
+use Rattle.judy_sl.proofs.lemmas.counts.CountedKeys.{few-more, added-counted}
+use Rattle.judy_sl.proofs.lemmas.counts.Growing.{counted-same}
+use Rattle.judy_sl.proofs.lemmas.counts.Stepping.{can-come, come-counted}
 use Rattle.judy_sl.proofs.arena.Arena.add_counted.Goals as goal
 
 pub count_places-requires-clause-is_arena : goal.count_places-requires-clause-is_arena

@@ -1,7 +1,7 @@
 use Rattle.std.proofs.Common.{◌∙◌, ap, sym}
 use Rattle.std.proofs.lemmas.List.{take_rest}
 use Rattle.std.specs.FinMap.{get}
-use Rattle.judy_sl.proofs.Shrinks.{lone-taken, cleared-tail, cleared-last, clearing-on, clearing-some}
+use Rattle.judy_sl.proofs.lemmas.removals.Shrinks.{lone-taken, cleared-tail, cleared-last, clearing-on, clearing-some}
 use Rattle.judy_sl.proofs.arena.Arena.clear.Goals as goal
 
 pub vacate-requires : goal.vacate-requires

@@ -1,5 +1,5 @@
 use Rattle.std.proofs.Common.{length}
-use Rattle.judy_sl.proofs.Shrinks.{IsClearing}
+use Rattle.judy_sl.proofs.lemmas.removals.Shrinks.{IsClearing}
 use Rattle.judy_sl.proofs.arena.Arena.clear.Given as goal
 
 abbrev pub invariant-loop-level : goal.invariant-loop-level

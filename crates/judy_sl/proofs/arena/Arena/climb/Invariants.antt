@@ -1,6 +1,6 @@
 use Rattle.std.proofs.Common.{◌-◌, length}
 use Rattle.judy_sl.specs.Arenas.{world_of}
-use Rattle.judy_sl.proofs.RunWays.{Climbing}
+use Rattle.judy_sl.proofs.lemmas.scans.RunWays.{Climbing}
 use Rattle.judy_sl.proofs.arena.Arena.climb.Given as goal
 use Rattle.judy_model.specs.declared.keys.TheConstants.{LONGEST_KEY}
 

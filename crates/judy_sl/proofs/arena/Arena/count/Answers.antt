@@ -6,9 +6,9 @@ use Rattle.judy_sl.specs.Pieces.{piece_of}
 use Rattle.judy_sl.specs.Arenas.{world_of}
 use Rattle.judy_sl.specs.Behind.{map_behind}
 use Rattle.judy_sl.specs.Counted.{ranked}
-use Rattle.judy_sl.proofs.PieceLemmas.{text_of_key, text-drop, piece-IsInner}
-use Rattle.judy_sl.proofs.Linked.{taken_of}
-use Rattle.judy_sl.proofs.CountWays.{both_long, none_shared, one_shared, child_shared}
+use Rattle.judy_sl.proofs.lemmas.pieces.PieceLemmas.{text_of_key, text-drop, piece-IsInner}
+use Rattle.judy_sl.proofs.lemmas.seats.Linked.{taken_of}
+use Rattle.judy_sl.proofs.lemmas.counts.CountWays.{both_long, none_shared, one_shared, child_shared}
 use Rattle.judy_sl.proofs.arena.Arena.count.Goals as goal
 
 pub returns-then-piece-first_piece : goal.returns-then-piece-first_piece

@@ -7,11 +7,11 @@ use Rattle.judy_sl.specs.Arenas.{world_of, child_at, node_of, HasText}
 use Rattle.judy_sl.specs.Children.{keys_told}
 use Rattle.judy_sl.specs.Counted.{StandsWith}
 use Rattle.judy_sl.specs.Scans.{is_beyond}
-use Rattle.judy_sl.proofs.PieceLemmas.{text-drop, piece-IsInner}
-use Rattle.judy_sl.proofs.Linked.{taken_of}
-use Rattle.judy_sl.proofs.KeysTold.{level_stands, level_asked}
-use Rattle.judy_sl.proofs.LevelRanks.{one_if, one_told, rank_tail}
-use Rattle.judy_sl.proofs.CountWays.{level_ranked, both_long, none_shared, one_shared, child_shared}
+use Rattle.judy_sl.proofs.lemmas.pieces.PieceLemmas.{text-drop, piece-IsInner}
+use Rattle.judy_sl.proofs.lemmas.seats.Linked.{taken_of}
+use Rattle.judy_sl.proofs.lemmas.counts.KeysTold.{level_stands, level_asked}
+use Rattle.judy_sl.proofs.lemmas.counts.LevelRanks.{one_if, one_told, rank_tail}
+use Rattle.judy_sl.proofs.lemmas.counts.CountWays.{level_ranked, both_long, none_shared, one_shared, child_shared}
 use Rattle.judy_sl.proofs.arena.Arena.count_behind.Goals as goal
 
 pub down-init : goal.down-init

@@ -5,10 +5,10 @@ use Rattle.judy_sl.specs.Pieces.{piece_of}
 use Rattle.judy_sl.specs.Arenas.{world_of}
 use Rattle.judy_sl.specs.Behind.{map_behind, entry_keys}
 use Rattle.judy_sl.specs.Ranks.{ranked_own}
-use Rattle.judy_sl.proofs.PieceLemmas.{piece-IsInner}
-use Rattle.judy_sl.proofs.Linked.{taken_of}
-use Rattle.judy_sl.proofs.LevelRanks.{ranked_most}
-use Rattle.judy_sl.proofs.CountWays.{child_most, level_ranked, none_falling}
+use Rattle.judy_sl.proofs.lemmas.pieces.PieceLemmas.{piece-IsInner}
+use Rattle.judy_sl.proofs.lemmas.seats.Linked.{taken_of}
+use Rattle.judy_sl.proofs.lemmas.counts.LevelRanks.{ranked_most}
+use Rattle.judy_sl.proofs.lemmas.counts.CountWays.{child_most, level_ranked, none_falling}
 use Rattle.judy_sl.proofs.arena.Arena.count_in.Goals as goal
 
 pub returns-then-high-low : goal.returns-then-high-low

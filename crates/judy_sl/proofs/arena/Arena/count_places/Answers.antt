@@ -1,7 +1,7 @@
 use Rattle.std.proofs.Common.{◌≡◌, ◌∷◌, ℕ, suc, ◌+◌, List, drop, get_or, ap, subst, ◌∙◌, arith}
 use Rattle.std.proofs.Math.Seq.{drop-cons}
 use Rattle.std.proofs.lemmas.List.{drop_all}
-use Rattle.judy_sl.proofs.Stepping.{IsStepping, stepping-start, here, stepping-on, stepping-end}
+use Rattle.judy_sl.proofs.lemmas.counts.Stepping.{IsStepping, stepping-start, here, stepping-on, stepping-end}
 use Rattle.judy_sl.proofs.arena.Arena.count_places.Goals.{In-loop-at}
 use Rattle.judy_sl.proofs.arena.Arena.count_places.Goals as goal
 

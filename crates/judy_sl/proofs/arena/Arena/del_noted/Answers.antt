@@ -8,13 +8,13 @@ use Rattle.judy_sl.specs.Arenas.{world_of}
 use Rattle.judy_sl.specs.Ways.{levels_passed}
 use Rattle.judy_sl.specs.Shrunk.{IsCutWhere, IsShrunk}
 use Rattle.judy_sl.specs.Counted.{AreOnce, CanStepAt, AreStepped, AreCountedBut}
-use Rattle.judy_sl.proofs.PieceLemmas.{text_of_key, pieces_are}
-use Rattle.judy_sl.proofs.PassedLevels.{list-fits}
-use Rattle.judy_sl.proofs.Shrinks.{cut-found, shrunk-last, shrunk-on, on-arena, on-is_orphan}
-use Rattle.judy_sl.proofs.Stepping.{go-once, can-go, go-counted}
-use Rattle.judy_sl.proofs.CountedKeys.{shrunk-counted}
-use Rattle.judy_sl.proofs.CountedLost.{counted-lost, left-same}
-use Rattle.judy_sl.proofs.Beside.{beside-left}
+use Rattle.judy_sl.proofs.lemmas.pieces.PieceLemmas.{text_of_key, pieces_are}
+use Rattle.judy_sl.proofs.lemmas.counts.PassedLevels.{list-fits}
+use Rattle.judy_sl.proofs.lemmas.removals.Shrinks.{cut-found, shrunk-last, shrunk-on, on-arena, on-is_orphan}
+use Rattle.judy_sl.proofs.lemmas.counts.Stepping.{go-once, can-go, go-counted}
+use Rattle.judy_sl.proofs.lemmas.counts.CountedKeys.{shrunk-counted}
+use Rattle.judy_sl.proofs.lemmas.counts.CountedLost.{counted-lost, left-same}
+use Rattle.judy_sl.proofs.lemmas.removals.Beside.{beside-left}
 use Rattle.judy_sl.proofs.arena.Arena.del_noted.Given.{Over}
 use Rattle.judy_sl.proofs.arena.Arena.del_noted.Goals.{After-as_slice, After-count_places}
 use Rattle.judy_sl.proofs.arena.Arena.del_noted.Goals as goal

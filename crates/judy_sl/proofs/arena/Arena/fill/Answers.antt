@@ -1,9 +1,9 @@
 use Rattle.std.proofs.Common.{◌∙◌, refl, sym, subst, ◌-◌, ◌+◌, length}
 use Rattle.std.proofs.lemmas.List.{drop-drop, take_rest}
 use Rattle.judy_sl.specs.Grown.{IsAdded}
-use Rattle.judy_sl.proofs.Filled.{fills-last}
-use Rattle.judy_sl.proofs.Tailed.{filled-tail}
-use Rattle.judy_sl.proofs.Growing.{grows-last, grows-tail, gap-counted}
+use Rattle.judy_sl.proofs.lemmas.inserts.Filled.{fills-last}
+use Rattle.judy_sl.proofs.lemmas.inserts.Tailed.{filled-tail}
+use Rattle.judy_sl.proofs.lemmas.counts.Growing.{grows-last, grows-tail, gap-counted}
 use Rattle.judy_sl.proofs.arena.Arena.fill.Goals as goal
 
 -- ---- the last piece

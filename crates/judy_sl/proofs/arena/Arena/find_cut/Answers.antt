@@ -5,11 +5,11 @@ use Rattle.judy_sl.specs.World.{World}
 use Rattle.judy_sl.specs.Arenas.{world_of, node_of, HasText}
 use Rattle.judy_sl.specs.Ways.{levels_passed}
 use Rattle.judy_sl.specs.Shrunk.{IsCut, IsDeeper}
-use Rattle.judy_sl.proofs.PieceLemmas.{text_of_key, piece-IsInner, text-drop}
-use Rattle.judy_sl.proofs.PassedLevels.{passed-few, noted-on, noted-tail, noted-last}
-use Rattle.judy_sl.proofs.Exact.{ends-text}
-use Rattle.judy_sl.proofs.OnWay.{on-start, start-deep, on-moved, moved-deep, found-clash, found-none, on-taken}
-use Rattle.judy_sl.proofs.Cuts.{cut-on, cut-last, cut-tail}
+use Rattle.judy_sl.proofs.lemmas.pieces.PieceLemmas.{text_of_key, piece-IsInner, text-drop}
+use Rattle.judy_sl.proofs.lemmas.counts.PassedLevels.{passed-few, noted-on, noted-tail, noted-last}
+use Rattle.judy_sl.proofs.lemmas.pieces.Exact.{ends-text}
+use Rattle.judy_sl.proofs.lemmas.pieces.OnWay.{on-start, start-deep, on-moved, moved-deep, found-clash, found-none, on-taken}
+use Rattle.judy_sl.proofs.lemmas.removals.Cuts.{cut-on, cut-last, cut-tail}
 use Rattle.judy_sl.proofs.arena.Arena.find_cut.Goals as goal
 
 pub loop-rest-init : goal.loop-rest-init

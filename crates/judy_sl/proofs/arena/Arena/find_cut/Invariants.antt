@@ -2,7 +2,7 @@ use Rattle.std.proofs.Common.{◌≡◌, ◌≤◌, ℕ, List, ◌++◌, length}
 use Rattle.judy_sl.specs.Pieces.{pieces}
 use Rattle.judy_sl.specs.Arenas.{world_of, IsArena}
 use Rattle.judy_sl.specs.Ways.{IsOnWay, seat_in, passed_from, levels_passed}
-use Rattle.judy_sl.proofs.Cuts.{IsCutSoFar}
+use Rattle.judy_sl.proofs.lemmas.removals.Cuts.{IsCutSoFar}
 use Rattle.judy_sl.proofs.arena.Arena.find_cut.Given as goal
 
 abbrev pub invariant-loop-rest : goal.invariant-loop-rest

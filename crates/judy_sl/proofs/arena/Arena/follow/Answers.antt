@@ -3,9 +3,9 @@ use Rattle.std.proofs.lemmas.List.{length-append}
 use Rattle.judy_sl.specs.Pieces.{piece_bytes}
 use Rattle.judy_sl.specs.Arenas.{world_of, node_of, HasText}
 use Rattle.judy_sl.specs.Scans.{IsFirstEntry, piece_in, IsEntryOf}
-use Rattle.judy_sl.proofs.Linked.{taken_of}
-use Rattle.judy_sl.proofs.PieceBytes.{inner_bytes}
-use Rattle.judy_sl.proofs.ScanEnds.{level_words, follow_start, follow_room, follow_last, follow_on, follow_place, follow_tail_room, follow_tail, follow_tail_place, follow_some, follow_down}
+use Rattle.judy_sl.proofs.lemmas.seats.Linked.{taken_of}
+use Rattle.judy_sl.proofs.lemmas.pieces.PieceBytes.{inner_bytes}
+use Rattle.judy_sl.proofs.lemmas.scans.ScanEnds.{level_words, follow_start, follow_room, follow_last, follow_on, follow_place, follow_tail_room, follow_tail, follow_tail_place, follow_some, follow_down}
 use Rattle.judy_tails.specs.Writers.{StaysBeyond}
 use Rattle.judy_tails.proofs.Writing.{stays-beyond}
 use Rattle.judy_sl.proofs.arena.Arena.follow.Goals as goal

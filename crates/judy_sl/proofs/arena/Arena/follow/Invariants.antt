@@ -1,7 +1,7 @@
 use Rattle.std.proofs.Common.{◌-◌, length}
 use Rattle.judy_tails.specs.Writers.{StaysBeyond}
 use Rattle.judy_sl.specs.Arenas.{world_of}
-use Rattle.judy_sl.proofs.ScanEnds.{Following}
+use Rattle.judy_sl.proofs.lemmas.scans.ScanEnds.{Following}
 use Rattle.judy_sl.proofs.arena.Arena.follow.Given as goal
 use Rattle.judy_model.specs.declared.keys.TheConstants.{LONGEST_KEY}
 

@@ -3,10 +3,10 @@ use Rattle.std.proofs.lemmas.List.{take_rest}
 use Rattle.std.specs.FinMap.{get}
 use Rattle.judy_sl.specs.Pieces.{IsFinal, IsInner}
 use Rattle.judy_sl.specs.Arenas.{node_of, HasText}
-use Rattle.judy_sl.proofs.PieceLemmas.{text_of_key}
-use Rattle.judy_sl.proofs.OnWay.{on-start, on-moved, found-tail, found-clash, found-none, on-taken}
-use Rattle.judy_sl.proofs.Maps.{get-map, get-map_none}
-use Rattle.judy_sl.proofs.Looked.{never-final, ends-on, key-tail, last-value}
+use Rattle.judy_sl.proofs.lemmas.pieces.PieceLemmas.{text_of_key}
+use Rattle.judy_sl.proofs.lemmas.pieces.OnWay.{on-start, on-moved, found-tail, found-clash, found-none, on-taken}
+use Rattle.judy_sl.proofs.lemmas.seats.Maps.{get-map, get-map_none}
+use Rattle.judy_sl.proofs.lemmas.pieces.Looked.{never-final, ends-on, key-tail, last-value}
 use Rattle.judy_sl.proofs.arena.Arena.get.Goals as goal
 
 pub loop-rest-init : goal.loop-rest-init

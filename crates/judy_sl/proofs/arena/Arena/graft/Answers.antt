@@ -9,9 +9,9 @@ use Rattle.judy_sl.specs.Children.{IsTaken}
 use Rattle.judy_sl.specs.Arenas.{child_at}
 use Rattle.judy_sl.specs.Branches.{AreSingle}
 use Rattle.judy_sl.specs.Shrunk.{IsVacated}
-use Rattle.judy_sl.proofs.Hangs.{stands-start, stands-put, stands-taken, stands-value, taken-led, room-less}
-use Rattle.judy_sl.proofs.Grafted.{IsGrafting, grafting-start, grafting-up, singles-front, single-contains, no-items}
-use Rattle.judy_sl.proofs.GraftedEntry.{grafted}
+use Rattle.judy_sl.proofs.lemmas.inserts.Hangs.{stands-start, stands-put, stands-taken, stands-value, taken-led, room-less}
+use Rattle.judy_sl.proofs.lemmas.inserts.Grafted.{IsGrafting, grafting-start, grafting-up, singles-front, single-contains, no-items}
+use Rattle.judy_sl.proofs.lemmas.inserts.GraftedEntry.{grafted}
 use Rattle.judy_sl.proofs.arena.Arena.graft.Goals as goal
 
 pub loop-piece-init : goal.loop-piece-init

@@ -6,8 +6,8 @@ use Rattle.judy_sl.specs.Ways.{left_of}
 use Rattle.judy_sl.specs.Arenas.{HasRoom}
 use Rattle.judy_sl.specs.Branches.{AreSingle}
 use Rattle.judy_sl.specs.Grown.{AreHung, IsGraft}
-use Rattle.judy_sl.proofs.Grafted.{IsGrafting}
-use Rattle.judy_sl.proofs.Hangs.{StandsStill}
+use Rattle.judy_sl.proofs.lemmas.inserts.Grafted.{IsGrafting}
+use Rattle.judy_sl.proofs.lemmas.inserts.Hangs.{StandsStill}
 use Rattle.judy_sl.proofs.arena.Arena.graft.Given as goal
 
 abbrev pub invariant-loop-piece : goal.invariant-loop-piece

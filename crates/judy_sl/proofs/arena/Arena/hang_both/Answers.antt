@@ -1,4 +1,4 @@
-use Rattle.judy_sl.proofs.Grafted.{twig-stays}
+use Rattle.judy_sl.proofs.lemmas.inserts.Grafted.{twig-stays}
 use Rattle.judy_sl.proofs.arena.Arena.hang_both.Goals as goal
 
 pub hang-requires-2-clause-there : goal.hang-requires-2-clause-there

@@ -1,8 +1,8 @@
 use Rattle.std.proofs.Common.{length, sym, ap, ◌∙◌}
 use Rattle.judy_sl.specs.Arenas.{world_of}
-use Rattle.judy_sl.proofs.Linked.{taken_of}
-use Rattle.judy_sl.proofs.PlaceKinds.{level-taken}
-use Rattle.judy_sl.proofs.KeysTold.{final_keys, inner_count, lone_told, level_counted}
+use Rattle.judy_sl.proofs.lemmas.seats.Linked.{taken_of}
+use Rattle.judy_sl.proofs.lemmas.seats.PlaceKinds.{level-taken}
+use Rattle.judy_sl.proofs.lemmas.counts.KeysTold.{final_keys, inner_count, lone_told, level_counted}
 use Rattle.judy_sl.proofs.arena.Arena.keys_at.Goals as goal
 use Rattle.judy_sl.proofs.arena.Arena.keys_at.Goals.{then-piece-eq0-via-then-piece-eq0, then-piece-eq0-via-else-piece-eq0+then-not-is_level}
 

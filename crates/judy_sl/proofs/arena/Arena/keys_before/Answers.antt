@@ -3,7 +3,7 @@ use Rattle.std.specs.FinMap.{entries, entries_sorted, get-entries, len-entries}
 use Rattle.judy_sums.specs.Levels.{part_len}
 use Rattle.judy_sl.specs.Arenas.{world_of}
 use Rattle.judy_sl.specs.Behind.{entry_keys}
-use Rattle.judy_sl.proofs.CountWays.{none_before, from_none}
+use Rattle.judy_sl.proofs.lemmas.counts.CountWays.{none_before, from_none}
 use Rattle.judy_sl.proofs.arena.Arena.keys_before.Goals as goal
 
 -- What is there is some value.

@@ -1,8 +1,8 @@
 use Rattle.std.proofs.Common.{◌∙◌, sym, arith}
-use Rattle.judy_sl.proofs.RankCounts.{words_none}
-use Rattle.judy_sl.proofs.LoneKeys.{lone_below}
-use Rattle.judy_sl.proofs.PageCounts.{entries_lead}
-use Rattle.judy_sl.proofs.CountWays.{rank_rises, shares_of}
+use Rattle.judy_sl.proofs.lemmas.counts.RankCounts.{words_none}
+use Rattle.judy_sl.proofs.lemmas.counts.LoneKeys.{lone_below}
+use Rattle.judy_sl.proofs.lemmas.places.PageCounts.{entries_lead}
+use Rattle.judy_sl.proofs.lemmas.counts.CountWays.{rank_rises, shares_of}
 use Rattle.judy_sl.proofs.arena.Arena.keys_between.Goals as goal
 
 pub overflow_sub-between : goal.overflow_sub-between

@@ -5,11 +5,11 @@ use Rattle.judy_sl.specs.Pieces.{piece_of, pieces}
 use Rattle.judy_sl.specs.Arenas.{world_of, node_of, HasText}
 use Rattle.judy_sl.specs.Ways.{seat_in}
 use Rattle.judy_sl.specs.Scans.{IsNearestEntry, IsEntryOf, piece_in}
-use Rattle.judy_sl.proofs.PieceLemmas.{text_from_bytes, piece-IsInner, text-drop}
-use Rattle.judy_sl.proofs.Linked.{taken_of}
-use Rattle.judy_sl.proofs.ScanLevels.{none_absent, none_child, none_tail}
-use Rattle.judy_sl.proofs.ScanEntries.{met_along, apart-beyond, apart-absent}
-use Rattle.judy_sl.proofs.ScanWays.{scan_start, scan_moved, scan_left, scan_tail, scan_last}
+use Rattle.judy_sl.proofs.lemmas.pieces.PieceLemmas.{text_from_bytes, piece-IsInner, text-drop}
+use Rattle.judy_sl.proofs.lemmas.seats.Linked.{taken_of}
+use Rattle.judy_sl.proofs.lemmas.scans.ScanLevels.{none_absent, none_child, none_tail}
+use Rattle.judy_sl.proofs.lemmas.scans.ScanEntries.{met_along, apart-beyond, apart-absent}
+use Rattle.judy_sl.proofs.lemmas.scans.ScanWays.{scan_start, scan_moved, scan_left, scan_tail, scan_last}
 use Rattle.judy_sl.proofs.arena.Arena.last_turn.Goals as goal
 
 pub loop-rest-init : goal.loop-rest-init

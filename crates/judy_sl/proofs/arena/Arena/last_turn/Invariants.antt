@@ -1,6 +1,6 @@
 use Rattle.std.proofs.Common.{length}
 use Rattle.judy_sl.specs.Arenas.{world_of}
-use Rattle.judy_sl.proofs.ScanWays.{OnScan}
+use Rattle.judy_sl.proofs.lemmas.scans.ScanWays.{OnScan}
 use Rattle.judy_sl.proofs.arena.Arena.last_turn.Given as goal
 
 abbrev pub invariant-loop-rest : goal.invariant-loop-rest

@@ -3,7 +3,7 @@ use Rattle.std.proofs.lemmas.List.{take_rest}
 use Rattle.std.specs.FinMap.{get}
 use Rattle.judy_sl.specs.Pieces.{pieces}
 use Rattle.judy_sl.specs.Arenas.{node_of}
-use Rattle.judy_sl.proofs.LevelLemmas.{level_start, level_moved, alone_absent, alone_tail, level_ended, level_taken}
+use Rattle.judy_sl.proofs.lemmas.seats.LevelLemmas.{level_start, level_moved, alone_absent, alone_tail, level_ended, level_taken}
 use Rattle.judy_sl.proofs.arena.Arena.level.Goals as goal
 
 -- Fewer than eight bytes, in eights, are none.

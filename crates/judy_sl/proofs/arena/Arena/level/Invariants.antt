@@ -1,6 +1,6 @@
 use Rattle.std.proofs.Common.{length}
 use Rattle.judy_sl.specs.Arenas.{world_of}
-use Rattle.judy_sl.proofs.LevelLemmas.{OnLevel}
+use Rattle.judy_sl.proofs.lemmas.seats.LevelLemmas.{OnLevel}
 use Rattle.judy_sl.proofs.arena.Arena.level.Given as goal
 
 abbrev pub invariant-loop-rest : goal.invariant-loop-rest

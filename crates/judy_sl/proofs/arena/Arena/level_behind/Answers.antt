@@ -4,8 +4,8 @@ use Rattle.std.proofs.lemmas.Option.{none-some}
 use Rattle.std.specs.FinMap.{get}
 use Rattle.judy_sl.specs.Pieces.{pieces}
 use Rattle.judy_sl.specs.Arenas.{world_of, node_of}
-use Rattle.judy_sl.proofs.Linked.{taken_of}
-use Rattle.judy_sl.proofs.RunWays.{front_short, way_start, way_step, way_child, way_moved, way_end, never_gone, never_tail}
+use Rattle.judy_sl.proofs.lemmas.seats.Linked.{taken_of}
+use Rattle.judy_sl.proofs.lemmas.scans.RunWays.{front_short, way_start, way_step, way_child, way_moved, way_end, never_gone, never_tail}
 use Rattle.judy_sl.proofs.arena.Arena.level_behind.Goals as goal
 
 pub loop-rest-init : goal.loop-rest-init

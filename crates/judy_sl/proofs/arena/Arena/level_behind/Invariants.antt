@@ -3,7 +3,7 @@ use Rattle.std.specs.FinMap.{FinMap}
 use Rattle.judy_model.specs.Keys.{word_order}
 use Rattle.judy_sl.specs.Arenas.{world_of}
 use Rattle.judy_sl.specs.Runs.{LeadsToLevel}
-use Rattle.judy_sl.proofs.RunWays.{OnWayTo}
+use Rattle.judy_sl.proofs.lemmas.scans.RunWays.{OnWayTo}
 use Rattle.judy_sl.proofs.arena.Arena.level_behind.Given as goal
 
 abbrev pub invariant-loop-rest : goal.invariant-loop-rest

@@ -1,8 +1,8 @@
 use Rattle.std.proofs.Common.{◌∙◌, refl, sym, subst, ap, take, None}
 use Rattle.judy_sl.specs.Arenas.{world_of, map_of}
 use Rattle.judy_sl.specs.Scans.{value_in, IsTurn, IsFront, nearest_key}
-use Rattle.judy_sl.proofs.Fronts.{same_front, same_owner, front-written}
-use Rattle.judy_sl.proofs.ScanMaps.{scanned}
+use Rattle.judy_sl.proofs.lemmas.scans.Fronts.{same_front, same_owner, front-written}
+use Rattle.judy_sl.proofs.lemmas.scans.ScanMaps.{scanned}
 use Rattle.judy_sl.proofs.arena.Arena.nearest_in.Goals as goal
 
 -- There is none, and all stays.

@@ -2,7 +2,7 @@ use Rattle.std.proofs.Common.{◌∙◌, refl, sym, ap, subst, None}
 use Rattle.judy_sl.specs.Pieces.{IsText}
 use Rattle.judy_sl.specs.Arenas.{world_of}
 use Rattle.judy_sl.specs.Scans.{value_in, IsTurn, IsTurnOf}
-use Rattle.judy_sl.proofs.ScanMaps.{scanned}
+use Rattle.judy_sl.proofs.lemmas.scans.ScanMaps.{scanned}
 use Rattle.judy_sl.proofs.arena.Arena.neighbour.Goals as goal
 
 pub turn-requires-clause-without_zero : goal.turn-requires-clause-without_zero

@@ -8,7 +8,7 @@ use Rattle.judy_model.specs.Keys.{word_order}
 use Rattle.judy_sl.specs.Pieces.{piece_of}
 use Rattle.judy_sl.specs.Arenas.{world_of}
 use Rattle.judy_sl.specs.Runs.{AreBeyond, Levels, Stands}
-use Rattle.judy_sl.proofs.RunWays.{next_leads, none_above, rise, rise_some}
+use Rattle.judy_sl.proofs.lemmas.scans.RunWays.{next_leads, none_above, rise, rise_some}
 use Rattle.judy_sl.proofs.arena.Arena.next_entry.Goals as goal
 
 pub returns-in-Some : goal.returns-in-Some
@@ -51,16 +51,16 @@ slice_bounds-first_piece-start c =
     let are = c.in_ok-pop.ensures.items ∙ ap (λ (item : Option (Bor (ArrayOf word_order))). c.pop.new.self.items ++ item ∷ []) c.in_ok-run.was in
     omega (arith, (rise (world_of c.args.self.now) c.args.key.now c.requires.is_text c.levels.above.items c.pop.new.self.items c.levels.run c.in_ok-run.field-0 are c.levels.invariant left.0).within, c.len.ensures.value)
 
-pub entries_beyond-run-requires : goal.entries_beyond-run-requires
-entries_beyond-run-requires c =
+pub go_beyond-requires : goal.go_beyond-requires
+go_beyond-requires c =
     let left = none_left c.levels.run.entries c.next.result c.next.new.self c.next.ensures.steps c.in_default.is in
     let are = c.in_ok-pop.ensures.items ∙ ap (λ (item : Option (Bor (ArrayOf word_order))). c.pop.new.self.items ++ item ∷ []) c.in_ok-run.was in
-    let piece = c.first_piece.ensures ∙ ap piece_of (take_rest c.args.key.now (8 * c.len.result)) ∙ ap (λ n. piece_of (drop (8 * n) c.args.key.now)) c.len.ensures.value in
+    let piece = c.first_piece-piece.ensures ∙ ap piece_of (take_rest c.args.key.now (8 * c.len.result)) ∙ ap (λ n. piece_of (drop (8 * n) c.args.key.now)) c.len.ensures.value in
     ap (contains_key c.in_ok-run.field-0.now.map) piece ∙ (rise (world_of c.args.self.now) c.args.key.now c.requires.is_text c.levels.above.items c.pop.new.self.items c.levels.run c.in_ok-run.field-0 are c.levels.invariant left.0).there
 
 pub levels-preserved : goal.levels-preserved
 levels-preserved c =
     let left = none_left c.levels.run.entries c.next.result c.next.new.self c.next.ensures.steps c.in_default.is in
     let are = c.in_ok-pop.ensures.items ∙ ap (λ (item : Option (Bor (ArrayOf word_order))). c.pop.new.self.items ++ item ∷ []) c.in_ok-run.was in
-    let piece = c.first_piece.ensures ∙ ap piece_of (take_rest c.args.key.now (8 * c.len.result)) ∙ ap (λ n. piece_of (drop (8 * n) c.args.key.now)) c.len.ensures.value in
-    (rise (world_of c.args.self.now) c.args.key.now c.requires.is_text c.levels.above.items c.pop.new.self.items c.levels.run c.in_ok-run.field-0 are c.levels.invariant left.0).stands c.entries_beyond-run.result (subst (λ p. AreBeyond c.in_ok-run.field-0.now.map p c.entries_beyond-run.result) piece c.entries_beyond-run.ensures)
+    let piece = c.first_piece-piece.ensures ∙ ap piece_of (take_rest c.args.key.now (8 * c.len.result)) ∙ ap (λ n. piece_of (drop (8 * n) c.args.key.now)) c.len.ensures.value in
+    (rise (world_of c.args.self.now) c.args.key.now c.requires.is_text c.levels.above.items c.pop.new.self.items c.levels.run c.in_ok-run.field-0 are c.levels.invariant left.0).stands c.go_beyond.new.entries (subst (λ p. AreBeyond c.in_ok-run.field-0.now.map p c.go_beyond.new.entries) piece c.go_beyond.ensures)

@@ -3,7 +3,7 @@ use Rattle.std.proofs.lemmas.List.Elements.{All-take}
 use Rattle.judy_sums.specs.Pairs.{Pairs}
 use Rattle.judy_sl.specs.Arenas.{world_of}
 use Rattle.judy_sl.specs.Counted.{LeadsOn, keys_behind_all}
-use Rattle.judy_sl.proofs.PageCounts.{page_full}
+use Rattle.judy_sl.proofs.lemmas.places.PageCounts.{page_full}
 use Rattle.judy_sl.proofs.arena.Arena.next_keys.Goals as goal
 
 pub page_keys-requires-clause-leads : goal.page_keys-requires-clause-leads

@@ -4,9 +4,9 @@ use Rattle.judy_model.specs.Keys.{word_order}
 use Rattle.judy_model.specs.Counts.{by_count}
 use Rattle.judy_sl.specs.Pieces.{piece_bytes}
 use Rattle.judy_sl.specs.Arenas.{map_of}
-use Rattle.judy_sl.proofs.Nths.{place_some}
-use Rattle.judy_sl.proofs.NthWays.{held_at}
-use Rattle.judy_sl.proofs.NthFirsts.{nth_is, piece_short, before_first, before_fits, first_some, own_final, own_behind, own_fits, own_inner}
+use Rattle.judy_sl.proofs.lemmas.places.Nths.{place_some}
+use Rattle.judy_sl.proofs.lemmas.places.NthWays.{held_at}
+use Rattle.judy_sl.proofs.lemmas.places.NthFirsts.{nth_is, piece_short, before_first, before_fits, first_some, own_final, own_behind, own_fits, own_inner}
 use Rattle.judy_sl.proofs.arena.Arena.nth.Goals as goal
 
 pub chosen-mark-requires-clause-some : goal.chosen-mark-requires-clause-some

@@ -4,10 +4,10 @@ use Rattle.judy_sl.specs.Pieces.{piece_bytes}
 use Rattle.judy_sl.specs.Children.{keys_told}
 use Rattle.judy_sl.specs.Counted.{StandsWith}
 use Rattle.judy_sl.specs.Arenas.{world_of, child_at, node_of, HasText}
-use Rattle.judy_sl.proofs.Linked.{taken_of}
-use Rattle.judy_sl.proofs.PieceBytes.{inner_bytes}
-use Rattle.judy_sl.proofs.KeysTold.{level_stands, level_asked}
-use Rattle.judy_sl.proofs.NthWays.{nth_start, nth_there, nth_within, nth_room, nth_final, nth_down, nth_tail_room, nth_tail}
+use Rattle.judy_sl.proofs.lemmas.seats.Linked.{taken_of}
+use Rattle.judy_sl.proofs.lemmas.pieces.PieceBytes.{inner_bytes}
+use Rattle.judy_sl.proofs.lemmas.counts.KeysTold.{level_stands, level_asked}
+use Rattle.judy_sl.proofs.lemmas.places.NthWays.{nth_start, nth_there, nth_within, nth_room, nth_final, nth_down, nth_tail_room, nth_tail}
 use Rattle.judy_sl.proofs.arena.Arena.nth_behind.Goals as goal
 
 pub down-init : goal.down-init

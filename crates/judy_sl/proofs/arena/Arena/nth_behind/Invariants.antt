@@ -1,6 +1,6 @@
 use Rattle.std.proofs.Common.{◌-◌, length}
 use Rattle.judy_sl.specs.Arenas.{world_of}
-use Rattle.judy_sl.proofs.NthWays.{OnNth}
+use Rattle.judy_sl.proofs.lemmas.places.NthWays.{OnNth}
 use Rattle.judy_sl.proofs.arena.Arena.nth_behind.Given as goal
 use Rattle.judy_model.specs.declared.keys.TheConstants.{LONGEST_KEY}
 

@@ -2,7 +2,7 @@ use Rattle.std.proofs.Common.{◌+◌, ap, arith}
 use Rattle.std.proofs.lemmas.List.{take_all}
 use Rattle.judy_sl.specs.Arenas.{world_of}
 use Rattle.judy_sl.specs.Counted.{keys_behind_all}
-use Rattle.judy_sl.proofs.PageCounts.{front_rest, front_one}
+use Rattle.judy_sl.proofs.lemmas.places.PageCounts.{front_rest, front_one}
 use Rattle.judy_sl.proofs.arena.Arena.page_keys.Goals as goal
 
 pub overflow_add-keys : goal.overflow_add-keys

@@ -2,8 +2,8 @@ use Rattle.std.proofs.Common.{◌+◌, take, drop, ap, arith}
 use Rattle.std.proofs.lemmas.List.{take_all}
 use Rattle.judy_sl.specs.Arenas.{world_of}
 use Rattle.judy_sl.specs.Counted.{keys_behind_all}
-use Rattle.judy_sl.proofs.PageCounts.{front_one}
-use Rattle.judy_sl.proofs.PageReads.{split_at}
+use Rattle.judy_sl.proofs.lemmas.places.PageCounts.{front_one}
+use Rattle.judy_sl.proofs.lemmas.places.PageReads.{split_at}
 use Rattle.judy_sl.proofs.arena.Arena.page_spot.Goals as goal
 
 pub loop-piece-preserved : goal.loop-piece-preserved

@@ -5,11 +5,11 @@ use Rattle.judy_sums.specs.Pairs.{sum_below}
 use Rattle.judy_sl.specs.Pieces.{piece_of}
 use Rattle.judy_sl.specs.Arenas.{world_of, map_of}
 use Rattle.judy_sl.specs.Ranks.{ranked_own}
-use Rattle.judy_sl.proofs.PieceLemmas.{text_of_key, piece-IsInner}
-use Rattle.judy_sl.proofs.Linked.{taken_of}
-use Rattle.judy_sl.proofs.LevelRanks.{ranked_most}
-use Rattle.judy_sl.proofs.FirstSums.{first_keys_below, behind_most}
-use Rattle.judy_sl.proofs.CountWays.{level_ranked}
+use Rattle.judy_sl.proofs.lemmas.pieces.PieceLemmas.{text_of_key, piece-IsInner}
+use Rattle.judy_sl.proofs.lemmas.seats.Linked.{taken_of}
+use Rattle.judy_sl.proofs.lemmas.counts.LevelRanks.{ranked_most}
+use Rattle.judy_sl.proofs.lemmas.counts.FirstSums.{first_keys_below, behind_most}
+use Rattle.judy_sl.proofs.lemmas.counts.CountWays.{level_ranked}
 use Rattle.judy_sl.proofs.arena.Arena.rank.Goals as goal
 
 pub overflow_add-lesser : goal.overflow_add-lesser

@@ -8,10 +8,10 @@ use Rattle.judy_sl.specs.Behind.{map_behind, entry_keys}
 use Rattle.judy_sl.specs.Children.{keys_told}
 use Rattle.judy_sl.specs.Counted.{StandsWith}
 use Rattle.judy_sl.specs.Scans.{is_beyond}
-use Rattle.judy_sl.proofs.PieceLemmas.{text-drop, piece-IsInner}
-use Rattle.judy_sl.proofs.Linked.{taken_of}
-use Rattle.judy_sl.proofs.KeysTold.{level_stands, level_asked}
-use Rattle.judy_sl.proofs.LevelRanks.{one_if, one_told, ranked_most, rank_tail, level_most, rank_absent, rank_final, rank_inner}
+use Rattle.judy_sl.proofs.lemmas.pieces.PieceLemmas.{text-drop, piece-IsInner}
+use Rattle.judy_sl.proofs.lemmas.seats.Linked.{taken_of}
+use Rattle.judy_sl.proofs.lemmas.counts.KeysTold.{level_stands, level_asked}
+use Rattle.judy_sl.proofs.lemmas.counts.LevelRanks.{one_if, one_told, ranked_most, rank_tail, level_most, rank_absent, rank_final, rank_inner}
 use Rattle.judy_sl.proofs.arena.Arena.rank_behind.Goals as goal
 
 pub loop-level-init : goal.loop-level-init

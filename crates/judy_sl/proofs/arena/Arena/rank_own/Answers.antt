@@ -5,8 +5,8 @@ use Rattle.judy_sl.specs.Arenas.{world_of}
 use Rattle.judy_sl.specs.Behind.{map_behind}
 use Rattle.judy_sl.specs.Counted.{ranked}
 use Rattle.judy_sl.specs.Ranks.{ranked_own}
-use Rattle.judy_sl.proofs.PieceLemmas.{text-drop}
-use Rattle.judy_sl.proofs.LevelRanks.{one_if, one_told}
+use Rattle.judy_sl.proofs.lemmas.pieces.PieceLemmas.{text-drop}
+use Rattle.judy_sl.proofs.lemmas.counts.LevelRanks.{one_if, one_told}
 use Rattle.judy_sl.proofs.arena.Arena.rank_own.Goals as goal
 
 pub returns-then-key-lt8 : goal.returns-then-key-lt8

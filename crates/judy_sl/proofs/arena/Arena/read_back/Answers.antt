@@ -7,8 +7,8 @@ use Rattle.judy_sl.specs.Arenas.{world_of}
 use Rattle.judy_sl.specs.World.{World}
 use Rattle.judy_sl.specs.Counted.{LeadsOn, keys_behind_all}
 use Rattle.judy_sl.specs.Nth.{IsSpotIn}
-use Rattle.judy_sl.proofs.PageCounts.{front_some, front_rest, front_more}
-use Rattle.judy_sl.proofs.PageReads.{Reading, reading_spot}
+use Rattle.judy_sl.proofs.lemmas.places.PageCounts.{front_some, front_rest, front_more}
+use Rattle.judy_sl.proofs.lemmas.places.PageReads.{Reading, reading_spot}
 use Rattle.judy_sl.proofs.arena.Arena.read_back.Goals as goal
 
 -- A page that was read from a place on has the entries from there to the end, and what stands before the end is before the page or behind it.

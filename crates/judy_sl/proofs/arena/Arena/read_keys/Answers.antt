@@ -4,7 +4,7 @@ use Rattle.std.proofs.lemmas.List.Elements.{All-drop}
 use Rattle.judy_sums.specs.Pairs.{Pairs}
 use Rattle.judy_sl.specs.Arenas.{world_of}
 use Rattle.judy_sl.specs.Counted.{LeadsOn, keys_behind_all}
-use Rattle.judy_sl.proofs.PageCounts.{front_more}
+use Rattle.judy_sl.proofs.lemmas.places.PageCounts.{front_more}
 use Rattle.judy_sl.proofs.arena.Arena.read_keys.Goals as goal
 
 pub pages-init : goal.pages-init

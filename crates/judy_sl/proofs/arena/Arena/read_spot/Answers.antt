@@ -4,8 +4,8 @@ use Rattle.std.proofs.lemmas.List.Elements.{All-take, All-drop}
 use Rattle.judy_sl.specs.Arenas.{world_of}
 use Rattle.judy_sl.specs.Counted.{LeadsOn, keys_behind_all}
 use Rattle.judy_sl.specs.Nth.{IsSpotIn}
-use Rattle.judy_sl.proofs.PageCounts.{page_is}
-use Rattle.judy_sl.proofs.PageReads.{Reading, reading_start, reading_some, reading_page, reading_spot}
+use Rattle.judy_sl.proofs.lemmas.places.PageCounts.{page_is}
+use Rattle.judy_sl.proofs.lemmas.places.PageReads.{Reading, reading_start, reading_some, reading_page, reading_spot}
 use Rattle.judy_sl.proofs.arena.Arena.read_spot.Goals as goal
 
 pub pages-init : goal.pages-init

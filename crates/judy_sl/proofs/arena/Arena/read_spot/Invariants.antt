@@ -2,7 +2,7 @@
 use Rattle.std.proofs.Common.{◌≡◌, length, All}
 use Rattle.judy_sl.specs.Arenas.{world_of}
 use Rattle.judy_sl.specs.Counted.{LeadsOn}
-use Rattle.judy_sl.proofs.PageReads.{Reading}
+use Rattle.judy_sl.proofs.lemmas.places.PageReads.{Reading}
 use Rattle.judy_sl.proofs.arena.Arena.read_spot.Given as goal
 
 abbrev pub invariant-pages : goal.invariant-pages

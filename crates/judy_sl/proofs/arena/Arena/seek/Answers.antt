@@ -8,7 +8,7 @@ use Rattle.judy_sl.specs.World.{World}
 use Rattle.judy_sl.specs.Arenas.{world_of}
 use Rattle.judy_sl.specs.Scans.{upward, IsNone, IsTurn, IsTurnOf}
 use Rattle.judy_sl.specs.Runs.{EntryLeads}
-use Rattle.judy_sl.proofs.RunWays.{turn_level, turn_leads}
+use Rattle.judy_sl.proofs.lemmas.scans.RunWays.{turn_level, turn_leads}
 use Rattle.judy_sl.proofs.arena.Arena.seek.Goals as goal
 
 pub returns-in_err-turn-clause-neighbour : goal.returns-in_err-turn-clause-neighbour
@@ -27,8 +27,8 @@ level_behind-level-requires-clause-leads c =
     let at = turn_at c.args.itself (world_of c.args.self.now) c.as_slice.result.now c.as_slice-2.result.now c.upward.result c.turn.result c.in_ok-turn.turn c.turn.ensures.is_turn c.in_ok-turn.was c.upward.ensures (c.as_slice.ensures.bytes ∙ sym c.as_slice-2.ensures.bytes) in
     (at.map, turn_level c.args.itself (world_of c.args.self.now) c.as_slice-2.result.now c.in_ok-turn.turn at)
 
-pub entries_beyond-requires : goal.entries_beyond-requires
-entries_beyond-requires c =
+pub go_beyond-requires : goal.go_beyond-requires
+go_beyond-requires c =
     let at = turn_at c.args.itself (world_of c.args.self.now) c.as_slice.result.now c.as_slice-2.result.now c.upward.result c.turn.result c.in_ok-turn.turn c.turn.ensures.is_turn c.in_ok-turn.was c.upward.ensures (c.as_slice.ensures.bytes ∙ sym c.as_slice-2.ensures.bytes) in
     let behind = c.level_behind-level.ensures at.map (turn_level c.args.itself (world_of c.args.self.now) c.as_slice-2.result.now c.in_ok-turn.turn at) in
     ap (λ (words : FinMap word_order ℕ). contains_key words c.in_ok-turn.turn.piece) behind.0 ∙ ap (λ (found : Option ℕ). is_some found) at.held
@@ -37,5 +37,5 @@ pub climb-value-requires-clause-leads : goal.climb-value-requires-clause-leads
 climb-value-requires-clause-leads c =
     let at = turn_at c.args.itself (world_of c.args.self.now) c.as_slice.result.now c.as_slice-2.result.now c.upward.result c.turn.result c.in_ok-turn.turn c.turn.ensures.is_turn c.in_ok-turn.was c.upward.ensures (c.as_slice.ensures.bytes ∙ sym c.as_slice-2.ensures.bytes) in
     let behind = c.level_behind-level.ensures at.map (turn_level c.args.itself (world_of c.args.self.now) c.as_slice-2.result.now c.in_ok-turn.turn at) in
-    subst (λ bytes. EntryLeads c.args.itself (world_of c.args.self.now) bytes (c.in_ok-turn.turn.piece, c.in_ok-turn.turn.value) c.level_behind-level.new.above.items (record { level = c.level_behind-level.result; entries = c.entries_beyond.result })) c.as_slice-2.ensures.bytes
-    (turn_leads c.args.itself (world_of c.args.self.now) c.as_slice-2.result.now c.in_ok-turn.turn at c.level_behind-level.new.above.items (record { level = c.level_behind-level.result; entries = c.entries_beyond.result }) behind.1 behind.0 c.entries_beyond.ensures)
+    subst (λ bytes. EntryLeads c.args.itself (world_of c.args.self.now) bytes (c.in_ok-turn.turn.piece, c.in_ok-turn.turn.value) c.level_behind-level.new.above.items (record { level = c.level_behind-level.result; entries = c.go_beyond.new.entries })) c.as_slice-2.ensures.bytes
+    (turn_leads c.args.itself (world_of c.args.self.now) c.as_slice-2.result.now c.in_ok-turn.turn at c.level_behind-level.new.above.items (record { level = c.level_behind-level.result; entries = c.go_beyond.new.entries }) behind.1 behind.0 c.go_beyond.ensures)

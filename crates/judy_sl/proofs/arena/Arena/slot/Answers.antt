@@ -2,7 +2,7 @@ use Rattle.std.proofs.Common.{ℕ, sym, ap, ◌∙◌}
 use borrow.Follows.Closed.{read_of}
 use Rattle.std.specs.Option.{ghost_name_of}
 use Rattle.judy_sl.specs.Children.{value_at}
-use Rattle.judy_sl.proofs.PlaceKinds.{level-read, level-lent, level-back}
+use Rattle.judy_sl.proofs.lemmas.seats.PlaceKinds.{level-read, level-lent, level-back}
 use Rattle.judy_sl.proofs.arena.Arena.slot.Goals as goal
 
 pub returns-then-is_level : goal.returns-then-is_level

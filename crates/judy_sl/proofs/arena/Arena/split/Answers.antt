@@ -3,10 +3,10 @@ use Rattle.judy_sl.specs.Pieces.{pieces}
 use Rattle.judy_sl.specs.World.{gone, tail, level}
 use Rattle.judy_sl.specs.Arenas.{node_of}
 use Rattle.judy_sl.specs.Grown.{IsGrafted}
-use Rattle.judy_sl.proofs.Linked.{taken_of}
-use Rattle.judy_sl.proofs.PieceLemmas.{text_of_key}
-use Rattle.judy_sl.proofs.Exact.{ends-text}
-use Rattle.judy_sl.proofs.Splits.{hung-taken, hung-entry, clash-tail, split-sound, split-graft, split-gap, split-clash, split-added, split-counted}
+use Rattle.judy_sl.proofs.lemmas.seats.Linked.{taken_of}
+use Rattle.judy_sl.proofs.lemmas.pieces.PieceLemmas.{text_of_key}
+use Rattle.judy_sl.proofs.lemmas.pieces.Exact.{ends-text}
+use Rattle.judy_sl.proofs.lemmas.inserts.Splits.{hung-taken, hung-entry, clash-tail, split-sound, split-graft, split-gap, split-clash, split-added, split-counted}
 use Rattle.judy_sl.proofs.arena.Arena.split.Goals.{After-graft-top}
 use Rattle.judy_sl.proofs.arena.Arena.split.Goals as goal
 

@@ -2,9 +2,9 @@ use Rattle.std.proofs.Common.{◌∙◌, sym, arith, ℕ, ◌<◌, subst, List, 
 use Rattle.judy_sl.specs.Arenas.{world_of}
 use Rattle.judy_sl.specs.Counted.{LeadsOn, keys_behind_all}
 use Rattle.judy_sl.specs.Nth.{IsSpotIn, IsSpotOf}
-use Rattle.judy_sl.proofs.LoneKeys.{level_keys, lone_spot}
-use Rattle.judy_sl.proofs.PageCounts.{entries_lead}
-use Rattle.judy_sl.proofs.NthReads.{spot_of, only_spot}
+use Rattle.judy_sl.proofs.lemmas.counts.LoneKeys.{level_keys, lone_spot}
+use Rattle.judy_sl.proofs.lemmas.places.PageCounts.{entries_lead}
+use Rattle.judy_sl.proofs.lemmas.places.NthReads.{spot_of, only_spot}
 use Rattle.judy_sl.proofs.arena.Arena.spot_at.Goals as goal
 
 pub entry_spot-requires-clause-within : goal.entry_spot-requires-clause-within

@@ -5,11 +5,11 @@ use Rattle.judy_model.specs.Keys.{word_order}
 use Rattle.judy_model.specs.Arrays.{ArrayOf, with_map}
 use Rattle.judy_sl.specs.Pieces.{piece_of, IsText}
 use Rattle.judy_tails.specs.Tails.{next_place}
-use Rattle.judy_sl.proofs.PieceLemmas.{text_of_key, text-drop}
-use Rattle.judy_sl.proofs.FirstWays.{unrooted}
-use Rattle.judy_sl.proofs.Tried.{shown-refused, first-absent, first-added}
-use Rattle.judy_sl.proofs.Growing.{counted-same}
-use Rattle.judy_sl.proofs.TriedCounts.{put-present, tried-counted}
+use Rattle.judy_sl.proofs.lemmas.pieces.PieceLemmas.{text_of_key, text-drop}
+use Rattle.judy_sl.proofs.lemmas.counts.FirstWays.{unrooted}
+use Rattle.judy_sl.proofs.lemmas.inserts.Tried.{shown-refused, first-absent, first-added}
+use Rattle.judy_sl.proofs.lemmas.counts.Growing.{counted-same}
+use Rattle.judy_sl.proofs.lemmas.counts.TriedCounts.{put-present, tried-counted}
 use Rattle.judy_word.proofs.TrialLemmas.{put-absent, put-new, put-undone}
 use Rattle.judy_sl.proofs.arena.Arena.try_add.Goals as goal
 

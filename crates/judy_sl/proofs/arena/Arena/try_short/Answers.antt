@@ -2,10 +2,10 @@ use Rattle.std.proofs.Common.{refl, sym, ap, ◌∙◌}
 use Rattle.std.specs.FinMap.{get}
 use Rattle.judy_model.specs.Arrays.{with_map}
 use Rattle.judy_sl.specs.Pieces.{piece_of}
-use Rattle.judy_sl.proofs.FirstWays.{unrooted}
-use Rattle.judy_sl.proofs.Tried.{shown-refused, first-absent, short-added}
-use Rattle.judy_sl.proofs.Growing.{counted-same}
-use Rattle.judy_sl.proofs.TriedCounts.{put-present, short-counted}
+use Rattle.judy_sl.proofs.lemmas.counts.FirstWays.{unrooted}
+use Rattle.judy_sl.proofs.lemmas.inserts.Tried.{shown-refused, first-absent, short-added}
+use Rattle.judy_sl.proofs.lemmas.counts.Growing.{counted-same}
+use Rattle.judy_sl.proofs.lemmas.counts.TriedCounts.{put-present, short-counted}
 use Rattle.judy_word.proofs.TrialLemmas.{put-absent, put-new}
 use Rattle.judy_sl.proofs.arena.Arena.try_short.Goals as goal
 

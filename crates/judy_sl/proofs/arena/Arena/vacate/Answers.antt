@@ -1,5 +1,5 @@
 use Rattle.std.proofs.Common.{refl, sym, ◌∙◌}
-use Rattle.judy_sl.proofs.PlaceKinds.{taken-level, taken-tail, level-stood, no-level-stood, level-vacated, tail-vacated}
+use Rattle.judy_sl.proofs.lemmas.seats.PlaceKinds.{taken-level, taken-tail, level-stood, no-level-stood, level-vacated, tail-vacated}
 use Rattle.judy_sl.proofs.arena.Arena.vacate.Goals as goal
 
 pub remove-requires : goal.remove-requires

@@ -2,7 +2,7 @@ use Rattle.std.proofs.Common.{refl, sym, subst}
 use Rattle.judy_sl.specs.Pieces.{pieces}
 use Rattle.judy_sl.specs.Arenas.{world_of}
 use Rattle.judy_sl.specs.Ways.{IsOnWay, passed_from}
-use Rattle.judy_sl.proofs.OnWay.{on-start}
+use Rattle.judy_sl.proofs.lemmas.pieces.OnWay.{on-start}
 use Rattle.judy_sl.proofs.arena.Arena.walk.Goals as goal
 
 pub walk_on-requires-clause-on : goal.walk_on-requires-clause-on

@@ -3,9 +3,9 @@ use Rattle.std.proofs.lemmas.List.{take_rest}
 use Rattle.std.specs.FinMap.{get}
 use Rattle.judy_sl.specs.Pieces.{IsFinal, IsInner}
 use Rattle.judy_sl.specs.Arenas.{node_of, HasText}
-use Rattle.judy_sl.proofs.OnWay.{on-gap, on-last, on-moved, on-tail, on-clash, on-taken, at-place}
-use Rattle.judy_sl.proofs.Looked.{never-final, ends-on, key-tail, key-last}
-use Rattle.judy_sl.proofs.PassedLevels.{noted-on, noted-none, noted-tail, noted-last}
+use Rattle.judy_sl.proofs.lemmas.pieces.OnWay.{on-gap, on-last, on-moved, on-tail, on-clash, on-taken, at-place}
+use Rattle.judy_sl.proofs.lemmas.pieces.Looked.{never-final, ends-on, key-tail, key-last}
+use Rattle.judy_sl.proofs.lemmas.counts.PassedLevels.{noted-on, noted-none, noted-tail, noted-last}
 use Rattle.judy_sl.proofs.arena.Arena.walk_on.Goals as goal
 
 pub loop-rest-init : goal.loop-rest-init

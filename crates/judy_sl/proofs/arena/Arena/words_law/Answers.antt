@@ -1,4 +1,4 @@
-use Rattle.judy_sl.proofs.Words.{seats-words}
+use Rattle.judy_sl.proofs.lemmas.seats.Words.{seats-words}
 use Rattle.judy_sl.proofs.arena.Arena.words_law.Goals as goal
 
 pub returns : goal.returns

@@ -1,8 +1,8 @@
 use Rattle.std.proofs.Common.{true}
 use Rattle.judy_sl.specs.Arenas.{world_of}
 use Rattle.judy_sl.specs.Scans.{upward}
-use Rattle.judy_sl.proofs.ScanMaps.{scanned}
-use Rattle.judy_sl.proofs.RunWays.{text_after}
+use Rattle.judy_sl.proofs.lemmas.scans.ScanMaps.{scanned}
+use Rattle.judy_sl.proofs.lemmas.scans.RunWays.{text_after}
 use Rattle.judy_sl.proofs.cursor.KeyCursor.first.Goals as goal
 
 pub invariant_of-self : goal.invariant_of-self

@@ -1,5 +1,5 @@
 use Rattle.std.proofs.Common.{arith}
-use Rattle.judy_sl.proofs.Numbered.{count-both}
+use Rattle.judy_sl.proofs.lemmas.seats.Numbered.{count-both}
 use Rattle.judy_sl.proofs.level_list.LevelList.capacity.Goals as goal
 
 pub returns-then-places-len-clause-holds_all : goal.returns-then-places-len-clause-holds_all

@@ -2,7 +2,7 @@ use Rattle.std.proofs.Common.{sym, ap, ◌∙◌, arith}
 use Rattle.std.proofs.lemmas.List.{get_or_read_under}
 use Rattle.slab.specs.Slab.{Slab, get}
 use Rattle.judy_sl.specs.LevelLists.{LevelParts, keys_in}
-use Rattle.judy_sl.proofs.Numbered.{held-here, keys-here}
+use Rattle.judy_sl.proofs.lemmas.seats.Numbered.{held-here, keys-here}
 use Rattle.judy_sl.proofs.level_list.LevelList.keys.Goals as goal
 
 pub index-requires : goal.index-requires

@@ -4,7 +4,7 @@ use Rattle.slab.proofs.SlabLemmas.{Contains-cons_cases, Contains-entries}
 use Rattle.judy_model.specs.Keys.{IsWord, word_order}
 use Rattle.judy_model.specs.Arrays.{ArrayOf, IsArrayOf}
 use Rattle.judy_sl.specs.LevelLists.{LevelParts, words_in}
-use Rattle.judy_sl.proofs.Numbered.{words-here}
+use Rattle.judy_sl.proofs.lemmas.seats.Numbered.{words-here}
 use Rattle.judy_sl.proofs.level_list.LevelList.law.Goals as goal
 
 pub loop-words-init : goal.loop-words-init

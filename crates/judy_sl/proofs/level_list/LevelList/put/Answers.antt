@@ -2,7 +2,7 @@ use Rattle.std.proofs.Common.{◌≡◌, ◌+◌, None, Some, set, sym, ap, ◌�
 use Rattle.std.proofs.lemmas.List.{length-set}
 use Rattle.slab.specs.Slab.{Slab, Updates, slab_len, get}
 use Rattle.judy_sl.specs.LevelLists.{LevelParts, parts_of, side_by_side}
-use Rattle.judy_sl.proofs.Numbered.{all-numbered, room-words, free-here, put-both, numbered-put, count-numbered, capacity-all}
+use Rattle.judy_sl.proofs.lemmas.seats.Numbered.{all-numbered, room-words, free-here, put-both, numbered-put, count-numbered, capacity-all}
 use Rattle.judy_sl.proofs.level_list.LevelList.put.Goals as goal
 
 pub insert_reserved-index-requires : goal.insert_reserved-index-requires

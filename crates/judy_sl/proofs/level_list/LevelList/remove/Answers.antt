@@ -1,7 +1,7 @@
 use Rattle.std.proofs.Common.{◌≡◌, None, Some, ◌∙◌, subst}
 use Rattle.slab.specs.Slab.{Slab, Updates, get}
 use Rattle.judy_sl.specs.LevelLists.{LevelParts, words_in, side_by_side}
-use Rattle.judy_sl.proofs.Numbered.{held-here, words-here, updated, numbered-removed}
+use Rattle.judy_sl.proofs.lemmas.seats.Numbered.{held-here, words-here, updated, numbered-removed}
 use Rattle.judy_sl.proofs.level_list.LevelList.remove.Goals as goal
 
 pub remove-requires : goal.remove-requires

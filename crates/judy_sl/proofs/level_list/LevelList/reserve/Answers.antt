@@ -1,7 +1,7 @@
 use Rattle.std.proofs.Common.{ap, ◌∙◌, arith}
 use Rattle.slab.specs.Slab.{Slab}
 use Rattle.judy_sl.specs.LevelLists.{LevelParts, side_by_side}
-use Rattle.judy_sl.proofs.Numbered.{count-both, same-but-room, room-all}
+use Rattle.judy_sl.proofs.lemmas.seats.Numbered.{count-both, same-but-room, room-all}
 use Rattle.judy_sl.proofs.level_list.LevelList.reserve.Goals as goal
 
 pub overflow_sub-capacity : goal.overflow_sub-capacity

@@ -2,7 +2,7 @@ use Rattle.std.proofs.Common.{ap, ◌∙◌, arith}
 use Rattle.std.proofs.lemmas.List.{length-set}
 use Rattle.slab.specs.Slab.{Slab}
 use Rattle.judy_sl.specs.LevelLists.{LevelParts, with_keys}
-use Rattle.judy_sl.proofs.Numbered.{held-here, keys-written, kept-numbers}
+use Rattle.judy_sl.proofs.lemmas.seats.Numbered.{held-here, keys-written, kept-numbers}
 use Rattle.judy_sl.proofs.level_list.LevelList.set_keys.Goals as goal
 
 pub index_mut-requires : goal.index_mut-requires

@@ -1,7 +1,7 @@
 use Rattle.std.proofs.Common.{◌≡◌, Some, ◌∙◌, subst}
 use Rattle.slab.specs.Slab.{Slab, get}
 use Rattle.judy_sl.specs.LevelLists.{LevelParts, words_in}
-use Rattle.judy_sl.proofs.Numbered.{held-here, words-here}
+use Rattle.judy_sl.proofs.lemmas.seats.Numbered.{held-here, words-here}
 use Rattle.judy_sl.proofs.level_list.LevelList.words.Goals as goal
 
 pub index-requires : goal.index-requires

@@ -1,7 +1,7 @@
 use Rattle.std.proofs.Common.{◌≡◌, Some, refl, ap, ◌∙◌, subst}
 use Rattle.slab.specs.Slab.{Slab, get}
 use Rattle.judy_sl.specs.LevelLists.{LevelParts, words_in, with_words}
-use Rattle.judy_sl.proofs.Numbered.{held-here, words-here, words-written, kept-slot}
+use Rattle.judy_sl.proofs.lemmas.seats.Numbered.{held-here, words-here, words-written, kept-slot}
 use Rattle.judy_sl.proofs.level_list.LevelList.words_mut.Goals as goal
 
 pub index_mut-requires : goal.index_mut-requires

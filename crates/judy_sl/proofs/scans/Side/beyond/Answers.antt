@@ -1,4 +1,4 @@
-use Rattle.judy_sl.proofs.ScanEntries.{above-next, below-prev}
+use Rattle.judy_sl.proofs.lemmas.scans.ScanEntries.{above-next, below-prev}
 use Rattle.judy_sl.proofs.scans.Side.beyond.Goals as goal
 
 pub returns-in-Above-clause-nearest : goal.returns-in-Above-clause-nearest

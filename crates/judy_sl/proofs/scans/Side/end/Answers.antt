@@ -1,4 +1,4 @@
-use Rattle.judy_sl.proofs.ScanEntries.{above-end, below-end}
+use Rattle.judy_sl.proofs.lemmas.scans.ScanEntries.{above-end, below-end}
 use Rattle.judy_sl.proofs.scans.Side.end.Goals as goal
 
 pub returns-in-Above-clause-first : goal.returns-in-Above-clause-first

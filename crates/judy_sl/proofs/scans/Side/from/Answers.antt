@@ -1,4 +1,4 @@
-use Rattle.judy_sl.proofs.ScanEntries.{above-first, below-last}
+use Rattle.judy_sl.proofs.lemmas.scans.ScanEntries.{above-first, below-last}
 use Rattle.judy_sl.proofs.scans.Side.from.Goals as goal
 
 pub returns-in-Above-clause-nearest : goal.returns-in-Above-clause-nearest

@@ -1,6 +1,6 @@
 use Rattle.std.proofs.Common.{◌∙◌, sym, ap}
 use Rattle.std.specs.Ordering.{ordering_reverse}
-use Rattle.judy_model.proofs.TableLemmas.{byte_order_total}
+use Rattle.judy_model.proofs.lemmas.maps.TableLemmas.{byte_order_total}
 use Rattle.judy_sl.proofs.scans.Side.order.Goals as goal
 
 pub returns-in-Above : goal.returns-in-Above

@@ -1,4 +1,4 @@
-use Rattle.judy_sl.proofs.Words.{words-array}
+use Rattle.judy_sl.proofs.lemmas.seats.Words.{words-array}
 use Rattle.judy_sl.proofs.strings.JudySl.array_law.Goals as goal
 
 pub returns : goal.returns

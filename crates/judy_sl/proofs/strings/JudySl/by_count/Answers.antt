@@ -1,7 +1,7 @@
 use Rattle.std.proofs.Common.{◌∙◌, inl, inr, unwrap_or, sym, ap, arith}
 use Rattle.judy_sl.specs.Arenas.{map_of}
 use Rattle.judy_sl.specs.Scans.{value_found}
-use Rattle.judy_sl.proofs.Nths.{nth_counted, nth_none}
+use Rattle.judy_sl.proofs.lemmas.places.Nths.{nth_counted, nth_none}
 use Rattle.judy_sl.proofs.strings.JudySl.by_count.Goals as goal
 use Rattle.judy_sl.proofs.strings.JudySl.by_count.Goals.{then-n-eq0-via-then-n-eq0, then-n-eq0-via-else-n-eq0+then-n-len}
 

@@ -2,8 +2,8 @@ use Rattle.std.proofs.Common.{ap, arith}
 use Rattle.judy_model.specs.Keys.{byte_order}
 use Rattle.judy_model.specs.Arrays.{ArrayOf}
 use Rattle.judy_model.specs.Counts.{count}
-use Rattle.judy_model.proofs.RankLemmas.{count-sub}
-use Rattle.judy_model.proofs.TableLemmas.{byte_order_total}
+use Rattle.judy_model.proofs.lemmas.queries.RankLemmas.{count-sub}
+use Rattle.judy_model.proofs.lemmas.maps.TableLemmas.{byte_order_total}
 use Rattle.judy_sl.specs.Arenas.{map_of}
 use Rattle.judy_sl.proofs.strings.JudySl.count.Goals as goal
 

@@ -1,5 +1,5 @@
 use Rattle.std.proofs.Common.{◌∙◌, sym}
-use Rattle.judy_sl.proofs.Removed.{bad-absent, bad-deleted, key-there, key-deleted, count-some, strings-removed, strings-kept}
+use Rattle.judy_sl.proofs.lemmas.removals.Removed.{bad-absent, bad-deleted, key-there, key-deleted, count-some, strings-removed, strings-kept}
 use Rattle.judy_sl.proofs.strings.JudySl.del.Goals as goal
 
 pub returns-then-not-is_key-clause-answer : goal.returns-then-not-is_key-clause-answer

@@ -2,10 +2,10 @@ use Rattle.std.proofs.Common.{ap, ℕ, ◌∙◌}
 use Rattle.std.specs.FinMap.{FinMap, len}
 use Rattle.judy_model.specs.Keys.{byte_order}
 use Rattle.judy_model.specs.Arrays.{ArrayOf, empty_array}
-use Rattle.judy_sl.proofs.Keeping.{strings-new}
-use Rattle.judy_sl.proofs.Maps.{empty-map}
-use Rattle.judy_sl.proofs.FirstWays.{firsts_new}
-use Rattle.judy_sl.proofs.CountedWrites.{counted_new}
+use Rattle.judy_sl.proofs.lemmas.seats.Keeping.{strings-new}
+use Rattle.judy_sl.proofs.lemmas.seats.Maps.{empty-map}
+use Rattle.judy_sl.proofs.lemmas.counts.FirstWays.{firsts_new}
+use Rattle.judy_sl.proofs.lemmas.counts.CountedWrites.{counted_new}
 use Rattle.judy_sl.proofs.strings.JudySl.free_array.Goals as goal
 
 pub invariant_of-self : goal.invariant_of-self

@@ -2,13 +2,13 @@ use Rattle.std.proofs.Common.{ℕ, ◌++◌, sym, ap, ◌∙◌, None}
 use Rattle.std.specs.FinMap.{FinMap, empty, entries}
 use Rattle.judy_model.specs.Keys.{byte_order}
 use Rattle.judy_model.specs.Arrays.{ArrayOf, with_map}
-use Rattle.judy_model.proofs.EntryLemmas.{sorted-Ascends}
-use Rattle.judy_model.proofs.TableLemmas.{byte_order_total}
+use Rattle.judy_model.proofs.lemmas.dumps.EntryLemmas.{sorted-Ascends}
+use Rattle.judy_model.proofs.lemmas.maps.TableLemmas.{byte_order_total}
 use Rattle.judy_sl.specs.Planted.{openers, followers}
 use Rattle.judy_sl.specs.Sorted.{pairs_in, with_pairs}
-use Rattle.judy_sl.proofs.SortedRuns.{pairs-ascend, each-key}
-use Rattle.judy_sl.proofs.PairMaps.{entries-written}
-use Rattle.judy_sl.proofs.Openers.{opens_or_follows, opener_or_follower, written-append}
+use Rattle.judy_sl.proofs.lemmas.made.SortedRuns.{pairs-ascend, each-key}
+use Rattle.judy_sl.proofs.lemmas.made.PairMaps.{entries-written}
+use Rattle.judy_sl.proofs.lemmas.made.Openers.{opens_or_follows, opener_or_follower, written-append}
 use Rattle.judy_sl.proofs.strings.JudySl.from_sorted.Goals as goal
 
 pub of_openers-requires-clause-keys : goal.of_openers-requires-clause-keys

@@ -1,7 +1,7 @@
 use Rattle.std.proofs.Common.{◌∙◌, sym, true≢false}
-use Rattle.judy_sl.proofs.PieceLemmas.{text_of_key}
-use Rattle.judy_sl.proofs.Exact.{ends-text}
-use Rattle.judy_sl.proofs.Maps.{get-map_bad}
+use Rattle.judy_sl.proofs.lemmas.pieces.PieceLemmas.{text_of_key}
+use Rattle.judy_sl.proofs.lemmas.pieces.Exact.{ends-text}
+use Rattle.judy_sl.proofs.lemmas.seats.Maps.{get-map_bad}
 use Rattle.judy_sl.proofs.strings.JudySl.get.Goals as goal
 
 pub returns-then-ends_in_zero : goal.returns-then-ends_in_zero

@@ -10,13 +10,13 @@ use Rattle.judy_sl.specs.Arenas.{array_of, map_of, world_of, IsStrings}
 use Rattle.judy_sl.specs.Worlds.{AllLed}
 use Rattle.judy_sl.specs.Counted.{AreCounted}
 use Rattle.judy_sl.specs.Firsts.{AreFirsts}
-use Rattle.judy_sl.proofs.FirstWays.{firsts_slot, firsts_same, added_first}
-use Rattle.judy_sl.proofs.CountedWrites.{counted_written}
-use Rattle.judy_sl.proofs.PieceLemmas.{text_of_key}
-use Rattle.judy_sl.proofs.Maps.{get-map}
-use Rattle.judy_sl.proofs.PassedLevels.{passed-few, list-fits}
-use Rattle.judy_sl.proofs.Keeping.{strings-written, array-written}
-use Rattle.judy_sl.proofs.Inserted.{is-new, way-none, there-not_full, there-value, absent-full, absent-room, tried-room, strings-added, array-added, added-value, strings-same, array-same}
+use Rattle.judy_sl.proofs.lemmas.counts.FirstWays.{firsts_slot, firsts_same, added_first}
+use Rattle.judy_sl.proofs.lemmas.counts.CountedWrites.{counted_written}
+use Rattle.judy_sl.proofs.lemmas.pieces.PieceLemmas.{text_of_key}
+use Rattle.judy_sl.proofs.lemmas.seats.Maps.{get-map}
+use Rattle.judy_sl.proofs.lemmas.counts.PassedLevels.{passed-few, list-fits}
+use Rattle.judy_sl.proofs.lemmas.seats.Keeping.{strings-written, array-written}
+use Rattle.judy_sl.proofs.lemmas.inserts.Inserted.{is-new, way-none, there-not_full, there-value, absent-full, absent-room, tried-room, strings-added, array-added, added-value, strings-same, array-same}
 use Rattle.judy_sl.proofs.strings.JudySl.ins_noted.Goals as goal
 
 -- ---- the list of places

@@ -3,11 +3,11 @@ use Rattle.judy_model.specs.Arrays.{ArrayOf}
 use Rattle.judy_model.specs.Keys.{byte_order}
 use Rattle.judy_sl.specs.Arenas.{map_of}
 use Rattle.judy_sl.specs.Lends.{with_value}
-use Rattle.judy_sl.proofs.FirstWays.{firsts_slot}
-use Rattle.judy_sl.proofs.CountedWrites.{counted_written}
-use Rattle.judy_sl.proofs.Keeping.{strings-written, array-written, value-place}
-use Rattle.judy_sl.proofs.Fronts.{front-key}
-use Rattle.judy_sl.proofs.ScanMaps.{value_there}
+use Rattle.judy_sl.proofs.lemmas.counts.FirstWays.{firsts_slot}
+use Rattle.judy_sl.proofs.lemmas.counts.CountedWrites.{counted_written}
+use Rattle.judy_sl.proofs.lemmas.seats.Keeping.{strings-written, array-written, value-place}
+use Rattle.judy_sl.proofs.lemmas.scans.Fronts.{front-key}
+use Rattle.judy_sl.proofs.lemmas.scans.ScanMaps.{value_there}
 use Rattle.judy_sl.proofs.strings.JudySl.neighbour_slot_in.Goals as goal
 
 pub invariant_of-self-lent : goal.invariant_of-self-lent

@@ -2,7 +2,7 @@ use Rattle.std.proofs.Common.{◌≡◌, ℕ, length, ap, subst, ◌∙◌, arit
 use Rattle.std.specs.FinMap.{FinMap}
 use Rattle.judy_model.specs.Keys.{byte_order}
 use Rattle.judy_sl.specs.Arenas.{IsStrings}
-use Rattle.judy_sl.proofs.PlantedKeys.{planted-new, planted-none, strings-planted, counted-planted, firsts-planted, map-planted}
+use Rattle.judy_sl.proofs.lemmas.made.PlantedKeys.{planted-new, planted-none, strings-planted, counted-planted, firsts-planted, map-planted}
 use Rattle.judy_sl.proofs.strings.JudySl.of_openers.Goals as goal
 
 pub plant_all-requires-clause-planted : goal.plant_all-requires-clause-planted

@@ -5,12 +5,12 @@ use Rattle.judy_model.specs.Arrays.{ArrayOf}
 use Rattle.judy_model.specs.Keys.{byte_order}
 use Rattle.judy_sl.specs.Arenas.{world_of}
 use Rattle.judy_sl.specs.Lends.{with_value}
-use Rattle.judy_sl.proofs.Maps.{get-map_none, get-map_bad}
-use Rattle.judy_sl.proofs.PieceLemmas.{text_of_key}
-use Rattle.judy_sl.proofs.Exact.{ends-text}
-use Rattle.judy_sl.proofs.FirstWays.{firsts_slot}
-use Rattle.judy_sl.proofs.CountedWrites.{counted_written}
-use Rattle.judy_sl.proofs.Keeping.{gap-none, clash-none, strings-written, array-written, value-place}
+use Rattle.judy_sl.proofs.lemmas.seats.Maps.{get-map_none, get-map_bad}
+use Rattle.judy_sl.proofs.lemmas.pieces.PieceLemmas.{text_of_key}
+use Rattle.judy_sl.proofs.lemmas.pieces.Exact.{ends-text}
+use Rattle.judy_sl.proofs.lemmas.counts.FirstWays.{firsts_slot}
+use Rattle.judy_sl.proofs.lemmas.counts.CountedWrites.{counted_written}
+use Rattle.judy_sl.proofs.lemmas.seats.Keeping.{gap-none, clash-none, strings-written, array-written, value-place}
 use Rattle.judy_sl.proofs.strings.JudySl.slot.Goals as goal
 
 pub returns-then-ends_in_zero : goal.returns-then-ends_in_zero

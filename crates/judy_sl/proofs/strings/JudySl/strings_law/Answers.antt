@@ -1,4 +1,4 @@
-use Rattle.judy_sl.proofs.Words.{strings-kept}
+use Rattle.judy_sl.proofs.lemmas.seats.Words.{strings-kept}
 use Rattle.judy_sl.proofs.strings.JudySl.strings_law.Goals as goal
 
 pub returns : goal.returns

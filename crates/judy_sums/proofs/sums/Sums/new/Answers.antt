@@ -1,7 +1,7 @@
 use Rattle.std.proofs.Common.{ap, ◌∙◌}
 use Rattle.std.specs.FinMap.{from_sorted}
 use Rattle.judy_model.specs.Keys.{word_order}
-use Rattle.judy_model.proofs.SortedMaps.{from_sorted-nil}
+use Rattle.judy_model.proofs.lemmas.maps.SortedMaps.{from_sorted-nil}
 use Rattle.judy_sums.specs.Chunks.{joined}
 use Rattle.judy_sums.proofs.sums.Sums.new.Goals as goal
 

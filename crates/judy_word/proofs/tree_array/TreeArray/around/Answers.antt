@@ -1,7 +1,7 @@
 use Rattle.std.proofs.Common.{◌+◌, ap, sym, ◌∙◌, ◌^◌, is_ge}
 use Rattle.std.specs.Option.{option_map}
 use Rattle.judy_model.specs.Keys.{word_order}
-use Rattle.judy_model.proofs.FollowingLemmas.{next-first}
+use Rattle.judy_model.proofs.lemmas.orders.FollowingLemmas.{next-first}
 use Rattle.judy_query.proofs.Links.{first_is}
 use Rattle.judy_word.proofs.EntryFacts.{value-found}
 use Rattle.judy_word.proofs.tree_array.TreeArray.around.Goals as goal

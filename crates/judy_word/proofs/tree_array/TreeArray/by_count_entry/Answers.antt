@@ -2,7 +2,7 @@ use Rattle.std.proofs.Common.{sym, ◌∙◌, ◌≡◌, ◌^◌, ◌-◌, suc, 
 use Rattle.std.specs.Cmp.{nat_cmp_total}
 use Rattle.std.specs.Option.{option_map}
 use Rattle.judy_model.specs.Counts.{by_count}
-use Rattle.judy_model.proofs.RankLemmas.{by_count-nth, by_count-zero}
+use Rattle.judy_model.proofs.lemmas.queries.RankLemmas.{by_count-nth, by_count-zero}
 use Rattle.judy_query.proofs.Links.{nth_is}
 use Rattle.judy_query.proofs.RankFacts.{key_at}
 use Rattle.judy_word.specs.Held.{map_in}

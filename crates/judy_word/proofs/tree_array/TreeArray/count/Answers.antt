@@ -1,5 +1,5 @@
 use Rattle.std.specs.Cmp.{nat_cmp_total}
-use Rattle.judy_model.proofs.RankLemmas.{count-sub}
+use Rattle.judy_model.proofs.lemmas.queries.RankLemmas.{count-sub}
 use Rattle.judy_word.specs.Held.{map_in}
 use Rattle.judy_word.proofs.tree_array.TreeArray.count.Goals as goal
 

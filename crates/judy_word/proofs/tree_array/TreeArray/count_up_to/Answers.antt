@@ -1,5 +1,5 @@
 use Rattle.std.proofs.Common.{sym, ◌∙◌, ◌^◌}
-use Rattle.judy_model.proofs.FollowingLemmas.{rank-following}
+use Rattle.judy_model.proofs.lemmas.orders.FollowingLemmas.{rank-following}
 use Rattle.judy_query.proofs.Links.{len_is}
 use Rattle.judy_word.proofs.HeldFacts.{count_up_to_most}
 use Rattle.judy_word.proofs.tree_array.TreeArray.count_up_to.Goals as goal

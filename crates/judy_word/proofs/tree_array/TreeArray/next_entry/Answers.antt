@@ -1,5 +1,5 @@
 use Rattle.std.proofs.Common.{sym, ◌∙◌}
-use Rattle.judy_model.proofs.FollowingLemmas.{next-first}
+use Rattle.judy_model.proofs.lemmas.orders.FollowingLemmas.{next-first}
 use Rattle.judy_word.proofs.HeldFacts.{next_most}
 use Rattle.judy_word.proofs.tree_array.TreeArray.next_entry.Goals as goal
 

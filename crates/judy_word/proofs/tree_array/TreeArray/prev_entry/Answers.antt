@@ -1,5 +1,5 @@
 use Rattle.std.proofs.Common.{sym, ◌∙◌, arith}
-use Rattle.judy_model.proofs.FollowingLemmas.{prev-zero}
+use Rattle.judy_model.proofs.lemmas.orders.FollowingLemmas.{prev-zero}
 use Rattle.judy_word.proofs.HeldFacts.{prev_less}
 use Rattle.judy_word.proofs.tree_array.TreeArray.prev_entry.Goals as goal
 

@@ -1,5 +1,5 @@
 use Rattle.std.specs.Fmt.{digits}
-use Rattle.judy_model.proofs.MapsOfPairs.{words_computed}
+use Rattle.judy_model.proofs.lemmas.maps.MapsOfPairs.{words_computed}
 use Rattle.judy_model.proofs.examples.commands.whole.list_of_words.Goals as goal
 
 pub returns-clause-set_text : goal.returns-clause-set_text

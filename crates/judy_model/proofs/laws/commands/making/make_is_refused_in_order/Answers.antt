@@ -1,4 +1,4 @@
-use Rattle.judy_model.proofs.MakeCommands.{refused_name, refused_kind, refused_word, refused_zero, refused_limit, refused_known, refused_many}
+use Rattle.judy_model.proofs.lemmas.commands.MakeCommands.{refused_name, refused_kind, refused_word, refused_zero, refused_limit, refused_known, refused_many}
 use Rattle.judy_model.proofs.laws.commands.making.make_is_refused_in_order.Goals as goal
 
 pub returns : goal.returns

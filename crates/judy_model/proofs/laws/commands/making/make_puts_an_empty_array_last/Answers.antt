@@ -1,4 +1,4 @@
-use Rattle.judy_model.proofs.MakeCommands.{made_with_limit, made_without_limit}
+use Rattle.judy_model.proofs.lemmas.commands.MakeCommands.{made_with_limit, made_without_limit}
 use Rattle.judy_model.proofs.laws.commands.making.make_puts_an_empty_array_last.Goals as goal
 
 pub returns : goal.returns

@@ -1,4 +1,4 @@
-use Rattle.judy_model.proofs.OrderedRefusals.{drop-of, free-of, key-of, pair-of, bad_named}
+use Rattle.judy_model.proofs.lemmas.commands.OrderedRefusals.{drop-of, free-of, key-of, pair-of, bad_named}
 use Rattle.judy_model.proofs.laws.commands.order.a_bad_name_is_refused.Goals as goal
 
 pub returns : goal.returns

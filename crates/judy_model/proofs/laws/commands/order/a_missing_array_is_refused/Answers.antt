@@ -1,4 +1,4 @@
-use Rattle.judy_model.proofs.OrderedRefusals.{drop-of, free-of, key-of, pair-of, missing}
+use Rattle.judy_model.proofs.lemmas.commands.OrderedRefusals.{drop-of, free-of, key-of, pair-of, missing}
 use Rattle.judy_model.proofs.laws.commands.order.a_missing_array_is_refused.Goals as goal
 
 pub returns : goal.returns

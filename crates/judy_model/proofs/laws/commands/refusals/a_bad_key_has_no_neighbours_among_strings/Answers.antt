@@ -1,6 +1,6 @@
 use Rattle.std.proofs.Common.{codes, refl}
 use Rattle.judy_model.specs.CommandWords as command
-use Rattle.judy_model.proofs.RefusedCommands.{neighbour_in_strings_bad}
+use Rattle.judy_model.proofs.lemmas.commands.RefusedCommands.{neighbour_in_strings_bad}
 use Rattle.judy_model.proofs.laws.commands.refusals.a_bad_key_has_no_neighbours_among_strings.Goals as goal
 
 pub returns : goal.returns

@@ -1,6 +1,6 @@
 use Rattle.std.proofs.Common.{codes, refl}
 use Rattle.judy_model.specs.CommandWords as command
-use Rattle.judy_model.proofs.RefusedCommands.{empty_in_set_bad}
+use Rattle.judy_model.proofs.lemmas.commands.RefusedCommands.{empty_in_set_bad}
 use Rattle.judy_model.proofs.laws.commands.refusals.a_bad_word_has_no_empty_neighbours_in_a_set.Goals as goal
 
 pub returns : goal.returns

@@ -1,7 +1,7 @@
 use Rattle.std.proofs.Common.{codes, refl}
 use Rattle.judy_model.specs.CommandWords as command
 use Rattle.judy_model.specs.Arrays.{judy1}
-use Rattle.judy_model.proofs.RefusedCommands.{lacks_one, lacks_two}
+use Rattle.judy_model.proofs.lemmas.commands.RefusedCommands.{lacks_one, lacks_two}
 use Rattle.judy_model.proofs.laws.commands.refusals.a_set_has_no_commands_of_values.Goals as goal
 
 pub returns : goal.returns

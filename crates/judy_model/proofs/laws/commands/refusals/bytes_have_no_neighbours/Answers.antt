@@ -1,7 +1,7 @@
 use Rattle.std.proofs.Common.{codes, refl}
 use Rattle.judy_model.specs.CommandWords as command
 use Rattle.judy_model.specs.Arrays.{judyhs}
-use Rattle.judy_model.proofs.RefusedCommands.{lacks_one, lacks_two}
+use Rattle.judy_model.proofs.lemmas.commands.RefusedCommands.{lacks_one, lacks_two}
 use Rattle.judy_model.proofs.laws.commands.refusals.bytes_have_no_neighbours.Goals as goal
 
 pub returns-clause-first : goal.returns-clause-first

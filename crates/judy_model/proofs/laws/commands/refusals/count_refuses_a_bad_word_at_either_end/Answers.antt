@@ -1,4 +1,4 @@
-use Rattle.judy_model.proofs.RefusedCommands.{count_in_set_bad_first, count_in_set_bad_second, count_in_words_bad_first, count_in_words_bad_second}
+use Rattle.judy_model.proofs.lemmas.commands.RefusedCommands.{count_in_set_bad_first, count_in_set_bad_second, count_in_words_bad_first, count_in_words_bad_second}
 use Rattle.judy_model.proofs.laws.commands.refusals.count_refuses_a_bad_word_at_either_end.Goals as goal
 
 pub returns : goal.returns

@@ -1,7 +1,7 @@
 use Rattle.std.proofs.Common.{codes, refl}
 use Rattle.judy_model.specs.CommandWords as command
 use Rattle.judy_model.specs.Arrays.{judyl, judysl, judyhs}
-use Rattle.judy_model.proofs.RefusedCommands.{lacks_one}
+use Rattle.judy_model.proofs.lemmas.commands.RefusedCommands.{lacks_one}
 use Rattle.judy_model.proofs.laws.commands.refusals.maps_have_no_commands_of_sets.Goals as goal
 
 pub returns-clause-words : goal.returns-clause-words

@@ -1,7 +1,7 @@
 use Rattle.std.proofs.Common.{codes, refl}
 use Rattle.judy_model.specs.CommandWords as command
 use Rattle.judy_model.specs.Arrays.{judysl}
-use Rattle.judy_model.proofs.RefusedCommands.{lacks_one}
+use Rattle.judy_model.proofs.lemmas.commands.RefusedCommands.{lacks_one}
 use Rattle.judy_model.proofs.laws.commands.refusals.strings_have_no_empty_neighbours.Goals as goal
 
 pub returns : goal.returns

@@ -1,6 +1,6 @@
 use Rattle.std.proofs.Common.{codes, refl}
 use Rattle.judy_model.specs.CommandWords as command
-use Rattle.judy_model.proofs.SearchCommands.{in_set}
+use Rattle.judy_model.proofs.lemmas.commands.SearchCommands.{in_set}
 use Rattle.judy_model.proofs.laws.commands.searches.neighbours_in_a_set.Goals as goal
 
 pub returns : goal.returns

@@ -1,4 +1,4 @@
-use Rattle.judy_model.proofs.SearchCommands.{set_present, set_absent, set_at_limit}
+use Rattle.judy_model.proofs.lemmas.commands.SearchCommands.{set_present, set_absent, set_at_limit}
 use Rattle.judy_model.proofs.laws.commands.sets.set_puts_in_an_absent_key.Goals as goal
 
 pub returns : goal.returns

@@ -1,4 +1,4 @@
-use Rattle.judy_model.proofs.SearchCommands.{test_present, test_absent}
+use Rattle.judy_model.proofs.lemmas.commands.SearchCommands.{test_present, test_absent}
 use Rattle.judy_model.proofs.laws.commands.sets.test_answers_whether_a_key_is_there.Goals as goal
 
 pub returns : goal.returns

@@ -1,4 +1,4 @@
-use Rattle.judy_model.proofs.SearchCommands.{unset_present, unset_absent}
+use Rattle.judy_model.proofs.lemmas.commands.SearchCommands.{unset_present, unset_absent}
 use Rattle.judy_model.proofs.laws.commands.sets.unset_takes_out_a_present_key.Goals as goal
 
 pub returns : goal.returns

@@ -1,4 +1,4 @@
-use Rattle.judy_model.proofs.ValueCommands.{of_bytes, of_strings, of_words}
+use Rattle.judy_model.proofs.lemmas.commands.ValueCommands.{of_bytes, of_strings, of_words}
 use Rattle.judy_model.proofs.laws.commands.values.a_bad_key_is_refused.Goals as goal
 
 pub returns : goal.returns

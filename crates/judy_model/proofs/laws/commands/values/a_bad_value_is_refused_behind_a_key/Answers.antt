@@ -1,4 +1,4 @@
-use Rattle.judy_model.proofs.ValueCommands.{of_bytes, of_strings, of_words}
+use Rattle.judy_model.proofs.lemmas.commands.ValueCommands.{of_bytes, of_strings, of_words}
 use Rattle.judy_model.proofs.laws.commands.values.a_bad_value_is_refused_behind_a_key.Goals as goal
 
 pub returns : goal.returns

@@ -1,4 +1,4 @@
-use Rattle.judy_model.proofs.ValueCommands.{of_bytes, of_strings, of_words}
+use Rattle.judy_model.proofs.lemmas.commands.ValueCommands.{of_bytes, of_strings, of_words}
 use Rattle.judy_model.proofs.laws.commands.values.del_leaves_an_absent_key.Goals as goal
 
 pub returns : goal.returns

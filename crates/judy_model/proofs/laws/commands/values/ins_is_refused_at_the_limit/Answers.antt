@@ -1,4 +1,4 @@
-use Rattle.judy_model.proofs.ValueCommands.{of_bytes, of_strings, of_words}
+use Rattle.judy_model.proofs.lemmas.commands.ValueCommands.{of_bytes, of_strings, of_words}
 use Rattle.judy_model.proofs.laws.commands.values.ins_is_refused_at_the_limit.Goals as goal
 
 pub returns : goal.returns

@@ -1,4 +1,4 @@
-use Rattle.judy_model.proofs.WholeCommands.{dropped_array}
+use Rattle.judy_model.proofs.lemmas.commands.WholeCommands.{dropped_array}
 use Rattle.judy_model.proofs.laws.commands.whole.drop_answers_how_many_keys_there_were.Goals as goal
 
 pub returns : goal.returns

@@ -1,0 +1,9 @@
+-- What searches and counts answer.
+pub mod NearestLemmas
+pub mod EmptiesLemmas
+pub mod Places
+pub mod RankLemmas
+pub mod CountsLemmas
+pub mod FullRunLemmas
+pub mod AlikeLemmas
+pub mod RankLaws

@@ -1,0 +1,23 @@
+-- What levels tell of the keys behind them, and the ranks that follow.
+pub mod KeptLevels
+pub mod PassedLevels
+pub mod KeysBehind
+pub mod CountedAdded
+pub mod Growing
+pub mod TriedCounts
+pub mod GraftedLevels
+pub mod GraftedCounts
+pub mod KeysTold
+pub mod EntryCounts
+pub mod LevelRanks
+pub mod FirstSums
+pub mod RankCounts
+pub mod LoneKeys
+pub mod CountWays
+pub mod KeysFewer
+pub mod Stepping
+pub mod CountedLost
+pub mod CountedKeys
+pub mod Beginnings
+pub mod FirstWays
+pub mod CountedWrites
