@@ -6,8 +6,9 @@ use Rattle.std.proofs.lemmas.List.{length-map}
 use Rattle.std.specs.Cmp.{tied_itself}
 use Rattle.std.specs.Cmp.Lexicographic.{nat_list_cmp_total}
 use Rattle.std.specs.declared.cmp.Ordering.{Ordering}
-use Rattle.std.specs.FinMap.{FinMap, empty, keys, entries, entries_sorted, get, get-entries, len-entries, len-empty}
+use Rattle.std.specs.FinMap.{FinMap, empty, keys, entries, entries_sorted, get, get-empty, get-entries, len-entries, len-empty}
 use Rattle.std.proofs.lemmas.Option.{slice_get-map, slice_get-get_or, slice_get_within, get_or_from_slice_get, same_Some}
+use Rattle.judy_model.specs.Arrays.{ArrayOf, empty_array}
 use Rattle.judy_model.specs.Keys.{byte_order}
 use Rattle.judy_model.specs.Counts.{rank, count_up_to}
 use Rattle.judy_model.proofs.lemmas.maps.Pairs.{find-at}
@@ -16,6 +17,7 @@ use Rattle.judy_hs.specs.declared.entry.HsEntry.{HsEntry}
 use Rattle.judy_hs.specs.Listed.{entries_in, key_bytes}
 use Rattle.judy_sl.specs.Scans.{value_found}
 use Rattle.judy_c.specs.KeyWalks.{pairs_from, beside}
+use Rattle.judy_c.specs.Told.{IsTold}
 
 -- a list from a place on
 pub drop_some : {A : Type 0} (xs : List A) (place : ℕ) (x : A) → slice_get xs place ≡ Some x → drop place xs ≡ x ∷ drop (suc place) xs
@@ -36,6 +38,11 @@ nothing_in (x ∷ xs) is = absurd cc
 -- a map without keys has no pairs
 pub no_pairs : {K : Type 0} (order : K → K → Ordering) → entries (empty {X = ℕ} {R = order}) ≡ []
 no_pairs order = nothing_in (entries empty) (sym (len-entries empty) ∙ len-empty order ℕ)
+
+-- nor has it a key, so that none is told
+pub none_told : {K : Type 0} (order : K → K → Ordering) (array : ArrayOf order) (limit : ℕ) (key : K) (told : ℕ) → array ≡ empty_array limit → IsTold (get array.map key) false told told
+none_told order array limit key told is =
+    subst (λ (found : Option ℕ). IsTold found false told told) (sym (ap (λ (all : ArrayOf order). get all.map key) is ∙ get-empty order key)) (refl, refl)
 
 -- from no place on does an empty list go on
 pub drop_nil : {A : Type 0} (n : ℕ) → let none : List A = [] in drop n none ≡ none

@@ -23,16 +23,14 @@ use std::alloc::Global;
 
 /// The value of a key. (Manual: JHSG, JudyHSGet.)
 #[unsafe(no_mangle)]
-pub extern "C" fn sellumaq_judyhs_get(
-    alloc: Global,
-    handle: &mut Bytes,
-    key: &[u8],
-    value: &mut u64,
-) -> bool
+pub extern "C" fn sellumaq_judyhs_get(handle: &mut Bytes, key: &[u8], value: &mut u64) -> bool
     ensures told { IsTold (map.get (array_in handle.old).map key.now) result value.old value.new }
     ensures same { handle.new ≡ handle.old }
 {
-    tell(handle.ask(alloc, |array| array.get(key)), value)
+    match handle.array() {
+        Some(array) => tell(array.get(key), value),
+        None => false,
+    }
 }
 
 /// Hands out the slot of a key, which is put in with the value 0 where it is absent: what is left there is the key's value.

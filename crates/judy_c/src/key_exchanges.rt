@@ -65,7 +65,7 @@ pub extern "C" fn sellumaq_judysl_remove(
         ≡ array.with_map (strings.array_in handle.old)
         (array.del (strings.array_in handle.old).map key.now) }
 {
-    let found = sellumaq_judysl_get(alloc, handle, key, was);
+    let found = sellumaq_judysl_get(handle, key, was);
     if found {
         sellumaq_judysl_del(alloc, handle, key);
     }
@@ -117,7 +117,7 @@ pub extern "C" fn sellumaq_judyhs_remove(
         ≡ array.with_map (bytes.array_in handle.old)
         (array.del (bytes.array_in handle.old).map key.now) }
 {
-    let found = sellumaq_judyhs_get(alloc, handle, key, was);
+    let found = sellumaq_judyhs_get(handle, key, was);
     if found {
         sellumaq_judyhs_del(alloc, handle, key);
     }

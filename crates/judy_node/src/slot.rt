@@ -1,6 +1,6 @@
 //! The slot of a key's value, which is lent through the whole tree.
 //!
-//! A slot is lent from node to node down the tree. As no tree is deeper than eight nodes, the way down is unrolled: each level
+//! A slot is lent from node to node down the tree. As no tree is deeper than eight nodes, the way down is unrolled: each depth
 //! is a type, and lends by the one below it. Which keys are sought is a type too (`Sought`).
 
 ghost use Rattle.std.specs.Prelude.{◌≡◌, ◌+◌, ◌<◌, ◌≤◌, length, ℕ, Some, IsSome, IsFalse};
@@ -23,9 +23,9 @@ impl<V: Words + Drop> KindOf<V> {
 
     // The slot at a seat; below a branch, that of what is left of the key.
     #[inline(always)]
-    fn slot_at<L: Depth, K: Sought>(&mut self, seat: Seat) -> Option<&mut u64>
+    fn slot_at<D: Depth, K: Sought>(&mut self, seat: Seat) -> Option<&mut u64>
         requires words { V.WORDS ≡ 1 }
-        requires seat { HasSeat V.WORDS L.DEPTH self.old seat.at }
+        requires seat { HasSeat V.WORDS D.DEPTH self.old seat.at }
         requires known { K.known (value_at self.old seat.at seat.rest) }
         ensures* changes { sem 𝓛
             (LendsIf (the_row V.row V.Words) word self.entry result
@@ -36,7 +36,7 @@ impl<V: Words + Drop> KindOf<V> {
             KindOf::Imm(_, value) => Some(value),
             KindOf::Leaf(_, block) => Some(block.slot(seat.at)),
             KindOf::Bit(_, block) => Some(block.slot(seat.at)),
-            KindOf::Branch(branch) => branch.slot_at::<L, K>(seat),
+            KindOf::Branch(branch) => branch.slot_at::<D, K>(seat),
         }
     }
 
@@ -79,11 +79,11 @@ impl<V: Words + Drop> BranchOf<V> {
 
     // The slot of a key of the child at a place.
     #[inline(always)]
-    fn slot_at<L: Depth, K: Sought>(&mut self, seat: Seat) -> Option<&mut u64>
+    fn slot_at<D: Depth, K: Sought>(&mut self, seat: Seat) -> Option<&mut u64>
         requires words { V.WORDS ≡ 1 }
         requires inside { seat.at < length self.old.children.items }
         requires child { IsChild V.WORDS self.old.width (child_at self.old seat.at) }
-        requires depth { self.old.width ≤ L.DEPTH }
+        requires depth { self.old.width ≤ D.DEPTH }
         requires known { K.known (value_of seat.rest (child_at self.old seat.at).pairs) }
         ensures* changes { sem 𝓛
             (LendsIf (the_row V.row V.Words) word self.entry result
@@ -91,16 +91,16 @@ impl<V: Words + Drop> BranchOf<V> {
         ensures value { option_copied_mut result
             ≡ value_of seat.rest (child_at self.old seat.at).pairs }
     {
-        L::slot::<V, K>(self, seat)
+        D::slot::<V, K>(self, seat)
     }
 
-    // The same where the children may be branches of a lower level.
+    // The same where the children may be branches of a lower depth.
     #[inline(always)]
-    fn slot_below<L: Depth, K: Sought>(&mut self, seat: Seat) -> Option<&mut u64>
+    fn slot_below<D: Depth, K: Sought>(&mut self, seat: Seat) -> Option<&mut u64>
         requires words { V.WORDS ≡ 1 }
         requires inside { seat.at < length self.old.children.items }
         requires child { IsChild V.WORDS self.old.width (child_at self.old seat.at) }
-        requires depth { self.old.width ≤ L.DEPTH + 1 }
+        requires depth { self.old.width ≤ D.DEPTH + 1 }
         requires known { K.known (value_of seat.rest (child_at self.old seat.at).pairs) }
         ensures* changes { sem 𝓛
             (LendsIf (the_row V.row V.Words) word self.entry result
@@ -109,7 +109,7 @@ impl<V: Words + Drop> BranchOf<V> {
             ≡ value_of seat.rest (child_at self.old seat.at).pairs }
     {
         let width = self.width;
-        self.child_at(seat.at).slot_at::<L, K>(width, seat.rest)
+        self.child_at(seat.at).slot_at::<D, K>(width, seat.rest)
     }
 
     // The same where no child has a node below it.
@@ -137,10 +137,10 @@ impl<V: Words + Drop> ChildOf<V> {
 
     // The slot of a key of the node, whose keys have `width` bytes.
     #[inline(always)]
-    fn slot_at<L: Depth, K: Sought>(&mut self, width: u8, key: u64) -> Option<&mut u64>
+    fn slot_at<D: Depth, K: Sought>(&mut self, width: u8, key: u64) -> Option<&mut u64>
         requires words { V.WORDS ≡ 1 }
         requires child { IsChild V.WORDS width self.old }
-        requires depth { width ≤ L.DEPTH + 1 }
+        requires depth { width ≤ D.DEPTH + 1 }
         requires known { K.known (value_of key self.old.pairs) }
         ensures* changes { sem 𝓛
             (LendsIf (the_row V.row V.Words) word self.entry result
@@ -149,7 +149,7 @@ impl<V: Words + Drop> ChildOf<V> {
     {
         let kind = self.place.kind_mut();
         let seat = K::seat(kind, width, key)?;
-        kind.slot_at::<L, K>(seat)
+        kind.slot_at::<D, K>(seat)
     }
 
     // The same of a node whose keys have one byte, which has no node below it.
@@ -170,7 +170,7 @@ impl<V: Words + Drop> ChildOf<V> {
     }
 }
 
-// A level of branches: it lends the slots below branches whose children are no deeper than it.
+// A depth of branches: it lends the slots below branches whose children are no deeper than it.
 pub trait Depth {
     ghost DEPTH: { ℕ };
 
@@ -192,7 +192,7 @@ pub trait Depth {
             ≡ value_of seat.rest (child_at branch.old seat.at).pairs };
 }
 
-// The lowest level, that of branches whose children have keys of one byte.
+// The least depth, that of branches whose children have keys of one byte.
 pub struct Bottom;
 
 impl Depth for Bottom {
@@ -204,19 +204,19 @@ impl Depth for Bottom {
     }
 }
 
-// The level above another.
-pub struct Above<L>(PhantomData<L>);
+// The depth above another.
+pub struct Above<D>(PhantomData<D>);
 
-impl<L: Depth> Depth for Above<L> {
-    ghost DEPTH = { L.DEPTH + 1 };
+impl<D: Depth> Depth for Above<D> {
+    ghost DEPTH = { D.DEPTH + 1 };
 
     #[inline(always)]
     fn slot<V: Words + Drop, K: Sought>(branch: &mut BranchOf<V>, seat: Seat) -> Option<&mut u64> {
-        branch.slot_below::<L, K>(seat)
+        branch.slot_below::<D, K>(seat)
     }
 }
 
-// The level of the branches whose keys have eight bytes.
+// The depth of the branches whose keys have eight bytes.
 type Deepest = Above<Above<Above<Above<Above<Above<Bottom>>>>>>;
 
 impl<V: Words + Drop> RootOf<V> {

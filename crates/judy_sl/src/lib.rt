@@ -12,6 +12,7 @@
 //! made at once of strings that ascend.
 #![tactic(auto)]
 
+mod ahead;
 mod arena;
 mod branches;
 mod child;

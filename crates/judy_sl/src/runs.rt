@@ -1,12 +1,15 @@
 //! The entries of a level that are still to come, and the levels above it, by which a walk goes from key to key without
 //! a way down from the first level for each.
 
-ghost use Rattle.std.specs.Prelude.{◌≢◌, IsTrue, false, All};
-ghost use Rattle.std.specs.FinMap.{contains_key};
+ghost use Rattle.std.specs.Prelude.{◌≡◌, IsTrue, false, drop, All};
+ghost use Rattle.std.specs.FinMap.{contains_key, entries};
+ghost use Rattle.judy_model.specs.Counts.{rank};
 ghost use Rattle.judy_sl.specs.Pieces.{IsText};
 ghost use Rattle.judy_sl.specs.Arenas.{world_of, IsArena};
+ghost use Rattle.judy_sl.specs.Counted.{LeadsOn};
 ghost use Rattle.judy_sl.specs.Runs.{AreBeyond, EntryLeads, RunLeads, IsNextEntry, Stands, HasLevel, IsLevelBehind, IsAbove};
 
+use crate::ahead::Ahead;
 use crate::arena::Arena;
 use crate::child::ChildRef;
 use crate::passed::MOST_PIECES;
@@ -14,8 +17,7 @@ use crate::pieces::{first_piece, push_piece};
 use crate::scans::Look;
 use arrayvec::ArrayVec;
 use judy_tails::{KeyRoom, KeyWriter};
-use judy_word::{Entries, WordMap};
-use std::iter::Iterator;
+use judy_word::WordMap;
 
 // The levels above one, the first level first: one for each piece that leads there. No place among them is empty.
 pub type Levels<'a> = ArrayVec<Option<&'a WordMap>, MOST_PIECES>;
@@ -24,16 +26,17 @@ pub type Levels<'a> = ArrayVec<Option<&'a WordMap>, MOST_PIECES>;
 #[derive(Drop)]
 pub struct Run<'a> {
     pub level: &'a WordMap,
-    pub entries: Entries<'a>,
+    pub entries: Ahead<'a>,
 }
 
-// Lets entries be those of a level beyond the one of a piece. They are made in their place, since a move of them takes longer than most steps.
-fn go_beyond<'a>(level: &'a WordMap, piece: u64, entries: &mut Entries<'a>)
-    requires { IsTrue (contains_key level.now.map piece) }
-    ensures { AreBeyond level.now.map piece entries.new }
+// Passes over the first of a level's entries from a piece on, which is that piece's own.
+#[inline(always)]
+fn pass_own(level: &WordMap, piece: u64, following: &mut Ahead<'_>)
+    requires own { IsTrue (contains_key level.now.map piece) }
+    requires from { following.old ≡ drop (rank level.now.map piece) (entries level.now.map) }
+    ensures { AreBeyond level.now.map piece following.new }
 {
-    level.array().restart_from(piece, entries);
-    entries.next();
+    following.next();
 }
 
 impl Arena {
@@ -88,7 +91,7 @@ impl Arena {
                 ChildRef::Level(next) => {
                     above.push(Some(run.level));
                     run.level = next;
-                    next.array().restart(&mut run.entries);
+                    run.entries.restart(next);
                     let first = run.entries.next()?;
                     piece = first.0;
                     value = first.1;
@@ -121,7 +124,37 @@ impl Arena {
             }
             run.level = above.pop()??;
             let piece = first_piece(&key[8 * above.len()..]);
-            go_beyond(run.level, piece, &mut run.entries);
+            run.entries.restart_from(run.level, piece);
+            pass_own(run.level, piece, &mut run.entries);
+        }
+    }
+
+    // The values of the tails to which some entries lead, taken together. No one wants them: they are read so that their lines of memory come.
+    fn touch(&self, page: &[(u64, u64)]) -> u64
+        requires is_arena { IsArena self.now }
+        requires leads { All (LeadsOn (world_of self.now)) page.now }
+    {
+        let mut seen = 0;
+        for &(piece, value) in page {
+            if piece % 256 != 0 {
+                if let ChildRef::Tail(tail) = self.child(value) {
+                    seen ^= tail.value();
+                }
+            }
+        }
+        seen
+    }
+
+    // Reads entries ahead where none of those that were is left, with the tails to which they lead: these are waited for side by side so, and not one
+    // after another as their keys come.
+    fn read_ahead(&self, following: &mut Ahead<'_>)
+        requires is_arena { IsArena self.now }
+        requires leads { All (LeadsOn (world_of self.now)) following.old }
+        ensures { following.new ≡ following.old }
+    {
+        if following.read_on() {
+            let seen = self.touch(following.batch());
+            following.keep(seen);
         }
     }
 
@@ -142,8 +175,8 @@ impl Arena {
     {
         let turn = self.turn(Look::upward(itself), key.as_slice())?;
         let level = self.level_behind(key.as_slice(), turn.depth, above);
-        let mut entries = level.iter();
-        go_beyond(level, turn.piece, &mut entries);
+        let mut entries = Ahead::from_piece(level, turn.piece);
+        pass_own(level, turn.piece, &mut entries);
         let mut made = Run { level, entries };
         let value = self.climb(itself, (turn.piece, turn.value), above, &mut made, key);
         *run = Some(made);
@@ -165,7 +198,9 @@ impl Arena {
     {
         if let Some(on) = run {
             let entry = self.next_entry(above, on, key.as_slice())?;
-            return self.climb(false, entry, above, on, key);
+            let value = self.climb(false, entry, above, on, key);
+            self.read_ahead(&mut on.entries);
+            return value;
         }
         self.seek(false, above, run, key)
     }

@@ -36,7 +36,7 @@ divides (suc k) n = by (n % 2) refl (divides k (n / 2))
         let t = count_trailing_zeros k (n / 2) in
         ap (λ m. n % m) (pow-suc 2 t) ∙ mod-mul n (two_pos t) (omega arith) ∙ (λ i. half i * 2 + even i)
 
-bytes-bits : (z : ℕ) → 256 ^ z ≡ 2 ^ (8 * z)
+pub bytes-bits : (z : ℕ) → 256 ^ z ≡ 2 ^ (8 * z)
 bytes-bits zero = refl
 bytes-bits (suc z) = pow-suc 256 z ∙ ap (λ n. n * 256) (bytes-bits z) ∙ sym (ap (λ n. 2 ^ n) (let same : 8 * suc z ≡ 8 * z + 8 = omega arith in same) ∙ pow-add 2 (8 * z) 8)
 

@@ -3,3 +3,4 @@ pub mod ListLemmas
 pub mod LengthLemmas
 pub mod Writing
 pub mod LastBytes
+pub mod Joined

@@ -1,6 +1,6 @@
 //! Where a key is written byte behind byte: a buffer of its own, or the front of another's.
 
-ghost use Rattle.std.specs.Prelude.{◌≡◌, ◌+◌, ◌<◌, ◌≤◌, ◌++◌, ℕ, List, [], ◌∷◌, length, take, drop};
+ghost use Rattle.std.specs.Prelude.{◌≡◌, ◌+◌, ◌<◌, ◌≤◌, ◌++◌, ℕ, List, [], ◌∷◌, IfSome, length, take, drop};
 ghost use Rattle.judy_model.specs.declared.keys.TheConstants.{LONGEST_KEY};
 ghost use Rattle.judy_tails.specs.Writers.{StaysBeyond};
 
@@ -109,6 +109,15 @@ impl<'a> KeyFront<'a> {
     {
         self.len
     }
+
+    // The eight bytes behind the key, where the buffer has as many.
+    #[inline(always)]
+    fn eight_behind(&self) -> Option<[u8; 8]>
+        ensures { IfSome result (λ eight. (eight ≡ take 8 (drop self.now.len self.now.buffer.now))
+            × (self.now.len + 8 ≤ length self.now.buffer.now)) }
+    {
+        self.buffer[self.len..].first_chunk::<8>().copied()
+    }
 }
 
 impl<'a> KeyWriter for KeyFront<'a> {
@@ -137,9 +146,32 @@ impl<'a> KeyWriter for KeyFront<'a> {
 
     #[inline(always)]
     fn put_first(&mut self, bytes: &[u8; 8], count: usize) {
-        self.buffer[self.len..self.len + count].copy_from_slice(&bytes[..count]);
-        self.len += count;
+        match self.eight_behind() {
+            Some(stand) if count > 0 => {
+                let eight = joined(bytes, &stand, count);
+                self.buffer[self.len..self.len + 8].copy_from_slice(&eight);
+                self.len += count;
+            }
+            _ => {
+                for byte in &bytes[..count] {
+                    self.put(*byte);
+                }
+            }
+        }
     }
+}
+
+// The first so many of eight bytes, and the others of eight that stand. There is no branch, since how many they are can't be foreseen.
+#[inline(always)]
+fn joined(first: &[u8; 8], stand: &[u8; 8], count: usize) -> [u8; 8]
+    requires some { 0 < count }
+    requires most { count ≤ 8 }
+    ensures { result ≡ take count first.now ++ drop count stand.now }
+{
+    let mask = (1 << (64 - 8 * count)) - 1;
+    let word = u64::from_be_bytes(*first);
+    let other = u64::from_be_bytes(*stand);
+    (word - (word & mask) + (other & mask)).to_be_bytes()
 }
 
 /// A key in an array of its own, to contracts its bytes. A cut costs nothing, since nothing behind the key is ever read.
@@ -208,7 +240,7 @@ impl KeyWriter for KeyRoom {
         self.len = front.len();
     }
 
-    // All eight are written where there is room for them: what stands behind the key is nobody's, and how many belong to it isn't asked.
+    // All eight are written where there is room for them: what stands behind the key is nobody's, so no branch hangs on how many are its own.
     #[inline(always)]
     fn put_first(&mut self, bytes: &[u8; 8], count: usize) {
         let mut front = KeyFront::new(&mut self.bytes, self.len);

@@ -1,5 +1,5 @@
 -- The entries of a level in order, as a run has them.
-use Rattle.std.proofs.Common.{◌≡◌, ℕ, zero, suc, ◌<◌, ◌≤◌, Bool, true, false, cond, ◌&&◌, T, IsTrue, ⊎_elim, List, [], ◌∷◌, map, drop, slice_get, Option, Some, None, is_some, sym, refl, ap, ◌∙◌, subst, arith, true≢false, is_lt}
+use Rattle.std.proofs.Common.{◌≡◌, ◌≢◌, ℕ, zero, suc, ◌<◌, ◌≤◌, Bool, true, false, cond, ◌&&◌, T, IsTrue, ⊎_elim, List, [], ◌∷◌, map, drop, slice_get, Option, Some, None, is_some, sym, refl, ap, ◌∙◌, subst, arith, true≢false, is_lt}
 use Rattle.std.specs.Ordering.{is_eq}
 use Rattle.std.specs.Cmp.{nat_cmp_total, tied_itself}
 use Rattle.std.specs.FinMap.{FinMap, nat_cmp-IsAntisymmetric, entries, entries_sorted, keys, get, get-entries, contains_key, find, is_sorted}
@@ -16,6 +16,11 @@ use Rattle.judy_model.proofs.lemmas.orders.WordOrder.{less_word, lt_word, lt_fro
 use Rattle.judy_sl.specs.declared.scans.Side.TheVariants.{Above}
 use Rattle.judy_sl.specs.Scans.{IsFirstEntry}
 use Rattle.judy_sl.specs.Runs.{AreBeyond}
+use Rattle.judy_sl.specs.Pieces.{IsInner}
+use Rattle.judy_sl.specs.World.{World, gone}
+use Rattle.judy_sl.specs.Counted.{LeadsOn}
+use Rattle.std.specs.List.{All}
+use Rattle.std.proofs.lemmas.List.Elements.{All-nil, All-cons}
 
 -- ---- entries whose pieces rise from one on
 
@@ -139,3 +144,8 @@ module _ (words : FinMap word_order ℕ) where
         let place = place_among (keys words) piece (among_keys nat_cmp_total nat_cmp-IsAntisymmetric words piece (ap (λ (found : Option ℕ). is_some found) held)) in
         subst (λ n. StandFrom piece value (drop n (entries words))) (sym (rank_at nat_cmp_total words place.0 piece place.1))
         (stand_at place.0 (entries words) (entries_sorted words) place.1 (λ other above. get-entries words other))
+
+-- What the entries beyond a piece lead to is there, where that holds of each entry.
+pub beyond_lead : (world : World) (words : FinMap word_order ℕ) (piece : ℕ) (others : List (ℕ × ℕ)) → ((other at : ℕ) → get words other ≡ Some at → IsInner other → world (suc at) ≢ gone) → AreBeyond words piece others → All (LeadsOn world) others
+beyond_lead world words piece [] leads are = All-nil (LeadsOn world)
+beyond_lead world words piece (entry ∷ others) leads are = All-cons (LeadsOn world) entry others (leads entry.0 entry.1 are.1) (beyond_lead world words entry.0 others leads are.2)

@@ -13,7 +13,7 @@ slot_at-requires-clause-seat g c =
     let narrow = child-narrow words c.args.width c.args.self.now c.requires.child in
     let deep = c.requires.depth in
     let wide = ap (λ s. s.width) lent.1 in
-    kind-seat words g.L.Depth.DEPTH kind c.args.key c.in_ok-seat.seat.at c.in_ok-seat.seat.rest c.requires.words lent.0 c.in_ok-seat.ensures.seat (omega arith)
+    kind-seat words g.D.Depth.DEPTH kind c.args.key c.in_ok-seat.seat.at c.in_ok-seat.seat.rest c.requires.words lent.0 c.in_ok-seat.ensures.seat (omega arith)
 
 -- What is known of the value of the key is known of the value at its place.
 pub slot_at-requires-clause-known : goal.slot_at-requires-clause-known

@@ -51,8 +51,8 @@ slice_bounds-first_piece-start c =
     let are = c.in_ok-pop.ensures.items ∙ ap (λ (item : Option (Bor (ArrayOf word_order))). c.pop.new.self.items ++ item ∷ []) c.in_ok-run.was in
     omega (arith, (rise (world_of c.args.self.now) c.args.key.now c.requires.is_text c.levels.above.items c.pop.new.self.items c.levels.run c.in_ok-run.field-0 are c.levels.invariant left.0).within, c.len.ensures.value)
 
-pub go_beyond-requires : goal.go_beyond-requires
-go_beyond-requires c =
+pub pass_own-requires-clause-own : goal.pass_own-requires-clause-own
+pass_own-requires-clause-own c =
     let left = none_left c.levels.run.entries c.next.result c.next.new.self c.next.ensures.steps c.in_default.is in
     let are = c.in_ok-pop.ensures.items ∙ ap (λ (item : Option (Bor (ArrayOf word_order))). c.pop.new.self.items ++ item ∷ []) c.in_ok-run.was in
     let piece = c.first_piece-piece.ensures ∙ ap piece_of (take_rest c.args.key.now (8 * c.len.result)) ∙ ap (λ n. piece_of (drop (8 * n) c.args.key.now)) c.len.ensures.value in
@@ -63,4 +63,4 @@ levels-preserved c =
     let left = none_left c.levels.run.entries c.next.result c.next.new.self c.next.ensures.steps c.in_default.is in
     let are = c.in_ok-pop.ensures.items ∙ ap (λ (item : Option (Bor (ArrayOf word_order))). c.pop.new.self.items ++ item ∷ []) c.in_ok-run.was in
     let piece = c.first_piece-piece.ensures ∙ ap piece_of (take_rest c.args.key.now (8 * c.len.result)) ∙ ap (λ n. piece_of (drop (8 * n) c.args.key.now)) c.len.ensures.value in
-    (rise (world_of c.args.self.now) c.args.key.now c.requires.is_text c.levels.above.items c.pop.new.self.items c.levels.run c.in_ok-run.field-0 are c.levels.invariant left.0).stands c.go_beyond.new.entries (subst (λ p. AreBeyond c.in_ok-run.field-0.now.map p c.go_beyond.new.entries) piece c.go_beyond.ensures)
+    (rise (world_of c.args.self.now) c.args.key.now c.requires.is_text c.levels.above.items c.pop.new.self.items c.levels.run c.in_ok-run.field-0 are c.levels.invariant left.0).stands c.pass_own.new.following (subst (λ p. AreBeyond c.in_ok-run.field-0.now.map p c.pass_own.new.following) piece c.pass_own.ensures)

@@ -27,8 +27,8 @@ level_behind-level-requires-clause-leads c =
     let at = turn_at c.args.itself (world_of c.args.self.now) c.as_slice.result.now c.as_slice-2.result.now c.upward.result c.turn.result c.in_ok-turn.turn c.turn.ensures.is_turn c.in_ok-turn.was c.upward.ensures (c.as_slice.ensures.bytes ∙ sym c.as_slice-2.ensures.bytes) in
     (at.map, turn_level c.args.itself (world_of c.args.self.now) c.as_slice-2.result.now c.in_ok-turn.turn at)
 
-pub go_beyond-requires : goal.go_beyond-requires
-go_beyond-requires c =
+pub pass_own-requires-clause-own : goal.pass_own-requires-clause-own
+pass_own-requires-clause-own c =
     let at = turn_at c.args.itself (world_of c.args.self.now) c.as_slice.result.now c.as_slice-2.result.now c.upward.result c.turn.result c.in_ok-turn.turn c.turn.ensures.is_turn c.in_ok-turn.was c.upward.ensures (c.as_slice.ensures.bytes ∙ sym c.as_slice-2.ensures.bytes) in
     let behind = c.level_behind-level.ensures at.map (turn_level c.args.itself (world_of c.args.self.now) c.as_slice-2.result.now c.in_ok-turn.turn at) in
     ap (λ (words : FinMap word_order ℕ). contains_key words c.in_ok-turn.turn.piece) behind.0 ∙ ap (λ (found : Option ℕ). is_some found) at.held
@@ -37,5 +37,5 @@ pub climb-value-requires-clause-leads : goal.climb-value-requires-clause-leads
 climb-value-requires-clause-leads c =
     let at = turn_at c.args.itself (world_of c.args.self.now) c.as_slice.result.now c.as_slice-2.result.now c.upward.result c.turn.result c.in_ok-turn.turn c.turn.ensures.is_turn c.in_ok-turn.was c.upward.ensures (c.as_slice.ensures.bytes ∙ sym c.as_slice-2.ensures.bytes) in
     let behind = c.level_behind-level.ensures at.map (turn_level c.args.itself (world_of c.args.self.now) c.as_slice-2.result.now c.in_ok-turn.turn at) in
-    subst (λ bytes. EntryLeads c.args.itself (world_of c.args.self.now) bytes (c.in_ok-turn.turn.piece, c.in_ok-turn.turn.value) c.level_behind-level.new.above.items (record { level = c.level_behind-level.result; entries = c.go_beyond.new.entries })) c.as_slice-2.ensures.bytes
-    (turn_leads c.args.itself (world_of c.args.self.now) c.as_slice-2.result.now c.in_ok-turn.turn at c.level_behind-level.new.above.items (record { level = c.level_behind-level.result; entries = c.go_beyond.new.entries }) behind.1 behind.0 c.go_beyond.ensures)
+    subst (λ bytes. EntryLeads c.args.itself (world_of c.args.self.now) bytes (c.in_ok-turn.turn.piece, c.in_ok-turn.turn.value) c.level_behind-level.new.above.items (record { level = c.level_behind-level.result; entries = c.pass_own.new.following })) c.as_slice-2.ensures.bytes
+    (turn_leads c.args.itself (world_of c.args.self.now) c.as_slice-2.result.now c.in_ok-turn.turn at c.level_behind-level.new.above.items (record { level = c.level_behind-level.result; entries = c.pass_own.new.following }) behind.1 behind.0 c.pass_own.ensures)

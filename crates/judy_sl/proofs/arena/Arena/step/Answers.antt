@@ -3,6 +3,7 @@ use Rattle.judy_sl.specs.Pieces.{pieces}
 use Rattle.judy_sl.specs.Arenas.{world_of}
 use Rattle.judy_sl.specs.Scans.{upward, IsNone}
 use Rattle.judy_sl.specs.Runs.{EntryLeads, IsNextEntry}
+use Rattle.judy_sl.proofs.lemmas.scans.LevelEntries.{beyond_lead}
 use Rattle.judy_sl.proofs.arena.Arena.step.Goals as goal
 
 pub returns-in_err-entry-clause-neighbour : goal.returns-in_err-entry-clause-neighbour
@@ -10,7 +11,13 @@ returns-in_err-entry-clause-neighbour c =
     let none = subst (IsNextEntry (world_of c.args.self.now) c.as_slice.result.now c.next_entry.new.above.items c.next_entry.new.run) c.in_err-entry.was c.next_entry.ensures in
     rw c.from_residual.ensures (subst (λ bytes. IsNone (upward false) (world_of c.args.self.now) 0 (pieces bytes)) c.as_slice.ensures.bytes none.0, refl)
 
-pub climb-requires-clause-leads : goal.climb-requires-clause-leads
-climb-requires-clause-leads c =
+pub climb-value-requires-clause-leads : goal.climb-value-requires-clause-leads
+climb-value-requires-clause-leads c =
     subst (λ bytes. EntryLeads false (world_of c.args.self.now) bytes c.in_ok-entry.entry c.next_entry.new.above.items c.next_entry.new.run) c.as_slice.ensures.bytes
     (subst (IsNextEntry (world_of c.args.self.now) c.as_slice.result.now c.next_entry.new.above.items c.next_entry.new.run) c.in_ok-entry.was c.next_entry.ensures)
+
+pub read_ahead-requires-clause-leads : goal.read_ahead-requires-clause-leads
+read_ahead-requires-clause-leads c =
+    let stands = c.climb-value.ensures.stands in
+    let words = c.climb-value.new.run.level.now.map in
+    beyond_lead (world_of c.args.self.now) words stands.piece c.climb-value.new.run.entries (λ other at held inner. ((c.requires.is_arena.is_world.levels stands.seat words stands.is_level).leads other at held inner).1) stands.beyond

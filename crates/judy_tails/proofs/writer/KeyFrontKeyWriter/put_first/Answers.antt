@@ -1,19 +1,18 @@
-use Rattle.std.proofs.Common.{◌≡◌, ◌≤◌, ◌+◌, ◌-◌, length, take, ap, ◌∙◌, arith}
-use borrow.Rule.Slice.PartMut.{put_mid, same_len_mid}
-use Rattle.std.proofs.lemmas.List.{length-take-le, length-drop}
-use Rattle.std.proofs.lemmas.Slice.{drop-put_mid}
+use Rattle.std.proofs.Common.{◌+◌, length, take, drop, ap, ◌∙◌, arith}
+use Rattle.std.proofs.lemmas.List.{length-take-le, length-append}
+use Rattle.std.proofs.lemmas.Slice.{drop-put_mid, take-put_mid}
+use Rattle.judy_tails.proofs.Joined.{put-first}
 use Rattle.judy_tails.proofs.writer.KeyFrontKeyWriter.put_first.Goals as goal
 
-pub returns-clause-beyond : goal.returns-clause-beyond
-returns-clause-beyond c = λ place behind.
+pub returns-in-Some-clause-beyond : goal.returns-in-Some-clause-beyond
+returns-in-Some-clause-beyond c = λ place behind.
     let key = c.args.self.now in
     let count = c.args.count in
     let room = key.buffer.now in
-    let bytes = c.copy_from_slice.new.self in
+    let first = take count c.args.bytes.now in
+    let is = put-first key.len count room c.in-Some.stand first c.copy_from_slice.new.self c.requires.count c.in-Some.ensures.1 c.in-Some.ensures.0 (c.copy_from_slice.ensures.after ∙ c.joined-eight.ensures) in
+    let long = length-take-le count c.args.bytes.now (omega (arith, c.told-bytes, c.requires.count)) in
+    let written = ap length (ap (take (key.len + count)) is ∙ take-put_mid key.len count room first (key.len + count) (omega (arith, long)) key.inside) in
+    let both = length-append (take key.len room) first in
     let front = length-take-le key.len room key.inside in
-    let inside : key.len + count ≤ length room = omega (arith, front, c.requires.room, key.room) in
-    let rest = length-drop key.len room in
-    let some : length bytes ≡ key.len + count - key.len = c.copy_from_slice.ensures.len ∙ length-take-le (key.len + count - key.len) _ (omega (arith, rest, inside)) in
-    let long = same_len_mid key.len (key.len + count - key.len) room bytes c.copy_from_slice.ensures.len in
-    let whole = length-take-le (key.len + count) (put_mid key.len (key.len + count - key.len) room bytes) (omega (arith, long, inside)) in
-    ap (λ left. (left, key.buffer.ghost_name)) (drop-put_mid key.len (key.len + count - key.len) room bytes place (omega (arith, whole, behind)) key.inside some)
+    ap (λ left. (left, key.buffer.ghost_name)) (ap (drop place) is ∙ drop-put_mid key.len count room first place (omega (arith, behind, written, both, front, long)) key.inside long)

@@ -1,4 +1,4 @@
-use Rattle.std.proofs.Common.{◌≡◌, ◌+◌, ◌≤◌, ◌++◌, length, take, ap, sym, ◌∙◌, arith}
+use Rattle.std.proofs.Common.{◌≡◌, ◌+◌, ◌++◌, length, take, ap, sym, ◌∙◌, arith}
 use lib.Seq.{length-take-le, take-take, take-append-add}
 use Rattle.std.proofs.lemmas.List.{length-append}
 use Rattle.judy_tails.proofs.writer.KeyRoomKeyWriter.put_first.Goals as goal

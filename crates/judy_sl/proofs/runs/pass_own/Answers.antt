@@ -1,11 +1,8 @@
-use Rattle.std.proofs.Common.{◌≡◌, ◌∙◌, ℕ, List, [], ◌∷◌, drop, ap, sym, subst, Option, Some, None, MatchOption}
-use Rattle.std.specs.FinMap.{FinMap, entries}
-use Rattle.judy_model.specs.Counts.{rank}
-use Rattle.judy_model.specs.Keys.{word_order}
+use Rattle.std.proofs.Common.{◌≡◌, ◌∙◌, ℕ, List, [], ◌∷◌, sym, subst, Option, Some, None, MatchOption}
 use Rattle.judy_sl.specs.Runs.{AreBeyond}
 use Rattle.judy_sl.proofs.lemmas.scans.ScanEnds.{value_held}
 use Rattle.judy_sl.proofs.lemmas.scans.LevelEntries.{stand_from}
-use Rattle.judy_sl.proofs.runs.go_beyond.Goals as goal
+use Rattle.judy_sl.proofs.runs.pass_own.Goals as goal
 
 -- What is left behind the first of them.
 left_behind : (old : List (ℕ × ℕ)) (item : Option (ℕ × ℕ)) (new : List (ℕ × ℕ)) (first : ℕ × ℕ) (others : List (ℕ × ℕ)) → old ≡ first ∷ others → MatchOption item ((old ≡ []) × (new ≡ [])) (λ x. old ≡ x ∷ new) → new ≡ others
@@ -15,7 +12,7 @@ left_behind old (Some entry) new first others are steps = cc
 pub returns : goal.returns
 returns c =
     let map = c.args.level.now.map in
-    let value = value_held map c.args.piece c.requires in
+    let value = value_held map c.args.piece c.requires.own in
     let stand = stand_from map c.args.piece value.0 value.1 in
-    let from = c.restart_from.ensures ∙ ap (λ (words : FinMap word_order ℕ). drop (rank words c.args.piece) (entries words)) c.array.ensures.map ∙ stand.are in
-    subst (AreBeyond map c.args.piece) (sym (left_behind c.restart_from.new.entries c.next.result c.next.new.self (c.args.piece, value.0) stand.others from c.next.ensures.steps)) stand.beyond
+    let from = c.requires.from ∙ stand.are in
+    subst (AreBeyond map c.args.piece) (sym (left_behind c.args.following.now c.next.result c.next.new.self (c.args.piece, value.0) stand.others from c.next.ensures.steps)) stand.beyond
