@@ -15,6 +15,7 @@ pub mod LevelLists
 pub mod LevelLends
 pub mod Words
 pub mod Behind
+pub mod Ahead
 pub mod Runs
 pub mod Cursors
 pub mod Counted

@@ -1,11 +1,12 @@
 -- The entries of a level that are still to come, the levels above it, and what a walk up through the keys finds by them.
-use Rattle.std.specs.Prelude.{◌≡◌, ℕ, suc, ◌*◌, ◌≤◌, Bool, false, IsFalse, List, [], ◌∷◌, ◌++◌, length, Option, None, Some}
+use Rattle.std.specs.Prelude.{◌≡◌, ℕ, suc, ◌*◌, ◌≤◌, Bool, false, IsFalse, List, [], ◌∷◌, ◌++◌, length, Option, None, Some, if◌then◌else◌}
 use Rattle.std.specs.Borrow.{Bor}
 use Rattle.std.specs.FinMap.{FinMap, get}
 use Rattle.judy_model.specs.Arrays.{ArrayOf}
 use Rattle.judy_model.specs.Keys.{word_order}
 use Rattle.judy_sl.specs.declared.scans.Side.TheVariants.{Above}
 use Rattle.judy_sl.specs.declared.runs.Run.{Run}
+use Rattle.judy_sl.specs.declared.runs.LastRun.{LastRun}
 use Rattle.judy_sl.specs.Pieces.{IsInner, AreInner, ArePieces, pieces}
 use Rattle.judy_sl.specs.World.{World, level, lookup, walk}
 use Rattle.judy_sl.specs.Scans.{upward, meets, IsNearestEntry, IsNone, IsTurnAt, IsNeighbour}
@@ -37,6 +38,11 @@ LeadAlong world seat [] (passed ∷ above) end = ⊥
 LeadAlong world seat (piece ∷ front) [] end = ⊥
 LeadAlong world seat (piece ∷ front) (passed ∷ above) end = (at : ℕ) × PassesLevel world seat piece at passed × LeadAlong world (suc at) front above end
 
+-- What is kept of the level above is its entries beyond the piece that led down: the last of those that lead to the level of a run.
+abbrev pub AreKept : List ℕ → Levels → Option (List (ℕ × ℕ)) → Type 0
+AreKept front above None = Unit {0}
+AreKept front above (Some kept) = (before : List ℕ) (piece : ℕ) (others : Levels) (held : Bor (ArrayOf word_order)) → front ≡ before ++ piece ∷ [] → above ≡ others ++ Some held ∷ [] → AreBeyond held.now.map piece kept
+
 -- A key stands in the level of a run, which is below these others: the run has the entries beyond the key's own piece there, and
 -- no key behind that piece is above it.
 pub record Stands (world : World) (key : List ℕ) (above : Levels) (run : Run) : Type 0 where
@@ -47,7 +53,8 @@ pub record Stands (world : World) (key : List ℕ) (above : Levels) (run : Run) 
   pub seat : ℕ
   pub along : LeadAlong world 0 front above seat
   pub is_level : world seat ≡ level run.level.now.map
-  pub beyond : AreBeyond run.level.now.map piece run.entries
+  pub beyond : AreBeyond run.level.now.map piece run.entries.0
+  pub kept : AreKept front above run.entries.1
   pub none : (ps : List ℕ) (value : ℕ) → ArePieces (piece ∷ ps) → lookup world seat (piece ∷ ps) ≡ Some value → IsFalse (meets (upward false) world rest ps)
 
 -- At an entry of the level of a run is the turn above a key, and the run has those beyond it.
@@ -56,12 +63,17 @@ pub record EntryLeads (itself : Bool) (world : World) (key : List ℕ) (entry : 
   pub at : IsTurnAt (upward itself) world key seat entry.0 entry.1 (8 * length above)
   pub along : LeadAlong world 0 at.front above seat
   pub is_level : world seat ≡ level run.level.now.map
-  pub beyond : AreBeyond run.level.now.map entry.0 run.entries
+  pub beyond : AreBeyond run.level.now.map entry.0 run.entries.0
+  pub kept : AreKept at.front above run.entries.1
 
 -- At the entry that is next is the turn above a key; or no key is above it, and it stands in the level of the run.
 abbrev pub IsNextEntry : World → List ℕ → Levels → Run → Option (ℕ × ℕ) → Type 0
 IsNextEntry world key above run None = IsNone (upward false) world 0 (pieces key) × Stands world key above run
 IsNextEntry world key above run (Some entry) = EntryLeads false world key entry above run
+
+-- The run of the key that was found last, where one was.
+abbrev pub last_run : LastRun → Option Run
+last_run last = if last.known then Some last.run else None
 
 -- A key stands in the level of a run that there is.
 abbrev pub RunLeads : World → List ℕ → Levels → Option Run → Type 0

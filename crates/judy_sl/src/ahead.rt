@@ -1,6 +1,6 @@
-//! The entries of a level that are still to come, some of which are read ahead.
+//! The entries of a level that are still to come, some of which are read ahead, and those of the level above it.
 
-ghost use Rattle.std.specs.Prelude.{◌≡◌, ◌++◌, [], drop, length, take};
+ghost use Rattle.std.specs.Prelude.{◌≡◌, ◌++◌, [], false, true, None, Some, MatchOption, unwrap_or, drop, length, take};
 ghost use Rattle.std.specs.FinMap as map;
 ghost use Rattle.std.specs.Iterator.{YieldsFirst};
 ghost use Rattle.judy_model.specs.Counts as counts;
@@ -43,6 +43,16 @@ impl Batch {
         }
     }
 
+    // Lets them be those of another.
+    #[inline(always)]
+    fn copy_from(&mut self, other: &Batch)
+        ensures { self.new ≡ other.now }
+    {
+        self.read = other.read;
+        self.at = other.at;
+        self.end = other.end;
+    }
+
     // Gives up those that are left.
     #[inline(always)]
     fn give_up(&mut self)
@@ -65,20 +75,22 @@ impl Batch {
         Some(entry)
     }
 
-    // Reads the next of a level's entries where none is left, and answers whether it did.
+    // Reads the next of a level's entries where none is left.
     #[inline(always)]
-    fn read_on(&mut self, level: &mut Entries<'_>) -> bool
-        ensures { self.new ++ level.new ≡ self.old ++ level.old }
+    fn read_on(&mut self, behind: &mut Option<Entries<'_>>)
+        ensures { self.new ++ unwrap_or behind.new [] ≡ self.old ++ unwrap_or behind.old [] }
     {
         if self.at < self.end {
-            return false;
+            return;
         }
-        self.at = 0;
-        self.end = level.fill(&mut self.read);
-        true
+        if let Some(entries) = behind {
+            self.at = 0;
+            self.end = entries.fill(&mut self.read);
+        }
     }
 
     // Those that are left.
+    #[inline(always)]
     fn as_slice(&self) -> &[(u64, u64)]
         ensures { result.now ≡ self.now }
     {
@@ -86,78 +98,161 @@ impl Batch {
     }
 }
 
-// The entries of a level that are still to come, by ascending piece: to its callers it is their list.
+// Lets entries be all of a level.
+fn begin<'a>(entries: &mut Option<Entries<'a>>, level: &'a WordMap)
+    ensures { entries.new ≡ Some (map.entries level.now.map) }
+{
+    match entries {
+        Some(made) => level.array().restart(made),
+        None => *entries = Some(level.array().iter()),
+    }
+}
+
+// Lets them be those of a level from a piece on.
+fn begin_from<'a>(entries: &mut Option<Entries<'a>>, level: &'a WordMap, piece: u64)
+    ensures { entries.new
+        ≡ Some (drop (counts.rank level.now.map piece) (map.entries level.now.map)) }
+{
+    match entries {
+        Some(made) => level.array().restart_from(piece, made),
+        None => *entries = Some(level.array().iter_from(piece)),
+    }
+}
+
+// The next of them; none where there are none.
+#[inline(always)]
+fn next_of(entries: &mut Option<Entries<'_>>) -> Option<(u64, u64)>
+    ensures { YieldsFirst (λ all. unwrap_or all []) entries.old result entries.new }
+{
+    match entries {
+        Some(made) => made.next(),
+        None => None,
+    }
+}
+
+// The entries of a level that are still to come, by ascending piece, and those of the level above it where they are kept: to its callers the two
+// lists. A walk that comes back from a level so goes on with what was read ahead above it.
 #[derive(Drop)]
 pub struct Ahead<'a> {
     batch: Batch,
-    behind: Entries<'a>,
+    batch_above: Batch,
+    // Of the two, one is behind the level's own batch and the other behind that of the level above: which, changes with the level. They are made where
+    // a walk first wants them, and then in their place, since a move of them takes longer than most steps.
+    behind: Option<Entries<'a>>,
+    behind_too: Option<Entries<'a>>,
+    turned: bool,
+    kept: bool,
     seen: u64,
 }
 
 impl<'a> Model for Ahead<'a> {
-    ghost use Rattle.std.specs.Prelude.{ℕ, List, ◌++◌};
+    ghost use Rattle.std.specs.Prelude.{ℕ, List, Option};
+    ghost use Rattle.judy_sl.specs.Ahead.{own_and_above};
 
-    ghost Value = { List (ℕ × ℕ) };
+    ghost Value = { List (ℕ × ℕ) × Option (List (ℕ × ℕ)) };
 
-    ghost view = { λ a. a.batch ++ a.behind };
+    ghost view = { λ a.
+        own_and_above a.batch a.batch_above a.behind a.behind_too a.turned a.kept };
 }
 
 impl<'a> Ahead<'a> {
-    // Those of a level from a piece on.
-    pub fn from_piece(level: &'a WordMap, piece: u64) -> Ahead<'a>
-        ensures { result ≡ drop (counts.rank level.now.map piece) (map.entries level.now.map) }
+    // None of either level.
+    #[inline(always)]
+    pub fn new() -> Ahead<'a>
+        ensures { result ≡ ([], None) }
     {
         Ahead {
             batch: Batch::new(),
-            behind: level.array().iter_from(piece),
+            batch_above: Batch::new(),
+            behind: None,
+            behind_too: None,
+            turned: false,
+            kept: false,
             seen: 0,
         }
     }
 
-    // Lets them be those, whatever they were. They are made in their place, since a move of them takes longer than most steps.
+    // Lets them be those of a level from a piece on, and none of the level above.
     pub fn restart_from(&mut self, level: &'a WordMap, piece: u64)
-        ensures { self.new ≡ drop (counts.rank level.now.map piece) (map.entries level.now.map) }
+        ensures { self.new
+            ≡ (drop (counts.rank level.now.map piece) (map.entries level.now.map), None) }
     {
         self.batch.give_up();
-        level.array().restart_from(piece, &mut self.behind);
+        self.kept = false;
+        if self.turned {
+            begin_from(&mut self.behind_too, level, piece);
+        } else {
+            begin_from(&mut self.behind, level, piece);
+        }
     }
 
-    // Lets them be all entries of a level.
-    pub fn restart(&mut self, level: &'a WordMap)
-        ensures { self.new ≡ map.entries level.now.map }
+    // Goes down to another level, and keeps those of this one.
+    pub fn go_down(&mut self, level: &'a WordMap)
+        ensures { self.new ≡ (map.entries level.now.map, Some self.old.0) }
     {
+        self.batch_above.copy_from(&self.batch);
         self.batch.give_up();
-        level.array().restart(&mut self.behind);
+        self.turned = !self.turned;
+        self.kept = true;
+        if self.turned {
+            begin(&mut self.behind_too, level);
+        } else {
+            begin(&mut self.behind, level);
+        }
     }
 
-    // The next entry.
+    // Goes up to the level above where its entries are kept, and answers whether it did.
+    pub fn go_up(&mut self) -> bool
+        ensures { MatchOption self.old.1 ((result ≡ false) × (self.new ≡ self.old))
+            (λ above. (result ≡ true) × (self.new ≡ (above, None))) }
+    {
+        if self.kept {
+            self.batch.copy_from(&self.batch_above);
+            self.turned = !self.turned;
+            self.kept = false;
+            return true;
+        }
+        false
+    }
+
+    // The level's next entry.
     #[inline(always)]
     pub fn next(&mut self) -> Option<(u64, u64)>
-        ensures steps { YieldsFirst (λ entries. entries) self.old result self.new }
+        ensures steps { YieldsFirst (λ both. both.0) self.old result self.new }
+        ensures above { self.new.1 ≡ self.old.1 }
     {
         let entry = self.batch.next();
         if entry.is_some() {
             return entry;
         }
-        self.behind.next()
+        if self.turned {
+            next_of(&mut self.behind_too)
+        } else {
+            next_of(&mut self.behind)
+        }
     }
 
-    // Reads entries ahead where none that was is left, and answers whether it did.
-    #[inline(always)]
-    pub fn read_on(&mut self) -> bool
+    // Reads the level's next entries ahead, where none is left of those that were read.
+    pub fn read_on(&mut self)
         ensures { self.new ≡ self.old }
     {
-        self.batch.read_on(&mut self.behind)
+        if self.turned {
+            self.batch.read_on(&mut self.behind_too);
+        } else {
+            self.batch.read_on(&mut self.behind);
+        }
     }
 
-    // Those that are read ahead, the next ones.
+    // The level's next entries, as many as are read ahead.
+    #[inline(always)]
     pub fn batch(&self) -> &[(u64, u64)]
-        ensures { result.now ≡ take (length result.now) self.now }
+        ensures { result.now ≡ take (length result.now) self.now.0 }
     {
         self.batch.as_slice()
     }
 
     // Keeps a word that was read for nothing but its line of memory, so that it is read.
+    #[inline(always)]
     pub fn keep(&mut self, seen: u64)
         ensures { self.new ≡ self.old }
     {

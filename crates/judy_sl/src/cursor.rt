@@ -7,20 +7,21 @@ ghost use Rattle.judy_model.specs.Neighbours as neighbours;
 ghost use Rattle.judy_sl.specs.Scans.{value_found};
 
 use crate::arena::Arena;
-use crate::runs::{Levels, Run};
+use crate::runs::{LastRun, Levels};
 use crate::strings::JudySl;
 use judy_tails::KeyRoom;
 use std::marker::Model;
 
 /// A walk up through the keys of an array: to its callers it is the array's map, and the bytes at which it stands. A step to
-/// the next key begins in the level in which the last one ended, and goes up to the lowest level that has a further entry.
+/// the next key begins in the level in which the last one ended, and goes up to the lowest level that has a further entry. Where none
+/// of that level's entries is read yet, it may read the next sixteen for the steps to come, and the values of their tails.
 /// Only `first`, and a step before which no key was found, begin at the first level. It asks for no memory. (This project's own.)
 #[derive(Drop)]
 pub struct KeyCursor<'a> {
     arena: &'a Arena,
     key: KeyRoom,
     above: Levels<'a>,
-    run: Option<Run<'a>>,
+    last: LastRun<'a>,
 }
 
 impl<'a> Model for KeyCursor<'a> {
@@ -32,10 +33,11 @@ impl<'a> Model for KeyCursor<'a> {
 
     ghost use Rattle.judy_sl.specs.Arenas.{map_of};
     ghost use Rattle.judy_sl.specs.Cursors.{IsCursor};
+    ghost use Rattle.judy_sl.specs.Runs.{last_run};
 
     ghost view = { λ a. record { map = map_of a.arena.now; key = a.key } };
 
-    ghost invariant = { λ a. IsCursor a.arena.now a.key a.above.items a.run };
+    ghost invariant = { λ a. IsCursor a.arena.now a.key a.above.items (last_run a.last) };
 }
 
 impl<'a> KeyCursor<'a> {
@@ -57,7 +59,7 @@ impl<'a> KeyCursor<'a> {
             ≡ value_found self.old.map (neighbours.first self.old.map self.old.key) }
     {
         self.arena
-            .seek(true, &mut self.above, &mut self.run, &mut self.key)
+            .seek(true, &mut self.above, &mut self.last, &mut self.key)
     }
 
     /// Goes to the least key above the bytes at which it stands, and answers its value. `None` where no key is above them, and
@@ -70,7 +72,7 @@ impl<'a> KeyCursor<'a> {
             ≡ value_found self.old.map (neighbours.next self.old.map self.old.key) }
     {
         self.arena
-            .step(&mut self.above, &mut self.run, &mut self.key)
+            .step(&mut self.above, &mut self.last, &mut self.key)
     }
 }
 
@@ -86,7 +88,7 @@ impl JudySl {
             arena: &self.arena,
             key: KeyRoom::of(from),
             above: Levels::new(),
-            run: None,
+            last: LastRun::none(&self.arena.root),
         }
     }
 }

@@ -8,7 +8,8 @@
 //! Inside, a key is cut into pieces of eight bytes (specs/Pieces.antt), and a tree of `JudyL`s finds them piece by
 //! piece (specs/World.antt); `Arena` keeps the levels of an array in one list and its tails in records (specs/Arenas.antt).
 //! arena.rt has the way of a key, grow.rt and branches.rt how a key comes in, shrink.rt how one goes, and scans.rt the
-//! neighbours; cursor.rt and runs.rt have walks that go from key to key by what a level still has. sorted.rt and planting.rt have arrays
+//! neighbours; cursor.rt and runs.rt have walks that go from key to key by what a level and the one above it
+//! still have, some of which is read ahead (ahead.rt). sorted.rt and planting.rt have arrays
 //! made at once of strings that ascend.
 #![tactic(auto)]
 

@@ -1,17 +1,17 @@
 //! The entries of a level that are still to come, and the levels above it, by which a walk goes from key to key without
 //! a way down from the first level for each.
 
-ghost use Rattle.std.specs.Prelude.{◌≡◌, IsTrue, false, drop, All};
+ghost use Rattle.std.specs.Prelude.{◌≡◌, IsTrue, IfSome, None, false, drop, All};
 ghost use Rattle.std.specs.FinMap.{contains_key, entries};
 ghost use Rattle.judy_model.specs.Counts.{rank};
 ghost use Rattle.judy_sl.specs.Pieces.{IsText};
 ghost use Rattle.judy_sl.specs.Arenas.{world_of, IsArena};
 ghost use Rattle.judy_sl.specs.Counted.{LeadsOn};
-ghost use Rattle.judy_sl.specs.Runs.{AreBeyond, EntryLeads, RunLeads, IsNextEntry, Stands, HasLevel, IsLevelBehind, IsAbove};
+ghost use Rattle.judy_sl.specs.Runs.{AreBeyond, EntryLeads, RunLeads, last_run, IsNextEntry, Stands, HasLevel, IsLevelBehind, IsAbove};
 
 use crate::ahead::Ahead;
 use crate::arena::Arena;
-use crate::child::ChildRef;
+use crate::child::{ChildRef, is_level};
 use crate::passed::MOST_PIECES;
 use crate::pieces::{first_piece, push_piece};
 use crate::scans::Look;
@@ -22,21 +22,59 @@ use judy_word::WordMap;
 // The levels above one, the first level first: one for each piece that leads there. No place among them is empty.
 pub type Levels<'a> = ArrayVec<Option<&'a WordMap>, MOST_PIECES>;
 
-// A level, and its entries that are still to come, by ascending piece.
+// A level, and its entries that are still to come, by ascending piece; with those of the level above it where they are kept.
 #[derive(Drop)]
 pub struct Run<'a> {
     pub level: &'a WordMap,
     pub entries: Ahead<'a>,
 }
 
+// The run of the key that was found last, where one was. It is made once and changed in its place.
+#[derive(Drop)]
+pub struct LastRun<'a> {
+    run: Run<'a>,
+    known: bool,
+}
+
+impl<'a> LastRun<'a> {
+    // None yet, in an array with this first level.
+    #[inline(always)]
+    pub fn none(root: &'a WordMap) -> LastRun<'a>
+        ensures { last_run result ≡ None }
+    {
+        LastRun {
+            run: Run {
+                level: root,
+                entries: Ahead::new(),
+            },
+            known: false,
+        }
+    }
+}
+
 // Passes over the first of a level's entries from a piece on, which is that piece's own.
 #[inline(always)]
 fn pass_own(level: &WordMap, piece: u64, following: &mut Ahead<'_>)
     requires own { IsTrue (contains_key level.now.map piece) }
-    requires from { following.old ≡ drop (rank level.now.map piece) (entries level.now.map) }
-    ensures { AreBeyond level.now.map piece following.new }
+    requires from { following.old.0 ≡ drop (rank level.now.map piece) (entries level.now.map) }
+    ensures beyond { AreBeyond level.now.map piece following.new.0 }
+    ensures above { following.new.1 ≡ following.old.1 }
 {
     following.next();
+}
+
+// Goes up to a level, whose entries beyond a piece of its own are kept or looked for.
+#[inline(always)]
+fn go_up_beyond<'a>(level: &'a WordMap, piece: u64, following: &mut Ahead<'a>)
+    requires own { IsTrue (contains_key level.now.map piece) }
+    requires above { IfSome following.old.1 (AreBeyond level.now.map piece) }
+    ensures beyond { AreBeyond level.now.map piece following.new.0 }
+    ensures above { following.new.1 ≡ None }
+{
+    if !following.go_up() {
+        following.restart_from(level, piece);
+        pass_own(level, piece, following);
+    }
 }
 
 impl Arena {
@@ -91,7 +129,7 @@ impl Arena {
                 ChildRef::Level(next) => {
                     above.push(Some(run.level));
                     run.level = next;
-                    run.entries.restart(next);
+                    run.entries.go_down(next);
                     let first = run.entries.next()?;
                     piece = first.0;
                     value = first.1;
@@ -124,8 +162,7 @@ impl Arena {
             }
             run.level = above.pop()??;
             let piece = first_piece(&key[8 * above.len()..]);
-            run.entries.restart_from(run.level, piece);
-            pass_own(run.level, piece, &mut run.entries);
+            go_up_beyond(run.level, piece, &mut run.entries);
         }
     }
 
@@ -136,23 +173,22 @@ impl Arena {
     {
         let mut seen = 0;
         for &(piece, value) in page {
-            if piece % 256 != 0 {
-                if let ChildRef::Tail(tail) = self.child(value) {
-                    seen ^= tail.value();
-                }
+            if piece % 256 != 0 && !is_level(value) {
+                seen ^= self.tails.value(value);
             }
         }
         seen
     }
 
-    // Reads entries ahead where none of those that were is left, with the tails to which they lead: these are waited for side by side so, and not one
-    // after another as their keys come.
+    // Reads entries ahead where none is left of those that were read, with the tails to which they lead: these are waited for side by side so, and
+    // not one after another as their keys come.
     fn read_ahead(&self, following: &mut Ahead<'_>)
         requires is_arena { IsArena self.now }
-        requires leads { All (LeadsOn (world_of self.now)) following.old }
+        requires leads { All (LeadsOn (world_of self.now)) following.old.0 }
         ensures { following.new ≡ following.old }
     {
-        if following.read_on() {
+        if following.batch().is_empty() {
+            following.read_on();
             let seen = self.touch(following.batch());
             following.keep(seen);
         }
@@ -164,44 +200,43 @@ impl Arena {
         &'a self,
         itself: bool,
         above: &mut Levels<'a>,
-        run: &mut Option<Run<'a>>,
+        last: &mut LastRun<'a>,
         key: &mut KeyRoom,
     ) -> Option<u64>
         requires is_arena { IsArena self.now }
         requires is_text { IsText key.old }
-        requires leads { RunLeads (world_of self.now) key.old above.old.items run.old }
+        requires leads { RunLeads (world_of self.now) key.old above.old.items (last_run last.old) }
         ensures neighbour { IsAbove itself (world_of self.now) key.old key.new result }
-        ensures leads { RunLeads (world_of self.now) key.new above.new.items run.new }
+        ensures leads { RunLeads (world_of self.now) key.new above.new.items (last_run last.new) }
     {
         let turn = self.turn(Look::upward(itself), key.as_slice())?;
         let level = self.level_behind(key.as_slice(), turn.depth, above);
-        let mut entries = Ahead::from_piece(level, turn.piece);
-        pass_own(level, turn.piece, &mut entries);
-        let mut made = Run { level, entries };
-        let value = self.climb(itself, (turn.piece, turn.value), above, &mut made, key);
-        *run = Some(made);
-        value
+        last.known = true;
+        last.run.level = level;
+        last.run.entries.restart_from(level, turn.piece);
+        pass_own(level, turn.piece, &mut last.run.entries);
+        self.climb(itself, (turn.piece, turn.value), above, &mut last.run, key)
     }
 
     // The same for the key itself left out, by the next entry of the run, or of a level above it.
     pub fn step<'a>(
         &'a self,
         above: &mut Levels<'a>,
-        run: &mut Option<Run<'a>>,
+        last: &mut LastRun<'a>,
         key: &mut KeyRoom,
     ) -> Option<u64>
         requires is_arena { IsArena self.now }
         requires is_text { IsText key.old }
-        requires leads { RunLeads (world_of self.now) key.old above.old.items run.old }
+        requires leads { RunLeads (world_of self.now) key.old above.old.items (last_run last.old) }
         ensures neighbour { IsAbove false (world_of self.now) key.old key.new result }
-        ensures leads { RunLeads (world_of self.now) key.new above.new.items run.new }
+        ensures leads { RunLeads (world_of self.now) key.new above.new.items (last_run last.new) }
     {
-        if let Some(on) = run {
-            let entry = self.next_entry(above, on, key.as_slice())?;
-            let value = self.climb(false, entry, above, on, key);
-            self.read_ahead(&mut on.entries);
-            return value;
+        if !last.known {
+            return self.seek(false, above, last, key);
         }
-        self.seek(false, above, run, key)
+        let entry = self.next_entry(above, &mut last.run, key.as_slice())?;
+        let value = self.climb(false, entry, above, &mut last.run, key);
+        self.read_ahead(&mut last.run.entries);
+        value
     }
 }

@@ -51,6 +51,14 @@ impl Tails {
         Tail::new(self.lists[(place % 256) as usize].at((place / 256) as usize))
     }
 
+    /// The value of the tail at a place, where one stands. It reads no more of the tail.
+    pub fn value(&self, place: u64) -> u64
+        requires { IsSome (tail_at self.now place) }
+        ensures { tail_at self.now place ≡ Some (text_of (tail_at self.now place), result) }
+    {
+        self.lists[(place % 256) as usize].value((place / 256) as usize)
+    }
+
     /// Lends the value of the tail at a place; all else stays.
     pub fn slot(&mut self, place: u64) -> &mut u64
         requires { IsSome (tail_at self.old place) }

@@ -1,6 +1,6 @@
 //! Where a key is written byte behind byte: a buffer of its own, or the front of another's.
 
-ghost use Rattle.std.specs.Prelude.{◌≡◌, ◌+◌, ◌<◌, ◌≤◌, ◌++◌, ℕ, List, [], ◌∷◌, IfSome, length, take, drop};
+ghost use Rattle.std.specs.Prelude.{◌≡◌, ◌+◌, ◌<◌, ◌≤◌, ◌++◌, ℕ, List, [], ◌∷◌, MatchOption, length, take, drop};
 ghost use Rattle.judy_model.specs.declared.keys.TheConstants.{LONGEST_KEY};
 ghost use Rattle.judy_tails.specs.Writers.{StaysBeyond};
 
@@ -113,7 +113,8 @@ impl<'a> KeyFront<'a> {
     // The eight bytes behind the key, where the buffer has as many.
     #[inline(always)]
     fn eight_behind(&self) -> Option<[u8; 8]>
-        ensures { IfSome result (λ eight. (eight ≡ take 8 (drop self.now.len self.now.buffer.now))
+        ensures { MatchOption result (length self.now.buffer.now < self.now.len + 8)
+            (λ eight. (eight ≡ take 8 (drop self.now.len self.now.buffer.now))
             × (self.now.len + 8 ≤ length self.now.buffer.now)) }
     {
         self.buffer[self.len..].first_chunk::<8>().copied()

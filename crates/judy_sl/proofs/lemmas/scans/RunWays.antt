@@ -1,10 +1,10 @@
 -- The ways of a run: to the level behind the first bytes of a key, from an entry down to the first key behind it, and up to the levels above.
-use Rattle.std.proofs.Common.{◌≡◌, ℕ, suc, ◌+◌, ◌-◌, ◌*◌, ◌<◌, ◌≤◌, Bool, false, IsTrue, IsFalse, List, [], ◌∷◌, ◌++◌, length, take, drop, Option, Some, None, is_some, sym, refl, ap, ◌∙◌, subst, arith, is_lt, ⊎_elim}
+use Rattle.std.proofs.Common.{◌≡◌, ℕ, suc, ◌+◌, ◌-◌, ◌*◌, ◌<◌, ◌≤◌, Bool, false, IsTrue, IsFalse, List, [], ◌∷◌, ◌++◌, length, take, drop, Option, Some, None, IfSome, is_some, sym, refl, ap, ◌∙◌, subst, arith, is_lt, ⊎_elim}
 use Rattle.std.specs.Borrow.{Bor}
 use Rattle.std.specs.Cmp.{tied_itself}
 use Rattle.std.specs.FinMap.{FinMap, get, entries, contains_key}
 use Rattle.std.proofs.lemmas.Bool.{cases_lt}
-use Rattle.std.proofs.lemmas.List.{append_assoc, append-nil, drop-drop, length-append, length-drop}
+use Rattle.std.proofs.lemmas.List.{append_assoc, append-nil, drop-drop, length-append, length-drop, same_from_push}
 use Rattle.std.proofs.lemmas.Option.{same_Some}
 use Rattle.std.proofs.Math.Seq.{take-add}
 use Rattle.judy_model.specs.Arrays.{ArrayOf}
@@ -19,7 +19,7 @@ use Rattle.judy_sl.specs.World.{World, gone, tail, level, step_node, step_entry,
 use Rattle.judy_sl.specs.Worlds.{IsWorld}
 use Rattle.judy_sl.specs.Ways.{seat_in}
 use Rattle.judy_sl.specs.Scans.{upward, meets, IsNone, IsNear, IsTurnOf, IsNeighbour}
-use Rattle.judy_sl.specs.Runs.{AreBeyond, Levels, Passes, LeadAlong, Stands, EntryLeads, LeadsToLevel}
+use Rattle.judy_sl.specs.Runs.{AreBeyond, AreKept, Levels, Passes, LeadAlong, Stands, EntryLeads, LeadsToLevel}
 use Rattle.judy_sl.proofs.lemmas.pieces.PieceLemmas.{text_of_key, text-drop}
 use Rattle.judy_sl.proofs.lemmas.pieces.Ways.{pieces_short, pieces_long, step-parts, walk-behind, walk-more}
 use Rattle.judy_sl.proofs.lemmas.pieces.OnWay.{pieces-head}
@@ -248,8 +248,8 @@ pub never_tail : (held : List ℕ) (value : ℕ) (map : FinMap word_order ℕ) �
 never_tail held value map is = cc
 
 -- With the levels above, a turn is an entry that leads up.
-pub turn_leads : (itself : Bool) (world : World) (key : List ℕ) (turn : Turn) (at : IsTurnOf (upward itself) world key turn) (above : Levels) (run : Run) → LeadAlong world 0 at.front above (seat_in turn.child) → run.level.now.map ≡ at.map → AreBeyond run.level.now.map turn.piece run.entries → EntryLeads itself world key (turn.piece, turn.value) above run
-turn_leads itself world key turn at above run along is beyond =
+pub turn_leads : (itself : Bool) (world : World) (key : List ℕ) (turn : Turn) (at : IsTurnOf (upward itself) world key turn) (above : Levels) (run : Run) → LeadAlong world 0 at.front above (seat_in turn.child) → run.level.now.map ≡ at.map → AreBeyond run.level.now.map turn.piece run.entries.0 → run.entries.1 ≡ None → EntryLeads itself world key (turn.piece, turn.value) above run
+turn_leads itself world key turn at above run along is beyond none =
     let depth : turn.depth ≡ 8 * length above = at.long ∙ ap (λ n. 8 * n) (along_long world 0 at.front above (seat_in turn.child) along) in
     record {
       seat = seat_in turn.child;
@@ -269,6 +269,7 @@ turn_leads itself world key turn at above run along is beyond =
       along = along;
       is_level = at.is_level ∙ ap (λ m. level m) (sym is);
       beyond = beyond;
+      kept = subst (AreKept at.front above) (sym none) tt;
     }
 
 -- Bytes that a scan leaves hold no zero.
@@ -278,12 +279,13 @@ text_after look world key after (Some value) text some = text_of_key after some.
 
 -- ---- from an entry down
 
--- How far a climb has come down: the level has the entry, and these beyond it.
-pub record Climbing (itself : Bool) (world : World) (key : List ℕ) (piece value : ℕ) (bytes : List ℕ) (above : Levels) (map : FinMap word_order ℕ) (others : List (ℕ × ℕ)) : Type 0 where
+-- How far a climb has come down: the level has the entry, and these beyond it; with what is kept of the level above.
+pub record Climbing (itself : Bool) (world : World) (key : List ℕ) (piece value : ℕ) (bytes : List ℕ) (above : Levels) (map : FinMap word_order ℕ) (both : List (ℕ × ℕ) × Option (List (ℕ × ℕ))) : Type 0 where
   pub on : OnFollow (upward itself) world key map piece bytes
   pub along : LeadAlong world 0 on.front above on.seat
   pub entry : get map piece ≡ Some value
-  pub beyond : AreBeyond map piece others
+  pub beyond : AreBeyond map piece both.0
+  pub kept : AreKept on.front above both.1
 
 pub climb_start : (itself : Bool) (world : World) (key : List ℕ) (entry : ℕ × ℕ) (above : Levels) (run : Run) → EntryLeads itself world key entry above run → Climbing itself world key entry.0 entry.1 (take (8 * length above) key) above run.level.now.map run.entries
 climb_start itself world key entry above run leads =
@@ -294,6 +296,7 @@ climb_start itself world key entry above run leads =
       along = leads.along;
       entry = held;
       beyond = leads.beyond;
+      kept = leads.kept;
     }
 
 module _ (look_itself : Bool) (world : World) where
@@ -308,7 +311,14 @@ module _ (look_itself : Bool) (world : World) where
 unmet : (world : World) (ps : List ℕ) → IsFalse (meets (upward false) world ps ps)
 unmet world ps = ap is_lt (tied_itself byte_order_total ps)
 
-module _ {itself : Bool} {world : World} {behind : ℕ → List ℕ} (is_world : IsWorld world behind) {key : List ℕ} {piece value : ℕ} {bytes : List ℕ} {above : Levels} {map : FinMap word_order ℕ} {others : List (ℕ × ℕ)} (c : Climbing itself world key piece value bytes above map others) where
+-- The entries of a level that is left downward are those that are kept below it.
+kept_above : (front : List ℕ) (piece : ℕ) (above : Levels) (held : Bor (ArrayOf word_order)) (others : List (ℕ × ℕ)) → AreBeyond held.now.map piece others → AreKept (front ++ piece ∷ []) (above ++ Some held ∷ []) (Some others)
+kept_above front piece above held others beyond = λ before last levels top front_is above_is.
+    let pieces_same = (same_from_push front before piece last front_is).1 in
+    let levels_same : Some held ≡ Some top = (same_from_push above levels (Some held) (Some top) above_is).1 in
+    subst (λ p. AreBeyond top.now.map p others) pieces_same (subst (λ (b : Bor (ArrayOf word_order)). AreBeyond b.now.map piece others) (same_Some held top levels_same) beyond)
+
+module _ {itself : Bool} {world : World} {behind : ℕ → List ℕ} (is_world : IsWorld world behind) {key : List ℕ} {piece value : ℕ} {bytes : List ℕ} {above : Levels} {map : FinMap word_order ℕ} {both : List (ℕ × ℕ) × Option (List (ℕ × ℕ))} (c : Climbing itself world key piece value bytes above map both) where
   -- There is room for one level more.
   pub climb_room : (below : FinMap word_order ℕ) → IsInner piece → world (suc value) ≡ level below → length above < 128
   climb_room below inner is_below =
@@ -318,7 +328,7 @@ module _ {itself : Bool} {world : World} {behind : ℕ → List ℕ} (is_world :
       omega (arith, short, longer, same)
 
   -- One level further down.
-  pub climb_down : (held : Bor (ArrayOf word_order)) → held.now.map ≡ map → (below : FinMap word_order ℕ) → IsInner piece → world (suc value) ≡ level below → (next : ℕ × ℕ) (more : List (ℕ × ℕ)) → entries below ≡ next ∷ more → Climbing itself world key next.0 next.1 (bytes ++ piece_bytes piece) (above ++ Some held ∷ []) below more
+  pub climb_down : (held : Bor (ArrayOf word_order)) → held.now.map ≡ map → (below : FinMap word_order ℕ) → IsInner piece → world (suc value) ≡ level below → (next : ℕ × ℕ) (more : List (ℕ × ℕ)) → entries below ≡ next ∷ more → Climbing itself world key next.0 next.1 (bytes ++ piece_bytes piece) (above ++ Some held ∷ []) below (more, Some both.0)
   unfolding follow_level
   climb_down held held_is below inner is_below next more are =
       let first = first_of_all below next more are in
@@ -327,10 +337,11 @@ module _ {itself : Bool} {world : World} {behind : ℕ → List ℕ} (is_world :
         along = along_push world 0 c.on.front above c.on.seat c.along piece value held (record { is_level = c.on.is_level ∙ ap (λ m. level m) (sym held_is); inner = inner; entry = ap (λ (words : FinMap word_order ℕ). get words piece) held_is ∙ c.entry });
         entry = first.1;
         beyond = first.2;
+        kept = kept_above c.on.front piece above held both.0 (subst (λ (words : FinMap word_order ℕ). AreBeyond words piece both.0) (sym held_is) c.beyond);
       }
 
   -- Where a key was found of which nothing else is behind its entry, it stands there.
-  stands_there : (rest after : List ℕ) → pieces after ≡ c.on.front ++ piece ∷ rest → NoneBehind (upward false) world c.on.seat piece rest → (held : Bor (ArrayOf word_order)) → held.now.map ≡ map → Stands world after above (record { level = held; entries = others })
+  stands_there : (rest after : List ℕ) → pieces after ≡ c.on.front ++ piece ∷ rest → NoneBehind (upward false) world c.on.seat piece rest → (held : Bor (ArrayOf word_order)) → held.now.map ≡ map → Stands world after above (record { level = held; entries = both })
   stands_there rest after its none held held_is = record {
     front = c.on.front;
     piece = piece;
@@ -339,12 +350,13 @@ module _ {itself : Bool} {world : World} {behind : ℕ → List ℕ} (is_world :
     seat = c.on.seat;
     along = c.along;
     is_level = c.on.is_level ∙ ap (λ m. level m) (sym held_is);
-    beyond = subst (λ (words : FinMap word_order ℕ). AreBeyond words piece others) (sym held_is) c.beyond;
+    beyond = subst (λ (words : FinMap word_order ℕ). AreBeyond words piece both.0) (sym held_is) c.beyond;
+    kept = c.kept;
     none = none;
   }
 
   -- Where it ends in the entry.
-  pub climb_last : (held : Bor (ArrayOf word_order)) → held.now.map ≡ map → IsFinal piece → Stands world (bytes ++ piece_bytes piece) above (record { level = held; entries = others })
+  pub climb_last : (held : Bor (ArrayOf word_order)) → held.now.map ≡ map → IsFinal piece → Stands world (bytes ++ piece_bytes piece) above (record { level = held; entries = both })
   climb_last held held_is final =
       let spelled = subst (λ place. SpellKey (place ++ piece ∷ [])) (place_is is_world key map piece bytes c.on) ((is_world.levels c.on.seat map c.on.is_level).ends piece value c.entry final) in
       stands_there [] (bytes ++ piece_bytes piece) (its_pieces is_world key map piece bytes c.on [] (bytes ++ piece_bytes piece) spelled (sym (append-nil (bytes ++ piece_bytes piece))))
@@ -352,7 +364,7 @@ module _ {itself : Bool} {world : World} {behind : ℕ → List ℕ} (is_world :
       held held_is
 
   -- Where the entry leads to a tail.
-  pub climb_tail : (held : Bor (ArrayOf word_order)) → held.now.map ≡ map → (kept : List ℕ) (found : ℕ) → IsInner piece → world (suc value) ≡ tail (pieces kept) found → IsText kept → Stands world ((bytes ++ piece_bytes piece) ++ kept) above (record { level = held; entries = others })
+  pub climb_tail : (held : Bor (ArrayOf word_order)) → held.now.map ≡ map → (kept : List ℕ) (found : ℕ) → IsInner piece → world (suc value) ≡ tail (pieces kept) found → IsText kept → Stands world ((bytes ++ piece_bytes piece) ++ kept) above (record { level = held; entries = both })
   climb_tail held held_is kept found inner tailed text =
       let spelled = tail_key is_world key map piece bytes c.on value c.entry inner kept found tailed text in
       stands_there (pieces kept) ((bytes ++ piece_bytes piece) ++ kept)
@@ -364,8 +376,8 @@ module _ {itself : Bool} {world : World} {behind : ℕ → List ℕ} (is_world :
 
 module _ (world : World) (key : List ℕ) (text : IsText key) (above : Levels) (held : Bor (ArrayOf word_order)) where
   -- An entry of a run leads up from a key that stands there.
-  entry_leads : (entry : ℕ × ℕ) (others : List (ℕ × ℕ)) → Stands world key above (record { level = held; entries = entry ∷ others }) → EntryLeads false world key entry above (record { level = held; entries = others })
-  entry_leads entry others stands =
+  entry_leads : (entry : ℕ × ℕ) (both : List (ℕ × ℕ) × Option (List (ℕ × ℕ))) → Stands world key above (record { level = held; entries = (entry ∷ both.0, both.1) }) → EntryLeads false world key entry above (record { level = held; entries = both })
+  entry_leads entry both stands =
       let map = held.now.map in
       let cut = cut_at stands.front stands.piece stands.rest key text stands.parts in
       let long : length stands.front ≡ length above = along_long world 0 stands.front above stands.seat stands.along in
@@ -390,19 +402,20 @@ module _ (world : World) (key : List ℕ) (text : IsText key) (above : Levels) (
         along = stands.along;
         is_level = stands.is_level;
         beyond = stands.beyond.2;
+        kept = stands.kept;
       }
 
   -- So the next of its entries, where there is one.
-  pub next_leads : (old : List (ℕ × ℕ)) (entry : ℕ × ℕ) (new : List (ℕ × ℕ)) → old ≡ entry ∷ new → Stands world key above (record { level = held; entries = old }) → EntryLeads false world key entry above (record { level = held; entries = new })
-  next_leads old entry new are stands = entry_leads entry new (subst (λ (all : List (ℕ × ℕ)). Stands world key above (record { level = held; entries = all })) are stands)
+  pub next_leads : (old : List (ℕ × ℕ) × Option (List (ℕ × ℕ))) (entry : ℕ × ℕ) (new : List (ℕ × ℕ) × Option (List (ℕ × ℕ))) → old.0 ≡ entry ∷ new.0 → new.1 ≡ old.1 → Stands world key above (record { level = held; entries = old }) → EntryLeads false world key entry above (record { level = held; entries = new })
+  next_leads old entry new are same stands = entry_leads entry new (subst (λ (all : List (ℕ × ℕ) × Option (List (ℕ × ℕ))). Stands world key above (record { level = held; entries = all })) (λ t. (are t, sym same t)) stands)
 
 -- Where a run has nothing left, nothing in its level is above the key.
-none_in_level : (world : World) (key : List ℕ) (above : Levels) (run : Run) (stands : Stands world key above run) → run.entries ≡ [] → IsNone (upward false) world stands.seat (stands.piece ∷ stands.rest)
+none_in_level : (world : World) (key : List ℕ) (above : Levels) (run : Run) (stands : Stands world key above run) → run.entries.0 ≡ [] → IsNone (upward false) world stands.seat (stands.piece ∷ stands.rest)
 none_in_level world key above run stands none =
     turned_none (upward false) world stands.seat run.level.now.map stands.is_level stands.piece stands.rest stands.none (subst (AreBeyond run.level.now.map stands.piece) none stands.beyond)
 
 -- In the first level, nothing is.
-pub none_above : (world : World) (key : List ℕ) (above : Levels) (run : Run) (stands : Stands world key above run) → run.entries ≡ [] → above ≡ [] → IsNone (upward false) world 0 (pieces key)
+pub none_above : (world : World) (key : List ℕ) (above : Levels) (run : Run) (stands : Stands world key above run) → run.entries.0 ≡ [] → above ≡ [] → IsNone (upward false) world 0 (pieces key)
 none_above world key above run stands none first =
     let long = along_long world 0 stands.front above stands.seat stands.along ∙ ap length first in
     by stands.front stands.along stands.parts (omega (arith, long))
@@ -412,13 +425,19 @@ none_above world key above run stands none first =
         subst (IsNone (upward false) world 0) (sym parts) (subst (λ s. IsNone (upward false) world s (stands.piece ∷ stands.rest)) (sym (same_Some 0 stands.seat (along_walk world 0 [] above stands.seat along))) (none_in_level world key above run stands none))
     by (piece ∷ front) along parts short = let never : ⊥ = omega (arith, short) in absurd never
 
+-- What is kept is of the level that is taken off, beyond the piece that is.
+last_kept : (front before : List ℕ) (piece : ℕ) (above others : Levels) (held : Bor (ArrayOf word_order)) (kept : Option (List (ℕ × ℕ))) → front ≡ before ++ piece ∷ [] → above ≡ others ++ Some held ∷ [] → AreKept front above kept → IfSome kept (AreBeyond held.now.map piece)
+last_kept front before piece above others held None front_is above_is are = tt
+last_kept front before piece above others held (Some kept) front_is above_is are = are before piece others held front_is above_is
+
 -- One level up: it has the key's own piece, and the key stands in it too.
-pub record Risen (world : World) (key : List ℕ) (above : Levels) (held : Bor (ArrayOf word_order)) : Type 0 where
+pub record Risen (world : World) (key : List ℕ) (above : Levels) (held : Bor (ArrayOf word_order)) (kept : Option (List (ℕ × ℕ))) : Type 0 where
   pub within : 8 * length above ≤ length key
   pub there : IsTrue (contains_key held.now.map (piece_of (drop (8 * length above) key)))
-  pub stands : (others : List (ℕ × ℕ)) → AreBeyond held.now.map (piece_of (drop (8 * length above) key)) others → Stands world key above (record { level = held; entries = others })
+  pub are_kept : IfSome kept (AreBeyond held.now.map (piece_of (drop (8 * length above) key)))
+  pub stands : (both : List (ℕ × ℕ) × Option (List (ℕ × ℕ))) → AreBeyond held.now.map (piece_of (drop (8 * length above) key)) both.0 → both.1 ≡ None → Stands world key above (record { level = held; entries = both })
 
-pub rise : (world : World) (key : List ℕ) → IsText key → (old new : Levels) (run : Run) (held : Bor (ArrayOf word_order)) → old ≡ new ++ Some held ∷ [] → Stands world key old run → run.entries ≡ [] → Risen world key new held
+pub rise : (world : World) (key : List ℕ) → IsText key → (old new : Levels) (run : Run) (held : Bor (ArrayOf word_order)) → old ≡ new ++ Some held ∷ [] → Stands world key old run → run.entries.0 ≡ [] → Risen world key new held run.entries.1
 rise world key text old new run held are stands none =
     let popped = along_pop world 0 stands.front new held stands.seat (subst (λ above. LeadAlong world 0 stands.front above stands.seat) are stands.along) in
     let parts : pieces key ≡ popped.before ++ popped.piece ∷ stands.piece ∷ stands.rest = stands.parts ∙ ap (λ front. front ++ stands.piece ∷ stands.rest) popped.are ∙ append_assoc popped.before (popped.piece ∷ []) (stands.piece ∷ stands.rest) in
@@ -429,7 +448,8 @@ rise world key text old new run held are stands none =
     record {
       within = subst (λ n. 8 * n ≤ length key) long cut.within;
       there = ap (contains_key held.now.map) begins ∙ ap (λ (found : Option ℕ). is_some found) popped.passes.entry;
-      stands = λ others beyond. record {
+      are_kept = subst (λ p. IfSome run.entries.1 (AreBeyond held.now.map p)) (sym begins) (last_kept stands.front popped.before popped.piece old new held run.entries.1 popped.are are stands.kept);
+      stands = λ both beyond none_kept. record {
         front = popped.before;
         piece = popped.piece;
         rest = stands.piece ∷ stands.rest;
@@ -437,7 +457,8 @@ rise world key text old new run held are stands none =
         seat = popped.middle;
         along = popped.along;
         is_level = popped.passes.is_level;
-        beyond = subst (λ p. AreBeyond held.now.map p others) begins beyond;
+        beyond = subst (λ p. AreBeyond held.now.map p both.0) begins beyond;
+        kept = subst (AreKept popped.before new) (sym none_kept) tt;
         none = none_child (upward false) world popped.middle held.now.map popped.passes.is_level popped.piece popped.at (stands.piece ∷ stands.rest) popped.passes.entry popped.passes.inner behind;
       };
     }

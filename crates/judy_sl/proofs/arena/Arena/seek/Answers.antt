@@ -33,9 +33,9 @@ pass_own-requires-clause-own c =
     let behind = c.level_behind-level.ensures at.map (turn_level c.args.itself (world_of c.args.self.now) c.as_slice-2.result.now c.in_ok-turn.turn at) in
     ap (λ (words : FinMap word_order ℕ). contains_key words c.in_ok-turn.turn.piece) behind.0 ∙ ap (λ (found : Option ℕ). is_some found) at.held
 
-pub climb-value-requires-clause-leads : goal.climb-value-requires-clause-leads
-climb-value-requires-clause-leads c =
+pub climb-requires-clause-leads : goal.climb-requires-clause-leads
+climb-requires-clause-leads c =
     let at = turn_at c.args.itself (world_of c.args.self.now) c.as_slice.result.now c.as_slice-2.result.now c.upward.result c.turn.result c.in_ok-turn.turn c.turn.ensures.is_turn c.in_ok-turn.was c.upward.ensures (c.as_slice.ensures.bytes ∙ sym c.as_slice-2.ensures.bytes) in
     let behind = c.level_behind-level.ensures at.map (turn_level c.args.itself (world_of c.args.self.now) c.as_slice-2.result.now c.in_ok-turn.turn at) in
     subst (λ bytes. EntryLeads c.args.itself (world_of c.args.self.now) bytes (c.in_ok-turn.turn.piece, c.in_ok-turn.turn.value) c.level_behind-level.new.above.items (record { level = c.level_behind-level.result; entries = c.pass_own.new.following })) c.as_slice-2.ensures.bytes
-    (turn_leads c.args.itself (world_of c.args.self.now) c.as_slice-2.result.now c.in_ok-turn.turn at c.level_behind-level.new.above.items (record { level = c.level_behind-level.result; entries = c.pass_own.new.following }) behind.1 behind.0 c.pass_own.ensures)
+    (turn_leads c.args.itself (world_of c.args.self.now) c.as_slice-2.result.now c.in_ok-turn.turn at c.level_behind-level.new.above.items (record { level = c.level_behind-level.result; entries = c.pass_own.new.following }) behind.1 behind.0 c.pass_own.ensures.beyond (c.pass_own.ensures.above ∙ ap (λ (both : List (ℕ × ℕ) × Option (List (ℕ × ℕ))). both.1) c.restart_from.ensures))
